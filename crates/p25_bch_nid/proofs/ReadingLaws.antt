@@ -1,17 +1,20 @@
 -- What each way through the reader of identifiers answers: the number of a word has its NAC and DUID in its highest bits, and a word
 -- is read as the code reads it.
-use Rattle.std.proofs.Common.{◌≡◌, ℕ, ◌/◌, ◌%◌, ◌^◌, ◌<◌, ◌≤◌, Bool, List, length, take, drop, Option, Some, None, option_map, ap, ap₂, sym, ◌∙◌, subst, arith, mod-eq_of_lt}
-use Rattle.std.specs.Prelude.{IsSome, IfSome}
-use Rattle.std.proofs.lemmas.Bool.{false≢true}
+use Rattle.std.proofs.Common.{◌≡◌, ℕ, ◌/◌, ◌%◌, ◌^◌, ◌<◌, ◌≤◌, Bool, List, length, take, drop, bit_xor, Option, Some, option_map, ap, ap₂, sym, ◌∙◌, subst, arith, mod-eq_of_lt}
+use Rattle.std.specs.Bool.{beq}
+use Rattle.std.specs.Int.RustNames.{count_ones}
 use Rattle.std.proofs.lemmas.List.{take_at, drop_at, drop-take}
 use Rattle.p25_bits.specs.Bits.{bits_of, field_of, part}
 use Rattle.p25_bits.specs.Distance.{distance_of}
 use Rattle.p25_bits.proofs.BitsLaws.{bits_of-add, length-bits_of, field_of-bits_of}
-use Rattle.p25_bch_nid.specs.declared.nid.Nid.{Nid}
+use Rattle.p25_bits.proofs.DistanceLaws.{distance_of-bits_of}
+use Rattle.p25_code.specs.Readings.{IsReadAs}
 use Rattle.p25_bch_nid.specs.Bch63.{IsBch63}
-use Rattle.p25_bch_nid.specs.Bch63Readings.{bch63_reading_of}
+use Rattle.p25_bch_nid.specs.Bch63Readings.{bch63_reading_of, bch63_reads_as}
 use Rattle.p25_bch_nid.specs.NidReading.{identifier_of_word, nid_reading_of, IsNidReading}
+use Rattle.p25_bch_nid.specs.NidWord.{nid_word}
 use Rattle.p25_bch_nid.proofs.NidReadingLaws.{IsNidReading-nid_reading_of, nid_reading_of-word}
+use Rattle.p25_bch_nid.proofs.NidWordLaws.{identifier_of_word-sent}
 
 -- without the last of 64 bits
 pub first_bits : (bits : ℕ) → take 63 (bits_of 64 bits) ≡ bits_of 63 (bits / 2 ^ 1)
@@ -37,11 +40,31 @@ duid_in word =
     ap field_of (sym (drop-take 12 4 (bits_of 63 word)) ∙ ap (drop 12) beginning ∙ back) ∙ field_of-bits_of 4 (word / 2 ^ 47)
 
 -- so the identifier that a word's number begins with is that of its bits
-pub identifier_made : (word nac duid : ℕ) (nid : Option Nid) → word < 2 ^ 63 → nac ≡ word / 2 ^ 51 → duid ≡ word / 2 ^ 47 % 16 → IsSome nid → IfSome nid (λ n. (n.nac ≡ nac) × (n.duid ≡ duid))
-    → option_map (λ n. (n.nac, n.duid)) nid ≡ Some (identifier_of_word (bits_of 63 word))
-identifier_made word nac duid None below nac_is duid_is some value = absurd (false≢true some)
-identifier_made word nac duid (Some n) below nac_is duid_is some value =
-    ap Some (ap₂ (λ a b. (a, b)) (value.0 ∙ nac_is ∙ sym (nac_in word below)) (value.1 ∙ duid_is ∙ sym (duid_in word)))
+pub identifier_made : (word : ℕ) → word < 2 ^ 63 → (word / 2 ^ 51, word / 2 ^ 47 % 16) ≡ identifier_of_word (bits_of 63 word)
+identifier_made word below = ap₂ (λ a b. (a, b)) (sym (nac_in word below)) (sym (duid_in word))
+
+-- a word that was read is a word of the code within 11 bits, and what is sent for the identifier in it
+pub word_read : (bits sent : ℕ) (nid : ℕ × ℕ) → Some (bits_of 63 sent) ≡ bch63_reading_of (bits_of 63 (bits / 2 ^ 1)) → nid ≡ identifier_of_word (bits_of 63 sent)
+    → (take 63 (nid_word nid.0 nid.1) ≡ bits_of 63 sent) × (distance_of (bits_of 63 (bits / 2 ^ 1)) (bits_of 63 sent) ≤ 11)
+unfolding IsReadAs
+word_read bits sent nid read begins =
+    let received = bits_of 63 (bits / 2 ^ 1) in
+    let found = subst (IsReadAs beq IsBch63 11 received) (sym read) (bch63_reads_as received) in
+    (ap (λ (n : ℕ × ℕ). take 63 (nid_word n.0 n.1)) begins ∙ identifier_of_word-sent (bits_of 63 sent) found.word_of_set, found.within)
+
+-- its wrong bits are those that the exclusive or counts
+pub wrong_in : (bits sent : ℕ) (nid : ℕ × ℕ) → bits < 2 ^ 64 → sent < 2 ^ 63 → Some (bits_of 63 sent) ≡ bch63_reading_of (bits_of 63 (bits / 2 ^ 1)) → nid ≡ identifier_of_word (bits_of 63 sent)
+    → count_ones (bit_xor (bits / 2 ^ 1) sent) ≡ distance_of (take 63 (bits_of 64 bits)) (take 63 (nid_word nid.0 nid.1))
+wrong_in bits sent nid fits small read begins =
+    let half : bits / 2 ^ 1 < 2 ^ 63 = omega arith in
+    sym (distance_of-bits_of 63 (bits / 2 ^ 1) sent half small)
+    ∙ ap₂ (λ (xs ys : List Bool). distance_of xs ys) (sym (first_bits bits)) (sym (word_read bits sent nid read begins).0)
+
+pub wrong-le : (bits sent : ℕ) (nid : ℕ × ℕ) → bits < 2 ^ 64 → sent < 2 ^ 63 → Some (bits_of 63 sent) ≡ bch63_reading_of (bits_of 63 (bits / 2 ^ 1)) → nid ≡ identifier_of_word (bits_of 63 sent)
+    → count_ones (bit_xor (bits / 2 ^ 1) sent) ≤ 11
+wrong-le bits sent nid fits small read begins =
+    let half : bits / 2 ^ 1 < 2 ^ 63 = omega arith in
+    omega (arith, distance_of-bits_of 63 (bits / 2 ^ 1) sent half small, (word_read bits sent nid read begins).1)
 
 -- a word is read as the code reads it
 pub code_reading : (bits : ℕ) (answer : Option (List Bool)) → answer ≡ bch63_reading_of (bits_of 63 (bits / 2 ^ 1)) → nid_reading_of (bits_of 64 bits) ≡ option_map identifier_of_word answer

@@ -3,7 +3,7 @@
 //!
 //! The 64 bits of an identifier are a number whose highest bit is sent first. The first 63 of them are a word of the code,
 //! and its first 16 bits are the NAC and the DUID. `nid_bits` makes them, `read_nid` reads them where at most 11 of the 63
-//! are wrong, and `nid_distance` tells how many were:
+//! are wrong, `read_nid_counted` tells how many were, and `nid_distance` how many are for any identifier:
 //!
 //! ```
 //! let nid = Nid::from(0x2933); // NAC 293 hex, DUID 3
@@ -31,8 +31,8 @@ mod zeros;
 
 pub use bch63::Bch63;
 pub use duid::{HDU, LDU1, LDU2, PDU, TDU, TDULC};
-pub use nid::Nid;
-pub use reading::read_nid;
+pub use nid::{Nid, ReadNid};
+pub use reading::{read_nid, read_nid_counted};
 pub use sent::{nid_bits, nid_distance};
 
 #[cfg(test)]

@@ -11,6 +11,15 @@ pub struct Nid {
     ghost duid_fits: { duid ≤ 15 },
 }
 
+/// A network identifier (NID) as it was read.
+#[derive(Clone, Copy, Debug, PartialEq, Eq)]
+pub struct ReadNid {
+    /// The identifier.
+    pub nid: Nid,
+    /// How many of the bits that were looked at were received otherwise than they are sent for it: so many were put right.
+    pub wrong: u32,
+}
+
 impl Nid {
     /// Answers the network identifier (NID) of a network access code (NAC) and a data unit identifier (DUID); `None` exactly where
     /// the first is above 4,095 or the second above 15.

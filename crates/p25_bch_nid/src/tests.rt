@@ -126,6 +126,12 @@ fn identifiers_with_wrong_bits(rt: HostRuntime) {
             Some((0, 12)),
             "{nac:x} {duid:x}"
         );
+        let counted = read_nid_counted(bits ^ 0x1FF).map(|read| read.wrong);
+        assert_eq!(rt;
+            counted,
+            Some(8),
+            "{nac:x} {duid:x} with P and eight more inverted"
+        );
         for start in 1..54_u32 {
             assert_eq!(rt;
                 read_nid(bits ^ (0x7FF << start)),

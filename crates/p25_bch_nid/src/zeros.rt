@@ -16,8 +16,14 @@ macro_rules! planes {
     ($([$($power:expr),*]),*) => { [$(sums! { $($power),* }),*] };
 }
 
-// At 12 · k + 6 · half + p and v: bit e is bit p of the symbol v · 8^half times the k-th power of α^(-e), for each e below 63, each k below
-// 12, both halves, each p below 6 and each v below 8. Those of 4, 2 and 1 are enough to make all.
+// Products of a coefficient by powers of α^(-e), for all 63 exponents e at once. A row is a number of 63 bits, bit e for the exponent e:
+//
+// | index    | at 12 · k + 6 · half + p                                          | at v           |
+// |----------|-------------------------------------------------------------------|----------------|
+// | range    | power k below 12; half 0 or 1; bit p below 6 of the product        | v below 8      |
+// | meaning  | bit p of (v · 8^half) · (α^(-e))^k                                 | half of symbol |
+//
+// The entries of v = 4, 2 and 1 are enough to make all.
 static PLANES: [[u64; 8]; 144] = planes! {
     [0x0000_0000_0000_0000, 0x0000_0000_0000_0000, 0x7FFF_FFFF_FFFF_FFFF], [0x0000_0000_0000_0000, 0x7FFF_FFFF_FFFF_FFFF, 0x0000_0000_0000_0000],
     [0x7FFF_FFFF_FFFF_FFFF, 0x0000_0000_0000_0000, 0x0000_0000_0000_0000], [0x0000_0000_0000_0000, 0x0000_0000_0000_0000, 0x0000_0000_0000_0000],

@@ -9,8 +9,8 @@ use Rattle.p25_calls.specs.Seen.{is_header, is_link_unit, is_terminator, is_voic
 use Rattle.p25_calls.specs.Runs.{run_from}
 use Rattle.p25_calls.specs.Calls.{call_of, end_of}
 
--- where the last item that was taken ended, how many were taken, and the run that a further unit may still join, as a call: it is
--- none yet where it has no link unit
+-- what a grouper of calls knows: the bit after the last item that it took, how many items it took, and the call that the next unit may
+-- still join, or none
 pub record CallerParts : Type 0 where
   pub reached : ℕ
   pub taken : ℕ

@@ -18,8 +18,8 @@ use Rattle.p25_code.specs.Words.{IsEncoding}
 use Rattle.p25_code.specs.Readings.{Tested}
 use Rattle.p25_code.specs.Letters.{same_bit}
 use Rattle.p25_code.specs.Binary.{syndrome_of, IsChecked, check_columns, rows_fit, systematic, weight_of}
-use Rattle.p25_code.proofs.WeightLaws.{all_bits, all_bits-each, sum_of_words, length-sum_of_words, weight_of-append, weight_of-bits_of, weight_of-sum_of_words, syndrome_of-zeros, syndrome_of-sum_of_words}
-use Rattle.p25_code.proofs.ReadingLaws.{IsBlockCode}
+use Rattle.p25_code.proofs.WeightLaws.{all_bits-each, sum_of_words, length-sum_of_words, weight_of-append, weight_of-bits_of, weight_of-sum_of_words, syndrome_of-zeros, syndrome_of-sum_of_words}
+use Rattle.p25_code.specs.CodeLaws.{IsBlockCode, IsSystematic, is_heavy, all_bits}
 use Rattle.p25_code.proofs.SyndromeLaws.{syndrome_of-append, syndrome_of-check_columns, length-check_columns, change_of-is}
 
 -- whether a word passes can be tested
@@ -45,15 +45,6 @@ syndrome_of-lt checks (first ∷ rows) (bit ∷ info) fit =
     chosen : (b : Bool) → first < 2 ^ checks → cond b first 0 < 2 ^ checks
     chosen true h = h
     chosen false h = pow_pos checks
-
--- the information is nothing but zeros, or the systematic word is heavy
-unfoldable pub is_heavy : List ℕ → ℕ → ℕ → List Bool → Bool
-is_heavy rows checks apart info = eqb (weight_of info) 0 || leb apart (weight_of (systematic rows checks info))
-
--- what the tests of a table of rows say: the rows fit, and no word but that of zeros is light
-pub record IsSystematic (rows : List ℕ) (checks apart : ℕ) : Type 0 where
-  pub fit : rows_fit checks rows ≡ true
-  pub heavy : all_bits (length rows) (is_heavy rows checks apart) ≡ true
 
 module _ {rows : List ℕ} {checks apart : ℕ} (code : IsSystematic rows checks apart) where
   -- a word has as many letters as there are rows and checks

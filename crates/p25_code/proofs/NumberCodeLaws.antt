@@ -1,14 +1,14 @@
 -- Words that are read as numbers: by the wrong bits of what was received, and what a reader of bits makes of them.
-use Rattle.std.proofs.Common.{◌≡◌, ℕ, ◌^◌, ◌<◌, ◌≤◌, Bool, List, length, Option, Some, None, bit_xor, refl, ap, ap₂, sym, ◌∙◌, subst, arith, ◌++◌, ◌/◌, ◌%◌, bit_or, ◌+◌, ◌*◌}
+use Rattle.std.proofs.Common.{◌≡◌, ℕ, ◌^◌, ◌<◌, ◌≤◌, Bool, List, length, Option, Some, None, bit_xor, refl, ap, ap₂, sym, ◌∙◌, subst, arith, mod-eq_of_lt, ◌++◌, ◌/◌, ◌%◌, bit_or, ◌+◌, ◌*◌}
 use Rattle.std.proofs.Math.Nat.{mul_comm}
 use Rattle.std.specs.Bool.{beq}
 use Rattle.std.specs.Int.Bits.{xor_self, xor_zero_r}
 use Rattle.std.specs.Int.RustNames.{count_ones}
 use Rattle.std.specs.Option.{MatchOption, option_map}
-use Rattle.std.proofs.lemmas.Nat.{mod_below, pow-add, mul-add-lt, or_shifted, shl_whole, xor_lt, pow_pos, ones_le_self, zero_from_ones}
+use Rattle.std.proofs.lemmas.Nat.{mod_below, shr_below, pow-add, mul-add-lt, or_shifted, shl_whole, xor_lt, pow_pos, ones_le_self, zero_from_ones}
 use Rattle.p25_bits.specs.Bits.{bits_of, field_of}
 use Rattle.p25_bits.specs.Distance.{distance_by, distance_of}
-use Rattle.p25_bits.proofs.BitsLaws.{length-bits_of, bits_of-joined, bits_of-field_of, field_of-lt}
+use Rattle.p25_bits.proofs.BitsLaws.{length-bits_of, bits_of-joined, bits_of-field_of, field_of-bits_of, field_of-lt}
 use Rattle.p25_bits.proofs.DistanceLaws.{distance_of-bits_of}
 use Rattle.p25_bits.proofs.DivisibleLaws.{same_from_xor}
 use Rattle.p25_code.specs.declared.code.Reading.{Reading}
@@ -17,9 +17,10 @@ use Rattle.p25_code.specs.Words.{IsEncoding, IsReading}
 use Rattle.p25_code.specs.Readings.{IsReadAs}
 use Rattle.p25_code.specs.Binary.{syndrome_of, IsChecked, check_columns, systematic}
 use Rattle.p25_code.specs.WrongBits.{number_sum, AreWrong, NoneWrong}
-use Rattle.p25_code.proofs.ReadingLaws.{IsBlockCode, one_reading}
+use Rattle.p25_code.specs.CodeLaws.{IsCheckedCode}
+use Rattle.p25_code.proofs.ReadingLaws.{one_reading}
 use Rattle.p25_code.proofs.ParityLaws.{number_sum-xor, number_sum-zero}
-use Rattle.p25_code.proofs.BinaryLaws.{IsSystematic, encodes}
+use Rattle.p25_code.proofs.BinaryLaws.{encodes}
 use Rattle.p25_code.proofs.WrongLaws.{twice, length-columns, number_sum-lt, number_sum-parts}
 
 module _ (columns : List ℕ) (radius received sum : ℕ) (fits : received < 2 ^ length columns) (sums : number_sum columns received ≡ sum) where
@@ -66,13 +67,23 @@ read_as_same_set A B radius received None to from is = record { farther = λ w b
 none_are_wrong : (columns : List ℕ) (radius : ℕ) → AreWrong columns radius 0 0
 none_are_wrong columns radius = record { fits = pow_pos (length columns); sums = number_sum-zero columns; within = omega (arith, ones_le_self 0) }
 
+-- the information is what stands before the check bits
+pub information_fits : {rows : List ℕ} {n k checks radius apart : ℕ} {IsWord : List Bool → Type 0} {reading : List Bool → Option (List Bool)}
+    → IsCheckedCode IsWord rows n k checks radius apart reading → (received : ℕ) → received < 2 ^ n → received / 2 ^ checks < 2 ^ k
+information_fits {rows} {n} {k} {checks} code received fits = shr_below received k checks (subst (λ m. received < 2 ^ m) (sym code.whole) fits)
+
+-- a 1 before so many check bits
+pub one_place : (places checks : ℕ) → places ≡ checks → checks ≤ 16 → 1 * 2 ^ places % 2 ^ 32 ≡ 2 ^ checks
+one_place places checks same few =
+    let one : 1 < 2 ^ 1 = omega arith in
+    let whole : 1 * 2 ^ checks ≡ 2 ^ checks = omega arith in
+    ap (λ m. 1 * 2 ^ m % 2 ^ 32) same ∙ shl_whole 1 1 checks 32 one (omega arith) ∙ whole
+
 -- a received number, and the check bits of its information
-module _ {rows : List ℕ} {checks apart n radius : ℕ} {IsWord : List Bool → Type 0} (code : IsSystematic rows checks apart) (laws : IsBlockCode beq IsWord n (length rows) radius apart) (long : length rows + checks ≡ n)
-    (from : (w : List Bool) → IsChecked (rows ++ check_columns checks) w → IsWord w) (to : (w : List Bool) → IsWord w → IsChecked (rows ++ check_columns checks) w)
-    (reading : List Bool → Option (List Bool)) (reads : (received : List Bool) → IsReadAs beq IsWord radius received (reading received))
+module _ {rows : List ℕ} {n k checks radius apart : ℕ} {IsWord : List Bool → Type 0} {reading : List Bool → Option (List Bool)} (code : IsCheckedCode IsWord rows n k checks radius apart reading)
     (received check : ℕ) (fits : received < 2 ^ n) (is : check ≡ number_sum rows (received / 2 ^ checks)) where
   columns_are : length (rows ++ check_columns checks) ≡ n
-  columns_are = length-columns rows checks ∙ long
+  columns_are = length-columns rows checks ∙ ap (λ m. m + checks) code.rows_long ∙ code.whole
 
   fits_columns : received < 2 ^ length (rows ++ check_columns checks)
   fits_columns = subst (λ m. received < 2 ^ m) (sym columns_are) fits
@@ -83,14 +94,15 @@ module _ {rows : List ℕ} {checks apart n radius : ℕ} {IsWord : List Bool →
 
   pub sum_fits : bit_xor check (received % 2 ^ checks) < 2 ^ checks
   sum_fits =
-      xor_lt checks check (received % 2 ^ checks) (subst (λ m. m < 2 ^ checks) (sym is) (number_sum-lt checks rows (received / 2 ^ checks) code.fit)) (mod_below received (2 ^ checks) (pow_pos checks))
+      xor_lt checks check (received % 2 ^ checks) (subst (λ m. m < 2 ^ checks) (sym is) (number_sum-lt checks rows (received / 2 ^ checks) code.table.fit))
+      (mod_below received (2 ^ checks) (pow_pos checks))
 
   -- what is read as a number is the reading of the bits
   read_as : (answer : Option (List Bool)) → IsReadAs beq (IsChecked (rows ++ check_columns checks)) radius (bits_of n received) answer → answer ≡ reading (bits_of n received)
   read_as answer is_read =
-      one_reading laws (bits_of n received) answer (reading (bits_of n received)) (length-bits_of n received)
-      (read_as_same_set (IsChecked (rows ++ check_columns checks)) IsWord radius (bits_of n received) answer from to is_read)
-      (reads (bits_of n received))
+      one_reading code.laws (bits_of n received) answer (reading (bits_of n received)) (length-bits_of n received)
+      (read_as_same_set (IsChecked (rows ++ check_columns checks)) IsWord radius (bits_of n received) answer code.passing code.passes is_read)
+      (code.reads (bits_of n received))
 
   -- the word without the wrong bits
   pub read_without : (wrong : ℕ) → AreWrong (rows ++ check_columns checks) radius (bit_xor check (received % 2 ^ checks)) wrong → Some (bits_of n (bit_xor received wrong)) ≡ reading (bits_of n received)
@@ -114,6 +126,28 @@ module _ {rows : List ℕ} {checks apart n radius : ℕ} {IsWord : List Bool →
       let columns = rows ++ check_columns checks in
       ap (option_map (bits_of n)) e
       ∙ read_as None (subst (λ m. IsReadAs beq (IsChecked columns) radius (bits_of m received) None) columns_are (none_within columns radius received _ fits_columns sum_is none))
+
+-- within the radius one list of wrong bits makes a syndrome
+pub one_wrong : {rows : List ℕ} {n k checks radius apart : ℕ} {IsWord : List Bool → Type 0} {reading : List Bool → Option (List Bool)}
+    → IsCheckedCode IsWord rows n k checks radius apart reading → (syndrome a b : ℕ)
+    → AreWrong (rows ++ check_columns checks) radius syndrome a → AreWrong (rows ++ check_columns checks) radius syndrome b → a ≡ b
+one_wrong {rows} {n} {k} {checks} {radius} {apart} {IsWord} {reading} code syndrome a b first second =
+    let columns = rows ++ check_columns checks in
+    let m = length columns in
+    let long : length (bits_of m a) ≡ n = length-bits_of m a ∙ length-columns rows checks ∙ ap (λ l. l + checks) code.rows_long ∙ code.whole in
+    let same = one_reading code.laws (bits_of m a) (Some (bits_of m (bit_xor a a))) (Some (bits_of m (bit_xor a b))) long (read a first) (read b second) in
+    let bits : bits_of m (bit_xor a a) ≡ bits_of m (bit_xor a b) = cc in
+    let numbers : bit_xor a a ≡ bit_xor a b
+    = sym (mod-eq_of_lt (xor_lt m a a first.fits first.fits)) ∙ sym (field_of-bits_of m (bit_xor a a))
+    ∙ ap field_of bits ∙ field_of-bits_of m (bit_xor a b) ∙ mod-eq_of_lt (xor_lt m a b first.fits second.fits) in
+    sym (twice a a) ∙ ap (bit_xor a) numbers ∙ twice a b
+  where
+    read : (wrong : ℕ) → AreWrong (rows ++ check_columns checks) radius syndrome wrong
+        → IsReadAs beq IsWord radius (bits_of (length (rows ++ check_columns checks)) a) (Some (bits_of (length (rows ++ check_columns checks)) (bit_xor a wrong)))
+    read wrong are =
+        let columns = rows ++ check_columns checks in
+        read_as_same_set (IsChecked columns) IsWord radius (bits_of (length columns) a) (Some (bits_of (length columns) (bit_xor a wrong))) code.passing code.passes
+        (without_wrong columns radius a syndrome first.fits first.sums wrong are)
 
 -- as many bits change as the two numbers differ in
 pub changed_bits : (received number : ℕ) (old new : List Bool) → received ≡ field_of old → number < 2 ^ length old → new ≡ bits_of (length old) number
@@ -145,30 +179,29 @@ reading_put IsWord radius n old new (Some number) reading is put =
 reading_put IsWord radius n old new None reading is put = subst (IsReading beq IsWord radius old new) (sym put.0) (record { unchanged = put.1; none_within = is })
 
 -- the information and then its check bits, as a number
-module _ {rows : List ℕ} {checks apart : ℕ} (code : IsSystematic rows checks apart) (info check word : ℕ) (small : info < 2 ^ length rows) (few : length rows + checks ≤ 32)
-    (sums : check ≡ number_sum rows info) (joined : word ≡ bit_or (info * 2 ^ checks % 2 ^ 32) check) where
+module _ {rows : List ℕ} {n k checks radius apart : ℕ} {IsWord : List Bool → Type 0} {reading : List Bool → Option (List Bool)} (code : IsCheckedCode IsWord rows n k checks radius apart reading)
+    (info check word : ℕ) (small : info < 2 ^ k) (sums : check ≡ number_sum rows info) (joined : word ≡ bit_or (info * 2 ^ checks % 2 ^ 32) check) where
   check_fits : check < 2 ^ checks
-  check_fits = subst (λ n. n < 2 ^ checks) (sym sums) (number_sum-lt checks rows info code.fit)
+  check_fits = subst (λ m. m < 2 ^ checks) (sym sums) (number_sum-lt checks rows info code.table.fit)
 
   word_is : word ≡ info * 2 ^ checks + check
-  word_is = joined ∙ ap (λ n. bit_or n check) (shl_whole info (length rows) checks 32 small few) ∙ or_shifted info checks check check_fits
+  word_is = joined ∙ ap (λ m. bit_or m check) (shl_whole info k checks 32 small (omega (arith, code.whole, code.few))) ∙ or_shifted info checks check check_fits
 
-  pub word_fits : word < 2 ^ (length rows + checks)
+  pub word_fits : word < 2 ^ n
   word_fits =
-      let bound : 2 ^ checks * 2 ^ length rows ≡ 2 ^ (length rows + checks) = mul_comm (2 ^ checks) (2 ^ length rows) ∙ sym (pow-add 2 (length rows) checks) in
-      subst (λ n. n < 2 ^ (length rows + checks)) (sym word_is) (subst (λ n. info * 2 ^ checks + check < n) bound (mul-add-lt info (2 ^ checks) check (2 ^ length rows) small check_fits))
+      let bound : 2 ^ checks * 2 ^ k ≡ 2 ^ n = mul_comm (2 ^ checks) (2 ^ k) ∙ sym (pow-add 2 k checks) ∙ ap (λ m. 2 ^ m) code.whole in
+      subst (λ m. m < 2 ^ n) (sym word_is) (subst (λ m. info * 2 ^ checks + check < m) bound (mul-add-lt info (2 ^ checks) check (2 ^ k) small check_fits))
 
-  -- it is the encoding in a set whose words are those that pass
-  pub encodes_number : (IsWord : List Bool → Type 0) → ((w : List Bool) → IsChecked (rows ++ check_columns checks) w → IsWord w)
-      → IsEncoding IsWord (length rows) (bits_of (length rows) info) (bits_of (length rows + checks) word)
+  -- it is the encoding
+  pub encodes_number : IsEncoding IsWord k (bits_of k info) (bits_of n word)
   unfolding systematic number_sum
-  encodes_number IsWord from =
-      encodes code IsWord from rows checks (bits_of (length rows) info) (bits_of (length rows + checks) word) refl refl (length-bits_of (length rows) info)
-      (
-      ap (bits_of (length rows + checks)) word_is
-      ∙ bits_of-joined (length rows) checks info check check_fits
-      ∙ ap (λ n. bits_of (length rows) info ++ bits_of checks n) sums
-      )
+  encodes_number =
+      let made : bits_of (k + checks) word ≡ systematic rows checks (bits_of k info)
+      = ap (bits_of (k + checks)) word_is
+      ∙ bits_of-joined k checks info check check_fits
+      ∙ ap (λ m. bits_of k info ++ bits_of checks m) (sums ∙ ap (λ m. syndrome_of rows (bits_of m info)) code.rows_long) in
+      subst (λ m. IsEncoding IsWord m (bits_of k info) (bits_of n word)) code.rows_long
+      (encodes code.table IsWord code.passing rows checks (bits_of k info) (bits_of n word) refl refl (length-bits_of k info ∙ sym code.rows_long) (ap (λ m. bits_of m word) (sym code.whole) ∙ made))
 
 -- what a reader by numbers leaves and answers is the reading of the bits
 pub read_by_number : (IsWord : List Bool → Type 0) (radius n : ℕ) (reading_of : List Bool → Option (List Bool)) → ((bits : List Bool) → IsReadAs beq IsWord radius bits (reading_of bits)) → (old new : List Bool) (received : ℕ)

@@ -4,20 +4,11 @@ use Rattle.std.specs.Cmp.{IsEquivalence}
 use Rattle.std.proofs.lemmas.Bool.{cases_eq}
 use Rattle.p25_bits.specs.Distance.{distance_by}
 use Rattle.p25_bits.proofs.DistanceLaws.{distance_by-same, distance_by-sym, distance_by-triangle, same_from_distance_by}
+pub use Rattle.p25_code.specs.CodeLaws.{IsBlockCode}
 use Rattle.p25_code.specs.Words.{IsEncoding, IsFound, IsReading}
 use Rattle.p25_code.specs.Readings.{IsNear, IsReadAs, word_read}
 use Rattle.p25_code.specs.declared.code.Reading.{Reading}
 use Rattle.p25_code.specs.declared.code.Reading.TheVariants.{Found, Beyond}
-
--- the laws of a block code, as one record
-pub record IsBlockCode {L : Type 0} (same : L → L → Bool) (IsWord : List L → Type 0) (n k radius apart : ℕ) : Type 0 where
-  pub compares : IsEquivalence same
-  pub alike : (x y : L) → same x y ≡ true → x ≡ y
-  pub long : (word : List L) → IsWord word → length word ≡ n
-  pub one_word : (v w : List L) → IsWord v → IsWord w → take k v ≡ take k w → v ≡ w
-  pub far_apart : (v w : List L) → IsWord v → IsWord w → v ≢ w → apart ≤ distance_by same v w
-  pub close : 2 * radius < apart
-  pub begins : k ≤ n
 
 module _ {L : Type 0} {same : L → L → Bool} {IsWord : List L → Type 0} {n k radius apart : ℕ} (code : IsBlockCode same IsWord n k radius apart) where
   -- a distance does not depend on the direction

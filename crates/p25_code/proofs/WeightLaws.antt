@@ -7,11 +7,7 @@ use Rattle.p25_bits.specs.Bits.{digit_of, bits_of}
 use Rattle.p25_bits.specs.Distance.{distance_by, distance_of}
 use Rattle.p25_bits.proofs.BitsLaws.{bits_of-suc, bits_of-zero}
 use Rattle.p25_code.specs.Binary.{syndrome_of, weight_of, change_of}
-
--- a test of all lists of so many bits
-unfoldable pub all_bits : ℕ → (List Bool → Bool) → Bool
-all_bits zero test = test []
-all_bits (suc n) test = all_bits n (λ bits. test (true ∷ bits)) && all_bits n (λ bits. test (false ∷ bits))
+use Rattle.p25_code.specs.CodeLaws.{all_bits}
 
 -- what a true test says of each of them
 pub all_bits-each : (bits : List Bool) (test : List Bool → Bool) → all_bits (length bits) test ≡ true → test bits ≡ true

@@ -1,7 +1,8 @@
 -- Which bits are wrong, by their sum: those of a word are those of its information and of its check bits, at most one wrong bit of
 -- information is one row or none, and where two lists of rows undo each other the two halves of a word may change places.
-use Rattle.std.proofs.Common.{◌≡◌, ◌⊎◌, ℕ, zero, suc, ◌+◌, ◌-◌, ◌*◌, ◌/◌, ◌%◌, ◌^◌, ◌<◌, ◌≤◌, inl, inr, true, cond, eqb, ltb, List, [], ◌∷◌, ◌++◌, length, map, get_or, bit_or, bit_xor, refl, ap, ap₂, sym, ◌∙◌, subst, arith, length-append, mod-eq_of_lt}
+use Rattle.std.proofs.Common.{◌≡◌, ◌⊎◌, ℕ, zero, suc, ◌+◌, ◌-◌, ◌*◌, ◌/◌, ◌%◌, ◌^◌, ◌<◌, ◌≤◌, inl, inr, true, cond, eqb, ltb, List, [], ◌∷◌, ◌++◌, length, map, get_or, Option, Some, None, bit_or, bit_xor, refl, ap, ap₂, sym, ◌∙◌, subst, arith, length-append, mod-eq_of_lt}
 use Rattle.std.specs.Int.{bit_at}
+use Rattle.std.specs.Option.{MatchOption}
 use Rattle.std.specs.Int.Bits.{xor_assoc, xor_self, xor_zero_l, xor_zero_r}
 use Rattle.std.specs.Int.RustNames.{count_ones}
 use Rattle.std.proofs.Math.Nat.{pow-suc, mul_comm}
@@ -261,13 +262,19 @@ row-lt checks (row ∷ rows) zero fit inside = ltb-true row (2 ^ checks) (and_pa
 row-lt checks (row ∷ rows) (suc i) fit inside = row-lt checks rows i (and_parts (ltb row (2 ^ checks)) (rows_fit checks rows) fit).1 (omega arith)
 
 -- where one bit at most is wrong, at most one bit of information is
-pub none_by_one_row : (columns : List ℕ) (checks sum : ℕ) → NoneByRows columns checks 1 sum → NoneWrong columns 1 sum
+none_by_one_row : (columns : List ℕ) (checks sum : ℕ) → NoneByRows columns checks 1 sum → NoneWrong columns 1 sum
 none_by_one_row columns checks sum none = record {
   farther = λ wrong fits sums. elim (cases_lt 1 (count_ones wrong)) [
     | inl many ↦ many
     | inr few ↦ none.farther wrong fits (omega (arith, ones-parts checks wrong)) sums
   ];
 }
+
+-- so what is found by rows is exact where one wrong bit is corrected
+pub exact_by_one_row : (columns : List ℕ) (checks sum : ℕ) (found : Option ℕ) → MatchOption found (NoneByRows columns checks 1 sum) (AreWrong columns 1 sum)
+    → MatchOption found (NoneWrong columns 1 sum) (AreWrong columns 1 sum)
+exact_by_one_row columns checks sum (Some wrong) are = are
+exact_by_one_row columns checks sum None none = none_by_one_row columns checks sum none
 
 -- where the sums by one list of rows, of the other's rows, are single bits in order, the one undoes the other
 undone : (rows turned : List ℕ) → map (number_sum turned) rows ≡ check_columns (length rows) → (number : ℕ) → number < 2 ^ length rows → number_sum turned (number_sum rows number) ≡ number

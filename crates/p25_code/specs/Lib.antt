@@ -5,3 +5,5 @@ pub mod Readings
 pub mod Erasures
 pub mod ErasedReadings
 pub mod WrongBits
+-- laws of impls: nothing to believe
+pub mod CodeLaws

@@ -2,7 +2,7 @@
 
 ghost use Rattle.std.specs.Prelude.{◌≡◌, ◌*◌, ◌-◌, ◌≤◌, List, false, length, All};
 ghost use Rattle.p25_bits.specs.Distance.{distance_by};
-ghost use Rattle.p25_code.specs.Words.{IsEncoding, IsReading};
+ghost use Rattle.p25_code.specs.Words.{IsReading};
 ghost use Rattle.p25_code.specs.Readings.{word_read};
 ghost use Rattle.p25_code.specs.Erasures.{without_erased, erased_cost, IsErasedReading};
 
@@ -35,16 +35,4 @@ pub fn read_with_erasures<C: ErasedCode>(word: &mut [C::Letter], erased: &[bool]
     ensures whole { C.N - C.K ≡ 2 * C.radius_is → All (λ gone. gone ≡ false) erased.now → IsReading C.Letter.eq C.IsWord C.radius_is word.old word.new result }
 {
     C::read_erased(word, erased)
-}
-
-/// Encodes information and reads the word at once: it is left as it was encoded, and the answer is Found without fixes.
-pub fn encode_then_read<C: BlockCode>(info: &[C::Letter], word: &mut [C::Letter]) -> Reading
-    requires code { C.HasCode }
-    requires info { length info.now ≡ C.K }
-    requires word { length word.old ≡ C.N }
-    ensures encoding { IsEncoding C.IsWord C.K info.now word.new }
-    ensures found { result ≡ Reading.Found 0 }
-{
-    C::encode(info, word);
-    read_received::<C>(word)
 }

@@ -15,21 +15,23 @@
 //! is answered as `Beyond` and left as it was received. The codes of the air interface are in TIA-102.BAAA; the words
 //! radius, least distance and bounded-distance reading are those of any textbook of coding theory.
 //!
-//! `read_received` and `encode_then_read` say what this comes to for any code, proved from the trait alone. An
-//! `ErasedCode` also reads words of which some letters are not known; `read_with_erasures` says what that comes to.
-//! The words of a `NumberCode` are bits and numbers too. `wrong_by_rows` and `wrong_by_halves` find the wrong bits of a word
-//! of a small binary code by its syndrome, without a search.
+//! `read_received` says what this comes to for any code, proved from the trait alone. An `ErasedCode` also reads words of
+//! which some letters are not known; `read_with_erasures` says what that comes to.
+//! The words of a `NumberCode` are bits and numbers too. A small binary code says its check bits and which bits are wrong by the
+//! syndrome, and is both by `CheckedCode`; `wrong_by_rows` and `wrong_by_halves` find those bits without a search.
 //!
 //! Contracts see a reading as a function of what was received: the word of the code within the radius, or none. Its law,
 //! `reads_as`, is all that is known of it, and only one answer meets that law.
 #![tactic(auto)]
 
 mod callers;
+mod checked_code;
 mod code;
 mod number_code;
 mod wrong_bits;
 
-pub use callers::{encode_then_read, read_received, read_with_erasures};
+pub use callers::{read_received, read_with_erasures};
+pub use checked_code::CheckedCode;
 pub use code::{BlockCode, ErasedCode, Reading};
 pub use number_code::{NumberCode, put_reading};
 pub use wrong_bits::{wrong_by_halves, wrong_by_rows};

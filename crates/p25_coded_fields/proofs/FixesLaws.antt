@@ -1,10 +1,9 @@
 -- Fixes place by place: one inner word more is one run of bits more in both lists, and their distances add up.
-use Rattle.std.proofs.Common.{◌≡◌, ◌≢◌, ℕ, ◌+◌, ◌*◌, ◌<◌, ◌≤◌, ◌^◌, inl, inr, Bool, List, [], ◌∷◌, ◌++◌, length, take, get_or, set, Option, None, IfSome, All, refl, ap, ap₂, sym, subst, ◌∙◌, arith, zero-add, length-append, get_or-set_same, get_or-set_other, below_more}
+use Rattle.std.proofs.Common.{◌≡◌, ℕ, ◌+◌, ◌*◌, ◌<◌, ◌≤◌, ◌^◌, Bool, List, [], ◌∷◌, ◌++◌, length, take, get_or, Option, Some, None, IfSome, All, refl, ap, ap₂, sym, subst, ◌∙◌, arith, zero-add, length-append}
 use Rattle.std.specs.Bool.{beq}
 use Rattle.std.specs.List.{flat_map}
 use Rattle.std.proofs.Math.Nat.{mul-le-mul_left, mul_comm}
-use Rattle.std.proofs.lemmas.Bool.{cases_lt}
-use Rattle.std.proofs.lemmas.List.{append-nil, length-take-le, take_all, take_more, set_past, get_or_past}
+use Rattle.std.proofs.lemmas.List.{append-nil, length-take-le, take_all, take_more}
 use Rattle.std.proofs.lemmas.List.Concat.{flat_map-append}
 use Rattle.std.proofs.lemmas.Slice.{take-put_mid}
 use borrow.Rule.Slice.PartMut.{put_mid}
@@ -18,7 +17,7 @@ use Rattle.p25_link.specs.Symbols.{symbol_bits}
 use Rattle.p25_link.proofs.SymbolsLaws.{length-symbol_bits}
 use Rattle.p25_coded_fields.specs.Layouts.{field_bits}
 use Rattle.p25_coded_fields.specs.Written.{Encodes}
-use Rattle.p25_coded_fields.specs.Fixes.{inner_bits, field_fixes_of, AreCounted, IsInnerCount, AreInnerCounts}
+use Rattle.p25_coded_fields.specs.Fixes.{inner_bits, field_fixes_of, AreCounted, IsInnerCount}
 use Rattle.p25_coded_fields.proofs.SymbolsLaws.{one_more, room_at}
 
 -- no inner word
@@ -100,6 +99,22 @@ module _ {IsWord : List Bool → Type 0} {size k : ℕ} (long : (word : List Boo
           let small : count + more ≤ 888 = omega (arith, before.most some, is.few) in
           sum (omega arith)
 
+  -- one place more in a reader, where all before it and this one were read
+  pub counted_next : (each i m : ℕ) (places : List ℕ) (word xs : List Sym) (bits : List Bool) (count more total : Option ℕ) → 6 * each ≡ k → i < length places
+      → length places * each ≤ 36 → All (λ at. at + size ≤ length bits) places → each * i + each ≤ length word → length xs ≡ each
+      → IfSome count (AreCounted IsWord size k each i places (take (each * i) word) bits) → IfSome more (IsInnerCount IsWord size k (get_or places i 0) xs bits)
+      → IfSome total (λ sum. (a : ℕ) × (b : ℕ) × (count ≡ Some a) × (more ≡ Some b) × (a + b < 2 ^ 32 → sum ≡ a + b))
+      → IfSome total (AreCounted IsWord size k each (i + 1) places (take (each * (i + 1)) (put_mid (each * i) m word xs)) bits)
+  counted_next each i m places word xs bits count more None sixes inside short there fits long_xs before is sum = tt
+  counted_next each i m places word xs bits count more (Some total) sixes inside short there fits long_xs before is (a, b, is_a, is_b, exact) =
+      let front = take (each * i) word in
+      let room : each * i ≤ length word = omega arith in
+      let next : each * (i + 1) ≡ each * i + length xs = omega (arith, one_more each i) in
+      let first = subst (λ (c : Option ℕ). IfSome c (AreCounted IsWord size k each i places front bits)) is_a before in
+      let second = subst (λ (c : Option ℕ). IfSome c (IsInnerCount IsWord size k (get_or places i 0) xs bits)) is_b is in
+      subst (λ (ys : List Sym). AreCounted IsWord size k each (i + 1) places ys bits total) (sym (take-put_mid (each * i) m word xs (each * (i + 1)) next room))
+      (counted_more each i places front xs bits a b total sixes inside short there (length-take-le (each * i) word room) long_xs first second exact)
+
 -- the symbols of one group more
 pub front_more : (each i : ℕ) (symbols : List Sym) → take (each * i) symbols ++ part (each * i) each symbols ≡ take (each * (i + 1)) symbols
 front_more each i symbols =
@@ -121,42 +136,3 @@ unfolding field_fixes_of
 counted_all {IsWord} {size} {k} each places symbols bits count is some encoding encodes =
     let every : length places ≤ length places = omega arith in
     (is.value some encoding encodes).value ∙ ap (λ ps. distance_of (inner_bits size ps bits) (field_bits encoding each (length places) symbols)) (take_all (length places) places every)
-
--- before the first reading
-pub counts_none : {IsWord : List Bool → Type 0} (size k each : ℕ) (places : List ℕ) (symbols : List Sym) (bits : List Bool) (counts : List (Option ℕ)) → AreInnerCounts IsWord size k each 0 places symbols bits counts
-counts_none size k each places symbols bits counts = record { known = λ j before. absurd (omega arith) }
-
--- one reading more. There is no room for the count of a place after all others
-pub counts_more : {IsWord : List Bool → Type 0} {size k : ℕ} (each i m : ℕ) (places : List ℕ) (read xs : List Sym) (bits : List Bool) (counts kept : List (Option ℕ)) (count : Option ℕ) → each * i + each ≤ length read → length xs ≡ each
-    → kept ≡ set counts i count → AreInnerCounts IsWord size k each i places (take (each * i) read) bits counts → IfSome count (IsInnerCount IsWord size k (get_or places i 0) xs bits)
-    → AreInnerCounts IsWord size k each (i + 1) places (take (each * (i + 1)) (put_mid (each * i) m read xs)) bits kept
-counts_more {IsWord} {size} {k} each i m places read xs bits counts kept count there long made before is =
-    let fits : each * i ≤ length read = omega arith in
-    let next : each * (i + 1) ≡ each * i + length xs = omega (arith, one_more each i) in
-    let beginning = length-take-le (each * i) read fits in
-    subst (λ (cs : List (Option ℕ)). AreInnerCounts IsWord size k each (i + 1) places (take (each * (i + 1)) (put_mid (each * i) m read xs)) bits cs) (sym made)
-    (subst (λ (ys : List Sym). AreInnerCounts IsWord size k each (i + 1) places ys bits (set counts i count)) (sym (take-put_mid (each * i) m read xs (each * (i + 1)) next fits))
-    (record { known = below_more known_at i (λ j inside. earlier beginning j inside) (last beginning) }))
-  where
-    front : List Sym
-    front = take (each * i) read
-
-    known_at : ℕ → Type 0
-    known_at j = IfSome (get_or (set counts i count) j None) (IsInnerCount IsWord size k (get_or places j 0) (part (each * j) each (front ++ xs)) bits)
-
-    earlier : length front ≡ each * i → (j : ℕ) → j < i → known_at j
-    earlier beginning j inside =
-        let other : j ≢ i = omega arith in
-        let same = get_or-set_other counts i j count None other in
-        let group = part_left (each * j) each front xs (room_at each j i (length front) inside (sym beginning)) in
-        subst (λ (c : Option ℕ). IfSome c (IsInnerCount IsWord size k (get_or places j 0) (part (each * j) each (front ++ xs)) bits)) (sym same)
-        (subst (λ (ys : List Sym). IfSome (get_or counts j None) (IsInnerCount IsWord size k (get_or places j 0) ys bits)) (sym group) (before.known j inside))
-
-    here : IfSome (get_or (set counts i count) i None) (IsInnerCount IsWord size k (get_or places i 0) xs bits)
-    here = elim (cases_lt i (length counts)) [
-      | inl inside ↦ rw (get_or-set_same counts i count None inside) is
-      | inr past ↦ rw (set_past counts i count past, get_or_past counts i None past) tt
-    ]
-
-    last : length front ≡ each * i → known_at i
-    last beginning = subst (λ (ys : List Sym). IfSome (get_or (set counts i count) i None) (IsInnerCount IsWord size k (get_or places i 0) ys bits)) (sym (part_last (each * i) each front xs beginning long)) here

@@ -3,7 +3,6 @@ use Rattle.std.proofs.Common.{◌≡◌, ℕ, zero, suc, ◌+◌, ◌-◌, ◌*�
 use Rattle.std.specs.List.{flat_map}
 use Rattle.std.specs.Int.RustNames.{count_ones}
 use Rattle.std.proofs.lemmas.List.{append-nil, length-take-le, take_all, take_more}
-use Rattle.std.proofs.Math.Nat.{mul_comm}
 use Rattle.std.proofs.lemmas.List.Concat.{flat_map-append}
 use Rattle.std.proofs.lemmas.List.Elements.{All-replicate}
 use Rattle.std.proofs.lemmas.Slice.{take-put_mid}
@@ -11,11 +10,12 @@ use borrow.Rule.Slice.PartMut.{put_mid}
 use Rattle.p25_bits.specs.Bits.{bits_of, field_of, part}
 use Rattle.p25_bits.specs.Distance.{distance_of}
 use Rattle.p25_bits.proofs.BitsLaws.{length-bits_of, take-bits_of}
-use Rattle.p25_bits.proofs.DistanceLaws.{distance_of-bits_of}
+use Rattle.p25_bits.proofs.DistanceLaws.{distance_of-bits_of, same_from_distance_by}
 use Rattle.p25_bits.proofs.NumbersLaws.{bits_of-field}
 use Rattle.p25_code.specs.Readings.{IsReadAs}
 use Rattle.p25_code.specs.Words.{IsEncoding}
-use Rattle.p25_code.specs.Erasures.{without_erased}
+use Rattle.p25_code.specs.declared.code.Reading.TheVariants.{Found}
+use Rattle.p25_code.specs.Erasures.{without_erased, IsErasedReading}
 use Rattle.p25_code.proofs.ErasedLaws.{without_erased-none}
 use Rattle.p25_gf64.specs.declared.symbol.Sym.{Sym}
 use Rattle.p25_link.specs.Symbols.{symbols_in, symbol_bits}
@@ -133,19 +133,22 @@ erased_next f places each i k at word xs erased es inside read there same long_x
     ∙ sym (flat_map-append f (take i places) (at ∷ []))
     ∙ ap (flat_map f) (sym more)
 
--- after the last place
-pub erased_whole : {L : Type 0} (f : ℕ → List (Option L)) (places : List ℕ) (each i : ℕ) (word : List L) (erased : List Bool) → length places ≤ i → length places * each ≡ length word → length erased ≡ length word → i ≤ length places
-    → without_erased (take (each * i) word) (take (each * i) erased) ≡ flat_map f (take i places) → without_erased word erased ≡ flat_map f places
-erased_whole f places each i word erased past covers same most is =
-    let here : i ≡ length places = omega arith in
-    let all : each * i ≡ length word = ap (λ n. each * n) here ∙ mul_comm each (length places) ∙ covers in
+-- the outer word, from the symbols and erasures of all places
+pub outer_read : (layout : Layout) (bits : List Bool) (each i : ℕ) (word : List Sym) (erased : List Bool) (value : Option (List Sym))
+    → each ≡ layout.each → i ≡ length layout.places → layout.each * length layout.places ≡ length word → length erased ≡ length word
+    → without_erased (take (each * i) word) (take (each * i) erased) ≡ flat_map (λ at. symbols_or_erasures layout.each (layout.inner_reading (part at layout.size bits))) (take i layout.places)
+    → value ≡ layout.outer_reading (without_erased word erased) → value ≡ outer_word_of layout bits
+unfolding outer_word_of received_in
+outer_read layout bits each i word erased value group here covers same is read =
+    let all : each * i ≡ length word = ap₂ (λ m n. m * n) group here ∙ covers in
     let fits_x : length word ≤ each * i = omega arith in
     let fits_e : length erased ≤ each * i = omega arith in
-    let fits : length places ≤ i = omega arith in
-    ap₂ without_erased (sym (take_all (each * i) word fits_x)) (sym (take_all (each * i) erased fits_e)) ∙ is ∙ ap (flat_map f) (take_all i places fits)
+    let fits : length layout.places ≤ i = omega arith in
+    let given = λ (at : ℕ). symbols_or_erasures layout.each (layout.inner_reading (part at layout.size bits)) in
+    read ∙ ap layout.outer_reading (ap₂ without_erased (sym (take_all (each * i) word fits_x)) (sym (take_all (each * i) erased fits_e)) ∙ is ∙ ap (flat_map given) (take_all i layout.places fits))
 
--- the outer word, from the symbols and erasures of all places
-pub outer_read : (layout : Layout) (bits : List Bool) (list : List (Option Sym)) (value : Option (List Sym)) → value ≡ layout.outer_reading list
-    → list ≡ flat_map (λ at. symbols_or_erasures layout.each (layout.inner_reading (part at layout.size bits))) layout.places → value ≡ outer_word_of layout bits
-unfolding outer_word_of received_in
-outer_read layout bits list value read is = read ∙ ap layout.outer_reading is
+-- a word of which no letter changed is what was received
+pub unchanged : (same : Sym → Sym → Bool) (IsWord : List Sym → Type 0) (most : ℕ) (list : List (Option Sym)) (received word : List Sym) (fixes : ℕ) → ((x y : Sym) → same x y ≡ true → x ≡ y)
+    → IsErasedReading same IsWord most list received word (Found fixes) → length received ≡ length word → fixes ≡ 0 → received ≡ word
+unfolding IsErasedReading
+unchanged same IsWord most list received word fixes alike is long none = same_from_distance_by same alike received word long (sym is.fixes_is ∙ none)

@@ -1,5 +1,5 @@
 -- In how many bits a field was received otherwise than it is sent.
-use Rattle.std.specs.Prelude.{◌≡◌, ℕ, ◌*◌, ◌<◌, ◌≤◌, Bool, List, length, take, slice_index, slice_index_or, Option, None, IfSome}
+use Rattle.std.specs.Prelude.{◌≡◌, ℕ, ◌*◌, ◌<◌, ◌≤◌, Bool, List, length, take}
 use Rattle.std.specs.List.{flat_map}
 use Rattle.p25_bits.specs.Bits.{part}
 use Rattle.p25_bits.specs.Distance.{distance_of}
@@ -34,9 +34,3 @@ pub record AreCounted (IsWord : List Bool → Type 0) (size k each i : ℕ) (pla
 pub record IsInnerCount (IsWord : List Bool → Type 0) (size k at : ℕ) (symbols : List Sym) (bits : List Bool) (count : ℕ) : Type 0 where
   pub few : count ≤ 24
   pub value : (sent : List Bool) → IsEncoding IsWord k (symbol_bits symbols) sent → count ≡ distance_of (part at size bits) sent
-
--- the counts of the first inner words of a field, in the order of their places: each that is known says in how many bits the
--- inner word was received otherwise than it is sent for the symbols that were read there
-pub record AreInnerCounts (IsWord : List Bool → Type 0) (size k each i : ℕ) (places : List ℕ) (symbols : List Sym) (bits : List Bool)
-    (counts : List (Option ℕ)) : Type 0 where
-  pub known : (j : ℕ) → j < i → IfSome (slice_index_or counts j None) (IsInnerCount IsWord size k (slice_index places j) (part (each * j) each symbols) bits)

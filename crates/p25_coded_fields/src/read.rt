@@ -8,7 +8,7 @@ ghost use Rattle.p25_coded_fields.specs.Fixes.{field_fixes_of, IsInnerCount};
 ghost use Rattle.p25_coded_fields.specs.Layouts.{field_layout, symbols_or_erasures, outer_word_of};
 ghost use Rattle.p25_coded_fields.specs.Written.{Encodes};
 
-use crate::fixes::field_fixes;
+use crate::fixes::{field_fixes, total_known};
 use p25_bits::BitBuf;
 use p25_code::{ErasedCode, NumberCode, Reading, read_with_erasures};
 use p25_gf64::Sym;
@@ -79,21 +79,17 @@ pub fn read_field<I: NumberCode, O: ErasedCode<Letter = Sym>>(
     ensures most { 0 < I.K → (fixes : ℕ) → result ≡ Reading.Found fixes → fixes ≤ 24 * length places.now }
 {
     let each = I::K / 6;
-    let (mut symbols, mut gone, mut counts) = ([Sym::ZERO; 36], [false; 36], [None; 36]);
-    let read = &mut symbols[..word.len()];
+    let mut gone = [false; 36];
     let erased = &mut gone[..word.len()];
+    let mut counted = Some(0);
     for (i, at) in places.iter().enumerate() {
         let (start, end) = (each * i, each * i + each);
-        let count = read_inner::<I>(bare, *at, &mut read[start..end], &mut erased[start..end]);
-        // Where inner words have symbols there are no more places than this.
-        if i < counts.len() {
-            counts[i] = count;
-        }
+        let more = read_inner::<I>(bare, *at, &mut word[start..end], &mut erased[start..end]);
+        counted = total_known(counted, more);
     }
-    word.copy_from_slice(read);
     match read_with_erasures::<O>(word, erased) {
-        Reading::Found { .. } => Reading::Found {
-            fixes: field_fixes::<I>(bare, places, read, &counts, word),
+        Reading::Found { fixes } => Reading::Found {
+            fixes: field_fixes::<I>(bare, places, word, fixes, counted),
         },
         Reading::Beyond => Reading::Beyond,
     }

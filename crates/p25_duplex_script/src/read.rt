@@ -27,7 +27,7 @@ const STARTS: [DuplexStart; 3] = [
 ];
 
 impl DuplexStart {
-    // Answers what a word tells. None comes exactly where it tells nothing.
+    // Answers the kind of event that the first word of a line names. None comes exactly where it names none.
     fn named(word: &[u8]) -> Option<DuplexStart>
         ensures { result ≡ start_named word.now }
     {

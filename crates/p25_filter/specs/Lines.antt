@@ -36,7 +36,7 @@ closing_by ended None text = if ended then text else []
 unfoldable pub each_behind : List ℕ → List (List ℕ) → List (List ℕ)
 each_behind text texts = map (λ more. text ++ more) texts
 
--- for each of some texts, all those before it, joined
+-- the beginnings of some texts joined: for each text, those before it in one
 unfoldable pub texts_before : List (List ℕ) → List (List ℕ)
 texts_before [] = []
 texts_before (text ∷ texts) = [] ∷ each_behind text (texts_before texts)

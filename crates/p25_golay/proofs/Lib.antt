@@ -1,2 +1,2 @@
-pub mod Golay18Numbers
+pub mod Golay18Steps
 pub mod Golay24Tables

@@ -5,9 +5,8 @@ use Rattle.std.proofs.Common.{arith, sym, ◌∙◌}
 use Rattle.std.specs.Bool.{beq}
 use Rattle.p25_bits.specs.Bits.{bits_of}
 use Rattle.p25_code.specs.Binary.{IsChecked, check_columns, systematic, syndrome_of, weight_of}
-use Rattle.p25_code.proofs.ReadingLaws.{IsBlockCode}
-use Rattle.p25_code.proofs.WeightLaws.{all_bits}
-use Rattle.p25_code.proofs.BinaryLaws.{IsSystematic, is_heavy, is_code}
+use Rattle.p25_code.specs.CodeLaws.{IsBlockCode, IsSystematic, is_heavy, all_bits}
+use Rattle.p25_code.proofs.BinaryLaws.{is_code}
 use Rattle.p25_golay.specs.Golay18.{IsGolay18}
 use Rattle.p25_golay.specs.Golay24Laws.{to_checked, from_checked}
 
@@ -57,7 +56,3 @@ from_short word is = record {
 -- the laws of the code
 pub golay18_is_code : IsBlockCode beq IsGolay18 18 6 3 8
 golay18_is_code = is_code short_code IsGolay18 to_short 18 3 refl (omega arith)
-
--- a word fits a number of 32 bits
-pub golay18_fits : 18 ≤ 32
-golay18_fits = omega arith

@@ -8,10 +8,9 @@ use Rattle.p25_bits.specs.Bits.{bits_of}
 use Rattle.p25_bits.specs.Divisible.{HasDegree}
 use Rattle.p25_code.specs.Binary.{IsChecked, check_columns, systematic, syndrome_of, weight_of}
 use Rattle.p25_code.specs.WrongBits.{number_sum}
-use Rattle.p25_code.proofs.ReadingLaws.{IsBlockCode}
-use Rattle.p25_code.proofs.WeightLaws.{all_bits}
+use Rattle.p25_code.specs.CodeLaws.{IsBlockCode, IsSystematic, is_heavy, all_bits}
 use Rattle.p25_code.proofs.SyndromeLaws.{syndrome_of-append}
-use Rattle.p25_code.proofs.BinaryLaws.{IsSystematic, is_heavy, length_checked, is_code}
+use Rattle.p25_code.proofs.BinaryLaws.{length_checked, is_code}
 use Rattle.p25_code.proofs.RemainderLaws.{power_remainder, remainders, remainders-divisible, divisible-remainders}
 use Rattle.p25_code.proofs.ParityLaws.{mixed_passes, with_parity, syndrome_of-with_parity}
 use Rattle.p25_golay.specs.Golay24.{IsGolay24}
@@ -118,7 +117,3 @@ from_checked word is =
 -- the laws of the code
 pub golay24_is_code : IsBlockCode beq IsGolay24 24 12 3 8
 golay24_is_code = is_code code IsGolay24 to_checked 24 3 refl (omega arith)
-
--- a word fits a number of 32 bits
-pub golay24_fits : 24 ≤ 32
-golay24_fits = omega arith

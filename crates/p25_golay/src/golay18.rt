@@ -1,12 +1,11 @@
 //! The shortened Golay code (18,6).
 
 ghost use Rattle.p25_golay.specs.Golay18.{IsGolay18};
-ghost use Rattle.p25_golay.specs.Golay18Laws.{golay18_fits, golay18_is_code};
-ghost use Rattle.p25_golay.specs.Golay18Readings.{golay18_reading_of, golay18_reads_as};
+ghost use Rattle.p25_golay.specs.Golay18Laws.{short_rows};
+ghost use Rattle.p25_golay.specs.Golay18Readings.{golay18_reading_of, golay18_is_checked};
 
-use crate::golay24::{Golay24, RADIUS};
-use p25_bits::{number_of, put_number};
-use p25_code::{BlockCode, NumberCode, Reading, put_reading};
+use crate::golay24::Golay24;
+use p25_code::CheckedCode;
 
 /// The shortened Golay code (18,6): the words of the Golay code (24,12) that begin with six zeros, without those six. Any
 /// two words differ in at least 8 bits; three wrong bits are corrected. A list that is near to a word of the longer code
@@ -14,68 +13,40 @@ use p25_code::{BlockCode, NumberCode, Reading, put_reading};
 #[derive(Clone, Copy, Debug, PartialEq, Eq)]
 pub struct Golay18;
 
-impl BlockCode for Golay18 {
-    const N: usize = 18;
+impl CheckedCode for Golay18 {
+    const LENGTH: usize = 18;
 
-    const K: usize = 6;
+    const INFORMATION: usize = 6;
 
-    type Letter = bool;
+    const CHECKS: u32 = 12;
 
-    ghost N = { 18 };
+    const RADIUS: u32 = 3;
 
-    ghost K = { 6 };
+    ghost LENGTH = { 18 };
 
-    ghost HasCode = { Unit {0} };
+    ghost INFORMATION = { 6 };
+
+    ghost CHECKS = { 12 };
+
+    ghost RADIUS = { 3 };
+
+    ghost apart = { 8 };
+
+    ghost rows = { short_rows };
 
     ghost IsWord = { IsGolay18 };
 
-    ghost radius_is = { 3 };
-
-    ghost distance_is = { 8 };
-
     ghost reading_is = { golay18_reading_of };
 
-    ghost reads_as = { λ _. golay18_reads_as };
-
-    ghost same_letter = { golay18_is_code.alike };
-
-    ghost length_of_word = { λ _. golay18_is_code.long };
-
-    ghost one_word = { λ _. golay18_is_code.one_word };
-
-    ghost far_apart = { λ _. golay18_is_code.far_apart };
-
-    ghost within = { λ _. golay18_is_code.close };
-
-    ghost begins = { λ _. golay18_is_code.begins };
-
-    fn radius() -> usize {
-        RADIUS as usize
+    fn check_bits(info: u32) -> u16 {
+        Golay24::check_bits(info)
     }
 
-    fn encode(info: &[bool], word: &mut [bool]) {
-        put_number(
-            u64::from(Golay18::encode_number(number_of(info) as u32)),
-            word,
-        );
+    // Bits among the six in front are wrong bits of the longer code alone.
+    fn wrong_bits(syndrome: u16) -> Option<u32> {
+        let wrong = Golay24::wrong_bits(syndrome)?;
+        if wrong < 1 << 18 { Some(wrong) } else { None }
     }
 
-    fn read(word: &mut [bool]) -> Reading {
-        let received = number_of(word) as u32;
-        put_reading(received, Golay18::read_number(received), word)
-    }
-}
-
-impl NumberCode for Golay18 {
-    ghost fits_number = { λ _. golay18_fits };
-
-    fn encode_number(info: u32) -> u32 {
-        Golay24::encode_number(info)
-    }
-
-    // A word of the longer code that does not begin with six zeros is none of this one.
-    fn read_number(received: u32) -> Option<u32> {
-        let sent = Golay24::read_number(received)?;
-        if sent < 1 << 18 { Some(sent) } else { None }
-    }
+    ghost is_code = { golay18_is_checked };
 }

@@ -3,11 +3,11 @@
 ghost use Rattle.std.specs.Prelude.{◌≡◌, ◌<◌};
 ghost use Rattle.p25_code.specs.WrongBits.{number_sum};
 ghost use Rattle.p25_golay.specs.Golay24.{IsGolay24};
-ghost use Rattle.p25_golay.specs.Golay24Laws.{check_rows, message_rows, golay24_fits, golay24_is_code};
-ghost use Rattle.p25_golay.specs.Golay24Readings.{golay24_reading_of, golay24_reads_as};
+ghost use Rattle.p25_golay.specs.Golay24Laws.{check_rows, message_rows};
+ghost use Rattle.p25_golay.specs.Golay24Readings.{golay24_reading_of, golay24_is_checked};
 
-use p25_bits::{number_of, put_number, sums};
-use p25_code::{BlockCode, NumberCode, Reading, put_reading, wrong_by_halves};
+use p25_bits::sums;
+use p25_code::{CheckedCode, wrong_by_halves};
 
 // The check bits of the messages with one 1, in order.
 const CHECK_ROWS: [u16; 12] = [
@@ -31,8 +31,6 @@ static MESSAGES: [[u16; 64]; 2] = [
     sums! { MESSAGE_ROWS[6], MESSAGE_ROWS[7], MESSAGE_ROWS[8], MESSAGE_ROWS[9], MESSAGE_ROWS[10], MESSAGE_ROWS[11] },
 ];
 
-pub(crate) const RADIUS: u32 = 3;
-
 /// The extended Golay code (24,12): 12 bits of information, their 11 remainder bits, so that the first 23 bits, as a
 /// polynomial with the first bit highest, are divisible by x^11 + x^10 + x^6 + x^5 + x^4 + x^2 + 1 (C75 hex), and one bit
 /// that makes the weight even. Any two words differ in at least 8 bits; three wrong bits are corrected. TIA-102.BAAA,
@@ -40,83 +38,41 @@ pub(crate) const RADIUS: u32 = 3;
 #[derive(Clone, Copy, Debug, PartialEq, Eq)]
 pub struct Golay24;
 
-impl BlockCode for Golay24 {
-    const N: usize = 24;
+impl CheckedCode for Golay24 {
+    const LENGTH: usize = 24;
 
-    const K: usize = 12;
+    const INFORMATION: usize = 12;
 
-    type Letter = bool;
+    const CHECKS: u32 = 12;
 
-    ghost N = { 24 };
+    const RADIUS: u32 = 3;
 
-    ghost K = { 12 };
+    ghost LENGTH = { 24 };
 
-    ghost HasCode = { Unit {0} };
+    ghost INFORMATION = { 12 };
+
+    ghost CHECKS = { 12 };
+
+    ghost RADIUS = { 3 };
+
+    ghost apart = { 8 };
+
+    ghost rows = { check_rows };
 
     ghost IsWord = { IsGolay24 };
 
-    ghost radius_is = { 3 };
-
-    ghost distance_is = { 8 };
-
     ghost reading_is = { golay24_reading_of };
 
-    ghost reads_as = { λ _. golay24_reads_as };
-
-    ghost same_letter = { golay24_is_code.alike };
-
-    ghost length_of_word = { λ _. golay24_is_code.long };
-
-    ghost one_word = { λ _. golay24_is_code.one_word };
-
-    ghost far_apart = { λ _. golay24_is_code.far_apart };
-
-    ghost within = { λ _. golay24_is_code.close };
-
-    ghost begins = { λ _. golay24_is_code.begins };
-
-    fn radius() -> usize {
-        RADIUS as usize
+    fn check_bits(info: u32) -> u16 {
+        CHECKS[0][(info / 64) as usize] ^ CHECKS[1][(info % 64) as usize]
     }
 
-    fn encode(info: &[bool], word: &mut [bool]) {
-        put_number(
-            u64::from(Golay24::encode_number(number_of(info) as u32)),
-            word,
-        );
+    fn wrong_bits(syndrome: u16) -> Option<u32> {
+        wrong_by_halves(&CHECK_ROWS, &MESSAGE_ROWS, 3, syndrome, message(syndrome))
     }
 
-    fn read(word: &mut [bool]) -> Reading {
-        let received = number_of(word) as u32;
-        put_reading(received, Golay24::read_number(received), word)
-    }
+    ghost is_code = { golay24_is_checked };
 }
-
-impl NumberCode for Golay24 {
-    ghost fits_number = { λ _. golay24_fits };
-
-    fn encode_number(info: u32) -> u32 {
-        (info << 12) | u32::from(check_bits(info))
-    }
-
-    fn read_number(received: u32) -> Option<u32> {
-        let sum = check_bits(received >> 12) ^ (received % 4096) as u16;
-        if sum == 0 {
-            return Some(received);
-        }
-        let wrong = wrong_by_halves(&CHECK_ROWS, &MESSAGE_ROWS, RADIUS, sum, message(sum))?;
-        Some(received ^ wrong)
-    }
-}
-
-// Answers the check bits of a message of twelve bits.
-fn check_bits(info: u32) -> u16
-    requires { info < 4096 }
-    ensures { result ≡ number_sum check_rows info }
-{
-    CHECKS[0][(info / 64) as usize] ^ CHECKS[1][(info % 64) as usize]
-}
-
 // Answers the message of twelve bits that has these check bits.
 fn message(checks: u16) -> u16
     requires { checks < 4096 }

@@ -1,9 +1,8 @@
 -- The laws of the Hamming code (10,6).
 use Rattle.std.specs.Prelude.{◌≡◌, ◌≤◌, ◌++◌, Bool, true, List, refl}
 use Rattle.p25_code.specs.Binary.{IsChecked, check_columns, systematic, syndrome_of, weight_of}
-use Rattle.p25_code.proofs.ReadingLaws.{IsBlockCode}
-use Rattle.p25_code.proofs.WeightLaws.{all_bits}
-use Rattle.p25_code.proofs.BinaryLaws.{IsSystematic, is_heavy, sum_checked, checked_sum, length_checked, is_code}
+use Rattle.p25_code.specs.CodeLaws.{IsBlockCode, IsSystematic, is_heavy, all_bits}
+use Rattle.p25_code.proofs.BinaryLaws.{sum_checked, checked_sum, length_checked, is_code}
 use Rattle.std.specs.Bool.{beq}
 use Rattle.std.proofs.Common.{arith}
 use Rattle.p25_bits.specs.Bits.{bits_of}
@@ -29,7 +28,3 @@ from_checked word is = record { long = length_checked code word is; checks = che
 -- the laws of the code
 pub hamming10_is_code : IsBlockCode beq IsHamming10 10 6 1 3
 hamming10_is_code = is_code code IsHamming10 to_checked 10 1 refl (omega arith)
-
--- a word fits a number of 32 bits
-pub hamming10_fits : 10 ≤ 32
-hamming10_fits = omega arith

@@ -1,11 +1,13 @@
 -- The reading of the Hamming code (10,6) as a function.
-use Rattle.std.specs.Prelude.{◌++◌, Bool, List, Option}
+use Rattle.std.specs.Prelude.{◌++◌, Bool, List, Option, refl}
+use Rattle.std.proofs.Common.{arith}
 use Rattle.std.specs.Bool.{beq}
 use Rattle.p25_code.specs.Binary.{IsChecked, check_columns}
 use Rattle.p25_code.specs.Readings.{Tested, bits_searched, tested_as, reading_of, IsReadAs, IsReadAs-reading_of}
+use Rattle.p25_code.specs.CodeLaws.{IsCheckedCode}
 use Rattle.p25_code.proofs.BinaryLaws.{IsChecked-tested}
 use Rattle.p25_hamming.specs.Hamming10.{check_rows, IsHamming10}
-use Rattle.p25_hamming.specs.Hamming10Laws.{to_checked, from_checked, hamming10_is_code}
+use Rattle.p25_hamming.specs.Hamming10Laws.{code, to_checked, from_checked, hamming10_is_code}
 
 -- whether a list of bits is a word can be tested
 IsHamming10-tested : Tested IsHamming10
@@ -20,3 +22,17 @@ hamming10_reading_of = reading_of bits_searched beq IsHamming10 IsHamming10-test
 pub hamming10_reads_as : (received : List Bool) → IsReadAs beq IsHamming10 1 received (hamming10_reading_of received)
 unfolding hamming10_reading_of
 hamming10_reads_as = IsReadAs-reading_of bits_searched beq IsHamming10 IsHamming10-tested 10 1 hamming10_is_code.long
+
+-- the code, by its check bits
+pub hamming10_is_checked : IsCheckedCode IsHamming10 check_rows 10 6 4 1 3 hamming10_reading_of
+hamming10_is_checked = record {
+  laws = hamming10_is_code;
+  table = code;
+  rows_long = refl;
+  whole = refl;
+  few = omega arith;
+  few_checks = omega arith;
+  passes = to_checked;
+  passing = from_checked;
+  reads = hamming10_reads_as;
+}

@@ -5,9 +5,8 @@ use Rattle.std.specs.Bool.{beq}
 use Rattle.p25_bits.specs.Bits.{bits_of}
 use Rattle.p25_bits.specs.Divisible.{HasDegree}
 use Rattle.p25_code.specs.Binary.{IsChecked, check_columns, systematic, syndrome_of, weight_of}
-use Rattle.p25_code.proofs.ReadingLaws.{IsBlockCode}
-use Rattle.p25_code.proofs.WeightLaws.{all_bits}
-use Rattle.p25_code.proofs.BinaryLaws.{IsSystematic, is_heavy, length_checked, is_code}
+use Rattle.p25_code.specs.CodeLaws.{IsBlockCode, IsSystematic, is_heavy, all_bits}
+use Rattle.p25_code.proofs.BinaryLaws.{length_checked, is_code}
 use Rattle.p25_code.proofs.RemainderLaws.{power_remainder, remainders, remainders-divisible, divisible-remainders}
 use Rattle.p25_hamming.specs.Lsd16.{IsLsd16}
 
@@ -59,7 +58,3 @@ from_checked word is =
 -- the laws of the code
 pub lsd16_is_code : IsBlockCode beq IsLsd16 16 8 2 5
 lsd16_is_code = is_code code IsLsd16 to_checked 16 2 refl (omega arith)
-
--- a word fits a number of 32 bits
-pub lsd16_fits : 16 ≤ 32
-lsd16_fits = omega arith

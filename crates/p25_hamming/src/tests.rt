@@ -2,7 +2,7 @@
 
 use crate::{Hamming10, Lsd16};
 use p25_bits::put_number;
-use p25_code::{BlockCode, Reading, encode_then_read, read_received};
+use p25_code::{BlockCode, Reading, read_received};
 
 #[test]
 fn the_example_of_the_head(rt: HostRuntime) {
@@ -34,8 +34,10 @@ fn hamming10_encodes(rt: HostRuntime) {
         let (mut information, mut word, mut wanted) = ([false; 6], [false; 10], [false; 10]);
         put_number(info, &mut information);
         put_number(sent, &mut wanted);
+        Hamming10::encode(&information, &mut word);
+        assert_eq!(rt; word, wanted, "{info}");
         assert_eq!(rt;
-            encode_then_read::<Hamming10>(&information, &mut word),
+            read_received::<Hamming10>(&mut word),
             Reading::Found { fixes: 0 }
         );
         assert_eq!(rt; word, wanted, "{info}");
@@ -81,8 +83,10 @@ fn lsd16_encodes(rt: HostRuntime) {
         let (mut information, mut word, mut wanted) = ([false; 8], [false; 16], [false; 16]);
         put_number(info, &mut information);
         put_number(sent, &mut wanted);
+        Lsd16::encode(&information, &mut word);
+        assert_eq!(rt; word, wanted, "{info}");
         assert_eq!(rt;
-            encode_then_read::<Lsd16>(&information, &mut word),
+            read_received::<Lsd16>(&mut word),
             Reading::Found { fixes: 0 }
         );
         assert_eq!(rt; word, wanted, "{info}");

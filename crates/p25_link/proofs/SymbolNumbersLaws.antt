@@ -1,7 +1,6 @@
 -- Symbols and octets by the numbers that their bits write: one more of them in the loops that turn one into the other, and the fields of
 -- a number.
-use Rattle.std.proofs.Common.{◌≡◌, ◌↔◌, ℕ, ◌+◌, ◌-◌, ◌*◌, ◌/◌, ◌%◌, ◌^◌, ◌<◌, ◌≤◌, Bool, true, false, List, [], ◌∷◌, ◌++◌, length, take, drop, map, get_or, set, Option, Some, None, IsSome, IfSome, ap, ap₂, sym, subst, ◌∙◌, arith, lit<}
-use Rattle.std.specs.Option.{unwrap_or}
+use Rattle.std.proofs.Common.{◌≡◌, ℕ, ◌+◌, ◌-◌, ◌*◌, ◌/◌, ◌%◌, ◌^◌, ◌<◌, ◌≤◌, Bool, List, [], ◌∷◌, ◌++◌, length, take, drop, map, get_or, set, ap, ap₂, sym, subst, ◌∙◌, arith, lit<}
 use Rattle.std.proofs.Math.Nat.{mod-eq_of_lt, mul_comm, pow-le-pow_right}
 use Rattle.std.proofs.lemmas.List.{append-nil, length-take-le, map-append, take_all, take_more, take_more_set}
 use Rattle.p25_bits.specs.Bits.{bits_of, field_of, octet_bits, part}
@@ -30,10 +29,9 @@ last_field at width value =
     let left : at + width - at ≡ width = omega arith in
     sym (field_of-bits_of width value) ∙ ap field_of (sym (ap (take width) (drop-bits_of at (at + width) value there ∙ ap (λ n. bits_of n value) left) ∙ take_whole width value))
 
--- a number below 64 that six bits write has a symbol
-pub symbol_made : (bits : List Bool) (n : ℕ) (answer : Option Sym) (other : Sym) → n ≡ field_of (take 6 bits) → n < 64 → IsSome answer ↔ (n < 64) → IfSome answer (λ s. number s ≡ n) → unwrap_or answer other ≡ symbol_in bits
-symbol_made bits n (Some s) other is small some value = same_symbol s (symbol_in bits) (value ∙ is ∙ sym (number-symbol_in bits))
-symbol_made bits n None other is small some value = let none : false ≡ true = some.1 small in absurd (cc)
+-- the symbol of the number that six bits write
+pub symbol_made : (bits : List Bool) (n : ℕ) (symbol : Sym) → n ≡ field_of (take 6 bits) → number symbol ≡ n → symbol ≡ symbol_in bits
+symbol_made bits n symbol is value = same_symbol symbol (symbol_in bits) (value ∙ is ∙ sym (number-symbol_in bits))
 
 -- a symbol's bits, by the number of all
 pub symbol_number : (count i value : ℕ) → i < count → value / 2 ^ (6 * (count - 1 - i)) % 64 ≡ field_of (part (6 * i) 6 (bits_of (6 * count) value))

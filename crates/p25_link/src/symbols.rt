@@ -43,7 +43,10 @@ pub fn put_symbols(number: u128, symbols: &mut [Sym])
     let count = symbols.len();
     for i in 0..count {
         let value = (number >> (6 * (count - 1 - i))) % 64;
-        symbols[i] = Sym::new(value as u8).unwrap_or(Sym::ZERO);
+        match Sym::new(value as u8) {
+            Some(symbol) => symbols[i] = symbol,
+            None => unreachable!(),
+        }
     }
 }
 

@@ -1,5 +1,6 @@
 ghost use Rattle.std.specs.Prelude.{◌≡◌, ◌<◌, length};
 
+use p25_status::BoundedList;
 use std::marker::Model;
 
 /// A block of a confirmed packet (PDU): its serial number, at most 127, and its sixteen octets. TIA-102.BAAA, Packet Data,
@@ -59,3 +60,6 @@ pub enum Slot {
     #[default]
     Bad,
 }
+
+/// A list of at most 127 slots, one for each block to follow of a confirmed packet (PDU), in the order of sending.
+pub type Slots = BoundedList<Slot, 127>;

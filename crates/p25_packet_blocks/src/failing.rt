@@ -3,9 +3,8 @@
 ghost use Rattle.std.specs.Prelude.{◌≡◌, ◌+◌, ◌<◌, ◌≤◌, ◌++◌, length};
 ghost use Rattle.p25_packet_blocks.specs.Outcomes.{failing_blocks_of, failing_slot, failing_slots_of};
 
-use crate::block::Slot;
+use crate::block::{Slot, Slots};
 use crate::packet::Packet;
-use crate::slots::Slots;
 use p25_status::{Field, FieldList};
 
 // The fields that fail of a packet (PDU): a block for each slot that is Bad.

@@ -6,7 +6,7 @@ ghost use Rattle.p25_bits.specs.Bits.{octet_bits};
 ghost use Rattle.p25_bits.specs.Numbers.{octets_from};
 ghost use Rattle.p25_packet_blocks.specs.FlagOctets.{flag_octets, flags_of_octets};
 
-use crate::octets::Octets;
+use crate::packet::Octets;
 use p25_bits::BitBuf;
 use std::marker::Model;
 

@@ -14,15 +14,13 @@ ghost use Rattle.p25_packet_blocks.specs.Sendable.{IsHead, IsDataBlock, IsSendab
 
 use crate::block::{Block, Slot};
 use crate::head::PacketHead;
-use crate::octets::append;
 use crate::packet::{Confirmed, Packet, Plain};
 use crate::read::{BLOCK_LENGTH, HEADER_AT};
-use arrayvec::ArrayVec;
 use p25_bch_nid::{Nid, PDU};
 use p25_bits::BitBuf;
 use p25_bits::laws::octets_fit;
 use p25_crc::{crc9, crc16, crc32};
-use p25_status::{BARE_BLOCK_LENGTH, SENT_BLOCK_LENGTH};
+use p25_status::{BARE_BLOCK_LENGTH, BoundedList, SENT_BLOCK_LENGTH};
 use p25_trellis::{Half, ThreeQuarter, encode_block};
 use p25_unit_front::put_front;
 
@@ -68,9 +66,9 @@ fn put_header(head: &PacketHead, out: &mut BitBuf)
     ensures head { IsHead head.now }
 {
     octets_fit(&head.0);
-    let mut octets: ArrayVec<u8, 12> = ArrayVec::new();
-    append(&mut octets, &head.0);
-    append(&mut octets, &crc16(&head.0).to_be_bytes());
+    let mut octets: BoundedList<u8, 12> = BoundedList::new();
+    octets.extend(&head.0);
+    octets.extend(&crc16(&head.0).to_be_bytes());
     encode_block::<Half>(octets.as_slice(), out);
 }
 
@@ -84,9 +82,9 @@ fn put_block(block: &Block, out: &mut BitBuf)
     let carried = block.octets();
     octets_fit(carried);
     let first = 512 * u16::from(block.serial()) + crc9(block.serial(), carried);
-    let mut octets: ArrayVec<u8, 18> = ArrayVec::new();
-    append(&mut octets, &first.to_be_bytes());
-    append(&mut octets, carried);
+    let mut octets: BoundedList<u8, 18> = BoundedList::new();
+    octets.extend(&first.to_be_bytes());
+    octets.extend(carried);
     encode_block::<ThreeQuarter>(octets.as_slice(), out);
 }
 
@@ -116,9 +114,9 @@ fn put_plain(packet: &Plain, out: &mut BitBuf)
 {
     let carried = packet.octets().octets();
     octets_fit(carried);
-    let mut octets: ArrayVec<u8, 1524> = ArrayVec::new();
-    append(&mut octets, carried);
-    append(&mut octets, &crc32(carried).to_be_bytes());
+    let mut octets: BoundedList<u8, 1524> = BoundedList::new();
+    octets.extend(carried);
+    octets.extend(&crc32(carried).to_be_bytes());
     let octets = octets.as_slice();
     for j in 0..usize::from(packet.head().blocks()) {
         encode_block::<Half>(&octets[12 * j..12 * j + 12], out);

@@ -6,14 +6,16 @@ ghost use Rattle.p25_packet_blocks.specs.Outcomes.{body_distance, packet_or, pac
 ghost use Rattle.p25_packet_blocks.specs.Reading.{header_bits, octets_read, read_head_of, slots_read, confirmed_by_parts, plain_by_parts, packet_of_head, plain_from};
 ghost use Rattle.p25_status.specs.Outcomes.{IfRead};
 
+use crate::block::Slots;
 use crate::failing::failing_blocks;
 use crate::head::{CONFIRMED_FORMAT, PLAIN_FORMAT, PacketHead, RESPONSE_FORMAT, ReadHead};
-use crate::octets::Octets;
 use crate::read::{check_agrees, read_octets, read_slots};
-use crate::slots::Slots;
 use p25_bits::BitBuf;
-use p25_status::{Field, Outcome};
+use p25_status::{BoundedList, Field, Outcome};
 use std::marker::Model;
+
+/// A list of at most 1,520 octets, as many as a packet (PDU) of 127 blocks that is not confirmed has before its CRC.
+pub type Octets = BoundedList<u8, 1520>;
 
 /// A confirmed packet (PDU): a header of format 16 hex, and a slot for each block to follow.
 #[derive(Clone, Debug, Drop, PartialEq, Eq)]

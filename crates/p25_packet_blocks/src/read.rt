@@ -7,10 +7,9 @@ ghost use Rattle.p25_crc.specs.Values.{crc32_of};
 ghost use Rattle.p25_packet_blocks.specs.Fixes.{half_distance, three_quarter_distance};
 ghost use Rattle.p25_packet_blocks.specs.Reading.{head_reading_of, read_head_of, slot_from, slots_read, octets_read, packet_reading_of, HasItsLength};
 
-use crate::block::{Block, Slot};
+use crate::block::{Block, Slot, Slots};
 use crate::head::{PacketHead, ReadHead};
 use crate::packet::Packet;
-use crate::slots::Slots;
 use p25_bits::BitBuf;
 use p25_crc::{crc9, crc16, crc32};
 use p25_status::Field;

@@ -1,10 +1,9 @@
 ghost use Rattle.std.specs.Prelude.{◌≡◌, ◌↔◌, IsTrue};
 ghost use Rattle.p25_packet_blocks.specs.Whole.{packet_head, AreGood, IsWholePacket};
 
-use crate::block::Slot;
+use crate::block::{Slot, Slots};
 use crate::head::PacketHead;
 use crate::packet::Packet;
-use crate::slots::Slots;
 
 impl Packet {
     /// Answers the header of the packet (PDU).

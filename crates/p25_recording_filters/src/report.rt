@@ -48,6 +48,6 @@ pub trait Report {
     fn ending(&self) -> Ending
         ensures { result ≡ reporting.ending self.now };
 
-    // Where it does not look at the bits, what it writes and what it keeps are the same for all.
+    // A report that does not look at an item's bits writes and keeps the same, whatever they are.
     ghost ignores_bits: { LOOKS_AT_BITS ≡ false → IgnoresBits reporting };
 }

@@ -60,4 +60,4 @@ mod zeros;
 
 pub use code::Rs;
 pub use syndromes::fill_syndromes;
-pub use wrong::{mark_wrong, wrong_locator};
+pub use wrong::wrong_locator;

@@ -9,7 +9,7 @@ use self::words::{
     BEYOND_24_12, BEYOND_24_16, BEYOND_36_20, FOUND_24_12, FOUND_24_16, FOUND_36_20,
 };
 use crate::Rs;
-use p25_code::{BlockCode, Reading, encode_then_read, read_received, read_with_erasures};
+use p25_code::{BlockCode, Reading, read_received, read_with_erasures};
 use p25_gf64::Sym;
 
 #[test]
@@ -59,8 +59,8 @@ fn is_encoded<const N: usize, const K: usize>(sent: &[Sym; N]) -> bool
     requires { IsCode N K }
 {
     let mut word = [Sym::default(); N];
-    encode_then_read::<Rs<N, K>>(&sent[..K], &mut word) == (Reading::Found { fixes: 0 })
-        && word == *sent
+    Rs::<N, K>::encode(&sent[..K], &mut word);
+    word == *sent && read_received::<Rs<N, K>>(&mut word) == (Reading::Found { fixes: 0 })
 }
 
 // Whether a word of the code is read, and is what its information is encoded to.

@@ -1,14 +1,12 @@
 //! The wrong places of a received word, for codes whose errors are known once their places are.
 
-ghost use Rattle.std.specs.Prelude.{◌≡◌, ◌≢◌, ◌↔◌, ℕ, ◌*◌, ◌/◌, ◌<◌, ◌≤◌, false, IsTrue, length, slice_index_or};
+ghost use Rattle.std.specs.Prelude.{◌≡◌, ◌≢◌, ◌↔◌, ℕ, ◌*◌, ◌/◌, ◌<◌, ◌≤◌, length};
 ghost use Rattle.p25_gf64.specs.declared.symbol.Sym.{Sym};
 ghost use Rattle.p25_gf64.specs.Gf64.{gf64};
 ghost use Rattle.p25_algebra.specs.Series.{coefficient, value_at};
 ghost use Rattle.p25_reed_solomon.specs.Errors.{AreErrors, point_of};
 
 use crate::locator::locate;
-use crate::points::fill_values;
-use crate::zeros::fill_points;
 use p25_gf64::Sym;
 
 /// Answers a polynomial of degree 11 at most, its lowest coefficient first, that vanishes at the point of a place, the inverse of α to
@@ -36,26 +34,4 @@ pub fn wrong_locator(syndromes: &[Sym], checks: usize, n: usize) -> [Sym; 12]
     let mut lowest = [Sym::default(); 12];
     lowest.copy_from_slice(&locator[..12]);
     lowest
-}
-
-/// Sets each place of `wrong` to whether the received word is wrong there, for any errors that explain its first `checks` syndromes and
-/// are half as many at most. Where no errors do, nothing is said of what is set. There are at most 63 places, the first that of the
-/// highest coefficient, and `syndromes` are 32 as `fill_syndromes` sets them.
-pub fn mark_wrong(syndromes: &[Sym], checks: usize, wrong: &mut [bool])
-    requires places { length wrong.old ≤ 63 }
-    requires some { 2 ≤ checks }
-    requires few { checks ≤ 22 }
-    requires syndromes { length syndromes.now ≡ 32 }
-    ensures { (errors : ℕ → Sym) → AreErrors (length wrong.old) checks syndromes.now errors
-        → (j : ℕ) → j < length wrong.old → IsTrue (slice_index_or wrong.new j false) ↔ (errors j ≢ gf64.zero) }
-{
-    let n = wrong.len();
-    let locator = wrong_locator(syndromes, checks, n);
-    let mut points = [Sym::default(); 64];
-    fill_points(n, &mut points);
-    let mut values = [Sym::default(); 64];
-    fill_values(&locator, &points, &mut values);
-    for j in 0..n {
-        wrong[j] = values[j].is_zero();
-    }
 }

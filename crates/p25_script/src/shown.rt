@@ -1,5 +1,5 @@
-//! Steps as `{}` shows them, and events as `parse` reads them. A trait of the kit can stand on a type of this crate alone: so each
-//! has a small type around it here.
+//! Steps as `{}` shows them, and events as `parse` reads them. A trait of the kit can be implemented
+//! for types of this crate alone, so each has a newtype here.
 
 ghost use Rattle.std.specs.Prelude.{◌≡◌, Some, Ok, Err, MatchResult};
 ghost use Rattle.p25_script.specs.Script.{event_of};

@@ -44,7 +44,7 @@ unfoldable pub newest_by : Way → Delivery → Option Packet
 newest_by Packets delivery = delivery.packet_sent
 newest_by Answers delivery = delivery.answer
 
--- what is delivered that way comes to its station
+-- a delivery that way: a packet is heard by its station, and where there is none the step says why
 unfoldable pub delivered : WorldState → Way → Result (Packet × Bool) StepKind → WorldState × Step
 delivered w way (Err kind) = quiet_step w (w.delivery, kind)
 delivered w way (Ok (packet, false_pass)) = heard_step w false_pass (happens w.delivery (heard_by way packet))

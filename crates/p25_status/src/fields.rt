@@ -1,9 +1,6 @@
-ghost use Rattle.std.specs.Prelude.{◌≡◌, ◌+◌, ◌<◌, ◌≤◌, ◌↔◌, IsTrue, List, [], ◌∷◌, ◌++◌, length, slice_get};
-
-use arrayvec::ArrayVec;
+use crate::list::BoundedList;
 use std::error::Error;
 use std::fmt;
-use std::marker::Model;
 
 /// A part of a unit that can fail to be read. The default, which fills the unused places of a list, means nothing.
 #[derive(Clone, Copy, Debug, PartialEq, Eq, Default)]
@@ -38,81 +35,7 @@ pub enum Field {
 }
 
 /// A list of at most 127 fields, as many as a packet has blocks.
-#[derive(Clone, Debug, Default, Drop, PartialEq, Eq)]
-pub struct FieldList {
-    items: ArrayVec<Field, 127>,
-}
-
-impl Model for FieldList {
-    ghost use Rattle.std.specs.Prelude.{List};
-    ghost use Rattle.p25_status.specs.declared.fields.Field.{Field};
-
-    ghost Value = { List Field };
-
-    ghost view = { λ s. s.items.items };
-
-    ghost inverse = { λ fields. record { items = record { items = fields } } };
-}
-
-impl FieldList {
-    /// Answers an empty list.
-    pub fn new() -> FieldList
-        ensures { result ≡ [] }
-    {
-        FieldList {
-            items: ArrayVec::new(),
-        }
-    }
-
-    /// Answers the list of one field.
-    pub fn one(field: Field) -> FieldList
-        ensures { result ≡ field ∷ [] }
-    {
-        let mut fields = FieldList::new();
-        fields.push(field);
-        fields
-    }
-
-    /// Answers the number of fields held.
-    pub fn len(&self) -> usize
-        ensures value { result ≡ length self.now }
-        ensures most { result ≤ 127 }
-    {
-        self.items.len()
-    }
-
-    /// Answers whether the list holds no field.
-    pub fn is_empty(&self) -> bool
-        ensures { IsTrue result ↔ (self.now ≡ []) }
-    {
-        self.len() == 0
-    }
-
-    /// Answers all fields, in order.
-    pub fn as_slice(&self) -> &[Field]
-        ensures value { result.now ≡ self.now }
-        ensures most { length self.now ≤ 127 }
-    {
-        self.items.as_slice()
-    }
-
-    /// Answers a copy of field `i`.
-    pub fn get(&self, i: usize) -> Field
-        requires { i < length self.now }
-        ensures { slice_get self.now i ≡ Some result }
-    {
-        self.items.as_slice()[i]
-    }
-
-    /// Appends a field.
-    pub fn push(&mut self, entry: Field)
-        requires { length self.old < 127 }
-        ensures list { self.new ≡ self.old ++ entry ∷ [] }
-        ensures len { length self.new ≡ length self.old + 1 }
-    {
-        self.items.push(entry);
-    }
-}
+pub type FieldList = BoundedList<Field, 127>;
 
 /// Its name, as the lines of a unit's texts have it: `link_control`, or `block.5` of a block. No contract says so.
 impl fmt::Display for Field {

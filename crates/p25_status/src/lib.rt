@@ -19,6 +19,7 @@
 mod fields;
 mod frame_sync;
 pub mod laws;
+mod list;
 mod outcome;
 mod symbols;
 #[cfg(test)]
@@ -29,6 +30,7 @@ pub use fields::{Field, FieldList};
 pub use frame_sync::{
     IDENTIFIER_LENGTH, SYNC, SYNC_LENGTH, SYNC_SLACK, is_sync, is_sync_window, sync_distance,
 };
+pub use list::BoundedList;
 pub use outcome::Outcome;
 pub use symbols::{NotAStatus, Status, Statuses};
 pub use weaving::{BARE_BLOCK_LENGTH, SENT_BLOCK_LENGTH, unweave, weave};

@@ -1,9 +1,8 @@
-ghost use Rattle.std.specs.Prelude.{◌≡◌, ℕ, ◌+◌, ◌<◌, ◌≤◌, ◌↔◌, Bool, IsTrue, List, [], ◌∷◌, ◌++◌, length, slice_get, replicate, IsSome, IfSome};
+ghost use Rattle.std.specs.Prelude.{◌≡◌, ◌<◌, ◌↔◌, IsSome, IfSome};
 
-use arrayvec::ArrayVec;
+use crate::list::BoundedList;
 use std::error::Error;
 use std::fmt;
-use std::marker::Model;
 
 /// A status symbol, a number from 0 to 3 that is sent as two bits, the higher one first: 1 is inbound busy, 3 inbound
 /// idle, 0 unknown or talk-around, and 2 unknown. TIA-102.BAAA, Status Symbols.
@@ -103,82 +102,4 @@ impl fmt::Display for NotAStatus {
 impl Error for NotAStatus {}
 
 /// A list of at most 360 status symbols, as many as the longest unit has.
-#[derive(Clone, Debug, Default, Drop, PartialEq, Eq)]
-pub struct Statuses {
-    items: ArrayVec<Status, 360>,
-}
-
-impl Model for Statuses {
-    ghost use Rattle.std.specs.Prelude.{List};
-    ghost use Rattle.p25_status.specs.declared.symbols.Status.{Status};
-
-    ghost Value = { List Status };
-
-    ghost view = { λ s. s.items.items };
-
-    ghost inverse = { λ statuses. record { items = record { items = statuses } } };
-}
-
-impl Statuses {
-    /// Answers an empty list.
-    pub fn new() -> Statuses
-        ensures { result ≡ [] }
-    {
-        Statuses {
-            items: ArrayVec::new(),
-        }
-    }
-
-    /// Answers a list of `count` times one symbol.
-    pub fn filled(status: Status, count: usize) -> Statuses
-        requires { count ≤ 360 }
-        ensures list { result ≡ replicate count status }
-        ensures len { length result ≡ count }
-    {
-        let mut statuses = Statuses::new();
-        for _added in 0..count {
-            statuses.push(status);
-        }
-        statuses
-    }
-
-    /// Answers the number of symbols held.
-    pub fn len(&self) -> usize
-        ensures value { result ≡ length self.now }
-        ensures most { result ≤ 360 }
-    {
-        self.items.len()
-    }
-
-    /// Answers whether the list holds no symbol.
-    pub fn is_empty(&self) -> bool
-        ensures { IsTrue result ↔ (self.now ≡ []) }
-    {
-        self.len() == 0
-    }
-
-    /// Answers all symbols, in order.
-    pub fn as_slice(&self) -> &[Status]
-        ensures value { result.now ≡ self.now }
-        ensures most { length self.now ≤ 360 }
-    {
-        self.items.as_slice()
-    }
-
-    /// Answers a copy of symbol `i`.
-    pub fn get(&self, i: usize) -> Status
-        requires { i < length self.now }
-        ensures { slice_get self.now i ≡ Some result }
-    {
-        self.items.as_slice()[i]
-    }
-
-    /// Appends a symbol.
-    pub fn push(&mut self, entry: Status)
-        requires { length self.old < 360 }
-        ensures list { self.new ≡ self.old ++ entry ∷ [] }
-        ensures len { length self.new ≡ length self.old + 1 }
-    {
-        self.items.push(entry);
-    }
-}
+pub type Statuses = BoundedList<Status, 360>;

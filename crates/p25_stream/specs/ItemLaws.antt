@@ -63,7 +63,7 @@ FirstStays =
     (at : ℕ) (bits more : List Bool)
     → is_decided bits ≡ true → (first_item at (bits ++ more) ≡ first_item at bits) × (is_decided (bits ++ more) ≡ true)
 
--- what some bits decide begins the items of these bits and any that come later, and what all of them decide
+-- the items that some bits decide stay the first ones, whatever bits come later, and whether the stream has ended or not
 abbrev pub DecidedStay : Type 0
 DecidedStay = (ended : Bool) (at : ℕ) (bits more : List Bool) → (rest : List Item) × (items_by ended at (bits ++ more) ≡ decided_of at bits ++ rest)
 

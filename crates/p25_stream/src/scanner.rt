@@ -1,8 +1,7 @@
 //! A scanner of bits that come octet by octet.
 
-ghost use Rattle.std.specs.Prelude.{◌≡◌, ◌≢◌, ◌+◌, ◌%◌, ◌^◌, ◌<◌, ◌≤◌, ◌↔◌, ◌++◌, [], true, false, length, take, drop, IsTrue, IfSome, MatchOption};
+ghost use Rattle.std.specs.Prelude.{◌≡◌, ◌+◌, ◌%◌, ◌^◌, ◌<◌, ◌≤◌, ◌↔◌, ◌++◌, [], true, false, length, take, drop, IsTrue, IfSome, MatchOption};
 ghost use Rattle.p25_bits.specs.Bits.{bits_of, octet_bits};
-ghost use Rattle.p25_stream.specs.Items.{first_item};
 ghost use Rattle.p25_stream.specs.Scan.{Gave, given};
 ghost use Rattle.p25_units.specs.Items.{IsSoundItem, covered};
 
@@ -161,9 +160,10 @@ impl Scanner {
         ensures none { result ≡ false → (given self.old ≡ []) × (self.new ≡ self.old) × (raw.new ≡ raw.old) × (item.new ≡ item.old) }
         ensures sound { result ≡ true → IsSoundItem item.new }
     {
-        if !self.set_next(item) {
+        if self.is_drained() {
             return false;
         }
+        set_item(self.beginning, &self.held, self.place, &mut self.room, item);
         let count = item.covered();
         raw.clear();
         raw.append(&self.held, 0, count as usize);
@@ -193,25 +193,11 @@ impl Scanner {
         ensures none { result ≡ false → (given self.old ≡ []) × (self.new ≡ self.old) × (item.new ≡ item.old) }
         ensures sound { result ≡ true → IsSoundItem item.new }
     {
-        if !self.set_next(item) {
-            return false;
-        }
-        self.let_go(item.covered());
-        true
-    }
-
-    // Sets `item` to the next item, whose bits are held still, and answers whether there is one.
-    fn set_next(&mut self, item: &mut Item) -> bool
-        ensures same { self.new ≡ self.old }
-        ensures some { result ≡ true → given self.old ≢ [] }
-        ensures first { result ≡ true → item.new ≡ first_item self.old.place self.old.held }
-        ensures none { result ≡ false → (given self.old ≡ []) × (item.new ≡ item.old) }
-        ensures sound { result ≡ true → IsSoundItem item.new }
-    {
         if self.is_drained() {
             return false;
         }
         set_item(self.beginning, &self.held, self.place, &mut self.room, item);
+        self.let_go(item.covered());
         true
     }
 

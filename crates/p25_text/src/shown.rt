@@ -1,5 +1,5 @@
-//! Units, items and calls as `{}` shows them, and units as `parse` reads them. A trait of the kit can stand on a type of this
-//! crate alone: so each has a small type around it here.
+//! Units, items and calls as `{}` shows them, and units as `parse` reads them. A trait of the kit can be implemented
+//! for types of this crate alone, so each has a newtype here.
 
 ghost use Rattle.std.specs.Prelude.{◌≡◌, ◌<◌, Some, Ok, Err, MatchResult};
 ghost use Rattle.p25_text.specs.Grammar.{read_line_of, text_of};

@@ -1,5 +1,5 @@
 -- The laws of the tables of points, from tests over the whole table that compute.
-use Rattle.std.specs.Prelude.{◌≡◌, ◌≢◌, ℕ, zero, suc, ◌+◌, ◌/◌, ◌<◌, ◌≤◌, Bool, true, false, if◌then◌else◌, ◌==◌, nat_le, nat_lt, ◌&&◌, ◌||◌, ◌∷◌, replicate, refl}
+use Rattle.std.specs.Prelude.{◌≡◌, ◌≢◌, ℕ, zero, suc, ◌+◌, ◌*◌, ◌^◌, ◌/◌, ◌<◌, ◌≤◌, Bool, true, false, if◌then◌else◌, ◌==◌, nat_le, nat_lt, ◌&&◌, ◌||◌, ◌∷◌, replicate, refl}
 use Rattle.std.proofs.Common.{inl, inr, sym, subst, arith}
 use Rattle.std.proofs.lemmas.Bool.{cases_Bool, leb-true, ltb-true, eqb-true}
 use Rattle.std.proofs.lemmas.List.Elements.{All-cons, All-replicate}
@@ -9,6 +9,23 @@ use Rattle.p25_trellis.specs.Interleave.{each_fourth, interleaved}
 use Rattle.p25_bits.specs.Numbers.{number_bits}
 use Rattle.p25_trellis.specs.Trellis.{nibbles_from, sent_bits, SomeApart}
 use Rattle.p25_trellis.specs.Tables.{point_nibbles, half_rows, three_quarter_rows, point_in, nibble_distance, half_point, three_quarter_point}
+
+-- what makes a table of points a rate: there is a state for each symbol and a symbol for each value of its bits, the 48 symbols have as many
+-- bits as the octets, each point is four bits, and paths that part differ in at least `apart` bits, some in no more
+pub record IsRate (states bits octets apart : ℕ) (point parted : ℕ → ℕ → ℕ) : Type 0 where
+  pub states_of_bits : states ≡ 2 ^ bits
+  pub few_bits : bits ≤ 3
+  pub few_states : states ≤ 8
+  pub octets_of_bits : 48 * bits ≡ 8 * octets
+  pub some_apart : 0 < apart
+  pub nibbles : (state symbol : ℕ) → state < states → symbol < states → point state symbol < 16
+  -- paths that are in state 0 at one time need not differ
+  pub together : parted 0 0 ≡ 0
+  -- of two paths in two states, a step and what must follow it differ in as many bits as the states ask for
+  pub stays_parted : (a b x y : ℕ) → a < states → b < states → x < states → y < states → parted a b ≤ nibble_distance (point a x) (point b y) + parted x y
+  pub reached : SomeApart states point apart
+  -- of two paths that leave one state by two symbols, the step and what must follow it differ in `apart` bits
+  pub parts : (state x y : ℕ) → state < states → x < states → y < states → x ≢ y → apart ≤ nibble_distance (point state x) (point state y) + parted x y
 
 -- in how many bits at least the half-rate paths from two states differ until they meet
 unfoldable pub half_parted : ℕ → ℕ → ℕ
@@ -56,20 +73,20 @@ parts_test states apart point parted =
     passed_below states (
     λ state. passed_below states (λ x. passed_below states (λ y. x == y || nat_le apart (nibble_distance (point state x) (point state y) + parted x y))))
 
-pub nibbles-from_test : (states : ℕ) (point : ℕ → ℕ → ℕ) → nibbles_test states point ≡ true → (state symbol : ℕ) → state < states → symbol < states
+nibbles-from_test : (states : ℕ) (point : ℕ → ℕ → ℕ) → nibbles_test states point ≡ true → (state symbol : ℕ) → state < states → symbol < states
     → point state symbol < 16
 unfolding nibbles_test
 nibbles-from_test states point passed state symbol row column =
     ltb-true (point state symbol) 16 (passed_below-at states _ (passed_below-at states _ passed state row) symbol column)
 
-pub parted-from_test : (states : ℕ) (point parted : ℕ → ℕ → ℕ) → parted_test states point parted ≡ true → (a b x y : ℕ) → a < states → b < states → x < states
+parted-from_test : (states : ℕ) (point parted : ℕ → ℕ → ℕ) → parted_test states point parted ≡ true → (a b x y : ℕ) → a < states → b < states → x < states
     → y < states → parted a b ≤ nibble_distance (point a x) (point b y) + parted x y
 unfolding parted_test
 parted-from_test states point parted passed a b x y ha hb hx hy =
     leb-true (parted a b) (nibble_distance (point a x) (point b y) + parted x y)
     (passed_below-at states _ (passed_below-at states _ (passed_below-at states _ (passed_below-at states _ passed a ha) b hb) x hx) y hy)
 
-pub parts-from_test : (states apart : ℕ) (point parted : ℕ → ℕ → ℕ) → parts_test states apart point parted ≡ true → (state x y : ℕ) → state < states
+parts-from_test : (states apart : ℕ) (point parted : ℕ → ℕ → ℕ) → parts_test states apart point parted ≡ true → (state x y : ℕ) → state < states
     → x < states → y < states → x ≢ y → apart ≤ nibble_distance (point state x) (point state y) + parted x y
 unfolding parts_test
 parts-from_test states apart point parted passed state x y hs hx hy other =
@@ -99,19 +116,19 @@ apart-first states first apart point some below other distance = record {
   places_is = distance;
 }
 
-pub half_nibbles : nibbles_test 4 half_point ≡ true
+half_nibbles : nibbles_test 4 half_point ≡ true
 unfolding nibbles_test passed_below half_point point_in half_rows point_nibbles
 half_nibbles = refl
 
-pub half_stays_parted : parted_test 4 half_point half_parted ≡ true
+half_stays_parted : parted_test 4 half_point half_parted ≡ true
 unfolding parted_test passed_below half_point point_in half_rows point_nibbles half_parted nibble_distance bits_of distance_by
 half_stays_parted = refl
 
-pub half_parts : parts_test 4 5 half_point half_parted ≡ true
+half_parts : parts_test 4 5 half_point half_parted ≡ true
 unfolding parts_test passed_below half_point point_in half_rows point_nibbles half_parted nibble_distance bits_of distance_by
 half_parts = refl
 
-pub half_together : half_parted 0 0 ≡ 0
+half_together : half_parted 0 0 ≡ 0
 unfolding half_parted
 half_together = refl
 
@@ -119,22 +136,37 @@ half_distance : distance_of (sent_bits half_point (replicate 49 0)) (sent_bits h
 unfolding sent_bits number_bits interleaved each_fourth nibbles_from half_point point_in half_rows point_nibbles bits_of distance_by
 half_distance = refl
 
-pub half_reached : SomeApart 4 half_point 5
+half_reached : SomeApart 4 half_point 5
 half_reached = apart-first 4 1 5 half_point (omega arith) (omega arith) (omega arith) half_distance
 
-pub three_quarter_nibbles : nibbles_test 8 three_quarter_point ≡ true
+-- the table is a rate
+pub half_is_rate : IsRate 4 2 12 5 half_point half_parted
+half_is_rate = record {
+  states_of_bits = refl;
+  few_bits = omega arith;
+  few_states = omega arith;
+  octets_of_bits = refl;
+  some_apart = omega arith;
+  nibbles = nibbles-from_test 4 half_point half_nibbles;
+  together = half_together;
+  stays_parted = parted-from_test 4 half_point half_parted half_stays_parted;
+  reached = half_reached;
+  parts = parts-from_test 4 5 half_point half_parted half_parts;
+}
+
+three_quarter_nibbles : nibbles_test 8 three_quarter_point ≡ true
 unfolding nibbles_test passed_below three_quarter_point point_in three_quarter_rows point_nibbles
 three_quarter_nibbles = refl
 
-pub three_quarter_stays_parted : parted_test 8 three_quarter_point three_quarter_parted ≡ true
+three_quarter_stays_parted : parted_test 8 three_quarter_point three_quarter_parted ≡ true
 unfolding parted_test passed_below three_quarter_point point_in three_quarter_rows point_nibbles three_quarter_parted nibble_distance bits_of distance_by
 three_quarter_stays_parted = refl
 
-pub three_quarter_parts : parts_test 8 3 three_quarter_point three_quarter_parted ≡ true
+three_quarter_parts : parts_test 8 3 three_quarter_point three_quarter_parted ≡ true
 unfolding parts_test passed_below three_quarter_point point_in three_quarter_rows point_nibbles three_quarter_parted nibble_distance bits_of distance_by
 three_quarter_parts = refl
 
-pub three_quarter_together : three_quarter_parted 0 0 ≡ 0
+three_quarter_together : three_quarter_parted 0 0 ≡ 0
 unfolding three_quarter_parted
 three_quarter_together = refl
 
@@ -142,5 +174,20 @@ three_quarter_distance : distance_of (sent_bits three_quarter_point (replicate 4
 unfolding sent_bits number_bits interleaved each_fourth nibbles_from three_quarter_point point_in three_quarter_rows point_nibbles bits_of distance_by
 three_quarter_distance = refl
 
-pub three_quarter_reached : SomeApart 8 three_quarter_point 3
+three_quarter_reached : SomeApart 8 three_quarter_point 3
 three_quarter_reached = apart-first 8 2 3 three_quarter_point (omega arith) (omega arith) (omega arith) three_quarter_distance
+
+-- the table is a rate
+pub three_quarter_is_rate : IsRate 8 3 18 3 three_quarter_point three_quarter_parted
+three_quarter_is_rate = record {
+  states_of_bits = refl;
+  few_bits = omega arith;
+  few_states = omega arith;
+  octets_of_bits = refl;
+  some_apart = omega arith;
+  nibbles = nibbles-from_test 8 three_quarter_point three_quarter_nibbles;
+  together = three_quarter_together;
+  stays_parted = parted-from_test 8 three_quarter_point three_quarter_parted three_quarter_stays_parted;
+  reached = three_quarter_reached;
+  parts = parts-from_test 8 3 three_quarter_point three_quarter_parted three_quarter_parts;
+}

@@ -56,20 +56,13 @@ fn read_nibbles<R: Rate>(received: &[u8; 49], octets: &mut [u8]) -> u32
             octets_of::<R>(&path, octets);
             0
         }
-        None => search::<R>(received, octets),
+        None => {
+            let rests = near_rests::<R>(received);
+            let path = near_path::<R>(received, &rests);
+            octets_of::<R>(&path, octets);
+            u32::from(rests[0])
+        }
     }
-}
-
-// Reads a block of nibbles that no path sends.
-fn search<R: Rate>(received: &[u8; 49], octets: &mut [u8]) -> u32
-    requires nibbles { All (λ n. n < 16) received.now }
-    requires octets { length octets.old ≡ R.OCTETS }
-    ensures { IsFirstLeastReading R.STATES R.BITS_PER_SYMBOL (distance_from R.point_of (number_bits 4 (interleaved received.now))) octets.new result }
-{
-    let rests = near_rests::<R>(received);
-    let path = near_path::<R>(received, &rests);
-    octets_of::<R>(&path, octets);
-    u32::from(rests[0])
 }
 
 #[cfg(test)]

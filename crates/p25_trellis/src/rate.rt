@@ -1,8 +1,8 @@
 //! The two rates: their tables of points, and the nibbles of the points.
 
-ghost use Rattle.std.specs.Prelude.{◌≡◌, ◌≢◌, ℕ, ◌+◌, ◌*◌, ◌^◌, ◌<◌, ◌≤◌, length, slice_index};
-ghost use Rattle.p25_trellis.specs.Trellis.{SomeApart};
-ghost use Rattle.p25_trellis.specs.Tables.{nibble_distance, point_nibbles};
+ghost use Rattle.std.specs.Prelude.{◌≡◌, ℕ, ◌<◌, ◌≤◌, length, slice_index};
+ghost use Rattle.p25_trellis.specs.Tables.{nibble_distance};
+ghost use Rattle.p25_trellis.specs.TableLaws.{IsRate};
 
 use super::tables::{HALF_DISTANCES, HALF_SYMBOLS, THREE_QUARTER_DISTANCES, THREE_QUARTER_SYMBOLS};
 
@@ -57,37 +57,8 @@ pub trait Rate {
         ensures low { (state : ℕ) → slice_index result.now state ≤ 4 }
         ensures len { length result.now ≡ 8 };
 
-    // There is a state for each symbol, and a symbol for each of its bits' values.
-    ghost states_of_bits: { STATES ≡ 2 ^ BITS_PER_SYMBOL };
-
-    // A symbol has at most three bits.
-    ghost few_bits: { BITS_PER_SYMBOL ≤ 3 };
-
-    // There are at most eight states.
-    ghost few_states: { STATES ≤ 8 };
-
-    // The 48 symbols have as many bits as the octets.
-    ghost octets_of_bits: { 48 * BITS_PER_SYMBOL ≡ 8 * OCTETS };
-
-    // Two different paths differ.
-    ghost some_apart: { 0 < APART };
-
-    // Every point is four bits.
-    ghost nibbles: { (state symbol : ℕ) → state < STATES → symbol < STATES → point_of state symbol < 16 };
-
-    // Paths that are in state 0 at one time need not differ.
-    ghost together: { parted 0 0 ≡ 0 };
-
-    // Of two paths in two states, a step and what must follow it differ in as many bits as the states ask for.
-    ghost stays_parted: { (a b x y : ℕ) → a < STATES → b < STATES → x < STATES → y < STATES
-        → parted a b ≤ nibble_distance (point_of a x) (point_of b y) + parted x y };
-
-    // Some two different paths differ in no more bits than `APART`.
-    ghost reached: { SomeApart STATES point_of APART };
-
-    // Of two paths that leave one state by two symbols, the step and what must follow it differ in `APART` bits.
-    ghost parts: { (state x y : ℕ) → state < STATES → x < STATES → y < STATES → x ≢ y
-        → APART ≤ nibble_distance (point_of state x) (point_of state y) + parted x y };
+    // The laws of the table.
+    ghost table: { IsRate STATES BITS_PER_SYMBOL OCTETS APART point_of parted };
 }
 
 // The four bits of each point.
@@ -133,8 +104,7 @@ impl Rate for Half {
     const APART: u32 = 5;
 
     ghost use Rattle.p25_trellis.specs.Tables.{half_point};
-    ghost use Rattle.p25_trellis.specs.TableLaws.{half_parted, nibbles-from_test, parted-from_test, parts-from_test, half_nibbles, half_together, half_stays_parted, half_reached, half_parts};
-    ghost use Rattle.std.proofs.Common.{arith, refl};
+    ghost use Rattle.p25_trellis.specs.TableLaws.{half_parted, half_is_rate};
 
     ghost STATES = { 4 };
 
@@ -161,25 +131,7 @@ impl Rate for Half {
         &HALF_DISTANCES[at..at + 8]
     }
 
-    ghost states_of_bits = { refl };
-
-    ghost few_bits = { Prim.omega arith };
-
-    ghost few_states = { Prim.omega arith };
-
-    ghost octets_of_bits = { refl };
-
-    ghost some_apart = { Prim.omega arith };
-
-    ghost nibbles = { nibbles-from_test 4 half_point half_nibbles };
-
-    ghost together = { half_together };
-
-    ghost stays_parted = { parted-from_test 4 half_point half_parted half_stays_parted };
-
-    ghost reached = { half_reached };
-
-    ghost parts = { parts-from_test 4 5 half_point half_parted half_parts };
+    ghost table = { half_is_rate };
 }
 
 impl Rate for ThreeQuarter {
@@ -192,8 +144,7 @@ impl Rate for ThreeQuarter {
     const APART: u32 = 3;
 
     ghost use Rattle.p25_trellis.specs.Tables.{three_quarter_point};
-    ghost use Rattle.p25_trellis.specs.TableLaws.{three_quarter_parted, nibbles-from_test, parted-from_test, parts-from_test, three_quarter_nibbles, three_quarter_together, three_quarter_stays_parted, three_quarter_reached, three_quarter_parts};
-    ghost use Rattle.std.proofs.Common.{arith, refl};
+    ghost use Rattle.p25_trellis.specs.TableLaws.{three_quarter_parted, three_quarter_is_rate};
 
     ghost STATES = { 8 };
 
@@ -220,23 +171,5 @@ impl Rate for ThreeQuarter {
         &THREE_QUARTER_DISTANCES[at..at + 8]
     }
 
-    ghost states_of_bits = { refl };
-
-    ghost few_bits = { Prim.omega arith };
-
-    ghost few_states = { Prim.omega arith };
-
-    ghost octets_of_bits = { refl };
-
-    ghost some_apart = { Prim.omega arith };
-
-    ghost nibbles = { nibbles-from_test 8 three_quarter_point three_quarter_nibbles };
-
-    ghost together = { three_quarter_together };
-
-    ghost stays_parted = { parted-from_test 8 three_quarter_point three_quarter_parted three_quarter_stays_parted };
-
-    ghost reached = { three_quarter_reached };
-
-    ghost parts = { parts-from_test 8 3 three_quarter_point three_quarter_parted three_quarter_parts };
+    ghost table = { three_quarter_is_rate };
 }

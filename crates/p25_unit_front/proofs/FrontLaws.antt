@@ -1,13 +1,13 @@
 -- The laws of a unit's front: its two parts, its form by places, and where it stands in a sent unit. Each goes by cutting
 -- lists at known lengths.
-use Rattle.std.proofs.Common.{◌≡◌, ◌↔◌, ◌<◌, Option, Some, ℕ, ◌+◌, ◌*◌, ◌≤◌, Bool, List, ◌++◌, length, take, drop, ap, ap₂, sym, ◌∙◌, subst, arith, length-append, length-drop}
+use Rattle.std.proofs.Common.{◌≡◌, ◌↔◌, ◌<◌, Option, Some, ℕ, ◌+◌, ◌*◌, ◌≤◌, Bool, List, ◌++◌, length, take, drop, ap, ap₂, sym, ◌∙◌, subst, arith, length-append, length-drop, length-take}
 use Rattle.std.proofs.Math.Seq.{take-add, take-append-add, take-length}
 use Rattle.std.proofs.lemmas.List.{length-take-le, take-append-drop, drop-drop, take-append-le, take-take, take_at, drop_at}
 use Rattle.p25_bits.specs.Bits.{bits_of, field_of, part}
 use Rattle.p25_bits.proofs.NumbersLaws.{field-lt}
 use Rattle.p25_bits.specs.Distance.{distance_of}
 use Rattle.p25_bits.proofs.PartLaws.{part-take}
-use Rattle.p25_bits.proofs.DistanceLaws.{distance_of-same, distance_by-append}
+use Rattle.p25_bits.proofs.DistanceLaws.{distance_of-same, distance_by-append, distance_by-le}
 use Rattle.std.specs.Bool.{beq}
 use Rattle.p25_code.specs.Words.{IsEncoding}
 use Rattle.p25_status.specs.Sync.{sync_bits}
@@ -159,3 +159,12 @@ unfolding front_fixes_of front_of
 front_fixes_of-take nid count sent long =
     ap (λ (xs : List Bool). distance_of (take 111 xs) (take 111 (unit_front nid.0 nid.1)))
     (ap₂ (λ (xs ys : List Bool). xs ++ ys) (take-take 48 count sent (omega arith)) (identifier_bits-take count sent long))
+
+pub front_fixes_of-append : (nid : ℕ × ℕ) (sent more : List Bool) → 114 ≤ length sent → front_fixes_of nid (sent ++ more) ≡ front_fixes_of nid sent
+front_fixes_of-append nid sent more long =
+    sym (front_fixes_of-take nid 114 (sent ++ more) (omega arith)) ∙ ap (front_fixes_of nid) (take-append-le 114 sent more long) ∙ front_fixes_of-take nid 114 sent (omega arith)
+
+-- there are at most 111
+pub front_fixes_of-le : (nid : ℕ × ℕ) (sent : List Bool) → front_fixes_of nid sent ≤ 111
+unfolding front_fixes_of
+front_fixes_of-le nid sent = omega (arith, distance_by-le beq (take 111 (front_of sent)) (take 111 (unit_front nid.0 nid.1)), length-take 111 (front_of sent))

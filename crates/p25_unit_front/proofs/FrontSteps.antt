@@ -7,8 +7,10 @@ use Rattle.p25_bits.proofs.DistanceLaws.{ones-xor}
 use Rattle.p25_bits.specs.Bits.{bits_of, field_of, part}
 use Rattle.p25_bits.specs.Distance.{distance_of}
 use Rattle.p25_bits.proofs.BitsLaws.{bits_of-add, length-bits_of, field_of-bits_of, bits_of-field_of, field_of-append}
-use Rattle.p25_unit_front.specs.Front.{identifier_bits}
-use Rattle.p25_unit_front.proofs.FrontLaws.{length-identifier_bits}
+use Rattle.p25_status.specs.Sync.{sync_bits}
+use Rattle.p25_bch_nid.specs.NidWord.{nid_word}
+use Rattle.p25_unit_front.specs.Front.{identifier_bits, front_fixes_of}
+use Rattle.p25_unit_front.proofs.FrontLaws.{length-identifier_bits, front_fixes_of-parts}
 
 -- the number of an identifier is that of the bits before the status symbol, and then of those after it
 pub identifier_number : (bits : List Bool) (at before behind : ℕ) → at + 114 ≤ length bits
@@ -53,3 +55,15 @@ pub window_bits : (bits : List Bool) (at window : ℕ) → at + 48 ≤ length bi
 window_bits bits at window there is =
     let long : length (part at 48 bits) ≡ 48 = length-take-le 48 (drop at bits) (omega (arith, length-drop at bits)) in
     ap₂ bits_of (sym long) is ∙ bits_of-field_of (part at 48 bits)
+
+-- the fixes of a front are those of the window of its sync and those of its identifier
+pub front_fixes-parts : (nid : ℕ × ℕ) (bits : List Bool) (at window number sync_count nid_count : ℕ)
+    → at + 114 ≤ length bits → window ≡ field_of (part at 48 bits) → number ≡ field_of (identifier_bits (drop at bits)) → sync_count ≡ distance_of (bits_of 48 window) sync_bits
+    → nid_count ≡ distance_of (take 63 (bits_of 64 number)) (take 63 (nid_word nid.0 nid.1)) → sync_count + nid_count ≡ front_fixes_of nid (drop at bits)
+front_fixes-parts nid bits at window number sync_count nid_count there window_is number_is sync_is nid_is =
+    let rest = drop at bits in
+    let long : 114 ≤ length rest = omega (arith, length-drop at bits) in
+    ap₂ (λ a b. a + b)
+    (sync_is ∙ ap (λ xs. distance_of xs sync_bits) (window_bits bits at window (omega arith) window_is))
+    (nid_is ∙ ap (λ xs. distance_of (take 63 xs) (take 63 (nid_word nid.0 nid.1))) (identifier_bits-of rest number long number_is))
+    ∙ sym (front_fixes_of-parts nid rest (omega arith))

@@ -1,6 +1,6 @@
 //! Fronts, frame sync and network identifier (NID), written, read and compared.
 
-ghost use Rattle.std.specs.Prelude.{◌≡◌, ◌+◌, ◌^◌, ◌<◌, ◌≤◌, ◌++◌, length, drop, option_map};
+ghost use Rattle.std.specs.Prelude.{◌≡◌, ◌+◌, ◌^◌, ◌<◌, ◌≤◌, ◌++◌, IfSome, length, drop, option_map};
 ghost use Rattle.p25_bits.specs.Bits.{field_of};
 ghost use Rattle.p25_unit_front.specs.Front.{front_fixes_of, identifier_bits, identifier_of, unit_front};
 ghost use Rattle.p25_bch_nid.specs.NidWord.{nid_word};
@@ -8,7 +8,7 @@ ghost use Rattle.p25_bits.specs.Distance.{distance_of};
 ghost use Rattle.p25_bits.specs.Bits.{bits_of};
 ghost use Rattle.std.specs.Prelude.{take};
 
-use p25_bch_nid::{Nid, nid_bits, nid_distance, read_nid};
+use p25_bch_nid::{Nid, ReadNid, nid_bits, nid_distance, read_nid, read_nid_counted};
 use p25_bits::BitBuf;
 use p25_status::{SENT_BLOCK_LENGTH, SYNC, sync_distance};
 
@@ -39,6 +39,22 @@ pub fn read_identifier(bits: &BitBuf, at: usize) -> Option<Nid>
     ensures { option_map (λ nid. (nid.nac, nid.duid)) result ≡ identifier_of (drop at bits.now) }
 {
     read_nid(identifier(bits, at))
+}
+
+/// Answers the network identifier (NID) that `read_identifier` answers, with the number of wrong bits in the sync and in the first
+/// 63 bits of the identifier: what `front_fixes` answers for it. Nothing is encoded to count them.
+pub fn read_front(bits: &BitBuf, at: usize) -> Option<ReadNid>
+    requires { at + 114 ≤ length bits.now }
+    ensures value { option_map (λ read. (read.nid.nac, read.nid.duid)) result ≡ identifier_of (drop at bits.now) }
+    ensures wrong { IfSome result (λ read. read.wrong ≡ front_fixes_of (read.nid.nac, read.nid.duid) (drop at bits.now)) }
+{
+    match read_nid_counted(identifier(bits, at)) {
+        Some(read) => Some(ReadNid {
+            nid: read.nid,
+            wrong: sync_distance(bits.field(at, 48)) + read.wrong,
+        }),
+        None => None,
+    }
 }
 
 /// Answers in how many places the sync and the first 63 bits of the network identifier (NID) of the unit whose sent bits begin

@@ -20,4 +20,4 @@ pub mod laws;
 #[cfg(test)]
 mod tests;
 
-pub use front::{front_fixes, put_front, read_identifier};
+pub use front::{front_fixes, put_front, read_front, read_identifier};

@@ -2,8 +2,8 @@
 
 ghost use Rattle.std.specs.Prelude.{◌≡◌, length};
 
-use super::{front_fixes, put_front, read_identifier};
-use p25_bch_nid::Nid;
+use super::{front_fixes, put_front, read_front, read_identifier};
+use p25_bch_nid::{Nid, ReadNid};
 use p25_bits::BitBuf;
 use std::test::Fail;
 
@@ -46,6 +46,7 @@ fn fronts(rt: HostRuntime) -> Result<(), Fail> {
         let sent = sent_front(wrong_sync, wrong_identifier);
         if read {
             assert_eq!(rt; read_identifier(&sent, 0), Some(nid));
+            assert_eq!(rt; read_front(&sent, 0), Some(ReadNid { nid, wrong: fixes }));
         }
         assert_eq!(rt; front_fixes(&sent, 0, &nid), fixes);
     }

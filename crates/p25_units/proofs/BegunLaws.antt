@@ -1,8 +1,8 @@
 -- What was read of a unit is true of its bits, and stays so.
-use Rattle.std.proofs.Common.{◌≡◌, ◌≤◌, Bool, List, ◌++◌, length, Option, Some, None, Ok, option_map, sym, ◌∙◌, subst, arith, length-append}
-use Rattle.p25_bch_nid.specs.declared.nid.Nid.{Nid}
-use Rattle.p25_unit_front.specs.Front.{identifier_of}
-use Rattle.p25_unit_front.proofs.FrontLaws.{identifier_of-append}
+use Rattle.std.proofs.Common.{◌≡◌, ◌≤◌, Bool, List, ◌++◌, length, Option, Some, None, IfSome, Ok, option_map, sym, ◌∙◌, subst, arith, length-append}
+use Rattle.p25_bch_nid.specs.declared.nid.ReadNid.{ReadNid}
+use Rattle.p25_unit_front.specs.Front.{front_fixes_of, identifier_of}
+use Rattle.p25_unit_front.proofs.FrontLaws.{front_fixes_of-append, identifier_of-append}
 use Rattle.p25_packet_blocks.specs.declared.head.ReadHead.{ReadHead}
 use Rattle.p25_packet_blocks.specs.UnitReading.{sent_read_of}
 use Rattle.p25_packet_blocks.proofs.UnitLaws.{sent_read_of-append}
@@ -12,39 +12,42 @@ use Rattle.p25_units.specs.declared.begun.Begun.{Begun}
 -- nothing
 pub IsBegun-none : (begun : Begun) (bits : List Bool) → begun.nid ≡ None → begun.head ≡ None → IsBegun begun bits
 unfolding IsBegun
-IsBegun-none begun bits no_nid no_head = (subst (λ (nid : Option Nid). IsIdentifier nid bits) (sym no_nid) tt, subst (λ (head : Option ReadHead). IsHeader head bits) (sym no_head) tt)
+IsBegun-none begun bits no_nid no_head = (subst (λ (nid : Option ReadNid). IsIdentifier nid bits) (sym no_nid) tt, subst (λ (head : Option ReadHead). IsHeader head bits) (sym no_head) tt)
 
 -- an identifier, or that none can be read
-identifier_read : (read : Option Nid) (bits : List Bool) → 114 ≤ length bits → option_map (λ nid. (nid.nac, nid.duid)) read ≡ identifier_of bits → IsIdentifier read bits
-identifier_read None bits long is = tt
-identifier_read (Some nid) bits long is = (long, sym is)
+identifier_read : (read : Option ReadNid) (bits : List Bool) → 114 ≤ length bits → option_map (λ read. (read.nid.nac, read.nid.duid)) read ≡ identifier_of bits
+    → IfSome read (λ read. read.wrong ≡ front_fixes_of (read.nid.nac, read.nid.duid) bits) → IsIdentifier read bits
+identifier_read None bits long is counted = tt
+identifier_read (Some read) bits long is counted = (long, sym is, counted)
 
 pub IsBegun-read : (before begun : Begun) (bits : List Bool) → IsBegun before bits → begun.head ≡ before.head → 114 ≤ length bits
-    → option_map (λ nid. (nid.nac, nid.duid)) begun.nid ≡ identifier_of bits
+    → option_map (λ read. (read.nid.nac, read.nid.duid)) begun.nid ≡ identifier_of bits → IfSome begun.nid (λ read. read.wrong ≡ front_fixes_of (read.nid.nac, read.nid.duid) bits)
     → IsBegun begun bits
 unfolding IsBegun
-IsBegun-read before begun bits was same long is = (identifier_read begun.nid bits long is, subst (λ (head : Option ReadHead). IsHeader head bits) (sym same) was.1)
+IsBegun-read before begun bits was same long is counted = (identifier_read begun.nid bits long is counted, subst (λ (head : Option ReadHead). IsHeader head bits) (sym same) was.1)
 
 -- a header
 pub IsBegun-headed : (before begun : Begun) (bits : List Bool) (read : ReadHead) → IsBegun before bits → begun.nid ≡ before.nid → begun.head ≡ Some read → 316 ≤ length bits
     → Ok read ≡ sent_read_of bits → IsBegun begun bits
 unfolding IsBegun
 IsBegun-headed before begun bits read was same is long reads =
-    (subst (λ (nid : Option Nid). IsIdentifier nid bits) (sym same) was.0, subst (λ (h : Option ReadHead). IsHeader h bits) (sym is) (long, sym reads))
+    (subst (λ (nid : Option ReadNid). IsIdentifier nid bits) (sym same) was.0, subst (λ (h : Option ReadHead). IsHeader h bits) (sym is) (long, sym reads))
 
 -- what was read
-pub begun-known : (begun : Begun) (bits : List Bool) (nid : Nid) → IsBegun begun bits → begun.nid ≡ Some nid → option_map (λ (n : Nid). (n.nac, n.duid)) (Some nid) ≡ identifier_of bits
+pub begun-known : (begun : Begun) (bits : List Bool) (read : ReadNid) → IsBegun begun bits → begun.nid ≡ Some read
+    → (Some (read.nid.nac, read.nid.duid) ≡ identifier_of bits) × (read.wrong ≡ front_fixes_of (read.nid.nac, read.nid.duid) bits)
 unfolding IsBegun
-begun-known begun bits nid is same = let known = subst (λ (n : Option Nid). IsIdentifier n bits) same is.0 in sym known.1
+begun-known begun bits read is same = let known = subst (λ (n : Option ReadNid). IsIdentifier n bits) same is.0 in (sym known.1, known.2)
 
 pub begun-headed : (begun : Begun) (bits : List Bool) (read : ReadHead) → IsBegun begun bits → begun.head ≡ Some read → Ok read ≡ sent_read_of bits
 unfolding IsBegun
 begun-headed begun bits read is same = let known = subst (λ (h : Option ReadHead). IsHeader h bits) same is.1 in sym known.1
 
 -- it stays
-identifier_stays : (read : Option Nid) (bits more : List Bool) → IsIdentifier read bits → IsIdentifier read (bits ++ more)
+identifier_stays : (read : Option ReadNid) (bits more : List Bool) → IsIdentifier read bits → IsIdentifier read (bits ++ more)
 identifier_stays None bits more is = tt
-identifier_stays (Some nid) bits more is = (omega (arith, length-append bits more, is.0), identifier_of-append bits more is.0 ∙ is.1)
+identifier_stays (Some read) bits more is =
+    (omega (arith, length-append bits more, is.0), identifier_of-append bits more is.0 ∙ is.1, is.2 ∙ sym (front_fixes_of-append (read.nid.nac, read.nid.duid) bits more is.0))
 
 header_stays : (read : Option ReadHead) (bits more : List Bool) → IsHeader read bits → IsHeader read (bits ++ more)
 header_stays None bits more is = tt

@@ -1,8 +1,11 @@
--- The frame of a packet that was read: its fixes are those of its front and of its blocks.
-use Rattle.std.proofs.Common.{◌≡◌, ℕ, ◌+◌, ◌≤◌, Bool, List, length, drop, Some, Result, Ok, ap, sym, ◌∙◌, arith}
+-- The frame of a unit that was read: its fixes are those of its front and those after it.
+use Rattle.std.proofs.Common.{◌≡◌, ℕ, ◌+◌, ◌≤◌, Bool, List, length, drop, Some, Result, Ok, Err, refl, ap, sym, subst, ◌∙◌, arith}
 use Rattle.p25_bits.specs.Bits.{part}
 use Rattle.p25_status.specs.Woven.{bare_of, statuses_of}
+use Rattle.p25_status.specs.Outcomes.{IfRead, read_or}
 use Rattle.p25_status.specs.declared.fields.Field.{Field}
+use Rattle.p25_status.specs.declared.outcome.Outcome.{Outcome}
+use Rattle.p25_status.specs.declared.outcome.Outcome.TheVariants.{Read, Failing}
 use Rattle.p25_status.specs.declared.symbols.Status.{Status}
 use Rattle.p25_unit_front.specs.Front.{front_fixes_of}
 use Rattle.p25_units.specs.UnitParts.{UnitParts}
@@ -37,3 +40,33 @@ whole_fixes-is nac duid bits at count frame inside kind fits named read m n fron
     let small : frame.unit.nac ≤ 4095 = omega (arith, named, fits) in
     let rest = behind ∙ ap (λ k. body_fixes_of frame.unit (bare_of (part at k bits))) (sym long) in
     fixes_in frame bits at nac duid is.sound (record { nac_fits = small; body = is.sendable }) there (sym named) (sym is.duid) m n front rest ∙ ap (λ k. fixes_of frame (part at k bits)) long
+
+-- the outcome of a unit is that of what stands after its front, with the wrong bits of the front
+pub record IsWithFront (front : ℕ) (outcome answer : Outcome) : Type 0 where
+  pub read : (wrong : ℕ) → outcome ≡ Read wrong → answer ≡ Read (front + wrong)
+  pub failing : (fields : List Field) → outcome ≡ Failing fields → answer ≡ Failing fields
+
+-- so it is what its frame is read as
+pub frame_outcome : (front : ℕ) (outcome answer : Outcome) → IsWithFront front outcome answer → (nac duid : ℕ) (sent : List Bool) (unit : UnitParts) (statuses : List Status)
+    → unit.nac ≡ nac → statuses ≡ statuses_of sent → read_or outcome unit.body ≡ body_reading_of duid (bare_of sent)
+    → let frame : Frame = record { unit = unit; statuses = statuses } in read_or answer frame ≡ reading_from (Some (nac, duid)) sent
+frame_outcome front (Read wrong) answer is nac duid sent unit statuses named statuses_is read =
+    let frame : Frame = record { unit = unit; statuses = statuses } in
+    ap (λ o. read_or o frame) (is.read wrong refl) ∙ whole_frame-is nac duid sent unit statuses named statuses_is read
+frame_outcome front (Failing fields) answer is nac duid sent unit statuses named statuses_is read =
+    let frame : Frame = record { unit = unit; statuses = statuses } in
+    ap (λ o. read_or o frame) (is.failing fields refl) ∙ reading-is (nac, duid) sent statuses (Err fields) statuses_is read
+
+-- and its wrong bits are the fixes of the frame
+pub frame_wrong : (front : ℕ) (outcome answer : Outcome) → IsWithFront front outcome answer → (nac duid : ℕ) (bits : List Bool) (at count : ℕ) (unit : UnitParts) (statuses : List Status)
+    → at ≤ length bits → kind_need duid (drop at bits) ≡ Length count → nac ≤ 4095 → unit.nac ≡ nac → statuses ≡ statuses_of (part at count bits)
+    → read_or outcome unit.body ≡ body_reading_of duid (bare_of (part at count bits))
+    → front ≡ front_fixes_of (nac, duid) (drop at bits) → IfRead outcome (λ wrong. wrong ≡ body_fixes_of unit (bare_of (part at count bits)))
+    → let frame : Frame = record { unit = unit; statuses = statuses } in IfRead answer (λ wrong. wrong ≡ fixes_of frame (part at count bits))
+frame_wrong front (Read wrong) answer is nac duid bits at count unit statuses inside kind fits named statuses_is read front_is wrong_is =
+    let frame : Frame = record { unit = unit; statuses = statuses } in
+    subst (λ o. IfRead o (λ n. n ≡ fixes_of frame (part at count bits))) (sym (is.read wrong refl))
+    (whole_fixes-is nac duid bits at count frame inside kind fits named (whole_frame-is nac duid (part at count bits) unit statuses named statuses_is read) front wrong front_is wrong_is)
+frame_wrong front (Failing fields) answer is nac duid bits at count unit statuses inside kind fits named statuses_is read front_is wrong_is =
+    let frame : Frame = record { unit = unit; statuses = statuses } in
+    subst (λ o. IfRead o (λ n. n ≡ fixes_of frame (part at count bits))) (sym (is.failing fields refl)) tt

@@ -1,15 +1,16 @@
 -- What was read of a unit whose last bits are not there yet.
 use Rattle.std.specs.Prelude.{◌≡◌, ◌≤◌, Bool, List, Option, Some, None, Ok, length}
-use Rattle.p25_bch_nid.specs.declared.nid.Nid.{Nid}
-use Rattle.p25_unit_front.specs.Front.{identifier_of}
+use Rattle.p25_bch_nid.specs.declared.nid.ReadNid.{ReadNid}
+use Rattle.p25_unit_front.specs.Front.{front_fixes_of, identifier_of}
 use Rattle.p25_packet_blocks.specs.declared.head.ReadHead.{ReadHead}
 use Rattle.p25_packet_blocks.specs.UnitReading.{sent_read_of}
 use Rattle.p25_units.specs.declared.begun.Begun.{Begun}
 
--- nothing was read, or the network identifier (NID) that begins the unit
-abbrev pub IsIdentifier : Option Nid → List Bool → Type 0
+-- nothing was read, or the network identifier (NID) that begins the unit, and how many bits of its front were wrong
+abbrev pub IsIdentifier : Option ReadNid → List Bool → Type 0
 IsIdentifier None bits = Unit {0}
-IsIdentifier (Some nid) bits = (114 ≤ length bits) × (identifier_of bits ≡ Some (nid.nac, nid.duid))
+IsIdentifier (Some read) bits =
+    (114 ≤ length bits) × (identifier_of bits ≡ Some (read.nid.nac, read.nid.duid)) × (read.wrong ≡ front_fixes_of (read.nid.nac, read.nid.duid) bits)
 
 -- nothing was read, or the header of the packet (PDU), and how many bits of its block were wrong
 abbrev pub IsHeader : Option ReadHead → List Bool → Type 0

@@ -1,22 +1,22 @@
 //! What was read of a unit whose last bits are not there yet.
 
-ghost use Rattle.std.specs.Prelude.{◌≡◌, ◌+◌, ◌≤◌, Bool, List, length, drop, option_map};
-ghost use Rattle.p25_unit_front.specs.Front.{identifier_of};
+ghost use Rattle.std.specs.Prelude.{◌≡◌, ◌+◌, ◌≤◌, Bool, IfSome, List, length, drop, option_map};
+ghost use Rattle.p25_unit_front.specs.Front.{front_fixes_of, identifier_of};
 ghost use Rattle.p25_packet_blocks.specs.UnitReading.{sent_read_of};
 ghost use Rattle.p25_units.specs.Begins.{IsBegun};
 
-use p25_bch_nid::Nid;
+use p25_bch_nid::ReadNid;
 use p25_bits::BitBuf;
 use p25_packet_blocks::{ReadHead, read_head_at};
 use p25_status::Field;
-use p25_unit_front::read_identifier;
+use p25_unit_front::read_front;
 
 /// What was read of the unit at a place with a sync, so that nothing is read twice while its bits come: its network identifier
-/// (NID) and, of a packet (PDU), its header with the number of its wrong bits, or nothing yet. Contracts see by `IsBegun` that it is true of the bits from that
-/// place on.
+/// (NID) with the number of wrong bits of its front and, of a packet (PDU), its header with the number of wrong bits of its block, or
+/// nothing yet. Contracts see by `IsBegun` that it is true of the bits from that place on.
 #[derive(Clone, Copy, Debug, PartialEq, Eq)]
 pub struct Begun {
-    nid: Option<Nid>,
+    nid: Option<ReadNid>,
     head: Option<ReadHead>,
 }
 
@@ -31,17 +31,18 @@ impl Begun {
         }
     }
 
-    // The network identifier (NID) of the unit at a place, which is read where it was not.
-    pub(crate) fn identify(&mut self, bits: &BitBuf, at: usize) -> Option<Nid>
+    // The network identifier (NID) of the unit at a place, which is read where it was not, and how many bits of its front were wrong.
+    pub(crate) fn identify(&mut self, bits: &BitBuf, at: usize) -> Option<ReadNid>
         requires there { at + 114 ≤ length bits.now }
         requires begun { IsBegun self.old (drop at bits.now) }
-        ensures value { option_map (λ nid. (nid.nac, nid.duid)) result ≡ identifier_of (drop at bits.now) }
+        ensures value { option_map (λ read. (read.nid.nac, read.nid.duid)) result ≡ identifier_of (drop at bits.now) }
+        ensures wrong { IfSome result (λ read. read.wrong ≡ front_fixes_of (read.nid.nac, read.nid.duid) (drop at bits.now)) }
         ensures begun { IsBegun self.new (drop at bits.now) }
     {
         match self.nid {
-            Some(nid) => Some(nid),
+            Some(read) => Some(read),
             None => {
-                let read = read_identifier(bits, at);
+                let read = read_front(bits, at);
                 self.nid = read;
                 read
             }

@@ -2,6 +2,7 @@
 
 ghost use Rattle.std.specs.Prelude.{◌≡◌, ◌^◌, ◌<◌, ◌≤◌, Some, length, drop};
 ghost use Rattle.p25_bits.specs.Bits.{part};
+ghost use Rattle.p25_unit_front.specs.Front.{front_fixes_of};
 ghost use Rattle.p25_units.specs.Begins.{IsBegun};
 ghost use Rattle.p25_units.specs.Items.{IsSoundItem, covered, item_from, place_of, unit_item_of};
 ghost use Rattle.p25_units.specs.Needs.{kind_need, need_of};
@@ -12,7 +13,7 @@ ghost use Rattle.p25_units.specs.Readings.{reading_from};
 use crate::begun::Begun;
 use crate::frame::{Frame, frame_length};
 use crate::read::read_frame;
-use p25_bch_nid::Nid;
+use p25_bch_nid::{Nid, ReadNid};
 use p25_bits::BitBuf;
 use p25_status::{Field, FieldList, Outcome};
 
@@ -115,48 +116,24 @@ pub fn unit_item_in(
 {
     let mut begun = begun;
     match begun.identify(bits, at) {
-        None => {
-            *item = Item::NoUnit {
-                place,
-                field: Field::Nid,
-            };
-        }
-        Some(nid) => {
-            set_item(bits, at, count, &nid, &mut begun, place, room, item);
-        }
-    }
-}
-
-// Sets `item` to that of a unit whose network identifier (NID) was read. Where it is a whole unit, no room is moved.
-fn set_item(
-    bits: &BitBuf,
-    at: usize,
-    count: usize,
-    nid: &Nid,
-    begun: &mut Begun,
-    place: u64,
-    room: &mut BitBuf,
-    item: &mut Item,
-)
-    requires there { at ≤ length bits.now }
-    requires kind { kind_need nid.now.duid (drop at bits.now) ≡ Length count }
-    requires begun { IsBegun begun.old (drop at bits.now) }
-    ensures { item.new ≡ item_from place (nid.now.nac, nid.now.duid) (part at count bits.now)
-        (reading_from (Some (nid.now.nac, nid.now.duid)) (part at count bits.now)) }
-{
-    match item {
-        Item::Whole {
-            place: held_place,
-            frame,
-            fixes,
-        } => {
-            *held_place = place;
-            match read_frame(bits, at, count, nid, begun, room, frame) {
-                Outcome::Read { wrong } => *fixes = wrong,
-                Outcome::Failing { fields } => *item = broken_item(place, count, nid, fields),
+        None => unreachable!(),
+        Some(read) => match item {
+            // Where it is a whole unit, no room is moved.
+            Item::Whole {
+                place: held_place,
+                frame,
+                fixes,
+            } => {
+                *held_place = place;
+                match read_frame(bits, at, count, &read, &mut begun, room, frame) {
+                    Outcome::Read { wrong } => *fixes = wrong,
+                    Outcome::Failing { fields } => *item = broken_item(
+                        place, count, &read.nid, fields,
+                    ),
+                }
             }
-        }
-        _ => *item = new_item(bits, at, count, nid, begun, place, room),
+            _ => *item = new_item(bits, at, count, &read, &mut begun, place, room),
+        },
     }
 }
 
@@ -166,25 +143,26 @@ fn new_item(
     bits: &BitBuf,
     at: usize,
     count: usize,
-    nid: &Nid,
+    read: &ReadNid,
     begun: &mut Begun,
     place: u64,
     room: &mut BitBuf,
 ) -> Item
     requires there { at ≤ length bits.now }
-    requires kind { kind_need nid.now.duid (drop at bits.now) ≡ Length count }
+    requires kind { kind_need read.now.nid.duid (drop at bits.now) ≡ Length count }
+    requires front { read.now.wrong ≡ front_fixes_of (read.now.nid.nac, read.now.nid.duid) (drop at bits.now) }
     requires begun { IsBegun begun.old (drop at bits.now) }
-    ensures { result ≡ item_from place (nid.now.nac, nid.now.duid) (part at count bits.now)
-        (reading_from (Some (nid.now.nac, nid.now.duid)) (part at count bits.now)) }
+    ensures { result ≡ item_from place (read.now.nid.nac, read.now.nid.duid) (part at count bits.now)
+        (reading_from (Some (read.now.nid.nac, read.now.nid.duid)) (part at count bits.now)) }
 {
     let mut frame = Frame::blank();
-    match read_frame(bits, at, count, nid, begun, room, &mut frame) {
+    match read_frame(bits, at, count, read, begun, room, &mut frame) {
         Outcome::Read { wrong } => Item::Whole {
             place,
             frame,
             fixes: wrong,
         },
-        Outcome::Failing { fields } => broken_item(place, count, nid, fields),
+        Outcome::Failing { fields } => broken_item(place, count, &read.nid, fields),
     }
 }
 

@@ -1,24 +1,23 @@
 //! Units read from their sent bits.
 
-ghost use Rattle.std.specs.Prelude.{◌≡◌, ◌+◌, ◌<◌, ◌≤◌, length, drop, IfErr};
-ghost use Rattle.std.specs.Prelude.{Some};
+ghost use Rattle.std.specs.Prelude.{◌≡◌, ◌+◌, ◌<◌, ◌≤◌, ℕ, IfErr, List, Some, length, drop};
 ghost use Rattle.p25_bits.specs.Bits.{part};
 ghost use Rattle.p25_status.specs.Outcomes.{IfRead, read_or};
-ghost use Rattle.p25_status.specs.Woven.{bare_of};
+ghost use Rattle.p25_status.specs.declared.fields.Field.{Field};
+ghost use Rattle.p25_status.specs.declared.outcome.Outcome.TheVariants.{Read, Failing};
+ghost use Rattle.p25_unit_front.specs.Front.{front_fixes_of};
 ghost use Rattle.p25_units.specs.Begins.{IsBegun};
-ghost use Rattle.p25_units.specs.Fixes.{body_fixes_of, fixes_of};
+ghost use Rattle.p25_units.specs.Fixes.{fixes_of};
 ghost use Rattle.p25_units.specs.Needs.{kind_need, need_of};
 ghost use Rattle.p25_units.specs.declared.needs.Need.TheVariants.{Length};
-ghost use Rattle.p25_units.specs.Readings.{body_reading_of, reading_from, unit_reading_of};
+ghost use Rattle.p25_units.specs.Readings.{reading_from, unit_reading_of};
 
 use crate::begun::Begun;
 use crate::frame::Frame;
 use crate::item::{Item, unit_item};
-use crate::unit::Unit;
-use p25_bch_nid::{Nid, PDU};
+use p25_bch_nid::{PDU, ReadNid};
 use p25_bits::BitBuf;
 use p25_status::{Field, FieldList, Outcome, unweave};
-use p25_unit_front::front_fixes;
 
 /// Answers the frame that the `count` sent bits from place `at` on read as, where `need` answers that length there. The
 /// refusal is the list of exactly the fields that fail, in order, and is never empty: those of a voice unit, or of a packet (PDU)
@@ -42,50 +41,40 @@ pub(crate) fn read_frame(
     bits: &BitBuf,
     at: usize,
     count: usize,
-    nid: &Nid,
+    read: &ReadNid,
     begun: &mut Begun,
     room: &mut BitBuf,
     frame: &mut Frame,
 ) -> Outcome
     requires there { at ≤ length bits.now }
-    requires kind { kind_need nid.now.duid (drop at bits.now) ≡ Length count }
+    requires kind { kind_need read.now.nid.duid (drop at bits.now) ≡ Length count }
+    requires front { read.now.wrong ≡ front_fixes_of (read.now.nid.nac, read.now.nid.duid) (drop at bits.now) }
     requires begun { IsBegun begun.old (drop at bits.now) }
-    ensures frame { read_or result frame.new ≡ reading_from (Some (nid.now.nac, nid.now.duid)) (part at count bits.now) }
+    ensures frame { read_or result frame.new ≡ reading_from (Some (read.now.nid.nac, read.now.nid.duid)) (part at count bits.now) }
     ensures wrong { IfRead result (λ wrong. wrong ≡ fixes_of frame.new (part at count bits.now)) }
 {
     unweave(bits, at, count, room, &mut frame.statuses);
-    match read_body(bits, at, count, nid, begun, room, &mut frame.unit) {
-        Outcome::Read { wrong } => Outcome::Read {
-            wrong: front_fixes(bits, at, nid) + wrong,
-        },
-        Outcome::Failing { fields } => Outcome::Failing { fields },
+    let unit = &mut frame.unit;
+    if read.nid.duid != PDU {
+        return with_front(unit.read_voice(&read.nid, room), read.wrong);
+    }
+    match begun.read_head(bits, at) {
+        Ok(head) => with_front(unit.read_packet(read.nid.nac, head, room), read.wrong),
+        Err(_) => unreachable!(),
     }
 }
 
-// Sets `unit` to the unit of a network identifier (NID) by its bits without status symbols.
-fn read_body(
-    bits: &BitBuf,
-    at: usize,
-    count: usize,
-    nid: &Nid,
-    begun: &mut Begun,
-    bare: &BitBuf,
-    unit: &mut Unit,
-) -> Outcome
-    requires there { at ≤ length bits.now }
-    requires kind { kind_need nid.now.duid (drop at bits.now) ≡ Length count }
-    requires begun { IsBegun begun.old (drop at bits.now) }
-    requires bare { bare.now ≡ bare_of (part at count bits.now) }
-    ensures nac { IfRead result (λ wrong. unit.new.nac ≡ nid.now.nac) }
-    ensures body { read_or result unit.new.body ≡ body_reading_of nid.now.duid bare.now }
-    ensures wrong { IfRead result (λ wrong. wrong ≡ body_fixes_of unit.new bare.now) }
-    ensures most { IfRead result (λ wrong. wrong ≤ 25200) }
+// The outcome of a unit by that of what stands after its front, with the wrong bits of the front.
+fn with_front(outcome: Outcome, front: u32) -> Outcome
+    requires few { IfRead outcome (λ wrong. wrong ≤ 25200) }
+    requires front { front ≤ 111 }
+    ensures read { (wrong : ℕ) → outcome ≡ Read wrong → result ≡ Read (front + wrong) }
+    ensures failing { (fields : List Field) → outcome ≡ Failing fields → result ≡ Failing fields }
 {
-    if nid.duid != PDU {
-        return unit.read_voice(nid, bare);
-    }
-    match begun.read_head(bits, at) {
-        Ok(read) => unit.read_packet(nid.nac, read, bare),
-        Err(_) => unreachable!(),
+    match outcome {
+        Outcome::Read { wrong } => Outcome::Read {
+            wrong: front + wrong,
+        },
+        Outcome::Failing { fields } => Outcome::Failing { fields },
     }
 }

@@ -71,7 +71,7 @@ fn need_at_sync(bits: &BitBuf, at: usize, begun: &mut Begun) -> Need
     }
     match begun.identify(bits, at) {
         None => Need::NoLength(Field::Nid),
-        Some(nid) => need_of_kind(nid.duid, bits, at, begun),
+        Some(read) => need_of_kind(read.nid.duid, bits, at, begun),
     }
 }
 

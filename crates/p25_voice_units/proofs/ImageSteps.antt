@@ -8,11 +8,8 @@ use Rattle.p25_bits.specs.Bits.{bits_of, octet_bits, part}
 use Rattle.p25_coded_fields.specs.Layouts.{field_bits}
 use Rattle.p25_voice_units.specs.declared.layout.Piece.{Piece}
 use Rattle.p25_voice_units.specs.declared.layout.Piece.TheVariants.{Words, Frame, LowSpeed, Nulls}
-use Rattle.p25_code.specs.Words.{IsEncoding}
 use Rattle.p25_gf64.specs.declared.symbol.Sym.{Sym}
-use Rattle.p25_reed_solomon.specs.Words.{IsWord}
 use Rattle.p25_reed_solomon.specs.Encoding.{rs_word}
-use Rattle.p25_reed_solomon.proofs.EncodingLaws.{rs_word-only}
 use Rattle.p25_link.specs.declared.link_control.LinkControl.{LinkControl}
 use Rattle.p25_link.specs.declared.encryption_sync.EncryptionSync.{EncryptionSync}
 use Rattle.p25_link.specs.declared.header_word.HeaderWord.{HeaderWord}
@@ -25,7 +22,6 @@ use Rattle.p25_voice_units.specs.Layouts.{hdu_rows, ldu_rows, tdu_rows, tdulc_ro
 use Rattle.p25_voice_units.specs.Lengths.{voice_duid}
 use Rattle.p25_voice_units.specs.Pieces.{piece_fits}
 use Rattle.p25_voice_units.specs.Images.{Contents, contents, frame_at, golay18_word, golay24_word, hamming10_word, lsd16_word, piece_bits, rows_bits, voice_body, voice_image_of}
-use Rattle.p25_voice_units.proofs.CodesLaws.{header_code, link_code, sync_code}
 
 -- the bits of each piece
 pub piece_bits-words : (carried : Contents) (piece : Piece) (first count : ℕ) → piece ≡ Words first count
@@ -70,38 +66,39 @@ rows_more carried rows i d start out new inside so_far is =
     ∙ flat_map_more (λ row. piece_bits carried row.1) start (take i rows) (get_or rows i d)
     ∙ ap (λ xs. start ++ flat_map (λ row. piece_bits carried row.1) xs) (sym (take_more rows i d inside))
 
--- what stands after the front, by the kind of unit: the rows of its layout were written with the symbols of its coded field
-pub header_made : (word : HeaderWord) (info symbols : List Sym) (old new : List Bool) → info ≡ header_symbols word → length info ≡ 20 → IsEncoding (IsWord 36 20) 20 info symbols
-    → new ≡ old ++ rows_bits (contents golay18_word 1 symbols [] []) hdu_rows → new ≡ old ++ voice_body (Header word)
+-- what stands after the front, by the kind of unit: the rows of its layout were written with the information of its coded field
+pub header_made : (unit : VoiceUnit) (word : HeaderWord) (info : List Sym) (old new : List Bool) → unit ≡ Header word → info ≡ header_symbols word
+    → new ≡ old ++ rows_bits (contents golay18_word 1 (rs_word 36 20 info) [] []) hdu_rows → new ≡ old ++ voice_body unit
 unfolding voice_body
-header_made word info symbols old new is long made written =
-    written
-    ∙ ap (λ xs. old ++ rows_bits (contents golay18_word 1 xs [] []) hdu_rows) (rs_word-only 36 20 info symbols header_code long made ∙ ap (rs_word 36 20) is)
+header_made unit word info old new is made written =
+    written ∙ ap (λ xs. old ++ rows_bits (contents golay18_word 1 (rs_word 36 20 xs) [] []) hdu_rows) made ∙ ap (λ u. old ++ voice_body u) (sym is)
 
-pub ldu1_made : (link : LinkControl) (low : List ℕ) (voice : List VoiceFrame) (info symbols : List Sym) (old new : List Bool) → info ≡ link_symbols link → length info ≡ 12 → IsEncoding (IsWord 24 12) 12 info symbols
-    → new ≡ old ++ rows_bits (contents hamming10_word 1 symbols low voice) ldu_rows → new ≡ old ++ voice_body (Link1 link low voice)
-unfolding voice_body
-ldu1_made link low voice info symbols old new is long made written =
-    written
-    ∙ ap (λ xs. old ++ rows_bits (contents hamming10_word 1 xs low voice) ldu_rows) (rs_word-only 24 12 info symbols link_code long made ∙ ap (rs_word 24 12) is)
+module _ (unit : VoiceUnit) (low : List ℕ) (voice frames : List VoiceFrame) (info : List Sym) (old new : List Bool) where
+  pub ldu1_made : (link : LinkControl) → unit ≡ Link1 link low voice → info ≡ link_symbols link → frames ≡ voice
+      → new ≡ old ++ rows_bits (contents hamming10_word 1 (rs_word 24 12 info) low frames) ldu_rows → new ≡ old ++ voice_body unit
+  unfolding voice_body
+  ldu1_made link is made spoken written =
+      written
+      ∙ ap₂ (λ (xs : List Sym) (vs : List VoiceFrame). old ++ rows_bits (contents hamming10_word 1 (rs_word 24 12 xs) low vs) ldu_rows) made spoken
+      ∙ ap (λ u. old ++ voice_body u) (sym is)
 
-pub ldu2_made : (sync : EncryptionSync) (low : List ℕ) (voice : List VoiceFrame) (info symbols : List Sym) (old new : List Bool) → info ≡ sync_symbols sync → length info ≡ 16 → IsEncoding (IsWord 24 16) 16 info symbols
-    → new ≡ old ++ rows_bits (contents hamming10_word 1 symbols low voice) ldu_rows → new ≡ old ++ voice_body (Link2 sync low voice)
-unfolding voice_body
-ldu2_made sync low voice info symbols old new is long made written =
-    written
-    ∙ ap (λ xs. old ++ rows_bits (contents hamming10_word 1 xs low voice) ldu_rows) (rs_word-only 24 16 info symbols sync_code long made ∙ ap (rs_word 24 16) is)
+  pub ldu2_made : (sync : EncryptionSync) → unit ≡ Link2 sync low voice → info ≡ sync_symbols sync → frames ≡ voice
+      → new ≡ old ++ rows_bits (contents hamming10_word 1 (rs_word 24 16 info) low frames) ldu_rows → new ≡ old ++ voice_body unit
+  unfolding voice_body
+  ldu2_made sync is made spoken written =
+      written
+      ∙ ap₂ (λ (xs : List Sym) (vs : List VoiceFrame). old ++ rows_bits (contents hamming10_word 1 (rs_word 24 16 xs) low vs) ldu_rows) made spoken
+      ∙ ap (λ u. old ++ voice_body u) (sym is)
 
-pub end_made : (old new : List Bool) → new ≡ old ++ rows_bits (contents golay18_word 1 [] [] []) tdu_rows → new ≡ old ++ voice_body End
+pub end_made : (unit : VoiceUnit) (old new : List Bool) → unit ≡ End → new ≡ old ++ rows_bits (contents golay18_word 1 [] [] []) tdu_rows → new ≡ old ++ voice_body unit
 unfolding voice_body
-end_made old new written = written
+end_made unit old new is written = written ∙ ap (λ u. old ++ voice_body u) (sym is)
 
-pub tdulc_made : (link : LinkControl) (info symbols : List Sym) (old new : List Bool) → info ≡ link_symbols link → length info ≡ 12 → IsEncoding (IsWord 24 12) 12 info symbols
-    → new ≡ old ++ rows_bits (contents golay24_word 2 symbols [] []) tdulc_rows → new ≡ old ++ voice_body (EndLink link)
+pub tdulc_made : (unit : VoiceUnit) (link : LinkControl) (info : List Sym) (old new : List Bool) → unit ≡ EndLink link → info ≡ link_symbols link
+    → new ≡ old ++ rows_bits (contents golay24_word 2 (rs_word 24 12 info) [] []) tdulc_rows → new ≡ old ++ voice_body unit
 unfolding voice_body
-tdulc_made link info symbols old new is long made written =
-    written
-    ∙ ap (λ xs. old ++ rows_bits (contents golay24_word 2 xs [] []) tdulc_rows) (rs_word-only 24 12 info symbols link_code long made ∙ ap (rs_word 24 12) is)
+tdulc_made unit link info old new is made written =
+    written ∙ ap (λ xs. old ++ rows_bits (contents golay24_word 2 (rs_word 24 12 xs) [] []) tdulc_rows) made ∙ ap (λ u. old ++ voice_body u) (sym is)
 
 -- the front of the unit, and what stands after it
 pub image_made : (nac : ℕ) (unit : VoiceUnit) (front_nac front_duid : ℕ) (empty start out : List Bool) → empty ≡ [] → front_nac ≡ nac → front_duid ≡ voice_duid unit → start ≡ empty ++ unit_front front_nac front_duid

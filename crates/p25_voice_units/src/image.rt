@@ -4,13 +4,13 @@ ghost use Rattle.std.specs.Prelude.{◌≡◌, ◌+◌, ◌*◌, ◌/◌, ◌<�
 ghost use Rattle.std.specs.List.{list_all};
 ghost use Rattle.p25_coded_fields.specs.Written.{Encodes};
 ghost use Rattle.p25_bits.specs.Bits.{bits_of, octet_bits};
-ghost use Rattle.p25_voice_units.specs.declared.unit.VoiceUnit.TheVariants.{Header as hdu_unit, Link1 as ldu1_unit, Link2 as ldu2_unit, End as tdu_unit, EndLink as tdulc_unit};
+ghost use Rattle.p25_reed_solomon.specs.Encoding.{rs_word};
+ghost use Rattle.p25_reed_solomon.specs.Words.{IsCode};
 ghost use Rattle.p25_voice_units.specs.Images.{piece_bits, rows_bits, contents, lsd16_word, voice_body, voice_image_of};
 ghost use Rattle.p25_voice_units.specs.Lengths.{voice_duid, voice_length_of};
 ghost use Rattle.p25_voice_units.specs.Readings.{voice_reading_of};
 ghost use Rattle.p25_voice_units.specs.Pieces.{piece_fits, piece_length};
 ghost use Rattle.p25_voice_units.specs.Sendable.{IsSendableVoice, IsSpeech, IsVoiceFrame};
-ghost use Rattle.p25_link.specs.Words.{IsHeaderWord, IsLinkControl, IsEncryptionSync};
 
 use crate::layout::{HDU_ROWS, LDU_ROWS, Piece, TDU_ROWS, TDULC_ROWS};
 use crate::unit::VoiceUnit;
@@ -23,7 +23,6 @@ use p25_coded_fields::put_coded;
 use p25_gf64::Sym;
 use p25_golay::{Golay18, Golay24};
 use p25_hamming::{Hamming10, Lsd16};
-use p25_link::{EncryptionSync, HeaderWord, LinkControl};
 use p25_reed_solomon::Rs;
 use p25_unit_front::put_front;
 
@@ -97,75 +96,38 @@ fn put_rows<I: NumberCode>(
     }
 }
 
-// Appends what stands after the front of an HDU: the header word.
-fn put_hdu(word: &HeaderWord, out: &mut BitBuf)
-    requires { length out.old + 658 ≤ 25928 }
-    ensures list { out.new ≡ out.old ++ voice_body (hdu_unit word.now) }
-    ensures len { length out.new ≡ length out.old + 658 }
-    ensures sound { IsHeaderWord word.now }
+// Appends the pieces of the rows of a layout, whose inner words carry the outer word of some information.
+fn put_coded_rows<I: NumberCode, const N: usize, const K: usize>(
+    rows: &[(usize, Piece)],
+    information: &[Sym],
+    low: &[u8],
+    frames: &[VoiceFrame],
+    out: &mut BitBuf,
+)
+    requires inner { I.HasCode }
+    requires outer { IsCode N K }
+    requires small { I.N ≤ 24 }
+    requires sixes { 6 * (I.K / 6) ≡ I.K }
+    requires information { length information.now ≡ K }
+    requires fits { list_all (λ row. piece_fits (I.K / 6) N (length low.now) (length frames.now) row.1) rows.now ≡ true }
+    requires room { length out.old + sum_by (λ row. piece_length I.N row.1) rows.now ≤ 25928 }
+    ensures list { (encoding : List Bool → List Bool) → Encodes I.IsWord I.K encoding
+        → out.new ≡ out.old ++ rows_bits (contents encoding (I.K / 6) (rs_word N K information.now) low.now frames.now) rows.now }
+    ensures len { length out.new ≡ length out.old + sum_by (λ row. piece_length I.N row.1) rows.now }
 {
-    let mut symbols = [Sym::ZERO; 36];
-    Rs::<36, 20>::encode(&word.symbols(), &mut symbols);
-    put_rows::<Golay18>(&HDU_ROWS, &symbols, &[], &[], out);
+    let mut symbols = [Sym::ZERO; N];
+    Rs::<N, K>::encode(information, &mut symbols);
+    put_rows::<I>(rows, &symbols, low, frames, out);
 }
 
-// Appends what stands after the front of an LDU1: voice with link control (LC).
-fn put_ldu1(link: &LinkControl, low: &[u8; 2], voice: &Voice, out: &mut BitBuf)
-    requires { length out.old + 1568 ≤ 25928 }
-    ensures list { out.new ≡ out.old ++ voice_body (ldu1_unit link.now low.now voice.now) }
-    ensures len { length out.new ≡ length out.old + 1568 }
-    ensures link { IsLinkControl link.now }
-    ensures speech { IsSpeech low.now voice.now }
-{
-    fit_speech(low, voice);
-    let mut symbols = [Sym::ZERO; 24];
-    Rs::<24, 12>::encode(&link.symbols(), &mut symbols);
-    put_rows::<Hamming10>(&LDU_ROWS, &symbols, low, voice.frames(), out);
-}
-
-// Appends what stands after the front of an LDU2: voice with encryption sync (ES).
-fn put_ldu2(sync: &EncryptionSync, low: &[u8; 2], voice: &Voice, out: &mut BitBuf)
-    requires { length out.old + 1568 ≤ 25928 }
-    ensures list { out.new ≡ out.old ++ voice_body (ldu2_unit sync.now low.now voice.now) }
-    ensures len { length out.new ≡ length out.old + 1568 }
-    ensures sync { IsEncryptionSync sync.now }
-    ensures speech { IsSpeech low.now voice.now }
-{
-    fit_speech(low, voice);
-    let mut symbols = [Sym::ZERO; 24];
-    Rs::<24, 16>::encode(&sync.symbols(), &mut symbols);
-    put_rows::<Hamming10>(&LDU_ROWS, &symbols, low, voice.frames(), out);
-}
-
-// Appends what stands after the front of a TDU, a terminator: nulls alone.
-fn put_tdu(out: &mut BitBuf)
-    requires { length out.old + 28 ≤ 25928 }
-    ensures list { out.new ≡ out.old ++ voice_body tdu_unit }
-    ensures len { length out.new ≡ length out.old + 28 }
-{
-    put_rows::<Golay18>(&TDU_ROWS, &[], &[], &[], out);
-}
-
-// Appends what stands after the front of a TDULC: terminator with link control (LC).
-fn put_tdulc(link: &LinkControl, out: &mut BitBuf)
-    requires { length out.old + 308 ≤ 25928 }
-    ensures list { out.new ≡ out.old ++ voice_body (tdulc_unit link.now) }
-    ensures len { length out.new ≡ length out.old + 308 }
-    ensures sound { IsLinkControl link.now }
-{
-    let mut symbols = [Sym::ZERO; 24];
-    Rs::<24, 12>::encode(&link.symbols(), &mut symbols);
-    put_rows::<Golay24>(&TDULC_ROWS, &symbols, &[], &[], out);
-}
-
-// Its contract says what a voice frame keeps.
+// A voice frame keeps what its type says.
 fn fit_frame(frame: &VoiceFrame)
     ensures { IsVoiceFrame frame.now }
 {
     octets_fit(&frame.0);
 }
 
-// Its contract says what low speed data (LSD) and voice keep.
+// Low speed data (LSD) and voice keep what their types say.
 fn fit_speech(low: &[u8; 2], voice: &Voice)
     ensures { IsSpeech low.now voice.now }
 {
@@ -175,7 +137,7 @@ fn fit_speech(low: &[u8; 2], voice: &Voice)
     }
 }
 
-// Appends what stands after the front of a unit.
+// Appends what stands after the front of a unit: the pieces of its layout.
 fn put_body(unit: &VoiceUnit, out: &mut BitBuf)
     requires { length out.old ≡ 112 }
     ensures list { out.new ≡ out.old ++ voice_body unit.now }
@@ -183,11 +145,23 @@ fn put_body(unit: &VoiceUnit, out: &mut BitBuf)
     ensures sendable { IsSendableVoice unit.now }
 {
     match unit {
-        VoiceUnit::Header(word) => put_hdu(word, out),
-        VoiceUnit::Link1 { link, low, voice } => put_ldu1(link, low, voice, out),
-        VoiceUnit::Link2 { sync, low, voice } => put_ldu2(sync, low, voice, out),
-        VoiceUnit::End => put_tdu(out),
-        VoiceUnit::EndLink { link } => put_tdulc(link, out),
+        VoiceUnit::Header(word) => {
+            put_coded_rows::<Golay18, 36, 20>(&HDU_ROWS, &word.symbols(), &[], &[], out);
+        }
+        VoiceUnit::Link1 { link, low, voice } => {
+            fit_speech(low, voice);
+            let information = link.symbols();
+            put_coded_rows::<Hamming10, 24, 12>(&LDU_ROWS, &information, low, voice.frames(), out);
+        }
+        VoiceUnit::Link2 { sync, low, voice } => {
+            fit_speech(low, voice);
+            let information = sync.symbols();
+            put_coded_rows::<Hamming10, 24, 16>(&LDU_ROWS, &information, low, voice.frames(), out);
+        }
+        VoiceUnit::End => put_rows::<Golay18>(&TDU_ROWS, &[], &[], &[], out),
+        VoiceUnit::EndLink { link } => {
+            put_coded_rows::<Golay24, 24, 12>(&TDULC_ROWS, &link.symbols(), &[], &[], out);
+        }
     }
 }
 

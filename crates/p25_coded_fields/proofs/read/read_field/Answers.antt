@@ -1,24 +1,22 @@
-use Rattle.std.proofs.Common.{◌≡◌, ℕ, ◌+◌, ◌-◌, ◌*◌, ◌/◌, ◌<◌, ◌≤◌, length, take, drop, get_or, set, Option, None, refl, sym, subst, ap, ◌∙◌, arith}
+use Rattle.std.proofs.Common.{◌≡◌, ◌+◌, ◌-◌, ◌*◌, ◌/◌, ◌<◌, ◌≤◌, List, length, take, drop, get_or, IfSome, refl, sym, subst, ap, ◌∙◌, arith}
 use Rattle.std.proofs.Math.Nat.{mul_comm}
-use Rattle.std.proofs.lemmas.List.{length-replicate, length-set, set_past}
 use Rattle.p25_bits.specs.Bits.{part}
-use Rattle.p25_code.specs.Erasures.{without_erased}
 use Rattle.p25_code.specs.Readings.{word_read}
-use Rattle.p25_coded_fields.specs.Fixes.{AreInnerCounts}
+use Rattle.p25_gf64.specs.declared.symbol.Sym.{Sym}
+use Rattle.p25_gf64.proofs.SymbolLaws.{same_from_eq}
+use Rattle.p25_coded_fields.specs.Fixes.{AreCounted}
 use Rattle.p25_coded_fields.specs.Layouts.{field_layout, symbols_or_erasures}
 use Rattle.p25_coded_fields.proofs.SymbolsLaws.{length_group, room_at}
-use Rattle.p25_coded_fields.proofs.FixesLaws.{counted_all, counts_none, counts_more, all_groups}
-use Rattle.p25_coded_fields.proofs.ReadLaws.{cut_long, outer_read, erased_before, erased_next, erased_whole}
+use Rattle.p25_coded_fields.proofs.FixesLaws.{counted_all, counted_next, counted_none, all_groups}
+use Rattle.p25_coded_fields.proofs.ReadLaws.{cut_long, erased_before, erased_next, outer_read, unchanged}
 use Rattle.p25_coded_fields.proofs.read.read_field.Goals as goal
-use Rattle.p25_coded_fields.proofs.read.read_field.Goals.{then-i-lt36, else-i-lt36}
 
 pub loop-i-init : goal.loop-i-init
 loop-i-init g c =
     let b = g.I.BlockCode in
     record {
       erasures = erased_before (c.K-each.result / 6) _ _;
-      long = length-replicate {A = Option ℕ} 36 None;
-      counts = counts_none b.N b.K (c.K-each.result / 6) c.args.places.now _ c.args.bare.now _;
+      counted = counted_none b.N b.K (c.K-each.result / 6) c.args.places.now _ c.args.bare.now;
     }
 
 pub loop-i-preserved : goal.loop-i-preserved
@@ -26,82 +24,62 @@ loop-i-preserved g c =
     let b = g.I.BlockCode in
     let places = c.args.places.now in
     let bare = c.args.bare.now in
-    let read = c.loop-i.read in
-    let counts = c.loop-i.counts in
+    let word = c.loop-i.word in
+    let erased = c.loop-i.erased in
     let i = c.loop-i.i in
     let each = c.K-each.result / 6 in
     let group : each ≡ b.K / 6 = ap (λ n. n / 6) c.K-each.ensures in
-    let whole : length read ≡ length c.args.word.now = cut_long (length c.args.word.now) _ read c.loop-i.auto.read (omega arith) in
-    let cut : length c.loop-i.erased ≡ length c.args.word.now = cut_long (length c.args.word.now) _ c.loop-i.erased c.loop-i.auto.erased (omega arith) in
-    let covers : each * length places ≡ length read = ap (λ n. n * length places) group ∙ mul_comm (b.K / 6) (length places) ∙ omega arith in
+    let same : length erased ≡ length word = cut_long (length c.args.word.now) _ erased c.loop-i.auto.erased (omega arith) ∙ sym c.loop-i.auto.word in
+    let covers : each * length places ≡ length word = ap (λ n. n * length places) group ∙ mul_comm (b.K / 6) (length places) ∙ omega arith in
+    let short : length places * each ≤ 36 = omega (arith, mul_comm each (length places)) in
     let inside : i < length places = omega arith in
-    let there : each * i + each ≤ length read = room_at each i (length places) (length read) inside covers in
-    let same : length c.loop-i.erased ≡ length read = cut ∙ sym whole in
-    let there_e : each * i + each ≤ length c.loop-i.erased = subst (λ n. each * i + each ≤ n) (sym same) there in
-    let long : length (take (each * i + each - each * i) (drop (each * i) read)) ≡ each = length_group each i read there in
-    let symbols = c.read_inner-count.new.symbols in
+    let there : each * i + each ≤ length word = room_at each i (length places) (length word) inside covers in
+    let there_e : each * i + each ≤ length erased = subst (λ n. each * i + each ≤ n) (sym same) there in
+    let long : length (take (each * i + each - each * i) (drop (each * i) word)) ≡ each = length_group each i word there in
+    let symbols = c.read_inner-more.new.symbols in
     let long_x : length symbols ≡ each = omega (arith, long) in
-    let long_e : length c.read_inner-count.new.erased ≡ each = omega (arith, length_group each i c.loop-i.erased there_e) in
-    let kept : c.if-i-lt36.counts ≡ set counts i c.read_inner-count.result
-    = elim c.if-i-lt36.branch [
-      | then-i-lt36 w ↦ w.counts-is
-      | else-i-lt36 w ↦
-          let past : length counts ≤ i = omega (arith, c.loop-i.invariant.long, w.if-i-lt36.false) in
-          w.counts-is ∙ sym (set_past counts i c.read_inner-count.result past)
-    ] in
+    let long_e : length c.read_inner-more.new.erased ≡ each = omega (arith, length_group each i erased there_e) in
     record {
-      erasures = erased_next (λ at. symbols_or_erasures (b.K / 6) (b.reading_is (part at b.N bare))) places each i _ _ read symbols c.loop-i.erased c.read_inner-count.new.erased
+      erasures = erased_next (λ at. symbols_or_erasures (b.K / 6) (b.reading_is (part at b.N bare))) places each i _ _ word symbols erased c.read_inner-more.new.erased
           inside refl there same long_x long_e c.loop-i.invariant.erasures
-          (c.read_inner-count.ensures.erasures ∙ ap (λ n. symbols_or_erasures n (b.reading_is (part (get_or places i 0) b.N bare))) (long ∙ group));
-      long = ap length kept ∙ length-set counts i c.read_inner-count.result ∙ c.loop-i.invariant.long;
-      counts = counts_more each i _ places read symbols bare counts c.if-i-lt36.counts c.read_inner-count.result there long_x kept c.loop-i.invariant.counts c.read_inner-count.ensures.count;
+          (c.read_inner-more.ensures.erasures ∙ ap (λ n. symbols_or_erasures n (b.reading_is (part (get_or places i 0) b.N bare))) (long ∙ group));
+      counted = counted_next (g.met.I.BlockCode.length_of_word c.requires.inner) each i _ places word symbols bare c.loop-i.counted c.read_inner-more.result c.total_known-counted.result
+          (ap (λ n. 6 * n) group ∙ c.requires.sixes) inside short c.requires.there there long_x c.loop-i.invariant.counted c.read_inner-more.ensures.count c.total_known-counted.ensures;
     }
 
-pub field_fixes-requires-clause-read : goal.field_fixes-requires-clause-read
-field_fixes-requires-clause-read g c =
-    omega (arith, cut_long (length c.args.word.now) _ c.loop-i.read c.loop-i.auto.read (omega arith))
-
-pub field_fixes-requires-clause-counts : goal.field_fixes-requires-clause-counts
-field_fixes-requires-clause-counts g c =
+pub field_fixes-requires-clause-counted : goal.field_fixes-requires-clause-counted
+field_fixes-requires-clause-counted g c = λ none.
     let b = g.I.BlockCode in
-    let long : length c.loop-i.read ≡ length c.args.word.now = cut_long (length c.args.word.now) _ c.loop-i.read c.loop-i.auto.read (omega arith) in
-    all_groups (λ each i xs. AreInnerCounts b.IsWord b.N b.K each i c.args.places.now xs c.args.bare.now c.loop-i.counts) (c.K-each.result / 6) (b.K / 6) c.loop-i.i (length c.args.places.now) c.loop-i.read
-    (ap (λ n. n / 6) c.K-each.ensures) (omega arith) (omega arith)
-    (c.requires.places ∙ sym c.requires.word ∙ sym long) c.loop-i.invariant.counts
+    let places = c.args.places.now in
+    let word = c.read_with_erasures.new.word in
+    let same : c.loop-i.word ≡ word = unchanged _ _ _ _ c.loop-i.word word c.in-Found.fixes same_from_eq c.in-Found.ensures.reading (omega arith) none in
+    subst (λ (xs : List Sym). IfSome c.loop-i.counted (AreCounted b.IsWord b.N b.K (b.K / 6) (length places) places xs c.args.bare.now)) same
+    (all_groups (λ each i xs. IfSome c.loop-i.counted (AreCounted b.IsWord b.N b.K each i places xs c.args.bare.now)) (c.K-each.result / 6) (b.K / 6) c.loop-i.i (length places) c.loop-i.word
+    (ap (λ n. n / 6) c.K-each.ensures) (omega arith) (omega arith) (c.requires.places ∙ omega arith) c.loop-i.invariant.counted)
 
 pub returns-in-Beyond-clause-value : goal.returns-in-Beyond-clause-value
 unfolding word_read
 returns-in-Beyond-clause-value g c =
     let b = g.I.BlockCode in
     let places = c.args.places.now in
-    let each = c.K-each.result / 6 in
-    let group : each ≡ b.K / 6 = ap (λ n. n / 6) c.K-each.ensures in
-    let long : length c.loop-i.read ≡ length c.args.word.now = cut_long (length c.args.word.now) _ c.loop-i.read c.loop-i.auto.read (omega arith) in
-    let covers : length places * each ≡ length c.loop-i.read = ap (λ n. length places * n) group ∙ omega arith in
-    let cut : length c.loop-i.erased ≡ length c.args.word.now = cut_long (length c.args.word.now) _ c.loop-i.erased c.loop-i.auto.erased (omega arith) in
-    let whole
-    = erased_whole (λ at. symbols_or_erasures (b.K / 6) (b.reading_is (part at b.N c.args.bare.now))) places each c.loop-i.i c.loop-i.read c.loop-i.erased (omega arith) covers (cut ∙ sym long) (omega arith) c.loop-i.invariant.erasures in
     let layout = field_layout places b.N (b.K / 6) b.reading_is g.O.ErasedCode.erased_reading_is g.O.BlockCode.K in
     sym (ap (λ a. word_read a c.read_with_erasures.new.word) c.in-Beyond.is)
-    ∙ outer_read layout c.args.bare.now (without_erased c.copy_from_slice.new.self c.loop-i.erased) (word_read c.read_with_erasures.result c.read_with_erasures.new.word) c.read_with_erasures.ensures.value
-    (ap (λ xs. without_erased xs c.loop-i.erased) c.copy_from_slice.ensures.after ∙ whole)
+    ∙ outer_read layout c.args.bare.now (c.K-each.result / 6) c.loop-i.i c.loop-i.word c.loop-i.erased (word_read c.read_with_erasures.result c.read_with_erasures.new.word)
+    (ap (λ n. n / 6) c.K-each.ensures) (omega arith) (mul_comm (b.K / 6) (length places) ∙ c.requires.places ∙ omega arith)
+    (cut_long (length c.args.word.now) _ c.loop-i.erased c.loop-i.auto.erased (omega arith) ∙ sym c.loop-i.auto.word)
+    c.loop-i.invariant.erasures c.read_with_erasures.ensures.value
 
 pub returns-in-Found-clause-value : goal.returns-in-Found-clause-value
 unfolding word_read
 returns-in-Found-clause-value g c =
     let b = g.I.BlockCode in
     let places = c.args.places.now in
-    let each = c.K-each.result / 6 in
-    let group : each ≡ b.K / 6 = ap (λ n. n / 6) c.K-each.ensures in
-    let long : length c.loop-i.read ≡ length c.args.word.now = cut_long (length c.args.word.now) _ c.loop-i.read c.loop-i.auto.read (omega arith) in
-    let covers : length places * each ≡ length c.loop-i.read = ap (λ n. length places * n) group ∙ omega arith in
-    let cut : length c.loop-i.erased ≡ length c.args.word.now = cut_long (length c.args.word.now) _ c.loop-i.erased c.loop-i.auto.erased (omega arith) in
-    let whole
-    = erased_whole (λ at. symbols_or_erasures (b.K / 6) (b.reading_is (part at b.N c.args.bare.now))) places each c.loop-i.i c.loop-i.read c.loop-i.erased (omega arith) covers (cut ∙ sym long) (omega arith) c.loop-i.invariant.erasures in
     let layout = field_layout places b.N (b.K / 6) b.reading_is g.O.ErasedCode.erased_reading_is g.O.BlockCode.K in
     sym (ap (λ a. word_read a c.read_with_erasures.new.word) c.in-Found.is)
-    ∙ outer_read layout c.args.bare.now (without_erased c.copy_from_slice.new.self c.loop-i.erased) (word_read c.read_with_erasures.result c.read_with_erasures.new.word) c.read_with_erasures.ensures.value
-    (ap (λ xs. without_erased xs c.loop-i.erased) c.copy_from_slice.ensures.after ∙ whole)
+    ∙ outer_read layout c.args.bare.now (c.K-each.result / 6) c.loop-i.i c.loop-i.word c.loop-i.erased (word_read c.read_with_erasures.result c.read_with_erasures.new.word)
+    (ap (λ n. n / 6) c.K-each.ensures) (omega arith) (mul_comm (b.K / 6) (length places) ∙ c.requires.places ∙ omega arith)
+    (cut_long (length c.args.word.now) _ c.loop-i.erased c.loop-i.auto.erased (omega arith) ∙ sym c.loop-i.auto.word)
+    c.loop-i.invariant.erasures c.read_with_erasures.ensures.value
 
 pub returns-in-Found-clause-fixes : goal.returns-in-Found-clause-fixes
 returns-in-Found-clause-fixes g c = λ some encoding encodes fixes found.

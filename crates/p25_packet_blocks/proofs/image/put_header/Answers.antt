@@ -10,6 +10,6 @@ pub returns-clause-list : goal.returns-clause-list
 returns-clause-list c =
     let head = c.args.head.now in
     let check = c.to_be_bytes.ensures ∙ ap (λ n. n / 256 % 256 ∷ n % 256 ∷ []) c.crc16.ensures.value ∙ put_two (crc16_of head.0) (crc16_of-lt head.0) in
-    let octets = c.as_slice.ensures.value ∙ c.append-2.ensures ∙ ap₂ (λ (xs ys : List ℕ). xs ++ ys) (c.append.ensures ∙ ap (λ (xs : List ℕ). xs ++ head.0) c.new-octets.ensures) check
+    let octets = c.as_slice.ensures.value ∙ c.extend-2.ensures.list ∙ ap₂ (λ (xs ys : List ℕ). xs ++ ys) (c.extend.ensures.list ∙ ap (λ (xs : List ℕ). xs ++ head.0) c.new-octets.ensures) check
     ∙ sym (header_octets-is head) in
     c.encode_block.ensures.value ∙ ap (λ xs. c.args.out.now ++ half_block xs) octets

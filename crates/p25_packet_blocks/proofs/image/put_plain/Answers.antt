@@ -18,8 +18,8 @@ loop-j-preserved c =
     let carried = c.octets-carried.ensures.value ∙ c.octets.ensures.value in
     let check = c.to_be_bytes.ensures ∙ ap (λ n. n / 16777216 % 256 ∷ n / 65536 % 256 ∷ n / 256 % 256 ∷ n % 256 ∷ []) (c.crc32.ensures.value ∙ ap crc32_of carried)
     ∙ put_four (crc32_of packet.octets) (crc32_of-lt packet.octets) in
-    let octets = c.as_slice-octets.ensures.value ∙ c.append-2.ensures
-    ∙ ap₂ (λ (xs ys : List ℕ). xs ++ ys) (c.append.ensures ∙ ap₂ (λ (xs ys : List ℕ). xs ++ ys) c.new-octets.ensures carried) check ∙ sym (checked_octets-is packet.octets) in
+    let octets = c.as_slice-octets.ensures.value ∙ c.extend-2.ensures.list
+    ∙ ap₂ (λ (xs ys : List ℕ). xs ++ ys) (c.extend.ensures.list ∙ ap₂ (λ (xs ys : List ℕ). xs ++ ys) c.new-octets.ensures carried) check ∙ sym (checked_octets-is packet.octets) in
     let twelve : 12 * j + 12 - 12 * j ≡ 12 = omega arith in
     record {
       list =

@@ -13,11 +13,11 @@ returns-clause-least g c =
     let costs = c.level_costs.result in
     let levels = c.args.levels.now in
     IsFirstLeastReading-same states g.R.Rate.BITS_PER_SYMBOL (path_cost point (cost_in costs)) (soft_cost point levels) c.read_costs.new.octets c.read_costs.result
-    (path_cost-soft states point levels costs (power-pos g.R.Rate.BITS_PER_SYMBOL states g.met.R.Rate.states_of_bits) g.met.R.Rate.nibbles c.level_costs.ensures.costs c.requires.levels)
+    (path_cost-soft states point levels costs (power-pos g.R.Rate.BITS_PER_SYMBOL states g.met.R.Rate.table.states_of_bits) g.met.R.Rate.table.nibbles c.level_costs.ensures.costs c.requires.levels)
     c.read_costs.ensures
 
 pub returns-clause-octets : goal.returns-clause-octets
 returns-clause-octets g c =
     same_soft g.R.Rate.STATES g.R.Rate.BITS_PER_SYMBOL g.R.Rate.point_of c.args.levels.now c.read_costs.new.octets c.read_costs.result
-    (power-pos g.R.Rate.BITS_PER_SYMBOL g.R.Rate.STATES g.met.R.Rate.states_of_bits)
+    (power-pos g.R.Rate.BITS_PER_SYMBOL g.R.Rate.STATES g.met.R.Rate.table.states_of_bits)
     (returns-clause-least g c)

@@ -13,5 +13,5 @@ returns-clause-list g c =
     ∙ ap (λ (bits : List Bool). c.args.out.now ++ bits)
     (
     ap (λ (octets : List ℕ). block_from width point octets) c.read_soft.ensures.octets
-    ∙ sym (soft_block-is states width point c.args.levels.now g.met.R.Rate.states_of_bits (power-pos width states g.met.R.Rate.states_of_bits))
+    ∙ sym (soft_block-is states width point c.args.levels.now g.met.R.Rate.table.states_of_bits (power-pos width states g.met.R.Rate.table.states_of_bits))
     )

@@ -31,11 +31,13 @@ returns-clause-only g c =
     let sent = returns-clause-block g c in
     λ block is.
     sent.2
-    ∙ ap (λ (bits : List Bool). c.args.out.now ++ bits) (same_block g.R.Rate.STATES g.R.Rate.BITS_PER_SYMBOL g.R.Rate.point_of c.args.octets.now sent.0 block g.met.R.Rate.states_of_bits sent.1 is)
+    ∙ ap (λ (bits : List Bool). c.args.out.now ++ bits)
+    (same_block g.R.Rate.STATES g.R.Rate.BITS_PER_SYMBOL g.R.Rate.point_of c.args.octets.now sent.0 block g.met.R.Rate.table.states_of_bits sent.1 is)
 
 pub returns-clause-value : goal.returns-clause-value
 returns-clause-value g c =
     let sent = returns-clause-block g c in
-    let long : length c.args.octets.now ≡ 6 * g.R.Rate.BITS_PER_SYMBOL = omega (arith, c.requires.octets, g.met.R.Rate.octets_of_bits) in
+    let long : length c.args.octets.now ≡ 6 * g.R.Rate.BITS_PER_SYMBOL = omega (arith, c.requires.octets, g.met.R.Rate.table.octets_of_bits) in
     sent.2
-    ∙ ap (λ (bits : List Bool). c.args.out.now ++ bits) (same_block_from g.R.Rate.STATES g.R.Rate.BITS_PER_SYMBOL g.R.Rate.point_of c.args.octets.now sent.0 g.met.R.Rate.states_of_bits long sent.1)
+    ∙ ap (λ (bits : List Bool). c.args.out.now ++ bits)
+    (same_block_from g.R.Rate.STATES g.R.Rate.BITS_PER_SYMBOL g.R.Rate.point_of c.args.octets.now sent.0 g.met.R.Rate.table.states_of_bits long sent.1)

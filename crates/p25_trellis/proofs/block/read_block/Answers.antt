@@ -28,18 +28,18 @@ returns-clause-nearest g c =
 pub returns-clause-octets : goal.returns-clause-octets
 returns-clause-octets g c =
     let received = part c.args.at 196 c.args.bits.now in
-    let some = power-pos g.R.Rate.BITS_PER_SYMBOL g.R.Rate.STATES g.met.R.Rate.states_of_bits in
+    let some = power-pos g.R.Rate.BITS_PER_SYMBOL g.R.Rate.STATES g.met.R.Rate.table.states_of_bits in
     (same_nearest g.R.Rate.STATES g.R.Rate.BITS_PER_SYMBOL g.R.Rate.point_of received c.read_nibbles.new.octets c.read_nibbles.result some (returns-clause-nearest g c)).0
 
 pub returns-clause-distance : goal.returns-clause-distance
 returns-clause-distance g c =
     let received = part c.args.at 196 c.args.bits.now in
-    let some = power-pos g.R.Rate.BITS_PER_SYMBOL g.R.Rate.STATES g.met.R.Rate.states_of_bits in
+    let some = power-pos g.R.Rate.BITS_PER_SYMBOL g.R.Rate.STATES g.met.R.Rate.table.states_of_bits in
     (same_nearest g.R.Rate.STATES g.R.Rate.BITS_PER_SYMBOL g.R.Rate.point_of received c.read_nibbles.new.octets c.read_nibbles.result some (returns-clause-nearest g c)).1
 
 pub returns-clause-near : goal.returns-clause-near
 returns-clause-near g c =
-    let law = g.met.R.Rate in
+    let law = g.met.R.Rate.table in
     let bits = part c.args.at 196 c.args.bits.now in
     IsNearReading-from g.R.Rate.STATES g.R.Rate.BITS_PER_SYMBOL g.R.Rate.APART g.R.Rate.point_of bits c.read_nibbles.new.octets c.read_nibbles.result
     (same_from_sent_bits g.R.Rate.STATES g.R.Rate.APART g.R.Rate.point_of g.R.Rate.parted (power-pos g.R.Rate.BITS_PER_SYMBOL g.R.Rate.STATES law.states_of_bits) law.together law.stays_parted law.parts)

@@ -1,7 +1,12 @@
-use Rattle.std.proofs.Common.{◌≡◌, ℕ, List, sym, ap}
+use Rattle.std.proofs.Common.{◌≡◌, ℕ, List, refl, sym, ap, ◌∙◌, arith}
 use Rattle.p25_bits.specs.Numbers.{number_bits}
+use Rattle.p25_trellis.specs.Costs.{path_cost, received_cost}
 use Rattle.p25_trellis.specs.Interleave.{interleaved}
-use Rattle.p25_trellis.specs.Trellis.{sent_bits}
+use Rattle.p25_trellis.specs.Least.{rest_in}
+use Rattle.p25_trellis.specs.Trellis.{sent_bits, IsFirstLeastReading, distance_from}
+use Rattle.p25_trellis.proofs.CostLaws.{rest_in-first}
+use Rattle.p25_trellis.proofs.DistanceLaws.{path_cost-distance, IsFirstLeastReading-same}
+use Rattle.p25_trellis.proofs.FirstPathLaws.{IsFirstLeast-total}
 use Rattle.p25_trellis.proofs.ApartLaws.{same_from_sent_bits}
 use Rattle.p25_trellis.proofs.ExactSteps.{IsFirstLeast-exact, at_no_distance}
 use Rattle.p25_trellis.proofs.PathLaws.{power-pos}
@@ -10,7 +15,7 @@ use Rattle.p25_trellis.proofs.block.read_nibbles.Goals as goal
 pub returns-in-Some : goal.returns-in-Some
 unfolding sent_bits
 returns-in-Some g c =
-    let law = g.met.R.Rate in
+    let law = g.met.R.Rate.table in
     let point = g.R.Rate.point_of in
     let path = c.in-Some.path in
     let received = number_bits 4 (interleaved c.args.received.now) in
@@ -22,3 +27,23 @@ returns-in-Some g c =
       carries = c.octets_of.ensures;
       total_is = sym (at_no_distance point received path sends);
     }
+
+pub returns-in-None : goal.returns-in-None
+returns-in-None g c =
+    let states = g.R.Rate.STATES in
+    let point = g.R.Rate.point_of in
+    let received = c.args.received.now in
+    let bits = number_bits 4 (interleaved received) in
+    let some = power-pos g.R.Rate.BITS_PER_SYMBOL states g.met.R.Rate.table.states_of_bits in
+    let rests = c.near_rests-rests.result in
+    let first = c.near_path-path.ensures.first in
+    let total
+    = c.from.ensures
+    ∙ sym (rest_in-first rests)
+    ∙ IsFirstLeast-total states (path_cost point (received_cost received)) c.near_path-path.result (rest_in rests 0 0) some (c.near_rests-rests.ensures.least.at 0 48 0 (omega arith) refl some)
+    first in
+    let reading : IsFirstLeastReading states g.R.Rate.BITS_PER_SYMBOL (path_cost point (received_cost received)) c.octets_of-in-None.new.octets c.from.result
+    = record { path = c.near_path-path.result; first_least = first; carries = c.octets_of-in-None.ensures; total_is = total } in
+    IsFirstLeastReading-same states g.R.Rate.BITS_PER_SYMBOL (path_cost point (received_cost received)) (distance_from point bits) c.octets_of-in-None.new.octets c.from.result
+    (path_cost-distance states point received bits some g.met.R.Rate.table.nibbles c.told-received refl)
+    reading

@@ -7,7 +7,7 @@ use Rattle.p25_trellis.proofs.exact.path_along.Goals as goal
 
 pub loop-step-init : goal.loop-step-init
 loop-step-init g c =
-    let some = power-pos g.R.Rate.BITS_PER_SYMBOL g.R.Rate.STATES g.met.R.Rate.states_of_bits in record {
+    let some = power-pos g.R.Rate.BITS_PER_SYMBOL g.R.Rate.STATES g.met.R.Rate.table.states_of_bits in record {
       sends = λ rest. refl;
       small = All-replicate (λ (symbol : ℕ). symbol < g.R.Rate.STATES) 49 0 some;
       row = some;

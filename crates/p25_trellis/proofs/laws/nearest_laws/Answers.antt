@@ -7,21 +7,22 @@ use Rattle.p25_trellis.proofs.laws.nearest_laws.Goals as goal
 
 pub returns-clause-reading : goal.returns-clause-reading
 returns-clause-reading g c =
-    λ received. nearest_reading g.R.Rate.STATES g.R.Rate.BITS_PER_SYMBOL g.R.Rate.point_of received (power-pos g.R.Rate.BITS_PER_SYMBOL g.R.Rate.STATES g.met.R.Rate.states_of_bits)
+    λ received. nearest_reading g.R.Rate.STATES g.R.Rate.BITS_PER_SYMBOL g.R.Rate.point_of received (power-pos g.R.Rate.BITS_PER_SYMBOL g.R.Rate.STATES g.met.R.Rate.table.states_of_bits)
 
 pub returns-clause-only : goal.returns-clause-only
 returns-clause-only g c =
-    λ received octets distance reading. same_nearest g.R.Rate.STATES g.R.Rate.BITS_PER_SYMBOL g.R.Rate.point_of received octets distance (power-pos g.R.Rate.BITS_PER_SYMBOL g.R.Rate.STATES g.met.R.Rate.states_of_bits) reading
+    λ received octets distance reading. same_nearest g.R.Rate.STATES g.R.Rate.BITS_PER_SYMBOL g.R.Rate.point_of received octets distance
+    (power-pos g.R.Rate.BITS_PER_SYMBOL g.R.Rate.STATES g.met.R.Rate.table.states_of_bits) reading
 
 pub returns-clause-block : goal.returns-clause-block
 returns-clause-block g c =
     λ octets long small.
-    let whole : length octets ≡ 6 * g.R.Rate.BITS_PER_SYMBOL = omega (arith, long, g.met.R.Rate.octets_of_bits) in
-    IsBlock-block_from g.R.Rate.STATES g.R.Rate.BITS_PER_SYMBOL g.R.Rate.point_of octets g.met.R.Rate.states_of_bits whole small
+    let whole : length octets ≡ 6 * g.R.Rate.BITS_PER_SYMBOL = omega (arith, long, g.met.R.Rate.table.octets_of_bits) in
+    IsBlock-block_from g.R.Rate.STATES g.R.Rate.BITS_PER_SYMBOL g.R.Rate.point_of octets g.met.R.Rate.table.states_of_bits whole small
 
 pub returns-clause-near : goal.returns-clause-near
 returns-clause-near g c =
-    let law = g.met.R.Rate in
+    let law = g.met.R.Rate.table in
     let states = g.R.Rate.STATES in
     let width = g.R.Rate.BITS_PER_SYMBOL in
     let point = g.R.Rate.point_of in

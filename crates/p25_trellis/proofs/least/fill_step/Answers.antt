@@ -17,11 +17,11 @@ loop-state-preserved g c =
     let state = c.loop-state.state in
     let least = c.best_symbol.result.cost in
     let below : state < states = omega (arith, c.loop-state-test.true, c.STATES-state-end.ensures) in
-    let column : c.from.result < 8 = omega (arith, below, c.from.ensures, g.met.R.Rate.few_states) in
+    let column : c.from.result < 8 = omega (arith, below, c.from.ensures, g.met.R.Rate.table.few_states) in
     let long : length rests ≡ 392 = omega (arith, c.loop-state.auto.rests, c.requires.rests) in record {
-      after = HasLeastFrom-write states point (cost_in costs) rests step c.from.result least g.met.R.Rate.few_states column c.loop-state.invariant.after;
+      after = HasLeastFrom-write states point (cost_in costs) rests step c.from.result least g.met.R.Rate.table.few_states column c.loop-state.invariant.after;
       here =
-          here_more states point (cost_in costs) rests step state c.from.result least g.met.R.Rate.few_states below c.requires.step long c.from.ensures
+          here_more states point (cost_in costs) rests step state c.from.result least g.met.R.Rate.table.few_states below c.requires.step long c.from.ensures
           c.loop-state.invariant.here
           (IsLeastEnd-at states point (cost_in costs) rests step state c.best_symbol.result.symbol least c.requires.step c.loop-state.invariant.after c.best_symbol.ensures);
     }

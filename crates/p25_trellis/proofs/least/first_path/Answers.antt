@@ -36,7 +36,7 @@ returns-clause-first g c =
     let place : c.loop-step.step + 0 ≡ 48 = omega arith in
     let whole : take c.loop-step.step path ++ 0 ∷ [] ≡ path
     = ap (λ n. take n path ++ 0 ∷ []) (sym done) ∙ ap (λ (zs : List ℕ). take 48 path ++ zs) (sym c.loop-step.invariant.last) ∙ take-append-drop 48 path in
-    IsFirstLeast-from_end states (path_cost point (cost_in costs)) path (power-pos g.R.Rate.BITS_PER_SYMBOL states g.met.R.Rate.states_of_bits)
+    IsFirstLeast-from_end states (path_cost point (cost_in costs)) path (power-pos g.R.Rate.BITS_PER_SYMBOL states g.met.R.Rate.table.states_of_bits)
     (
     subst (λ (p : List ℕ). IsFirstLeastEnd states 48 (symbols_cost point (cost_in costs) 0 0) p) whole
     (c.loop-step.invariant.completes 0 (0 ∷ []) place (IsFirstLeastEnd-last states (symbols_cost point (cost_in costs) c.loop-step.step c.loop-step.state)))

@@ -9,7 +9,7 @@ use Rattle.p25_trellis.proofs.least.read_costs.Goals as goal
 pub returns : goal.returns
 returns g c =
     let states = g.R.Rate.STATES in
-    let some = power-pos g.R.Rate.BITS_PER_SYMBOL states g.met.R.Rate.states_of_bits in
+    let some = power-pos g.R.Rate.BITS_PER_SYMBOL states g.met.R.Rate.table.states_of_bits in
     let rests = c.least_rests-rests.result in
     let first = c.first_path-path.ensures.first in record {
       path = c.first_path-path.result;

@@ -8,7 +8,7 @@ pub loop-state-preserved : goal.loop-state-preserved
 loop-state-preserved g c =
     let state = c.loop-state.state in
     let below : state < g.R.Rate.STATES = omega (arith, c.loop-state-test.true, c.from-state-end.ensures, c.STATES.ensures) in
-    let row : state < 8 = omega (arith, below, g.met.R.Rate.few_states) in
+    let row : state < 8 = omega (arith, below, g.met.R.Rate.table.few_states) in
     let long : length c.loop-state.rests ≡ 392 = omega (arith, c.loop-state.auto.rests, c.requires.rests) in
     last_more c.loop-state.rests state state (get_or c.distances-distances.result.now state 0) (λ s. received_cost c.args.received.now 48 (g.R.Rate.point_of s 0)) row long refl
     (received_cost-is c.args.received.now c.distances-distances.result.now 48 state (g.R.Rate.point_of state 0) (c.distances-distances.ensures.each state below))

@@ -42,7 +42,7 @@ returns g c =
     let step = c.args.step in
     let state = c.args.state in
     let last = c.STATES.result - 1 in
-    let some = power-pos g.R.Rate.BITS_PER_SYMBOL states g.met.R.Rate.states_of_bits in
+    let some = power-pos g.R.Rate.BITS_PER_SYMBOL states g.met.R.Rate.table.states_of_bits in
     let count : last + 1 ≡ states = omega (arith, c.STATES.ensures, some) in
     IsLowestLeast-last states last (step_cost point cost rests step state) (rest_in rests step state) count
     (rest-reached states point cost rests step state c.requires.least c.requires.step c.requires.state)

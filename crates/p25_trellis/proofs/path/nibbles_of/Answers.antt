@@ -9,7 +9,7 @@ pub loop-step-init : goal.loop-step-init
 loop-step-init g c = record {
   done = refl;
   fits = All-replicate (λ (n : ℕ). n < 16) 49 0 (omega arith);
-  row = power-pos g.R.Rate.BITS_PER_SYMBOL g.R.Rate.STATES g.met.R.Rate.states_of_bits;
+  row = power-pos g.R.Rate.BITS_PER_SYMBOL g.R.Rate.STATES g.met.R.Rate.table.states_of_bits;
   long = refl;
 }
 

@@ -14,7 +14,7 @@ regroup-requires-clause-source g c = let there : 48 ≤ length c.args.path.now =
 
 pub regroup-requires-clause-small : goal.regroup-requires-clause-small
 regroup-requires-clause-small g c =
-    subst (λ (bound : ℕ). All (λ (symbol : ℕ). symbol < bound) (take 48 c.args.path.now)) (g.met.R.Rate.states_of_bits ∙ ap (λ n. 2 ^ n) (sym c.BITS_PER_SYMBOL.ensures))
+    subst (λ (bound : ℕ). All (λ (symbol : ℕ). symbol < bound) (take 48 c.args.path.now)) (g.met.R.Rate.table.states_of_bits ∙ ap (λ n. 2 ^ n) (sym c.BITS_PER_SYMBOL.ensures))
     (All-take (λ (symbol : ℕ). symbol < g.R.Rate.STATES) 48 c.args.path.now c.requires.path.below)
 
 pub returns : goal.returns

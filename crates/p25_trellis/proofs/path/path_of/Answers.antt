@@ -20,12 +20,12 @@ returns-clause-is_path g c =
     let width = g.R.Rate.BITS_PER_SYMBOL in
     let octets = c.args.octets.now in
     subst (λ (path : List ℕ). IsPath g.R.Rate.STATES path) (path_from-is width c.BITS_PER_SYMBOL.result octets c.regroup.new.target c.BITS_PER_SYMBOL.ensures c.regroup.ensures)
-    (IsPath-path_from g.R.Rate.STATES width octets g.met.R.Rate.states_of_bits)
+    (IsPath-path_from g.R.Rate.STATES width octets g.met.R.Rate.table.states_of_bits)
 
 pub returns-clause-carries : goal.returns-clause-carries
 returns-clause-carries g c =
     let width = g.R.Rate.BITS_PER_SYMBOL in
     let octets = c.args.octets.now in
-    let long : length octets ≡ 6 * width = omega (arith, c.requires, g.met.R.Rate.octets_of_bits) in
+    let long : length octets ≡ 6 * width = omega (arith, c.requires, g.met.R.Rate.table.octets_of_bits) in
     subst (λ (path : List ℕ). Carries width path octets) (path_from-is width c.BITS_PER_SYMBOL.result octets c.regroup.new.target c.BITS_PER_SYMBOL.ensures c.regroup.ensures)
     (Carries-path_from width octets long (All-from_get_or (λ (octet : ℕ). octet < 256) octets 0 (λ k inside. omega (arith, c.type_inv.octets k))))

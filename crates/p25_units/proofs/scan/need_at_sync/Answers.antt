@@ -9,4 +9,4 @@ pub returns-in-None-clause-need : goal.returns-in-None-clause-need
 returns-in-None-clause-need c = need-none c.args.bits.now c.args.at c.requires.there (omega arith) c.in-None.ensures.value
 
 pub returns-in-Some-clause-need : goal.returns-in-Some-clause-need
-returns-in-Some-clause-need c = c.need_of_kind.ensures.need ∙ need-some c.args.bits.now c.args.at c.in-Some.nid c.requires.there (omega arith) c.in-Some.ensures.value
+returns-in-Some-clause-need c = c.need_of_kind.ensures.need ∙ need-some c.args.bits.now c.args.at c.in-Some.read.nid c.requires.there (omega arith) c.in-Some.ensures.value

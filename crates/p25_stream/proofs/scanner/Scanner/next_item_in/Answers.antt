@@ -1,18 +1,25 @@
-use Rattle.std.proofs.Common.{length, take, ap, ap₂, sym, arith}
+use Rattle.std.proofs.Common.{◌≡◌, ◌≢◌, Bool, true, false, [], length, take, ap, ap₂, sym, ◌∙◌, arith}
 use Rattle.p25_units.specs.Items.{covered}
-use Rattle.p25_stream.specs.Scan.{Scan}
+use Rattle.p25_stream.specs.Items.{first_item}
+use Rattle.p25_stream.specs.Scan.{Scan, given}
 use Rattle.p25_stream.proofs.ScanLaws.{gave-next, next-fits}
 use Rattle.p25_stream.proofs.scanner.Scanner.next_item_in.Goals as goal
 
+both_ways : (b : Bool) → b ≡ false → b ≡ true → ⊥
+both_ways b is_false is_true = cc
+
 pub let_go-requires : goal.let_go-requires
 let_go-requires c =
-    let there = c.if-not-set_next.false in
-    let fits = next-fits c.args.self.now c.set_next.new.item (c.set_next.ensures.some there) (c.set_next.ensures.first there) in
-    omega (arith, fits, c.covered.ensures.value, ap (λ (s : Scan). length s.held) c.set_next.ensures.same)
+    let scan = c.args.self.now in
+    let some : given scan ≢ [] = λ none. both_ways c.is_drained.result c.if-is_drained.false (c.is_drained.ensures.1 none) in
+    let first = c.set_item.ensures.item ∙ ap (λ (s : Scan). first_item s.place s.held) c.self.view_is in
+    omega (arith, next-fits scan c.set_item.new.item some first, c.covered.ensures.value, ap (λ (s : Scan). length s.held) c.self.view_is)
 
 pub returns-clause-given : goal.returns-clause-given
 returns-clause-given c =
-    let there = c.if-not-set_next.false in
-    let bits = ap₂ (λ n (s : Scan). take n s.held) (sym c.covered.ensures.value) (sym c.set_next.ensures.same) in
-    λ _. gave-next c.args.self.now c.set_next.new.self c.let_go.new.self c.set_next.new.item (take (covered c.set_next.new.item) c.args.self.now.held) c.covered.result
-    (c.set_next.ensures.some there) (c.set_next.ensures.first there) c.set_next.ensures.same c.covered.ensures.value bits c.let_go.ensures
+    let scan = c.args.self.now in
+    let some : given scan ≢ [] = λ none. both_ways c.is_drained.result c.if-is_drained.false (c.is_drained.ensures.1 none) in
+    let first = c.set_item.ensures.item ∙ ap (λ (s : Scan). first_item s.place s.held) c.self.view_is in
+    let bits = ap₂ (λ n (s : Scan). take n s.held) (sym c.covered.ensures.value) (sym c.self.view_is) in
+    λ _. gave-next scan _ c.let_go.new.self c.set_item.new.item (take (covered c.set_item.new.item) scan.held) c.covered.result
+    some first c.self.view_is c.covered.ensures.value bits c.let_go.ensures

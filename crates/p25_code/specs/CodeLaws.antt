@@ -1,0 +1,44 @@
+-- The laws of block codes, and of systematic binary codes by their check bits, each as one record.
+use Rattle.std.specs.Prelude.{◌≡◌, ◌≢◌, ℕ, zero, suc, ◌+◌, ◌*◌, ◌≤◌, ◌<◌, Bool, true, false, ◌&&◌, ◌||◌, ◌==◌, nat_le, List, [], ◌∷◌, ◌++◌, length, take, Option}
+use Rattle.std.specs.Bool.{beq}
+use Rattle.std.specs.Cmp.{IsEquivalence}
+use Rattle.p25_bits.specs.Distance.{distance_by}
+use Rattle.p25_code.specs.Readings.{IsReadAs}
+use Rattle.p25_code.specs.Binary.{IsChecked, check_columns, rows_fit, systematic, weight_of}
+
+-- the laws of a block code, as one record
+pub record IsBlockCode {L : Type 0} (same : L → L → Bool) (IsWord : List L → Type 0) (n k radius apart : ℕ) : Type 0 where
+  pub compares : IsEquivalence same
+  pub alike : (x y : L) → same x y ≡ true → x ≡ y
+  pub long : (word : List L) → IsWord word → length word ≡ n
+  pub one_word : (v w : List L) → IsWord v → IsWord w → take k v ≡ take k w → v ≡ w
+  pub far_apart : (v w : List L) → IsWord v → IsWord w → v ≢ w → apart ≤ distance_by same v w
+  pub close : 2 * radius < apart
+  pub begins : k ≤ n
+
+-- a test of all lists of so many bits
+unfoldable pub all_bits : ℕ → (List Bool → Bool) → Bool
+all_bits zero test = test []
+all_bits (suc n) test = all_bits n (λ bits. test (true ∷ bits)) && all_bits n (λ bits. test (false ∷ bits))
+
+-- the information is nothing but zeros, or the systematic word is heavy
+unfoldable pub is_heavy : List ℕ → ℕ → ℕ → List Bool → Bool
+is_heavy rows checks apart info = weight_of info == 0 || nat_le apart (weight_of (systematic rows checks info))
+
+-- what the tests of a table of rows say: the rows fit, and no word but that of zeros is light
+pub record IsSystematic (rows : List ℕ) (checks apart : ℕ) : Type 0 where
+  pub fit : rows_fit checks rows ≡ true
+  pub heavy : all_bits (length rows) (is_heavy rows checks apart) ≡ true
+
+-- what makes a set of words, by the rows of their check bits, a code of at most 32 bits that is read by a function
+pub record IsCheckedCode (IsWord : List Bool → Type 0) (rows : List ℕ) (n k checks radius apart : ℕ) (reading : List Bool → Option (List Bool)) : Type 0
+  where
+    pub laws : IsBlockCode beq IsWord n k radius apart
+    pub table : IsSystematic rows checks apart
+    pub rows_long : length rows ≡ k
+    pub whole : k + checks ≡ n
+    pub few : n ≤ 32
+    pub few_checks : checks ≤ 16
+    pub passes : (word : List Bool) → IsWord word → IsChecked (rows ++ check_columns checks) word
+    pub passing : (word : List Bool) → IsChecked (rows ++ check_columns checks) word → IsWord word
+    pub reads : (received : List Bool) → IsReadAs beq IsWord radius received (reading received)

@@ -1,5 +1,0 @@
-use Rattle.p25_hamming.proofs.Lsd16Tables.{checks-is}
-use Rattle.p25_hamming.proofs.lsd16.check_bits.Goals as goal
-
-pub returns : goal.returns
-returns c = checks-is c.args.info c.requires

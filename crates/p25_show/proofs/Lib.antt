@@ -1,0 +1,3 @@
+pub mod CallsLaws
+pub mod NeedsLaws
+pub mod ReadingsLaws

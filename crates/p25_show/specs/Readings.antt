@@ -1,0 +1,76 @@
+-- What the readings are that the lines of `show` tell: of units, of words of the codes, of blocks of packets, and their checks.
+use Rattle.std.specs.Prelude.{◌≡◌, ℕ, ◌-◌, ◌≤◌, Bool, List, ◌++◌, length, take, Option, option_map, Ok, Err}
+use Rattle.p25_bits.specs.Bits.{field_of, octet_bits, part}
+use Rattle.p25_bits.specs.Distance.{distance_of}
+use Rattle.p25_bits.specs.Numbers.{number_bits}
+use Rattle.p25_code.specs.Erasures.{erased_cost}
+use Rattle.p25_code.specs.Readings.{IsWordWithin}
+use Rattle.p25_gf64.specs.declared.symbol.Sym.{Sym}
+use Rattle.p25_hamming.specs.Hamming10.{IsHamming10}
+use Rattle.p25_hamming.specs.Hamming10Readings.{hamming10_reading_of}
+use Rattle.p25_hamming.specs.Lsd16.{IsLsd16}
+use Rattle.p25_hamming.specs.Lsd16Readings.{lsd16_reading_of}
+use Rattle.p25_golay.specs.Golay18.{IsGolay18}
+use Rattle.p25_golay.specs.Golay18Readings.{golay18_reading_of}
+use Rattle.p25_golay.specs.Golay24.{IsGolay24}
+use Rattle.p25_golay.specs.Golay24Readings.{golay24_reading_of}
+use Rattle.p25_reed_solomon.specs.Words.{IsWord, same_symbols}
+use Rattle.p25_reed_solomon.specs.RsReadings.{rs_erased_reading_of}
+use Rattle.p25_bch_nid.specs.Bch63.{IsBch63}
+use Rattle.p25_bch_nid.specs.Bch63Readings.{bch63_reading_of}
+use Rattle.p25_trellis.specs.Nearest.{half_octets, three_quarter_octets}
+use Rattle.p25_trellis.specs.Tables.{half_point, three_quarter_point}
+use Rattle.p25_trellis.specs.Trellis.{IsNotAfter, IsPath, sent_bits}
+use Rattle.p25_crc.specs.Checks.{IsCheck, block_divisor, block_message, header_divisor, packet_divisor}
+use Rattle.p25_crc.specs.Values.{crc16_of, crc32_of, crc9_of}
+use Rattle.p25_status.specs.Woven.{bare_of, statuses_of}
+use Rattle.p25_status.specs.declared.fields.Field.{Field}
+use Rattle.p25_units.specs.Fixes.{fixes_of}
+use Rattle.p25_units.specs.Items.{unit_item_of}
+use Rattle.p25_units.specs.Readings.{body_reading_of}
+use Rattle.p25_units.specs.declared.frame.Frame.{Frame}
+use Rattle.p25_units.specs.declared.item.Item.TheVariants.{Whole, Broken}
+
+-- the identifier of a unit's bits: NAC and DUID, the first 16 bits of the word that the bits behind the sync read as, without the
+-- status symbol among them and the last bit
+abbrev pub identifier_read : List Bool → Option (ℕ × ℕ)
+identifier_read sent =
+    option_map (λ word. (field_of (take 12 word), field_of (part 12 4 word))) (bch63_reading_of (take 63 (part 48 22 sent ++ part 72 42 sent)))
+
+-- the item of the bits of a unit whose identifier is read: broken where fields of it fail; else whole, with the NAC and the body that were
+-- read, and the status symbols that came
+pub record IsUnitRead (place : ℕ) (sent : List Bool) (nac duid : ℕ) : Type 0 where
+  pub broken : (fields : List Field) → body_reading_of duid (bare_of sent) ≡ Err fields → unit_item_of place sent ≡ Broken place (length sent) nac duid fields
+  pub whole : (frame : Frame) → frame.unit.nac ≡ nac → body_reading_of duid (bare_of sent) ≡ Ok frame.unit.body → frame.statuses ≡ statuses_of sent
+      → unit_item_of place sent ≡ Whole place frame (fixes_of frame sent)
+
+-- what each code reads: the word of its set that lies within the radius; of a Reed-Solomon code the word that costs at most as much as
+-- there are check symbols
+pub record CodesAreRead : Type 0 where
+  pub bch63 : (bits : List Bool) → IsWordWithin IsBch63 (distance_of bits) 11 (bch63_reading_of bits)
+  pub golay24 : (bits : List Bool) → IsWordWithin IsGolay24 (distance_of bits) 3 (golay24_reading_of bits)
+  pub golay18 : (bits : List Bool) → IsWordWithin IsGolay18 (distance_of bits) 3 (golay18_reading_of bits)
+  pub hamming10 : (bits : List Bool) → IsWordWithin IsHamming10 (distance_of bits) 1 (hamming10_reading_of bits)
+  pub lsd16 : (bits : List Bool) → IsWordWithin IsLsd16 (distance_of bits) 2 (lsd16_reading_of bits)
+  pub rs : (n k : ℕ) (list : List (Option Sym)) → IsWordWithin (IsWord n k) (erased_cost same_symbols list) (n - k) (rs_erased_reading_of n k list)
+
+-- octets are what the first of the nearest paths carries: no path lies nearer to what was received, and none that lies as near is before it
+-- in dictionary order
+pub record IsNearestBlock (states width : ℕ) (point : ℕ → ℕ → ℕ) (received : List Bool) (octets : List ℕ) : Type 0 where
+  pub path : List ℕ
+  pub is_path : IsPath states path
+  pub carried : number_bits width (take 48 path) ≡ octet_bits octets
+  pub nearest : (other : List ℕ) → IsPath states other → distance_of (sent_bits point path) received ≤ distance_of (sent_bits point other) received
+  pub first : (other : List ℕ) → IsPath states other → distance_of (sent_bits point other) received ≡ distance_of (sent_bits point path) received
+      → IsNotAfter path other
+
+-- what a block reads as, at half rate and at three-quarter rate
+pub record BlocksAreRead : Type 0 where
+  pub half : (received : List Bool) → IsNearestBlock 4 2 half_point received (half_octets received)
+  pub three_quarter : (received : List Bool) → IsNearestBlock 8 3 three_quarter_point received (three_quarter_octets received)
+
+-- the checks of a confirmed block, of a header and of a whole packet
+pub record ChecksAreMade : Type 0 where
+  pub block : (serial : ℕ) (octets : List ℕ) → IsCheck block_divisor 9 (block_message serial octets) (crc9_of serial octets)
+  pub header : (octets : List ℕ) → IsCheck header_divisor 16 (octet_bits octets) (crc16_of octets)
+  pub packet : (octets : List ℕ) → IsCheck packet_divisor 32 (octet_bits octets) (crc32_of octets)

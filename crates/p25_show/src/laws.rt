@@ -1,0 +1,88 @@
+//! What a call of `show` comes to, and what the readings are that its lines tell.
+
+ghost use Rattle.std.specs.Prelude.{◌≡◌, ℕ, Bool, true, List, [], ◌∷◌, codes, Some};
+ghost use Rattle.p25_io.specs.Events.{Event};
+ghost use Rattle.p25_io.specs.Faults.{Rose};
+ghost use Rattle.p25_io.specs.Streams.{StreamsGo, reader_in, writer_in};
+ghost use Rattle.p25_io.specs.declared.streams.Streams.{Streams};
+ghost use Rattle.p25_filter.specs.Traces.{HasReadFault, HasWriteFault};
+ghost use Rattle.p25_trellis.specs.Nearest.{half_octets, three_quarter_octets};
+ghost use Rattle.p25_trellis.specs.Tables.{half_point, three_quarter_point};
+ghost use Rattle.p25_status.specs.Sync.{has_sync};
+ghost use Rattle.p25_unit_front.specs.Front.{identifier_of};
+ghost use Rattle.p25_units.specs.Needs.{need_of};
+ghost use Rattle.p25_tool.specs.CallClauses.{CallSays};
+ghost use Rattle.p25_tool.specs.CallRuns.{IsCallRun};
+ghost use Rattle.p25_tool.specs.Words.{command_of};
+ghost use Rattle.p25_tool.specs.declared.command.Command.{Command};
+ghost use Rattle.p25_tool.specs.declared.outcome.Outcome.{Outcome};
+ghost use Rattle.p25_show.specs.Calls.{ShowSays};
+ghost use Rattle.p25_show.specs.Needs.{need_at};
+ghost use Rattle.p25_show.specs.Readings.{BlocksAreRead, ChecksAreMade, CodesAreRead, IsNearestBlock, IsUnitRead, identifier_read};
+
+use p25_io::{Sink, Source};
+use p25_tool::laws::stream_laws;
+use p25_trellis::laws::nearest_laws;
+use p25_trellis::{Half, ThreeQuarter};
+use std::io::{Read, Write};
+
+/// **Theorem.** What a call of `show` comes to, where the source tells what it held and the sink what it holds. It follows from what
+/// `run` says of each call.
+///
+/// - `named`: the word `show` alone names this command.
+/// - `says`: what was taken and written, how the call ended and why.
+pub fn show_laws<S: Source, K: Sink>()
+    ensures named { command_of (codes "show" ∷ []) ≡ Some Command.Show }
+    ensures says { (words : List (List ℕ)) (input before : List ℕ) (source source_now : S) (sink sink_now : K) (outcome : Outcome)
+        → command_of words ≡ Some Command.Show → S.left source ≡ Some input → K.written sink ≡ Some before
+        → CallSays (command_of words) (S.left source) (S.left source_now) (K.written sink) (K.written sink_now)
+        (Rose (S.faults source) (S.faults source_now)) (Rose (K.faults sink) (K.faults sink_now)) (source_now ≡ source) (sink_now ≡ sink) outcome
+        → ShowSays input before (S.left source_now) (K.written sink_now) (Rose (S.faults source) (S.faults source_now))
+        (Rose (K.faults sink) (K.faults sink_now)) (sink_now ≡ sink) outcome }
+{}
+
+/// **Theorem.** So a call of `show` on streams comes to, as the program makes it, where the reader tells what is left in it and the writer
+/// what it holds: the program's own call says these events.
+pub fn show_stream_laws<R: Read, W: Write>()
+    ensures says { (words : List (List ℕ)) (events : List Event) (outcome : Outcome) (first last : Streams R W) (input before : List ℕ)
+        → StreamsGo R.remaining W.contents first events last → IsCallRun (command_of words) events outcome → command_of words ≡ Some Command.Show
+        → R.remaining (reader_in first) ≡ Some input → W.contents (writer_in first) ≡ Some before
+        → ShowSays input before (R.remaining (reader_in last)) (W.contents (writer_in last)) (HasReadFault events) (HasWriteFault events)
+        (W.contents (writer_in last) ≡ Some before) outcome }
+{
+    stream_laws::<R, W>()
+}
+
+/// **Theorem.** What the readings are that the lines of `show` tell.
+///
+/// - `needs`: what is needed at a sync.
+/// - `identifier`: the identifier of a unit's bits.
+/// - `units`: the item of the bits of a unit whose identifier is read.
+/// - `codes`: each code reads what was received as the word of its set within the radius, or as none where there is none.
+/// - `blocks`: a block of a packet reads as what the first of its nearest paths carries.
+/// - `checks`: the checks of packets are the inverted remainders of their messages.
+pub fn reading_laws()
+    ensures needs { (bits : List Bool) → has_sync bits ≡ true → need_of bits ≡ need_at bits }
+    ensures identifier { (sent : List Bool) → identifier_of sent ≡ identifier_read sent }
+    ensures units { (place : ℕ) (sent : List Bool) (nac duid : ℕ) → identifier_of sent ≡ Some (nac, duid) → IsUnitRead place sent nac duid }
+    ensures codes { CodesAreRead }
+    ensures blocks { BlocksAreRead }
+    ensures checks { ChecksAreMade }
+{
+    half_blocks();
+    three_quarter_blocks();
+}
+
+// What a block reads as at half rate.
+fn half_blocks()
+    ensures read { (received : List Bool) → IsNearestBlock 4 2 half_point received (half_octets received) }
+{
+    nearest_laws::<Half>()
+}
+
+// What a block reads as at three-quarter rate.
+fn three_quarter_blocks()
+    ensures read { (received : List Bool) → IsNearestBlock 8 3 three_quarter_point received (three_quarter_octets received) }
+{
+    nearest_laws::<ThreeQuarter>()
+}
