@@ -21,3 +21,8 @@ pub mod StretchesLaws
 pub mod CompleteLaws
 pub mod RepairLaws
 pub mod RepairedLaws
+pub mod FitLaws
+pub mod RelaySteps
+pub mod BehindLaws
+pub mod RelayedLaws
+pub mod RelayedPlacesLaws

@@ -9,3 +9,5 @@ pub mod StretchLaws
 pub mod FollowedUnits
 pub mod RecordingLaws
 pub mod Repaired
+pub mod Relayed
+pub mod RelayLaws

@@ -85,8 +85,8 @@ impl Follower {
     }
 }
 
-// Whether an item belongs to a stretch: no unit is there.
-fn is_rest(item: &Item) -> bool
+/// Answers whether an item belongs to a stretch: no unit is there, nor a sync with too few bits after it.
+pub fn is_rest(item: &Item) -> bool
     ensures { result ≡ is_rest item.now }
 {
     match item {

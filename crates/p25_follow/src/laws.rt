@@ -1,7 +1,8 @@
-//! The laws of what follows. The body is empty: the function states what is proved.
+//! The laws of what follows, and of what is forwarded. The bodies are empty: each function states what is proved.
 
 ghost use Rattle.p25_follow.specs.FollowLaws.{ChainsUnfold, FollowerWrites, FrontAlone, LengthIsKept, NameStays, NearIsWritten, NoStretchNoChange, SettledStays, StepIsThere, StepLooksAtFew, WrittenIsFound};
 ghost use Rattle.p25_follow.specs.RecordingLaws.{CompleteInStretches, FrontBitsAlone, NeverWorse, RepairBefore, SecondChangesNothing, StretchByStretch};
+ghost use Rattle.p25_follow.specs.RelayLaws.{ItemsFit, RelayKeepsLength, RelayKeepsUnits, RelayedIsFound, RelaysInPlace};
 ghost use Rattle.p25_follow.specs.StretchLaws.{PlaceLooksAtFew, SameUnitsAfter};
 
 /// **Theorem.** What is written of a recording, over all bits.
@@ -50,4 +51,21 @@ pub fn follow_laws()
     ensures repair { RepairBefore }
     ensures settled { SettledStays }
     ensures follower { FollowerWrites }
+{}
+
+/// **Theorem.** What is forwarded of a recording in its place, over all bits.
+///
+/// - `fits`: each item of a scan has as many bits as its kind needs, so that `relay_item` may be called on it.
+/// - `length`: as many bits as are there.
+/// - `places`: in the place of each item stands what is forwarded of it, so all bits of a stretch stay.
+/// - `found`: in what is forwarded of a unit the scan finds it again, whatever bits follow: with its kind, under the network access code,
+///   where it was whole with its words and no fixes, and where it was broken with the same failing fields.
+/// - `units`: each unit is found again in what is forwarded of the recording, at its place, unless a unit that begins before it there
+///   covers its first bit.
+pub fn relay_laws()
+    ensures fits { ItemsFit }
+    ensures length { RelayKeepsLength }
+    ensures places { RelaysInPlace }
+    ensures found { RelayedIsFound }
+    ensures units { RelayKeepsUnits }
 {}

@@ -1,4 +1,4 @@
-//! Units found by rhythm, where the scan finds no sync.
+//! Units found by rhythm, where the scan finds no sync; and recordings forwarded in place.
 //!
 //! Units lie end to end, so after a unit it is known where the next one begins and which kinds may come: after a header (HDU) an LDU1,
 //! after an LDU1 an LDU2, after an LDU2 an LDU1, after a terminator with link control (TDULC) a header, and after each of them a
@@ -32,16 +32,22 @@
 //! The first bit of a list is the first that is sent. Contracts see a stretch, bits between units in which the scan finds none, as
 //! what is written of it: `chain_of`. `follow_of` is what is written of a whole recording. `follow_laws` says what is true of it, and
 //! that a follower writes it, however the items come.
+//!
+//! `relay_item` makes of the bits of an item those that are forwarded in their place, under another network access code (NAC) and with
+//! one status symbol everywhere: a whole unit as it was sent, a broken one with its front written, and all else as it came. `relay_of`
+//! is what is forwarded of a whole recording.
 #![tactic(auto)]
 
 mod chain;
 mod expected;
 mod follower;
 pub mod laws;
+mod relay;
 mod steps;
 #[cfg(test)]
 mod tests;
 mod told;
 
-pub use follower::Follower;
+pub use follower::{Follower, is_rest};
 pub use p25_units::Item;
+pub use relay::relay_item;

@@ -1,6 +1,7 @@
 pub mod OctetsLaws
 pub mod ReportsLaws
 pub mod CallReportsLaws
+pub mod FollowedLaws
 pub mod RecordingsLaws
 pub mod SoftLevelsLaws
 pub mod SoftItemLaws

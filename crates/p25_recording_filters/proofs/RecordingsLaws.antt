@@ -9,6 +9,8 @@ use Rattle.p25_stream.specs.Items.{items_by, items_in}
 use Rattle.p25_stream.specs.ItemLaws.{GaveItems}
 use Rattle.p25_stream.specs.Scan.{Scan, Gave, given}
 use Rattle.p25_stream.proofs.ItemLaws.{item-covers}
+use Rattle.p25_follow.specs.Relayed.{IsFitItem}
+use Rattle.p25_follow.proofs.FitLaws.{items-fit}
 use Rattle.p25_filter.specs.Futures.{IsClosed, IsIdle, NextPiece, Progress}
 use Rattle.p25_filter.proofs.LinesLaws.{Contains-none}
 use Rattle.p25_recording_filters.specs.declared.recording.Phase.{Phase}
@@ -22,6 +24,10 @@ pub gave-place : (before now : Scan) (item : Item) (raw : List Bool) → Gave be
 gave-place before now item raw gave =
     let none : before.place + 0 ≡ before.place = omega arith in
     (item-covers before.finished before.place before.held [] item (given now) gave.items).1 ∙ none
+
+-- an item that was given has as many bits as a scan gives it
+pub gave-fits : (before now : Scan) (item : Item) (raw : List Bool) → Gave before item raw now → IsFitItem item
+gave-fits before now item raw gave = items-fit before.finished before.place before.held [] item (given now) gave.items
 
 -- the bits that an item covers are those with which it was given
 pub gave-bits : (before now : Scan) (item : Item) (raw : List Bool) → Gave before item raw now → Gave before item (take (covered item) before.held) now

@@ -1,5 +1,5 @@
 -- What the reports of the commands write of items, by induction on the items: the outputs that the commands are defined by.
-use Rattle.std.proofs.Common.{◌≡◌, ℕ, ◌+◌, ◌*◌, ◌/◌, ◌<◌, Bool, true, false, cond, List, [], ◌∷◌, ◌++◌, length, take, drop, refl, ap, ap₂, sym, ◌∙◌, arith, append_assoc, append-nil, length-drop}
+use Rattle.std.proofs.Common.{◌≡◌, ℕ, ◌+◌, ◌*◌, ◌/◌, ◌<◌, Bool, true, false, cond, List, [], ◌∷◌, ◌++◌, length, take, drop, refl, ap, ap₂, sym, ◌∙◌, arith, append_assoc, append-nil, length-drop, None}
 use Rattle.std.specs.List.{flat_map}
 use Rattle.p25_units.specs.declared.item.Item.{Item}
 use Rattle.p25_units.specs.Items.{covered}
@@ -8,7 +8,10 @@ use Rattle.p25_recording_filters.specs.declared.reports.show.Show.{Show}
 use Rattle.p25_recording_filters.specs.declared.reports.check.Check.{Check}
 use Rattle.p25_units.specs.Units.{whole_octets}
 use Rattle.p25_recording_filters.specs.ItemOutputs.{changed_bits, check_line, faults_in, faulty, shown, units_in}
-use Rattle.p25_recording_filters.specs.Commands.{ChangedParts, change_of, changed_reporting, check_reporting, show_reporting, unfilled}
+use Rattle.p25_follow.specs.Followed.{followed_by}
+use Rattle.p25_follow.specs.Following.{Follow, IsFollow, behind_item, fresh_follow, written_before, written_by, written_end, written_item}
+use Rattle.p25_follow.proofs.FollowingLaws.{written-follows}
+use Rattle.p25_recording_filters.specs.Commands.{ChangedParts, FollowedParts, change_of, changed_reporting, check_reporting, followed_item, followed_reporting, show_reporting, unfilled}
 use Rattle.p25_recording_filters.specs.Reports.{Reporting, report_behind, reported}
 use Rattle.p25_recording_filters.proofs.OctetsLaws.{whole_octets-append, whole_octets-few}
 
@@ -86,3 +89,50 @@ reported-changed ended report (item ∷ items) bits few =
     ∙ ap (λ (zs : List ℕ). whole_octets all ++ zs) (reported-changed ended next items rest few_left)
     ∙ whole_octets-append all (changed_bits (change_of report.change) items rest)
     ∙ ap whole_octets (append_assoc report.kept (change_of report.change item raw) (changed_bits (change_of report.change) items rest))
+
+-- what a follower writes of items, one after the other
+written-nil : (ended : Bool) (kept : Follow) (bits : List Bool) → written_by ended kept [] bits ≡ cond ended (written_end kept) []
+unfolding written_by
+written-nil ended kept bits = refl
+
+written-cons : (ended : Bool) (kept : Follow) (item : Item) (items : List Item) (bits : List Bool)
+    → written_by ended kept (item ∷ items) bits
+    ≡ followed_item kept item (take (covered item) bits) ++ written_by ended (behind_item kept item (take (covered item) bits)) items (drop (covered item) bits)
+unfolding written_by
+written-cons ended kept item items bits =
+    let raw = take (covered item) bits in
+    sym (append_assoc (written_before kept item raw) (written_item item raw) (written_by ended (behind_item kept item raw) items (drop (covered item) bits)))
+
+-- the octets that what is left at the end fills
+closing-followed : (ended : Bool) (kept left : List Bool) → length kept < 8 → cond ended (whole_octets (kept ++ left)) [] ≡ whole_octets (kept ++ cond ended left [])
+closing-followed true kept left few = refl
+closing-followed false kept left few = sym (whole_octets-few kept few) ∙ ap whole_octets (sym (append-nil kept))
+
+-- the octets that the bits with the fronts written fill
+reported-written : (ended : Bool) (report : FollowedParts) (items : List Item) (bits : List Bool) → length report.kept < 8
+    → reported followed_reporting ended report items bits ≡ whole_octets (report.kept ++ written_by ended report.follower items bits)
+reported-written ended report [] bits few =
+    reported-nil followed_reporting ended report bits
+    ∙ closing-followed ended report.kept (written_end report.follower) few
+    ∙ ap (λ (zs : List Bool). whole_octets (report.kept ++ zs)) (sym (written-nil ended report.follower bits))
+reported-written ended report (item ∷ items) bits few =
+    let raw = take (covered item) bits in
+    let rest = drop (covered item) bits in
+    let all = report.kept ++ followed_item report.follower item raw in
+    let next : FollowedParts = record { follower = behind_item report.follower item raw; kept = unfilled all } in
+    let few_left : length next.kept < 8 = omega (arith, length-drop (8 * (length all / 8)) all) in
+    reported-cons followed_reporting ended report item items bits
+    ∙ ap (λ (zs : List ℕ). whole_octets all ++ zs) (reported-written ended next items rest few_left)
+    ∙ whole_octets-append all (written_by ended next.follower items rest)
+    ∙ ap whole_octets
+    (append_assoc report.kept (followed_item report.follower item raw) (written_by ended next.follower items rest)
+    ∙ ap (λ (zs : List Bool). report.kept ++ zs) (sym (written-cons ended report.follower item items bits)))
+
+fresh-follows : IsFollow fresh_follow
+fresh-follows = record { few = omega arith; none = λ is. refl }
+
+pub reported-followed : (ended : Bool) (items : List Item) (bits : List Bool)
+    → reported followed_reporting ended (record { follower = fresh_follow; kept = [] }) items bits ≡ whole_octets (followed_by ended None [] items bits)
+reported-followed ended items bits =
+    reported-written ended (record { follower = fresh_follow; kept = [] }) items bits (omega arith)
+    ∙ ap whole_octets (written-follows ended fresh_follow items bits fresh-follows)

@@ -2,10 +2,12 @@
 use Rattle.std.specs.Prelude.{◌^◌, ◌+◌, ◌*◌, ◌/◌, ◌<◌, Bool, if◌then◌else◌, ◌≤◌, ℕ, List, [], ◌++◌, length, drop, flat_map, option_to_list}
 use Rattle.p25_units.specs.declared.item.Item.{Item}
 use Rattle.p25_stream.specs.Repeats.{bridged, is_whole_item, repaired}
+use Rattle.p25_follow.specs.Following.{Follow, behind_item as follow_behind, written_before, written_end, written_item}
+use Rattle.p25_follow.specs.Relayed.{relayed}
 use Rattle.p25_filter.specs.declared.ending.Ending.TheVariants.{Done}
 use Rattle.p25_recording_filters.specs.declared.reports.show.Show.{Show}
 use Rattle.p25_recording_filters.specs.declared.reports.changed.Change.{Change}
-use Rattle.p25_recording_filters.specs.declared.reports.changed.Change.TheVariants.{Repaired, Bridged}
+use Rattle.p25_recording_filters.specs.declared.reports.changed.Change.TheVariants.{Repaired, Bridged, Relayed}
 use Rattle.p25_calls.specs.Taking.{CallerParts, HasSoundPending, answer_to, behind_item, open_call}
 use Rattle.p25_units.specs.Units.{whole_octets}
 use Rattle.p25_recording_filters.specs.ItemOutputs.{shown, faulty, call_line, calls_line, check_line, check_ending}
@@ -41,11 +43,13 @@ pub record ChangedParts : Type 0 where
 abbrev pub change_of : Change → Item → List Bool → List Bool
 change_of Repaired item raw = repaired item raw
 change_of (Bridged nac status) item raw = bridged nac status item []
+change_of (Relayed nac status) item raw = relayed nac status item raw
 
 -- the network access code (NAC) of a change is one
 abbrev pub IsSoundChange : Change → Type 0
 IsSoundChange Repaired = Unit {0}
 IsSoundChange (Bridged nac status) = nac < 4096
+IsSoundChange (Relayed nac status) = nac < 4096
 
 -- the last bits, which do not fill an octet
 abbrev pub unfilled : List Bool → List Bool
@@ -56,6 +60,27 @@ changed_reporting = record {
   piece = λ report item raw. whole_octets (report.kept ++ change_of report.change item raw);
   behind = λ report item raw. record report { kept = unfilled (report.kept ++ change_of report.change item raw) };
   closing = λ report. [];
+  ending = λ report. Done;
+}
+
+-- a follower, and the bits that are kept back
+pub record FollowedParts : Type 0 where
+  pub follower : Follow
+  pub kept : List Bool
+
+-- the bits that `follow` writes as an item comes: those before its own, and its own
+abbrev pub followed_item : Follow → Item → List Bool → List Bool
+followed_item follower item raw = written_before follower item raw ++ written_item item raw
+
+-- what `follow` reports: the bits with the fronts written, and at the end those that are left
+abbrev pub followed_reporting : Reporting FollowedParts
+followed_reporting = record {
+  piece = λ report item raw. whole_octets (report.kept ++ followed_item report.follower item raw);
+  behind = λ report item raw. record {
+    follower = follow_behind report.follower item raw;
+    kept = unfilled (report.kept ++ followed_item report.follower item raw);
+  };
+  closing = λ report. whole_octets (report.kept ++ written_end report.follower);
   ending = λ report. Done;
 }
 

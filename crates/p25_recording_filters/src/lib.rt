@@ -1,5 +1,5 @@
-//! The commands that read recordings, as filters: what `show`, `check`, `repair`, `bridge`, `calls` and `soft` write of the items
-//! of the octets that are pushed to them.
+//! The commands that read recordings, as filters: what `show`, `check`, `repair`, `bridge`, `relay`, `follow`, `calls` and `soft`
+//! write of the items of the octets that are pushed to them.
 //!
 //! A recording is a list of bits, each octet's most significant bit first; one of levels has an octet for each two bits. A
 //! `Report` says what is written of each item, and at the end; `Recording` is the filter that scans the octets for it, and
@@ -26,5 +26,5 @@ mod soft;
 
 pub use recording::Recording;
 pub use report::Report;
-pub use reports::{Calls, Change, Changed, Check, Show};
+pub use reports::{Calls, Change, Changed, Check, Followed, Show};
 pub use soft::Soft;

@@ -1,7 +1,8 @@
 //! What a command writes of the items of a recording.
 
-ghost use Rattle.std.specs.Prelude.{◌≡◌, ℕ, ◌+◌, ◌^◌, ◌<◌, ◌≤◌, Bool, false};
+ghost use Rattle.std.specs.Prelude.{◌≡◌, ℕ, ◌+◌, ◌^◌, ◌<◌, ◌≤◌, Bool, false, true, length};
 ghost use Rattle.p25_units.specs.Items.{IsSoundItem, covered, place_of};
+ghost use Rattle.p25_follow.specs.Relayed.{IsFitItem};
 ghost use Rattle.p25_recording_filters.specs.Reports.{IgnoresBits, Reporting};
 
 use p25_bits::BitBuf;
@@ -25,9 +26,12 @@ pub trait Report {
     /// It has taken the items of a recording that end at a place.
     ghost HasReached: { Self → ℕ → Type 0 } = { λ _ _. Unit {0} };
 
-    /// Sets `out` to what is written of an item and the bits that it covers, and changes these.
+    /// Sets `out` to what is written of an item and the bits that it covers, and changes these. Where it looks at the bits, they are
+    /// exactly as many as the item covers.
     fn put(&mut self, item: &Item, raw: &mut BitBuf, out: &mut Line)
         requires sound { IsSoundItem item.now }
+        requires fits { IsFitItem item.now }
+        requires raw { LOOKS_AT_BITS ≡ true → length raw.old ≡ covered item.now }
         requires few { counted self.old < 2 ^ 29 }
         requires reached { HasReached self.old (place_of item.now) }
         requires below { place_of item.now < 2 ^ 29 }

@@ -3,10 +3,12 @@
 mod calls;
 mod changed;
 mod check;
+mod followed;
 mod show;
 
 pub use calls::Calls;
 pub(crate) use changed::put_behind;
 pub use changed::{Change, Changed, put_octets};
 pub use check::Check;
+pub use followed::Followed;
 pub use show::Show;

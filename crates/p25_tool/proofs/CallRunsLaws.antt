@@ -242,7 +242,9 @@ module _ {S K : Type 0} (left : S → Option (List ℕ)) (source_faults : S → 
   call-recorded words call command arrivals input same units told recorded few no_read no_write =
       let run = named-run (command_of words) command events outcome same call in
       units-run arrivals input recorded command (left source) (left source_now) (written sink) (written sink_now)
-      (λ nac status is. command-fit nac status words (same ∙ ap (λ (c : Command). Some c) is)) units few told run.end outcome run.outcome_is
+      (λ nac status.
+      let fit = command-fit nac status words in
+      ((λ is. fit.0 (same ∙ ap (λ (c : Command). Some c) is)), (λ is. fit.1 (same ∙ ap (λ (c : Command). Some c) is)))) units few told run.end outcome run.outcome_is
       (command-filtered command run) (command-complete command run input told no_read no_write)
 
   -- all of these

@@ -5,18 +5,19 @@ use Rattle.p25_bits.specs.Bits.{octet_bits}
 use Rattle.p25_status.specs.declared.symbols.Status.{Status}
 use Rattle.p25_stream.specs.Items.{items_by}
 use Rattle.p25_filter.proofs.SameLaws.{AreAlike}
-use Rattle.p25_tool.specs.declared.command.Command.TheVariants.{Show as ShowIt, Check as CheckIt, Repair as RepairIt, Bridge as BridgeIt, Calls as CallsIt, Soft as SoftIt}
+use Rattle.p25_tool.specs.declared.command.Command.TheVariants.{Show as ShowIt, Check as CheckIt, Repair as RepairIt, Bridge as BridgeIt, Relay as RelayIt, Follow as FollowIt, Calls as CallsIt, Soft as SoftIt}
 use Rattle.p25_recording_filters.specs.declared.reports.show.Show.{Show}
 use Rattle.p25_recording_filters.specs.declared.reports.check.Check.{Check}
-use Rattle.p25_recording_filters.specs.declared.reports.changed.Change.TheVariants.{Repaired, Bridged}
-use Rattle.p25_recording_filters.specs.Commands.{changed_reporting, check_reporting, show_reporting, CallsParts, calls_reporting}
+use Rattle.p25_recording_filters.specs.declared.reports.changed.Change.TheVariants.{Repaired, Bridged, Relayed}
+use Rattle.p25_recording_filters.specs.Commands.{changed_reporting, check_reporting, followed_reporting, show_reporting, CallsParts, FollowedParts, calls_reporting}
 use Rattle.p25_tool.specs.Outputs.{command_future, ending_by}
 use Rattle.p25_recording_filters.specs.ItemOutputs.{check_ending, check_line, faults_in, faulty, units_in, soft_output}
 use Rattle.p25_calls.specs.Taking.{fresh_caller}
+use Rattle.p25_follow.specs.Following.{fresh_follow}
 use Rattle.p25_recording_filters.specs.Softs.{fresh_soft, soft_future}
 use Rattle.p25_recording_filters.specs.Recordings.{fresh, recording_future}
 use Rattle.p25_recording_filters.proofs.CallReportsLaws.{reported-calls}
-use Rattle.p25_recording_filters.proofs.ReportsLaws.{behind-check, reported-changed, reported-check, reported-show}
+use Rattle.p25_recording_filters.proofs.ReportsLaws.{behind-check, reported-changed, reported-check, reported-followed, reported-show}
 
 pub show-alike : (report : Show) → AreAlike (recording_future show_reporting (fresh report)) (command_future ShowIt)
 unfolding recording_future
@@ -57,6 +58,22 @@ pub bridge-alike : (nac : ℕ) (status : Status) → AreAlike (recording_future 
 unfolding recording_future
 bridge-alike nac status = record {
   writes = λ is octets. reported-changed is (record { change = Bridged nac status; kept = [] }) (items_by is 0 (octet_bits octets)) (octet_bits octets) (omega arith);
+  ends = λ is octets. refl;
+  pauses = λ is octets. refl;
+}
+
+pub relay-alike : (nac : ℕ) (status : Status) → AreAlike (recording_future changed_reporting (fresh (record { change = Relayed nac status; kept = [] }))) (command_future (RelayIt nac status))
+unfolding recording_future
+relay-alike nac status = record {
+  writes = λ is octets. reported-changed is (record { change = Relayed nac status; kept = [] }) (items_by is 0 (octet_bits octets)) (octet_bits octets) (omega arith);
+  ends = λ is octets. refl;
+  pauses = λ is octets. refl;
+}
+
+pub follow-alike : AreAlike (recording_future followed_reporting (fresh (record { follower = fresh_follow; kept = [] }))) (command_future FollowIt)
+unfolding recording_future
+follow-alike = record {
+  writes = λ is octets. reported-followed is (items_by is 0 (octet_bits octets)) (octet_bits octets);
   ends = λ is octets. refl;
   pauses = λ is octets. refl;
 }

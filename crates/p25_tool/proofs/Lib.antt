@@ -9,5 +9,6 @@ pub mod RecordedLaws
 pub mod RecordedRunsLaws
 pub mod BuiltLaws
 pub mod FoundLaws
+pub mod WholeRecordingsLaws
 pub mod WrittenLaws
 pub mod StreamRunsLaws

@@ -1,9 +1,9 @@
 -- Recordings of units within radius: their items are known, so each command writes what it writes of whole units, by induction on the
 -- list of units. Images have 72 bits for each status symbol, so they fill whole octets.
-use Rattle.std.proofs.Common.{◌≡◌, ℕ, ◌+◌, ◌*◌, ◌/◌, ◌%◌, ◌<◌, Bool, true, false, List, [], ◌∷◌, ◌++◌, length, map, take, drop, replicate, refl, ap, ap₂, sym, ◌∙◌, arith, append-nil, length-append}
-use Rattle.std.specs.Prelude.{All, Some}
+use Rattle.std.proofs.Common.{◌≡◌, ℕ, ◌+◌, ◌*◌, ◌/◌, ◌%◌, ◌<◌, Bool, true, false, List, [], ◌∷◌, ◌++◌, length, map, take, drop, replicate, refl, ap, ap₂, sym, subst, ◌∙◌, arith, append-nil, length-append}
+use Rattle.std.specs.Prelude.{All, Option, Some, None}
 use Rattle.std.specs.List.{flat_map}
-use Rattle.std.proofs.lemmas.List.{drop-append-le, drop_all, length-replicate, take_all}
+use Rattle.std.proofs.lemmas.List.{drop-append-le, drop_all, length-replicate, take-append-le, take_all}
 use Rattle.std.proofs.lemmas.List.Elements.{All-head, All-map, All-tail, All-weaker}
 use Rattle.std.proofs.lemmas.List.Folds.{flat_map-map}
 use Rattle.p25_bits.specs.Bits.{octet_bits}
@@ -21,8 +21,12 @@ use Rattle.p25_stream.specs.Items.{items_by}
 use Rattle.p25_stream.specs.Repeats.{bridged, bridged_frame, repaired}
 use Rattle.p25_stream.proofs.ArrivalLaws.{covered-whole_of, frame_arrived-sound, units-whole, wholes_of-cons, wholes_of-nil}
 use Rattle.p25_stream.proofs.ItemsLaws.{items_by-nil}
+use Rattle.p25_follow.specs.Followed.{followed_by, unit_name}
+use Rattle.p25_follow.specs.Relayed.{relayed}
+use Rattle.p25_follow.proofs.ChainLaws.{chain_by-nil}
+use Rattle.p25_follow.proofs.FollowingLaws.{followed-end, followed-unit}
 use Rattle.p25_recording_filters.specs.ItemOutputs.{changed_bits, check_ending, check_line, faults_in, faulty, shown, units_in}
-use Rattle.p25_tool.specs.Recorded.{AreOctetsOf, BridgesUnits, ChecksUnits, IsRecording, RepairedIsRecorded, RepairsUnits, ShowsUnits, UnitsAreRecorded, undamaged}
+use Rattle.p25_tool.specs.Recorded.{AreOctetsOf, BridgesUnits, ChecksUnits, FollowsUnits, IsRecording, RelaysItself, RelaysUnits, images_bridged, RepairedIsRecorded, RepairsUnits, ShowsUnits, UnitsAreRecorded, undamaged}
 
 -- bits that fill whole octets are those of the octets
 pub octet_bits-whole : (bits : List Bool) → length bits % 8 ≡ 0 → octet_bits (whole_octets bits) ≡ bits
@@ -147,6 +151,59 @@ pub bridges-units : BridgesUnits
 bridges-units ended nac status arrivals octets fits is =
     changed-recording (λ item raw. bridged nac status item []) (λ frame. image_of (bridged_frame nac status frame)) (λ place frame fixes raw. refl) ended arrivals octets is
     (λ arrival near. whole-bridged arrival near nac status fits)
+
+pub relays-units : RelaysUnits
+relays-units ended nac status arrivals octets fits is =
+    changed-recording (relayed nac status) (λ frame. image_of (bridged_frame nac status frame)) (λ place frame fixes raw. refl) ended arrivals octets is
+    (λ arrival near. whole-bridged arrival near nac status fits)
+
+-- units end to end have no stretch, so their bits come as they are
+followed-wholes : (ended : Bool) (before : Option (ℕ × ℕ)) (place : ℕ) (arrivals : List Arrival) → All IsNearArrival arrivals
+    → followed_by ended before [] (wholes_of place arrivals) (bits_arrived arrivals) ≡ bits_arrived arrivals
+followed-wholes ended before place [] near =
+    ap (λ (items : List Item). followed_by ended before [] items []) (wholes_of-nil place) ∙ followed-end ended before [] [] ∙ chain_by-nil ended before None
+followed-wholes ended before place (arrival ∷ arrivals) near =
+    let bits = arrival.bits in
+    let later = bits_arrived arrivals in
+    let unit = whole_of place arrival in
+    let items = wholes_of (place + length bits) arrivals in
+    let long = covered-whole_of place arrival (All-head IsNearArrival arrival arrivals near) in
+    let behind : drop (length bits) (bits ++ later) ≡ later
+    = drop-append-le (length bits) bits later (omega arith) ∙ ap (λ (left : List Bool). left ++ later) (drop_all (length bits) bits (omega arith)) in
+    let first : take (length bits) (bits ++ later) ≡ bits
+    = take-append-le (length bits) bits later (omega arith) ∙ take_all (length bits) bits (omega arith) in
+    ap (λ (all : List Item). followed_by ended before [] all (bits ++ later)) (wholes_of-cons place arrival arrivals)
+    ∙ followed-unit ended before [] unit items (bits ++ later) refl
+    ∙ ap (λ (zs : List Bool). zs ++ (take (covered unit) (bits ++ later) ++ followed_by ended (unit_name unit) [] items (drop (covered unit) (bits ++ later)))) (chain_by-nil true before (unit_name unit))
+    ∙ ap (λ (n : ℕ). take n (bits ++ later) ++ followed_by ended (unit_name unit) [] items (drop n (bits ++ later))) long
+    ∙ ap₂ (λ (raw left : List Bool). raw ++ followed_by ended (unit_name unit) [] items left) first behind
+    ∙ ap (λ (zs : List Bool). bits ++ zs) (followed-wholes ended (unit_name unit) (place + length bits) arrivals (All-tail IsNearArrival arrival arrivals near))
+
+-- what is written of them is what follows, whether the input has ended or not
+pub follows-arrived : (ended : Bool) (arrivals : List Arrival) (octets : List ℕ) → IsRecording arrivals octets
+    → AreOctetsOf (bits_arrived arrivals) (whole_octets (followed_by ended None [] (items_by ended 0 (octet_bits octets)) (octet_bits octets)))
+follows-arrived ended arrivals octets is =
+    let bits = bits_arrived arrivals in
+    let same : whole_octets (followed_by ended None [] (items_by ended 0 (octet_bits octets)) (octet_bits octets)) ≡ whole_octets bits
+    = ap whole_octets (ap₂ (followed_by ended None []) (items-recording ended arrivals octets is) is.bits ∙ followed-wholes ended None 0 arrivals is.near) in
+    record {
+      octets_are = same;
+      bits_are = ap octet_bits same ∙ octet_bits-whole bits (whole-each (λ (arrival : Arrival). arrival.bits) IsNearArrival whole-bits arrivals is.near);
+    }
+
+pub follows-units : FollowsUnits
+follows-units ended arrivals octets is =
+    let out = whole_octets (followed_by ended None [] (items_by ended 0 (octet_bits octets)) (octet_bits octets)) in
+    subst (λ (bits : List Bool). AreOctetsOf bits out) (sym is.bits) (follows-arrived ended arrivals octets is)
+
+pub relays-itself : RelaysItself
+relays-itself ended nac status arrivals octets fits is same =
+    let images : images_bridged nac status arrivals ≡ octet_bits octets
+    = flat_map-each (λ arrival. image_of (bridged_frame nac status (frame_arrived arrival))) (λ arrival. arrival.bits)
+    (λ arrival. image_of (bridged_frame nac status (frame_arrived arrival)) ≡ arrival.bits) (λ arrival e. e) arrivals same
+    ∙ sym is.bits in
+    let out = whole_octets (changed_bits (relayed nac status) (items_by ended 0 (octet_bits octets)) (octet_bits octets)) in
+    subst (λ (bits : List Bool). AreOctetsOf bits out) images (relays-units ended nac status arrivals octets fits is)
 
 pub repaired-recorded : RepairedIsRecorded
 repaired-recorded ended arrivals octets is =

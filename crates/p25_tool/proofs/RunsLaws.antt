@@ -13,7 +13,7 @@ use Rattle.p25_filter.specs.declared.ending.FilterEnd.TheVariants.{Ended, ReadFa
 use Rattle.p25_filter.proofs.LinesLaws.{Contains-none}
 use Rattle.p25_filter.proofs.RunsLaws.{ended-input, first-take, told-parts}
 use Rattle.p25_tool.specs.declared.command.Command.{Command}
-use Rattle.p25_tool.specs.declared.command.Command.TheVariants.{Show, Check, Repair, Bridge, Build, Calls, Soft, Stations, Duplex, Fragments, Sample}
+use Rattle.p25_tool.specs.declared.command.Command.TheVariants.{Show, Check, Repair, Bridge, Relay, Follow, Build, Calls, Soft, Stations, Duplex, Fragments, Sample}
 use Rattle.p25_tool.specs.declared.outcome.Outcome.{Outcome}
 use Rattle.p25_tool.specs.declared.outcome.Outcome.TheVariants.{TooLong, Memory}
 use Rattle.p25_tool.specs.Outcomes.{ending_outcome, filter_outcome}
@@ -91,6 +91,8 @@ wanting-command Show told left first last worked = Contains-none worked.meets.te
 wanting-command Check told left first last worked = Contains-none worked.meets.text worked.meets.pauses
 wanting-command Repair told left first last worked = Contains-none worked.meets.text worked.meets.pauses
 wanting-command (Bridge nac status) told left first last worked = Contains-none worked.meets.text worked.meets.pauses
+wanting-command (Relay nac status) told left first last worked = Contains-none worked.meets.text worked.meets.pauses
+wanting-command Follow told left first last worked = Contains-none worked.meets.text worked.meets.pauses
 wanting-command (Build status) told left first last worked = Contains-none worked.meets.text worked.meets.pauses
 wanting-command Stations told left first last worked = tt
 wanting-command Duplex told left first last worked = tt

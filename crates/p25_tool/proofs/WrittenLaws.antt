@@ -17,7 +17,7 @@ use Rattle.p25_filter.specs.declared.ending.Ending.TheVariants.{BadLine}
 use Rattle.p25_filter.specs.declared.ending.FilterEnd.{FilterEnd}
 use Rattle.p25_filter.specs.declared.ending.FilterEnd.TheVariants.{Ended, ReadFault, WriteFault, TooLong, Memory}
 use Rattle.p25_tool.specs.declared.command.Command.{Command}
-use Rattle.p25_tool.specs.declared.command.Command.TheVariants.{Show, Check, Repair, Bridge, Calls, Soft, Build, Stations, Fragments, Duplex, Sample}
+use Rattle.p25_tool.specs.declared.command.Command.TheVariants.{Show, Check, Repair, Bridge, Relay, Follow, Calls, Soft, Build, Stations, Fragments, Duplex, Sample}
 use Rattle.p25_duplex_script.specs.DuplexLines.{duplex_event_of}
 use Rattle.p25_tool.specs.Outcomes.{ending_outcome, filter_outcome}
 use Rattle.p25_tool.specs.Outputs.{command_future, ending_by, output_by}
@@ -50,6 +50,8 @@ before_end Show octets input ending is end = absurd (cc is)
 before_end Check octets input ending is end = absurd (cc is)
 before_end Repair octets input ending is end = absurd (cc is)
 before_end (Bridge nac status) octets input ending is end = absurd (cc is)
+before_end (Relay nac status) octets input ending is end = absurd (cc is)
+before_end Follow octets input ending is end = absurd (cc is)
 before_end Calls octets input ending is end = absurd (cc is)
 before_end Soft octets input ending is end = absurd (cc is)
 before_end (Build status) octets input ending is end = absurd (lines-go_on read_line_of (lines_in false [] octets) ending is end)

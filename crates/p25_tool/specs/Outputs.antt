@@ -7,6 +7,8 @@ use Rattle.p25_units.specs.Units.{image_octets, whole_octets}
 use Rattle.p25_units.specs.declared.item.Item.{Item}
 use Rattle.p25_stream.specs.Items.{items_by}
 use Rattle.p25_stream.specs.Repeats.{bridged, repaired}
+use Rattle.p25_follow.specs.Followed.{followed_by}
+use Rattle.p25_follow.specs.Relayed.{relayed}
 use Rattle.p25_text.specs.Grammar.{read_line_of}
 use Rattle.p25_calls.specs.Calls.{calls_by}
 use Rattle.p25_vectors.specs.Samples.{flips_of}
@@ -27,7 +29,7 @@ use Rattle.p25_duplex_script.specs.DuplexLines.{duplex_event_of}
 use Rattle.p25_filter.specs.Futures.{Future}
 use Rattle.p25_filter.specs.Lines.{lines_future}
 use Rattle.p25_tool.specs.declared.command.Command.{Command}
-use Rattle.p25_tool.specs.declared.command.Command.TheVariants.{Show, Check, Repair, Bridge, Build, Stations, Calls, Duplex, Fragments, Soft, Sample}
+use Rattle.p25_tool.specs.declared.command.Command.TheVariants.{Show, Check, Repair, Bridge, Relay, Follow, Build, Stations, Calls, Duplex, Fragments, Soft, Sample}
 use Rattle.p25_fragments.specs.LongState.{LongState, first_long}
 use Rattle.p25_fragments.specs.LongRuns.{long_run, long_steps_of}
 use Rattle.p25_fragment_script.specs.LongScript.{long_event_of}
@@ -75,6 +77,8 @@ command_future Check =
 command_future Repair = items_future (λ ended items bits. whole_octets (changed_bits repaired items bits)) (λ items. Done)
 command_future (Bridge nac status) =
     items_future (λ ended items bits. whole_octets (changed_bits (λ item raw. bridged nac status item []) items bits)) (λ items. Done)
+command_future (Relay nac status) = items_future (λ ended items bits. whole_octets (changed_bits (relayed nac status) items bits)) (λ items. Done)
+command_future Follow = items_future (λ ended items bits. whole_octets (followed_by ended None [] items bits)) (λ items. Done)
 command_future Calls =
     items_future (λ ended items bits.
     let calls = calls_by ended items in flat_map call_line calls ++ (if ended then calls_line (length calls) else [])) (λ items. Done)

@@ -9,8 +9,10 @@ use Rattle.p25_units.specs.declared.item.Item.{Item}
 use Rattle.p25_stream.specs.Arrivals.{Arrival, IsHidden, IsNearArrival, bits_arrived, frame_arrived, whole_of, wholes_of}
 use Rattle.p25_stream.specs.Items.{items_of}
 use Rattle.p25_stream.specs.Repeats.{bridged_frame}
+use Rattle.p25_follow.specs.Followed.{follow_of}
+use Rattle.p25_follow.specs.Relayed.{relay_of}
 use Rattle.p25_filter.specs.declared.ending.Ending.TheVariants.{Done}
-use Rattle.p25_tool.specs.declared.command.Command.TheVariants.{Show, Check, Repair, Bridge}
+use Rattle.p25_tool.specs.declared.command.Command.TheVariants.{Show, Check, Repair, Bridge, Relay, Follow}
 use Rattle.p25_tool.specs.Outputs.{ending_by, output_by}
 use Rattle.p25_recording_filters.specs.ItemOutputs.{check_line, shown}
 
@@ -73,6 +75,25 @@ BridgesUnits =
     (ended : Bool) (nac : ℕ) (status : Status) (arrivals : List Arrival) (octets : List ℕ) → nac < 4096 → IsRecording arrivals octets
     → AreOctetsOf (images_bridged nac status arrivals) (output_by (Bridge nac status) ended octets)
 
+-- `relay` writes the same
+abbrev pub RelaysUnits : Type 0
+RelaysUnits =
+    (ended : Bool) (nac : ℕ) (status : Status) (arrivals : List Arrival) (octets : List ℕ) → nac < 4096 → IsRecording arrivals octets
+    → AreOctetsOf (images_bridged nac status arrivals) (output_by (Relay nac status) ended octets)
+
+-- and, of units without damage that have its network access code (NAC) and its status symbol everywhere, the recording itself
+abbrev pub RelaysItself : Type 0
+RelaysItself =
+    (ended : Bool) (nac : ℕ) (status : Status) (arrivals : List Arrival) (octets : List ℕ) → nac < 4096 → IsRecording arrivals octets
+    → All (λ arrival. image_of (bridged_frame nac status (frame_arrived arrival)) ≡ arrival.bits) arrivals
+    → AreOctetsOf (octet_bits octets) (output_by (Relay nac status) ended octets)
+
+-- `follow` writes the recording as it came
+abbrev pub FollowsUnits : Type 0
+FollowsUnits =
+    (ended : Bool) (arrivals : List Arrival) (octets : List ℕ) → IsRecording arrivals octets
+    → AreOctetsOf (octet_bits octets) (output_by Follow ended octets)
+
 -- lines that `show` writes have that of an item among them
 pub record HasLine (item : Item) (octets : List ℕ) : Type 0 where
   pub before : List Item
@@ -98,3 +119,15 @@ RepairsEachUnit =
 -- what `repair` writes of any recording has as many octets
 abbrev pub RepairKeepsLength : Type 0
 RepairKeepsLength = (octets : List ℕ) → length (output_by Repair true octets) ≡ length octets
+
+-- what `follow` writes of any recording are the octets of what follows of its bits, as many as there are
+abbrev pub FollowsRecording : Type 0
+FollowsRecording =
+    (octets : List ℕ) → AreOctetsOf (follow_of (octet_bits octets)) (output_by Follow true octets) × (length (output_by Follow true octets) ≡ length octets)
+
+-- what `relay` writes of any recording are the octets of what is forwarded of its bits, as many as there are
+abbrev pub RelaysRecording : Type 0
+RelaysRecording =
+    (nac : ℕ) (status : Status) (octets : List ℕ) → nac < 4096
+    → AreOctetsOf (relay_of nac status (octet_bits octets)) (output_by (Relay nac status) true octets)
+    × (length (output_by (Relay nac status) true octets) ≡ length octets)

@@ -2,10 +2,10 @@
 use Rattle.std.specs.Prelude.{◌≡◌, ℕ, List, length, Option}
 use Rattle.std.specs.List.{flat_map}
 use Rattle.p25_io.specs.Octets.{Appended}
-use Rattle.p25_stream.specs.Arrivals.{Arrival, wholes_of}
+use Rattle.p25_stream.specs.Arrivals.{Arrival, bits_arrived, wholes_of}
 use Rattle.p25_recording_filters.specs.ItemOutputs.{check_line, shown}
 use Rattle.p25_tool.specs.declared.command.Command.{Command}
-use Rattle.p25_tool.specs.declared.command.Command.TheVariants.{Show, Check, Repair, Bridge}
+use Rattle.p25_tool.specs.declared.command.Command.TheVariants.{Show, Check, Repair, Bridge, Relay, Follow}
 use Rattle.p25_tool.specs.declared.outcome.Outcome.{Outcome}
 use Rattle.p25_tool.specs.declared.outcome.Outcome.TheVariants.{Done}
 use Rattle.p25_tool.specs.Recorded.{AreOctetsOf, images_arrived, images_bridged}
@@ -16,15 +16,20 @@ IsUnitCommand Show = Unit {0}
 IsUnitCommand Check = Unit {0}
 IsUnitCommand Repair = Unit {0}
 IsUnitCommand (Bridge nac status) = Unit {0}
+IsUnitCommand (Relay nac status) = Unit {0}
+IsUnitCommand Follow = Unit {0}
 IsUnitCommand command = ⊥
 
 -- what they write of a recording of units: a line for each, whole and as received; the line that counts them and no fault; their
--- images as received; and these under another network access code (NAC) and with one status symbol
+-- images as received; these under another network access code (NAC) and with one status symbol, of `bridge` and of `relay`; and of
+-- `follow` their bits as they came
 abbrev pub AreWrittenOf : Command → List Arrival → List ℕ → Type 0
 AreWrittenOf Show arrivals octets = octets ≡ flat_map shown (wholes_of 0 arrivals)
 AreWrittenOf Check arrivals octets = octets ≡ check_line (length arrivals) 0
 AreWrittenOf Repair arrivals octets = AreOctetsOf (images_arrived arrivals) octets
 AreWrittenOf (Bridge nac status) arrivals octets = AreOctetsOf (images_bridged nac status arrivals) octets
+AreWrittenOf (Relay nac status) arrivals octets = AreOctetsOf (images_bridged nac status arrivals) octets
+AreWrittenOf Follow arrivals octets = AreOctetsOf (bits_arrived arrivals) octets
 AreWrittenOf command arrivals octets = ⊥
 
 -- a recording of units was worked on to its end, and this was written

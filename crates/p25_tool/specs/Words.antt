@@ -6,7 +6,7 @@ use Rattle.p25_status.specs.declared.symbols.Status.{Status}
 use Rattle.p25_text.specs.Values.{nac_in}
 use Rattle.p25_line.specs.Values.{number_below}
 use Rattle.p25_tool.specs.declared.command.Command.{Command}
-use Rattle.p25_tool.specs.declared.command.Command.TheVariants.{Show, Check, Repair, Bridge, Build, Stations, Calls, Duplex, Fragments, Soft, Sample}
+use Rattle.p25_tool.specs.declared.command.Command.TheVariants.{Show, Check, Repair, Bridge, Relay, Follow, Build, Stations, Calls, Duplex, Fragments, Soft, Sample}
 
 -- the words after one more: its first 16 octets after the others, or nothing where four are held
 abbrev pub added : List (List ℕ) → List ℕ → List (List ℕ)
@@ -22,6 +22,7 @@ one_word_commands =
     (codes "show", Show)
     ∷ (codes "check", Check)
     ∷ (codes "repair", Repair)
+    ∷ (codes "follow", Follow)
     ∷ (codes "calls", Calls)
     ∷ (codes "soft", Soft)
     ∷ (codes "stations", Stations)
@@ -50,15 +51,22 @@ two_word_command word value =
     else if bytes_eq word (codes "sample") then sample_of (number_below 10001 value)
     else None
 
--- `bridge` with a network access code (NAC) and a status symbol, where they are both
-abbrev pub bridge_of : Option ℕ → Option Status → Option Command
-bridge_of None status = None
-bridge_of (Some nac) None = None
-bridge_of (Some nac) (Some status) = Some (Bridge nac status)
+-- the command that forwards under a network access code (NAC) with a status symbol
+abbrev pub forwarding_of : List ℕ → ℕ → Status → Option Command
+forwarding_of word nac status =
+    if bytes_eq word (codes "bridge") then Some (Bridge nac status)
+    else if bytes_eq word (codes "relay") then Some (Relay nac status)
+    else None
+
+-- it with a network access code (NAC) and a status symbol, where they are both
+abbrev pub forwarded : List ℕ → Option ℕ → Option Status → Option Command
+forwarded word None status = None
+forwarded word (Some nac) None = None
+forwarded word (Some nac) (Some status) = forwarding_of word nac status
 
 -- the command of three words
 abbrev pub three_word_command : List ℕ → List ℕ → List ℕ → Option Command
-three_word_command word nac status = if bytes_eq word (codes "bridge") then bridge_of (nac_in nac) (status_in status) else None
+three_word_command word nac status = forwarded word (nac_in nac) (status_in status)
 
 -- the command that words name, if one does
 abbrev pub command_of : List (List ℕ) → Option Command
@@ -74,6 +82,8 @@ IsSoundCommand Show = Unit {0}
 IsSoundCommand Check = Unit {0}
 IsSoundCommand Repair = Unit {0}
 IsSoundCommand (Bridge nac status) = nac < 4096
+IsSoundCommand (Relay nac status) = nac < 4096
+IsSoundCommand Follow = Unit {0}
 IsSoundCommand (Build status) = Unit {0}
 IsSoundCommand Stations = Unit {0}
 IsSoundCommand Calls = Unit {0}

@@ -11,6 +11,11 @@ pub enum Command {
     Repair,
     /// The whole units of a recording, under another network access code (NAC) and with this status symbol everywhere.
     Bridge { nac: u16, status: Status },
+    /// The recording, each of its units, whole or broken, in its place under another network access code (NAC) and with this status
+    /// symbol everywhere.
+    Relay { nac: u16, status: Status },
+    /// The recording, with the fronts of the units written that lie end to end after others.
+    Follow,
     /// The text of each call of a recording, one a line, and how many there are.
     Calls,
     /// The units that lines of text describe, with this status symbol everywhere.

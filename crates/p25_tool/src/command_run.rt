@@ -25,7 +25,9 @@ use super::stations::Stations;
 use super::words::Words;
 use p25_filter::{FilterEnd, LineFilter, LineMachine};
 use p25_io::{Pair, Port, Sink, Source, Tape};
-use p25_recording_filters::{Calls, Change, Changed, Check, Recording, Report, Show, Soft};
+use p25_recording_filters::{
+    Calls, Change, Changed, Check, Followed, Recording, Report, Show, Soft,
+};
 use std::alloc::Global;
 
 /// Does what the words say: reads the source to its end, at most 16,777,216 octets, and writes the answer to the sink.
@@ -42,8 +44,8 @@ use std::alloc::Global;
 /// is not enough the outcome is `Memory`, and the sink holds the steps before, without the closing line.
 ///
 /// Of a script whose lines are all read as events, the steps of its run and its closing lines are written, and where no step is
-/// a false pass each session is orderly. Of a recording of units within radius that is not too long, `show`, `check`, `repair`
-/// and `bridge` write what `recorded_laws` says.
+/// a false pass each session is orderly. Of a recording of units within radius that is not too long, `show`, `check`, `repair`,
+/// `bridge`, `relay` and `follow` write what `recorded_laws` says.
 pub fn run<S: Source, K: Sink>(
     alloc: Global,
     words: &Words,
@@ -115,6 +117,10 @@ fn run_command<P: Port>(alloc: Global, command: Command, port: &mut P) -> Filter
         Command::Bridge { nac, status } => {
             run_report(Changed::new(Change::Bridged { nac, status }), port)
         }
+        Command::Relay { nac, status } => {
+            run_report(Changed::new(Change::Relayed { nac, status }), port)
+        }
+        Command::Follow => run_report(Followed::new(), port),
         Command::Build { status } => run_lines(Build::new(status), port),
         Command::Stations => run_lines(Stations::new(alloc), port),
         Command::Calls => run_report(Calls::new(), port),

@@ -14,7 +14,7 @@ ghost use Rattle.p25_tool.specs.Outputs.{output_by};
 ghost use Rattle.p25_tool.specs.Words.{command_of};
 ghost use Rattle.p25_tool.specs.declared.outcome.Outcome.{Outcome};
 ghost use Rattle.p25_tool.specs.Built.{AcceptedAreRead, BuildsUnits, LinesAreTexts};
-ghost use Rattle.p25_tool.specs.Recorded.{BridgesUnits, ChecksUnits, RepairKeepsLength, RepairedIsRecorded, RepairsEachUnit, RepairsUnits, ShowsEachUnit, ShowsUnits, UnitsAreRecorded};
+ghost use Rattle.p25_tool.specs.Recorded.{BridgesUnits, ChecksUnits, FollowsRecording, FollowsUnits, RelaysItself, RelaysRecording, RelaysUnits, RepairKeepsLength, RepairedIsRecorded, RepairsEachUnit, RepairsUnits, ShowsEachUnit, ShowsUnits, UnitsAreRecorded};
 ghost use Rattle.p25_tool.specs.Written.{AllIsWritten, HasEnded};
 
 use p25_io::{Sink, Source};
@@ -64,6 +64,9 @@ pub fn written_laws()
 /// - `repair`: the images of the units as received, end to end.
 /// - `repaired`: these are a recording of the same units without damage; repairing it again changes nothing.
 /// - `bridge`: the images of the units as received under another network access code (NAC) and with one status symbol.
+/// - `relay`: the same.
+/// - `relay_same`: where these are the bits that came, the recording itself.
+/// - `follow`: the recording as it came.
 pub fn recorded_laws()
     ensures recorded { UnitsAreRecorded }
     ensures show { ShowsUnits }
@@ -71,6 +74,18 @@ pub fn recorded_laws()
     ensures repair { RepairsUnits }
     ensures repaired { RepairedIsRecorded }
     ensures bridge { BridgesUnits }
+    ensures relay { RelaysUnits }
+    ensures relay_same { RelaysItself }
+    ensures follow { FollowsUnits }
+{}
+
+/// **Theorem.** What `follow` and `relay` write of any recording. Of these bits the laws of p25_follow speak.
+///
+/// - `follow`: the octets of what follows of its bits, `follow_of`, as many as there are.
+/// - `relay`: the octets of what is forwarded of its bits, `relay_of`, as many as there are.
+pub fn recording_laws()
+    ensures follow { FollowsRecording }
+    ensures relay { RelaysRecording }
 {}
 
 /// **Theorem.** What is written of one unit within radius, wherever it stands in a recording and whatever

@@ -1,5 +1,5 @@
-ghost use Rattle.std.specs.Prelude.{◌≡◌, ℕ, ◌≤◌, List, [], length, option_map, take, IfSome};
-ghost use Rattle.p25_tool.specs.Words.{IsSoundCommand, one_word_command, sample_of, status_in, three_word_command, two_word_command};
+ghost use Rattle.std.specs.Prelude.{◌≡◌, ℕ, ◌<◌, ◌≤◌, List, [], length, option_map, take, IfSome};
+ghost use Rattle.p25_tool.specs.Words.{IsSoundCommand, forwarding_of, one_word_command, sample_of, status_in, three_word_command, two_word_command};
 ghost use Rattle.p25_line.specs.Values.{number_below};
 
 use super::command::Command;
@@ -125,6 +125,8 @@ fn one_word(word: &[u8]) -> Option<Command>
         Some(Command::Check)
     } else if word == b"repair".as_slice() {
         Some(Command::Repair)
+    } else if word == b"follow".as_slice() {
+        Some(Command::Follow)
     } else if word == b"calls".as_slice() {
         Some(Command::Calls)
     } else if word == b"soft".as_slice() {
@@ -189,12 +191,24 @@ fn three_words(word: &[u8], nac: &[u8], status: &[u8]) -> Option<Command>
     ensures command { result ≡ three_word_command word.now nac.now status.now }
     ensures sound { IfSome result IsSoundCommand }
 {
-    if word != b"bridge".as_slice() {
-        return None;
-    }
     match (nac_value(nac), status_value(status)) {
-        (Some(nac), Some(status)) => Some(Command::Bridge { nac, status }),
+        (Some(nac), Some(status)) => forwarding(word, nac, status),
         _ => None,
+    }
+}
+
+// The command that forwards under a network access code (NAC) with a status symbol.
+fn forwarding(word: &[u8], nac: u16, status: Status) -> Option<Command>
+    requires { nac < 4096 }
+    ensures command { result ≡ forwarding_of word.now nac status }
+    ensures sound { IfSome result IsSoundCommand }
+{
+    if word == b"bridge".as_slice() {
+        Some(Command::Bridge { nac, status })
+    } else if word == b"relay".as_slice() {
+        Some(Command::Relay { nac, status })
+    } else {
+        None
     }
 }
 

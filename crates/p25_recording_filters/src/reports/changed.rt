@@ -1,11 +1,13 @@
-ghost use Rattle.std.specs.Prelude.{◌≡◌, ◌<◌, ◌≤◌, ◌++◌, [], length, drop};
-ghost use Rattle.p25_units.specs.Items.{IsSoundItem};
+ghost use Rattle.std.specs.Prelude.{◌≡◌, ◌+◌, ◌-◌, ◌/◌, ◌<◌, ◌≤◌, ◌++◌, [], length, drop};
+ghost use Rattle.p25_units.specs.Items.{IsSoundItem, covered};
+ghost use Rattle.p25_follow.specs.Relayed.{IsFitItem};
 ghost use Rattle.p25_recording_filters.specs.Commands.{IsSoundChange, change_of, unfilled};
 ghost use Rattle.p25_units.specs.Units.{whole_octets};
 
 use crate::report::Report;
 use p25_bits::BitBuf;
 use p25_filter::Ending;
+use p25_follow::relay_item;
 use p25_line::Line;
 use p25_status::Status;
 use p25_stream::{bridge_item, repair_item_in};
@@ -19,6 +21,9 @@ pub enum Change {
     Repaired,
     /// The whole units alone, with another network access code (NAC) and one status symbol everywhere.
     Bridged { nac: u16, status: Status },
+    /// Each unit, whole or broken, in its place under another network access code (NAC) and with one status symbol everywhere, and all
+    /// other bits as they are.
+    Relayed { nac: u16, status: Status },
 }
 
 /// The bits of a recording, changed. At most seven bits that do not fill an octet are kept back.
@@ -90,6 +95,8 @@ impl Report for Changed {
 fn change_item(change: Change, item: &Item, room: &mut BitBuf, raw: &mut BitBuf)
     requires change { IsSoundChange change }
     requires item { IsSoundItem item.now }
+    requires fits { IsFitItem item.now }
+    requires raw { length raw.old ≡ covered item.now }
     ensures { raw.new ≡ change_of change item.now raw.old }
 {
     match change {
@@ -98,6 +105,7 @@ fn change_item(change: Change, item: &Item, room: &mut BitBuf, raw: &mut BitBuf)
             raw.clear();
             let _ = bridge_item(item, nac, status, raw);
         }
+        Change::Relayed { nac, status } => relay_item(item, nac, status, raw),
     }
 }
 
@@ -107,8 +115,21 @@ pub(crate) fn put_behind(kept: &mut BitBuf, bits: &BitBuf, out: &mut Line)
     ensures octets { out.new ≡ whole_octets (kept.old ++ bits.now) }
     ensures kept { kept.new ≡ unfilled (kept.old ++ bits.now) }
     ensures few { length kept.new < 8 }
+    ensures len { length out.new ≤ 3241 }
 {
     out.clear();
+    put_after(kept, bits, out);
+}
+
+// Appends the octets that kept bits and those after them fill, and keeps the bits that are left. There is room for 3,241 octets.
+pub(crate) fn put_after(kept: &mut BitBuf, bits: &BitBuf, out: &mut Line)
+    requires kept { length kept.old < 8 }
+    requires room { length out.old ≤ 4951 }
+    ensures octets { out.new ≡ out.old ++ whole_octets (kept.old ++ bits.now) }
+    ensures kept { kept.new ≡ unfilled (kept.old ++ bits.now) }
+    ensures few { length kept.new < 8 }
+    ensures len { length out.new ≤ length out.old + 3241 }
+{
     let missing = 8 - kept.len();
     if bits.len() < missing {
         kept.append(bits, 0, bits.len());
@@ -122,12 +143,12 @@ pub(crate) fn put_behind(kept: &mut BitBuf, bits: &BitBuf, out: &mut Line)
     kept.append(bits, bits.len() - rest, rest);
 }
 
-/// Appends the octets that the bits from a place on fill, the most significant bit first. At most one octet stands in `out`
-/// before.
+/// Appends the octets that the bits from a place on fill, the most significant bit first. There is room for them.
 pub fn put_octets(bits: &BitBuf, at: usize, out: &mut Line)
     requires there { at ≤ length bits.now }
-    requires room { length out.old ≤ 1 }
-    ensures { out.new ≡ out.old ++ whole_octets (drop at bits.now) }
+    requires room { length out.old + (length bits.now - at) / 8 ≤ 8192 }
+    ensures list { out.new ≡ out.old ++ whole_octets (drop at bits.now) }
+    ensures len { length out.new ≡ length out.old + (length bits.now - at) / 8 }
 {
     let words = (bits.len() - at) / 64;
     for k in 0..words {
@@ -136,11 +157,12 @@ pub fn put_octets(bits: &BitBuf, at: usize, out: &mut Line)
     put_last_octets(bits, at + 64 * words, out);
 }
 
-// Appends the octets that the bits from a place on fill, one after the other.
+// Appends the octets that the bits from a place on fill, one after the other. There is room for them.
 fn put_last_octets(bits: &BitBuf, at: usize, out: &mut Line)
     requires there { at ≤ length bits.now }
-    requires room { length out.old ≤ 4096 }
-    ensures { out.new ≡ out.old ++ whole_octets (drop at bits.now) }
+    requires room { length out.old + (length bits.now - at) / 8 ≤ 8192 }
+    ensures list { out.new ≡ out.old ++ whole_octets (drop at bits.now) }
+    ensures len { length out.new ≡ length out.old + (length bits.now - at) / 8 }
 {
     let count = (bits.len() - at) / 8;
     for k in 0..count {

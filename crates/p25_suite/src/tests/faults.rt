@@ -133,7 +133,7 @@ fn a_write_fault_comes_before_a_refused_line(rt: HostRuntime) {
 }
 
 // Words that name no command touch nothing.
-const NO_COMMANDS: [&[&[u8]]; 12] = [
+const NO_COMMANDS: [&[&[u8]]; 19] = [
     &[],
     &[b"show", b"show"],
     &[b"show", b"show", b"show", b"show", b"show"],
@@ -146,6 +146,13 @@ const NO_COMMANDS: [&[&[u8]]; 12] = [
     &[b"bridge", b"000"],
     &[b"bridge", b"00A", b"0"],
     &[b"bridge", b"0000", b"0"],
+    &[b"relay"],
+    &[b"relay", b"293"],
+    &[b"relay", b"1234", b"0"],
+    &[b"relay", b"12G", b"0"],
+    &[b"relay", b"293", b"4"],
+    &[b"forward", b"293", b"0"],
+    &[b"follow", b"1"],
 ];
 
 // Whether such words are refused, and no octet is read or written.

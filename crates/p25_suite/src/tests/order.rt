@@ -30,7 +30,7 @@ struct Row {
     tape: &'static [(u8, usize)],
 }
 
-const ROWS: [Row; 12] = [
+const ROWS: [Row; 14] = [
     Row {
         words: &[b"show"],
         input: RECORDING,
@@ -45,6 +45,40 @@ const ROWS: [Row; 12] = [
             (b'w', 68),
             (b'r', 16),
             (b'w', 49),
+            (b'r', 0),
+        ],
+    },
+    Row {
+        words: &[b"follow"],
+        input: RECORDING,
+        piece: 20,
+        failing_read: 0,
+        failing_write: 0,
+        outcome: Outcome::Done,
+        tape: &[
+            (b'r', 20),
+            (b'w', 18),
+            (b'r', 20),
+            (b'w', 20),
+            (b'r', 16),
+            (b'w', 18),
+            (b'r', 0),
+        ],
+    },
+    Row {
+        words: &[b"relay", b"123", b"0"],
+        input: RECORDING,
+        piece: 20,
+        failing_read: 0,
+        failing_write: 0,
+        outcome: Outcome::Done,
+        tape: &[
+            (b'r', 20),
+            (b'w', 18),
+            (b'r', 20),
+            (b'w', 20),
+            (b'r', 16),
+            (b'w', 18),
             (b'r', 0),
         ],
     },

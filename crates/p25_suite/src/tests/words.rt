@@ -7,7 +7,7 @@ use p25_tool::{Outcome, Words, outcome_status, outcome_text, run};
 use std::alloc::Global;
 
 // The words of a call on an empty input, and how it ends where the sink takes nothing.
-const CALLS: [(&[&[u8]], Outcome); 9] = [
+const CALLS: [(&[&[u8]], Outcome); 11] = [
     (&[b"show"], Outcome::Done),
     (&[b"check"], Outcome::WriteFault),
     (&[b"calls"], Outcome::WriteFault),
@@ -17,6 +17,8 @@ const CALLS: [(&[&[u8]], Outcome); 9] = [
     (&[b"build", b"2"], Outcome::Done),
     (&[b"sample", b"10000"], Outcome::WriteFault),
     (&[b"bridge", b"29a", b"2"], Outcome::Done),
+    (&[b"follow"], Outcome::Done),
+    (&[b"relay", b"29a", b"2"], Outcome::Done),
 ];
 
 fn ended(alloc: Global, words: &[&[u8]]) -> Outcome {
@@ -43,13 +45,14 @@ fn a_script_is_run(rt: HostRuntime) {
     assert_eq!(rt; outcome, Outcome::Done);
 }
 
-// The network access code (NAC) and the status symbol of a bridge are those of its words.
+// The network access code (NAC) and the status symbol of a bridge and of a relay are those of their words.
 #[test]
-fn words_of_a_bridge(rt: HostRuntime) {
+fn words_of_a_bridge_and_a_relay(rt: HostRuntime) {
     let (mut from, mut to) = ([0; 18], [0; 18]);
     assert!(rt; build(rt.alloc(), b"1", b"tdu nac=000", &mut from) == 18);
     assert!(rt; build(rt.alloc(), b"2", b"tdu nac=29a", &mut to) == 18);
     assert!(rt; writes(rt.alloc(), &[b"bridge", b"29a", b"2"], &from, &to));
+    assert!(rt; writes(rt.alloc(), &[b"relay", b"29a", b"2"], &from, &to));
 }
 
 // Each outcome, its line on standard error and its status.

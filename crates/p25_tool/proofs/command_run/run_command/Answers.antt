@@ -1,8 +1,8 @@
 use Rattle.std.proofs.Common.{◌≡◌, ◌∙◌, sym, subst}
 use Rattle.p25_filter.specs.Futures.{Future}
 use Rattle.p25_tool.specs.declared.command.Command.{Command}
-use Rattle.p25_tool.specs.declared.command.Command.TheVariants.{Show, Check, Repair, Bridge, Build, Stations, Calls, Duplex, Fragments, Soft, Sample}
-use Rattle.p25_recording_filters.specs.Commands.{ChangedParts, changed_reporting}
+use Rattle.p25_tool.specs.declared.command.Command.TheVariants.{Show, Check, Repair, Bridge, Relay, Follow, Build, Stations, Calls, Duplex, Fragments, Soft, Sample}
+use Rattle.p25_recording_filters.specs.Commands.{ChangedParts, FollowedParts, changed_reporting, followed_reporting}
 use Rattle.p25_filter.proofs.SameLaws.{AreAlike}
 use Rattle.p25_filter.specs.Traces.{IsRun}
 use Rattle.p25_filter.specs.LineRules.{LineRules}
@@ -10,7 +10,7 @@ use Rattle.p25_filter.specs.LineFilters.{first_line, line_future}
 use Rattle.p25_tool.specs.Machines.{build_rules, duplex_rules, fragment_rules, station_rules}
 use Rattle.p25_recording_filters.specs.Recordings.{fresh, recording_future}
 use Rattle.p25_tool.specs.Outputs.{command_future}
-use Rattle.p25_tool.proofs.CommandsLaws.{bridge-alike, check-alike, repair-alike, show-alike, calls-alike, soft-alike}
+use Rattle.p25_tool.proofs.CommandsLaws.{bridge-alike, check-alike, follow-alike, relay-alike, repair-alike, show-alike, calls-alike, soft-alike}
 use Rattle.p25_tool.proofs.ScriptRunsLaws.{build-alike, duplex-alike, fragments-alike, stations-alike}
 use Rattle.p25_tool.proofs.CallRunsLaws.{alike-run}
 use Rattle.p25_tool.proofs.command_run.run_command.Goals as goal
@@ -23,6 +23,11 @@ changed-alike : (made named : ChangedParts) (command asked : Command) → made �
     → AreAlike (recording_future changed_reporting (fresh made)) (command_future asked)
 changed-alike made named command asked same is alike =
     subst (λ (x : ChangedParts). AreAlike (recording_future changed_reporting (fresh x)) (command_future asked)) (sym same) (alike-to (recording_future changed_reporting (fresh named)) command asked is alike)
+
+followed-alike : (made named : FollowedParts) (command asked : Command) → made ≡ named → asked ≡ command → AreAlike (recording_future followed_reporting (fresh named)) (command_future command)
+    → AreAlike (recording_future followed_reporting (fresh made)) (command_future asked)
+followed-alike made named command asked same is alike =
+    subst (λ (x : FollowedParts). AreAlike (recording_future followed_reporting (fresh x)) (command_future asked)) (sym same) (alike-to (recording_future followed_reporting (fresh named)) command asked is alike)
 
 -- what is said of the rules of a machine is said of those of one that is named otherwise
 lines-alike : {M E : Type 0} (rules : LineRules M E) (made named : M) (command asked : Command) → made ≡ named → asked ≡ command → AreAlike (line_future rules (first_line named)) (command_future command)
@@ -49,6 +54,16 @@ pub returns-in-Bridge : goal.returns-in-Bridge
 returns-in-Bridge g c =
     alike-run g.P.Port.moves _ _ _ _ _ (changed-alike _ _ _ _ c.new-in-Bridge.ensures c.in-Bridge.is (bridge-alike c.in-Bridge.nac c.in-Bridge.status))
     (λ count is. let other : Bridge c.in-Bridge.nac c.in-Bridge.status ≡ Sample count = sym c.in-Bridge.is ∙ is in cc) c.run_report-in-Bridge.ensures
+
+pub returns-in-Relay : goal.returns-in-Relay
+returns-in-Relay g c =
+    alike-run g.P.Port.moves _ _ _ _ _ (changed-alike _ _ _ _ c.new-in-Relay.ensures c.in-Relay.is (relay-alike c.in-Relay.nac c.in-Relay.status))
+    (λ count is. let other : Relay c.in-Relay.nac c.in-Relay.status ≡ Sample count = sym c.in-Relay.is ∙ is in cc) c.run_report-in-Relay.ensures
+
+pub returns-in-Follow : goal.returns-in-Follow
+returns-in-Follow g c =
+    alike-run g.P.Port.moves _ _ _ _ _ (followed-alike _ _ _ _ c.new-in-Follow.ensures c.in-Follow.is follow-alike)
+    (λ count is. let other : Follow ≡ Sample count = sym c.in-Follow.is ∙ is in cc) c.run_report-in-Follow.ensures
 
 pub returns-in-Build : goal.returns-in-Build
 returns-in-Build g c =

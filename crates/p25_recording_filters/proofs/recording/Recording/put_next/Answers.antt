@@ -1,12 +1,23 @@
-use Rattle.std.proofs.Common.{◌≡◌, ℕ, ◌+◌, List, [], ◌∷◌, length, take, refl, ap, sym, subst, ◌∙◌, arith, length-drop}
+use Rattle.std.proofs.Common.{◌≡◌, ℕ, ◌+◌, List, [], ◌∷◌, length, take, refl, ap, sym, subst, ◌∙◌, arith, length-drop, length-take}
 use Rattle.p25_units.specs.Items.{covered}
 use Rattle.p25_units.specs.declared.item.Item.{Item}
 use Rattle.p25_recording_filters.specs.Recordings.{PutItem, RecordingParts, recording}
-use Rattle.p25_recording_filters.proofs.RecordingsLaws.{gave-place, put-alike}
+use Rattle.p25_recording_filters.proofs.RecordingsLaws.{gave-fits, gave-place, put-alike}
 use Rattle.p25_recording_filters.proofs.recording.Recording.put_next.Goals as goal
 
 no_items : (items : List Item) (item : Item) → [] ≡ item ∷ items → ⊥
 no_items items item e = cc
+
+pub put-requires-clause-fits : goal.put-requires-clause-fits
+put-requires-clause-fits g c = gave-fits c.self.inside.scanner c.take_item.new.scanner c.take_item.new.item _ (c.take_item.ensures.given c.if-take_item.true)
+
+pub put-requires-clause-raw : goal.put-requires-clause-raw
+put-requires-clause-raw g c looks =
+    let scan = c.self.inside.scanner in
+    let item = c.take_item.new.item in
+    let there = c.if-take_item.true in
+    let gave = c.take_item.ensures.given there in
+    omega (arith, ap length (c.take_item.ensures.bits there looks), length-take (covered item) scan.held, gave.there)
 
 pub put-requires-clause-reached : goal.put-requires-clause-reached
 put-requires-clause-reached g c =

@@ -20,15 +20,15 @@ loop-k-preserved c =
       len = omega (arith, c.put.ensures.len, c.loop-k.invariant.len);
     }
 
-pub returns : goal.returns
-returns c =
+pub returns-clause-list : goal.returns-clause-list
+returns-clause-list c =
     let bits = c.args.bits.now in
     let at = c.args.at in
     let words = (c.len.result - at) / 64 in
     let all : words ≡ (length bits - at) / 64 = ap (λ (n : ℕ). (n - at) / 64) c.len.ensures.value in
     let done : c.loop-k.k ≡ words = omega (arith, c.loop-k.auto.k-end) in
     let rest = whole_octets (drop (at + 64 * words) bits) in
-    c.put_last_octets.ensures
+    c.put_last_octets.ensures.list
     ∙ ap (λ (xs : List ℕ). xs ++ rest) (c.loop-k.invariant.list ∙ ap (λ (k : ℕ). c.args.out.now ++ octets_from (8 * k) (drop at bits)) done)
     ∙ append_assoc c.args.out.now (octets_from (8 * words) (drop at bits)) rest
     ∙ ap (λ (zs : List ℕ). c.args.out.now ++ zs) (octets-all bits at words all)

@@ -1,0 +1,45 @@
+-- What is true of a recording that is forwarded in place.
+use Rattle.std.specs.Prelude.{◌≡◌, ℕ, ◌+◌, ◌<◌, ◌⊎◌, Bool, true, false, List, [], ◌∷◌, ◌++◌, length, take, drop, map, Some}
+use Rattle.p25_bits.specs.Bits.{part}
+use Rattle.p25_status.specs.declared.symbols.Status.{Status}
+use Rattle.p25_units.specs.Items.{covered}
+use Rattle.p25_units.specs.declared.item.Item.{Item}
+use Rattle.p25_stream.specs.Arrivals.{IsHidden}
+use Rattle.p25_stream.specs.Items.{first_item, items_by, items_of}
+use Rattle.p25_follow.specs.Followed.{is_rest, unit_name}
+use Rattle.p25_follow.specs.Relayed.{IsAmong, IsFitItem, relay_of, relayed, relayed_item}
+use Rattle.p25_follow.specs.StretchLaws.{bits_in}
+
+-- each item that a scan finds has as many bits as its kind needs
+abbrev pub ItemsFit : Type 0
+ItemsFit =
+    (ended : Bool) (at : ℕ) (bits : List Bool) (before : List Item) (item : Item) (after : List Item)
+    → items_by ended at bits ≡ before ++ item ∷ after → IsFitItem item
+
+-- as many bits are forwarded as are there
+abbrev pub RelayKeepsLength : Type 0
+RelayKeepsLength = (nac : ℕ) (status : Status) (bits : List Bool) → nac < 4096 → length (relay_of nac status bits) ≡ length bits
+
+-- in the place of each item stands what is forwarded of it: so all bits of a stretch, and of a unit that is cut, stay
+abbrev pub RelaysInPlace : Type 0
+RelaysInPlace =
+    (nac : ℕ) (status : Status) (bits : List Bool) (before : List Item) (item : Item) (after : List Item)
+    → nac < 4096 → items_of 0 bits ≡ before ++ item ∷ after
+    → part (bits_in before) (covered item) (relay_of nac status bits) ≡ relayed nac status item (part (bits_in before) (covered item) bits)
+
+-- in what is forwarded in place of a unit the scan finds it again, whatever bits follow: with its kind, under the NAC, where it was whole
+-- with its words and no fixes, and where it was broken with the same failing fields
+abbrev pub RelayedIsFound : Type 0
+RelayedIsFound =
+    (nac : ℕ) (status : Status) (place : ℕ) (bits more : List Bool) (name : ℕ × ℕ)
+    → nac < 4096 → unit_name (first_item place bits) ≡ Some name
+    → first_item place (relayed nac status (first_item place bits) (take (covered (first_item place bits)) bits) ++ more)
+    ≡ relayed_item nac status (first_item place bits)
+
+-- each unit of a recording is found again in what is forwarded, at its place, unless a unit that begins before it there, whole, broken or
+-- cut, covers its first bit
+abbrev pub RelayKeepsUnits : Type 0
+RelayKeepsUnits =
+    (nac : ℕ) (status : Status) (bits : List Bool) (before : List Item) (unit : Item) (after : List Item) (name : ℕ × ℕ)
+    → nac < 4096 → items_of 0 bits ≡ before ++ unit ∷ after → unit_name unit ≡ Some name
+    → IsHidden (bits_in before) (items_of 0 (relay_of nac status bits)) ⊎ IsAmong (relayed_item nac status unit) (items_of 0 (relay_of nac status bits))

@@ -1,0 +1,56 @@
+-- A recording forwarded in place, under another network access code (NAC) and with one status symbol everywhere.
+use Rattle.std.specs.Prelude.{◌≡◌, ℕ, ◌%◌, ◌≤◌, Bool, List, [], ◌∷◌, ◌++◌, length, take, drop, replicate}
+use Rattle.p25_status.specs.Woven.{bare_of, statuses_of, woven}
+use Rattle.p25_status.specs.declared.symbols.Status.{Status}
+use Rattle.p25_unit_front.specs.Front.{unit_front}
+use Rattle.p25_units.specs.Items.{covered}
+use Rattle.p25_units.specs.Units.{image_of}
+use Rattle.p25_units.specs.declared.item.Item.{Item}
+use Rattle.p25_units.specs.declared.item.Item.TheVariants.{Whole, Broken, NoUnit, Gap, Cut}
+use Rattle.p25_stream.specs.Items.{items_of}
+use Rattle.p25_stream.specs.Repeats.{bridged_frame}
+
+-- the bits of a unit that is broken, with the front of a NAC and a kind in place of its own and one status symbol everywhere
+unfoldable pub relayed_broken : ℕ → ℕ → Status → List Bool → List Bool
+relayed_broken nac duid status raw = woven (unit_front nac duid ++ drop 112 (bare_of raw)) (replicate (length (statuses_of raw)) status)
+
+-- what is forwarded of an item and the bits that it covers: the image of a whole unit, as a bridge has it; of a broken one all its bits
+-- but sync, identifier and status symbols; and all other bits as they are
+abbrev pub relayed : ℕ → Status → Item → List Bool → List Bool
+relayed nac status (Whole place frame fixes) raw = image_of (bridged_frame nac status frame)
+relayed nac status (Broken place count ours duid fields) raw = relayed_broken nac duid status raw
+relayed nac status (NoUnit place field) raw = raw
+relayed nac status (Gap place count) raw = raw
+relayed nac status (Cut place have) raw = raw
+
+-- what is forwarded of items that lie end to end over some bits
+unfoldable pub relayed_by : ℕ → Status → List Item → List Bool → List Bool
+relayed_by nac status [] bits = []
+relayed_by nac status (item ∷ items) bits = relayed nac status item (take (covered item) bits) ++ relayed_by nac status items (drop (covered item) bits)
+
+-- what is forwarded of a recording
+abbrev pub relay_of : ℕ → Status → List Bool → List Bool
+relay_of nac status bits = relayed_by nac status (items_of 0 bits) bits
+
+-- an item has as many bits as a scan gives it: a broken unit whole blocks of 72, at least two and at most those of the longest unit, and
+-- a gap at most 4,096
+abbrev pub IsFitItem : Item → Type 0
+IsFitItem (Whole place frame fixes) = Unit {0}
+IsFitItem (Broken place count nac duid fields) = (count % 72 ≡ 0) × (144 ≤ count) × (count ≤ 25920)
+IsFitItem (NoUnit place field) = Unit {0}
+IsFitItem (Gap place count) = count ≤ 4096
+IsFitItem (Cut place have) = Unit {0}
+
+-- the item that the scan finds in place of a unit: whole with no fixes, or broken with the same failing fields
+abbrev pub relayed_item : ℕ → Status → Item → Item
+relayed_item nac status (Whole place frame fixes) = Whole place (bridged_frame nac status frame) 0
+relayed_item nac status (Broken place count ours duid fields) = Broken place count nac duid fields
+relayed_item nac status (NoUnit place field) = NoUnit place field
+relayed_item nac status (Gap place count) = Gap place count
+relayed_item nac status (Cut place have) = Cut place have
+
+-- an item is among some items
+pub record IsAmong (item : Item) (items : List Item) : Type 0 where
+  pub before : List Item
+  pub after : List Item
+  pub among : items ≡ before ++ item ∷ after

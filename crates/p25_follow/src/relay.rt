@@ -1,0 +1,57 @@
+//! Items forwarded in place, under another network access code (NAC) and with one status symbol everywhere.
+
+ghost use Rattle.std.specs.Prelude.{◌≡◌, ◌%◌, ◌<◌, ◌≤◌, length};
+ghost use Rattle.p25_units.specs.Items.{IsSoundItem, covered};
+ghost use Rattle.p25_follow.specs.Relayed.{IsFitItem, relayed, relayed_broken};
+
+use p25_bch_nid::Nid;
+use p25_bits::BitBuf;
+use p25_status::{Status, Statuses, unweave, weave};
+use p25_stream::bridge_item;
+use p25_unit_front::put_front;
+use p25_units::Item;
+
+// How many bits of a unit its front has, without a status symbol.
+const FRONT_LENGTH: usize = 112;
+
+/// Replaces the bits that an item covers by those that are forwarded in their place, as many.
+///
+/// Those of a `Whole` item are what `bridge_item` makes of it. A `Broken` one keeps all its bits but its sync and its network identifier
+/// (NID), which become those of the network access code and of its kind, and its status symbols, which become `status`. The bits of every
+/// other item stay as they are. The item and its bits are as a scan gives them.
+pub fn relay_item(item: &Item, nac: u16, status: Status, raw: &mut BitBuf)
+    requires sound { IsSoundItem item.now }
+    requires fits { IsFitItem item.now }
+    requires nac { nac < 4096 }
+    requires raw { length raw.old ≡ covered item.now }
+    ensures { raw.new ≡ relayed nac status item.now raw.old }
+{
+    match item {
+        Item::Whole { .. } => {
+            raw.clear();
+            let _ = bridge_item(item, nac, status, raw);
+        }
+        Item::Broken { duid, .. } => relay_broken(nac, *duid, status, raw),
+        Item::NoUnit { .. } => {}
+        Item::Gap { .. } => {}
+        Item::Cut { .. } => {}
+    }
+}
+
+// Writes the front of a network access code (NAC) and a kind over that of a broken unit, and a status symbol over all of its own.
+fn relay_broken(nac: u16, duid: u8, status: Status, raw: &mut BitBuf)
+    requires nac { nac < 4096 }
+    requires duid { duid < 16 }
+    requires blocks { length raw.old % 72 ≡ 0 }
+    requires some { 144 ≤ length raw.old }
+    requires most { length raw.old ≤ 25920 }
+    ensures { raw.new ≡ relayed_broken nac duid status raw.old }
+{
+    let mut bare = BitBuf::new();
+    let mut statuses = Statuses::new();
+    unweave(raw, 0, raw.len(), &mut bare, &mut statuses);
+    let mut fronted = BitBuf::new();
+    put_front(&Nid { nac, duid }, &mut fronted);
+    fronted.append(&bare, FRONT_LENGTH, bare.len() - FRONT_LENGTH);
+    weave(&fronted, &Statuses::filled(status, statuses.len()), raw);
+}

@@ -1,0 +1,82 @@
+-- The octets that `follow` writes as an item comes: those that the bits before its own fill, and then its own.
+use Rattle.std.proofs.Common.{◌≡◌, ℕ, ◌+◌, ◌-◌, ◌*◌, ◌/◌, ◌≤◌, Bool, true, false, cond, List, [], ◌++◌, length, drop, refl, ap, ap₂, sym, ◌∙◌, arith, append_assoc, append-nil, length-append, length-drop}
+use Rattle.std.proofs.lemmas.List.{drop-append-le, drop-drop}
+use Rattle.p25_units.specs.Items.{covered}
+use Rattle.p25_units.specs.Units.{whole_octets}
+use Rattle.p25_units.specs.declared.item.Item.{Item}
+use Rattle.p25_units.specs.declared.item.Item.TheVariants.{Whole, Broken, NoUnit, Gap, Cut}
+use Rattle.p25_follow.specs.Followed.{is_rest}
+use Rattle.p25_follow.specs.Following.{Follow, written_before, written_item}
+use Rattle.p25_follow.specs.Relayed.{IsFitItem}
+use Rattle.p25_recording_filters.specs.Commands.{followed_item, unfilled}
+use Rattle.p25_recording_filters.proofs.OctetsLaws.{whole_octets-append}
+
+-- an item of a stretch is short
+pub rest-short : (item : Item) → IsFitItem item → is_rest item ≡ true → covered item ≤ 4096
+rest-short (Whole place frame fixes) fits rest = absurd (cc rest)
+rest-short (Broken place count nac duid fields) fits rest = absurd (cc rest)
+rest-short (NoUnit place field) fits rest = omega arith
+rest-short (Gap place count) fits rest = fits
+rest-short (Cut place have) fits rest = absurd (cc rest)
+
+own-rest : (item : Item) (raw : List Bool) → is_rest item ≡ true → written_item item raw ≡ []
+unfolding written_item
+own-rest item raw rest = ap (λ (b : Bool). cond b [] raw) rest
+
+own-unit : (item : Item) (raw : List Bool) → is_rest item ≡ false → written_item item raw ≡ raw
+unfolding written_item
+own-unit item raw unit = ap (λ (b : Bool). cond b [] raw) unit
+
+-- the last bits of joined bits
+unfilled-append : (bits rest : List Bool) → unfilled (unfilled bits ++ rest) ≡ unfilled (bits ++ rest)
+unfilled-append bits rest =
+    let m = length bits / 8 in
+    let left = drop (8 * m) bits ++ rest in
+    let fits : 8 * m ≤ length bits = omega arith in
+    let all : 8 * m + 8 * (length left / 8) ≡ 8 * (length (bits ++ rest) / 8)
+    = omega (arith, length-append bits rest, length-append (drop (8 * m) bits) rest, length-drop (8 * m) bits) in
+    ap (drop (8 * (length left / 8))) (sym (drop-append-le (8 * m) bits rest fits))
+    ∙ drop-drop (8 * (length left / 8)) (8 * m) (bits ++ rest)
+    ∙ ap (λ (n : ℕ). drop n (bits ++ rest)) all
+
+module _ (follower : Follow) (kept raw : List Bool) (item : Item) where
+  before : List Bool
+  before = written_before follower item raw
+
+  all-rest : is_rest item ≡ true → before ≡ followed_item follower item raw
+  unfolding before
+  all-rest rest = sym (append-nil before) ∙ ap (λ (zs : List Bool). before ++ zs) (sym (own-rest item raw rest))
+
+  all-unit : is_rest item ≡ false → (kept ++ before) ++ raw ≡ kept ++ followed_item follower item raw
+  unfolding before
+  all-unit unit = append_assoc kept before raw ∙ ap (λ (zs : List Bool). kept ++ (before ++ zs)) (sym (own-unit item raw unit))
+
+  -- of an item of a stretch
+  pub piece-rest : (room : List Bool) (out : List ℕ) → is_rest item ≡ true → room ≡ written_before follower item raw → out ≡ whole_octets (kept ++ room) → out ≡ whole_octets (kept ++ followed_item follower item raw)
+  unfolding before
+  piece-rest room out rest made is = is ∙ ap (λ (zs : List Bool). whole_octets (kept ++ zs)) (made ∙ all-rest rest)
+
+  pub kept-rest : (room now : List Bool) → is_rest item ≡ true → room ≡ written_before follower item raw → now ≡ unfilled (kept ++ room) → now ≡ unfilled (kept ++ followed_item follower item raw)
+  unfolding before
+  kept-rest room now rest made is = is ∙ ap (λ (zs : List Bool). unfilled (kept ++ zs)) (made ∙ all-rest rest)
+
+  -- of another
+  pub piece-unit : (room between : List Bool) (first out : List ℕ) → is_rest item ≡ false → room ≡ written_before follower item raw → first ≡ whole_octets (kept ++ room) → between ≡ unfilled (kept ++ room)
+      → out ≡ first ++ whole_octets (between ++ raw) → out ≡ whole_octets (kept ++ followed_item follower item raw)
+  unfolding before
+  piece-unit room between first out unit made first_is between_is is =
+      is
+      ∙ ap₂ (λ (xs : List ℕ) (zs : List Bool). xs ++ whole_octets (zs ++ raw)) first_is between_is
+      ∙ whole_octets-append (kept ++ room) raw
+      ∙ ap (λ (zs : List Bool). whole_octets ((kept ++ zs) ++ raw)) made
+      ∙ ap whole_octets (all-unit unit)
+
+  pub kept-unit : (room between now : List Bool) → is_rest item ≡ false → room ≡ written_before follower item raw → between ≡ unfilled (kept ++ room) → now ≡ unfilled (between ++ raw)
+      → now ≡ unfilled (kept ++ followed_item follower item raw)
+  unfolding before
+  kept-unit room between now unit made between_is is =
+      is
+      ∙ ap (λ (zs : List Bool). unfilled (zs ++ raw)) between_is
+      ∙ unfilled-append (kept ++ room) raw
+      ∙ ap (λ (zs : List Bool). unfilled ((kept ++ zs) ++ raw)) made
+      ∙ ap unfilled (all-unit unit)

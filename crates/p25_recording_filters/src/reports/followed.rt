@@ -1,0 +1,91 @@
+ghost use Rattle.std.specs.Prelude.{◌≡◌, []};
+ghost use Rattle.p25_follow.specs.Following.{fresh_follow};
+
+use super::changed::{put_after, put_behind};
+use crate::report::Report;
+use p25_bits::BitBuf;
+use p25_filter::Ending;
+use p25_follow::{Follower, is_rest};
+use p25_line::Line;
+use p25_units::Item;
+use std::marker::Model;
+
+/// The bits of a recording, with the fronts of the units written that lie end to end after others. Of a stretch after a unit fewer than
+/// 6,912 bits are kept back, and at most seven bits that do not fill an octet.
+#[derive(Drop)]
+pub struct Followed {
+    follower: Follower,
+    // Where the bits before those of an item are made: what it holds between items means nothing.
+    room: BitBuf,
+    kept: BitBuf,
+}
+
+impl Model for Followed {
+    ghost use Rattle.std.specs.Prelude.{◌<◌, length};
+    ghost use Rattle.p25_recording_filters.specs.Commands.{FollowedParts};
+
+    ghost Value = { FollowedParts };
+
+    ghost view = { λ s. record { follower = s.follower; kept = s.kept } };
+
+    ghost invariant = { λ s. length s.kept < 8 };
+}
+
+impl Followed {
+    /// Answers the report before the first item.
+    pub fn new() -> Followed
+        ensures { result ≡ record { follower = fresh_follow; kept = [] } }
+    {
+        Followed {
+            follower: Follower::new(),
+            room: BitBuf::new(),
+            kept: BitBuf::new(),
+        }
+    }
+}
+
+/// The report before the first item.
+impl Default for Followed {
+    ghost is_default = { λ report. report ≡ record { follower = fresh_follow; kept = [] } };
+
+    fn default() -> Followed {
+        Followed::new()
+    }
+}
+
+impl Report for Followed {
+    ghost use Rattle.std.specs.Prelude.{true};
+    ghost use Rattle.std.proofs.lemmas.Bool.{true≢false};
+    ghost use Rattle.p25_recording_filters.specs.Commands.{followed_reporting};
+
+    const LOOKS_AT_BITS: bool = true;
+
+    ghost LOOKS_AT_BITS = { true };
+
+    ghost reporting = { followed_reporting };
+
+    ghost counted = { λ report. 0 };
+
+    ghost ignores_bits = { λ blind. absurd (true≢false blind) };
+
+    fn put(&mut self, item: &Item, raw: &mut BitBuf, out: &mut Line) {
+        self.follower.take(item, raw, &mut self.room);
+        put_behind(&mut self.kept, &self.room, out);
+        if !is_rest(item) {
+            put_after(&mut self.kept, raw, out);
+        }
+    }
+
+    fn close(&self, out: &mut Line) {
+        let mut room = BitBuf::new();
+        let mut kept = BitBuf::new();
+        kept.append(&self.kept, 0, self.kept.len());
+        self.follower.finish(&mut room);
+        put_behind(&mut kept, &room, out);
+    }
+
+    fn ending(&self) -> Ending {
+        let _ = &self.kept;
+        Ending::Done
+    }
+}
