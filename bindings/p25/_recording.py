@@ -162,7 +162,8 @@ def _text_of(octets: bytes, place: int) -> str:
 # The numbers of an item as p25_items writes them, and how many items one call is asked for.
 _ROW = struct.Struct("=QIIIHBB")
 _AT_ONCE = 1024
-_ONE: Any = ctypes.c_char
+_ONE: Any = ctypes.c_char.from_buffer
+_address_of = ctypes.addressof
 
 
 class _Reader:
@@ -172,7 +173,7 @@ class _Reader:
         self._rows = ctypes.create_string_buffer(_AT_ONCE * _ROW.size)
         self._numbers = memoryview(self._rows)
 
-    def next(self, octets: "Union[bytes, memoryview]", address: Optional[int], begin: int, place: int, ended: bool) -> List[Item]:
+    def next(self, octets: "Union[bytes, bytearray, memoryview]", address: Optional[int], begin: int, place: int, ended: bool) -> List[Item]:
         """Answers the next items from a place on of octets at an address, the first of which stands at `begin`: at most 1,024, and none where
         none is decided. Each has its octets copied."""
         told = _many_items(address, len(octets), begin, place, ended, self._rows, _AT_ONCE)
@@ -204,8 +205,10 @@ class Stream:
     """
 
     def __init__(self) -> None:
-        # Items that are made and not taken, and octets from a bit on, a multiple of 8; the next item to be made begins at `from`.
+        # Items that are made and not taken, and octets from a bit on, a multiple of 8; the next item to be made begins at `from`, and
+        # there may be one where `fed` is true.
         self._made: Deque[Item] = deque()
+        self._fed = False
         self._held, self._begin, self._from, self._ended = bytearray(), 0, 0, False
         self._next = _Reader().next
 
@@ -217,22 +220,22 @@ class Stream:
         del self._held[:past]
         self._begin += past << 3
         self._held += octets if isinstance(octets, (bytes, bytearray)) else octets_of(octets)
+        self._fed = True
         return self._items()
 
     def finish(self) -> Iterator[Item]:
         """Answers an iterator over all items that are left, the last of which ends where the recording does."""
-        self._ended = True
+        self._ended = self._fed = True
         return self._items()
 
     def _make(self) -> bool:
         """Makes the next items, and answers whether there are any."""
         held = self._held
-        if not held:
+        if not (self._fed and held):
             return False
         # Between two calls the octets may move, so their address is asked for anew.
-        address = ctypes.addressof(_ONE.from_buffer(held))
-        with memoryview(held) as octets:
-            made = self._next(octets, address, self._begin, self._from, self._ended)
+        made = self._next(held, _address_of(_ONE(held)), self._begin, self._from, self._ended)
+        self._fed = len(made) == _AT_ONCE
         if not made:
             return False
         self._from = made[-1].place + made[-1].bits
@@ -266,7 +269,7 @@ class Stream:
         return self
 
     def __exit__(self, kind: Optional[Type[BaseException]], error: Optional[BaseException], trace: Optional[TracebackType]) -> None:
-        self._ended = True
+        self._ended = self._fed = True
 
     def __repr__(self) -> str:
         place = self._made[0].place if self._made else self._from
