@@ -18,8 +18,8 @@
    A call checks all else itself, and answers by one of the numbers named below. That it takes no memory, keeps nothing, and calls
    nothing but memcpy and memset, so that calls from several threads on different octets do not meet, is looked at by a test, and not proved.
 
-   Stack, as stack.c measured it on x86-64 over recordings of all kinds of units: p25_build takes up to 46,000 octets,
-   the calls that tell items, or repair or bridge a unit, 38,000, and the other calls 13,000. It is measured, and not proved: give a thread 160 KiB or
+   Stack, as stack.c measured it on x86-64 over recordings of all kinds of units: the calls that build, repair or bridge a unit take up to
+   47,000 octets, those that tell items 38,000, and the other calls 13,000. It is measured, and not proved: give a thread 160 KiB or
    more. */
 #ifndef P25_H
 #define P25_H
