@@ -11,15 +11,15 @@
    What the caller owes, which nothing checks:
    - each pointer is aligned and leads to as many objects as is said beside it, at most PTRDIFF_MAX octets. All of them hold values, also those
      that a call only writes: room is set before it is given, as by `= {0}`. They may be read, and written where it is no pointer to const;
-   - no pointer is NULL, also where its length is 0;
+   - no pointer is NULL, but one whose length, n or room, is 0: that such a pointer is not followed is looked at by a test, and not proved;
    - what a call writes overlaps nothing else that this call is given;
    - a bool is true or false: as an octet, 1 or 0;
    - while a call runs no thread writes what it reads, and none reads or writes what it writes.
    A call checks all else itself, and answers by one of the numbers named below. That it takes no memory, keeps nothing, and calls
    nothing but memcpy and memset, so that calls from several threads on different octets do not meet, is looked at by a test, and not proved.
 
-   Stack, as stack.c measured it on x86-64 over recordings of all kinds of units: p25_build takes up to 46,000 octets,
-   p25_next_item, p25_repair and p25_bridge 38,000, and the other calls 13,000. It is measured, and not proved: give a thread 160 KiB or
+   Stack, as stack.c measured it on x86-64 over recordings of all kinds of units: the calls that build, repair or bridge a unit take up to
+   47,000 octets, those that tell items 38,000, and the other calls 13,000. It is measured, and not proved: give a thread 160 KiB or
    more. */
 #ifndef P25_H
 #define P25_H
@@ -34,6 +34,11 @@ extern "C" {
 
 /* Answers the release of the library: 10000 times its first number, 100 times its second, and its third. 10000 is release 1.0. */
 uint32_t p25_version(void);
+
+/* The release of this header, and whether a library has all that it declares: one of the same first number, and no earlier one. A program
+   that may meet another library than it was built with asks so once, at its start. */
+#define P25_VERSION UINT32_C(10000)
+#define P25_VERSION_FITS() (p25_version() / 10000 == P25_VERSION / 10000 && p25_version() >= P25_VERSION)
 
 /* Items of a recording ---------------------------------------------------------------------------------------------------- */
 
@@ -113,6 +118,72 @@ int32_t p25_repair(const uint8_t *octets, size_t n, uint8_t *into, size_t room);
    writes nothing. */
 int32_t p25_bridge(const uint8_t *octets, size_t n, uint16_t nac, uint8_t status, uint8_t *into, size_t room);
 
+/* Items at any bit, many at once, and streams ------------------------------------------------------------------------------ */
+
+/* Writes the bits of an item as octets, at whatever bit it begins: its first bit is the highest of the first octet, and the bits after
+   its last one are 0. Of the recording the n octets are given, the first of which stands at bit `begin`, as to p25_next_item; of the item
+   `place` and `bits` are looked at. Answers how many octets it wrote, at most 3,240; or P25_OUTSIDE, where begin is no multiple of 8, the
+   octets lack a bit of the item, or it has more than 25,920 bits or begins after bit 2^59; or P25_NO_ROOM. It writes nothing then. */
+int32_t p25_item_octets(const uint8_t *octets, size_t n, uint64_t begin, const p25_item *item, uint8_t *into, size_t room);
+
+/* Does what p25_repair does with the whole unit that begins at bit `from` of a recording, of which octets are given as to p25_next_item.
+   Answers how many octets it wrote, 18 to 3,240; or, in this order, P25_OUTSIDE, P25_NO_UNIT or P25_NO_ROOM, and then writes nothing. */
+int32_t p25_repair_at(const uint8_t *octets, size_t n, uint64_t begin, uint64_t from, uint8_t *into, size_t room);
+
+/* Does what p25_bridge does with the whole unit that begins at bit `from` of a recording, of which octets are given as to p25_next_item.
+   Answers how many octets it wrote, 18 to 3,240; or, in this order, P25_WRONG_NAC, P25_WRONG_STATUS, P25_OUTSIDE, P25_NO_UNIT or
+   P25_NO_ROOM, and then writes nothing. */
+int32_t p25_bridge_at(const uint8_t *octets, size_t n, uint64_t begin, uint64_t from, uint16_t nac, uint8_t status, uint8_t *into,
+                      size_t room);
+
+/* Tells the items from bit `from` of a recording on, in order: as many as there are, and at most `room`, and 2,147,483,647. What is given
+   and which items there are is as p25_next_item says. No text is made: text_length is 0, and the call is quicker for it. Answers
+   how many items it told, and sets so many; or P25_OUTSIDE, and then sets none. The next call goes on where the last item ends. */
+int32_t p25_items(const uint8_t *octets, size_t n, uint64_t begin, uint64_t from, bool ended, p25_item *items, size_t room);
+
+/* The octets that a stream holds at most. */
+enum { P25_STREAM_OCTETS = 8168 };
+
+/* A recording that comes piece by piece: 8,192 octets that the caller keeps, and that can be copied. Nothing in it is a secret: whatever its
+   numbers are, each call below answers, with P25_OUTSIDE where they fit no stream. */
+typedef struct p25_stream {
+    uint64_t begin;                    /* the bit at which the first of the octets held stands, a multiple of 8 */
+    uint64_t from;                     /* the bit at which the next item begins: one of those held or their end, at most 2^59 */
+    uint32_t held;                     /* how many octets are held, at most P25_STREAM_OCTETS */
+    uint8_t ended;                     /* 0: more may come */
+    uint8_t dibits;                    /* how many dibits wait for their octet, at most 3 */
+    uint8_t waiting;                   /* these dibits as a number */
+    uint8_t unused;                    /* not looked at */
+    uint8_t octets[P25_STREAM_OCTETS]; /* of which the first `held` count */
+} p25_stream;
+
+/* What the two calls answer that push, besides P25_OUTSIDE. */
+enum {
+    P25_ENDED = -6,      /* the stream has ended */
+    P25_DIBITS_WAIT = -7 /* dibits wait for their octet, and octets come */
+};
+
+/* Sets a stream to one that begins: at bit 0, with nothing held. */
+void p25_stream_begin(p25_stream *stream);
+
+/* Takes octets, from the first on, as many as there is room for, and answers how many. Room is P25_STREAM_OCTETS less the octets from that
+   with bit `from` on; once p25_stream_next has answered P25_NONE, these are at most P25_NEEDED, so there is room for 4,927 or more.
+   Or answers P25_OUTSIDE, P25_ENDED or P25_DIBITS_WAIT, the first that applies, and takes none; the stream stays then. */
+int32_t p25_stream_push(p25_stream *stream, const uint8_t *octets, size_t n);
+
+/* Takes dibits, one in each octet as its two lowest bits, from the first on, as many as there is room for: four for each octet of room.
+   Four make an octet of the recording, the first one highest. Answers how many it took; or P25_OUTSIDE or P25_ENDED. */
+int32_t p25_stream_push_dibits(p25_stream *stream, const uint8_t *dibits, size_t n);
+
+/* Tells the next item, as p25_next_item does, and moves on behind it. With room 0 no text is made, text_length is 0, and the call is
+   quicker. Until something is pushed, the octets of the item are there for p25_item_octets and its kin, as stream->octets, of
+   which there are stream->held, from bit stream->begin on. Answers P25_ITEM; P25_NONE, where more decides or, once the stream has ended, all
+   is told; or P25_OUTSIDE. At the last two all stays as it is. The items are the same however the recording is cut. */
+int32_t p25_stream_next(p25_stream *stream, p25_item *item, char *text, size_t room);
+
+/* Says that no more comes: what is held is then told to its end. Dibits that fill no octet are left out. */
+void p25_stream_end(p25_stream *stream);
+
 /* Code words ---------------------------------------------------------------------------------------------------------------- */
 
 /* What a call that reads a word answers where it is not the number of letters, symbols or bits, that were wrong. The word stays then. */
@@ -127,14 +198,18 @@ enum {
 
    A `read` puts right at most 8, 6 or 4 wrong symbols, and answers how many there were, or P25_BEYOND or P25_NO_LETTERS. A
    `read_erased` is told the symbols that are not known, which must be 0 to 63 too: it reads a word where twice the wrong ones among the
-   others, and the erased ones, are at most 16, 12 or 8 together, and answers how many symbols it changed. A `write` sets the check
-   symbols, whatever stands there, and answers 0, or P25_NO_LETTERS. */
+   others, and the erased ones, are at most 16, 12 or 8 together, and answers how many symbols it changed. A `read_marked` does the same by
+   octets, of which 0 marks no symbol and each other one does. A `write` sets the check symbols, whatever stands there, and answers 0, or
+   P25_NO_LETTERS. */
 int32_t p25_rs_36_20_read(uint8_t symbols[36]);
 int32_t p25_rs_24_12_read(uint8_t symbols[24]);
 int32_t p25_rs_24_16_read(uint8_t symbols[24]);
 int32_t p25_rs_36_20_read_erased(uint8_t symbols[36], const bool erased[36]);
 int32_t p25_rs_24_12_read_erased(uint8_t symbols[24], const bool erased[24]);
 int32_t p25_rs_24_16_read_erased(uint8_t symbols[24], const bool erased[24]);
+int32_t p25_rs_36_20_read_marked(uint8_t symbols[36], const uint8_t marks[36]);
+int32_t p25_rs_24_12_read_marked(uint8_t symbols[24], const uint8_t marks[24]);
+int32_t p25_rs_24_16_read_marked(uint8_t symbols[24], const uint8_t marks[24]);
 int32_t p25_rs_36_20_write(uint8_t symbols[36]);
 int32_t p25_rs_24_12_write(uint8_t symbols[24]);
 int32_t p25_rs_24_16_write(uint8_t symbols[24]);

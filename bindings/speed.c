@@ -1,7 +1,8 @@
 /* Times the calls on words, blocks and checks, and p25_next_item on a recording from a file, for bindings/speed.
 
    usage: speed                prints a line NAME|CASE|TENTHS OF A NANOSECOND|SUM for each call, as bench/measures/libfec.c does
-          speed FILE           prints the user seconds that the items of the file take, and how many there are
+          speed FILE           prints the user seconds that the items of the file take, how many there are, and the seconds of
+                               their numbers alone, by p25_items and by a stream
 
    Words are 64 of random information, with random wrong letters at random places; the least of 400 rounds counts. */
 #include "p25.h"
@@ -124,9 +125,32 @@ static void time_identifiers(const struct row *row) {
     printf("network identifier|%s|%llu|%u\n", row->label, (unsigned long long)(least * 10 / WORDS), found);
 }
 
-/* Tells the items of a file, and prints the user seconds and how many they are. */
+static uint8_t octets[1 << 24];
+
+/* Tells the items of octets by p25_items, a thousand a call, or by a stream, and answers the user seconds. */
+static double time_numbers(size_t n, bool by_stream) {
+    static p25_item items[1000];
+    static p25_stream stream;
+    clock_t start = clock();
+    if (by_stream) {
+        p25_stream_begin(&stream);
+        for (size_t at = 0; at < n;) {
+            at += (size_t)p25_stream_push(&stream, octets + at, n - at < 320 ? n - at : 320);
+            while (p25_stream_next(&stream, items, NULL, 0) == P25_ITEM) {
+            }
+        }
+    } else {
+        int32_t told = 1;
+        for (uint64_t from = 0; told > 0; from = items[told > 0 ? told - 1 : 0].place + items[told > 0 ? told - 1 : 0].bits) {
+            told = p25_items(octets, n, 0, from, true, items, 1000);
+        }
+    }
+    return (double)(clock() - start) / CLOCKS_PER_SEC;
+}
+
+/* Tells the items of a file, and prints the user seconds and how many they are; and the seconds of their numbers alone, many at once, and
+   by a stream that is given 320 octets at a time. */
 static int time_items(const char *path) {
-    static uint8_t octets[1 << 24];
     static char text[P25_TEXT_ROOM];
     FILE *file = fopen(path, "rb");
     if (file == NULL) {
@@ -141,7 +165,8 @@ static int time_items(const char *path) {
     while (p25_next_item(octets, n, 0, item.place + item.bits, true, &item, text, sizeof text) == P25_ITEM) {
         count++;
     }
-    printf("%.3f %lu\n", (double)(clock() - start) / CLOCKS_PER_SEC, count);
+    double seconds = (double)(clock() - start) / CLOCKS_PER_SEC;
+    printf("%.3f %lu %.3f %.3f\n", seconds, count, time_numbers(n, false), time_numbers(n, true));
     return 0;
 }
 

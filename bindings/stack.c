@@ -1,6 +1,6 @@
 /* Measures how much stack the calls take: each runs in a thread whose stack is painted before, and the paint that is left is counted.
 
-   usage: stack FILE           FILE is a recording; prints the octets that the items of it take, its units repaired and bridged, a unit
+   usage: stack FILE           FILE is a recording; prints the octets that the items of it take, its units repaired and bridged, a stream, a unit
                                built of a line of 127 blocks, and the words and blocks. A thread of its own takes some of each */
 #include "p25.h"
 
@@ -37,6 +37,36 @@ static void *repairs(void *unused) {
 static void *bridges(void *unused) {
     for (size_t at = 0; at < n; at++) {
         p25_bridge(octets + at, n - at, 0x293, 0, unit, sizeof unit);
+    }
+    return unused;
+}
+
+/* The recording by a stream, of octets and of dibits, and each item by its place. */
+static void *streams(void *unused) {
+    static p25_stream stream;
+    p25_stream_begin(&stream);
+    for (size_t at = 0; at < n;) {
+        int32_t pushed = p25_stream_push(&stream, octets + at, n - at);
+        if (pushed < 0) {
+            break;
+        }
+        at += (size_t)pushed;
+        while (p25_stream_next(&stream, &item, text, sizeof text) == P25_ITEM) {
+        }
+    }
+    p25_stream_push_dibits(&stream, octets, 3);
+    p25_stream_end(&stream);
+    while (p25_stream_next(&stream, &item, text, 0) == P25_ITEM) {
+    }
+    return unused;
+}
+
+static void *places(void *unused) {
+    memset(&item, 0, sizeof item);
+    while (p25_items(octets, n, 0, item.place + item.bits, true, &item, 1) == 1) {
+        p25_item_octets(octets, n, 0, &item, unit, sizeof unit);
+        p25_repair_at(octets, n, 0, item.place, unit, sizeof unit);
+        p25_bridge_at(octets, n, 0, item.place, 0x293, 0, unit, sizeof unit);
     }
     return unused;
 }
@@ -102,7 +132,7 @@ int main(int count, char **argument) {
     }
     n = fread(octets, 1, sizeof octets, file);
     fclose(file);
-    printf("a thread %zu, items %zu, repaired %zu, bridged %zu, built %zu, words %zu\n", taken(nothing), taken(items), taken(repairs),
-           taken(bridges), taken(builds), taken(words));
+    printf("a thread %zu, items %zu, repaired %zu, bridged %zu, by a stream %zu, by place %zu, built %zu, words %zu\n", taken(nothing),
+           taken(items), taken(repairs), taken(bridges), taken(streams), taken(places), taken(builds), taken(words));
     return 0;
 }

@@ -127,7 +127,7 @@ class _PyBuffer(ctypes.Structure):
     )
 
 
-def _checked(octets: Any) -> Any:
+def checked(octets: Any) -> Any:
     """Answers what octets are given by: bytes, or a buffer whose items are octets; a list of numbers becomes bytes."""
     if isinstance(octets, (bytes, bytearray)):
         return octets
@@ -144,15 +144,15 @@ def _checked(octets: Any) -> Any:
 
 def octets_of(octets: "Octets") -> bytes:
     """Answers octets as bytes. TypeError for a number, a text, and a buffer whose items are not octets."""
-    checked = _checked(octets)
-    return checked if isinstance(checked, bytes) else bytes(checked)
+    given = checked(octets)
+    return given if isinstance(given, bytes) else bytes(given)
 
 
 class View:
     """Octets where they lie, without a copy: what they are given by is kept as long as the view is."""
 
     def __init__(self, octets: "Octets") -> None:
-        given = _checked(octets)
+        given = checked(octets)
         self._buffer = _PyBuffer()
         ctypes.pythonapi.PyObject_GetBuffer(ctypes.py_object(given), ctypes.byref(self._buffer), 0)
         self.address, self.length = self._buffer.buf, int(self._buffer.len)

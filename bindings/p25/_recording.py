@@ -2,11 +2,13 @@
 
 import ctypes
 import enum
+import struct
 import sys
+from collections import deque
 from types import TracebackType
-from typing import TYPE_CHECKING, Any, AsyncIterator, BinaryIO, Iterator, Optional, Tuple, Type, Union
+from typing import TYPE_CHECKING, Any, AsyncIterator, BinaryIO, Deque, Iterator, List, Optional, Tuple, Type, Union
 
-from ._library import CAUSES, I32, READ, SIZE, U8, U16, U32, U64, WRITE, Cause, Error, View, call, number_of, octets_of
+from ._library import CAUSES, I32, READ, SIZE, U8, U16, U32, U64, WRITE, Cause, Error, View, call, checked, number_of, octets_of
 
 if TYPE_CHECKING:
     from ._library import Octets
@@ -67,6 +69,7 @@ class _Parts(ctypes.Structure):
 
 
 _next_item = call("p25_next_item", I32, WRITE, SIZE, U64, U64, ctypes.c_bool, ctypes.POINTER(_Parts), WRITE, SIZE)
+_many_items = call("p25_items", I32, WRITE, SIZE, U64, U64, ctypes.c_bool, WRITE, SIZE)
 _build = call("p25_build", I32, READ, SIZE, U8, WRITE, SIZE)
 _repair = call("p25_repair", I32, READ, SIZE, WRITE, SIZE)
 _bridge = call("p25_bridge", I32, READ, SIZE, U16, U8, WRITE, SIZE)
@@ -144,42 +147,51 @@ class Item:
         return "Item(kind={!r}, place={}, bits={}, fixes={}, nac={}, duid={}, text={!r})".format(*self._tuple())
 
 
-def _text_of(octets: bytes, place: int) -> str:
-    """Answers the text of the item at a place, by the octets that hold its bits and those that decide it."""
+def _text_at(address: Any, length: int, begin: int, place: int, ended: bool) -> str:
+    """Answers the text of the item at a place of octets, the first of which stands at `begin`."""
     parts, text = _Parts(), ctypes.create_string_buffer(TEXT_ROOM)
-    address = ctypes.cast(ctypes.c_char_p(octets), ctypes.c_void_p)
-    _next_item(address, len(octets), place - place % 8, place, True, ctypes.byref(parts), text, TEXT_ROOM)
+    _next_item(address, length, begin, place, ended, ctypes.byref(parts), text, TEXT_ROOM)
     return ctypes.string_at(text, parts.text_length).decode("ascii")
 
 
+def _text_of(octets: bytes, place: int) -> str:
+    """Answers the text of the item at a place, by the octets that hold its bits and those that decide it."""
+    return _text_at(ctypes.cast(ctypes.c_char_p(octets), ctypes.c_void_p), len(octets), place - place % 8, place, True)
+
+
+# The numbers of an item as p25_items writes them, and how many items one call is asked for.
+_ROW = struct.Struct("=QIIIHBB")
+_AT_ONCE = 1024
+_ONE: Any = ctypes.c_char.from_buffer
+_address_of = ctypes.addressof
+
+
 class _Reader:
-    """Tells items of octets at an address, one call of the library each, and makes them values."""
+    """Tells items of octets at an address, many with one call of the library, and makes them values."""
 
     def __init__(self) -> None:
-        self._parts, self._text = _Parts(), ctypes.create_string_buffer(TEXT_ROOM)
-        self._item = ctypes.byref(self._parts)
+        self._rows = ctypes.create_string_buffer(_AT_ONCE * _ROW.size)
+        self._numbers = memoryview(self._rows)
 
-    def next(self, address: Optional[int], length: int, begin: int, place: int, ended: bool) -> Optional[Item]:
-        """Answers the item at a place of the octets at an address, the first of which stands at `begin`, or None where none is decided."""
-        parts = self._parts
-        answer = _next_item(address, length, begin, place, ended, self._item, self._text, TEXT_ROOM)
-        if answer != 1:
-            if answer < 0:
-                raise ValueError("outside")
-            return None
-        item = Item.__new__(Item)
-        kind = parts.kind
-        item.kind_id, item.place, item.bits, item.fixes = _KIND[kind], parts.place, parts.bits, parts.fixes  # type: ignore[assignment]
-        first = (place - begin) // 8
-        last = (place + item.bits - begin + 7) // 8
-        item._octets = ctypes.string_at((address or 0) + first, last - first)
-        if kind < 3:
-            item.nac, item.duid, item._text = parts.nac, _DUID[parts.duid], None
-        else:
-            # Further octets decide these, so the text is taken while they are there. It is short.
-            item.nac = item.duid = None
-            item._text = ctypes.string_at(self._text, parts.text_length).decode("ascii")
-        return item
+    def next(self, octets: "Union[bytes, bytearray, memoryview]", address: Optional[int], begin: int, place: int, ended: bool) -> List[Item]:
+        """Answers the next items from a place on of octets at an address, the first of which stands at `begin`: at most 1,024, and none where
+        none is decided. Each has its octets copied."""
+        told = _many_items(address, len(octets), begin, place, ended, self._rows, _AT_ONCE)
+        if told < 0:
+            raise ValueError("outside")
+        new, kinds, duids, made = Item.__new__, _KIND, _DUID, []
+        for at, bits, fixes, _, nac, duid, kind in _ROW.iter_unpack(self._numbers[: _ROW.size * told]):
+            item = new(Item)
+            item.kind_id, item.place, item.bits, item.fixes = kinds[kind], at, bits, fixes  # type: ignore[assignment]
+            item._octets = bytes(octets[(at - begin) >> 3 : (at + bits - begin + 7) >> 3])
+            if kind < 3:
+                item.nac, item.duid, item._text = nac, duids[duid], None
+            else:
+                # Further octets decide these, so the text is taken while they are there. It is short.
+                item.nac = item.duid = None
+                item._text = _text_at(address, len(octets), begin, at, ended)
+            made.append(item)
+        return made
 
 
 class Stream:
@@ -193,35 +205,47 @@ class Stream:
     """
 
     def __init__(self) -> None:
+        # Items that are made and not taken, and octets from a bit on, a multiple of 8; the next item to be made begins at `from`, and
+        # there may be one where `fed` is true.
+        self._made: Deque[Item] = deque()
+        self._fed = False
         self._held, self._begin, self._from, self._ended = bytearray(), 0, 0, False
-        self._reader = _Reader()
+        self._next = _Reader().next
 
     def feed(self, octets: "Octets") -> Iterator[Item]:
         """Takes octets, of any number, and answers an iterator over the items that are decided. Error(finished) after `finish`."""
         if self._ended:
             raise Error(Cause.FINISHED)
-        past = (self._from - self._begin) // 8
+        past = (self._from - self._begin) >> 3
         del self._held[:past]
-        self._begin += 8 * past
+        self._begin += past << 3
         self._held += octets if isinstance(octets, (bytes, bytearray)) else octets_of(octets)
+        self._fed = True
         return self._items()
 
     def finish(self) -> Iterator[Item]:
         """Answers an iterator over all items that are left, the last of which ends where the recording does."""
-        self._ended = True
+        self._ended = self._fed = True
         return self._items()
 
+    def _make(self) -> bool:
+        """Makes the next items, and answers whether there are any."""
+        held = self._held
+        if not (self._fed and held):
+            return False
+        # Between two calls the octets may move, so their address is asked for anew.
+        made = self._next(held, _address_of(_ONE(held)), self._begin, self._from, self._ended)
+        self._fed = len(made) == _AT_ONCE
+        if not made:
+            return False
+        self._from = made[-1].place + made[-1].bits
+        self._made.extend(made)
+        return True
+
     def _items(self) -> Iterator[Item]:
-        reader, one = self._reader.next, ctypes.c_char
-        while True:
-            held = self._held
-            # Between two items the octets may move, so their address is asked for anew.
-            address = ctypes.addressof(one.from_buffer(held)) if held else None
-            item = reader(address, len(held), self._begin, self._from, self._ended) if held else None
-            if item is None:
-                return
-            self._from = item.place + item.bits
-            yield item
+        made = self._made
+        while made or self._make():
+            yield made.popleft()
 
     def read(self, file: BinaryIO, size: int = 65536) -> Iterator[Item]:
         """Yields the items of an open file of octets as they are decided, up to its end, and finishes the stream."""
@@ -245,21 +269,26 @@ class Stream:
         return self
 
     def __exit__(self, kind: Optional[Type[BaseException]], error: Optional[BaseException], trace: Optional[TracebackType]) -> None:
-        self._ended = True
+        self._ended = self._fed = True
 
     def __repr__(self) -> str:
-        return f"<p25.Stream at bit {self._from}, {len(self._held)} octets held{', finished' if self._ended else ''}>"
+        place = self._made[0].place if self._made else self._from
+        return f"<p25.Stream at bit {place}, {len(self._held)} octets held{', finished' if self._ended else ''}>"
 
 
 def items(octets: "Octets") -> Iterator[Item]:
     """Yields the items of a whole recording, from the first bit to the last. A buffer, as of mmap or numpy, is not copied."""
-    view, reader, place = View(octets), _Reader(), 0
+    given = checked(octets)
+    if len(given) == 0:
+        return
+    view, following, place = View(given), _Reader().next, 0
+    source = given if isinstance(given, bytes) else memoryview(given).cast("B")
     while True:
-        item = reader.next(view.address, view.length, 0, place, True) if view.length else None
-        if item is None:
+        made = following(source, view.address, 0, place, True)
+        if not made:
             return
-        place = item.place + item.bits
-        yield item
+        place = made[-1].place + made[-1].bits
+        yield from made
 
 
 def _unit(function: Any, *arguments: Any) -> bytes:

@@ -3,3 +3,7 @@ pub mod Items
 pub mod Calls
 pub mod Building
 pub mod Version
+pub mod Many
+pub mod Places
+pub mod Streams
+pub mod Marks

@@ -14,11 +14,11 @@ use p25_text::item_text;
 use p25_units::{Body, Frame, Item, Statuses, Unit, VoiceUnit};
 
 // An item is told; none is; the place is not one of these octets.
-const ITEM: i32 = 1;
+pub(crate) const ITEM: i32 = 1;
 
-const NO_ITEM: i32 = 0;
+pub(crate) const NO_ITEM: i32 = 0;
 
-const OUTSIDE: i32 = -1;
+pub(crate) const OUTSIDE: i32 = -1;
 
 // The largest place at which an item is asked for.
 const PLACE_MOST: u64 = 1 << 59;
@@ -73,7 +73,7 @@ pub extern "C" fn p25_next_item(
 
 // An item to be written over. Where it is a voice unit and another follows, only what a voice unit has is written.
 #[inline(always)]
-fn blank() -> Item {
+pub(crate) fn blank() -> Item {
     let unit = Unit::new(0, Body::Voice(VoiceUnit::End));
     let statuses = Statuses::new();
     Item::Whole {
@@ -84,7 +84,7 @@ fn blank() -> Item {
 }
 
 // Whether an item may be asked for at a place, where so many octets of the recording stand from bit `begin` on.
-fn is_inside(begin: u64, from: u64, count: usize) -> bool
+pub(crate) fn is_inside(begin: u64, from: u64, count: usize) -> bool
     ensures { result ≡ is_inside begin from count }
 {
     if begin % 8 != 0 || from < begin || from > PLACE_MOST {
@@ -94,7 +94,7 @@ fn is_inside(begin: u64, from: u64, count: usize) -> bool
 }
 
 // Sets `found` to the item that begins at a place that may be asked for, if there is one.
-fn find_at(octets: &[u8], begin: u64, from: u64, ended: bool, found: &mut Item) -> bool
+pub(crate) fn find_at(octets: &[u8], begin: u64, from: u64, ended: bool, found: &mut Item) -> bool
     requires { is_inside begin from (length octets.now) ≡ true }
     ensures first { result ≡ true → (items : List item_type) × (items_asked ended begin from octets.now ≡ Some (found.new ∷ items)) }
     ensures none { result ≡ false → items_asked ended begin from octets.now ≡ Some [] }
@@ -104,7 +104,7 @@ fn find_at(octets: &[u8], begin: u64, from: u64, ended: bool, found: &mut Item) 
 }
 
 // Tells an item: its numbers, and its text where there is room.
-fn tell_item(found: &Item, item: &mut ItemParts, text: &mut [u8])
+pub(crate) fn tell_item(found: &Item, item: &mut ItemParts, text: &mut [u8])
     requires { IsSoundItem found.now }
     ensures item { item.new ≡ parts_of found.now }
     ensures text { text.new ≡ text_left (item_text_of found.now) text.old }
@@ -133,7 +133,7 @@ fn item_parts(found: &Item, text_length: u32) -> ItemParts
 }
 
 // The network access code (NAC) and the data unit identifier (DUID) of a unit.
-fn identifier(found: &Item) -> (u16, u8)
+pub(crate) fn identifier(found: &Item) -> (u16, u8)
     ensures nac { result.0 ≡ nac_told found.now }
     ensures duid { result.1 ≡ duid_told found.now }
 {
@@ -145,7 +145,7 @@ fn identifier(found: &Item) -> (u16, u8)
 }
 
 // The number of wrong bits of a whole unit.
-fn fixes(found: &Item) -> u32
+pub(crate) fn fixes(found: &Item) -> u32
     ensures { result ≡ fixes_told found.now }
 {
     match found {
@@ -155,7 +155,7 @@ fn fixes(found: &Item) -> u32
 }
 
 // The number of an item's kind.
-fn kind(found: &Item) -> u8
+pub(crate) fn kind(found: &Item) -> u8
     ensures { result ≡ kind_number found.now }
 {
     match found {

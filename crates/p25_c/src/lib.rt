@@ -18,9 +18,14 @@
 mod blocks;
 mod building;
 mod checks;
+mod dibits;
 mod items;
 mod laws;
+mod many;
+mod marks;
+mod repeats;
 mod room;
 mod solomon;
+mod stream;
 mod version;
 mod words;

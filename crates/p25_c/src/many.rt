@@ -1,0 +1,79 @@
+//! Many items of a recording in one call, by their numbers alone.
+
+ghost use Rattle.std.specs.Prelude.{◌≡◌, ◌-◌, ◌≤◌, pos, Some, true, length, drop};
+ghost use Rattle.p25_bits.specs.Bits.{octet_bits};
+ghost use Rattle.p25_c.specs.Items.{is_inside, items_asked};
+ghost use Rattle.p25_c.specs.Many.{many_answer, many_left, numbers_of};
+ghost use Rattle.p25_stream.specs.Items.{items_by};
+
+use crate::items::{ItemParts, OUTSIDE, blank, fixes, identifier, is_inside, kind};
+use p25_stream::find_item;
+use p25_units::Item;
+
+// The most items that one call tells.
+const ITEMS_MOST: usize = 2_147_483_647;
+
+/// Tells the items from bit `from` of a recording on by their numbers, in order: as many as there are and `items` has room for, and at
+/// most 2,147,483,647. What is given, and which items there are, is as `p25_next_item` says. No text is made, so `text_length` is 0.
+///
+/// Answers how many items are told: so many of `items`, from the first on, are set, and the others stay. Answers -1 where `p25_next_item`
+/// does; all of `items` stay then. A next call goes on where the last item that was told ends.
+#[unsafe(no_mangle)]
+pub extern "C" fn p25_items(
+    octets: &[u8],
+    begin: u64,
+    from: u64,
+    ended: bool,
+    items: &mut [ItemParts],
+) -> i32
+    ensures answer { result ≡ many_answer (items_asked ended begin from octets.now) (length items.old) }
+    ensures items { items.new ≡ many_left (items_asked ended begin from octets.now) items.old }
+{
+    if !is_inside(begin, from, octets.len()) {
+        return OUTSIDE;
+    }
+    tell_items(octets, begin, from, ended, items)
+}
+
+// Tells the items from a place on that may be asked for, as many as there are and there is room for, and answers how many.
+fn tell_items(octets: &[u8], begin: u64, from: u64, ended: bool, items: &mut [ItemParts]) -> i32
+    requires inside { is_inside begin from (length octets.now) ≡ true }
+    ensures answer { result ≡ many_answer (Some (items_by ended from (drop (from - begin) (octet_bits octets.now)))) (length items.old) }
+    ensures items { items.new ≡ many_left (Some (items_by ended from (drop (from - begin) (octet_bits octets.now)))) items.old }
+{
+    let room = items.len().min(ITEMS_MOST);
+    let mut found = blank();
+    let mut place = from;
+    for i in 0..room {
+        if !find_item(octets, (place - begin) as usize, place, ended, &mut found) {
+            return told(i);
+        }
+        items[i] = item_numbers(&found);
+        place += found.covered();
+    }
+    told(room)
+}
+
+// The number of items that are told.
+fn told(count: usize) -> i32
+    requires { count ≤ 2147483647 }
+    ensures { result ≡ pos count }
+{
+    count as i32
+}
+
+// The numbers of an item, without the length of its text.
+pub(crate) fn item_numbers(found: &Item) -> ItemParts
+    ensures { result ≡ numbers_of found.now }
+{
+    let (nac, duid) = identifier(found);
+    ItemParts {
+        place: found.place(),
+        bits: found.covered() as u32,
+        fixes: fixes(found),
+        text_length: 0,
+        nac,
+        duid,
+        kind: kind(found),
+    }
+}

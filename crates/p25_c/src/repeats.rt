@@ -1,0 +1,154 @@
+//! Items at any bit of a recording: their octets, and units there repaired and under another network access code (NAC).
+
+ghost use Rattle.std.specs.Prelude.{◌≡◌, ◌+◌, ◌-◌, ◌*◌, ◌^◌, ◌<◌, ◌≤◌, Err, Ok, true, length};
+ghost use Rattle.p25_bits.specs.Bits.{octet_bits, part};
+ghost use Rattle.p25_c.specs.Building.{wrong_nac, wrong_status};
+ghost use Rattle.p25_c.specs.Items.{is_inside};
+ghost use Rattle.p25_c.specs.Places.{bridged_at, filled, has_item, item_cut, repaired_at};
+ghost use Rattle.p25_c.specs.Rooms.{IsWriting};
+ghost use Rattle.p25_status.specs.Status.{status_number};
+ghost use Rattle.p25_status.specs.declared.symbols.Status.{Status as Symbol};
+
+use crate::building::{NO_UNIT, WRONG_NAC, WRONG_STATUS, is_whole, write_bits};
+use crate::items::{ItemParts, OUTSIDE, blank, find_at, is_inside};
+use p25_bits::BitBuf;
+use p25_bits::laws::octets_fit;
+use p25_status::Status;
+use p25_stream::{bridge_item, repair_item};
+
+// The most bits that an item covers.
+const ITEM_BITS: u32 = 25_920;
+
+/// Writes the bits of an item, which begins at any bit of a recording, as octets: the first bit is the highest of the first octet, and
+/// the bits after the last are 0. Of the recording the octets from bit `begin` on are given. Of the item its place and its number of bits
+/// are looked at. Answers how many octets it wrote, at most 3,240; the octets of `into` after them stay.
+///
+/// Where it does not, all of `into` stays, and it answers the first of these that applies: -1, `begin` is no multiple of 8, or the item
+/// has a bit that these octets do not, or more than 25,920 bits, or begins after bit 2^59; -2, it has more octets than `into`.
+#[unsafe(no_mangle)]
+pub extern "C" fn p25_item_octets(
+    octets: &[u8],
+    begin: u64,
+    item: &ItemParts,
+    into: &mut [u8],
+) -> i32
+    ensures { IsWriting (item_cut begin item.now.place item.now.bits octets.now) into.old into.new result }
+{
+    if !has_item(octets, begin, item.place, item.bits) {
+        return OUTSIDE;
+    }
+    let mut bits = BitBuf::new();
+    cut(
+        octets,
+        (item.place - begin) as usize,
+        item.bits as usize,
+        &mut bits,
+    );
+    fill(&mut bits);
+    write_bits(&bits, into)
+}
+
+// Whether so many bits from a place on are among those of the octets, and an item may cover so many.
+fn has_item(octets: &[u8], begin: u64, place: u64, bits: u32) -> bool
+    ensures { result ≡ has_item begin place bits (length octets.now) }
+{
+    if bits > ITEM_BITS || !is_inside(begin, place, octets.len()) {
+        return false;
+    }
+    (place - begin + u64::from(bits)).div_ceil(8) <= octets.len() as u64
+}
+
+// Sets `bits` to so many bits of octets from a bit on.
+fn cut(octets: &[u8], at: usize, count: usize, bits: &mut BitBuf)
+    requires there { at + count ≤ 8 * length octets.now }
+    requires few { count ≤ 25920 }
+    requires near { at ≤ 2 ^ 59 }
+    ensures { bits.new ≡ part at count (octet_bits octets.now) }
+{
+    let first = at / 8;
+    let last = (at + count + 7) / 8;
+    let some = &octets[first..last];
+    octets_fit(some);
+    let mut whole = BitBuf::new();
+    whole.put_numbers(some, 8);
+    bits.clear();
+    bits.append(&whole, at % 8, count);
+}
+
+// Appends zeros where bits fill no octet.
+fn fill(bits: &mut BitBuf)
+    requires { length bits.old ≤ 25920 }
+    ensures { bits.new ≡ filled bits.old }
+{
+    let missing = (8 - bits.len() % 8) % 8;
+    bits.put_field(0, missing as u32);
+}
+
+/// Writes the whole unit that begins at bit `from` of a recording as it was sent, as the command `repair` writes it. Of the recording
+/// the octets from bit `begin` on are given. Answers how many octets it wrote; the octets of `into` after them stay.
+///
+/// Where it does not, all of `into` stays, and it answers the first of these that applies: -1, where `p25_next_item` answers it; -3, the
+/// item there is no whole unit; -2, the unit has more octets than `into`.
+#[unsafe(no_mangle)]
+pub extern "C" fn p25_repair_at(octets: &[u8], begin: u64, from: u64, into: &mut [u8]) -> i32
+    ensures { IsWriting (repaired_at begin from octets.now) into.old into.new result }
+{
+    if !is_inside(begin, from, octets.len()) {
+        return OUTSIDE;
+    }
+    let mut found = blank();
+    if !find_at(octets, begin, from, true, &mut found) || !is_whole(&found) {
+        return NO_UNIT;
+    }
+    let mut bits = BitBuf::new();
+    repair_item(&found, &mut bits);
+    write_bits(&bits, into)
+}
+
+/// Writes the whole unit that begins at bit `from` of a recording under another network access code (NAC) and with one status symbol
+/// everywhere, as the command `bridge` writes it. Of the recording the octets from bit `begin` on are given. Answers how many octets it
+/// wrote; the octets of `into` after them stay.
+///
+/// Where it does not, all of `into` stays, and it answers the first of these that applies: -4, `nac` is above 4095; -5, `status` is
+/// above 3; -1, where `p25_next_item` answers it; -3, the item there is no whole unit; -2, the unit has more octets than `into`.
+#[unsafe(no_mangle)]
+pub extern "C" fn p25_bridge_at(
+    octets: &[u8],
+    begin: u64,
+    from: u64,
+    nac: u16,
+    status: u8,
+    into: &mut [u8],
+) -> i32
+    ensures strange_code { 4096 ≤ nac → IsWriting (Err wrong_nac) into.old into.new result }
+    ensures strange_symbol { nac < 4096 → 4 ≤ status → IsWriting (Err wrong_status) into.old into.new result }
+    ensures bridged { nac < 4096 → (symbol : Symbol) → status_number symbol ≡ status
+        → IsWriting (bridged_at nac symbol begin from octets.now) into.old into.new result }
+{
+    if nac > 4_095 {
+        return WRONG_NAC;
+    }
+    let Some(symbol) = Status::new(status) else {
+        return WRONG_STATUS;
+    };
+    bridge_at(octets, begin, from, nac, symbol, into)
+}
+
+// Writes the whole unit at a place under another network access code (NAC) and with one status symbol everywhere.
+fn bridge_at(octets: &[u8], begin: u64, from: u64, nac: u16, status: Status, into: &mut [u8]) -> i32
+    requires { nac < 4096 }
+    ensures { IsWriting (bridged_at nac status begin from octets.now) into.old into.new result }
+{
+    if !is_inside(begin, from, octets.len()) {
+        return OUTSIDE;
+    }
+    let mut found = blank();
+    if !find_at(octets, begin, from, true, &mut found) {
+        return NO_UNIT;
+    }
+    let mut bits = BitBuf::new();
+    if !bridge_item(&found, nac, status, &mut bits) {
+        return NO_UNIT;
+    }
+    write_bits(&bits, into)
+}
