@@ -18,6 +18,8 @@ mod event;
 pub mod laws;
 mod side;
 mod station;
+#[cfg(test)]
+mod tests;
 mod world;
 
 pub use event::{DuplexEvent, DuplexStep};

@@ -19,6 +19,8 @@
 pub mod laws;
 mod read;
 mod shown;
+#[cfg(test)]
+mod tests;
 mod texts;
 
 pub use read::read_duplex_event;

@@ -18,6 +18,8 @@ mod joiner;
 pub mod laws;
 mod long_step;
 mod long_world;
+#[cfg(test)]
+mod tests;
 
 pub use joiner::{Joined, Joiner};
 pub use long_step::{LongEvent, LongStep, Then};

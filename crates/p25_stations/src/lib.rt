@@ -19,6 +19,8 @@ mod air;
 pub mod laws;
 mod newest;
 mod step;
+#[cfg(test)]
+mod tests;
 mod truth;
 mod world;
 

@@ -7,13 +7,11 @@ mod faults;
 mod order;
 mod packets;
 mod refusals;
-mod reports;
 mod rows;
 mod samples;
 mod size;
 mod soft;
 mod voice;
-mod words;
 
 ghost use Rattle.std.specs.Prelude.{◌≡◌, ◌<◌, length};
 
