@@ -1,5 +1,7 @@
 //! What comes of a packet on the air, by places that a program apart from this code found, and a world step by step.
 
+ghost use Rattle.std.specs.Prelude.{◌≡◌, ◌<◌, All, true};
+
 use super::{
     Carried, Event, Flips, Message, MessageList, Newest, Offer, Sender, Step, StepKind, Way, World,
     carry, transmit,
@@ -18,12 +20,23 @@ fn the_example_of_the_head(rt: HostRuntime) -> Result<(), Fail> {
     Ok(())
 }
 
+// Whether a place is above all places held.
+fn is_above(flips: &Flips, place: u16) -> bool
+    ensures { result ≡ true → All (λ held. held < place) flips.now }
+{
+    for held in flips.as_slice() {
+        if *held >= place {
+            return false;
+        }
+    }
+    true
+}
+
 // The places of some wrong bits, as far as they stand in order.
 fn places(list: &[u16]) -> Flips {
     let mut flips = Flips::new();
     for place in list {
-        let is_above = flips.is_empty() || flips.get(flips.len() - 1) < *place;
-        if flips.len() < 4_096 && is_above && *place < 25_920 {
+        if flips.len() < 4_096 && *place < 25_920 && is_above(&flips, *place) {
             flips.push(*place);
         }
     }
