@@ -14,11 +14,17 @@ const TERMINATOR: [u8; 18] = [
 fn is_repeated() -> bool {
     let mut scanner = Scanner::new();
     let mut raw = BitBuf::new();
-    for octet in &TERMINATOR {
-        if scanner.is_drained() {
-            scanner.push(*octet);
-        }
+    if scanner.push_some(&TERMINATOR) != 8 || !scanner.is_drained() {
+        return false;
     }
+    if scanner.push_some(&TERMINATOR[8..]) != 8 || !scanner.is_drained() {
+        return false;
+    }
+    scanner.push(TERMINATOR[16]);
+    if !scanner.is_drained() {
+        return false;
+    }
+    scanner.push(TERMINATOR[17]);
     let Some(item) = scanner.next(&mut raw) else {
         return false;
     };

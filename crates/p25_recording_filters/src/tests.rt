@@ -1,5 +1,7 @@
 //! What each command writes of a short recording, by octets and texts that are written by hand.
 
+ghost use Rattle.std.specs.Prelude.{◌≡◌, ◌≤◌};
+
 use super::{Calls, Change, Changed, Check, Recording, Report, Show, Soft};
 use p25_bits::BitBuf;
 use p25_filter::{Ending, FilterEnd, run_on};
@@ -49,86 +51,78 @@ struct Row<'a> {
 
 const DONE: FilterEnd = FilterEnd::Ended(Ending::Done);
 
-// Whether `show` ends so, having written this.
-fn shows(row: &Row) -> bool {
+// How a report of a row's octets ends, and whether it writes what the row says.
+fn run_report<R: Report + Drop>(report: R, row: &Row) -> (FilterEnd, bool)
+    requires counted { R.counted report ≡ 0 }
+    requires reached { R.HasReached report 0 }
+{
     let mut source = SteadySource::new(row.input, row.piece.max(1));
     let mut room = [0; 512];
     let mut sink = SliceSink::new(&mut room, &[]);
-    let mut filter = Recording::new(Show);
-    let end = run_on(&mut filter, &mut Pair::new(&mut source, &mut sink));
-    end == DONE && sink.written() == row.output
+    let mut port = Pair::new(&mut source, &mut sink);
+    let mut recording = Recording::new(report);
+    let end = run_on(&mut recording, &mut port);
+    (end, sink.written() == row.output)
 }
 
-// Whether `check` finds so many faults, having written this.
-fn checks(row: &Row, faults: u64) -> bool {
+// The same of `soft`.
+fn run_soft(row: &Row) -> (FilterEnd, bool) {
     let mut source = SteadySource::new(row.input, row.piece.max(1));
     let mut room = [0; 512];
     let mut sink = SliceSink::new(&mut room, &[]);
-    let mut filter = Recording::new(Check::new());
-    let end = run_on(&mut filter, &mut Pair::new(&mut source, &mut sink));
-    end == FilterEnd::Ended(Ending::Found { faults }) && sink.written() == row.output
-}
-
-// Whether a change of a recording, by the code and the status symbol where it is bridged, writes this.
-fn changes(row: &Row, to: Option<(u16, Status)>) -> bool {
-    let mut source = SteadySource::new(row.input, row.piece.max(1));
-    let mut room = [0; 512];
-    let mut sink = SliceSink::new(&mut room, &[]);
-    let change = match to {
-        Some((nac, status)) => Change::Bridged {
-            nac: nac % 4_096,
-            status,
-        },
-        None => Change::Repaired,
-    };
-    let mut filter = Recording::new(Changed::new(change));
-    let end = run_on(&mut filter, &mut Pair::new(&mut source, &mut sink));
-    end == DONE && sink.written() == row.output
+    let mut port = Pair::new(&mut source, &mut sink);
+    let mut soft = Soft::new();
+    let end = run_on(&mut soft, &mut port);
+    (end, sink.written() == row.output)
 }
 
 #[test]
 fn terminators(rt: HostRuntime) {
     let input = RECORDING.as_slice();
+    let found = FilterEnd::Ended(Ending::Found { faults: 2 });
     for piece in [1, 39] {
         assert!(rt;
-            shows(&Row {
-                input,
-                piece,
-                output: SHOWN
-            })
+            run_report(
+                Show,
+                &Row {
+                    input,
+                    piece,
+                    output: SHOWN
+                }
+            ) == (DONE, true)
         );
         assert!(rt;
-            checks(
+            run_report(
+                Check::new(),
                 &Row {
                     input,
                     piece,
                     output: CHECKED
-                },
-                2
-            )
+                }
+            ) == (found, true)
         );
+        let repair = Changed::new(Change::Repaired);
         assert!(rt;
-            changes(
+            run_report(
+                repair,
                 &Row {
                     input,
                     piece,
                     output: REPAIRED
-                },
-                None
-            )
+                }
+            ) == (DONE, true)
         );
-        let one = Status::new(1);
-        assert!(rt; one.is_some());
-        if let Some(one) = one {
+        if let Some(status) = Status::new(1) {
+            let bridge = Changed::new(Change::Bridged { nac: 0x293, status });
             assert!(rt;
-                changes(
+                run_report(
+                    bridge,
                     &Row {
                         input,
                         piece,
                         output: BRIDGED
-                    },
-                    Some((0x293, one))
-                )
+                    }
+                ) == (DONE, true)
             );
         }
     }
@@ -142,19 +136,9 @@ fn levels() -> [u8; 156] {
     let mut levels = [0; 156];
     for i in 0..156 {
         let octet = RECORDING[i / 4];
-        levels[i] = LEVELS[usize::from(octet >> (6 - 2 * (i % 4)) & 3)];
+        levels[i] = LEVELS[usize::from((octet >> (6 - 2 * (i % 4))) % 4)];
     }
     levels
-}
-
-// Whether levels are written as these octets.
-fn softens(row: &Row) -> bool {
-    let mut source = SteadySource::new(row.input, row.piece.max(1));
-    let mut room = [0; 512];
-    let mut sink = SliceSink::new(&mut room, &[]);
-    let mut filter = Soft::new();
-    let end = run_on(&mut filter, &mut Pair::new(&mut source, &mut sink));
-    end == DONE && sink.written() == row.output
 }
 
 // The last group of levels is filled with dibits 00, which the last of the recording are.
@@ -167,12 +151,14 @@ fn levels_of_terminators(rt: HostRuntime) {
             piece: 7,
             output: RECORDING,
         };
-        assert!(rt; softens(&row));
+        assert!(rt; run_soft(&row) == (DONE, true));
     }
 }
 
 // Puts the octets of the unit of a line behind those before, and answers how many there are then.
-fn put_unit(line: &[u8], at: usize, room: &mut [u8; 512]) -> usize {
+fn put_unit(line: &[u8], at: usize, room: &mut [u8; 512]) -> usize
+    requires { at ≤ 300 }
+{
     let Ok(unit) = read_line(line) else {
         return at;
     };
@@ -184,16 +170,6 @@ fn put_unit(line: &[u8], at: usize, room: &mut [u8; 512]) -> usize {
         room[at..at + count].copy_from_slice(out.octets());
     }
     at + count
-}
-
-// Whether `calls` writes this.
-fn tells(row: &Row) -> bool {
-    let mut source = SteadySource::new(row.input, row.piece.max(1));
-    let mut room = [0; 512];
-    let mut sink = SliceSink::new(&mut room, &[]);
-    let mut filter = Recording::new(Calls::new());
-    let end = run_on(&mut filter, &mut Pair::new(&mut source, &mut sink));
-    end == DONE && sink.written() == row.output
 }
 
 const ENDED: &[u8] = b"call at=0 bits=1872 nac=000 entry=late end=tdu links=1 broken=0 \
@@ -218,6 +194,6 @@ fn calls_of_voice(rt: HostRuntime) {
             piece: 100,
             output,
         };
-        assert!(rt; tells(&row));
+        assert!(rt; run_report(Calls::new(), &row) == (DONE, true));
     }
 }

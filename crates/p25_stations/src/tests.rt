@@ -7,7 +7,7 @@ use super::{
     carry, transmit,
 };
 use p25_bits::BitBuf;
-use p25_packet_blocks::Packet;
+use p25_packet_blocks::{Packet, is_whole};
 use p25_status::Field;
 use std::test::Fail;
 
@@ -81,7 +81,11 @@ fn offered() -> Option<Packet> {
 
 // What comes of it where these bits are wrong.
 fn come_of(list: &[u16]) -> Option<char> {
-    Some(match carry(&offered()?, &places(list)) {
+    let packet = offered()?;
+    if !is_whole(&packet) {
+        return None;
+    }
+    Some(match carry(&packet, &places(list)) {
         Carried::Lost(Field::Sync) => 'l',
         Carried::Lost(_) => '?',
         Carried::Foreign => 'f',
@@ -102,8 +106,12 @@ fn what_comes_of_a_packet(rt: HostRuntime) {
 
 // The network access code (NAC), the status symbols and the length of the transmission of a packet.
 fn front() -> Option<(u64, u64, u64, usize)> {
+    let packet = offered()?;
+    if !is_whole(&packet) {
+        return None;
+    }
     let mut out = BitBuf::new();
-    transmit(&offered()?, &mut out);
+    transmit(&packet, &mut out);
     if out.len() < 144 {
         return None;
     }
@@ -124,7 +132,13 @@ fn a_transmission(rt: HostRuntime) {
 fn is_newest() -> Option<bool> {
     let mut newest = Newest::new();
     let none = newest.deliver(Way::Packets, &Flips::new()).err();
-    let kind = newest.keep((StepKind::Busy, Some(offered()?)));
+    let packet = offered()?;
+    if !is_whole(&packet) {
+        return None;
+    }
+    // A packet that is transmitted can be sent.
+    transmit(&packet, &mut BitBuf::new());
+    let kind = newest.keep((StepKind::Busy, Some(packet)));
     let _ = newest.keep((StepKind::Idle, None));
     let heard = newest.deliver(Way::Packets, &Flips::new()).ok()?;
     let is_none = none == Some(StepKind::Nothing { way: Way::Packets });

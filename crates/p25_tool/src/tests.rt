@@ -112,8 +112,25 @@ fn each_command(rt: HostRuntime) {
     }
 }
 
-// Calls that end otherwise: their words and input, how they end, and what is written before.
-const ENDS: [(&[&[u8]], &[u8], Outcome, &[u8]); 4] = [
+// A call, its input, how it ends, and what it writes before.
+type End = (
+    &'static [&'static [u8]],
+    &'static [u8],
+    Outcome,
+    &'static [u8],
+);
+
+// Whether a call ends so.
+fn ends(alloc: Global, end: &End) -> bool {
+    let (words, input, outcome, output) = *end;
+    let mut source = SteadySource::new(input, 4);
+    let mut room = [0; 64];
+    let mut sink = SliceSink::new(&mut room, &[]);
+    run(alloc, &words_of(words), &mut source, &mut sink) == outcome && sink.written() == output
+}
+
+// Calls that end otherwise.
+const ENDS: [End; 4] = [
     (
         &[b"check"],
         b"\x55",
@@ -135,12 +152,8 @@ const ENDS: [(&[&[u8]], &[u8], Outcome, &[u8]); 4] = [
 
 #[test]
 fn how_calls_end(rt: HostRuntime) {
-    for (words, input, outcome, output) in &ENDS {
-        let mut source = SteadySource::new(input, 4);
-        let mut room = [0; 64];
-        let mut sink = SliceSink::new(&mut room, &[]);
-        let ended = run(rt.alloc(), &words_of(words), &mut source, &mut sink);
-        assert!(rt; ended == *outcome && sink.written() == *output);
+    for end in &ENDS {
+        assert!(rt; ends(rt.alloc(), end));
     }
 }
 
