@@ -14,14 +14,15 @@ const TERMINATOR: [u8; 18] = [
 fn is_repeated() -> bool {
     let mut scanner = Scanner::new();
     let mut raw = BitBuf::new();
-    if scanner.push_some(&TERMINATOR) != 8 || !scanner.is_drained() {
+    if scanner.push_some(&TERMINATOR) != 8 || scanner.held() != 64 || !scanner.is_drained() {
         return false;
     }
-    if scanner.push_some(&TERMINATOR[8..]) != 8 || !scanner.is_drained() {
+    let taken = scanner.push_some(&TERMINATOR[8..]);
+    if taken != 8 || scanner.held() != 128 || !scanner.is_drained() {
         return false;
     }
     scanner.push(TERMINATOR[16]);
-    if !scanner.is_drained() {
+    if scanner.held() != 136 || !scanner.is_drained() {
         return false;
     }
     scanner.push(TERMINATOR[17]);

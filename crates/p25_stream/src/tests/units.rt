@@ -39,14 +39,14 @@ fn gap_comes() -> bool {
 fn terminator_comes() -> bool {
     let mut scanner = Scanner::new();
     let mut raw = BitBuf::new();
-    if scanner.push_some(&OCTETS[2..]) != 8 || !scanner.is_drained() {
+    if scanner.push_some(&OCTETS[2..]) != 8 || scanner.held() != 64 || !scanner.is_drained() {
         return false;
     }
-    if scanner.push_some(&OCTETS[10..]) != 8 || !scanner.is_drained() {
+    if scanner.push_some(&OCTETS[10..]) != 8 || scanner.held() != 128 || !scanner.is_drained() {
         return false;
     }
     scanner.push(0x00);
-    if !scanner.is_drained() {
+    if scanner.held() != 136 || !scanner.is_drained() {
         return false;
     }
     scanner.push(0x01);
@@ -68,7 +68,7 @@ fn sync_alone_comes() -> bool {
     let mut scanner = Scanner::new();
     let mut raw = BitBuf::new();
     raw.put_field(7, 3);
-    if scanner.push_some(&FAR) != 8 || !scanner.is_drained() {
+    if scanner.push_some(&FAR) != 8 || scanner.held() != 64 || !scanner.is_drained() {
         return false;
     }
     if scanner.push_some(&FAR[8..]) != 8 {
