@@ -1,6 +1,4 @@
-//! What comes of a packet on the air, by places that a program apart from this code found, and a world step by step.
-
-ghost use Rattle.std.specs.Prelude.{◌≡◌, ◌<◌, All, true};
+//! What comes of a packet on the air, and a world step by step.
 
 use super::{
     Carried, Event, Flips, Message, MessageList, Newest, Offer, Sender, Step, StepKind, Way, World,
@@ -20,56 +18,33 @@ fn the_example_of_the_head(rt: HostRuntime) -> Result<(), Fail> {
     Ok(())
 }
 
-// Whether a place is above all places held.
-fn is_above(flips: &Flips, place: u16) -> bool
-    ensures { result ≡ true → All (λ held. held < place) flips.now }
-{
-    for held in flips.as_slice() {
-        if *held >= place {
-            return false;
-        }
-    }
-    true
-}
-
-// The places of some wrong bits, as far as they stand in order.
-fn places(list: &[u16]) -> Flips {
+// The first four bits of a sync, and the first five.
+fn first_four() -> Flips {
     let mut flips = Flips::new();
-    for place in list {
-        if flips.len() < 4_096 && *place < 25_920 && is_above(&flips, *place) {
-            flips.push(*place);
-        }
-    }
+    flips.push(0);
+    flips.push(1);
+    flips.push(2);
+    flips.push(3);
     flips
 }
 
-// Where the network identifiers (NID) of the network access codes (NAC) 293 and 292 hex differ.
-const OTHER_CODE: &[u16] = &[
-    59, 66, 67, 73, 74, 79, 81, 82, 84, 85, 87, 88, 89, 90, 91, 92, 94, 97, 98, 99, 100, 104, 108,
-    111,
-];
+fn first_five() -> Flips {
+    let mut flips = Flips::new();
+    flips.push(0);
+    flips.push(1);
+    flips.push(2);
+    flips.push(3);
+    flips.push(4);
+    flips
+}
 
-// Where the first transmissions of 6162 and of 6163 hex differ, and those of 6162 under the numbers 0 and 3.
-const OTHER_OCTET: &[u16] = &[
-    322, 360, 361, 363, 364, 367, 369, 375, 408, 409, 412, 416, 426, 427, 458, 460, 461, 462, 465,
-    466, 468, 470, 476, 508, 509, 510, 511, 514,
-];
-
-const OTHER_NUMBER: &[u16] = &[
-    160, 161, 162, 163, 164, 165, 200, 201, 203, 213, 217, 251, 252, 253, 258, 259, 260, 264, 310,
-    314,
-];
-
-// The wrong bits of a transmission of 6162 hex, and what comes of it: a letter for lost, foreign, heard, or heard as another.
-const CARRIED: [(&[u16], char); 7] = [
-    (&[], 'h'),
-    (&[0, 1, 2, 3], 'h'),
-    (&[0, 1, 2, 3, 4], 'l'),
-    (OTHER_CODE, 'f'),
-    (OTHER_OCTET, 'p'),
-    (OTHER_NUMBER, 'p'),
-    (&[576, 25_919], 'h'),
-];
+// Places behind the end of a transmission of one block.
+fn behind_the_end() -> Flips {
+    let mut flips = Flips::new();
+    flips.push(576);
+    flips.push(25_919);
+    flips
+}
 
 // The packet (PDU) of the message 61 62 hex.
 fn offered() -> Option<Packet> {
@@ -79,13 +54,13 @@ fn offered() -> Option<Packet> {
     }
 }
 
-// What comes of it where these bits are wrong.
-fn come_of(list: &[u16]) -> Option<char> {
+// What comes of it where these bits are wrong: a letter for lost, foreign, heard, or heard as another.
+fn come_of(flips: &Flips) -> Option<char> {
     let packet = offered()?;
     if !is_whole(&packet) {
         return None;
     }
-    Some(match carry(&packet, &places(list)) {
+    Some(match carry(&packet, flips) {
         Carried::Lost(Field::Sync) => 'l',
         Carried::Lost(_) => '?',
         Carried::Foreign => 'f',
@@ -99,9 +74,10 @@ fn come_of(list: &[u16]) -> Option<char> {
 
 #[test]
 fn what_comes_of_a_packet(rt: HostRuntime) {
-    for (list, letter) in &CARRIED {
-        assert!(rt; come_of(list) == Some(*letter));
-    }
+    assert!(rt; come_of(&Flips::new()) == Some('h'));
+    assert!(rt; come_of(&first_four()) == Some('h'));
+    assert!(rt; come_of(&first_five()) == Some('l'));
+    assert!(rt; come_of(&behind_the_end()) == Some('h'));
 }
 
 // The network access code (NAC), the status symbols and the length of the transmission of a packet.
@@ -163,22 +139,31 @@ fn steps_to(world: &mut World, event: &Event, kind: StepKind) -> bool {
     }
 }
 
-// Whether a message that is sent, comes as another one, and is acknowledged, is told so by a world.
+// Whether a message that is sent, lost, sent again, delivered and acknowledged is told so by a world.
 fn is_told(world: &mut World) -> Option<bool> {
     let taken = StepKind::Taken {
         number: 0,
         blocks: 1,
     };
     let is_sent = steps_to(world, &Event::Send(Message::new(b"ab")?), taken);
+    let lost = StepKind::Lost {
+        way: Way::Packets,
+        field: Field::Sync,
+    };
+    let is_lost = steps_to(world, &Event::ToReceiver(first_five()), lost);
     let resent = StepKind::Resent {
         number: 0,
         tries: 2,
     };
     let is_resent = steps_to(world, &Event::Timeout, resent);
-    let step = world.step(&Event::ToReceiver(places(OTHER_OCTET))).ok()?;
+    let delivered = StepKind::Delivered {
+        number: 0,
+        message: Message::new(b"ab")?,
+    };
+    let is_delivered = steps_to(world, &Event::ToReceiver(first_four()), delivered);
     let acknowledged = StepKind::Acknowledged { number: 0 };
     let is_acknowledged = steps_to(world, &Event::ToSender(Flips::new()), acknowledged);
-    let are_steps = is_sent && is_resent && step.false_pass && is_acknowledged;
+    let are_steps = is_sent && is_lost && is_resent && is_delivered && is_acknowledged;
     Some(are_steps && steps_to(world, &Event::Reopen, StepKind::Up))
 }
 
@@ -186,14 +171,24 @@ fn is_told(world: &mut World) -> Option<bool> {
 fn steps_and_lists_of_a_world(rt: HostRuntime) {
     let mut world = World::new(rt.alloc());
     assert!(rt; is_told(&mut world) == Some(true));
-    assert!(rt; is_only(world.sent(), b"ab") && is_only(world.delivered(), b"ac"));
-    assert!(rt; world.acknowledged() == 1 && world.false_passes() == 1 && world.sessions() == 1);
+    assert!(rt; is_only(world.sent(), b"ab") && is_only(world.delivered(), b"ab"));
+    assert!(rt; world.acknowledged() == 1 && world.false_passes() == 0 && world.sessions() == 1);
+}
+
+#[test]
+fn false_passes_are_counted_up_to_the_last_number(rt: HostRuntime) {
+    let passed = Step {
+        kind: StepKind::Idle,
+        false_pass: true,
+    };
+    assert!(rt; passed.counted(1) == 2 && passed.counted(u64::MAX) == u64::MAX);
+    assert!(rt; Step::quiet(StepKind::Idle).counted(1) == 1);
 }
 
 #[test]
 fn events_and_steps_are_shown(rt: HostRuntime) -> Result<(), Fail> {
-    let event = Event::ToReceiver(places(&[3]));
-    let text = "ToReceiver(Flips { items: [3] })";
+    let event = Event::ToReceiver(behind_the_end());
+    let text = "ToReceiver(Flips { items: [576, 25919] })";
     assert_eq!(rt; format!(in rt.alloc(); "{event:?}")?.as_str(), text);
     let step = Step::quiet(StepKind::Idle);
     let text = "Step { kind: Idle, false_pass: false }";
