@@ -25,6 +25,8 @@ mod outbound;
 mod receiver;
 mod sender;
 mod sent;
+#[cfg(test)]
+mod tests;
 
 pub use inbound::Inbound;
 pub use outbound::{Mark, Outbound};

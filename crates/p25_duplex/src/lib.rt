@@ -21,6 +21,8 @@ pub mod laws;
 mod side;
 mod station;
 mod stations;
+#[cfg(test)]
+mod tests;
 mod world;
 
 pub use closing::duplex_closing;

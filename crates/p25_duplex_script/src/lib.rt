@@ -19,6 +19,8 @@
 pub mod laws;
 mod read;
 mod shown;
+#[cfg(test)]
+mod tests;
 mod texts;
 
 pub use p25_duplex::duplex_closing;

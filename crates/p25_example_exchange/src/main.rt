@@ -13,6 +13,9 @@ use p25_stations::{Event, Flips, Message, Step, StepKind, World};
 use std::alloc::AllocError;
 use std::{fmt, io};
 
+#[cfg(test)]
+mod tests;
+
 fn main(rt: HostRuntime) -> io::Result<()> {
     let mut world = World::new(rt.alloc());
     let Some(message) = Message::new(b"meet at the gate") else {

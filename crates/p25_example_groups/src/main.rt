@@ -14,6 +14,9 @@ use p25_units::{Body, VoiceUnit};
 use std::io::Read;
 use std::{fmt, io};
 
+#[cfg(test)]
+mod tests;
+
 /// Who speaks to which group.
 #[derive(Clone, Copy, Debug, PartialEq, Eq)]
 struct Talk {

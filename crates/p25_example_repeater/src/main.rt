@@ -16,6 +16,9 @@ use p25_units::image_as;
 use std::io;
 use std::io::{Read, Write};
 
+#[cfg(test)]
+mod tests;
+
 /// The network access code (NAC) under which units are sent again.
 const NETWORK: u16 = 0x2A1;
 

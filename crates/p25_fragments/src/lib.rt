@@ -19,6 +19,8 @@ pub mod laws;
 mod long_stations;
 mod long_step;
 mod long_world;
+#[cfg(test)]
+mod tests;
 
 pub use joiner::{Joined, Joiner};
 pub use long_step::{LongEvent, LongStep, Then};

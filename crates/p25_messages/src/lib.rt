@@ -19,6 +19,8 @@ mod long_message;
 mod message;
 mod message_list;
 mod step_kind;
+#[cfg(test)]
+mod tests;
 
 pub use answers::{Heard, Offer, Reopen, Resend, SenderHeard};
 pub use flips::Flips;

@@ -29,6 +29,8 @@ mod image;
 pub mod laws;
 mod packet;
 mod read;
+#[cfg(test)]
+mod tests;
 mod unit;
 mod whole;
 

@@ -23,6 +23,8 @@ mod recording;
 mod report;
 mod reports;
 mod soft;
+#[cfg(test)]
+mod tests;
 
 pub use recording::Recording;
 pub use report::Report;

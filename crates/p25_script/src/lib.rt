@@ -25,6 +25,8 @@ pub mod parts;
 mod read;
 mod shown;
 mod steps;
+#[cfg(test)]
+mod tests;
 mod values;
 
 pub use closing::closing_text;

@@ -1,5 +1,4 @@
-//! Tests of the stations: the rules of a sender and a receiver, long messages and their parts, and scripts of each command. There
-//! is nothing here but tests.
+//! Tests of the stations: whole scripts of each command, and reads and writes that fail. There is nothing here but tests.
 #![tactic(auto)]
 
 #[cfg(test)]

@@ -1,13 +1,8 @@
-//! Values from outside: rules as tables, parts of long messages, and scripts through `run`.
+//! Values from outside: whole scripts through `run`, and reads and writes that fail.
 
 mod duplex;
-mod faces;
 mod faults;
 mod fragments;
-mod heads;
-mod messages;
-mod parts;
-mod rules;
 mod stations;
 
 use p25_io::{MemorySource, Sink, SliceSink};

@@ -23,6 +23,8 @@ pub mod parts;
 mod sessions;
 mod stations;
 mod step;
+#[cfg(test)]
+mod tests;
 mod truth;
 mod world;
 

@@ -1,5 +1,7 @@
 //! Each call once.
 
+mod units;
+
 ghost use Rattle.p25_units.specs.Units.{IsWholeBody};
 
 use super::laws::item_laws;

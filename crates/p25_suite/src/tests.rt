@@ -9,13 +9,11 @@ mod order;
 mod packets;
 mod refusals;
 mod relay;
-mod reports;
 mod rows;
 mod samples;
 mod size;
 mod soft;
 mod voice;
-mod words;
 
 ghost use Rattle.std.specs.Prelude.{◌≡◌, ◌<◌, length};
 

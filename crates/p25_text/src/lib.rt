@@ -41,6 +41,8 @@ mod packets;
 pub mod parts;
 mod read;
 mod shown;
+#[cfg(test)]
+mod tests;
 mod values;
 mod voice_texts;
 mod voices;

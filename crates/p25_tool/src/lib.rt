@@ -29,6 +29,8 @@ pub mod laws;
 mod outcome;
 mod sampling;
 mod stations;
+#[cfg(test)]
+mod tests;
 mod words;
 
 pub use command::Command;

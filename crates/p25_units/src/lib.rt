@@ -27,6 +27,8 @@ mod needs;
 mod read;
 mod scan;
 mod sending;
+#[cfg(test)]
+mod tests;
 mod unit;
 
 pub use begun::Begun;

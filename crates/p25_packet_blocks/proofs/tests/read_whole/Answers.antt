@@ -1,0 +1,13 @@
+use Rattle.std.proofs.Common.{◌≡◌, ◌≤◌, length, subst, arith}
+use Rattle.p25_packet_blocks.specs.declared.head.PacketHead.{PacketHead}
+use Rattle.p25_packet_blocks.specs.Heads.{head_blocks}
+use Rattle.p25_packet_blocks.specs.Lengths.{packet_bits}
+use Rattle.p25_packet_blocks.specs.Reading.{HasItsLength}
+use Rattle.p25_packet_blocks.proofs.tests.read_whole.Goals as goal
+
+pub read_packet-requires-clause-blocks : goal.read_packet-requires-clause-blocks
+unfolding HasItsLength
+read_packet-requires-clause-blocks c = λ head is.
+    let same : c.in_ok-head.head ≡ head = cc (c.in_ok-head.ensures, is) in
+    let P : PacketHead → Type 0 = λ h. packet_bits (head_blocks h) ≤ length c.args.bare.now in
+    subst P same (omega (arith, c.packet_length.ensures.value))

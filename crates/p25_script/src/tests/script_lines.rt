@@ -1,0 +1,95 @@
+//! Lines of scripts, read and refused.
+
+use p25_line::LineFault;
+use crate::{Event, Way, read_event};
+use std::process::Abort;
+
+// A line is refused with a fault.
+fn refused(rt: &impl Abort, line: &[u8], fault: LineFault) {
+    assert_eq!(rt; read_event(line).err(), Some(fault));
+}
+
+const FAULTS: [(&[u8], LineFault); 15] = [
+    (b"", LineFault::Form),
+    (b"timeout ", LineFault::Form),
+    (b"send  61", LineFault::Form),
+    (b"timeouts", LineFault::Kind),
+    (b"Send 61", LineFault::Kind),
+    (b"data -", LineFault::Kind),
+    (b"send", LineFault::Key),
+    (b"send 61 62", LineFault::Key),
+    (b"timeout x", LineFault::Key),
+    (b"reopen now", LineFault::Key),
+    (b"deliver", LineFault::Key),
+    (b"deliver data", LineFault::Key),
+    (b"deliver data - -", LineFault::Key),
+    (b"deliver voice -", LineFault::Key),
+    (b"deliver voice 3,3", LineFault::Key),
+];
+
+// The first fault of a line is told.
+#[test]
+fn first_faults(rt: HostRuntime) {
+    refused(&rt, &[b'a'; 8_193], LineFault::Long);
+    for (line, fault) in &FAULTS {
+        refused(&rt, line, *fault);
+    }
+}
+
+const VALUES: [&[u8]; 15] = [
+    b"send 6",
+    b"send 616",
+    b"send 6A",
+    b"send --",
+    b"deliver data 3,3",
+    b"deliver data 4,3",
+    b"deliver data 03",
+    b"deliver data 25920",
+    b"deliver data 18446744073709551616",
+    b"deliver data ,",
+    b"deliver data 3,",
+    b"deliver data ,3",
+    b"deliver data 3,,4",
+    b"deliver answer -,3",
+    b"deliver answer +3",
+];
+
+// A message of 2,029 octets is too long, and so are other values refused.
+#[test]
+fn refused_values(rt: HostRuntime) {
+    let mut long = [b'0'; 5 + 4_058];
+    long[..5].copy_from_slice(b"send ");
+    refused(&rt, &long, LineFault::Value);
+    for line in &VALUES {
+        refused(&rt, line, LineFault::Value);
+    }
+}
+
+// Whether a line sends these octets.
+fn sends(line: &[u8], octets: &[u8]) -> bool {
+    match read_event(line) {
+        Ok(Event::Send(message)) => message.octets() == octets,
+        _ => false,
+    }
+}
+
+// Whether a line delivers what goes this way, with so many bits inverted.
+fn delivers(line: &[u8], to: Way, count: usize) -> bool {
+    match read_event(line) {
+        Ok(Event::ToReceiver(flips)) => to == Way::Packets && flips.len() == count,
+        Ok(Event::ToSender(flips)) => to == Way::Answers && flips.len() == count,
+        _ => false,
+    }
+}
+
+#[test]
+fn read_lines(rt: HostRuntime) {
+    assert!(rt; sends(b"send 61ff", b"a\xff"));
+    let mut long = [b'0'; 5 + 4_056];
+    long[..5].copy_from_slice(b"send ");
+    assert!(rt; sends(&long, &[0; 2_028]));
+    assert!(rt; delivers(b"deliver data 0,9,25919", Way::Packets, 3));
+    assert!(rt; delivers(b"deliver answer -", Way::Answers, 0));
+    assert!(rt; matches!(read_event(b"timeout"), Ok(Event::Timeout)));
+    assert!(rt; matches!(read_event(b"reopen"), Ok(Event::Reopen)));
+}
