@@ -1,3 +1,6 @@
 pub mod RoomsLaws
 pub mod ItemsLaws
 pub mod CallsLaws
+pub mod PacketsLaws
+pub mod ValueLaws
+pub mod VoiceCallsLaws

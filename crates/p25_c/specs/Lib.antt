@@ -3,3 +3,8 @@ pub mod Items
 pub mod Calls
 pub mod Building
 pub mod Version
+pub mod Values
+pub mod Fields
+pub mod VoiceCalls
+pub mod Packets
+pub mod ValueLaws

@@ -17,11 +17,11 @@ use p25_text::read_line;
 use p25_units::{Frame, Item, Unit, image};
 
 // No whole unit begins there; a network access code (NAC) has 12 bits; a status symbol is 0 to 3.
-const NO_UNIT: i32 = -3;
+pub(crate) const NO_UNIT: i32 = -3;
 
-const WRONG_NAC: i32 = -4;
+pub(crate) const WRONG_NAC: i32 = -4;
 
-const WRONG_STATUS: i32 = -5;
+pub(crate) const WRONG_STATUS: i32 = -5;
 
 /// Writes the octets of the unit of a line into `octets`, as the command `build` writes them, with one status symbol everywhere,
 /// and answers how many. The octets of `octets` after them stay.
@@ -73,7 +73,7 @@ fn write_unit(unit: Unit, status: Status, octets: &mut [u8]) -> i32
 }
 
 // Writes the octets that bits fill where there is room for them, and answers how many.
-fn write_bits(bits: &BitBuf, room: &mut [u8]) -> i32
+pub(crate) fn write_bits(bits: &BitBuf, room: &mut [u8]) -> i32
     ensures { IsWriting (Ok (whole_octets bits.now)) room.old room.new result }
 {
     let count = bits.len() / 8;

@@ -18,7 +18,7 @@ const ITEM: i32 = 1;
 
 const NO_ITEM: i32 = 0;
 
-const OUTSIDE: i32 = -1;
+pub(crate) const OUTSIDE: i32 = -1;
 
 // The largest place at which an item is asked for.
 const PLACE_MOST: u64 = 1 << 59;
@@ -73,7 +73,7 @@ pub extern "C" fn p25_next_item(
 
 // An item to be written over. Where it is a voice unit and another follows, only what a voice unit has is written.
 #[inline(always)]
-fn blank() -> Item {
+pub(crate) fn blank() -> Item {
     let unit = Unit::new(0, Body::Voice(VoiceUnit::End));
     let statuses = Statuses::new();
     Item::Whole {
@@ -84,7 +84,7 @@ fn blank() -> Item {
 }
 
 // Whether an item may be asked for at a place, where so many octets of the recording stand from bit `begin` on.
-fn is_inside(begin: u64, from: u64, count: usize) -> bool
+pub(crate) fn is_inside(begin: u64, from: u64, count: usize) -> bool
     ensures { result ≡ is_inside begin from count }
 {
     if begin % 8 != 0 || from < begin || from > PLACE_MOST {
@@ -94,7 +94,7 @@ fn is_inside(begin: u64, from: u64, count: usize) -> bool
 }
 
 // Sets `found` to the item that begins at a place that may be asked for, if there is one.
-fn find_at(octets: &[u8], begin: u64, from: u64, ended: bool, found: &mut Item) -> bool
+pub(crate) fn find_at(octets: &[u8], begin: u64, from: u64, ended: bool, found: &mut Item) -> bool
     requires { is_inside begin from (length octets.now) ≡ true }
     ensures first { result ≡ true → (items : List item_type) × (items_asked ended begin from octets.now ≡ Some (found.new ∷ items)) }
     ensures none { result ≡ false → items_asked ended begin from octets.now ≡ Some [] }

@@ -37,3 +37,5 @@ pub use call::{Call, CallEnd};
 pub use caller::Caller;
 pub use p25_link::LinkControl;
 pub use p25_units::Item;
+pub use runs::take_unit;
+pub use seen::UnitSeen;
