@@ -19,8 +19,8 @@
    nothing but memcpy and memset, so that calls from several threads on different octets do not meet, is looked at by a test, and not proved.
 
    Stack, as stack.c measured it on x86-64 over recordings of all kinds of units: the calls that build, repair or bridge a unit take up to
-   47,000 octets, those that tell items 38,000, and the other calls 13,000. It is measured, and not proved: give a thread 160 KiB or
-   more. */
+   47,000 octets; those that tell items, and p25_unit_fields, 38,000; p25_packet_read, p25_build_packet and p25_build_fields 24,000; and the
+   other calls 13,000. It is measured, and not proved: give a thread 160 KiB or more. */
 #ifndef P25_H
 #define P25_H
 
@@ -183,6 +183,170 @@ int32_t p25_stream_next(p25_stream *stream, p25_item *item, char *text, size_t r
 
 /* Says that no more comes: what is held is then told to its end. Dibits that fill no octet are left out. */
 void p25_stream_end(p25_stream *stream);
+
+/* Values of units ---------------------------------------------------------------------------------------------------------- */
+
+/* What a unit carries as numbers and octets, without its text. Each struct is of fixed size and holds no pointer. Of a member that says
+   yes or no a call writes 1 or 0, and takes 0 for no and all else for yes. */
+
+/* The kinds of link control (LC), by its first octet: of a call to a group (00 hex), from unit to unit (03 hex), and of all else, which
+   is not interpreted. */
+enum { P25_LINK_OTHER = 0, P25_LINK_GROUP = 1, P25_LINK_INDIVIDUAL = 2 };
+
+/* What link control (LC) says of a call. What its kind has not is 0; of P25_LINK_OTHER all is. TIA-102.BAAA, Link Control Word. */
+typedef struct p25_link {
+    uint32_t source;      /* the unit that speaks, 24 bits */
+    uint32_t destination; /* from unit to unit: the unit that is called, 24 bits */
+    uint16_t group;       /* to a group: the group */
+    uint8_t kind;         /* one of the kinds above */
+    uint8_t mfid;         /* the manufacturer (MFID) */
+    uint8_t emergency;    /* to a group: whether the call is an emergency */
+} p25_link;
+
+/* Sets *link to what the nine octets of link control (LC) say. */
+void p25_link_read(const uint8_t lc[9], p25_link *link);
+
+/* The fields of a unit. Its kind says which are there; the others are 0. TIA-102.BAAA, Voice Data Units.
+
+       HDU     mi algid kid   mfid tgid
+       LDU1    lc             lsd voice
+       LDU2    mi algid kid   lsd voice
+       TDULC   lc
+       TDU, PDU have none beside nac and duid */
+typedef struct p25_fields {
+    uint16_t nac;         /* the network access code (NAC), 0 to 4095 */
+    uint16_t kid;         /* the key (KID) */
+    uint16_t tgid;        /* the talk group (TGID) */
+    uint8_t duid;         /* the data unit identifier (DUID) */
+    uint8_t mfid;         /* the manufacturer (MFID) */
+    uint8_t algid;        /* the algorithm (ALGID); 80 hex means that the voice is not encrypted */
+    uint8_t has_lc;       /* whether lc is there */
+    uint8_t has_mi;       /* whether mi, algid and kid are there */
+    uint8_t has_tgid;     /* whether mfid and tgid are there */
+    uint8_t has_voice;    /* whether lsd and voice are there */
+    uint8_t lc[9];        /* link control (LC), which p25_link_read reads */
+    uint8_t mi[9];        /* the message indicator (MI) */
+    uint8_t lsd[2];       /* low speed data (LSD) */
+    uint8_t voice[9][18]; /* nine voice frames of 144 bits as received, in the order of sending */
+} p25_fields;
+
+/* What p25_unit_fields answers where it sets the fields. */
+enum { P25_FIELDS = 1 };
+
+/* Sets *fields to those of the whole unit that begins at bit `from` of a recording, of which octets are given as to p25_next_item, and
+   answers P25_FIELDS. Answers P25_OUTSIDE as p25_next_item does, or P25_NO_UNIT where no whole unit begins there; *fields stays then. Of
+   an item that was told, from is item.place. */
+int32_t p25_unit_fields(const uint8_t *octets, size_t n, uint64_t begin, uint64_t from, p25_fields *fields);
+
+/* More of why a call writes no unit. */
+enum {
+    P25_WRONG_DUID = -8,  /* no voice unit has this data unit identifier (DUID) */
+    P25_WRONG_PACKET = -9 /* what is given is no packet that can be sent */
+};
+
+/* Writes the voice unit of fields, with the status symbol, 0 to 3, everywhere. Its duid says which unit it is, and so which members are
+   looked at: those of the table above. has_lc and its kin are not. Answers how many octets it wrote, 18 to 216, or the first of these that
+   applies, and then writes nothing: P25_WRONG_NAC, P25_WRONG_STATUS, P25_WRONG_DUID, P25_NO_ROOM. */
+int32_t p25_build_fields(const p25_fields *fields, uint8_t status, uint8_t *octets, size_t room);
+
+/* Calls -------------------------------------------------------------------------------------------------------------------- */
+
+/* How a call ends: without a terminator, with a TDU or with a TDULC. */
+enum { P25_END_OPEN = 0, P25_END_TDU = 1, P25_END_TDULC = 2 };
+
+/* A call, as `p25 calls` tells it: a longest run of voice units without a break inside, with voice in it (LDU1 or LDU2). There is a
+   break where a header begins or a terminator ends, where the network access code (NAC) changes, where a packet stands, and where a unit
+   begins more than 3,456 bits after the one before it ends. */
+typedef struct p25_call {
+    uint64_t place;    /* the bit at which its first unit begins */
+    uint64_t bits;     /* how many bits there are from there to the end of its last unit */
+    uint32_t links;    /* how many units of voice it has (LDU1 or LDU2) */
+    uint32_t broken;   /* how many of its units are broken */
+    uint16_t nac;      /* the network access code (NAC) of its units */
+    uint8_t late;      /* whether it begins without a header (HDU) */
+    uint8_t end;       /* how it ends, one of the numbers above */
+    uint8_t has_lc;    /* whether some whole unit of it has link control (LC) */
+    uint8_t has_algid; /* whether some whole unit of it names an algorithm */
+    uint8_t algid;     /* the algorithm (ALGID) that the first of them names, or 0 */
+    uint8_t lc[9];     /* the link control (LC) of the first of them, or zeros */
+} p25_call;
+
+/* What is kept between the items of a recording. p25_caller_begin sets it, and a program reads it alone. */
+typedef struct p25_caller {
+    uint64_t reached; /* the bit at which the next item begins */
+    uint32_t taken;   /* how many items were taken */
+    uint8_t is_open;  /* whether a run of voice units is open, which a further one may still join */
+    p25_call run;     /* that run: a call once links is above 0 */
+} p25_caller;
+
+/* What the two calls below answer. P25_OUTSIDE is the third. */
+enum {
+    P25_CALL = 1,   /* a call ended, and *call is set to it */
+    P25_NO_CALL = 0 /* none did; *call stays */
+};
+
+/* Sets *caller to one that no item was taken by. */
+void p25_caller_begin(p25_caller *caller);
+
+/* Takes an item. Each item of a recording is taken in its turn, gaps too, the first at place 0. *fields are those of the item where it is a
+   whole unit (P25_UNIT); of any other they are not looked at. Answers P25_CALL where a call ends: with this item, its terminator, or
+   with the unit before, where there is a break after that one. So a call comes with the item that decides that it has ended.
+
+   Answers P25_OUTSIDE where the item may not be taken, and then *caller and *call stay: it does not begin where the one before it ended;
+   it begins at 2^60 or above; 2^32 - 1 items were taken; or *caller is none that these calls set. */
+int32_t p25_caller_take(p25_caller *caller, const p25_item *item, const p25_fields *fields, p25_call *call);
+
+/* Ends a recording: answers P25_CALL where a call is still open. *caller is then one that no item was taken by. Answers P25_OUTSIDE
+   where *caller is none that these calls set, and then it stays. */
+int32_t p25_caller_finish(p25_caller *caller, p25_call *call);
+
+/* Packets ------------------------------------------------------------------------------------------------------------------ */
+
+/* The formats of packets (PDU): confirmed, unconfirmed, and a response. */
+enum { P25_CONFIRMED = 0x16, P25_PLAIN = 0x15, P25_RESPONSE = 0x03 };
+
+/* A packet (PDU). TIA-102.BAAA, Packet Data. */
+typedef struct p25_packet {
+    uint32_t llid;              /* the logical link identifier (LLID), 24 bits: octets 3 to 5 of the header */
+    uint16_t nac;               /* the network access code (NAC) of its unit, 0 to 4095 */
+    uint16_t length;            /* how many of the octets are data */
+    uint8_t head[10];           /* the header, without its check */
+    uint8_t format;             /* the format: one of the three above */
+    uint8_t full;               /* the full message flag */
+    uint8_t blocks;             /* the number of blocks to follow, 0 to 127 */
+    uint8_t pad;                /* the number of pad octets, 0 to 31 */
+    uint8_t syn;                /* of a confirmed packet the flag Syn */
+    uint8_t number;             /* of a confirmed packet N(S), 0 to 7 */
+    uint8_t response_class;     /* of a response its class, 0 to 3 */
+    uint8_t response_type;      /* and its type, 0 to 7 */
+    uint8_t response_status;    /* and its status, 0 to 7 */
+    uint8_t bad;                /* of a confirmed packet how many blocks fail, 0 to 127 */
+    uint8_t good[127];          /* of a confirmed packet for each block whether its check (CRC-9) agrees */
+    uint8_t serials[127];       /* and its serial number, 0 to 127, where it does */
+    uint8_t octets[2032];       /* its data: of a confirmed packet 16 octets for each block, zeros for one that fails; of another packet the
+                                   octets before the packet CRC */
+} p25_packet;
+
+/* Why there is no packet. */
+enum {
+    P25_PACKET_HEADER = -21, /* the check of its header does not agree */
+    P25_PACKET_CUT = -22,    /* its header asks for more bits than there are */
+    P25_PACKET_FORMAT = -23, /* its format is none of the three */
+    P25_PACKET_CRC = -24     /* its packet CRC does not agree */
+};
+
+/* Sets *packet to the packet (PDU) of the unit that begins at bit `from` of a recording, of which octets are given as to p25_next_item,
+   and answers how many of its blocks fail, 0 to 127: 0 of a whole unit, and more of a broken one whose blocks fail. What its kind of packet
+   has not is 0. Answers P25_OUTSIDE as p25_next_item does; P25_NO_UNIT where no unit of a packet begins there, since its sync, its
+   identifier or its DUID is another or fewer than 360 bits are left; or one of the numbers above. *packet stays then. */
+int32_t p25_packet_read(const uint8_t *octets, size_t n, uint64_t begin, uint64_t from, p25_packet *packet);
+
+/* Writes the unit of a packet (PDU), with the status symbol, 0 to 3, everywhere, and the checks that belong to it. Of *packet nac, head
+   and octets are looked at, and of a confirmed packet good and serials; head says the format and how many blocks there are. Answers how
+   many octets it wrote, 45 to 3,240, or the first of these that applies, and then writes nothing: P25_WRONG_NAC; P25_WRONG_STATUS;
+   P25_WRONG_PACKET, for a format that is none of the three and for a confirmed block that is not good or has a serial number above
+   127; P25_NO_ROOM. */
+int32_t p25_build_packet(const p25_packet *packet, uint8_t status, uint8_t *octets, size_t room);
 
 /* Code words ---------------------------------------------------------------------------------------------------------------- */
 

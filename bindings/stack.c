@@ -1,7 +1,8 @@
 /* Measures how much stack the calls take: each runs in a thread whose stack is painted before, and the paint that is left is counted.
 
    usage: stack FILE           FILE is a recording; prints the octets that the items of it take, its units repaired and bridged, a stream, a unit
-                               built of a line of 127 blocks, and the words and blocks. A thread of its own takes some of each */
+                               built of a line of 127 blocks, the words and blocks, and fields, calls, packets and units of values. A thread
+                               of its own takes some of each */
 #include "p25.h"
 
 #include <pthread.h>
@@ -104,6 +105,45 @@ static void *words(void *unused) {
     return unused;
 }
 
+/* The fields of each item, and the calls. */
+static p25_fields fields;
+static p25_packet packet;
+
+static void *values(void *unused) {
+    p25_caller caller;
+    p25_call call;
+    memset(&item, 0, sizeof item);
+    p25_caller_begin(&caller);
+    while (p25_next_item(octets, n, 0, item.place + item.bits, true, &item, text, 0) == P25_ITEM) {
+        p25_unit_fields(octets, n, 0, item.place, &fields);
+        p25_caller_take(&caller, &item, &fields, &call);
+    }
+    p25_caller_finish(&caller, &call);
+    return unused;
+}
+
+static void *packets(void *unused) {
+    for (size_t at = 0; at < n; at++) {
+        p25_packet_read(octets, n, 0, 8 * at, &packet);
+    }
+    return unused;
+}
+
+/* The longest packet, and each voice unit. */
+static void *values_built(void *unused) {
+    packet.head[0] = P25_CONFIRMED;
+    packet.head[6] = 127;
+    memset(packet.good, 1, sizeof packet.good);
+    memset(packet.serials, 0, sizeof packet.serials);
+    if (p25_build_packet(&packet, 1, unit, sizeof unit) != 3240) {
+        puts("no packet is built");
+    }
+    for (fields.duid = 0; fields.duid < 16; fields.duid++) {
+        p25_build_fields(&fields, 1, unit, sizeof unit);
+    }
+    return unused;
+}
+
 /* Answers how many octets of a painted stack a function took. */
 static size_t taken(void *(*call)(void *)) {
     void *stack;
@@ -132,7 +172,9 @@ int main(int count, char **argument) {
     }
     n = fread(octets, 1, sizeof octets, file);
     fclose(file);
-    printf("a thread %zu, items %zu, repaired %zu, bridged %zu, by a stream %zu, by place %zu, built %zu, words %zu\n", taken(nothing),
-           taken(items), taken(repairs), taken(bridges), taken(streams), taken(places), taken(builds), taken(words));
+    printf("a thread %zu, items %zu, repaired %zu, bridged %zu, by a stream %zu, by place %zu, built %zu, words %zu, fields and calls %zu, "
+           "packets %zu, built of values %zu\n",
+           taken(nothing), taken(items), taken(repairs), taken(bridges), taken(streams), taken(places), taken(builds), taken(words),
+           taken(values), taken(packets), taken(values_built));
     return 0;
 }

@@ -6,11 +6,14 @@ usage: try.py recording FILE SHOWN REPAIRED BRIDGED      what p25 writes of the 
        try.py words                                      standard input is lines CODE RECEIVED, as those of words.txt
        try.py codes                                      the other calls on words, blocks and checks
        try.py others                                     refusals, numbers and docstrings
+       try.py values FILE UNITS CALLS                    the lines of its whole units, and what p25 calls writes of it
+       try.py layout                                     the size of each struct of values, and where its parts stand
        try.py types FILE                                 what is taken for octets, and each way to use a stream, on a recording
 """
 
 import array
 import asyncio
+import ctypes
 import inspect
 import mmap
 import os
@@ -188,6 +191,71 @@ def try_types(path):
     assert set(p25.__all__) <= set(vars(p25)) and p25.__version__ == ".".join(map(str, release()))
 
 
+def unit_line(item):
+    """Answers the line of a whole unit by its values."""
+    it = item.fields
+    assert (it.nac, it.duid) == (item.nac, item.duid)
+    if item.duid == p25.Duid.PDU:
+        packet = item.packet
+        assert packet.nac == item.nac and all(packet.good) and packet.blocks == packet.head[6] % 128
+        assert p25.bridge_unit(p25.build_packet(packet.nac, packet.head, packet.data, packet.serials or None, 1), item.nac, 0) == p25.bridge_unit(item.octets, item.nac, 0)
+        kind = {0x16: "confirmed", 0x15: "plain", 0x03: "response"}[packet.format]
+        rest = packet.data.hex() or "-"
+        if kind == "confirmed":
+            parts = (packet.data[at : at + 16].hex() for at in range(0, len(packet.data), 16))
+            rest = ",".join(f"{serial:02x}:{part}" for serial, part in zip(packet.serials, parts)) or "-"
+        return f"{kind} nac={item.nac:03x} head={packet.head.hex()} {'blocks' if kind == 'confirmed' else 'octets'}={rest}"
+    assert item.packet is None and (item.link is None) == (it.lc is None)
+    assert p25.build_fields(it, 1) == p25.bridge_unit(item.octets, item.nac, 1)
+    words = [it.duid.name.lower(), f"nac={it.nac:03x}"]
+    words += [f"{key}={getattr(it, key).hex()}" for key in ("lc", "mi") if getattr(it, key) is not None]
+    for key, digits in (("mfid", 2), ("algid", 2), ("kid", 4), ("tgid", 4)):
+        if getattr(it, key) is not None:
+            words.append(f"{key}={getattr(it, key):0{digits}x}")
+    if it.voice is not None:
+        words += [f"lsd={it.lsd.hex()}", f"voice={b''.join(it.voice).hex()}"]
+    return " ".join(words)
+
+
+def call_line(it):
+    """Answers the line of a call by its values."""
+    assert it.link is None if it.lc is None else it.link == p25.read_link(it.lc)
+    lc, algid = "none" if it.lc is None else it.lc.hex(), "none" if it.algid is None else f"{it.algid:02x}"
+    words = f"call at={it.place} bits={it.bits} nac={it.nac:03x} entry={'late' if it.late else 'header'} end={it.end.name.lower()}"
+    return f"{words} links={it.links} broken={it.broken} lc={lc} alg={algid}"
+
+
+def try_values(path, units, calls):
+    octets = read(path)
+    whole = list(p25.items(octets))
+    assert [unit_line(it) for it in whole if it.kind == "unit"] == read(units).decode().splitlines()
+    assert all(it.fields is None for it in whole if it.kind != "unit")
+    lines = [call_line(it) for it in p25.calls(octets)]
+    assert lines + [f"calls={len(lines)}"] == read(calls).decode().splitlines()
+    caller = p25.Caller()
+    if whole and whole[-1].place > 0:
+        raised("place", caller.take, whole[-1])
+        assert not caller.is_open
+    link = p25.read_link(bytes.fromhex("00908000ffff00abcd"))
+    assert link == (link.octets, p25.LinkKind.GROUP, 0x90, 0xABCD, 0xFFFF, None, True)
+    assert p25.read_link(bytes.fromhex("03900012345600abcd"))[1:6] == (p25.LinkKind.INDIVIDUAL, 0x90, 0xABCD, None, 0x123456)
+    raised("length", p25.read_link, bytes(8))
+    raised("duid", p25.build_fields, p25.Fields(1, 12))
+    raised("nac", p25.build_fields, p25.Fields(4096, 3))
+    raised("status", p25.build_fields, p25.Fields(1, 3), 4)
+    raised("length", p25.build_fields, p25.Fields(1, 15, lc=bytes(8)))
+    raised("packet", p25.build_packet, 1, bytes(10))
+    raised("length", p25.build_packet, 1, bytes(9))
+    raised("serial", p25.build_packet, 1, b"\x16" + bytes(5) + b"\x01" + bytes(3), bytes(16), [128])
+
+
+def try_layout():
+    """Prints what `values layout` prints."""
+    values = p25._values
+    for it in (values._Link, values._Fields, values._Call, values._Caller, values._Packet):
+        print(ctypes.sizeof(it), *(getattr(it, part[0]).offset for part in it._fields_))
+
+
 CODES = {
     "golay24": p25.GOLAY_24,
     "golay18": p25.GOLAY_18,
@@ -271,6 +339,8 @@ CALLS = {
     "codes": try_codes,
     "others": try_others,
     "types": try_types,
+    "values": try_values,
+    "layout": try_layout,
 }
 
 if __name__ == "__main__":

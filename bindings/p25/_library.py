@@ -46,6 +46,10 @@ class Cause(str, enum.Enum):
     """There are more or fewer octets, symbols or levels than are asked for."""
     FINISHED = "finished"
     """A stream that was finished is given octets."""
+    PLACE = "place"
+    """An item does not begin where the one before it ended, the first at bit 0."""
+    PACKET = "packet"
+    """What is given is no packet that can be sent."""
 
 
 class Error(ValueError):

@@ -12,6 +12,7 @@ from ._library import CAUSES, I32, READ, SIZE, U8, U16, U32, U64, WRITE, Cause, 
 
 if TYPE_CHECKING:
     from ._library import Octets
+    from ._values import Fields, LinkControl, Packet
 
 KINDS = ("", "unit", "broken", "nounit", "gap", "cut")
 FAULTS = {number: cause.value for number, cause in CAUSES.items() if number <= -11}
@@ -115,6 +116,28 @@ class Item:
         """Its bits as octets, the first bit highest, with zeros after the last where they fill no octet; what `repair_unit` and
         `bridge_unit` take."""
         return _cut(self._octets, self.place % 8, self.bits)
+
+    @property
+    def fields(self) -> "Optional[Fields]":
+        """Of a whole unit its fields by their names, as item.fields.lc; else None. No text is made for them."""
+        from ._values import fields_at
+
+        return fields_at(self._octets, self.place) if self.kind_id == Kind.UNIT else None
+
+    @property
+    def link(self) -> "Optional[LinkControl]":
+        """Of a whole unit with link control (LC), an LDU1 or a TDULC, what it says; else None."""
+        from ._values import read_link
+
+        fields = self.fields if self.duid in (Duid.LDU1, Duid.TDULC) else None
+        return None if fields is None or fields.lc is None else read_link(fields.lc)
+
+    @property
+    def packet(self) -> "Optional[Packet]":
+        """Of a unit of a packet (PDU) the packet, also where blocks of it fail; None where none is read."""
+        from ._values import packet_at
+
+        return packet_at(self._octets, self.place) if self.duid == Duid.PDU else None
 
     def value(self, key: str) -> Optional[str]:
         """Answers the text of the value that stands in the line after KEY=, as item.value("lc"), or None."""

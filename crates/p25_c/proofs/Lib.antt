@@ -5,3 +5,6 @@ pub mod ManySteps
 pub mod PlacesSteps
 pub mod StreamsSteps
 pub mod DibitsSteps
+pub mod PacketsLaws
+pub mod ValueLaws
+pub mod VoiceCallsLaws

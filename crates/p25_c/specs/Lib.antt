@@ -7,3 +7,8 @@ pub mod Many
 pub mod Places
 pub mod Streams
 pub mod Marks
+pub mod Values
+pub mod Fields
+pub mod VoiceCalls
+pub mod Packets
+pub mod ValueLaws

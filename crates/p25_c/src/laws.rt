@@ -1,6 +1,7 @@
 //! What a series of calls comes to.
 
 ghost use Rattle.p25_c.specs.Calls.{CallsTellAll, CallsTellTheFirst};
+ghost use Rattle.p25_c.specs.ValueLaws.{CallsAreTold, FieldsComeBack, UnitsAreTold};
 
 /// **Theorem.** Calls that ask for place 0 and then for the place at which the item before ends tell the items of the recording in
 /// order, whatever pieces of it they are given.
@@ -10,4 +11,15 @@ ghost use Rattle.p25_c.specs.Calls.{CallsTellAll, CallsTellTheFirst};
 pub(crate) fn series_laws()
     ensures first { CallsTellTheFirst }
     ensures all { CallsTellAll }
+{}
+
+/// **Theorem.** Values in place of text say what is read, and what a caller answers to them are the calls.
+///
+/// - `units`: the numbers of an item, with its fields where it is a whole unit, tell a caller the unit that the item is.
+/// - `fields`: the voice unit of the fields of a voice unit is that unit.
+/// - `calls`: a caller that has begun answers, to items that lie end to end from place 0 on and at the end, the calls of these items.
+pub(crate) fn value_laws()
+    ensures units { UnitsAreTold }
+    ensures fields { FieldsComeBack }
+    ensures calls { CallsAreTold }
 {}

@@ -1,4 +1,5 @@
-//! The library for programs in C, C++ and Python: items of recordings, units of lines, and the words of the codes, a call each.
+//! The library for programs in C, C++ and Python: items of recordings, units of lines, what units, calls and packets carry as values,
+//! and the words of the codes, a call each.
 //!
 //! Every call tests its arguments: none of them has a condition, and each answers by a named number, in every case as its
 //! contract says. A call keeps nothing, and takes no memory but its stack. A slice is a pointer and a length in C. What is
@@ -17,14 +18,20 @@
 
 mod blocks;
 mod building;
+mod calls;
 mod checks;
 mod dibits;
+mod fields;
 mod items;
 mod laws;
+mod links;
 mod many;
 mod marks;
+mod packet_building;
+mod packets;
 mod repeats;
 mod room;
+mod sending;
 mod solomon;
 mod stream;
 mod version;

@@ -40,4 +40,6 @@ pub use caller::Caller;
 pub use p25_line::Line;
 pub use p25_link::LinkControl;
 pub use p25_units::Item;
+pub use runs::take_unit;
+pub use seen::UnitSeen;
 pub use text::call_text;

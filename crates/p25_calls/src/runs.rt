@@ -2,7 +2,7 @@
 
 ghost use Rattle.std.specs.Prelude.{◌≡◌, ◌+◌, ◌-◌, ◌^◌, ◌<◌, ◌≤◌, IfSome};
 ghost use Rattle.p25_calls.specs.Seen.{unit_end};
-ghost use Rattle.p25_calls.specs.Taking.{IsPending, broken_off, pending_run, run_with, terminated};
+ghost use Rattle.p25_calls.specs.Taking.{IsPending, broken_off, pending_run, run_with, terminated, unit_answer, unit_pending};
 
 use crate::call::Call;
 use crate::seen::UnitSeen;
@@ -65,5 +65,25 @@ pub fn pending_run(run: Call, unit: &UnitSeen) -> Option<Call>
         Some(run)
     } else {
         None
+    }
+}
+
+/// Takes a unit, or what is none, as `Caller::take` takes an item: answers the call that it ends, and sets `pending` to the run that a
+/// further unit may still join. It is for those who keep what a `Caller` keeps elsewhere. The run that is open ends where the unit begins at
+/// the latest, and has fewer than 2^32 − 1 units. `None` comes exactly where no call ends so.
+pub fn take_unit(pending: &mut Option<Call>, unit: &Option<UnitSeen>) -> Option<Call>
+    requires pending { IfSome unit.now (λ unit. IfSome pending.old (IsPending unit.place (2 ^ 32 - 2))) }
+    requires end { IfSome unit.now (λ unit. unit_end unit < 2 ^ 61) }
+    ensures answer { result ≡ unit_answer pending.old unit.now }
+    ensures pending { pending.new ≡ unit_pending pending.old unit.now }
+{
+    match unit {
+        None => None,
+        Some(unit) => {
+            let before = *pending;
+            let run = run_with(&before, unit);
+            *pending = pending_run(run, unit);
+            broken_off(&before, unit).or(terminated(&run, unit))
+        }
     }
 }

@@ -1,0 +1,385 @@
+"""What units, calls and packets say, as values: no text is made for them."""
+
+import ctypes
+import enum
+from typing import TYPE_CHECKING, Any, Dict, Iterable, Iterator, NamedTuple, Optional, Tuple
+
+from ._library import CAUSES, I32, SIZE, U8, U16, U32, U64, WRITE, Cause, Error, call, exactly, number_of
+from ._recording import UNIT_ROOM, Duid, Item, Kind, items
+
+if TYPE_CHECKING:
+    from ._library import Octets
+
+
+class LinkKind(enum.IntEnum):
+    """What link control (LC) is of, by its first octet."""
+
+    OTHER = 0
+    """All else, which is not interpreted."""
+    GROUP = 1
+    """A call to a group (00 hex)."""
+    INDIVIDUAL = 2
+    """A call from unit to unit (03 hex)."""
+
+
+class CallEnd(enum.IntEnum):
+    """How a call ends."""
+
+    OPEN = 0
+    """Without a terminator."""
+    TDU = 1
+    """With a terminator."""
+    TDULC = 2
+    """With a terminator with link control (LC)."""
+
+
+class LinkControl(NamedTuple):
+    """Link control (LC): who speaks to whom. What its kind has not is None."""
+
+    octets: bytes
+    """The nine octets."""
+    kind: LinkKind
+    """What it is of."""
+    mfid: Optional[int] = None
+    """The manufacturer (MFID)."""
+    source: Optional[int] = None
+    """The unit that speaks, 24 bits."""
+    group: Optional[int] = None
+    """The group of a call to one."""
+    destination: Optional[int] = None
+    """The unit that is called by another, 24 bits."""
+    emergency: bool = False
+    """Whether a call to a group is an emergency."""
+
+
+class Fields(NamedTuple):
+    """The fields of a unit by their names. What its kind has not is None."""
+
+    nac: int
+    """The network access code (NAC), 0 to 4095."""
+    duid: Duid
+    """The data unit identifier (DUID)."""
+    lc: Optional[bytes] = None
+    """Link control (LC), nine octets, of an LDU1 and a TDULC; `read_link` reads it."""
+    mi: Optional[bytes] = None
+    """The message indicator (MI), nine octets, of an HDU and an LDU2."""
+    algid: Optional[int] = None
+    """The algorithm (ALGID), beside `mi`; 0x80 means that the voice is not encrypted."""
+    kid: Optional[int] = None
+    """The key (KID), beside `mi`."""
+    mfid: Optional[int] = None
+    """The manufacturer (MFID), of an HDU."""
+    tgid: Optional[int] = None
+    """The talk group (TGID), of an HDU."""
+    lsd: Optional[bytes] = None
+    """Low speed data (LSD), two octets, of an LDU1 and an LDU2."""
+    voice: Optional[Tuple[bytes, ...]] = None
+    """The nine voice frames of 18 octets as received, of an LDU1 and an LDU2."""
+
+
+class Call(NamedTuple):
+    """A call: a longest run of voice units without a break inside, with voice in it, as `p25 calls` tells it."""
+
+    place: int
+    """The bit at which its first unit begins."""
+    bits: int
+    """How many bits there are from there to the end of its last unit."""
+    nac: int
+    """The network access code (NAC) of its units."""
+    late: bool
+    """Whether it begins without a header (HDU)."""
+    end: CallEnd
+    """How it ends."""
+    links: int
+    """How many units of voice it has (LDU1 or LDU2)."""
+    broken: int
+    """How many of its units are broken."""
+    lc: Optional[bytes]
+    """The link control (LC) of the first whole unit that carries one, nine octets."""
+    algid: Optional[int]
+    """The algorithm (ALGID) of the first whole unit that names one."""
+
+    @property
+    def link(self) -> Optional[LinkControl]:
+        """What its link control says."""
+        return None if self.lc is None else read_link(self.lc)
+
+
+class Packet(NamedTuple):
+    """A packet (PDU): the fields of its header, and its data."""
+
+    nac: int
+    """The network access code (NAC) of its unit."""
+    head: bytes
+    """The ten octets of its header, without the check."""
+    format: int
+    """The format: 0x16 of a confirmed packet, 0x15 of an unconfirmed one, 0x03 of a response."""
+    full: bool
+    """The full message flag."""
+    blocks: int
+    """The number of blocks to follow."""
+    pad: int
+    """The number of pad octets."""
+    llid: int
+    """The logical link identifier (LLID), 24 bits."""
+    syn: bool
+    """Of a confirmed packet the flag Syn."""
+    number: int
+    """Of a confirmed packet N(S)."""
+    response_class: int
+    """Of a response its class."""
+    response_type: int
+    """Of a response its type."""
+    response_status: int
+    """Of a response its status."""
+    good: Tuple[bool, ...]
+    """Of a confirmed packet for each block whether its check agrees."""
+    serials: Tuple[int, ...]
+    """Of a confirmed packet for each block its serial number, 0 where its check does not agree."""
+    data: bytes
+    """Of a confirmed packet 16 octets for each block, zeros where its check does not agree; of another the octets before the packet CRC."""
+
+
+class _Link(ctypes.Structure):
+    # p25_link of p25.h
+    _fields_ = (("source", U32), ("destination", U32), ("group", U16), ("kind", U8), ("mfid", U8), ("emergency", U8))
+
+
+class _Fields(ctypes.Structure):
+    # p25_fields of p25.h
+    _fields_ = (
+        ("nac", U16),
+        ("kid", U16),
+        ("tgid", U16),
+        ("duid", U8),
+        ("mfid", U8),
+        ("algid", U8),
+        ("has_lc", U8),
+        ("has_mi", U8),
+        ("has_tgid", U8),
+        ("has_voice", U8),
+        ("lc", U8 * 9),
+        ("mi", U8 * 9),
+        ("lsd", U8 * 2),
+        ("voice", U8 * 162),
+    )
+
+
+class _Call(ctypes.Structure):
+    # p25_call of p25.h
+    _fields_ = (
+        ("place", U64),
+        ("bits", U64),
+        ("links", U32),
+        ("broken", U32),
+        ("nac", U16),
+        ("late", U8),
+        ("end", U8),
+        ("has_lc", U8),
+        ("has_algid", U8),
+        ("algid", U8),
+        ("lc", U8 * 9),
+    )
+
+
+class _Caller(ctypes.Structure):
+    # p25_caller of p25.h
+    _fields_ = (("reached", U64), ("taken", U32), ("is_open", U8), ("run", _Call))
+
+
+class _Packet(ctypes.Structure):
+    # p25_packet of p25.h
+    _fields_ = (
+        ("llid", U32),
+        ("nac", U16),
+        ("length", U16),
+        ("head", U8 * 10),
+        ("format", U8),
+        ("full", U8),
+        ("blocks", U8),
+        ("pad", U8),
+        ("syn", U8),
+        ("number", U8),
+        ("response_class", U8),
+        ("response_type", U8),
+        ("response_status", U8),
+        ("bad", U8),
+        ("good", U8 * 127),
+        ("serials", U8 * 127),
+        ("octets", U8 * 2032),
+    )
+
+
+class _Item(ctypes.Structure):
+    # p25_item of p25.h
+    _fields_ = (("place", U64), ("bits", U32), ("fixes", U32), ("text_length", U32), ("nac", U16), ("duid", U8), ("kind", U8))
+
+
+_link_read = call("p25_link_read", None, ctypes.c_char_p, ctypes.POINTER(_Link))
+_unit_fields = call("p25_unit_fields", I32, ctypes.c_char_p, SIZE, U64, U64, ctypes.POINTER(_Fields))
+_build_fields = call("p25_build_fields", I32, ctypes.POINTER(_Fields), U8, WRITE, SIZE)
+_caller_begin = call("p25_caller_begin", None, ctypes.POINTER(_Caller))
+_caller_take = call("p25_caller_take", I32, ctypes.POINTER(_Caller), ctypes.POINTER(_Item), ctypes.POINTER(_Fields), ctypes.POINTER(_Call))
+_caller_finish = call("p25_caller_finish", I32, ctypes.POINTER(_Caller), ctypes.POINTER(_Call))
+_packet_read = call("p25_packet_read", I32, ctypes.c_char_p, SIZE, U64, U64, ctypes.POINTER(_Packet))
+_build_packet = call("p25_build_packet", I32, ctypes.POINTER(_Packet), U8, WRITE, SIZE)
+
+_VALUE_CAUSES: Dict[int, Cause] = {**CAUSES, -8: Cause.DUID, -9: Cause.PACKET}
+
+
+def read_link(lc: "Octets") -> LinkControl:
+    """Answers what the nine octets of link control (LC) say. Error(length) where there are more or fewer."""
+    octets, link = exactly(lc, 9), _Link()
+    _link_read(octets, ctypes.byref(link))
+    if link.kind == LinkKind.GROUP:
+        return LinkControl(octets, LinkKind.GROUP, link.mfid, link.source, group=link.group, emergency=link.emergency == 1)
+    if link.kind == LinkKind.INDIVIDUAL:
+        return LinkControl(octets, LinkKind.INDIVIDUAL, link.mfid, link.source, destination=link.destination)
+    return LinkControl(octets, LinkKind.OTHER)
+
+
+def _told_fields(octets: bytes, place: int) -> Optional[_Fields]:
+    """Answers the fields of the whole unit at a place, by the octets that hold its bits."""
+    told = _Fields()
+    return told if _unit_fields(octets, len(octets), place - place % 8, place, ctypes.byref(told)) == 1 else None
+
+
+def fields_at(octets: bytes, place: int) -> Optional[Fields]:
+    """Answers the fields of the whole unit at a place, by the octets that hold its bits, or None where there is none."""
+    told = _told_fields(octets, place)
+    if told is None:
+        return None
+    voice = bytes(told.voice)
+    return Fields(
+        told.nac,
+        Duid(told.duid),
+        bytes(told.lc) if told.has_lc else None,
+        bytes(told.mi) if told.has_mi else None,
+        told.algid if told.has_mi else None,
+        told.kid if told.has_mi else None,
+        told.mfid if told.has_tgid else None,
+        told.tgid if told.has_tgid else None,
+        bytes(told.lsd) if told.has_voice else None,
+        tuple(voice[at : at + 18] for at in range(0, 162, 18)) if told.has_voice else None,
+    )
+
+
+def packet_at(octets: bytes, place: int) -> Optional[Packet]:
+    """Answers the packet of the unit at a place, by the octets that hold its bits, or None where none is read."""
+    told = _Packet()
+    if _packet_read(octets, len(octets), place - place % 8, place, ctypes.byref(told)) < 0:
+        return None
+    blocks = told.blocks if told.format == 0x16 else 0
+    return Packet(
+        told.nac,
+        bytes(told.head),
+        told.format,
+        told.full == 1,
+        told.blocks,
+        told.pad,
+        told.llid,
+        told.syn == 1,
+        told.number,
+        told.response_class,
+        told.response_type,
+        told.response_status,
+        tuple(it == 1 for it in told.good[:blocks]),
+        tuple(told.serials[:blocks]),
+        bytes(told.octets)[: told.length],
+    )
+
+
+def _written(function: Any, given: ctypes.Structure, status: int) -> bytes:
+    """Answers the octets of the unit that a call of the library builds of a struct."""
+    unit = ctypes.create_string_buffer(UNIT_ROOM)
+    answer = function(ctypes.byref(given), number_of(status, 3, Cause.STATUS), unit, UNIT_ROOM)
+    if answer < 0:
+        raise Error(_VALUE_CAUSES[answer])
+    return unit.raw[:answer]
+
+
+def build_fields(fields: Fields, status: int = 0) -> bytes:
+    """Answers the octets of the voice unit of fields, with the status symbol, 0 to 3, everywhere. Its `duid` says which fields are looked
+    at; one that is None is of zeros. Error has the cause nac, status, duid where no voice unit has it, or length."""
+    given = _Fields(nac=number_of(fields.nac, 4095, Cause.NAC), duid=number_of(fields.duid, 15, Cause.DUID))
+    for name, most in (("kid", 65535), ("tgid", 65535), ("mfid", 255), ("algid", 255)):
+        setattr(given, name, number_of(getattr(fields, name) or 0, most, Cause.VALUE))
+    for name, count in (("lc", 9), ("mi", 9), ("lsd", 2)):
+        octets = getattr(fields, name)
+        if octets is not None:
+            getattr(given, name)[:] = list(exactly(octets, count))
+    if fields.voice is not None:
+        given.voice[:] = list(exactly(b"".join(exactly(frame, 18) for frame in fields.voice), 162))
+    return _written(_build_fields, given, status)
+
+
+def build_packet(nac: int, head: "Octets", data: "Octets" = b"", serials: "Optional[Iterable[int]]" = None, status: int = 0) -> bytes:
+    """Answers the octets of the unit of a packet (PDU), with the status symbol, 0 to 3, everywhere.
+
+    `head` are the ten octets of its header without the check. `data` are of a confirmed packet 16 octets for each block, whose serial numbers
+    are `serials`, or 0, 1, 2 and so on; of another packet the octets before the packet CRC, twelve for each block less four. Error has the
+    cause nac, status, length, serial, or packet where the format is none of 0x16, 0x15 and 0x03.
+    """
+    header = exactly(head, 10)
+    blocks, is_confirmed = header[6] % 128, header[0] % 32 == 0x16
+    given = _Packet(nac=number_of(nac, 4095, Cause.NAC))
+    given.head[:] = list(header)
+    octets = exactly(data, 16 * blocks if is_confirmed else max(12 * blocks - 4, 0))
+    given.octets[: len(octets)] = list(octets)
+    if is_confirmed:
+        numbers = [number_of(it, 127, Cause.SERIAL) for it in (range(blocks) if serials is None else serials)]
+        if len(numbers) != blocks:
+            raise Error(Cause.LENGTH)
+        given.serials[:blocks] = numbers
+        given.good[:blocks] = [1] * blocks
+    return _written(_build_packet, given, status)
+
+
+class Caller:
+    """Groups the items of a recording into calls: `take` each in its turn, gaps too, and at the end `finish`."""
+
+    def __init__(self) -> None:
+        self._state, self._call, self._item = _Caller(), _Call(), _Item()
+        self._none = _Fields()
+        _caller_begin(ctypes.byref(self._state))
+
+    @property
+    def is_open(self) -> bool:
+        """Whether a run of voice units is open that a further one may still join."""
+        return bool(self._state.is_open)
+
+    def take(self, item: Item) -> Optional[Call]:
+        """Takes the next item and answers the call that ends, or None: it ends with this item, its terminator, or with the unit before, where
+        there is a break after that one. Error(place) where the item does not begin where the one before it ended, the first at bit 0."""
+        told = self._item
+        told.place, told.bits, told.kind = item.place, item.bits, item.kind_id
+        told.nac, told.duid = item.nac or 0, item.duid or 0
+        fields = _told_fields(item._octets, item.place) if item.kind_id == Kind.UNIT else None
+        answer = _caller_take(ctypes.byref(self._state), ctypes.byref(told), ctypes.byref(fields or self._none), ctypes.byref(self._call))
+        return self._answered(answer)
+
+    def finish(self) -> Optional[Call]:
+        """Answers the call that is still open, or None. The caller is then as a new one."""
+        return self._answered(_caller_finish(ctypes.byref(self._state), ctypes.byref(self._call)))
+
+    def _answered(self, answer: int) -> Optional[Call]:
+        if answer < 0:
+            raise Error(Cause.PLACE)
+        it = self._call
+        if answer == 0:
+            return None
+        lc = bytes(it.lc) if it.has_lc else None
+        algid = it.algid if it.has_algid else None
+        return Call(it.place, it.bits, it.nac, it.late == 1, CallEnd(it.end), it.links, it.broken, lc, algid)
+
+
+def calls(octets: "Octets") -> Iterator[Call]:
+    """Yields the calls of a whole recording, as `p25 calls` tells them."""
+    caller = Caller()
+    for item in items(octets):
+        ended = caller.take(item)
+        if ended is not None:
+            yield ended
+    last = caller.finish()
+    if last is not None:
+        yield last

@@ -1,0 +1,145 @@
+-- The laws of values: by the kinds of items and units, and of calls by induction on the items.
+use Rattle.std.proofs.Common.{◌≡◌, ℕ, suc, ◌+◌, ◌-◌, ◌<◌, ◌≤◌, ◌^◌, Bool, true, false, cond, ◌&&◌, List, [], ◌∷◌, ◌++◌, length, map, Option, Some, None, refl, sym, ap, ap₂, subst, ◌∙◌, arith}
+use Rattle.std.specs.Prelude.{All, IfSome, nat_le, option_to_list}
+use Rattle.std.specs.Cmp.Derive.{both_true}
+use Rattle.std.proofs.lemmas.List.Elements.{All-head, All-tail}
+use Rattle.std.proofs.lemmas.Bool.{cond-true, eq-eqb, le-leb, lt-ltb}
+use Rattle.p25_calls.specs.CallLaws.{LieFrom}
+use Rattle.p25_calls.specs.Calls.{calls_of}
+use Rattle.p25_calls.specs.Seen.{algid_in, broken_unit, link_in, unit_of, whole_unit}
+use Rattle.p25_calls.specs.Taking.{CallerParts, IsPending, answer_to, answers_by, behind_item, linked_pending, open_call, pending_run, run_with, unit_answer, unit_pending}
+use Rattle.p25_calls.specs.declared.call.Call.{Call}
+use Rattle.p25_calls.specs.declared.seen.UnitSeen.{UnitSeen}
+use Rattle.p25_calls.proofs.CallerSteps.{pending-kept, unit-ends}
+use Rattle.p25_calls.proofs.TakingLaws.{answers-are-calls}
+use Rattle.p25_units.specs.Items.{covered, place_of}
+use Rattle.p25_units.specs.declared.frame.Frame.{Frame}
+use Rattle.p25_units.specs.declared.item.Item.{Item}
+use Rattle.p25_units.specs.declared.item.Item.TheVariants.{Whole, Broken, NoUnit, Gap, Cut}
+use Rattle.p25_units.specs.declared.unit.Body.{Body}
+use Rattle.p25_units.specs.declared.unit.Body.TheVariants.{Voice, Packet}
+use Rattle.p25_voice_units.specs.declared.unit.VoiceUnit.{VoiceUnit}
+use Rattle.p25_voice_units.specs.declared.unit.VoiceUnit.TheVariants.{Header, Link1, Link2, End, EndLink}
+use Rattle.p25_voice_units.specs.declared.voice.VoiceFrame.{VoiceFrame}
+use Rattle.p25_text.specs.ItemTexts.{item_text_of}
+use Rattle.p25_units.specs.Units.{body_duid, frame_length_of}
+use Rattle.p25_c.specs.Fields.{body_fields, frame_octets, frames_held}
+use Rattle.p25_c.specs.Items.{parts_of}
+use Rattle.p25_c.specs.ValueLaws.{CallsAreTold, FieldsComeBack, UnitsAreTold, fields_with, told, told_by}
+use Rattle.p25_c.specs.VoiceCalls.{call_asked, caller_left, is_kept, last_asked, may_take, pending_held, state_told, unit_told}
+use Rattle.p25_c.specs.declared.calls.CallerState.{CallerState}
+use Rattle.p25_c.specs.declared.fields.FieldParts.{FieldParts}
+use Rattle.p25_c.proofs.VoiceCallsLaws.{pending-back}
+
+-- ---- units
+
+whole-told : (place bits fixes text nac : ℕ) (body : Body)
+    → unit_told (record { place = place; bits = bits; fixes = fixes; text_length = text; nac = nac; duid = body_duid body; kind = 1 }) (body_fields nac body)
+    ≡ Some (record { place = place; bits = bits; nac = nac; duid = body_duid body; broken = false; link = link_in body; algid = algid_in body })
+whole-told place bits fixes text nac (Voice (Header word)) = refl
+whole-told place bits fixes text nac (Voice (Link1 link low frames)) = refl
+whole-told place bits fixes text nac (Voice (Link2 sync low frames)) = refl
+whole-told place bits fixes text nac (Voice End) = refl
+whole-told place bits fixes text nac (Voice (EndLink link)) = refl
+whole-told place bits fixes text nac (Packet packet) = refl
+
+pub units-told : UnitsAreTold
+units-told (Whole place frame fixes) others =
+    whole-told place (frame_length_of frame.unit) fixes (length (item_text_of (Whole place frame fixes))) frame.unit.nac frame.unit.body
+units-told (Broken place count nac duid fields) others = refl
+units-told (NoUnit place field) others = refl
+units-told (Gap place count) others = refl
+units-told (Cut place have) others = refl
+
+frames-back : (frames : List VoiceFrame) → frames_held (frame_octets frames) ≡ frames
+frames-back [] = refl
+frames-back (frame ∷ frames) = ap (λ (xs : List VoiceFrame). frame ∷ xs) (frames-back frames)
+
+pub fields-back : FieldsComeBack
+fields-back nac (Header word) = refl
+fields-back nac (Link1 link low frames) = ap (λ (xs : List VoiceFrame). Some (Link1 link low xs)) (frames-back frames)
+fields-back nac (Link2 sync low frames) = ap (λ (xs : List VoiceFrame). Some (Link2 sync low xs)) (frames-back frames)
+fields-back nac End = refl
+fields-back nac (EndLink link) = refl
+
+-- ---- calls
+
+kept-true : (reached taken : ℕ) (pending : Option Call) → IfSome pending (IsPending reached taken) → is_kept (state_told reached taken pending) ≡ true
+kept-true reached taken None held = refl
+kept-true reached taken (Some call) held =
+    both_true (both_true (le-leb (call.place + call.bits) reached held.before) (le-leb call.links taken held.links)) (le-leb call.broken taken held.broken)
+
+state-reached : (reached taken : ℕ) (pending : Option Call) → (state_told reached taken pending).reached ≡ reached
+state-reached reached taken None = refl
+state-reached reached taken (Some call) = refl
+
+state-taken : (reached taken : ℕ) (pending : Option Call) → (state_told reached taken pending).taken ≡ taken
+state-taken reached taken None = refl
+state-taken reached taken (Some call) = refl
+
+may-true : (reached taken : ℕ) (pending : Option Call) (item : Item) → IfSome pending (IsPending reached taken) → place_of item ≡ reached → place_of item < 2 ^ 60 → taken < 2 ^ 32 - 1
+    → may_take (state_told reached taken pending) (parts_of item) ≡ true
+may-true reached taken pending item held at below few =
+    both_true
+    (both_true
+    (both_true (kept-true reached taken pending held) (eq-eqb (place_of item) _ (at ∙ sym (state-reached reached taken pending))))
+    (lt-ltb (place_of item) (2 ^ 60) below))
+    (lt-ltb _ (2 ^ 32 - 1) (subst (λ (n : ℕ). n < 2 ^ 32 - 1) (sym (state-taken reached taken pending)) few))
+
+-- a run that stays open where there is no unit
+still-pending : (reached taken end : ℕ) (pending : Option Call) → IfSome pending (IsPending reached taken) → reached ≤ end → IfSome pending (IsPending end (taken + 1))
+still-pending reached taken end None held later = tt
+still-pending reached taken end (Some call) held later =
+    record { before = omega (arith, held.before, later); links = omega (arith, held.links); broken = omega (arith, held.broken) }
+
+-- a unit begins where its item does
+some-same : (a b : UnitSeen) → ◌≡◌ {A = Option UnitSeen} (Some a) (Some b) → a ≡ b
+some-same a b same = cc
+
+unit-begins : (item : Item) (unit : UnitSeen) → Some unit ≡ unit_of item → unit.place ≡ place_of item
+unit-begins (Whole place frame fixes) unit is = ap (λ (u : UnitSeen). u.place) (some-same unit (whole_unit place frame) is)
+unit-begins (Broken place count nac duid fields) unit is = ap (λ (u : UnitSeen). u.place) (some-same unit (broken_unit place count nac duid) is)
+unit-begins (NoUnit place field) unit is = cc
+unit-begins (Gap place count) unit is = cc
+unit-begins (Cut place have) unit is = cc
+
+next-by : (item : Item) (unit : Option UnitSeen) → unit ≡ unit_of item → (reached taken : ℕ) (pending : Option Call) → IfSome pending (IsPending reached taken) → place_of item ≡ reached
+    → IfSome (unit_pending pending unit) (IsPending (place_of item + covered item) (taken + 1))
+next-by item None is reached taken pending held at = still-pending reached taken (place_of item + covered item) pending held (omega (arith, at))
+next-by item (Some unit) is reached taken pending held at =
+    pending-kept reached taken (place_of item + covered item) pending unit (run_with pending unit) (pending_run (run_with pending unit) unit) held
+    (unit-begins item unit is ∙ at) (unit-ends item unit is) refl refl
+
+-- an item begins below 2^60
+abbrev Begins : Item → Type 0
+Begins item = place_of item < 2 ^ 60
+
+-- what is told of items is what a caller answers to them
+told-answers : (items : List Item) (others : FieldParts) (reached taken : ℕ) (pending : Option Call) → IfSome pending (IsPending reached taken) → LieFrom reached items
+    → taken + length items < 2 ^ 32 → All (λ item. place_of item < 2 ^ 60) items
+    → told_by (state_told reached taken pending) items others ≡ answers_by true (record { reached = reached; taken = taken; pending = pending }) items
+unfolding told_by answers_by open_call LieFrom answer_to behind_item
+told-answers [] others reached taken pending held lie few below =
+    let state = state_told reached taken pending in
+    ap told (cond-true _ (Some (linked_pending (pending_held state))) None (kept-true reached taken pending held))
+    ∙ ap (λ (p : Option Call). option_to_list (linked_pending p)) (pending-back reached taken pending)
+told-answers (item ∷ items) others reached taken pending held lie few below =
+    let state = state_told reached taken pending in
+    let numbers = parts_of item in
+    let fields = fields_with item others in
+    let may = may-true reached taken pending item held lie.0 (All-head Begins item items below) (omega (arith, few)) in
+    let back = pending-back reached taken pending in
+    let seen = units-told item others in
+    let answered : call_asked state numbers fields ≡ Some (unit_answer pending (unit_of item))
+    = cond-true _ (Some (unit_answer (pending_held state) (unit_told numbers fields))) None may ∙ ap₂ (λ (p : Option Call) (u : Option UnitSeen). Some (unit_answer p u)) back seen in
+    let left : caller_left state numbers fields ≡ state_told (place_of item + covered item) (taken + 1) (unit_pending pending (unit_of item))
+    = cond-true _ (state_told (place_of item + covered item) (state.taken + 1) (unit_pending (pending_held state) (unit_told numbers fields))) state may
+    ∙ ap (λ (n : ℕ). state_told (place_of item + covered item) (n + 1) (unit_pending (pending_held state) (unit_told numbers fields))) (state-taken reached taken pending)
+    ∙ ap₂ (λ (p : Option Call) (u : Option UnitSeen). state_told (place_of item + covered item) (taken + 1) (unit_pending p u)) back seen in
+    ap₂ (λ (xs ys : List Call). xs ++ ys) (ap told answered)
+    (ap (λ (s : CallerState). told_by s items others) left
+    ∙ told-answers items others (place_of item + covered item) (taken + 1) (unit_pending pending (unit_of item))
+    (next-by item (unit_of item) refl reached taken pending held lie.0) (subst (λ (n : ℕ). LieFrom (n + covered item) items) (sym lie.0) lie.1) (omega (arith, few)) (All-tail Begins item items below))
+
+pub calls-told : CallsAreTold
+calls-told items others lie few below = told-answers items others 0 0 None tt lie (omega (arith, few)) below ∙ answers-are-calls true items lie

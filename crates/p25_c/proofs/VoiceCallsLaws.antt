@@ -1,0 +1,78 @@
+-- What a caller keeps, as numbers and octets: it comes back as it was, and what it answers to items in their order are their calls.
+use Rattle.std.proofs.Common.{◌≡◌, ℕ, ◌+◌, ◌-◌, ◌<◌, ◌≤◌, ◌^◌, Bool, true, false, cond, ◌&&◌, List, [], ◌∷◌, ◌++◌, length, Option, Some, None, refl, sym, ap, ap₂, subst, ◌∙◌, arith}
+use Rattle.std.specs.Prelude.{IfSome, nat_le, option_to_list}
+use Rattle.std.specs.Cmp.{first_so, second_so}
+use Rattle.std.proofs.lemmas.Bool.{eq-eqb, eqb-true, le-leb, leb-true, lt-ltb, ltb-true}
+use Rattle.p25_link.specs.declared.link_control.LinkControl.{LinkControl}
+use Rattle.p25_calls.specs.declared.call.Call.{Call}
+use Rattle.p25_calls.specs.declared.call.CallEnd.{CallEnd}
+use Rattle.p25_calls.specs.declared.call.CallEnd.TheVariants.{Tdu, Tdulc, Open}
+use Rattle.p25_calls.specs.Taking.{IsPending}
+use Rattle.p25_c.specs.declared.calls.CallParts.{CallParts}
+use Rattle.p25_c.specs.declared.calls.CallerState.{CallerState}
+use Rattle.p25_c.specs.declared.items.ItemParts.{ItemParts}
+use Rattle.p25_c.specs.VoiceCalls.{call_held, call_told, end_held, end_number, has_link, has_number, is_kept, link_held, link_octets, may_take, number_held, number_or_zero, pending_held, state_told}
+use Rattle.p25_c.specs.Values.{flag, is_set}
+
+-- a run that is kept is pending at the place that was reached
+run-pending : (b : Bool) (run : CallParts) (reached taken place : ℕ)
+    → cond b (nat_le (run.place + run.bits) reached && nat_le run.links taken && nat_le run.broken taken) true ≡ true → place ≡ reached → taken ≤ 2 ^ 32 - 2
+    → IfSome (cond b (Some (call_held run)) None) (IsPending place (2 ^ 32 - 2))
+run-pending true run reached taken place kept same few =
+    let two = first_so _ _ kept in
+    let before = leb-true (run.place + run.bits) reached (first_so _ _ two) in
+    let links = leb-true run.links taken (second_so _ _ two) in
+    let broken = leb-true run.broken taken (second_so _ _ kept) in
+    record { before = omega (arith, before, same); links = omega (arith, links, few); broken = omega (arith, broken, few) }
+run-pending false run reached taken place kept same few = tt
+
+-- where an item may be taken, the run that is open is pending at its place, and its end is below 2^61
+pub take-pending : (state : CallerState) (item : ItemParts) → may_take state item ≡ true → IfSome (pending_held state) (IsPending item.place (2 ^ 32 - 2))
+take-pending state item may =
+    let three = first_so _ _ may in
+    let two = first_so _ _ three in
+    let few = ltb-true state.taken (2 ^ 32 - 1) (second_so _ _ may) in
+    let same = eqb-true item.place state.reached (second_so _ _ two) in
+    run-pending (is_set state.is_open) state.run state.reached state.taken item.place (first_so _ _ two) same (omega (arith, few))
+
+pub take-below : (state : CallerState) (item : ItemParts) → may_take state item ≡ true → item.place < 2 ^ 60
+take-below state item may = ltb-true item.place (2 ^ 60) (second_so _ _ (first_so _ _ may))
+
+pub take-few : (state : CallerState) (item : ItemParts) → may_take state item ≡ true → state.taken < 2 ^ 32 - 1
+take-few state item may = ltb-true state.taken (2 ^ 32 - 1) (second_so _ _ may)
+
+-- ---- what is kept comes back
+
+late-back : (b : Bool) → is_set (flag b) ≡ b
+late-back true = refl
+late-back false = refl
+
+end-back : (end : CallEnd) → end_held (end_number end) ≡ end
+end-back Tdu = refl
+end-back Tdulc = refl
+end-back Open = refl
+
+link-back : (link : Option LinkControl) → link_held (has_link link) (link_octets link) ≡ link
+link-back None = refl
+link-back (Some link) = refl
+
+number-back : (number : Option ℕ) → number_held (has_number number) (number_or_zero number) ≡ number
+number-back None = refl
+number-back (Some number) = refl
+
+call-by : Call → Bool → CallEnd → Option LinkControl → Option ℕ → Call
+call-by call late end link algid = record call { late = late; end = end; link = link; algid = algid }
+
+call-back : (call : Call) → call_held (call_told call) ≡ call
+unfolding call-by
+call-back call =
+    let link : Option LinkControl = link_held (has_link call.link) (link_octets call.link) in
+    let algid : Option ℕ = number_held (has_number call.algid) (number_or_zero call.algid) in
+    ap (λ (b : Bool). call-by call b (end_held (end_number call.end)) link algid) (late-back call.late)
+    ∙ ap (λ (e : CallEnd). call-by call call.late e link algid) (end-back call.end)
+    ∙ ap (λ (l : Option LinkControl). call-by call call.late call.end l algid) (link-back call.link)
+    ∙ ap (λ (n : Option ℕ). call-by call call.late call.end call.link n) (number-back call.algid)
+
+pub pending-back : (reached taken : ℕ) (pending : Option Call) → pending_held (state_told reached taken pending) ≡ pending
+pending-back reached taken None = refl
+pending-back reached taken (Some call) = ap (λ (c : Call). Some c) (call-back call)

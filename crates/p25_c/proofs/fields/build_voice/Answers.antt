@@ -1,0 +1,8 @@
+use Rattle.std.proofs.Common.{sym, subst}
+use Rattle.p25_units.specs.UnitParts.{UnitParts}
+use Rattle.p25_units.specs.Units.{IsWholeBody}
+use Rattle.p25_c.proofs.fields.build_voice.Goals as goal
+
+pub write_whole-requires : goal.write_whole-requires
+unfolding IsWholeBody
+write_whole-requires c = subst (λ (u : UnitParts). IsWholeBody u.body) (sym c.new.ensures) tt

@@ -1,0 +1,44 @@
+-- What makes values believable: they say what the items of a recording say, and what a caller answers to them are its calls.
+use Rattle.std.specs.Prelude.{◌≡◌, ℕ, ◌+◌, ◌<◌, ◌^◌, List, [], ◌∷◌, ◌++◌, length, All, Option, Some, None, option_to_list}
+use Rattle.p25_calls.specs.CallLaws.{LieFrom}
+use Rattle.p25_calls.specs.Calls.{calls_of}
+use Rattle.p25_calls.specs.Seen.{unit_of}
+use Rattle.p25_calls.specs.declared.call.Call.{Call}
+use Rattle.p25_units.specs.Items.{place_of}
+use Rattle.p25_units.specs.declared.item.Item.{Item}
+use Rattle.p25_voice_units.specs.declared.unit.VoiceUnit.{VoiceUnit}
+use Rattle.p25_c.specs.Fields.{item_unit, no_fields, unit_left, voice_fields, voice_held}
+use Rattle.p25_c.specs.Items.{parts_of}
+use Rattle.p25_c.specs.VoiceCalls.{call_asked, caller_left, last_asked, pending_held, state_told, unit_told}
+use Rattle.p25_c.specs.declared.calls.CallerState.{CallerState}
+use Rattle.p25_c.specs.declared.fields.FieldParts.{FieldParts}
+
+-- the fields that a caller is given with an item: those of a whole unit, and any of another item
+abbrev pub fields_with : Item → FieldParts → FieldParts
+fields_with item others = unit_left (item_unit item) others
+
+-- the numbers of an item, and its fields, tell the unit that a call sees
+abbrev pub UnitsAreTold : Type 0
+UnitsAreTold = (item : Item) (others : FieldParts) → unit_told (parts_of item) (fields_with item others) ≡ unit_of item
+
+-- the fields of a voice unit are those of no other
+abbrev pub FieldsComeBack : Type 0
+FieldsComeBack = (nac : ℕ) (voice : VoiceUnit) → voice_held (voice_fields nac voice) ≡ Some voice
+
+-- the call that is answered, where one is
+abbrev pub told : Option (Option Call) → List Call
+told None = []
+told (Some call) = option_to_list call
+
+-- what a caller answers to items, one after the other, and at the end
+unfoldable pub told_by : CallerState → List Item → FieldParts → List Call
+told_by state [] others = told (last_asked state)
+told_by state (item ∷ items) others =
+    told (call_asked state (parts_of item) (fields_with item others)) ++ told_by (caller_left state (parts_of item) (fields_with item others)) items others
+
+-- what a caller that has begun answers to items that lie end to end from place 0 on are their calls: to fewer than 2^32 items, which begin
+-- below 2^60
+abbrev pub CallsAreTold : Type 0
+CallsAreTold =
+    (items : List Item) (others : FieldParts) → LieFrom 0 items → length items < 2 ^ 32 → All (λ item. place_of item < 2 ^ 60) items
+    → told_by (state_told 0 0 None) items others ≡ calls_of items

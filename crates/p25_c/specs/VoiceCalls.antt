@@ -1,0 +1,165 @@
+-- Calls told as numbers and octets, and what a caller keeps between items.
+use Rattle.std.specs.Prelude.{ℕ, ℤ, pos, negsuc, ◌+◌, ◌-◌, ◌^◌, ◌==◌, ◌&&◌, nat_le, nat_lt, Bool, true, false, if◌then◌else◌, List, replicate, Option, Some, None}
+use Rattle.p25_calls.specs.Seen.{broken_unit}
+use Rattle.p25_calls.specs.Taking.{linked_pending, unit_answer, unit_pending}
+use Rattle.p25_calls.specs.declared.call.Call.{Call}
+use Rattle.p25_calls.specs.declared.call.CallEnd.{CallEnd}
+use Rattle.p25_calls.specs.declared.call.CallEnd.TheVariants.{Tdu, Tdulc, Open}
+use Rattle.p25_calls.specs.declared.seen.UnitSeen.{UnitSeen}
+use Rattle.p25_link.specs.declared.link_control.LinkControl.{LinkControl}
+use Rattle.p25_c.specs.Values.{flag, is_set}
+use Rattle.p25_c.specs.declared.calls.CallParts.{CallParts}
+use Rattle.p25_c.specs.declared.calls.CallerState.{CallerState}
+use Rattle.p25_c.specs.declared.fields.FieldParts.{FieldParts}
+use Rattle.p25_c.specs.declared.items.ItemParts.{ItemParts}
+
+-- ---- a call as numbers and octets, and back
+
+-- how a call ends: 1 with a TDU, 2 with a TDULC, and 0 without a terminator
+abbrev pub end_number : CallEnd → ℕ
+end_number Tdu = 1
+end_number Tdulc = 2
+end_number Open = 0
+
+abbrev pub end_held : ℕ → CallEnd
+end_held number = if number == 1 then Tdu else if number == 2 then Tdulc else Open
+
+-- link control (LC) where there is one: whether it is there, and its octets
+abbrev pub has_link : Option LinkControl → ℕ
+has_link None = 0
+has_link (Some link) = 1
+
+abbrev pub link_octets : Option LinkControl → List ℕ
+link_octets None = replicate 9 0
+link_octets (Some link) = link.0
+
+abbrev pub link_held : ℕ → List ℕ → Option LinkControl
+link_held there octets = if is_set there then Some (record { 0 = octets }) else None
+
+-- a number where there is one
+abbrev pub has_number : Option ℕ → ℕ
+has_number None = 0
+has_number (Some number) = 1
+
+abbrev pub number_or_zero : Option ℕ → ℕ
+number_or_zero None = 0
+number_or_zero (Some number) = number
+
+abbrev pub number_held : ℕ → ℕ → Option ℕ
+number_held there number = if is_set there then Some number else None
+
+-- a call as numbers and octets
+abbrev pub call_told : Call → CallParts
+call_told call = record {
+  place = call.place;
+  bits = call.bits;
+  links = call.links;
+  broken = call.broken;
+  nac = call.nac;
+  late = flag call.late;
+  end = end_number call.end;
+  has_lc = has_link call.link;
+  has_algid = has_number call.algid;
+  algid = number_or_zero call.algid;
+  lc = link_octets call.link;
+}
+
+-- the call of numbers and octets
+abbrev pub call_held : CallParts → Call
+call_held parts = record {
+  place = parts.place;
+  bits = parts.bits;
+  nac = parts.nac;
+  late = is_set parts.late;
+  end = end_held parts.end;
+  links = parts.links;
+  broken = parts.broken;
+  link = link_held parts.has_lc parts.lc;
+  algid = number_held parts.has_algid parts.algid;
+}
+
+-- no call
+abbrev pub no_call : CallParts
+no_call = record {
+  place = 0;
+  bits = 0;
+  links = 0;
+  broken = 0;
+  nac = 0;
+  late = 0;
+  end = 0;
+  has_lc = 0;
+  has_algid = 0;
+  algid = 0;
+  lc = replicate 9 0;
+}
+
+-- ---- what a caller keeps
+
+-- a caller by where the last item that was taken ended, how many were taken, and the run that a further unit may still join
+abbrev pub state_told : ℕ → ℕ → Option Call → CallerState
+state_told reached taken None = record { reached = reached; taken = taken; is_open = 0; run = no_call }
+state_told reached taken (Some call) = record { reached = reached; taken = taken; is_open = 1; run = call_told call }
+
+-- the run that is open
+abbrev pub pending_held : CallerState → Option Call
+pending_held state = if is_set state.is_open then Some (call_held state.run) else None
+
+-- the run that is open ends where the last item did at the latest, and has no more units than items were taken
+abbrev pub is_kept : CallerState → Bool
+is_kept state =
+    if is_set state.is_open
+    then nat_le (state.run.place + state.run.bits) state.reached && nat_le state.run.links state.taken && nat_le state.run.broken state.taken
+    else true
+
+-- an item may be taken: it begins where the last one ended, below 2^60, and fewer than 2^32 - 1 were taken
+abbrev pub may_take : CallerState → ItemParts → Bool
+may_take state item = is_kept state && item.place == state.reached && nat_lt item.place (2 ^ 60) && nat_lt state.taken (2 ^ 32 - 1)
+
+-- the unit that an item is, by its numbers and, of a whole one, by its fields
+abbrev pub whole_told : ItemParts → FieldParts → UnitSeen
+whole_told item fields = record {
+  place = item.place;
+  bits = item.bits;
+  nac = item.nac;
+  duid = item.duid;
+  broken = false;
+  link = link_held fields.has_lc fields.lc;
+  algid = number_held fields.has_mi fields.algid;
+}
+
+abbrev pub unit_told : ItemParts → FieldParts → Option UnitSeen
+unit_told item fields =
+    if item.kind == 1 then Some (whole_told item fields)
+    else if item.kind == 2 then Some (broken_unit item.place item.bits item.nac item.duid) else None
+
+-- ---- what is answered
+
+-- what a caller answers to an item: the call that it ends, where it ends one; None where it may not be taken
+abbrev pub call_asked : CallerState → ItemParts → FieldParts → Option (Option Call)
+call_asked state item fields = if may_take state item then Some (unit_answer (pending_held state) (unit_told item fields)) else None
+
+-- what a caller answers at the end
+abbrev pub last_asked : CallerState → Option (Option Call)
+last_asked state = if is_kept state then Some (linked_pending (pending_held state)) else None
+
+-- the number that is answered: 1 where a call ends, 0 where none does, and -1 where the item may not be taken
+abbrev pub call_answer : Option (Option Call) → ℤ
+call_answer None = negsuc 0
+call_answer (Some None) = pos 0
+call_answer (Some (Some call)) = pos 1
+
+-- the call that is left: the one that ends, where one does
+abbrev pub call_left : Option (Option Call) → CallParts → CallParts
+call_left None before = before
+call_left (Some None) before = before
+call_left (Some (Some call)) before = call_told call
+
+-- the caller that is left: behind the item, where it may be taken
+abbrev pub caller_left : CallerState → ItemParts → FieldParts → CallerState
+caller_left state item fields =
+    if may_take state item then state_told (item.place + item.bits) (state.taken + 1) (unit_pending (pending_held state) (unit_told item fields)) else state
+
+-- and at the end one that no item was taken by
+abbrev pub finished_left : CallerState → CallerState
+finished_left state = if is_kept state then state_told 0 0 None else state

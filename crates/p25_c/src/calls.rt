@@ -1,0 +1,323 @@
+//! Calls, as the items of a recording come: what is kept between them stands with the caller of these functions.
+
+ghost use Rattle.std.specs.Prelude.{◌≡◌, ◌+◌, ◌^◌, ◌<◌, None, Option, Some, IfSome};
+ghost use Rattle.p25_calls.specs.Seen.{unit_end};
+ghost use Rattle.p25_calls.specs.Taking.{linked_pending};
+ghost use Rattle.p25_c.specs.VoiceCalls.{call_answer, call_asked, call_held, call_left, call_told, caller_left, end_held, end_number, finished_left, has_link, is_kept, last_asked, link_held, link_octets, may_take, no_call, number_held, pending_held, state_told, unit_told};
+
+use crate::fields::FieldParts;
+use crate::items::ItemParts;
+use p25_calls::{Call, CallEnd, LinkControl, UnitSeen, take_unit};
+
+// A call ends; none does; the item may not be taken.
+const CALL: i32 = 1;
+
+const NO_CALL: i32 = 0;
+
+const OUTSIDE: i32 = -1;
+
+// The most items that a caller takes, and the least place at which it takes none.
+const TAKEN_MOST: u32 = u32::MAX;
+
+const PLACE_END: u64 = 1 << 60;
+
+/// A call: a longest run of voice units without a break inside, which has voice. It covers `bits` bits from bit `place` on; `links` is
+/// how many units of voice (LDU1 or LDU2) it has, and `broken` how many of its units are broken. `late` is 1 where it begins without
+/// a header (HDU). `end` is 1 where it ends with a TDU, 2 with a TDULC and 0 without a terminator. `has_lc` is 1 where some whole
+/// unit of it has link control (LC), and `lc` that of the first; so with `has_algid` and `algid`, the algorithm.
+#[derive(Clone, Copy)]
+#[repr(C)]
+pub struct CallParts {
+    pub place: u64,
+    pub bits: u64,
+    pub links: u32,
+    pub broken: u32,
+    pub nac: u16,
+    pub late: u8,
+    pub end: u8,
+    pub has_lc: u8,
+    pub has_algid: u8,
+    pub algid: u8,
+    pub lc: [u8; 9],
+}
+
+/// What is kept between the items of a recording: where the last one ended, how many were taken, and where `is_open` is not 0 the run
+/// of voice units that a further one may still join.
+#[derive(Clone, Copy)]
+#[repr(C)]
+pub struct CallerState {
+    pub reached: u64,
+    pub taken: u32,
+    pub is_open: u8,
+    pub run: CallParts,
+}
+
+/// Sets `caller` to one that no item was taken by.
+#[unsafe(no_mangle)]
+pub extern "C" fn p25_caller_begin(caller: &mut CallerState)
+    ensures { caller.new ≡ state_told 0 0 None }
+{
+    *caller = state_told(0, 0, &None);
+}
+
+/// Takes an item of a recording. Each is taken in its turn, gaps too: it begins where the one before it ends, the first at place 0.
+/// `fields` are those of a whole unit, as `p25_unit_fields` tells them; of any other item they are not looked at.
+///
+/// Answers 1 where a call ends, and sets `call` to it: with this item, its terminator, or with the unit before, where there is a break
+/// after that one. Answers 0 where none ends. Answers -1 where the item may not be taken, and then `caller` stays: it does not begin
+/// where the one before it ended, it begins at 2^60 or above, 2^32 - 1 items were taken, or `caller` is none that these calls set. At 0
+/// and -1 `call` stays.
+#[unsafe(no_mangle)]
+pub extern "C" fn p25_caller_take(
+    caller: &mut CallerState,
+    item: &ItemParts,
+    fields: &FieldParts,
+    call: &mut CallParts,
+) -> i32
+    ensures answer { result ≡ call_answer (call_asked caller.old item.now fields.now) }
+    ensures caller { caller.new ≡ caller_left caller.old item.now fields.now }
+    ensures call { call.new ≡ call_left (call_asked caller.old item.now fields.now) call.old }
+{
+    if !may_take(caller, item) {
+        return OUTSIDE;
+    }
+    let unit = unit_told(item, fields);
+    let mut pending = pending_held(caller);
+    let ended = take_unit(&mut pending, &unit);
+    *caller = state_told(
+        item.place + u64::from(item.bits),
+        caller.taken + 1,
+        &pending,
+    );
+    tell_call(&ended, call)
+}
+
+/// Ends a recording: answers 1 and sets `call` to the call that is still open, or answers 0 where none is. `caller` is then one that no
+/// item was taken by. Answers -1 where `caller` is none that these calls set, and then it stays. At 0 and -1 `call` stays.
+#[unsafe(no_mangle)]
+pub extern "C" fn p25_caller_finish(caller: &mut CallerState, call: &mut CallParts) -> i32
+    ensures answer { result ≡ call_answer (last_asked caller.old) }
+    ensures caller { caller.new ≡ finished_left caller.old }
+    ensures call { call.new ≡ call_left (last_asked caller.old) call.old }
+{
+    if !is_kept(caller) {
+        return OUTSIDE;
+    }
+    let ended = linked(&pending_held(caller));
+    *caller = state_told(0, 0, &None);
+    tell_call(&ended, call)
+}
+
+// The call that an open run is.
+fn linked(pending: &Option<Call>) -> Option<Call>
+    ensures { result ≡ linked_pending pending.now }
+{
+    match pending {
+        Some(call) if call.links > 0 => Some(*call),
+        _ => None,
+    }
+}
+
+// Tells a call, where there is one, and answers whether there is.
+fn tell_call(ended: &Option<Call>, call: &mut CallParts) -> i32
+    ensures answer { result ≡ call_answer (Some ended.now) }
+    ensures call { call.new ≡ call_left (Some ended.now) call.old }
+{
+    match ended {
+        Some(told) => {
+            *call = call_told(told);
+            CALL
+        }
+        None => NO_CALL,
+    }
+}
+
+// Whether a caller is one that these calls set.
+fn is_kept(caller: &CallerState) -> bool
+    ensures { result ≡ is_kept caller.now }
+{
+    if caller.is_open == 0 {
+        return true;
+    }
+    let run = &caller.run;
+    run.place <= caller.reached
+        && run.bits <= caller.reached - run.place
+        && run.links <= caller.taken
+        && run.broken <= caller.taken
+}
+
+// Whether an item may be taken.
+fn may_take(caller: &CallerState, item: &ItemParts) -> bool
+    ensures { result ≡ may_take caller.now item.now }
+{
+    is_kept(caller)
+        && item.place == caller.reached
+        && item.place < PLACE_END
+        && caller.taken < TAKEN_MOST
+}
+
+// The unit that an item is.
+fn unit_told(item: &ItemParts, fields: &FieldParts) -> Option<UnitSeen>
+    ensures { result ≡ unit_told item.now fields.now }
+{
+    match item.kind {
+        1 => Some(UnitSeen {
+            place: item.place,
+            bits: u64::from(item.bits),
+            nac: item.nac,
+            duid: item.duid,
+            broken: false,
+            link: link_held(fields.has_lc, &fields.lc),
+            algid: number_held(fields.has_mi, fields.algid),
+        }),
+        2 => Some(UnitSeen {
+            place: item.place,
+            bits: u64::from(item.bits),
+            nac: item.nac,
+            duid: item.duid,
+            broken: true,
+            link: None,
+            algid: None,
+        }),
+        _ => None,
+    }
+}
+
+// A caller by what it keeps.
+fn state_told(reached: u64, taken: u32, pending: &Option<Call>) -> CallerState
+    ensures { result ≡ state_told reached taken pending.now }
+{
+    match pending {
+        Some(call) => CallerState {
+            reached,
+            taken,
+            is_open: 1,
+            run: call_told(call),
+        },
+        None => CallerState {
+            reached,
+            taken,
+            is_open: 0,
+            run: no_call(),
+        },
+    }
+}
+
+// The run that is open.
+fn pending_held(caller: &CallerState) -> Option<Call>
+    ensures { result ≡ pending_held caller.now }
+{
+    if caller.is_open == 0 {
+        return None;
+    }
+    Some(call_held(&caller.run))
+}
+
+// A call as numbers and octets.
+fn call_told(call: &Call) -> CallParts
+    ensures { result ≡ call_told call.now }
+{
+    let (has_lc, lc) = link_octets(&call.link);
+    CallParts {
+        place: call.place,
+        bits: call.bits,
+        links: call.links,
+        broken: call.broken,
+        nac: call.nac,
+        late: u8::from(call.late),
+        end: end_number(call.end),
+        has_lc,
+        has_algid: u8::from(call.algid.is_some()),
+        algid: call.algid.unwrap_or(0),
+        lc,
+    }
+}
+
+// The call of numbers and octets.
+fn call_held(parts: &CallParts) -> Call
+    ensures { result ≡ call_held parts.now }
+{
+    Call {
+        place: parts.place,
+        bits: parts.bits,
+        nac: parts.nac,
+        late: parts.late != 0,
+        end: end_held(parts.end),
+        links: parts.links,
+        broken: parts.broken,
+        link: link_held(parts.has_lc, &parts.lc),
+        algid: number_held(parts.has_algid, parts.algid),
+    }
+}
+
+// The numbers of no call.
+fn no_call() -> CallParts
+    ensures { result ≡ no_call }
+{
+    CallParts {
+        place: 0,
+        bits: 0,
+        links: 0,
+        broken: 0,
+        nac: 0,
+        late: 0,
+        end: 0,
+        has_lc: 0,
+        has_algid: 0,
+        algid: 0,
+        lc: [0; 9],
+    }
+}
+
+// Whether there is link control, and its octets.
+fn link_octets(link: &Option<LinkControl>) -> (u8, [u8; 9])
+    ensures there { result.0 ≡ has_link link.now }
+    ensures octets { result.1 ≡ link_octets link.now }
+{
+    match link {
+        Some(link) => {
+            let octets = link.0;
+            (1, octets)
+        }
+        None => (0, [0; 9]),
+    }
+}
+
+// Link control of its octets, where it is there.
+fn link_held(there: u8, octets: &[u8; 9]) -> Option<LinkControl>
+    ensures { result ≡ link_held there octets.now }
+{
+    if there == 0 {
+        return None;
+    }
+    Some(LinkControl(*octets))
+}
+
+// A number where it is there.
+fn number_held(there: u8, number: u8) -> Option<u8>
+    ensures { result ≡ number_held there number }
+{
+    if there == 0 { None } else { Some(number) }
+}
+
+// The number of an end.
+fn end_number(end: CallEnd) -> u8
+    ensures { result ≡ end_number end }
+{
+    match end {
+        CallEnd::Tdu => 1,
+        CallEnd::Tdulc => 2,
+        CallEnd::Open => 0,
+    }
+}
+
+// The end of a number.
+fn end_held(number: u8) -> CallEnd
+    ensures { result ≡ end_held number }
+{
+    match number {
+        1 => CallEnd::Tdu,
+        2 => CallEnd::Tdulc,
+        _ => CallEnd::Open,
+    }
+}

@@ -1,0 +1,84 @@
+//! Link control (LC), read.
+
+ghost use Rattle.std.specs.Prelude.{◌≡◌};
+ghost use Rattle.p25_c.specs.Fields.{link_told};
+ghost use Rattle.p25_link.specs.Kinds.{link_kind_of};
+
+use p25_link::{LinkControl, LinkKind};
+
+/// What link control (LC) says of a call. `kind` is 1 of a call to a group, 2 of one from unit to unit, and 0 of another, which is not
+/// interpreted. `source` is the unit that speaks; `group` is the group of a call to one, and `destination` the unit that is
+/// called of one from unit to unit. `emergency` is 1 or 0. What a kind has not is 0.
+#[derive(Clone, Copy)]
+#[repr(C)]
+pub struct LinkParts {
+    pub source: u32,
+    pub destination: u32,
+    pub group: u16,
+    pub kind: u8,
+    pub mfid: u8,
+    pub emergency: u8,
+}
+
+/// Sets `link` to what the nine octets of link control (LC) say. TIA-102.BAAA, Link Control Word.
+#[unsafe(no_mangle)]
+pub extern "C" fn p25_link_read(lc: &[u8; 9], link: &mut LinkParts)
+    ensures { link.new ≡ link_told (link_kind_of (record { 0 = lc.now })) }
+{
+    *link = link_told(LinkControl(*lc).kind());
+}
+
+// What a kind of link control is as numbers.
+fn link_told(kind: LinkKind) -> LinkParts
+    ensures { result ≡ link_told kind }
+{
+    match kind {
+        LinkKind::Group {
+            mfid,
+            emergency,
+            group,
+            source,
+        } => group_told(mfid, emergency, group, source),
+        LinkKind::Individual {
+            mfid,
+            destination,
+            source,
+        } => individual_told(mfid, destination, source),
+        LinkKind::Other => LinkParts {
+            source: 0,
+            destination: 0,
+            group: 0,
+            kind: 0,
+            mfid: 0,
+            emergency: 0,
+        },
+    }
+}
+
+// What a call to a group is as numbers.
+fn group_told(mfid: u8, emergency: bool, group: u16, source: u32) -> LinkParts
+    ensures { result ≡ link_told (LinkKind.Group mfid emergency group source) }
+{
+    LinkParts {
+        source,
+        destination: 0,
+        group,
+        kind: 1,
+        mfid,
+        emergency: u8::from(emergency),
+    }
+}
+
+// What a call from unit to unit is as numbers.
+fn individual_told(mfid: u8, destination: u32, source: u32) -> LinkParts
+    ensures { result ≡ link_told (LinkKind.Individual mfid destination source) }
+{
+    LinkParts {
+        source,
+        destination,
+        group: 0,
+        kind: 2,
+        mfid,
+        emergency: 0,
+    }
+}

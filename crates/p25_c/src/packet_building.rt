@@ -1,0 +1,121 @@
+//! Packets (PDU) built from numbers and octets.
+
+ghost use Rattle.std.specs.Prelude.{◌≡◌, ◌-◌, ◌*◌, ◌<◌, ◌≤◌, Err, IfSome, slice_index, take, true};
+ghost use Rattle.p25_c.specs.Building.{wrong_nac, wrong_status};
+ghost use Rattle.p25_c.specs.Packets.{confirmed_of, is_sendable_at, packet_built, packet_held, slot_held, slots_held};
+ghost use Rattle.p25_c.specs.Rooms.{IsWriting};
+ghost use Rattle.p25_packet_blocks.specs.Heads.{confirmed_format, head_blocks, head_format};
+ghost use Rattle.p25_packet_blocks.specs.Kinds.{IsPlainFormat};
+ghost use Rattle.p25_packet_blocks.specs.Reading.{plain_by_parts};
+ghost use Rattle.p25_packet_blocks.specs.Whole.{IsWholePacket};
+ghost use Rattle.p25_status.specs.Status.{status_number};
+ghost use Rattle.p25_status.specs.declared.symbols.Status.{Status as Symbol};
+
+use crate::building::{WRONG_NAC, WRONG_STATUS};
+use crate::packets::PacketParts;
+use crate::sending::write_whole;
+use p25_packet_blocks::{
+    Block, CONFIRMED_FORMAT, Confirmed, Octets, PLAIN_FORMAT, Packet, PacketHead, Plain,
+    RESPONSE_FORMAT, Slot, Slots,
+};
+use p25_status::Status;
+use p25_units::{Body, Unit};
+
+// What is given is no packet that can be sent.
+const WRONG_PACKET: i32 = -9;
+
+/// Writes the octets of the unit of a packet (PDU) into `octets`, with one status symbol everywhere, and answers how many. The octets of
+/// `octets` after them stay. Of `packet` the members `nac`, `head` and `octets` are looked at, and of a confirmed packet `good` and
+/// `serials` too: what else its header says is read from `head`.
+///
+/// Where it does not, all of `octets` stays, and it answers the first of these that applies: -4, `nac` is above 4095; -5, `status`
+/// is above 3; -9, `head` has a format that is none of 16, 15 and 03 hex, or a block of a confirmed packet is 0 in `good` or has
+/// a serial number above 127; -2, the unit has more octets than `octets`.
+#[unsafe(no_mangle)]
+pub extern "C" fn p25_build_packet(packet: &PacketParts, status: u8, octets: &mut [u8]) -> i32
+    ensures strange_code { 4096 ≤ packet.now.nac → IsWriting (Err wrong_nac) octets.old octets.new result }
+    ensures strange_symbol { packet.now.nac < 4096 → 4 ≤ status → IsWriting (Err wrong_status) octets.old octets.new result }
+    ensures built { packet.now.nac < 4096 → (symbol : Symbol) → status_number symbol ≡ status
+        → IsWriting (packet_built symbol packet.now) octets.old octets.new result }
+{
+    if packet.nac > 4_095 {
+        return WRONG_NAC;
+    }
+    let Some(symbol) = Status::new(status) else {
+        return WRONG_STATUS;
+    };
+    build_packet(packet, symbol, octets)
+}
+
+// Writes the octets of the unit of a packet.
+fn build_packet(packet: &PacketParts, status: Status, octets: &mut [u8]) -> i32
+    requires { packet.now.nac < 4096 }
+    ensures { IsWriting (packet_built status packet.now) octets.old octets.new result }
+{
+    match packet_held(packet) {
+        Some(held) => write_whole(Unit::new(packet.nac, Body::Packet(held)), status, octets),
+        None => WRONG_PACKET,
+    }
+}
+
+// The packet of numbers and octets.
+fn packet_held(packet: &PacketParts) -> Option<Packet>
+    ensures value { result ≡ packet_held packet.now }
+    ensures whole { IfSome result IsWholePacket }
+{
+    let octets = packet.head;
+    let head = PacketHead(octets);
+    match head.format() {
+        CONFIRMED_FORMAT => confirmed_held(head, packet),
+        PLAIN_FORMAT | RESPONSE_FORMAT => Some(plain_held(head, packet)),
+        _ => None,
+    }
+}
+
+// The confirmed packet of numbers and octets.
+fn confirmed_held(head: PacketHead, packet: &PacketParts) -> Option<Packet>
+    requires { head_format head ≡ confirmed_format }
+    ensures value { result ≡ confirmed_of head (slots_held (head_blocks head) packet.now) }
+    ensures whole { IfSome result IsWholePacket }
+{
+    let mut slots = Slots::new();
+    for j in 0..usize::from(head.blocks()) {
+        if !is_sendable_at(packet, j) {
+            return None;
+        }
+        slots.push(slot_held(packet, j));
+    }
+    Some(Packet::Confirmed(Confirmed::new(head, slots)))
+}
+
+// Whether the block at a place can be sent: it is good, and its serial number has seven bits.
+fn is_sendable_at(packet: &PacketParts, j: usize) -> bool
+    requires { j < 127 }
+    ensures value { result ≡ is_sendable_at packet.now j }
+    ensures serial { result ≡ true → slice_index packet.now.serials j < 128 }
+{
+    packet.good[j] != 0 && packet.serials[j] < 128
+}
+
+// The block at a place of numbers and octets.
+fn slot_held(packet: &PacketParts, j: usize) -> Slot
+    requires there { j < 127 }
+    requires serial { slice_index packet.now.serials j < 128 }
+    ensures { result ≡ slot_held packet.now j }
+{
+    let mut octets = [0; 16];
+    octets.copy_from_slice(&packet.octets[16 * j..16 * j + 16]);
+    Slot::Good(Block::new(packet.serials[j], octets))
+}
+
+// The packet that is not confirmed, of numbers and octets.
+fn plain_held(head: PacketHead, packet: &PacketParts) -> Packet
+    requires { IsPlainFormat (head_format head) }
+    ensures value { result ≡ plain_by_parts head (take (12 * head_blocks head - 4) packet.now.octets) }
+    ensures whole { IsWholePacket result }
+{
+    let mut octets = Octets::new();
+    let count = (12 * usize::from(head.blocks())).saturating_sub(4);
+    octets.extend(&packet.octets[..count]);
+    Packet::Plain(Plain::new(head, octets))
+}

@@ -1,0 +1,304 @@
+//! Packets (PDU) as numbers and octets.
+
+ghost use Rattle.std.specs.Prelude.{◌≡◌, ◌*◌, ◌≤◌, count_by, length, map};
+ghost use Rattle.std.specs.List.{flat_map};
+ghost use Rattle.p25_c.specs.Packets.{bits_packet, head_told, is_bad, no_packet, packet_answer, packet_asked, packet_bad, packet_fault, packet_left, packet_told, slot_good, slot_octets, slot_serial, slots_told, unit_bits, with_flags, with_lengths, with_response};
+ghost use Rattle.p25_bits.specs.Bits.{octet_bits};
+
+use crate::building::NO_UNIT;
+use crate::items::{OUTSIDE, is_inside};
+use p25_bits::BitBuf;
+use p25_packet_blocks::{Packet, PacketHead, Slot, read_packet_unit};
+use p25_status::Field;
+
+// As many octets as a unit that begins at any bit can lie in.
+const NEEDED: usize = 3_241;
+
+// How many bits the shortest unit of a packet has.
+const SHORTEST: usize = 360;
+
+/// A packet. `head` are the ten octets of its header, and `llid`, `format`, `full`, `blocks`, `pad`, `syn`, `number`, `response_class`,
+/// `response_type` and `response_status` are its fields, as `p25_packet_read` says. `length` of the octets of `octets` are those behind the header, and the
+/// others are 0. Of a confirmed packet `bad` is the number of blocks that fail, and for each block there is an octet in `good`, 1 or 0,
+/// and in `serials`.
+#[derive(Clone, Copy)]
+#[repr(C)]
+pub struct PacketParts {
+    pub llid: u32,
+    pub nac: u16,
+    pub length: u16,
+    pub head: [u8; 10],
+    pub format: u8,
+    pub full: u8,
+    pub blocks: u8,
+    pub pad: u8,
+    pub syn: u8,
+    pub number: u8,
+    pub response_class: u8,
+    pub response_type: u8,
+    pub response_status: u8,
+    pub bad: u8,
+    pub good: [u8; 127],
+    pub serials: [u8; 127],
+    pub octets: [u8; 2032],
+}
+
+/// Sets `packet` to the packet (PDU) of the unit that begins at bit `from` of a recording, of which these are some octets: the first of
+/// them stands at bit `begin`. Answers how many of its blocks fail. Each block of a confirmed packet is judged by its own check: one that
+/// fails is 0 in `good`, and its sixteen octets of `octets` are 0.
+///
+/// Answers less than 0 where there is no packet, and then `packet` stays: -1 where `p25_next_item` answers -1; -3 where no unit of a
+/// packet begins there, since its sync, its identifier or its data unit identifier (DUID) is another or fewer than 360 bits are left; -21
+/// where the check of its header does not agree; -22 where octets are wanting; -23 where its format is none of 16, 15 and 03 hex;
+/// -24 where its packet check does not agree.
+#[unsafe(no_mangle)]
+pub extern "C" fn p25_packet_read(
+    octets: &[u8],
+    begin: u64,
+    from: u64,
+    packet: &mut PacketParts,
+) -> i32
+    ensures answer { result ≡ packet_answer (packet_asked begin from octets.now) }
+    ensures packet { packet.new ≡ packet_left (packet_asked begin from octets.now) packet.old }
+{
+    if !is_inside(begin, from, octets.len()) {
+        return OUTSIDE;
+    }
+    let mut bits = BitBuf::new();
+    take_bits(octets, (from - begin) as usize, &mut bits);
+    match read_bits(&bits) {
+        Ok((nac, read)) => {
+            tell_packet(nac, &read, packet);
+            i32::from(packet.bad)
+        }
+        Err(field) => packet_fault(field),
+    }
+}
+
+// Sets `bits` to those from a bit of octets on, of as many octets as a unit can lie in.
+fn take_bits(octets: &[u8], bit: usize, bits: &mut BitBuf)
+    ensures { bits.new ≡ unit_bits bit octets.now }
+{
+    let first = (bit / 8).min(octets.len());
+    let there = &octets[first..];
+    let count = NEEDED.min(there.len());
+    put_all(&there[..count], bits);
+    bits.drop_front((bit % 8).min(bits.len()));
+}
+
+// Sets `bits` to those of octets.
+fn put_all(octets: &[u8], bits: &mut BitBuf)
+    requires { length octets.now ≤ 3241 }
+    ensures { bits.new ≡ octet_bits octets.now }
+{
+    bits.clear();
+    bits.put_numbers(octets, 8);
+}
+
+// The packet of the unit that bits begin with.
+fn read_bits(bits: &BitBuf) -> Result<(u16, Packet), Field>
+    ensures { result ≡ bits_packet bits.now }
+{
+    if bits.len() < SHORTEST {
+        return Err(Field::Sync);
+    }
+    read_packet_unit(bits)
+}
+
+// The number of the field for which there is no packet.
+fn packet_fault(field: Field) -> i32
+    ensures { result ≡ packet_fault field }
+{
+    match field {
+        Field::PacketHeader => -21,
+        Field::Length => -22,
+        Field::Format => -23,
+        Field::PacketCrc => -24,
+        _ => NO_UNIT,
+    }
+}
+
+// Tells a packet.
+fn tell_packet(nac: u16, read: &Packet, packet: &mut PacketParts)
+    ensures told { packet.new ≡ packet_told nac read.now }
+    ensures bad { packet.new.bad ≡ packet_bad read.now }
+{
+    *packet = head_told(nac, &read.head());
+    match read {
+        Packet::Confirmed(read) => tell_slots(read.slots().as_slice(), packet),
+        Packet::Plain(read) => {
+            let octets = read.octets().octets();
+            packet.length = octets.len() as u16;
+            packet.octets[..octets.len()].copy_from_slice(octets);
+        }
+    }
+}
+
+// Tells the slots of a confirmed packet.
+fn tell_slots(slots: &[Slot], packet: &mut PacketParts)
+    requires { length slots.now ≤ 127 }
+    ensures { packet.new ≡ slots_told slots.now packet.old }
+{
+    packet.length = 16 * slots.len() as u16;
+    packet.bad = count_bad(slots);
+    put_good(slots, &mut packet.good[..slots.len()]);
+    put_serials(slots, &mut packet.serials[..slots.len()]);
+    put_octets(slots, &mut packet.octets[..16 * slots.len()]);
+}
+
+// The header of a packet, with nothing behind it.
+fn head_told(nac: u16, head: &PacketHead) -> PacketParts
+    ensures { result ≡ head_told nac head.now }
+{
+    let octets = head.0;
+    let mut told = no_packet(nac, octets);
+    tell_lengths(head, &mut told);
+    tell_flags(head, &mut told);
+    tell_response(head, &mut told);
+    told
+}
+
+// The numbers of no packet, with the octets of a header.
+fn no_packet(nac: u16, head: [u8; 10]) -> PacketParts
+    ensures { result ≡ no_packet nac head }
+{
+    PacketParts {
+        llid: 0,
+        nac,
+        length: 0,
+        head,
+        format: 0,
+        full: 0,
+        blocks: 0,
+        pad: 0,
+        syn: 0,
+        number: 0,
+        response_class: 0,
+        response_type: 0,
+        response_status: 0,
+        bad: 0,
+        good: [0; 127],
+        serials: [0; 127],
+        octets: [0; 2032],
+    }
+}
+
+// Tells the identifier and the lengths of a header.
+fn tell_lengths(head: &PacketHead, told: &mut PacketParts)
+    ensures { told.new ≡ with_lengths head.now told.old }
+{
+    told.llid = head.llid();
+    told.format = head.format();
+    told.blocks = head.blocks();
+    told.pad = head.pad();
+}
+
+// Tells the flags of a header, and its number.
+fn tell_flags(head: &PacketHead, told: &mut PacketParts)
+    ensures { told.new ≡ with_flags head.now told.old }
+{
+    told.full = u8::from(head.is_full());
+    told.syn = u8::from(head.syn());
+    told.number = head.number();
+}
+
+// Tells what the header of a response says.
+fn tell_response(head: &PacketHead, told: &mut PacketParts)
+    ensures { told.new ≡ with_response head.now told.old }
+{
+    told.response_class = head.class();
+    told.response_type = head.kind();
+    told.response_status = head.status();
+}
+
+// How many slots are not good.
+fn count_bad(slots: &[Slot]) -> u8
+    requires { length slots.now ≤ 127 }
+    ensures value { result ≡ count_by is_bad slots.now }
+    ensures most { result ≤ 127 }
+{
+    let mut count = 0;
+    for i in 0..slots.len() {
+        if is_bad(&slots[i]) {
+            count += 1;
+        }
+    }
+    count
+}
+
+// Whether a slot is not good.
+fn is_bad(slot: &Slot) -> bool
+    ensures { result ≡ is_bad slot.now }
+{
+    match slot {
+        Slot::Good(_) => false,
+        Slot::Bad => true,
+    }
+}
+
+// Sets octets to 1 for each slot that is good, and to 0 for each other.
+fn put_good(slots: &[Slot], good: &mut [u8])
+    requires { length slots.now ≡ length good.old }
+    ensures { good.new ≡ map slot_good slots.now }
+{
+    for i in 0..slots.len() {
+        good[i] = slot_good(&slots[i]);
+    }
+}
+
+// 1 of a slot that is good, and 0 of another.
+fn slot_good(slot: &Slot) -> u8
+    ensures { result ≡ slot_good slot.now }
+{
+    match slot {
+        Slot::Good(_) => 1,
+        Slot::Bad => 0,
+    }
+}
+
+// Sets octets to the serial numbers of slots.
+fn put_serials(slots: &[Slot], serials: &mut [u8])
+    requires { length slots.now ≡ length serials.old }
+    ensures { serials.new ≡ map slot_serial slots.now }
+{
+    for i in 0..slots.len() {
+        serials[i] = slot_serial(&slots[i]);
+    }
+}
+
+// The serial number of a slot.
+fn slot_serial(slot: &Slot) -> u8
+    ensures { result ≡ slot_serial slot.now }
+{
+    match slot {
+        Slot::Good(block) => block.serial(),
+        Slot::Bad => 0,
+    }
+}
+
+// Sets octets to those of slots, sixteen each.
+fn put_octets(slots: &[Slot], octets: &mut [u8])
+    requires { 16 * length slots.now ≡ length octets.old }
+    ensures { octets.new ≡ flat_map slot_octets slots.now }
+{
+    for i in 0..slots.len() {
+        octets[16 * i..16 * i + 16].copy_from_slice(&slot_octets(&slots[i]));
+    }
+}
+
+// The octets of a slot.
+fn slot_octets(slot: &Slot) -> [u8; 16]
+    ensures value { result ≡ slot_octets slot.now }
+    ensures len { length result ≡ 16 }
+{
+    match slot {
+        Slot::Good(block) => {
+            let octets = *block.octets();
+            octets
+        }
+        Slot::Bad => [0; 16],
+    }
+}
+
+#[cfg(test)]
+mod tests;
