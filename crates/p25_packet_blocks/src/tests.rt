@@ -3,12 +3,12 @@
 mod rows;
 
 use self::rows::{DAMAGED, UNITS};
-use p25_bits::BitBuf;
 use super::{
     Block, Confirmed, Flags, Octets, Packet, PacketHead, Plain, Slot, Slots, flags_make,
     flags_read, is_whole, packet_image, packet_length, read_head, read_head_at, read_packet,
     read_packet_unit,
 };
+use p25_bits::BitBuf;
 use p25_status::{Field, Status, Statuses, weave};
 use std::process::Abort;
 use std::test::Fail;

@@ -7,12 +7,12 @@ ghost use Rattle.p25_units.specs.Units.{IsSoundFrame};
 mod rows;
 
 use self::rows::{LARGEST, NEEDS, READINGS};
-use p25_bits::BitBuf;
-use p25_status::weave;
 use super::{
     Begun, Body, Field, Frame, Item, Need, Status, Statuses, Unit, VoiceUnit, fixes, frame_length,
     image, image_as, need, need_with, read_unit, unit_item,
 };
+use p25_bits::BitBuf;
+use p25_status::weave;
 use std::process::Abort;
 
 #[tactic(auto, unfolding(crate::specs::Units::IsWholeBody, crate::specs::Units::frame_length_of, p25_voice_units::specs::Lengths::voice_length_of))]

@@ -1,7 +1,7 @@
 //! Lines of scripts, read and refused.
 
-use p25_line::LineFault;
 use crate::{Event, Way, read_event};
+use p25_line::LineFault;
 use std::process::Abort;
 
 // A line is refused with a fault.

@@ -1,8 +1,8 @@
 //! Scripts, with what comes of them.
 
 use super::is_text_of;
-use p25_line::{Line, LineFault};
 use crate::{Event, EventLine, StepText, World, closing_text, read_event, step_text};
+use p25_line::{Line, LineFault};
 use std::process::Abort;
 use std::test::Fail;
 

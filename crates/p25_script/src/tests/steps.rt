@@ -1,10 +1,10 @@
 //! The texts of steps.
 
 use super::is_text_of;
+use crate::{Step, StepKind, Way, step_text};
 use p25_line::Line;
 use p25_messages::Message;
 use p25_packet_blocks::Flags;
-use crate::{Step, StepKind, Way, step_text};
 use p25_status::Field;
 use std::test::Fail;
 
