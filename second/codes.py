@@ -3,6 +3,7 @@
 Bits are texts of the characters 0 and 1, words are numbers, and symbols of Reed-Solomon codes are numbers below 64.
 """
 from functools import lru_cache
+from operator import add, itemgetter
 
 SYNC = 0x5575F5FF77FF
 
@@ -35,22 +36,16 @@ def remainder(number, width, divisor, degree):
 
 # Checks: the rest by the generator, in which all bits are inverted.
 
-def crc_9(bits):
-    return remainder(number_of(bits), len(bits), 0b1001011001, 9) ^ 0x1FF
+def check_by(divisor, degree):
+    return lambda bits: remainder(number_of(bits), len(bits), divisor, degree) ^ (1 << degree) - 1
 
 
-def crc_16(bits):
-    return remainder(number_of(bits), len(bits), 0x11021, 16) ^ 0xFFFF
-
-
-def crc_32(bits):
-    return remainder(number_of(bits), len(bits), 0x104C11DB7, 32) ^ 0xFFFFFFFF
+crc_9, crc_16, crc_32 = check_by(0b1001011001, 9), check_by(0x11021, 16), check_by(0x104C11DB7, 32)
 
 
 # The network identifier: BCH (63,16), the nearest of its 65,536 words, and a bit after them.
 
 BCH_GENERATOR = int('6331141367235453', 8)
-BCH_WORDS = []
 
 
 def bch_word(data):
@@ -64,17 +59,14 @@ def bch_nearest(word):
     return bch_search(word)
 
 
+@lru_cache(maxsize=1)
+def bch_words():
+    return [bch_word(data) for data in range(65536)]
+
+
 @lru_cache(maxsize=65536)
 def bch_search(word):
-    if not BCH_WORDS:
-        basis = [bch_word(1 << place) for place in range(16)]
-        BCH_WORDS.append(0)
-        for place in range(16):
-            BCH_WORDS.extend([known ^ basis[place] for known in BCH_WORDS])
-    for data, known in enumerate(BCH_WORDS):
-        if (known ^ word).bit_count() <= 11:
-            return data
-    return None
+    return near(bch_words(), word, 11)
 
 
 # Golay (24,12) and (18,6), Hamming (10,6), and the (16,8) code: tables of all words, and the one near enough.
@@ -104,10 +96,9 @@ LOW_SPEED = [low_speed_word(data) for data in range(256)]
 
 def near(words, word, most):
     """The data of the one word of a list within most wrong bits, or None."""
-    for data, known in enumerate(words):
-        if (known ^ word).bit_count() <= most:
-            return data
-    return None
+    counts = list(map(int.bit_count, map(word.__xor__, words)))
+    least = min(counts)
+    return counts.index(least) if least <= most else None
 
 
 def reader(words, most):
@@ -265,6 +256,7 @@ def trimmed(polynomial):
 # The trellises: a table of points by the state and the symbol, which is the next state, and the four bits of each point.
 
 POINT_BITS = [0b0010, 0b1010, 0b0111, 0b1111, 0b1110, 0b0110, 0b1011, 0b0011, 0b1101, 0b0101, 0b1000, 0b0000, 0b0001, 0b1001, 0b0100, 0b1100]
+AWAY = [[distance(point, four) for point in POINT_BITS] for four in range(16)]
 HALF = [[0, 15, 12, 3], [4, 11, 8, 7], [13, 2, 1, 14], [9, 6, 5, 10]]
 THREE_QUARTERS = [[0, 8, 4, 12, 2, 10, 6, 14], [4, 12, 2, 10, 6, 14, 0, 8], [1, 9, 5, 13, 3, 11, 7, 15], [5, 13, 3, 11, 7, 15, 1, 9],
                   [3, 11, 7, 15, 1, 9, 5, 13], [7, 15, 1, 9, 5, 13, 3, 11], [2, 10, 6, 14, 0, 8, 4, 12], [6, 14, 0, 8, 4, 12, 2, 10]]
@@ -272,9 +264,10 @@ THREE_QUARTERS = [[0, 8, 4, 12, 2, 10, 6, 14], [4, 12, 2, 10, 6, 14, 0, 8], [1, 
 SENT_AT = [13 * (step % 4) - max(0, step % 4 - 1) + step // 4 for step in range(49)]
 
 
-def trellis_word(table, bits):
+@lru_cache(maxsize=20000)
+def trellis_word(three_quarters, bits):
     """The 196 bits of a block: its symbols and one of zeros, as points of the path, interleaved."""
-    width = 2 if table is HALF else 3
+    table, width = (THREE_QUARTERS, 3) if three_quarters else (HALF, 2)
     sent = [0] * 49
     state = 0
     for step, symbol in enumerate(cut_up(bits, width) + ['0']):
@@ -287,19 +280,14 @@ def trellis_word(table, bits):
 def trellis_nearest(three_quarters, received):
     """The data of the path that differs least from 196 bits; of several such paths the first, as lists of symbols are ordered."""
     table, width = (THREE_QUARTERS, 3) if three_quarters else (HALF, 2)
-    sent = [int(four, 2) for four in cut_up(received, 4)]
-    states = range(len(table))
-    # least[step][state] is the least distance of a path from a state at a step to the end.
-    last = sent[SENT_AT[48]]
-    least = [[distance(POINT_BITS[table[state][0]], last) for state in states]]
+    # away[step][point] is the distance of a point; least[step][state] the least distance of a path from a state at a step to the end.
+    away = [AWAY[int(received[4 * place:4 * place + 4], 2)] for place in SENT_AT]
+    rows = [itemgetter(*row) for row in table]
+    least = [[away[48][row[0]] for row in table]]
     for step in range(47, -1, -1):
-        four = sent[SENT_AT[step]]
-        after = least[0]
-        least.insert(0, [min((POINT_BITS[row[symbol]] ^ four).bit_count() + after[symbol] for symbol in states) for row in table])
+        least.insert(0, [min(map(add, row(away[step]), least[0])) for row in rows])
     state, symbols = 0, []
     for step in range(48):
-        four = sent[SENT_AT[step]]
-        state = next(symbol for symbol in states
-                     if distance(POINT_BITS[table[state][symbol]], four) + least[step + 1][symbol] == least[step][state])
+        state = list(map(add, rows[state](away[step]), least[step + 1])).index(least[step][state])
         symbols.append(bits_of(state, width))
     return ''.join(symbols)

@@ -27,10 +27,10 @@ def head(lot, form, blocks):
     return ''.join('%02x' % octet for octet in octets)
 
 
-def unit(lot, nac=None):
-    """A unit of any kind."""
+def unit(lot, nac=None, kind=None):
+    """A unit of any kind, or of one."""
     nac = nac or digits(lot, 3)
-    kind = lot.choice(['hdu', 'ldu1', 'ldu1', 'ldu2', 'ldu2', 'tdu', 'tdulc', 'confirmed', 'plain', 'response'])
+    kind = kind or lot.choice(['hdu', 'ldu1', 'ldu1', 'ldu2', 'ldu2', 'tdu', 'tdulc', 'confirmed', 'plain', 'response'])
     if kind not in recordings.FORMATS.values():
         return kind, [nac] + [digits(lot, width) for _, width in recordings.KEYS[kind][1:]]
     blocks = some_blocks(lot)
@@ -97,19 +97,19 @@ def strained(lot, kind, payload):
 def raw_packet(lot, form, blocks, bodies):
     """A packet whose header names a format and blocks, and that carries blocks of the two rates, right or wrong."""
     nac = lot.randrange(4096)
-    bits = bits_of(codes.SYNC, 48) + recordings.identifier(nac, 12)
+    bits = recordings.front(nac, 12)
     top = recordings.binary(head(lot, form, blocks))
     check = codes.crc_16(top) ^ (lot.random() < 0.1)
-    bits += codes.trellis_word(codes.HALF, top + bits_of(check, 16))
+    bits += codes.trellis_word(False, top + bits_of(check, 16))
     for _ in range(bodies):
         body = lot.randrange(4)
         if body == 0:
-            bits += codes.trellis_word(codes.HALF, noise(lot, 96))
+            bits += codes.trellis_word(False, noise(lot, 96))
         elif body == 1:
-            bits += codes.trellis_word(codes.THREE_QUARTERS, noise(lot, 144))
+            bits += codes.trellis_word(True, noise(lot, 144))
         elif body == 2:
             checked = noise(lot, 135)
-            bits += codes.trellis_word(codes.THREE_QUARTERS, checked[:7] + bits_of(codes.crc_9(checked), 9) + checked[7:])
+            bits += codes.trellis_word(True, checked[:7] + bits_of(codes.crc_9(checked), 9) + checked[7:])
         else:
             bits += noise(lot, 196)
     return bits + '0' * (-len(bits) % 70)
@@ -138,18 +138,63 @@ def piece(lot, nac, rate):
     if chance < 0.84:
         payload = raw_packet(lot, lot.choice([0x16, 0x15, 0x03, lot.randrange(32)]), lot.choice([0, 1, 2, 127, lot.randrange(128)]), lot.randrange(5))
         return worn(lot, recordings.with_status(payload, statuses(lot, payload)), rate)
-    if chance < 0.92:
+    if chance < 0.89:
         return crowd(lot)
+    if chance < 0.96:
+        return worn(lot, chain(lot, nac), lot.choice([0, 0, rate]))
     # A sync with an identifier of any data unit, and noise.
-    payload = bits_of(codes.SYNC, 48) + recordings.identifier(lot.randrange(4096), lot.randrange(16))
+    payload = recordings.front(lot.randrange(4096), lot.randrange(16))
     payload = flipped(payload, [48 + bit for bit in lot.sample(range(64), lot.randrange(14))])
     return recordings.with_status(payload, statuses(lot, payload)) + noise(lot, lot.choice([0, 30, 200, 400]))
+
+
+def chain(lot, nac):
+    """Units end to end, of which many fronts are damaged or lost."""
+    parts, lost, kind = [], 0, lot.choice([0, 5, 10, 15, 5, 3])
+    for _ in range(lot.choice([2, 4, 6, 9])):
+        if lot.random() < 0.06:
+            nac = digits(lot, 3)
+        made = unit(lot, nac, recordings.KINDS[kind] if lot.random() < 0.97 else None)
+        payload = recordings.payload_of(made)
+        if lot.random() < 0.15:
+            payload = strained(lot, made[0], payload)
+        lost = lost - 1 if lost else lot.choice([0, 0, 0, 0, 1, 1, 2, 3, 4])
+        if parts and (lost or lot.random() < 0.5):
+            payload = other_front(lot, int(nac, 16), kind, lost) + payload[112:]
+        bits = recordings.with_status(payload, statuses(lot, payload))
+        if lot.random() < 0.06:
+            # Another front, or noise, stands in the unit.
+            place, there = lot.randrange(len(bits)), lot.choice([recordings.front(int(nac, 16), lot.choice([0, 3, 5, 10, 15])), noise(lot, 112), noise(lot, 4)])
+            bits = bits[:place] + there + bits[place + len(there) + lot.choice([0, 0, 0, 1, -1]):]
+        parts.append(bits)
+        kinds = recordings.AFTER.get(kind, (0, 5, 10, 15)) if lot.random() < 0.95 else (0, 5, 10, 15, 3)
+        kind = kinds[0] if lot.random() < 0.7 else lot.choice(kinds)
+    bits = ''.join(parts)
+    return bits[:len(bits) - lot.choice([1, 2, 8, 100, 143, 144, 145, 431, 432, 1727, 1728, lot.randrange(2000)])] if lot.random() < 0.3 else bits
+
+
+def other_front(lot, nac, kind, lost):
+    """The 112 bits of a front with about as many wrong bits as are still told, that of another unit, or noise."""
+    chance, sent = lot.random(), recordings.front(nac, kind)
+    if lost or chance < 0.1:
+        return noise(lot, 112)
+    wrong = lot.choice([0, 1, 10, 11, 11, 12, 12, 14, 15, 16, 16, 16, 17, 17])
+    if chance < 0.2:
+        # An identifier about as far from that of another kind that may come.
+        other = recordings.front(nac, lot.choice([0, 3, 5, 10, 15]))
+        apart = [place for place in range(48, 111) if sent[place] != other[place]]
+        places = lot.sample(apart, len(apart) // 2 + lot.choice([0, 0, 1])) + lot.sample(range(48), lot.choice([0, 5, 14, 18]))
+        return flipped(sent, places)
+    if chance < 0.3:
+        sent = recordings.front(lot.choice([nac, nac ^ 1, lot.randrange(4096)]), lot.randrange(16))
+    of_sync = lot.choice([3, 4, 5, 5, 6, 14, 24, 29 - wrong, 30 - wrong, 30 - wrong, 31 - wrong, 31 - wrong, 40, 48])
+    return flipped(sent, lot.sample(range(48), of_sync) + lot.sample(range(48, 111), wrong) + some_of(lot, 111, 1, 1))
 
 
 def crowd(lot):
     """Many syncs, near one another and one over the other."""
     parts = []
-    for _ in range(lot.randrange(1, 25)):
+    for _ in range(lot.randrange(1, 13)):
         sync = flipped(bits_of(codes.SYNC, 48), lot.sample(range(48), lot.choice([0, 0, 1, 4, 5])))
         parts.append(sync[:lot.choice([48, 48, 48, 30, 47])] + noise(lot, lot.choice([0, 0, 1, 20, 66, 68, 100])))
     return ''.join(parts)
@@ -184,6 +229,12 @@ def recording(lot):
         bits += flipped(last, some_of(lot, 48, 300, lot.choice([0, 0, 50])))[:lot.choice([47, 48, 49, 112, 113, 114, 115, 143, 144, 315, 316, 317, 359, 360])]
     bits = bits[:len(bits) - len(bits) % 8] if lot.random() < 0.5 else bits
     return recordings.octets_of(bits)
+
+
+def chains(lot):
+    """A recording of chains, most of them without other damage."""
+    parts = [worn(lot, chain(lot, digits(lot, 3)), lot.choice([0, 0, 0, 0.003, 0.02])) for _ in range(lot.choice([1, 1, 2, 3]))]
+    return recordings.octets_of(noise(lot, lot.choice([0, 0, 3])) + ''.join(parts) + noise(lot, lot.choice([0, 0, 9, 200, 2000])))
 
 
 def lines(lot):

@@ -9,25 +9,20 @@ import sys
 import recordings
 import stations
 
-MOST = 16777216
+COMMANDS = 'show|check|repair|follow|calls|(bridge|relay) [0-9a-f]{3} [0-3]|build [0-3]|' + '|'.join(stations.PLAYS)
 
 
 def run(words, data):
     """What a command writes of an input, its exit status, and its line on standard error."""
-    command = ' '.join(words)
-    if command in ('show', 'check', 'repair', 'calls'):
-        return of_recording(getattr(recordings, command), data)
-    if re.fullmatch('bridge [0-9a-f]{3} [0-3]', command):
-        return of_recording(lambda bits: recordings.bridge(bits, int(words[1], 16), int(words[2])), data)
-    if re.fullmatch('build [0-3]', command):
-        return recordings.build(data, int(words[1]))
-    if command in stations.PLAYS:
-        return stations.run(data, command)
-    return b'', 1, 'usage\n'
-
-
-def of_recording(command, data):
-    return command(recordings.bits_of(int.from_bytes(data, 'big'), 8 * len(data)))
+    name, *rest = words or ['']
+    if not re.fullmatch(COMMANDS, ' '.join(words)):
+        return b'', 1, 'usage\n'
+    if name in stations.PLAYS:
+        return stations.run(data, name)
+    if name == 'build':
+        return recordings.build(data, int(rest[0]))
+    bits = recordings.bits_of(int.from_bytes(data, 'big'), 8 * len(data))
+    return getattr(recordings, name)(bits, *(int(word, 16) for word in rest))
 
 
 def main():

@@ -1,12 +1,15 @@
 """Units, the items of a recording, the commands that read one, and the lines that are built."""
 import re
-from codes import (GOLAY_18, GOLAY_24, HALF, HAMMING_10, LOW_SPEED, SYNC, THREE_QUARTERS, bch_nearest, bch_word, bits_of, crc_9, crc_16,
-                   crc_32, cut_up, golay_18, golay_24, hamming_10, low_speed_16, number_of, reed_solomon_near, reed_solomon_word,
-                   trellis_nearest, trellis_word)
+from functools import lru_cache
+from itertools import repeat
+from codes import (GOLAY_18, GOLAY_24, HAMMING_10, LOW_SPEED, SYNC, bch_nearest, bch_word, bits_of, crc_9, crc_16, crc_32, cut_up, distance,
+                   golay_18, golay_24, hamming_10, low_speed_16, number_of, reed_solomon_near, reed_solomon_word, trellis_nearest, trellis_word)
 
 DUIDS = {'hdu': 0, 'tdu': 3, 'ldu1': 5, 'ldu2': 10, 'confirmed': 12, 'plain': 12, 'response': 12, 'tdulc': 15}
 KINDS = {0: 'hdu', 3: 'tdu', 5: 'ldu1', 10: 'ldu2', 15: 'tdulc'}
 BITS = {0: 792, 3: 144, 5: 1728, 10: 1728, 15: 432}
+# The kinds that may come after a unit of a kind, with the next voice unit first.
+AFTER = {0: (5, 15, 3), 5: (10, 15, 3), 10: (5, 15, 3), 15: (0, 15, 3)}
 FORMATS = {0x16: 'confirmed', 0x15: 'plain', 0x03: 'response'}
 KEYS = {'hdu': [('nac', 3), ('mi', 18), ('mfid', 2), ('algid', 2), ('kid', 4), ('tgid', 4)],
         'ldu1': [('nac', 3), ('lc', 18), ('lsd', 4), ('voice', 324)],
@@ -53,15 +56,15 @@ def value(unit, key):
     return None
 
 
-def identifier(nac, duid):
-    """The 64 bits of the network identifier; the last says whether the unit is a voice unit."""
-    return bits_of(bch_word(nac << 4 | duid), 63) + ('1' if duid in (5, 10) else '0')
+def front(nac, duid):
+    """The sync and the 64 bits of the network identifier; the last says whether the unit is a voice unit."""
+    return bits_of(SYNC, 48) + bits_of(bch_word(nac << 4 | duid), 63) + ('1' if duid in (5, 10) else '0')
 
 
 def payload_of(unit):
     """The bits of a unit without its status symbols."""
     kind = unit[0]
-    start = bits_of(SYNC, 48) + identifier(int(value(unit, 'nac'), 16), DUIDS[kind])
+    start = front(int(value(unit, 'nac'), 16), DUIDS[kind])
     if kind == 'hdu':
         rest = ''.join(bits_of(GOLAY_18[symbol], 18) for symbol in code_word(''.join(unit[1][1:]), 36))
     elif kind == 'tdulc':
@@ -100,14 +103,14 @@ def voice_payload(start, unit):
 
 def packet_payload(unit):
     head = binary(value(unit, 'head'))
-    blocks = [trellis_word(HALF, head + bits_of(crc_16(head), 16))]
+    blocks = [trellis_word(False, head + bits_of(crc_16(head), 16))]
     if unit[0] == 'confirmed':
         for serial, digits in listed_blocks(value(unit, 'blocks')):
             checked = bits_of(serial, 7) + binary(digits)
-            blocks.append(trellis_word(THREE_QUARTERS, checked[:7] + bits_of(crc_9(checked), 9) + checked[7:]))
+            blocks.append(trellis_word(True, checked[:7] + bits_of(crc_9(checked), 9) + checked[7:]))
     elif value(unit, 'octets') != '-':
         octets = binary(value(unit, 'octets'))
-        blocks += [trellis_word(HALF, block) for block in cut_up(octets + bits_of(crc_32(octets), 32), 96)]
+        blocks += [trellis_word(False, block) for block in cut_up(octets + bits_of(crc_32(octets), 32), 96)]
     return ''.join(blocks)
 
 
@@ -120,8 +123,7 @@ def with_status(payload, symbols):
 
 
 def unit_bits(unit, status):
-    payload = payload_of(unit)
-    return with_status(payload, [status] * (len(payload) // 70))
+    return with_status(payload_of(unit), repeat(status))
 
 
 def octets_of(bits):
@@ -133,6 +135,10 @@ def octets_of(bits):
 
 def without_status(bits):
     return ''.join(piece[:70] for piece in cut_up(bits, 72))
+
+
+def statuses(bits):
+    return [int(piece[70:], 2) for piece in cut_up(bits, 72)]
 
 
 def words(payload, places, width):
@@ -157,12 +163,12 @@ def field(received, data):
     return None if symbols is None else as_digits(symbols)
 
 
-def read_header(payload, nac):
+def read_header(payload, nac, _):
     digits = field([golay_18(word) for word in words(payload, range(112, 760, 18), 18)], 20)
     return (None, ['header_word']) if digits is None else (('hdu', [nac] + split(digits, (18, 2, 2, 4, 4))), [])
 
 
-def read_terminator(payload, nac):
+def read_terminator(payload, nac, _):
     received = []
     for word in words(payload, range(112, 400, 24), 24):
         data = golay_24(word)
@@ -226,7 +232,7 @@ class Item:
 
     def line(self):
         if self.word == 'unit':
-            symbols = ''.join(str(int(piece[70:], 2)) for piece in cut_up(self.raw, 72))
+            symbols = ''.join(map(str, statuses(self.raw)))
             return 'unit at=%d bits=%d fix=%d status=%s %s' % (self.at, self.bits, self.fix, symbols, line_of(self.unit))
         if self.word == 'broken':
             return 'broken at=%d bits=%d nac=%03x duid=%x fields=%s' % (self.at, self.bits, self.nac, self.duid, ','.join(self.field))
@@ -276,17 +282,8 @@ def item_at(bits, at):
 def read_unit(item, head):
     """Reads the fields of a unit of which the identifier, and a packet's header, are read."""
     payload = without_status(item.raw)
-    digits = '%03x' % item.nac
-    if item.duid == 12:
-        unit, faults = read_packet(payload, digits, head)
-    elif item.duid == 0:
-        unit, faults = read_header(payload, digits)
-    elif item.duid == 15:
-        unit, faults = read_terminator(payload, digits)
-    elif item.duid == 3:
-        unit, faults = ('tdu', [digits]), []
-    else:
-        unit, faults = read_voice(payload, digits, KINDS[item.duid])
+    read = {0: read_header, 3: lambda _, nac, __: (('tdu', [nac]), []), 12: read_packet, 15: read_terminator}.get(item.duid, read_voice)
+    unit, faults = read(payload, '%03x' % item.nac, head or KINDS.get(item.duid))
     if faults:
         item.word, item.field = 'broken', faults
         return item
@@ -305,22 +302,18 @@ def sync_places(bits):
             yield place - 47
 
 
+@lru_cache(maxsize=1)
 def items(bits):
-    at = 0
+    at, found = 0, []
     for place in sync_places(bits):
-        if place < at:
-            continue
-        yield from gaps(at, place)
-        item = item_at(bits, place)
-        yield item
-        at = place + item.bits
-    yield from gaps(at, len(bits))
+        if place >= at:
+            found += gaps(at, place) + [item_at(bits, place)]
+            at = place + found[-1].bits
+    return found + gaps(at, len(bits))
 
 
 def gaps(start, end):
-    while start < end:
-        yield Item('gap', start, min(4096, end - start))
-        start += 4096
+    return [Item('gap', at, min(4096, end - at)) for at in range(start, end, 4096)]
 
 
 # Commands that read a recording: each answers what is written and the exit status.
@@ -341,22 +334,66 @@ def check(bits):
     return ''.join(lines).encode(), 7 if faults else 0, 'found %d\n' % faults if faults else ''
 
 
+def written(bits, change):
+    """The octets of a recording of whose items some are changed; where there is no change, the bits stay."""
+    changed = [change(item) for item in items(bits)]
+    return octets_of(''.join(bits[item.at:item.at + item.bits] if new is None else new for item, new in zip(items(bits), changed))), 0, ''
+
+
 def repair(bits):
-    parts = []
-    for item in items(bits):
-        here = bits[item.at:item.at + item.bits]
-        if item.word == 'unit':
-            here = ''.join(sent + piece[70:] for sent, piece in zip(cut_up(item.sent, 70), cut_up(item.raw, 72)))
-        parts.append(here)
-    return octets_of(''.join(parts)), 0, ''
+    return written(bits, lambda item: with_status(item.sent, statuses(item.raw)) if item.unit else None)
+
+
+def under(item, nac, status):
+    """A unit under an access code and with a status symbol; a broken one keeps the bits after its front."""
+    if item.unit:
+        return unit_bits((item.unit[0], ['%03x' % nac] + item.unit[1][1:]), status)
+    return with_status(front(nac, item.duid) + without_status(item.raw)[112:], repeat(status))
 
 
 def bridge(bits, nac, status):
-    parts = []
-    for item in items(bits):
-        if item.word == 'unit':
-            parts.append(unit_bits((item.unit[0], ['%03x' % nac] + item.unit[1][1:]), status))
-    return octets_of(''.join(parts)), 0, ''
+    return written(bits, lambda item: under(item, nac, status) if item.unit else '')
+
+
+def relay(bits, nac, status):
+    return written(bits, lambda item: under(item, nac, status) if item.raw else None)
+
+
+def follow(bits):
+    found = [item for item in items(bits) if item.raw]
+    for item, then in zip(found, found[1:] + [None]):
+        at, kind, end = item.at + item.bits, item.duid, then.at if then else len(bits)
+        while at < end and (kind := coming(bits, at, end, item.nac, kind, then)) is not None:
+            new = front(item.nac, kind)
+            bits = bits[:at] + new[:70] + bits[at + 70:at + 72] + new[70:] + bits[at + 114:]
+            at += BITS[kind]
+    return octets_of(bits), 0, ''
+
+
+def coming(bits, at, end, nac, kind, then, lost=3):
+    """The kind of the unit that is told at a place after a unit, or is the next one found; else that of a voice unit whose front is lost, of which
+    some more may be; or None."""
+    may = AFTER.get(kind, ())
+    if at == end:
+        return then.duid if then and then.nac == nac and then.duid in may else None
+    if not may or end - at < 144:
+        return None
+    word = int(bits[at + 48:at + 70] + bits[at + 72:at + 113], 2)
+    data = bch_nearest(word)
+    if data is None:
+        near = min(may, key=lambda one: distance(bch_word(nac << 4 | one), word))
+        wrong = distance(bch_word(nac << 4 | near), word)
+        told = wrong <= 16 and wrong + distance(int(bits[at:at + 48], 2), SYNC) <= 30
+    else:
+        near, told = data & 15, True
+        if data >> 4 != nac or near not in may:
+            return None
+    if told and at + BITS[near] <= end:
+        return near
+    voice, after = may[0], at + 1728
+    if lost and voice and after <= end and coming(bits, after, end, nac, voice, then, lost - 1) is not None:
+        return voice
+    return None
 
 
 class Call:

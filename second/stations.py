@@ -1,5 +1,6 @@
 """The packet stations and their scripts."""
 import re
+from types import SimpleNamespace
 import codes
 import recordings
 from codes import bits_of, crc_32, cut_up, number_of
@@ -145,16 +146,9 @@ class Receiver:
         return 'data delivered ns=%d message=%s' % (number, pairs(message)), self.answer(0x08, number), message
 
 
-class Packet:
-    """What is read of a packet: its kind, access code, head, and blocks (None where the check fails) or octets."""
-
-    def __init__(self, kind, nac, head):
-        self.kind, self.nac, self.head = kind, nac, head
-        self.blocks, self.octets = [], ''
-
-
 def heard(bits):
-    """The packet of a transmission, or the name of the field for which it is not read."""
+    """The packet of a transmission: its kind, access code, head, and blocks (None where the check fails) or octets; or the name of the field for
+    which it is not read."""
     payload = recordings.without_status(bits)
     if codes.distance(int(payload[:48], 2), codes.SYNC) > 4:
         return 'sync'
@@ -171,7 +165,7 @@ def heard(bits):
     kind = recordings.FORMATS.get(number_of(head[3:8]))
     if kind is None:
         return 'format'
-    packet = Packet(kind, data >> 4, hexadecimal(head))
+    packet = SimpleNamespace(kind=kind, nac=data >> 4, head=hexadecimal(head), blocks=[], octets='')
     if kind == 'confirmed':
         packet.blocks = recordings.confirmed_blocks(cut_up(payload[308:308 + 196 * recordings.blocks_of(head)], 196))
         return packet
