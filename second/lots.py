@@ -183,7 +183,7 @@ def other_front(lot, nac, kind, lost):
         # An identifier about as far from that of another kind that may come.
         other = recordings.front(nac, lot.choice([0, 3, 5, 10, 15]))
         apart = [place for place in range(48, 111) if sent[place] != other[place]]
-        places = lot.sample(apart, len(apart) // 2 + lot.choice([0, 0, 1])) + lot.sample(range(48), lot.choice([0, 5, 14, 18]))
+        places = lot.sample(apart, min(len(apart), len(apart) // 2 + lot.choice([0, 0, 1]))) + lot.sample(range(48), lot.choice([0, 5, 14, 18]))
         return flipped(sent, places)
     if chance < 0.3:
         sent = recordings.front(lot.choice([nac, nac ^ 1, lot.randrange(4096)]), lot.randrange(16))

@@ -82,9 +82,9 @@ class Sender:
             self.outstanding = None
             self.number = (number + 1) % 8
             return 'answer %s ns=%d' % ('acknowledged' if blocks else 'opened', number), None
-        if word >> 3 == 16:
+        if word >> 6 == 2:
             missing = [serial for serial, flag in zip(range(len(blocks)), binary(packet.octets)) if flag == '0']
-        if word >> 3 not in (9, 16) or word >> 3 == 16 and (4 * len(packet.octets) < len(blocks) or not missing):
+        if word >> 3 != 9 and not (missing and 4 * len(packet.octets) >= len(blocks)):
             return 'answer ignored', None
         if not self.again():
             return 'answer down', None
