@@ -25,19 +25,18 @@ def distance(one, other):
     return (one ^ other).bit_count()
 
 
-def remainder(number, width, divisor, degree):
-    """The rest of number times x^degree by the divisor, as polynomials over GF(2)."""
+def remainder(number, divisor, degree):
+    """The rest of number times x^degree by a divisor of that degree, as polynomials over GF(2)."""
     number <<= degree
-    for place in range(width + degree - 1, degree - 1, -1):
-        if number >> place & 1:
-            number ^= divisor << (place - degree)
+    while number.bit_length() > degree:
+        number ^= divisor << number.bit_length() - 1 - degree
     return number
 
 
 # Checks: the rest by the generator, in which all bits are inverted.
 
 def check_by(divisor, degree):
-    return lambda bits: remainder(number_of(bits), len(bits), divisor, degree) ^ (1 << degree) - 1
+    return lambda bits: remainder(number_of(bits), divisor, degree) ^ (1 << degree) - 1
 
 
 crc_9, crc_16, crc_32 = check_by(0b1001011001, 9), check_by(0x11021, 16), check_by(0x104C11DB7, 32)
@@ -49,7 +48,7 @@ BCH_GENERATOR = int('6331141367235453', 8)
 
 
 def bch_word(data):
-    return data << 47 | remainder(data, 16, BCH_GENERATOR, 47)
+    return data << 47 | remainder(data, BCH_GENERATOR, 47)
 
 
 def bch_nearest(word):
@@ -72,7 +71,7 @@ def bch_search(word):
 # Golay (24,12) and (18,6), Hamming (10,6), and the (16,8) code: tables of all words, and the one near enough.
 
 def golay_word(data):
-    word = data << 11 | remainder(data, 12, 0xC75, 11)
+    word = data << 11 | remainder(data, 0xC75, 11)
     return word << 1 | word.bit_count() & 1
 
 
@@ -85,7 +84,7 @@ def hamming_word(data):
 
 
 def low_speed_word(data):
-    return data << 8 | remainder(data, 8, 0b100111001, 8)
+    return data << 8 | remainder(data, 0b100111001, 8)
 
 
 GOLAY_24 = [golay_word(data) for data in range(4096)]
