@@ -60,6 +60,16 @@ def recordings_probed():
         apart = [place for place in range(48, 113) if bits(one)[place] != bits(other)[place]]
         for count in range(10, len(apart) - 9):
             yield 'between %s and %s, %d bits away' % (one, other, count), bits('hdu') + flipped(bits(one), apart[:count])
+    there = with_front(voice[0], 5, 0)
+    inner = recordings.front(0x293, 0)
+    for place in (200, 1000, 1500, 1610, 1616, 1700):
+        cut = there[:place] + inner[:70] + '11' + inner[70:]
+        yield 'a front at bit %d of a unit whose sync is lost' % place, bits('hdu') + cut[:1728].ljust(1728, '0')
+        found = with_front(voice[0], 20, 20)[:place] + inner[:48]
+        yield 'a sync at bit %d of a unit whose front is lost' % place, bits('hdu') + found.ljust(1728, '0') + voice[1]
+    after = there + with_front(voice[1], 5, 0) + with_front(bits('tdulc'), 5, 0)
+    for kind in ('hdu', 'ldu1', 'ldu2', 'tdulc'):
+        yield 'a broken %s and lost syncs' % kind, flipped(bits(kind), range(114, len(bits(kind)), 2)) + after
     for form in (0x16, 0x15, 0x03, 0x02):
         for blocks in (0, 1, 2, 64, 65, 127):
             there = packet(form, blocks, blocks % 2)
