@@ -46,7 +46,8 @@ def recordings_probed():
         gone = ''.join(flipped(unit, range(0, 114, 2)) for unit in voice[:lost])
         for name, then in (('a voice unit', voice[lost]), ('a voice unit of another network', bits('ldu%d' % (lost % 2 + 1), '294')), ('a header', bits('hdu')),
                            ('the other voice unit', voice[lost + 1]), ('a terminator', bits('tdulc')), ('a far terminator', with_front(bits('tdu'), 14, 16)),
-                           ('nothing', ''), ('an octet', '0' * 8), ('a cut terminator', bits('tdulc')[:-8])):
+                           ('nothing', ''), ('an octet', '0' * 8), ('a cut terminator', bits('tdulc')[:-8]),
+                           ('a cut voice unit', voice[lost][:1000]), ('a cut voice unit with a lost sync', with_front(voice[lost], 5, 0)[:1720])):
             yield '%d lost fronts, and then %s' % (lost, name), bits('hdu') + gone + then
     for kind in ('hdu', 'ldu1', 'ldu2', 'tdu', 'tdulc'):
         for other in ('hdu', 'ldu1', 'ldu2', 'tdu', 'tdulc'):

@@ -360,7 +360,7 @@ def relay(bits, nac, status):
 
 
 def follow(bits):
-    found = [item for item in items(bits) if item.raw]
+    found = [item for item in items(bits) if item.raw or item.word == 'cut']
     for item, then in zip(found, found[1:] + [None]):
         at, kind, end = item.at + item.bits, item.duid, then.at if then else len(bits)
         while at < end and (kind := coming(bits, at, end, item.nac, kind, then)) is not None:
