@@ -81,12 +81,17 @@ IsHead-length count some most whole = record {
 }
 
 -- so many bits first, and then by a rule that these tell
-IsHead-after : (n : ℕ) (head : List Bool → Need) (rule : List Bool → List Bool → Need) → n ≤ 25920 → ((bits : List Bool) → length bits < n → head bits ≡ More n) → ((bits : List Bool) → n ≤ length bits → head bits ≡ rule bits bits)
+IsHead-after : (n : ℕ) (head : List Bool → Need) (rule : List Bool → List Bool → Need) → n ≤ 25920 → ((bits : List Bool) → length bits < n → head bits ≡ More n)
+    → ((bits : List Bool) → n ≤ length bits → head bits ≡ rule bits bits)
     → ((bits : List Bool) → IsHead (rule bits)) → ((bits more all : List Bool) → n ≤ length bits → rule (bits ++ more) all ≡ rule bits all) → IsHead head
 IsHead-after n head rule most short long is same = record {
   seen = λ bits. cases (λ need. need ≡ NoSync → ⊥) bits (λ few e. cc) (λ enough. (is bits).seen bits);
-  few = λ bits count. cases (λ need. need ≡ More count → (length bits < count) × (count ≤ 25920)) bits (λ few e. let known : n ≡ count = cc in (omega arith, omega arith)) (λ enough. (is bits).few bits count);
-  there = λ bits count. cases (λ need. need ≡ Length count → (72 < count) × (count ≤ 25920) × (count % 72 ≡ 0) × (count ≤ length bits)) bits (λ few e. absurd (cc)) (λ enough. (is bits).there bits count);
+  few = λ bits count. cases (λ need. need ≡ More count → (length bits < count) × (count ≤ 25920)) bits
+      (λ few e. let known : n ≡ count = cc in (omega arith, omega arith))
+      (λ enough. (is bits).few bits count);
+  there = λ bits count. cases (λ need. need ≡ Length count → (72 < count) × (count ≤ 25920) × (count % 72 ≡ 0) × (count ≤ length bits)) bits
+      (λ few e. absurd (cc))
+      (λ enough. (is bits).there bits count);
   stays = λ bits more. cases (λ need. is_known need ≡ true → head (bits ++ more) ≡ need) bits (λ few known. absurd (cc)) (λ enough known. longer bits more enough ∙ (is bits).stays bits more known);
   waits = λ bits more count. cases (λ need. need ≡ More count → length (bits ++ more) < count → head (bits ++ more) ≡ More count) bits
       (λ few e fits. let known : n ≡ count = cc in short (bits ++ more) (omega arith) ∙ ap More known)
@@ -238,7 +243,10 @@ need_of-few bits count =
 
 pub need_of-there : (bits : List Bool) (count : ℕ) → need_of bits ≡ Length count → (72 < count) × (count ≤ 25920) × (count % 72 ≡ 0) × (count ≤ length bits)
 need_of-there bits count =
-    need_of-cases (λ need. need ≡ Length count → (72 < count) × (count ≤ 25920) × (count % 72 ≡ 0) × (count ≤ length bits)) bits (λ few e. absurd (cc)) (λ e. absurd (cc)) (λ yes'. IsHead-synced.there bits count)
+    need_of-cases (λ need. need ≡ Length count → (72 < count) × (count ≤ 25920) × (count % 72 ≡ 0) × (count ≤ length bits)) bits
+    (λ few e. absurd (cc))
+    (λ e. absurd (cc))
+    (λ yes'. IsHead-synced.there bits count)
 
 pub need_of-seen : (bits : List Bool) → has_sync bits ≡ true → need_of bits ≡ NoSync → ⊥
 need_of-seen bits yes' e = IsHead-synced.seen bits (sym (need_of-synced bits yes') ∙ e)

@@ -59,4 +59,5 @@ returns-in_default-clause-item c =
     item-is c.args.bits.now c.args.at c.args.count c.args.place is c.in-Some.read.nid c.in-Some.ensures.value c.new_item.result c.new_item.ensures
 
 pub returns-in_default-clause-sound : goal.returns-in_default-clause-sound
-returns-in_default-clause-sound c = subst (λ (item : Item). IsSoundItem item) (sym (returns-in_default-clause-item c)) (IsSoundItem-unit_item_of c.args.place (drop c.args.at c.args.bits.now) c.args.count c.requires.needed)
+returns-in_default-clause-sound c =
+    subst (λ (item : Item). IsSoundItem item) (sym (returns-in_default-clause-item c)) (IsSoundItem-unit_item_of c.args.place (drop c.args.at c.args.bits.now) c.args.count c.requires.needed)
