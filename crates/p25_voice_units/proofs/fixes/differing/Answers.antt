@@ -9,7 +9,8 @@ loop-at-preserved c =
     let places = c.args.places.now in
     let i = c.loop-at.at-index in
     let inside : i < length places = omega arith in
-    ap₂ ◌+◌ c.loop-at.invariant (differ_at-ones c.args.width (get_or places i 0) c.args.received.now c.args.image.now c.field.result c.field-in-loop-at.result (c.requires.received i 0 inside) (c.requires.image i 0 inside)
+    ap₂ ◌+◌ c.loop-at.invariant (differ_at-ones c.args.width (get_or places i 0) c.args.received.now c.args.image.now c.field.result c.field-in-loop-at.result
+    (c.requires.received i 0 inside) (c.requires.image i 0 inside)
     c.field.ensures.value c.field-in-loop-at.ensures.value)
     ∙ sym (sum_by_more (differ_at c.args.width c.args.received.now c.args.image.now) places i 0 inside)
 

@@ -38,7 +38,8 @@ returns-in-LowSpeed-clause-list g c = λ encoding encodes.
     rw c.in-LowSpeed.is
     (c.put_field.ensures.list
     ∙ ap (λ n. c.args.out.now ++ bits_of 16 n) c.from-in-LowSpeed.ensures
-    ∙ ap (λ xs. c.args.out.now ++ xs) (lsd16_only (bits_of 8 c.from.result) word (length-bits_of 8 c.from.result) c.encode_number-word.ensures.encoding ∙ ap (λ n. lsd16_word (bits_of 8 n)) c.from.ensures))
+    ∙ ap (λ xs. c.args.out.now ++ xs) (lsd16_only (bits_of 8 c.from.result) word (length-bits_of 8 c.from.result) c.encode_number-word.ensures.encoding
+    ∙ ap (λ n. lsd16_word (bits_of 8 n)) c.from.ensures))
 
 pub returns-in-Nulls-clause-list : goal.returns-in-Nulls-clause-list
 unfolding piece_bits

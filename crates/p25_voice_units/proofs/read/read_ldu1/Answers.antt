@@ -22,7 +22,8 @@ use Rattle.p25_voice_units.proofs.read.read_ldu1.Goals as goal
 pub returns-in-Read-clause-value : goal.returns-in-Read-clause-value
 unfolding ldu1_in link_in
 returns-in-Read-clause-value c =
-    ldu_read Field_of Link1 link_of_symbols (Read c.in-Read.wrong) c.read_ldu.new.symbols c.read_ldu.new.low c.from_symbols.result c.read_frames.result c.args.bare.now (field_reading_of link_layout c.args.bare.now)
+    ldu_read Field_of Link1 link_of_symbols (Read c.in-Read.wrong) c.read_ldu.new.symbols c.read_ldu.new.low
+    c.from_symbols.result c.read_frames.result c.args.bare.now (field_reading_of link_layout c.args.bare.now)
     c.in-Read.ensures.value c.from_symbols.ensures.value c.read_frames.ensures
 
 pub returns-in-Read-clause-wrong : goal.returns-in-Read-clause-wrong
@@ -35,10 +36,12 @@ returns-in-Read-clause-wrong c =
     let sendable = (unit_read 5 bare unit (reading-ldu1 bare ∙ sym (returns-in-Read-clause-value c))).sendable in
     ldu_fixes unit 5 12 (link_symbols word) low c.read_frames.result bare c.in-Read.wrong link_code (length-link_symbols word) sendable.speech c.requires refl (λ nac. refl)
     (c.in-Read.ensures.wrong
-    ∙ ap (λ symbols. field_fixes_of hamming10_word 10 1 (word_places 10 ldu_rows) (rs_word 24 12 symbols) bare + (low_fixes_of 0 (slice_index low 0) bare + low_fixes_of 1 (slice_index low 1) bare)) (sym c.from_symbols.ensures.back))
+    ∙ ap (λ symbols. field_fixes_of hamming10_word 10 1 (word_places 10 ldu_rows) (rs_word 24 12 symbols) bare + (low_fixes_of 0 (slice_index low 0) bare + low_fixes_of 1 (slice_index low 1) bare))
+    (sym c.from_symbols.ensures.back))
 
 pub returns-in-Failing-clause-value : goal.returns-in-Failing-clause-value
 unfolding ldu1_in link_in
 returns-in-Failing-clause-value c =
     let symbols = c.read_ldu.new.symbols in
-    ldu_read Field_of Link1 link_of_symbols (Failing c.in-Failing.fields) symbols c.read_ldu.new.low (link_of_symbols symbols) (voice_in c.args.bare.now) c.args.bare.now (field_reading_of link_layout c.args.bare.now) c.in-Failing.ensures.value refl refl
+    ldu_read Field_of Link1 link_of_symbols (Failing c.in-Failing.fields) symbols c.read_ldu.new.low
+    (link_of_symbols symbols) (voice_in c.args.bare.now) c.args.bare.now (field_reading_of link_layout c.args.bare.now) c.in-Failing.ensures.value refl refl

@@ -41,4 +41,5 @@ returns-in-None-clause-value c =
     let at = slice_index (low_places ldu_rows) c.args.i in
     let there : at + 16 ≤ length c.args.bare.now = omega (arith, low_place-le c.args.i c.requires.i, c.requires.there) in
     let taken = received_bits 16 at c.field-received.result c.args.bare.now c.field-received.ensures.value refl there in
-    ap (option_map (λ (w : List Bool). field_of (take 8 w))) (received_reading 16 c.field-received.result (part at 16 c.args.bare.now) lsd16_reading_of c.in-None.is c.read_number.ensures.reading taken)
+    ap (option_map (λ (w : List Bool). field_of (take 8 w)))
+    (received_reading 16 c.field-received.result (part at 16 c.args.bare.now) lsd16_reading_of c.in-None.is c.read_number.ensures.reading taken)
