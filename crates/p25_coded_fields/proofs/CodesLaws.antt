@@ -79,43 +79,37 @@ all_end size end len (at ∷ places) test fits =
     let here : at + size ≤ end = leb-true (at + size) end parts.0 in
     All-cons (λ a. a + size ≤ len) at places (omega arith) (all_end size end len places parts.1 fits)
 
--- what a field was read as lies near to it: of all bits that have a field with the information that was read, the outer word is the one
--- that was read, since it is the only one with this information
-pub near_from_reading : {IsInnerWord : List Bool → Type 0} (places : List ℕ) (size each n information : ℕ) (inner_reading : List Bool → Option (List Bool)) → IsCode n information → (info : List Sym) (sent received : List Bool)
-    → HasField IsInnerWord (IsWord n information) (field_layout places size each inner_reading (rs_erased_reading_of n information) information) info sent
-    → field_reading_of (field_layout places size each inner_reading (rs_erased_reading_of n information) information) received ≡ Some info
-    → IsFieldNear (n - information) (field_layout places size each inner_reading (rs_erased_reading_of n information) information) sent received
-unfolding field_reading_of outer_word_of
-near_from_reading places size each n information inner_reading code info sent received has read =
-    found (rs_erased_reading_of n information list) refl read
-  where
-    layout : Layout
-    layout = field_layout places size each inner_reading (rs_erased_reading_of n information) information
+module _ (places : List ℕ) (size each n information : ℕ) (inner_reading : List Bool → Option (List Bool)) (code : IsCode n information) where
+  abbrev coded : Layout
+  coded = field_layout places size each inner_reading (rs_erased_reading_of n information) information
 
-    list : List (Option Sym)
-    list = received_in layout received
+  -- a field that was read has an outer word near to what was received, which begins with its information
+  word_of_reading : (received : List Bool) (info : List Sym) → field_reading_of coded received ≡ Some info
+      → (word : List Sym) × IsWithinCost same_symbols (IsWord n information) (n - information) (received_in coded received) word × (take information word ≡ info)
+  unfolding field_reading_of outer_word_of
+  word_of_reading received info = found (rs_erased_reading_of n information list) refl
+    where
+      list : List (Option Sym)
+      list = received_in coded received
 
-    found : (answer : Option (List Sym)) → rs_erased_reading_of n information list ≡ answer → option_map (take information) answer ≡ Some info → IsFieldNear (n - information) layout sent received
-    found None is e = absurd (cc)
-    found (Some word) is e =
-        let within = within_cost same_symbols (IsWord n information) (n - information) list (rs_erased_reading_of n information list) word (rs_erased_reads_as n information list) is in
-        let begins : take information word ≡ info = cc in
-        let same = one_word_of n information code (sent_in layout sent) word has.outer within.word_of_set (has.begins ∙ sym begins) in
-        record { near = subst (λ w. erased_cost same_symbols list w ≤ n - information) (sym same) within.within }
+      found : (answer : Option (List Sym)) → rs_erased_reading_of n information list ≡ answer → option_map (take information) answer ≡ Some info
+          → (word : List Sym) × IsWithinCost same_symbols (IsWord n information) (n - information) list word × (take information word ≡ info)
+      found None is e = absurd (cc)
+      found (Some word) is e =
+          (word, within_cost same_symbols (IsWord n information) (n - information) list (rs_erased_reading_of n information list) word (rs_erased_reads_as n information list) is, cc)
 
--- the information that was read has its length
-pub field_information : (places : List ℕ) (size each n information : ℕ) (inner_reading : List Bool → Option (List Bool)) → IsCode n information → (received : List Bool) (symbols : List Sym)
-    → field_reading_of (field_layout places size each inner_reading (rs_erased_reading_of n information) information) received ≡ Some symbols → length symbols ≡ information
-unfolding field_reading_of outer_word_of
-field_information places size each n information inner_reading code received symbols read = found (rs_erased_reading_of n information list) refl read
-  where
-    list : List (Option Sym)
-    list = received_in (field_layout places size each inner_reading (rs_erased_reading_of n information) information) received
+  -- what a field was read as lies near to it: of all bits that have a field with the information that was read, the outer word is the
+  -- one that was read, since it is the only one with this information
+  pub near_from_reading : {IsInnerWord : List Bool → Type 0} (info : List Sym) (sent received : List Bool) → HasField IsInnerWord (IsWord n information) coded info sent → field_reading_of coded received ≡ Some info
+      → IsFieldNear (n - information) coded sent received
+  near_from_reading info sent received has read =
+      let found = word_of_reading received info read in
+      let same = one_word_of n information code (sent_in coded sent) found.0 has.outer found.1.word_of_set (has.begins ∙ sym found.2) in
+      record { near = subst (λ w. erased_cost same_symbols (received_in coded received) w ≤ n - information) (sym same) found.1.within }
 
-    found : (answer : Option (List Sym)) → rs_erased_reading_of n information list ≡ answer → option_map (take information) answer ≡ Some symbols → length symbols ≡ information
-    found None is e = absurd (cc)
-    found (Some word) is e =
-        let within = within_cost same_symbols (IsWord n information) (n - information) list (rs_erased_reading_of n information list) word (rs_erased_reads_as n information list) is in
-        let begins : take information word ≡ symbols = cc in
-        let fits : information ≤ length word = omega (arith, code.shorter, length_of_word_of n information word within.word_of_set) in
-        ap length (sym begins) ∙ length-take-le information word fits
+  -- the information that was read has its length
+  pub field_information : (received : List Bool) (symbols : List Sym) → field_reading_of coded received ≡ Some symbols → length symbols ≡ information
+  field_information received symbols read =
+      let found = word_of_reading received symbols read in
+      let fits : information ≤ length found.0 = omega (arith, code.shorter, length_of_word_of n information found.0 found.1.word_of_set) in
+      ap length (sym found.2) ∙ length-take-le information found.0 fits

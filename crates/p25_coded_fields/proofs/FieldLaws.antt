@@ -12,17 +12,13 @@ use Rattle.p25_bits.proofs.NumbersLaws.{joined_below-zero, joined_below-suc, joi
 use Rattle.p25_code.specs.Words.{IsEncoding}
 use Rattle.p25_gf64.specs.declared.symbol.Sym.{Sym}
 use Rattle.p25_link.specs.Symbols.{symbols_in, symbol_bits}
-use Rattle.p25_link.proofs.SymbolsLaws.{length-symbol_bits, symbols_in-symbol_bits}
+use Rattle.p25_link.proofs.SymbolsLaws.{length-symbol_bits, length-symbols_in, symbol_bits-symbols_in, symbols_in-symbol_bits}
 use Rattle.p25_coded_fields.specs.Layouts.{Layout, places_from, sent_in, field_bits}
-use Rattle.p25_coded_fields.specs.Written.{Encodes, IsWritten}
+use Rattle.p25_coded_fields.specs.Written.{Encodes}
 use Rattle.p25_coded_fields.specs.Within.{HasField}
 use Rattle.p25_coded_fields.proofs.SymbolsLaws.{room_at, symbols_in-take}
 
 -- places a step apart
-pub places_from-suc : (at step count : ℕ) → places_from at step (suc count) ≡ at ∷ places_from (at + step) step count
-unfolding places_from
-places_from-suc at step count = refl
-
 pub length-places_from : (at step count : ℕ) → length (places_from at step count) ≡ count
 unfolding places_from
 length-places_from at step zero = refl
@@ -35,7 +31,7 @@ get_or-places_from at step (suc count) zero d inside = omega arith
 get_or-places_from at step (suc count) (suc i) d inside = omega (arith, get_or-places_from (at + step) step count i d (omega arith), mul-suc step i)
 
 -- what each element of a list gives, joined, by its place
-pub flat_map_by_place : {X Y : Type 0} (f : X → List Y) (xs : List X) (d : X) (n : ℕ) → n ≤ length xs → flat_map f (take n xs) ≡ joined_below n (λ i. f (get_or xs i d))
+flat_map_by_place : {X Y : Type 0} (f : X → List Y) (xs : List X) (d : X) (n : ℕ) → n ≤ length xs → flat_map f (take n xs) ≡ joined_below n (λ i. f (get_or xs i d))
 flat_map_by_place f xs d zero inside = sym (joined_below-zero (λ i. f (get_or xs i d)))
 flat_map_by_place f xs d (suc n) inside =
     let one : suc n ≡ n + 1 = omega arith in
@@ -44,6 +40,11 @@ flat_map_by_place f xs d (suc n) inside =
     ∙ flat_map-append f (take n xs) (get_or xs n d ∷ [])
     ∙ ap₂ (λ (us vs : List _). us ++ vs) (flat_map_by_place f xs d n (omega arith)) (append-nil (f (get_or xs n d)))
     ∙ sym (joined_below-suc n (λ i. f (get_or xs i d)))
+
+-- of all elements
+pub flat_map_places : {X Y : Type 0} (f : X → List Y) (xs : List X) (d : X) → flat_map f xs ≡ joined_below (length xs) (λ i. f (get_or xs i d))
+flat_map_places f xs d =
+    let every : length xs ≤ length xs = omega arith in ap (flat_map f) (sym (take_all (length xs) xs every)) ∙ flat_map_by_place f xs d (length xs) every
 
 -- the symbols that a word begins with whose information are their bits
 encoding_symbols : {IsWord : List Bool → Type 0} (k each : ℕ) (symbols : List Sym) (word : List Bool) → 6 * each ≡ k → length symbols ≡ each → k ≤ length word → IsEncoding IsWord k (symbol_bits symbols) word → symbols_in each word ≡ symbols
@@ -79,33 +80,12 @@ module _ {IsInnerWord : List Bool → Type 0} {IsOuterWord : List Sym → Type 0
 
       same : flat_map (λ at. symbols_in each (part at layout.size sent)) places ≡ symbols
       same =
-          let every : length places ≤ length places = omega arith in
           let all : length symbols ≤ each * length places = omega arith in
-          ap (flat_map (λ at. symbols_in each (part at layout.size sent))) (sym (take_all (length places) places every))
-          ∙ flat_map_by_place (λ at. symbols_in each (part at layout.size sent)) places 0 (length places) every
+          flat_map_places (λ at. symbols_in each (part at layout.size sent)) places 0
           ∙ joined_below-same (length places) (λ i. symbols_in each (part (get_or places i 0) layout.size sent)) (λ i. part (0 + each * i) each symbols)
           (λ i inside. let same_place : each * i ≡ 0 + each * i = omega arith in group i inside ∙ ap (λ n. part n each symbols) same_place)
           ∙ joined_below-parts 0 each (length places) symbols
           ∙ take_all (each * length places) symbols all
-
-  -- a field that was written is there
-  pub written_field : (layout : Layout) (k count : ℕ) (symbols : List Sym) (old new : List Bool) → 6 * layout.each ≡ k → k ≤ layout.size → layout.each * count ≡ length symbols
-      → layout.places ≡ places_from (length old) layout.size count → IsOuterWord symbols
-      → IsWritten IsInnerWord layout.size k layout.each count symbols old new → HasField IsInnerWord IsOuterWord layout (take layout.information symbols) new
-  written_field layout k count symbols old new sixes fits covers stand outer is =
-      field_there layout k symbols new sixes fits (ap (λ n. layout.each * n) many ∙ covers) (λ i d inside. room i d (subst (λ n. i < n) many inside)) outer (λ i d inside. word i d (subst (λ n. i < n) many inside))
-    where
-      many : length layout.places ≡ count
-      many = ap length stand ∙ length-places_from (length old) layout.size count
-
-      place : (i d : ℕ) → i < count → get_or layout.places i d ≡ length old + layout.size * i
-      place i d inside = ap (λ ps. get_or ps i d) stand ∙ get_or-places_from (length old) layout.size count i d inside
-
-      room : (i d : ℕ) → i < count → get_or layout.places i d + layout.size ≤ length new
-      room i d inside = omega (arith, place i d inside, is.long, room_at layout.size i count (layout.size * count) inside refl)
-
-      word : (i d : ℕ) → i < count → IsEncoding IsInnerWord k (symbol_bits (part (layout.each * i) layout.each symbols)) (part (get_or layout.places i d) layout.size new)
-      word i d inside = subst (λ at. IsEncoding IsInnerWord k (symbol_bits (part (layout.each * i) layout.each symbols)) (part at layout.size new)) (sym (place i d inside)) (is.words i inside)
 
 -- the bits of symbols, by places
 module _ {IsWord : List Bool → Type 0} {size k : ℕ} (long : (word : List Bool) → IsWord word → length word ≡ size) (encoding : List Bool → List Bool) (encodes : Encodes IsWord k encoding) where
@@ -129,3 +109,24 @@ module _ {IsWord : List Bool → Type 0} {size k : ℕ} (long : (word : List Boo
   unfolding field_bits
   part-field_bits each count symbols sixes covers i inside =
       part-joined_below size count (λ j. encoding (symbol_bits (part (each * j) each symbols))) i (field_word-long each count symbols sixes covers) inside
+
+-- the symbols of a word are a group
+field_group : (layout : Layout) (sent : List Bool) (i : ℕ) → i < length layout.places
+    → symbols_in layout.each (part (get_or layout.places i 0) layout.size sent) ≡ part (layout.each * i) layout.each (sent_in layout sent)
+unfolding sent_in
+field_group layout sent i inside =
+    let words : ℕ → List Sym = λ j. symbols_in layout.each (part (get_or layout.places j 0) layout.size sent) in
+    sym (ap (λ (xs : List Sym). part (layout.each * i) layout.each xs) (flat_map_places (λ at. symbols_in layout.each (part at layout.size sent)) layout.places 0)
+    ∙ part-joined_below layout.each (length layout.places) words i (λ j low. length-symbols_in layout.each (part (get_or layout.places j 0) layout.size sent)) inside)
+
+-- so a word begins with the bits of its group
+pub field_word_there : {IsInnerWord : List Bool → Type 0} {IsOuterWord : List Sym → Type 0} (layout : Layout) (k : ℕ) (info : List Sym) (sent : List Bool) → 6 * layout.each ≡ k → k ≤ layout.size
+    → All (λ at. at + layout.size ≤ length sent) layout.places → HasField IsInnerWord IsOuterWord layout info sent
+    → (i : ℕ) → i < length layout.places → IsEncoding IsInnerWord k (symbol_bits (part (layout.each * i) layout.each (sent_in layout sent))) (part (get_or layout.places i 0) layout.size sent)
+field_word_there layout k info sent sixes fits there has i inside =
+    let word = part (get_or layout.places i 0) layout.size sent in
+    let long = length-part (get_or layout.places i 0) layout.size sent (there i 0 inside) in
+    record {
+      word_of_set = has.inner i 0 inside;
+      begins = sym (ap symbol_bits (sym (field_group layout sent i inside)) ∙ symbol_bits-symbols_in layout.each word (omega (arith, long, sixes, fits)) ∙ ap (λ n. take n word) sixes);
+    }

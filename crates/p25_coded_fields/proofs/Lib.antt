@@ -4,5 +4,4 @@ pub mod WrittenLaws
 pub mod WithinLaws
 pub mod FieldLaws
 pub mod CodesLaws
-pub mod FieldWordsLaws
 pub mod FixesLaws

@@ -40,11 +40,6 @@ length-received_in layout bits =
     length-pieces layout.each (λ at. symbols_or_erasures layout.each (layout.inner_reading (part at layout.size bits))) layout.places
     (λ at. length-symbols_or_erasures layout.each (layout.inner_reading (part at layout.size bits)))
 
-pub length-sent_in : (layout : Layout) (bits : List Bool) → length (sent_in layout bits) ≡ layout.each * length layout.places
-unfolding sent_in
-length-sent_in layout bits =
-    length-pieces layout.each (λ at. symbols_in layout.each (part at layout.size bits)) layout.places (λ at. length-symbols_in layout.each (part at layout.size bits))
-
 -- the reading of a field whose outer word is read
 pub field_reading_of-some : (layout : Layout) (bits : List Bool) (word : List Sym) → outer_word_of layout bits ≡ Some word → field_reading_of layout bits ≡ Some (take layout.information word)
 unfolding field_reading_of

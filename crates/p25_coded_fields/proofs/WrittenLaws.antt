@@ -3,9 +3,8 @@
 use Rattle.std.proofs.Common.{◌≡◌, ℕ, ◌+◌, ◌-◌, ◌*◌, ◌<◌, ◌≤◌, inl, inr, Bool, List, ◌++◌, length, take, drop, ap, ap₂, sym, ◌∙◌, subst, arith, length-append}
 use Rattle.std.proofs.Math.Nat.{mul-le-mul_left}
 use Rattle.std.proofs.lemmas.Bool.{cases_lt}
-use Rattle.std.proofs.lemmas.List.{take-append-drop, take_all, take-append-le}
-use Rattle.p25_bits.specs.Bits.{bits_of, field_of, part}
-use Rattle.p25_bits.proofs.BitsLaws.{bits_of-field_of}
+use Rattle.std.proofs.lemmas.List.{take-append-drop, take-append-le}
+use Rattle.p25_bits.specs.Bits.{part}
 use Rattle.p25_bits.proofs.PartLaws.{length-part, part_left, part_last, drop-is_part}
 use Rattle.p25_bits.proofs.NumbersLaws.{joined_below-same, joined_below-parts}
 use Rattle.p25_code.specs.Words.{IsEncoding}
@@ -16,21 +15,7 @@ use Rattle.p25_coded_fields.specs.Written.{Encodes, IsPut, IsWritten}
 use Rattle.p25_link.proofs.SymbolsLaws.{length-symbol_bits}
 use Rattle.p25_coded_fields.proofs.SymbolsLaws.{one_more, room_at}
 
--- a word that was put as the number that it writes
-pub word_put : (old new word : List Bool) (width value n : ℕ) → new ≡ old ++ bits_of width value → width ≡ n → length word ≡ n → value ≡ field_of word → new ≡ old ++ word
-word_put old new word width value n put same long is =
-    let made : bits_of width value ≡ word = ap₂ bits_of (same ∙ sym long) is ∙ bits_of-field_of word in
-    put ∙ ap (λ (xs : List Bool). old ++ xs) made
-
 module _ {IsWord : List Bool → Type 0} where
-  -- before the first word
-  pub written_none : (size k each : ℕ) (symbols : List Sym) (old : List Bool) → IsWritten IsWord size k each 0 symbols old old
-  written_none size k each symbols old = record {
-    kept = let all : length old ≤ length old = omega arith in take_all (length old) old all;
-    long = omega arith;
-    words = λ i inside. absurd (omega arith);
-  }
-
   -- one more word
   pub written_next : (size k each i : ℕ) (symbols : List Sym) (old out new : List Bool) → IsWritten IsWord size k each i symbols old out → IsPut IsWord k (part (each * i) each symbols) out new → length new ≡ length out + size
       → IsWritten IsWord size k each (i + 1) symbols old new

@@ -44,22 +44,11 @@ pub(crate) fn field_fixes<I: NumberCode>(
     requires counted { changed ≡ 0 → IfSome counted (AreCounted I.IsWord I.N I.K (I.K / 6) (length places.now) places.now word.now bare.now) }
     ensures { AreCounted I.IsWord I.N I.K (I.K / 6) (length places.now) places.now word.now bare.now result }
 {
-    match counted {
-        Some(wrong) if changed == 0 => wrong,
-        _ => encoded_fixes::<I>(bare, places, word),
+    if changed == 0 {
+        if let Some(wrong) = counted {
+            return wrong;
+        }
     }
-}
-
-// Counts the wrong bits of a field by encoding each of its inner words.
-fn encoded_fixes<I: NumberCode>(bare: &BitBuf, places: &[usize], word: &[Sym]) -> u32
-    requires code { I.HasCode }
-    requires small { I.N ≤ 24 }
-    requires sixes { 6 * (I.K / 6) ≡ I.K }
-    requires short { length word.now ≤ 36 }
-    requires word { length places.now * (I.K / 6) ≡ length word.now }
-    requires there { All (λ at. at + I.N ≤ length bare.now) places.now }
-    ensures { AreCounted I.IsWord I.N I.K (I.K / 6) (length places.now) places.now word.now bare.now result }
-{
     let each = I::K / 6;
     let mut wrong = 0;
     for (i, at) in places.iter().enumerate() {

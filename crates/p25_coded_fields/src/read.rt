@@ -1,6 +1,6 @@
 //! Fields read.
 
-ghost use Rattle.std.specs.Prelude.{◌≡◌, ℕ, ◌+◌, ◌*◌, ◌/◌, ◌<◌, ◌≤◌, All, Bool, List, IfSome, is_some, length, replicate};
+ghost use Rattle.std.specs.Prelude.{◌≡◌, ℕ, ◌+◌, ◌*◌, ◌/◌, ◌<◌, ◌≤◌, All, Bool, List, IfSome, length, replicate};
 ghost use Rattle.p25_bits.specs.Bits.{part};
 ghost use Rattle.p25_code.specs.Erasures.{without_erased};
 ghost use Rattle.p25_code.specs.Readings.{word_read};
@@ -37,7 +37,6 @@ fn read_inner<I: NumberCode>(
     requires same { length erased.old ≡ length symbols.old }
     requires there { at + I.N ≤ length bare.now }
     ensures erasures { without_erased symbols.new erased.new ≡ symbols_or_erasures (length symbols.old) (I.reading_is (part at I.N bare.now)) }
-    ensures known { is_some result ≡ is_some (I.reading_is (part at I.N bare.now)) }
     ensures count { IfSome result (IsInnerCount I.IsWord I.N I.K at symbols.new bare.now) }
 {
     let received = bare.field(at, I::N as u32) as u32;

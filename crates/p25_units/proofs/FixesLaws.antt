@@ -1,5 +1,5 @@
 -- The fixes of a frame are those of its front and those after it, by cutting the lists of looked-at bits.
-use Rattle.std.proofs.Common.{◌≡◌, ℕ, zero, suc, ◌+◌, ◌*◌, ◌≤◌, Bool, List, [], ◌∷◌, ◌++◌, length, take, refl, ap, ap₂, sym, ◌∙◌, arith, append-nil, append_assoc}
+use Rattle.std.proofs.Common.{◌≡◌, ℕ, zero, suc, ◌+◌, ◌*◌, ◌≤◌, Bool, List, [], ◌∷◌, ◌++◌, length, take, drop, refl, ap, ap₂, sym, ◌∙◌, arith, append-nil, append_assoc, length-drop}
 use Rattle.std.specs.Bool.{beq}
 use Rattle.std.proofs.lemmas.List.{take-take, length-take-le}
 use Rattle.p25_bits.specs.Bits.{part}
@@ -11,21 +11,22 @@ use Rattle.p25_bits.proofs.DistanceLaws.{distance_of-same, distance_by-append}
 use Rattle.p25_status.specs.Woven.{bare_of}
 use Rattle.p25_status.proofs.WovenLaws.{length-bare_of}
 use Rattle.p25_unit_front.specs.Front.{unit_front, front_of, front_fixes_of}
-use Rattle.p25_unit_front.proofs.FrontLaws.{front_of-bare_of}
+use Rattle.p25_unit_front.proofs.FrontLaws.{front_of-bare_of, front_fixes_of-take}
 use Rattle.p25_voice_units.specs.declared.unit.VoiceUnit.{VoiceUnit}
 use Rattle.p25_voice_units.specs.declared.unit.VoiceUnit.TheVariants.{End}
 use Rattle.p25_voice_units.specs.Fixes.{voice_looked, bits_at, voice_fixes_of}
 use Rattle.p25_voice_units.specs.Images.{voice_image_of}
+use Rattle.p25_voice_units.proofs.FixesLaws.{bits_at-append}
 use Rattle.p25_packet_blocks.specs.declared.packet.Packet.{Packet as packet_type}
 use Rattle.p25_packet_blocks.specs.Heads.{head_blocks}
 use Rattle.p25_packet_blocks.specs.Image.{packet_image_of}
 use Rattle.p25_packet_blocks.specs.Whole.{packet_head}
 use Rattle.p25_units.specs.UnitParts.{UnitParts}
-use Rattle.p25_units.specs.Units.{body_duid, unit_image_of, image_of, IsSoundFrame, IsSendableBody, IsSendableUnit}
+use Rattle.p25_units.specs.Units.{body_duid, frame_length_of, unit_image_of, image_of, IsSoundFrame, IsSendableBody, IsSendableUnit}
 use Rattle.p25_units.specs.Fixes.{packet_looked, body_looked, looked_of, body_fixes_of, fixes_of}
 use Rattle.p25_units.specs.declared.unit.Body.TheVariants.{Voice, Packet}
 use Rattle.p25_units.specs.declared.frame.Frame.{Frame}
-use Rattle.p25_units.proofs.UnitsLaws.{unit_image_of-front, bare_of-image_of, length-unit_image_of, IsSentLength-body}
+use Rattle.p25_units.proofs.UnitsLaws.{blocks-sound, unit_image_of-front, bare_of-image_of, length-unit_image_of, IsSentLength-body}
 
 -- the bits at one place, and at none
 bits_at-cons : (place : ℕ × ℕ) (places : List (ℕ × ℕ)) (bits : List Bool) → bits_at (place ∷ places) bits ≡ part place.0 place.1 bits ++ bits_at places bits
@@ -72,14 +73,6 @@ body_fixes_of-end nac bare =
     ap₂ (λ (xs ys : List Bool). distance_of xs ys) (bits_at-nil bare) (bits_at-nil (unit_image_of unit)) ∙ distance_of-same []
 
 -- the looked-at places of a packet touch
-bits_at-append : (xs ys : List (ℕ × ℕ)) (bits : List Bool) → bits_at (xs ++ ys) bits ≡ bits_at xs bits ++ bits_at ys bits
-bits_at-append [] ys bits = ap (λ (front : List Bool). front ++ bits_at ys bits) (sym (bits_at-nil bits))
-bits_at-append (x ∷ xs) ys bits =
-    bits_at-cons x (xs ++ ys) bits
-    ∙ ap (λ (rest : List Bool). part x.0 x.1 bits ++ rest) (bits_at-append xs ys bits)
-    ∙ sym (append_assoc (part x.0 x.1 bits) (bits_at xs bits) (bits_at ys bits))
-    ∙ ap (λ (front : List Bool). front ++ bits_at ys bits) (sym (bits_at-cons x xs bits))
-
 block_places : ℕ → List (ℕ × ℕ)
 block_places n = each_below n (λ j. (308 + 196 * j, 196))
 
@@ -119,3 +112,20 @@ fixes_of-image_of frame sound sendable =
     let places = looked_of frame.unit in
     ap (λ (xs : List Bool). distance_of (bits_at places xs) (bits_at places (unit_image_of frame.unit))) (bare_of-image_of frame sound sendable)
     ∙ distance_of-same (bits_at places (unit_image_of frame.unit))
+
+-- the fixes of a sound frame where its bits stand among others
+pub fixes_in : (frame : Frame) (bits : List Bool) (at nac duid : ℕ) → IsSoundFrame frame → IsSendableUnit frame.unit → at + frame_length_of frame.unit ≤ length bits → nac ≡ frame.unit.nac → duid ≡ body_duid frame.unit.body
+    → (m n : ℕ) → m ≡ front_fixes_of (nac, duid) (drop at bits) → n ≡ body_fixes_of frame.unit (bare_of (part at (frame_length_of frame.unit) bits)) → m + n ≡ fixes_of frame (part at (frame_length_of frame.unit) bits)
+fixes_in frame bits at nac duid sound sendable there nac_is duid_is m n front body =
+    let count = frame_length_of frame.unit in
+    let rest = drop at bits in
+    let sent = take count rest in
+    let blocks = length frame.statuses in
+    let two = (blocks-sound frame sound).0 in
+    let enough : count ≤ length rest = omega (arith, there, length-drop at bits) in
+    let long : length sent ≡ 72 * blocks = length-take-le count rest enough ∙ sym sound.symbols in
+    let many : 114 ≤ count = omega (arith, sound.symbols, two) in
+    ap₂ (λ (a b : ℕ). a + b)
+    (front ∙ ap₂ (λ (a b : ℕ). front_fixes_of (a, b) rest) nac_is duid_is ∙ sym (front_fixes_of-take (frame.unit.nac, body_duid frame.unit.body) count rest many))
+    body
+    ∙ sym (fixes_of-parts frame blocks sent sendable.body two long)

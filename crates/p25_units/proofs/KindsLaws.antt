@@ -14,9 +14,10 @@ use Rattle.p25_packet_blocks.specs.UnitReading.{sent_head_of}
 use Rattle.p25_packet_blocks.proofs.SentLaws.{sent_head_of-bare_of}
 use Rattle.p25_packet_blocks.proofs.UnitLaws.{sent_head_of-take}
 use Rattle.p25_units.specs.Units.{sent_length}
-use Rattle.p25_units.specs.Needs.{length_need, voice_need, head_need, packet_need, kind_need}
+use Rattle.p25_units.specs.Needs.{voice_need, head_need, packet_need, kind_need}
 use Rattle.p25_units.specs.declared.needs.Need.TheVariants.{More, Length, NoLength}
-use Rattle.p25_units.proofs.NeedsLaws.{length_need-cases, voice_need-none, voice_need-some, head_need-bad, head_need-good, packet_need-short, packet_need-long, kind_need-packet, kind_need-unpacked, IsHead-kind}
+use Rattle.p25_units.proofs.PacketNeedLaws.{length_need-is}
+use Rattle.p25_units.proofs.NeedsLaws.{voice_need-none, voice_need-some, head_need-bad, head_need-good, packet_need-short, packet_need-long, kind_need-packet, kind_need-unpacked, IsHead-kind}
 
 -- the bits of a voice unit are as many as its DUID tells
 pub record IsVoiceKind (duid : ℕ) (sent : List Bool) : Type 0 where
@@ -40,11 +41,6 @@ pub record IsUnitOf (duid : ℕ) (sent : List Bool) : Type 0 where
   pub most : blocks ≤ 360
   pub kind : IsVoiceKind duid sent ⊎ IsPacketKind duid sent
 
--- a length that is known is the one that was asked for
-known_length : (bare have count : ℕ) → length_need bare have ≡ Length count → count ≡ bare
-known_length bare have count =
-    length_need-cases (λ need. need ≡ Length count → count ≡ bare) bare have (λ short e. absurd (cc)) (λ enough e. let same : bare ≡ count = cc in sym same)
-
 module _ (count : ℕ) (bits : List Bool) where
   voice_in : (duid : ℕ) (found : Option ℕ) → duid ≢ 0xC → count ≤ length bits → voice_length_of duid ≡ found → voice_need found (length bits) ≡ Length count → IsVoiceKind duid (take count bits)
   voice_in duid None other there is e = let two : NoLength Duid ≡ Length count = sym (voice_need-none (length bits)) ∙ e in absurd (cc)
@@ -52,7 +48,7 @@ module _ (count : ℕ) (bits : List Bool) where
     other = other;
     bare = bare;
     kind = is;
-    is = length-take-le count bits there ∙ known_length (sent_length bare) (length bits) count (sym (voice_need-some bare (length bits)) ∙ e);
+    is = length-take-le count bits there ∙ sym (length_need-is (sent_length bare) (length bits) count (sym (voice_need-some bare (length bits)) ∙ e));
   }
 
   -- the header of the unit's own bits is that of all
@@ -64,7 +60,7 @@ module _ (count : ℕ) (bits : List Bool) where
   head_in : (reading : Result PacketHead Field) → count ≤ length bits → sent_head_of bits ≡ reading → head_need reading (length bits) ≡ Length count → IsPacketKind 0xC (take count bits)
   head_in (Err field) there is e = let two : NoLength field ≡ Length count = sym (head_need-bad field (length bits)) ∙ e in absurd (cc)
   head_in (Ok head) there is e =
-      let known = known_length (packet_sent_length (head_blocks head)) (length bits) count (sym (head_need-good head (length bits)) ∙ e) in
+      let known = sym (length_need-is (packet_sent_length (head_blocks head)) (length bits) count (sym (head_need-good head (length bits)) ∙ e)) in
       record {
         packet = refl;
         head = head;

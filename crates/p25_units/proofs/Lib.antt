@@ -11,7 +11,6 @@ pub mod WholeLaws
 pub mod TerminatorsLaws
 pub mod BegunLaws
 pub mod UnitPlaceLaws
-pub mod FixingLaws
 pub mod ItemSteps
 pub mod PacketNeedLaws
 mod OutcomeLaws

@@ -26,8 +26,8 @@ pub record IsHead (head : List Bool → Need) : Type 0 where
   pub seen : (bits : List Bool) → head bits ≡ NoSync → ⊥
   pub few : (bits : List Bool) (count : ℕ) → head bits ≡ More count → (length bits < count) × (count ≤ 25920)
   pub there : (bits : List Bool) (count : ℕ) → head bits ≡ Length count → (72 < count) × (count ≤ 25920) × (count % 72 ≡ 0) × (count ≤ length bits)
-  pub stays : (bits more : List Bool) → 114 ≤ length bits → is_known (head bits) ≡ true → head (bits ++ more) ≡ head bits
-  pub waits : (bits more : List Bool) (count : ℕ) → 114 ≤ length bits → head bits ≡ More count → length (bits ++ more) < count → head (bits ++ more) ≡ More count
+  pub stays : (bits more : List Bool) → is_known (head bits) ≡ true → head (bits ++ more) ≡ head bits
+  pub waits : (bits more : List Bool) (count : ℕ) → head bits ≡ More count → length (bits ++ more) < count → head (bits ++ more) ≡ More count
 
 -- a rule that says the same
 pub IsHead-same : (head other : List Bool → Need) → ((bits : List Bool) → other bits ≡ head bits) → IsHead head → IsHead other
@@ -35,8 +35,8 @@ IsHead-same head other same is = record {
   seen = λ bits e. is.seen bits (sym (same bits) ∙ e);
   few = λ bits count e. is.few bits count (sym (same bits) ∙ e);
   there = λ bits count e. is.there bits count (sym (same bits) ∙ e);
-  stays = λ bits more long known. same (bits ++ more) ∙ is.stays bits more long (ap is_known (sym (same bits)) ∙ known) ∙ sym (same bits);
-  waits = λ bits more count long e short. same (bits ++ more) ∙ is.waits bits more count long (sym (same bits) ∙ e) short;
+  stays = λ bits more known. same (bits ++ more) ∙ is.stays bits more (ap is_known (sym (same bits)) ∙ known) ∙ sym (same bits);
+  waits = λ bits more count e short. same (bits ++ more) ∙ is.waits bits more count (sym (same bits) ∙ e) short;
 }
 
 -- no unit
@@ -45,8 +45,8 @@ IsHead-none field = record {
   seen = λ bits e. cc;
   few = λ bits count e. absurd (cc);
   there = λ bits count e. absurd (cc);
-  stays = λ bits more long known. refl;
-  waits = λ bits more count long e short. absurd (cc);
+  stays = λ bits more known. refl;
+  waits = λ bits more count e short. absurd (cc);
 }
 
 -- a unit of a known length
@@ -72,21 +72,40 @@ IsHead-length count some most whole = record {
   there = λ bits n. length_need-cases (λ need. need ≡ Length n → (72 < n) × (n ≤ 25920) × (n % 72 ≡ 0) × (n ≤ length bits)) count (length bits)
       (λ short e. absurd (cc))
       (λ enough e. let same : count ≡ n = cc in (omega arith, omega arith, ap (λ m. m % 72) (sym same) ∙ whole, omega arith));
-  stays = λ bits more long known. length_stays count bits more known;
-  waits = λ bits more n long e short. length_waits count bits more n e short;
+  stays = λ bits more. length_need-cases (λ need. is_known need ≡ true → length_need count (length (bits ++ more)) ≡ need) count (length bits)
+      (λ short known. absurd (cc))
+      (λ enough known. length_need-there count (length (bits ++ more)) (omega (arith, length-append bits more)));
+  waits = λ bits more n. length_need-cases (λ need. need ≡ More n → length (bits ++ more) < n → length_need count (length (bits ++ more)) ≡ More n) count (length bits)
+      (λ short e few. let same : count ≡ n = cc in length_need-more count (length (bits ++ more)) (omega arith) ∙ ap More same)
+      (λ enough e few. absurd (cc));
+}
+
+-- so many bits first, and then by a rule that these tell
+IsHead-after : (n : ℕ) (head : List Bool → Need) (rule : List Bool → List Bool → Need) → n ≤ 25920 → ((bits : List Bool) → length bits < n → head bits ≡ More n)
+    → ((bits : List Bool) → n ≤ length bits → head bits ≡ rule bits bits)
+    → ((bits : List Bool) → IsHead (rule bits)) → ((bits more all : List Bool) → n ≤ length bits → rule (bits ++ more) all ≡ rule bits all) → IsHead head
+IsHead-after n head rule most short long is same = record {
+  seen = λ bits. cases (λ need. need ≡ NoSync → ⊥) bits (λ few e. cc) (λ enough. (is bits).seen bits);
+  few = λ bits count. cases (λ need. need ≡ More count → (length bits < count) × (count ≤ 25920)) bits
+      (λ few e. let known : n ≡ count = cc in (omega arith, omega arith))
+      (λ enough. (is bits).few bits count);
+  there = λ bits count. cases (λ need. need ≡ Length count → (72 < count) × (count ≤ 25920) × (count % 72 ≡ 0) × (count ≤ length bits)) bits
+      (λ few e. absurd (cc))
+      (λ enough. (is bits).there bits count);
+  stays = λ bits more. cases (λ need. is_known need ≡ true → head (bits ++ more) ≡ need) bits (λ few known. absurd (cc)) (λ enough known. longer bits more enough ∙ (is bits).stays bits more known);
+  waits = λ bits more count. cases (λ need. need ≡ More count → length (bits ++ more) < count → head (bits ++ more) ≡ More count) bits
+      (λ few e fits. let known : n ≡ count = cc in short (bits ++ more) (omega arith) ∙ ap More known)
+      (λ enough e fits. longer bits more enough ∙ (is bits).waits bits more count e fits);
 }
   where
-    length_stays : (count : ℕ) (bits more : List Bool) → is_known (length_need count (length bits)) ≡ true → length_need count (length (bits ++ more)) ≡ length_need count (length bits)
-    length_stays count bits more =
-        length_need-cases (λ need. is_known need ≡ true → length_need count (length (bits ++ more)) ≡ need) count (length bits)
-        (λ short known. absurd (cc))
-        (λ enough known. length_need-there count (length (bits ++ more)) (omega (arith, length-append bits more)))
+    cases : (P : Need → Type 0) (bits : List Bool) → (length bits < n → P (More n)) → (n ≤ length bits → P (rule bits bits)) → P (head bits)
+    cases P bits of_short of_long = elim (cases_lt (length bits) n) [
+      | inl few ↦ subst P (sym (short bits few)) (of_short few)
+      | inr enough ↦ subst P (sym (long bits enough)) (of_long enough)
+    ]
 
-    length_waits : (count : ℕ) (bits more : List Bool) (n : ℕ) → length_need count (length bits) ≡ More n → length (bits ++ more) < n → length_need count (length (bits ++ more)) ≡ More n
-    length_waits count bits more n =
-        length_need-cases (λ need. need ≡ More n → length (bits ++ more) < n → length_need count (length (bits ++ more)) ≡ More n) count (length bits)
-        (λ short e few. let same : count ≡ n = cc in length_need-more count (length (bits ++ more)) (omega arith) ∙ ap More same)
-        (λ enough e few. absurd (cc))
+    longer : (bits more : List Bool) → n ≤ length bits → head (bits ++ more) ≡ rule bits (bits ++ more)
+    longer bits more enough = long (bits ++ more) (omega (arith, length-append bits more)) ∙ same bits more (bits ++ more) enough
 
 -- a voice unit
 pub voice_need-none : (have : ℕ) → voice_need None have ≡ NoLength Duid
@@ -98,14 +117,10 @@ unfolding voice_need
 voice_need-some bare have = refl
 
 IsHead-voice : (found : Option ℕ) → ((bare : ℕ) → found ≡ Some bare → IsSentLength bare) → IsHead (λ bits. voice_need found (length bits))
-IsHead-voice None lengths = IsHead-same (λ bits. NoLength Duid) (λ bits. voice_need None (length bits)) (λ bits. voice_need-none (length bits)) (IsHead-none Duid)
+unfolding voice_need
+IsHead-voice None lengths = IsHead-none Duid
 IsHead-voice (Some bare) lengths =
-    let is = lengths bare refl in
-    IsHead-same
-    (λ bits. length_need (sent_length bare) (length bits))
-    (λ bits. voice_need (Some bare) (length bits))
-    (λ bits. voice_need-some bare (length bits))
-    (IsHead-length (sent_length bare) (omega (arith, is.sent, is.least)) (omega (arith, is.sent, is.most)) (omega (arith, is.sent)))
+    let is = lengths bare refl in IsHead-length (sent_length bare) (omega (arith, is.sent, is.least)) (omega (arith, is.sent, is.most)) (omega (arith, is.sent))
 
 -- a packet whose header was read, or fails
 pub head_need-bad : (field : Field) (have : ℕ) → head_need (Err field) have ≡ NoLength field
@@ -117,14 +132,9 @@ unfolding head_need
 head_need-good head have = refl
 
 IsHead-head : (reading : Result PacketHead Field) → IsHead (λ bits. head_need reading (length bits))
-IsHead-head (Err field) = IsHead-same (λ bits. NoLength field) (λ bits. head_need (Err field) (length bits)) (λ bits. head_need-bad field (length bits)) (IsHead-none field)
-IsHead-head (Ok head) =
-    let count = packet_sent_length (head_blocks head) in
-    IsHead-same
-    (λ bits. length_need count (length bits))
-    (λ bits. head_need (Ok head) (length bits))
-    (λ bits. head_need-good head (length bits))
-    (IsHead-length count (omega arith) (omega (arith, head_blocks-lt head)) (omega arith))
+unfolding head_need
+IsHead-head (Err field) = IsHead-none field
+IsHead-head (Ok head) = IsHead-length (packet_sent_length (head_blocks head)) (omega arith) (omega (arith, head_blocks-lt head)) (omega arith)
 
 -- a packet
 pub packet_need-short : (bits : List Bool) → length bits < 316 → packet_need bits ≡ More 316
@@ -135,48 +145,10 @@ pub packet_need-long : (bits : List Bool) → 316 ≤ length bits → packet_nee
 unfolding packet_need
 packet_need-long bits long = cond-false (ltb (length bits) 316) (More 316) (head_need (sent_head_of bits) (length bits)) (le-ltb (length bits) 316 long)
 
-packet_need-cases : (P : Need → Type 0) (bits : List Bool) → (length bits < 316 → P (More 316)) → (316 ≤ length bits → P (head_need (sent_head_of bits) (length bits))) → P (packet_need bits)
-packet_need-cases P bits more read =
-    elim (cases_lt (length bits) 316) [
-      | inl short ↦ subst P (sym (packet_need-short bits short)) (more short)
-      | inr long ↦ subst P (sym (packet_need-long bits long)) (read long)
-    ]
-
-packet_need-append : (bits more : List Bool) → 316 ≤ length bits → packet_need (bits ++ more) ≡ head_need (sent_head_of bits) (length (bits ++ more))
-packet_need-append bits more long =
-    packet_need-long (bits ++ more) (omega (arith, length-append bits more)) ∙ ap (λ reading. head_need reading (length (bits ++ more))) (sent_head_of-append bits more long)
-
 IsHead-packet : IsHead packet_need
-IsHead-packet = record {
-  seen = λ bits. packet_need-cases (λ need. need ≡ NoSync → ⊥) bits (λ short e. cc) (λ long e. (IsHead-head (sent_head_of bits)).seen bits e);
-  few = λ bits count. packet_need-cases (λ need. need ≡ More count → (length bits < count) × (count ≤ 25920)) bits
-      (λ short e. let same : 316 ≡ count = cc in (omega arith, omega arith))
-      (λ long e. (IsHead-head (sent_head_of bits)).few bits count e);
-  there = λ bits count. packet_need-cases (λ need. need ≡ Length count → (72 < count) × (count ≤ 25920) × (count % 72 ≡ 0) × (count ≤ length bits)) bits
-      (λ short e. absurd (cc))
-      (λ long e. (IsHead-head (sent_head_of bits)).there bits count e);
-  stays = λ bits more long known. packet_stays bits more known;
-  waits = λ bits more count long e short. packet_waits bits more count e short;
-}
-  where
-    packet_stays : (bits more : List Bool) → is_known (packet_need bits) ≡ true → packet_need (bits ++ more) ≡ packet_need bits
-    packet_stays bits more known =
-        elim (cases_lt (length bits) 316) [
-          | inl few ↦ let two : false ≡ true = ap is_known (sym (packet_need-short bits few)) ∙ known in absurd (cc)
-          | inr long ↦
-              let now = packet_need-long bits long in
-              packet_need-append bits more long ∙ (IsHead-head (sent_head_of bits)).stays bits more (omega arith) (ap is_known (sym now) ∙ known) ∙ sym now
-        ]
-
-    packet_waits : (bits more : List Bool) (count : ℕ) → packet_need bits ≡ More count → length (bits ++ more) < count → packet_need (bits ++ more) ≡ More count
-    packet_waits bits more count e short =
-        elim (cases_lt (length bits) 316) [
-          | inl few ↦
-              let two : More 316 ≡ More count = sym (packet_need-short bits few) ∙ e in
-              let same : 316 ≡ count = cc in
-              packet_need-short (bits ++ more) (omega arith) ∙ two
-          | inr long ↦ packet_need-append bits more long ∙ (IsHead-head (sent_head_of bits)).waits bits more count (omega arith) (sym (packet_need-long bits long) ∙ e) short
-        ]
+IsHead-packet =
+    IsHead-after 316 packet_need (λ bits all. head_need (sent_head_of bits) (length all)) (omega arith) packet_need-short packet_need-long (λ bits. IsHead-head (sent_head_of bits))
+    (λ bits more all long. ap (λ reading. head_need reading (length all)) (sent_head_of-append bits more long))
 
 -- the unit of a DUID
 pub kind_need-packet : (bits : List Bool) → kind_need 0xC bits ≡ packet_need bits
@@ -214,7 +186,7 @@ pub identified_need-some : (nid : ℕ × ℕ) (bits : List Bool) → identified_
 unfolding identified_need
 identified_need-some nid bits = refl
 
-pub IsHead-identified : (read : Option (ℕ × ℕ)) → IsHead (identified_need read)
+IsHead-identified : (read : Option (ℕ × ℕ)) → IsHead (identified_need read)
 IsHead-identified None = IsHead-same (λ bits. NoLength Nid) (identified_need None) identified_need-none (IsHead-none Nid)
 IsHead-identified (Some nid) = IsHead-same (kind_need nid.1) (identified_need (Some nid)) (identified_need-some nid) (IsHead-kind nid.1)
 
@@ -229,6 +201,11 @@ synced_need-long bits long = cond-false (ltb (length bits) 114) (More 114) (iden
 
 pub synced_need-read : (bits : List Bool) (read : Option (ℕ × ℕ)) → 114 ≤ length bits → identifier_of bits ≡ read → synced_need bits ≡ identified_need read bits
 synced_need-read bits read long is = synced_need-long bits long ∙ ap (λ r. identified_need r bits) is
+
+IsHead-synced : IsHead synced_need
+IsHead-synced =
+    IsHead-after 114 synced_need (λ bits. identified_need (identifier_of bits)) (omega arith) synced_need-short synced_need-long (λ bits. IsHead-identified (identifier_of bits))
+    (λ bits more all long. ap (λ read. identified_need read all) (identifier_of-append bits more long))
 
 -- at any place
 pub need_of-short : (bits : List Bool) → length bits < 48 → need_of bits ≡ More 48
@@ -246,17 +223,13 @@ pub need_of-synced : (bits : List Bool) → has_sync bits ≡ true → need_of b
 need_of-synced bits yes' = need_of-long bits (has_sync-length bits yes') ∙ cond-true (has_sync bits) (synced_need bits) NoSync yes'
 
 -- what is needed, by cases
-need_of-cases : (P : Need → Type 0) (bits : List Bool) → (length bits < 48 → P (More 48)) → P NoSync → (length bits < 114 → P (More 114))
-    → (has_sync bits ≡ true → 114 ≤ length bits → P (identified_need (identifier_of bits) bits)) → P (need_of bits)
-need_of-cases P bits short unsynced cut read =
+need_of-cases : (P : Need → Type 0) (bits : List Bool) → (length bits < 48 → P (More 48)) → P NoSync → (has_sync bits ≡ true → P (synced_need bits)) → P (need_of bits)
+need_of-cases P bits short unsynced synced =
     elim (cases_lt (length bits) 48) [
       | inl few ↦ subst P (sym (need_of-short bits few)) (short few)
       | inr enough ↦ elim (cases_Bool (has_sync bits)) [
         | inr no' ↦ subst P (sym (need_of-unsynced bits enough no')) unsynced
-        | inl yes' ↦ elim (cases_lt (length bits) 114) [
-          | inl few ↦ subst P (sym (need_of-synced bits yes' ∙ synced_need-short bits few)) (cut few)
-          | inr long ↦ subst P (sym (need_of-synced bits yes' ∙ synced_need-long bits long)) (read yes' long)
-        ]
+        | inl yes' ↦ subst P (sym (need_of-synced bits yes')) (synced yes')
       ]
     ]
 
@@ -266,58 +239,29 @@ need_of-few bits count =
     need_of-cases (λ need. need ≡ More count → (length bits < count) × (count ≤ 25920)) bits
     (λ few e. let same : 48 ≡ count = cc in (omega arith, omega arith))
     (λ e. absurd (cc))
-    (λ few e. let same : 114 ≡ count = cc in (omega arith, omega arith))
-    (λ yes' long e. (IsHead-identified (identifier_of bits)).few bits count e)
+    (λ yes'. IsHead-synced.few bits count)
 
 pub need_of-there : (bits : List Bool) (count : ℕ) → need_of bits ≡ Length count → (72 < count) × (count ≤ 25920) × (count % 72 ≡ 0) × (count ≤ length bits)
 need_of-there bits count =
     need_of-cases (λ need. need ≡ Length count → (72 < count) × (count ≤ 25920) × (count % 72 ≡ 0) × (count ≤ length bits)) bits
     (λ few e. absurd (cc))
     (λ e. absurd (cc))
-    (λ few e. absurd (cc))
-    (λ yes' long e. (IsHead-identified (identifier_of bits)).there bits count e)
+    (λ yes'. IsHead-synced.there bits count)
 
 pub need_of-seen : (bits : List Bool) → has_sync bits ≡ true → need_of bits ≡ NoSync → ⊥
-need_of-seen bits yes' e =
-    let here = sym (need_of-synced bits yes') ∙ e in
-    elim (cases_lt (length bits) 114) [
-      | inl few ↦ let two : More 114 ≡ NoSync = sym (synced_need-short bits few) ∙ here in cc
-      | inr long ↦ (IsHead-identified (identifier_of bits)).seen bits (sym (synced_need-long bits long) ∙ here)
-    ]
+need_of-seen bits yes' e = IsHead-synced.seen bits (sym (need_of-synced bits yes') ∙ e)
 
 -- more bits after a sync
-still_synced : (bits more : List Bool) → has_sync bits ≡ true → has_sync (bits ++ more) ≡ true
-still_synced bits more yes' = has_sync-append bits more (has_sync-length bits yes') ∙ yes'
-
-synced_need-append : (bits more : List Bool) → 114 ≤ length bits → synced_need (bits ++ more) ≡ identified_need (identifier_of bits) (bits ++ more)
-synced_need-append bits more long = synced_need-read (bits ++ more) (identifier_of bits) (omega (arith, length-append bits more)) (identifier_of-append bits more long)
+synced-append : (bits more : List Bool) → has_sync bits ≡ true → need_of (bits ++ more) ≡ synced_need (bits ++ more)
+synced-append bits more yes' = need_of-synced (bits ++ more) (has_sync-append bits more (has_sync-length bits yes') ∙ yes')
 
 pub need_of-stays : (bits more : List Bool) → has_sync bits ≡ true → is_known (need_of bits) ≡ true → need_of (bits ++ more) ≡ need_of bits
 need_of-stays bits more yes' known =
     let here = need_of-synced bits yes' in
-    elim (cases_lt (length bits) 114) [
-      | inl few ↦ let two : false ≡ true = ap is_known (sym (here ∙ synced_need-short bits few)) ∙ known in absurd (cc)
-      | inr long ↦
-          let now = here ∙ synced_need-long bits long in
-          need_of-synced (bits ++ more) (still_synced bits more yes')
-          ∙ synced_need-append bits more long
-          ∙ (IsHead-identified (identifier_of bits)).stays bits more long (ap is_known (sym now) ∙ known)
-          ∙ sym now
-    ]
+    synced-append bits more yes' ∙ IsHead-synced.stays bits more (ap is_known (sym here) ∙ known) ∙ sym here
 
 pub need_of-waits : (bits more : List Bool) (count : ℕ) → has_sync bits ≡ true → need_of bits ≡ More count → length (bits ++ more) < count → need_of (bits ++ more) ≡ More count
-need_of-waits bits more count yes' e short =
-    let here = need_of-synced bits yes' in
-    elim (cases_lt (length bits) 114) [
-      | inl few ↦
-          let two : More 114 ≡ More count = sym (here ∙ synced_need-short bits few) ∙ e in
-          let same : 114 ≡ count = cc in
-          need_of-synced (bits ++ more) (still_synced bits more yes') ∙ synced_need-short (bits ++ more) (omega arith) ∙ two
-      | inr long ↦
-          need_of-synced (bits ++ more) (still_synced bits more yes')
-          ∙ synced_need-append bits more long
-          ∙ (IsHead-identified (identifier_of bits)).waits bits more count long (sym (here ∙ synced_need-long bits long) ∙ e) short
-    ]
+need_of-waits bits more count yes' e short = synced-append bits more yes' ∙ IsHead-synced.waits bits more count (sym (need_of-synced bits yes') ∙ e) short
 
 -- a unit whose length is known has an identifier
 pub record IsIdentified (bits : List Bool) (count : ℕ) : Type 0 where
@@ -332,8 +276,7 @@ identified_in bits count (Some nid) long is e = record { long = long; nid = nid;
 
 pub IsIdentified-from : (bits : List Bool) (count : ℕ) → need_of bits ≡ Length count → IsIdentified bits count
 IsIdentified-from bits count =
-    need_of-cases (λ need. need ≡ Length count → IsIdentified bits count) bits
-    (λ few e. absurd (cc))
-    (λ e. absurd (cc))
-    (λ few e. absurd (cc))
-    (λ yes' long e. identified_in bits count (identifier_of bits) long refl e)
+    need_of-cases (λ need. need ≡ Length count → IsIdentified bits count) bits (λ few e. absurd (cc)) (λ e. absurd (cc)) (λ yes' e. elim (cases_lt (length bits) 114) [
+      | inl few ↦ let two : More 114 ≡ Length count = sym (synced_need-short bits few) ∙ e in absurd (cc)
+      | inr long ↦ identified_in bits count (identifier_of bits) long refl (sym (synced_need-long bits long) ∙ e)
+    ])

@@ -80,10 +80,6 @@ packet_wrong-le bare packet (Read wrong) counted =
     let count = 196 * (1 + head_blocks (packet_head packet)) in
     omega (arith, counted 0, distance_by-le beq (part 112 count bare) (part 112 count (packet_image_of 0 packet)), length-take count (drop 112 bare), length-drop 112 bare)
 
-pub packet-most : (outcome : Outcome) (most : ℕ) → most ≤ 25200 → IfRead outcome (λ wrong. wrong ≤ most) → IfRead outcome (λ wrong. wrong ≤ 25200)
-packet-most (Read wrong) most short few = omega (arith, few, short)
-packet-most (Failing fields) most short few = tt
-
-pub voice-most : (outcome : Outcome) → IfRead outcome (λ wrong. wrong ≤ 864) → IfRead outcome (λ wrong. wrong ≤ 25200)
-voice-most (Read wrong) few = omega (arith, few)
-voice-most (Failing fields) few = tt
+pub most-le : (outcome : Outcome) (most : ℕ) → most ≤ 25200 → IfRead outcome (λ wrong. wrong ≤ most) → IfRead outcome (λ wrong. wrong ≤ 25200)
+most-le (Read wrong) most short few = omega (arith, few, short)
+most-le (Failing fields) most short few = tt

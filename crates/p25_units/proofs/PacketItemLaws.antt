@@ -15,7 +15,7 @@ use Rattle.p25_units.specs.Readings.{body_reading_of, reading_from}
 use Rattle.p25_units.specs.Units.{frame_length_of}
 use Rattle.p25_units.specs.declared.frame.Frame.{Frame}
 use Rattle.p25_units.specs.declared.needs.Need.TheVariants.{Length}
-use Rattle.p25_units.proofs.FixingLaws.{fixes_in}
+use Rattle.p25_units.proofs.FixesLaws.{fixes_in}
 use Rattle.p25_units.proofs.KindsLaws.{IsUnitOf-need}
 use Rattle.p25_units.proofs.ReadingsLaws.{IsFrameOf-reading}
 use Rattle.p25_units.proofs.UnitPlaceLaws.{IsCountAt-kind, frame-is, reading-is}

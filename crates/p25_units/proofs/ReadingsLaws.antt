@@ -1,27 +1,23 @@
 -- What units are read as: a frame that was read is sound, can be sent and is as long as its bits, and bits that have few wrong
 -- ones read as the frame. By cases of what it carries.
-use Rattle.std.proofs.Common.{◌≡◌, ◌≢◌, ℕ, ◌*◌, inl, inr, Bool, eqb, List, [], ◌∷◌, length, Option, Some, None, Result, Ok, Err, refl, ap, sym, ◌∙◌, subst, arith}
+use Rattle.std.proofs.Common.{◌≡◌, ◌≢◌, ℕ, ◌*◌, inl, inr, Bool, eqb, List, [], ◌∷◌, length, Option, Some, Result, Ok, Err, refl, ap, sym, ◌∙◌, subst, arith}
 use Rattle.std.specs.Option.{unwrap_or}
 use Rattle.std.proofs.lemmas.Bool.{cases_eq, cond-false, ne_eqb}
 use Rattle.p25_status.specs.Woven.{bare_of, statuses_of}
 use Rattle.p25_status.proofs.WovenLaws.{length-statuses_of}
 use Rattle.p25_status.specs.declared.fields.Field.{Field}
-use Rattle.p25_status.specs.declared.fields.Field.TheVariants.{Nid}
 use Rattle.p25_status.specs.declared.symbols.Status.{Status}
 use Rattle.p25_unit_front.specs.Front.{identifier_of}
 use Rattle.p25_voice_units.specs.declared.unit.VoiceUnit.{VoiceUnit}
 use Rattle.p25_voice_units.specs.Lengths.{voice_duid, voice_length_of}
 use Rattle.p25_voice_units.specs.Readings.{voice_reading_of}
-use Rattle.p25_voice_units.specs.Sendable.{IsSendableVoice}
 use Rattle.p25_voice_units.specs.Images.{voice_image_of}
-use Rattle.p25_voice_units.specs.Places.{IsVoiceImage}
-use Rattle.p25_voice_units.proofs.ImagesLaws.{IsVoiceImage-iff}
+pub use Rattle.p25_voice_units.proofs.RadiusLaws.{IsVoiceImage-same}
 use Rattle.p25_voice_units.proofs.RadiusLaws.{voice_within}
 use Rattle.p25_voice_units.proofs.ReadingLaws.{IsUnitOf as IsVoiceOf, unit_read}
 use Rattle.p25_voice_units.proofs.WholeLaws.{voice_whole}
 use Rattle.p25_voice_units.specs.WithinRadius.{IsVoiceWithin}
 use Rattle.p25_packet_blocks.specs.declared.head.PacketHead.{PacketHead}
-use Rattle.p25_packet_blocks.specs.declared.block.Slot.{Slot}
 use Rattle.p25_packet_blocks.specs.declared.block.Slot.TheVariants.{Good, Bad}
 use Rattle.p25_packet_blocks.specs.declared.packet.Packet.{Packet as packet_type}
 use Rattle.p25_packet_blocks.specs.declared.packet.Packet.TheVariants.{Confirmed, Plain}
@@ -56,10 +52,6 @@ pub reading_from-some : (nid : ℕ × ℕ) (sent : List Bool) → reading_from (
 unfolding reading_from
 reading_from-some nid sent = refl
 
-pub reading_from-none : (sent : List Bool) → reading_from None sent ≡ Err (Nid ∷ [])
-unfolding reading_from
-reading_from-none sent = refl
-
 pub unit_reading_of-read : (sent : List Bool) (read : Option (ℕ × ℕ)) → identifier_of sent ≡ read → unit_reading_of sent ≡ reading_from read sent
 unfolding unit_reading_of
 unit_reading_of-read sent read is = ap (λ r. reading_from r sent) is
@@ -67,10 +59,6 @@ unit_reading_of-read sent read is = ap (λ r. reading_from r sent) is
 pub body_reading_of-packet : (bare : List Bool) → body_reading_of 0xC bare ≡ packet_body_from (packet_reading_of bare)
 unfolding body_reading_of
 body_reading_of-packet bare = refl
-
-pub packet_body_from-bad : (field : Field) → packet_body_from (Err field) ≡ Err (field ∷ [])
-unfolding packet_body_from
-packet_body_from-bad field = refl
 
 pub packet_body_from-read : (packet : packet_type) → packet_body_from (Ok packet) ≡ whole_from packet (failing_blocks_of packet)
 unfolding packet_body_from
@@ -81,9 +69,6 @@ unfolding body_reading_of
 body_reading_of-voice duid bare other = cond-false (eqb duid 0xC) (packet_body_from (packet_reading_of bare)) (body_from (voice_reading_of duid bare)) (ne_eqb duid 0xC other)
 
 -- a packet that can be sent is whole
-some_good : (slot : Slot) (good : Slot) → slot ≡ good → good ≢ Bad → slot ≢ Bad
-some_good slot good is some bad = some (sym is ∙ bad)
-
 pub IsWholePacket-sendable : (packet : packet_type) → IsSendable packet → IsWholePacket packet
 unfolding IsSendable IsWholePacket
 IsWholePacket-sendable (Confirmed packet) sendable = record { at = λ j inside bad. let good = sendable.good.at j (omega (arith, inside, sendable.kind.count)) in let two : Good good.0 ≡ Bad = sym good.1 ∙ bad in cc }
@@ -96,10 +81,6 @@ IsWholeBody-sendable (Voice voice) sendable = tt
 IsWholeBody-sendable (Packet packet) sendable = IsWholePacket-sendable packet sendable
 
 -- What was read.
-
--- the bits of a voice unit are laid out as its kind is
-pub IsVoiceImage-same : (nac : ℕ) (voice : VoiceUnit) → IsSendableVoice voice → IsVoiceImage nac voice (voice_image_of nac voice)
-IsVoiceImage-same nac voice sendable = (IsVoiceImage-iff nac voice (voice_image_of nac voice) sendable).1 refl
 
 -- the header of a packet, of which the length of its unit hangs
 abbrev HasHead : Body → List Bool → Type 0

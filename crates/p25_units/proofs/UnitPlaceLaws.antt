@@ -6,11 +6,10 @@ use Rattle.std.proofs.lemmas.Bool.{cases_lt}
 use Rattle.p25_bits.specs.Bits.{part}
 use Rattle.p25_bits.specs.Distance.{distance_of}
 use Rattle.p25_status.specs.Sync.{sync_bits, sync_slack}
-use Rattle.p25_status.proofs.SyncLaws.{has_sync-yes, has_sync-no}
+use Rattle.p25_status.proofs.SyncLaws.{has_sync-no}
 use Rattle.p25_status.specs.Woven.{bare_of, statuses_of}
 use Rattle.p25_status.proofs.WovenLaws.{length-bare_of}
 use Rattle.p25_status.specs.declared.fields.Field.{Field}
-use Rattle.p25_status.specs.declared.fields.Field.TheVariants.{Nid}
 use Rattle.p25_status.specs.declared.symbols.Status.{Status}
 use Rattle.p25_bch_nid.specs.declared.nid.Nid.{Nid as Identifier}
 use Rattle.p25_unit_front.specs.Front.{identifier_of}
@@ -24,14 +23,14 @@ use Rattle.p25_packet_blocks.proofs.SentLaws.{sent_read_of-bare_of}
 use Rattle.p25_packet_blocks.proofs.UnitLaws.{sent_read_of-take}
 use Rattle.p25_units.specs.Units.{frame_length_of, IsSoundFrame}
 use Rattle.p25_units.specs.Items.{item_from, unit_item_of}
-use Rattle.p25_units.specs.Needs.{need_of, synced_need, kind_need}
+use Rattle.p25_units.specs.Needs.{need_of, kind_need}
 use Rattle.p25_units.specs.Readings.{body_reading_of, frame_from, reading_from, unit_reading_of}
 use Rattle.p25_units.specs.declared.unit.Body.{Body}
 use Rattle.p25_units.specs.declared.frame.Frame.{Frame}
 use Rattle.p25_units.specs.declared.item.Item.{Item}
-use Rattle.p25_units.specs.declared.needs.Need.TheVariants.{NoSync, More, Length, NoLength}
+use Rattle.p25_units.specs.declared.needs.Need.TheVariants.{NoSync, Length}
 use Rattle.p25_units.proofs.UnitsLaws.{IsSentLength-voice}
-use Rattle.p25_units.proofs.NeedsLaws.{IsIdentified-from, IsHead-kind, need_of-there, need_of-short, need_of-unsynced, need_of-synced, synced_need-short, synced_need-read, identified_need-none, identified_need-some}
+use Rattle.p25_units.proofs.NeedsLaws.{IsIdentified-from, IsHead-kind, need_of-there, need_of-unsynced}
 use Rattle.p25_units.proofs.KindsLaws.{IsUnitOf-need}
 use Rattle.p25_units.proofs.ReadingsLaws.{IsFrameOf-reading, reading_from-some, unit_reading_of-read}
 use Rattle.p25_units.proofs.ItemsLaws.{unit_item_of-some}
@@ -163,28 +162,8 @@ IsPacketAt-kind bits at count inside kind =
           }
     ]
 
--- what is needed by what was read
-pub need-short : (bits : List Bool) (at : ℕ) → length bits - at < 48 → More 48 ≡ need_of (drop at bits)
-need-short bits at short = sym (need_of-short (drop at bits) (omega (arith, length-drop at bits)))
-
-pub need-cut : (bits : List Bool) (at : ℕ) → length bits - at < 114 → More 114 ≡ synced_need (drop at bits)
-need-cut bits at short = sym (synced_need-short (drop at bits) (omega (arith, length-drop at bits)))
-
-pub need-none : (bits : List Bool) (at : ℕ) → at ≤ length bits → 114 ≤ length bits - at → option_map (λ (n : Identifier). (n.nac, n.duid)) None ≡ identifier_of (drop at bits)
-    → NoLength Nid ≡ synced_need (drop at bits)
-need-none bits at inside long read =
-    sym (synced_need-read (drop at bits) None (omega (arith, length-drop at bits)) (sym read) ∙ identified_need-none (drop at bits))
-
-pub need-some : (bits : List Bool) (at : ℕ) (nid : Identifier) → at ≤ length bits → 114 ≤ length bits - at
-    → option_map (λ (n : Identifier). (n.nac, n.duid)) (Some nid) ≡ identifier_of (drop at bits) → kind_need nid.duid (drop at bits) ≡ synced_need (drop at bits)
-need-some bits at nid inside long read =
-    sym (synced_need-read (drop at bits) (Some (nid.nac, nid.duid)) (omega (arith, length-drop at bits)) (sym read) ∙ identified_need-some (nid.nac, nid.duid) (drop at bits))
-
--- a place has a sync or none
+-- a place has no sync
 pub need-unsynced : (bits : List Bool) (at : ℕ) → at ≤ length bits → 48 ≤ length bits - at → (distance_of (part at 48 bits) sync_bits ≤ sync_slack → ⊥) → NoSync ≡ need_of (drop at bits)
 need-unsynced bits at inside long far =
     sym (need_of-unsynced (drop at bits) (omega (arith, length-drop at bits))
     (has_sync-no (drop at bits) (elim (cases_lt sync_slack (distance_of (part at 48 bits) sync_bits)) [ inl more ↦ more | inr few ↦ absurd (far few) ])))
-
-pub need-synced : (bits : List Bool) (at : ℕ) → at ≤ length bits → 48 ≤ length bits - at → distance_of (part at 48 bits) sync_bits ≤ sync_slack → synced_need (drop at bits) ≡ need_of (drop at bits)
-need-synced bits at inside long near = sym (need_of-synced (drop at bits) (has_sync-yes (drop at bits) (omega (arith, length-drop at bits)) near))

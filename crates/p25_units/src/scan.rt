@@ -3,8 +3,7 @@
 ghost use Rattle.std.specs.Prelude.{◌≡◌, ◌+◌, ◌≤◌, true, length, drop};
 ghost use Rattle.p25_status.specs.Sync.{has_sync};
 ghost use Rattle.p25_units.specs.Begins.{IsBegun};
-ghost use Rattle.p25_units.specs.Needs.{kind_need, length_need, need_of, packet_need, synced_need, voice_need};
-ghost use Rattle.p25_voice_units.specs.Lengths.{voice_length_of};
+ghost use Rattle.p25_units.specs.Needs.{kind_need, length_need, need_of, packet_need};
 
 use crate::begun::Begun;
 use crate::needs::Need;
@@ -45,7 +44,7 @@ pub fn need_with(bits: &BitBuf, at: usize, begun: &mut Begun) -> Need
     if !is_sync(bits, at) {
         return Need::NoSync;
     }
-    need_at_sync(bits, at, begun)
+    need_synced(bits, at, begun)
 }
 
 /// Answers what `need_with` answers, where a sync was found at place `at` before.
@@ -54,16 +53,6 @@ pub fn need_synced(bits: &BitBuf, at: usize, begun: &mut Begun) -> Need
     requires synced { has_sync (drop at bits.now) ≡ true }
     requires begun { IsBegun begun.old (drop at bits.now) }
     ensures need { result ≡ need_of (drop at bits.now) }
-    ensures begun { IsBegun begun.new (drop at bits.now) }
-{
-    need_at_sync(bits, at, begun)
-}
-
-// What is needed at a sync.
-fn need_at_sync(bits: &BitBuf, at: usize, begun: &mut Begun) -> Need
-    requires there { at ≤ length bits.now }
-    requires begun { IsBegun begun.old (drop at bits.now) }
-    ensures need { result ≡ synced_need (drop at bits.now) }
     ensures begun { IsBegun begun.new (drop at bits.now) }
 {
     if bits.len() - at < IDENTIFIED {
@@ -85,16 +74,12 @@ fn need_of_kind(duid: u8, bits: &BitBuf, at: usize, begun: &mut Begun) -> Need
     if duid == PDU {
         return need_of_packet(bits, at, begun);
     }
-    need_of_voice(duid, bits.len() - at)
-}
-
-// What the voice unit (HDU, LDU1, LDU2, TDU or TDULC) of a DUID needs where so many bits are there.
-fn need_of_voice(duid: u8, have: usize) -> Need
-    ensures { result ≡ voice_need (voice_length_of duid) have }
-{
     match voice_length(duid) {
         None => Need::NoLength(Field::Duid),
-        Some(bare) => need_of_length(bare / BARE_BLOCK_LENGTH * SENT_BLOCK_LENGTH, have),
+        Some(bare) => need_of_length(
+            bare / BARE_BLOCK_LENGTH * SENT_BLOCK_LENGTH,
+            bits.len() - at,
+        ),
     }
 }
 

@@ -1,6 +1,6 @@
 -- The fixes of a unit by its parts: in the image the inner words are those of the unit's symbols, and the low speed words those of its
 -- octets, so the looked-at bits differ in so many places from them.
-use Rattle.std.proofs.Common.{◌≡◌, ℕ, ◌+◌, ◌≤◌, Bool, List, [], ◌∷◌, ◌++◌, length, All, refl, ap, ap₂, sym, ◌∙◌, arith, lit<}
+use Rattle.std.proofs.Common.{◌≡◌, ℕ, ◌+◌, ◌≤◌, Bool, List, [], ◌++◌, length, slice_index, All, refl, ap, ap₂, sym, ◌∙◌, arith, lit<}
 use Rattle.std.specs.Bool.{beq}
 use Rattle.std.proofs.lemmas.List.{append-nil}
 use Rattle.std.proofs.lemmas.List.Folds.{flat_map-map}
@@ -9,26 +9,27 @@ use Rattle.p25_bits.specs.Distance.{distance_of}
 use Rattle.p25_bits.proofs.DistanceLaws.{distance_by-append, distance_of-same}
 use Rattle.p25_bits.proofs.PartLaws.{length-part}
 use Rattle.p25_gf64.specs.declared.symbol.Sym.{Sym}
-use Rattle.p25_link.specs.declared.encryption_sync.EncryptionSync.{EncryptionSync}
 use Rattle.p25_link.specs.declared.header_word.HeaderWord.{HeaderWord}
 use Rattle.p25_link.specs.declared.link_control.LinkControl.{LinkControl}
-use Rattle.p25_link.specs.Words.{header_symbols, link_symbols, sync_symbols}
+use Rattle.p25_link.specs.Words.{header_symbols, link_symbols}
 use Rattle.p25_reed_solomon.specs.Encoding.{rs_word}
+use Rattle.p25_reed_solomon.specs.Words.{IsCode}
 use Rattle.p25_coded_fields.specs.Fixes.{inner_bits, field_fixes_of}
 use Rattle.p25_coded_fields.specs.Layouts.{field_bits, places_from}
 use Rattle.p25_coded_fields.proofs.CodesLaws.{all_end}
 use Rattle.p25_voice_units.specs.declared.layout.Piece.TheVariants.{Nulls}
-use Rattle.p25_voice_units.specs.declared.unit.VoiceUnit.TheVariants.{Header, Link1, Link2, End, EndLink}
+use Rattle.p25_voice_units.specs.declared.unit.VoiceUnit.{VoiceUnit, TheVariants.{Header, End, EndLink}}
+use Rattle.p25_unit_front.specs.Front.{unit_front}
 use Rattle.p25_voice_units.specs.declared.voice.VoiceFrame.{VoiceFrame}
 use Rattle.p25_voice_units.specs.FieldLayouts.{word_places}
 use Rattle.p25_voice_units.specs.Fixes.{wide, bits_at, link_looked, low_fixes_of, voice_looked, voice_fixes_of, AreFixes}
-use Rattle.p25_voice_units.specs.Images.{golay18_word, golay24_word, hamming10_word, lsd16_word, piece_bits, voice_image_of}
+use Rattle.p25_voice_units.specs.Images.{contents, golay18_word, golay24_word, hamming10_word, lsd16_word, piece_bits, rows_bits, voice_body, voice_image_of}
 use Rattle.p25_voice_units.specs.Layouts.{hdu_rows, ldu_rows, tdulc_rows}
 use Rattle.p25_voice_units.specs.Readings.{low_places}
 use Rattle.p25_voice_units.specs.Sendable.{IsSpeech}
 use Rattle.p25_voice_units.proofs.FixesLaws.{fixes-append}
 use Rattle.p25_voice_units.proofs.FormLaws.{length-unit, unit_parts, words_in_unit}
-use Rattle.p25_voice_units.proofs.ImagesLaws.{header_carries, header_suits, header_bits, ldu1_carries, ldu1_suits, ldu1_bits, ldu2_carries, ldu2_suits, ldu2_bits, tdulc_carries, tdulc_suits, tdulc_bits}
+use Rattle.p25_voice_units.proofs.ImagesLaws.{golay18_carried, golay24_carried, hamming10_carried, header_suits, ldu_suits, tdulc_suits}
 
 -- places of one width
 bits_at-inner : (width : ℕ) (places : List ℕ) (bits : List Bool) → bits_at (wide width places) bits ≡ inner_bits width places bits
@@ -77,53 +78,38 @@ link_distance symbols first second received image there there_image is is_first 
 
 -- the fixes of each kind
 pub header_fixes : (word : HeaderWord) (received : List Bool) (fixes : ℕ) → fixes ≡ field_fixes_of golay18_word 18 1 (word_places 18 hdu_rows) (rs_word 36 20 (header_symbols word)) received → AreFixes (Header word) received fixes
-unfolding voice_fixes_of voice_looked
+unfolding voice_fixes_of voice_looked voice_image_of voice_body
 header_fixes word received fixes is = record {
   value = λ nac.
-      let image = voice_image_of nac (Header word) in
-      is ∙ sym (field_distance golay18_word 18 1 (word_places 18 hdu_rows) (rs_word 36 20 (header_symbols word)) received image (words_in_unit (header_carries word) (header_suits word) nac 0 image (header_bits nac word)));
+      let symbols = rs_word 36 20 (header_symbols word) in
+      is ∙ sym (field_distance golay18_word 18 1 (word_places 18 hdu_rows) symbols received (voice_image_of nac (Header word)) (words_in_unit (golay18_carried symbols) (header_suits word) nac 0 _ refl));
 }
 
 pub tdulc_fixes : (link : LinkControl) (received : List Bool) (fixes : ℕ) → fixes ≡ field_fixes_of golay24_word 24 2 (word_places 24 tdulc_rows) (rs_word 24 12 (link_symbols link)) received → AreFixes (EndLink link) received fixes
-unfolding voice_fixes_of voice_looked
+unfolding voice_fixes_of voice_looked voice_image_of voice_body
 tdulc_fixes link received fixes is = record {
   value = λ nac.
-      let image = voice_image_of nac (EndLink link) in
-      is ∙ sym (field_distance golay24_word 24 2 (word_places 24 tdulc_rows) (rs_word 24 12 (link_symbols link)) received image (words_in_unit (tdulc_carries link) (tdulc_suits link) nac 15 image (tdulc_bits nac link)));
+      let symbols = rs_word 24 12 (link_symbols link) in
+      is ∙ sym (field_distance golay24_word 24 2 (word_places 24 tdulc_rows) symbols received (voice_image_of nac (EndLink link)) (words_in_unit (golay24_carried symbols) (tdulc_suits link) nac 15 _ refl));
 }
 
-pub ldu1_fixes : (link : LinkControl) (first second : ℕ) (voice : List VoiceFrame) (received : List Bool) (fixes : ℕ) → IsSpeech (first ∷ second ∷ []) voice → 1680 ≤ length received
-    → fixes ≡ field_fixes_of hamming10_word 10 1 (word_places 10 ldu_rows) (rs_word 24 12 (link_symbols link)) received + (low_fixes_of 0 first received + low_fixes_of 1 second received)
-    → AreFixes (Link1 link (first ∷ second ∷ []) voice) received fixes
-unfolding voice_fixes_of voice_looked piece_bits
-ldu1_fixes link first second voice received fixes speech there is = record {
+-- of a unit with voice by the information of its coded field, as its image and its looked-at places have it
+pub ldu_fixes : (unit : VoiceUnit) (duid k : ℕ) (info : List Sym) (low : List ℕ) (voice : List VoiceFrame) (received : List Bool) (fixes : ℕ) → IsCode 24 k → length info ≡ k → IsSpeech low voice → 1680 ≤ length received
+    → voice_looked unit ≡ link_looked → ((nac : ℕ) → voice_image_of nac unit ≡ unit_front nac duid ++ rows_bits (contents hamming10_word 1 (rs_word 24 k info) low voice) ldu_rows)
+    → fixes ≡ field_fixes_of hamming10_word 10 1 (word_places 10 ldu_rows) (rs_word 24 k info) received + (low_fixes_of 0 (slice_index low 0) received + low_fixes_of 1 (slice_index low 1) received)
+    → AreFixes unit received fixes
+unfolding voice_fixes_of piece_bits
+ldu_fixes unit duid k info low voice received fixes code is speech there looked made count = record {
   value = λ nac.
-      let low = first ∷ second ∷ [] in
-      let image = voice_image_of nac (Link1 link low voice) in
-      let carries = ldu1_carries link low voice speech in
-      let suits = ldu1_suits link low voice speech in
-      let whole = ldu1_bits nac link low voice in
-      let parts = unit_parts carries suits nac 5 image whole in
-      let long : length image ≡ 1680 = ap length whole ∙ length-unit carries suits nac 5 in
-      is
-      ∙ sym (link_distance (rs_word 24 12 (link_symbols link)) first second received image there (omega arith) (words_in_unit carries suits nac 5 image whole) (parts 14 (0, Nulls 0) (lit< tt)) (parts 15 (0, Nulls 0) (lit< tt)));
-}
-
-pub ldu2_fixes : (sync : EncryptionSync) (first second : ℕ) (voice : List VoiceFrame) (received : List Bool) (fixes : ℕ) → IsSpeech (first ∷ second ∷ []) voice → 1680 ≤ length received
-    → fixes ≡ field_fixes_of hamming10_word 10 1 (word_places 10 ldu_rows) (rs_word 24 16 (sync_symbols sync)) received + (low_fixes_of 0 first received + low_fixes_of 1 second received)
-    → AreFixes (Link2 sync (first ∷ second ∷ []) voice) received fixes
-unfolding voice_fixes_of voice_looked piece_bits
-ldu2_fixes sync first second voice received fixes speech there is = record {
-  value = λ nac.
-      let low = first ∷ second ∷ [] in
-      let image = voice_image_of nac (Link2 sync low voice) in
-      let carries = ldu2_carries sync low voice speech in
-      let suits = ldu2_suits sync low voice speech in
-      let whole = ldu2_bits nac sync low voice in
-      let parts = unit_parts carries suits nac 10 image whole in
-      let long : length image ≡ 1680 = ap length whole ∙ length-unit carries suits nac 10 in
-      is
-      ∙ sym (link_distance (rs_word 24 16 (sync_symbols sync)) first second received image there (omega arith) (words_in_unit carries suits nac 10 image whole) (parts 14 (0, Nulls 0) (lit< tt)) (parts 15 (0, Nulls 0) (lit< tt)));
+      let image = voice_image_of nac unit in
+      let symbols = rs_word 24 k info in
+      let carries = hamming10_carried symbols low voice speech in
+      let suits = ldu_suits k info low voice code is speech in
+      let parts = unit_parts carries suits nac duid image (made nac) in
+      let long : length image ≡ 1680 = ap length (made nac) ∙ length-unit carries suits nac duid in
+      count
+      ∙ sym (ap (λ places. distance_of (bits_at places received) (bits_at places image)) looked
+      ∙ link_distance symbols (slice_index low 0) (slice_index low 1) received image there (omega arith) (words_in_unit carries suits nac duid image (made nac)) (parts 14 (0, Nulls 0) (lit< tt)) (parts 15 (0, Nulls 0) (lit< tt)));
 }
 
 pub end_fixes : (received : List Bool) → AreFixes End received 0

@@ -1,7 +1,7 @@
 -- A unit's bits by its places: a unit is laid out and carries its coded field exactly where its bits are its front and the pieces of its
 -- rows. One way goes from the words of the field to the pieces and then to the whole, the other way back.
-use Rattle.std.proofs.Common.{◌≡◌, ℕ, ◌+◌, ◌*◌, ◌<◌, ◌≤◌, Bool, true, List, ◌++◌, length, take, get_or, All, ap, ap₂, sym, subst, ◌∙◌, arith, length-append, take-append-drop, Option}
-use Rattle.std.specs.List.{flat_map, list_all}
+use Rattle.std.proofs.Common.{◌≡◌, ◌↔◌, ℕ, ◌+◌, ◌*◌, ◌<◌, ◌≤◌, Bool, true, List, ◌++◌, length, take, get_or, All, ap, ap₂, sym, subst, ◌∙◌, arith, length-append, take-append-drop, Option}
+use Rattle.std.specs.List.{list_all}
 use Rattle.std.specs.Prelude.{nat_le}
 use Rattle.std.proofs.lemmas.Bool.{leb-true}
 use Rattle.std.proofs.lemmas.List.Sums.{AllPass-from_list_all}
@@ -9,16 +9,19 @@ use Rattle.std.proofs.lemmas.List.{get_or_default}
 use Rattle.p25_bits.specs.Bits.{part}
 use Rattle.p25_bits.proofs.NumbersLaws.{joined_below-same}
 use Rattle.p25_code.specs.Words.{IsEncoding}
-use Rattle.std.proofs.lemmas.List.{take_all, take_at}
+use Rattle.std.proofs.lemmas.List.{take_at}
 use Rattle.p25_gf64.specs.declared.symbol.Sym.{Sym}
 use Rattle.p25_link.specs.Symbols.{symbol_bits}
+use Rattle.p25_reed_solomon.specs.Encoding.{rs_word}
+use Rattle.p25_reed_solomon.specs.RsReadings.{rs_erased_reading_of}
+use Rattle.p25_reed_solomon.specs.Words.{IsCode, IsWord as IsOuterWord}
+use Rattle.p25_reed_solomon.proofs.EncodingLaws.{IsEncoding-rs_word, rs_word-only}
 use Rattle.p25_unit_front.specs.Front.{unit_front, IsFront}
 use Rattle.p25_unit_front.proofs.FrontLaws.{length-unit_front, IsFront-unit_front, unit_front-only}
 use Rattle.p25_coded_fields.specs.Fixes.{inner_bits}
-use Rattle.p25_coded_fields.specs.Layouts.{field_bits, field_layout, sent_in}
+use Rattle.p25_coded_fields.specs.Layouts.{Layout, field_bits, field_layout, sent_in}
 use Rattle.p25_coded_fields.specs.Within.{HasField}
-use Rattle.p25_coded_fields.proofs.FieldLaws.{field_there, field_word, flat_map_by_place}
-use Rattle.p25_coded_fields.proofs.FieldWordsLaws.{field_word_there}
+use Rattle.p25_coded_fields.proofs.FieldLaws.{field_there, field_word, field_word_there, flat_map_places}
 use Rattle.p25_voice_units.specs.declared.layout.Piece.{Piece}
 use Rattle.p25_voice_units.specs.FieldLayouts.{word_places}
 use Rattle.p25_voice_units.specs.Pieces.{piece_length}
@@ -27,17 +30,15 @@ use Rattle.p25_voice_units.specs.Places.{IsLaidOut}
 use Rattle.p25_voice_units.proofs.RowsLaws.{IsCarried, rows_length, rows_stand, rows_supplied, length-rows_bits, rows_parts, rows_only}
 use Rattle.p25_voice_units.proofs.FieldRowsLaws.{rows_counted, group_word, words_from_rows, rows_from_words, rows_have}
 
--- rows that suit what is carried: they follow the front end to end, and number its inner words in order
+-- rows that suit what is carried: they follow the front end to end, and number its inner words in order; and these are as many as the
+-- symbols need, and stand within the unit
 pub record AreRows (size count : ℕ) (carried : Contents) (rows : List (ℕ × Piece)) : Type 0 where
   pub stand : rows_stand size 112 rows ≡ true
   pub fit : rows_supplied carried.each (length carried.symbols) (length carried.low) (length carried.voice) rows ≡ true
   pub counted : rows_counted 0 rows ≡ true
   pub fill : count ≡ 112 + rows_length size rows
-
--- the inner words are as many as the symbols need, and stand within the unit
-pub record AreWordPlaces (size count : ℕ) (carried : Contents) (places : List ℕ) : Type 0 where
-  pub cover : carried.each * length places ≡ length carried.symbols
-  pub inside : list_all (λ at. nat_le (at + size) count) places ≡ true
+  pub cover : carried.each * length (word_places size rows) ≡ length carried.symbols
+  pub inside : list_all (λ at. nat_le (at + size) count) (word_places size rows) ≡ true
 
 module _ {IsWord : List Bool → Type 0} {size k : ℕ} {carried : Contents} (carries : IsCarried IsWord size k carried) {count : ℕ} {table : List (ℕ × Piece)} (are : AreRows size count carried table) where
   -- the bits of a unit are as many as they should be
@@ -73,50 +74,53 @@ module _ {IsWord : List Bool → Type 0} {size k : ℕ} {carried : Contents} (ca
   unfolding inner_bits field_bits group_word
   words_in_unit nac duid bare is =
       let places = word_places size table in
-      let every : length places ≤ length places = omega arith in
       let run : ℕ → List Bool = λ at. part at size bare in
       let word : ℕ → List Bool = λ i. carried.encoding (symbol_bits (part (carried.each * i) carried.each carried.symbols)) in
-      ap (flat_map run) (sym (take_all (length places) places every))
-      ∙ flat_map_by_place run places 0 (length places) every
+      flat_map_places run places 0
       ∙ joined_below-same (length places) (λ i. run (get_or places i 0)) word
       (λ i inside. let none : 0 + i ≡ i = omega arith in words_from_rows carries table 0 bare are.counted are.fit (unit_parts nac duid bare is) i inside ∙ ap word none)
 
-  module _ (places : AreWordPlaces size count carried (word_places size table)) where
-    within : (bare : List Bool) → length bare ≡ count → All (λ at. at + size ≤ length bare) (word_places size table)
-    within bare long i d inside =
-        subst (λ m. get_or (word_places size table) i d + size ≤ m) (sym long) (leb-true _ count (AllPass-from_list_all (λ at. nat_le (at + size) count) (word_places size table) places.inside i d inside))
+  within : (bare : List Bool) → length bare ≡ count → All (λ at. at + size ≤ length bare) (word_places size table)
+  within bare long i d inside =
+      subst (λ m. get_or (word_places size table) i d + size ≤ m) (sym long) (leb-true _ count (AllPass-from_list_all (λ at. nat_le (at + size) count) (word_places size table) are.inside i d inside))
 
-    -- the inner word of a group carries it
-    group_encoded : (i : ℕ) → i < length (word_places size table) → IsEncoding IsWord k (symbol_bits (part (carried.each * i) carried.each carried.symbols)) (group_word carries (0 + i))
-    unfolding group_word
-    group_encoded i inside =
-        let none : 0 + i ≡ i = omega arith in
-        let group = part (carried.each * i) carried.each carried.symbols in
-        subst (λ m. IsEncoding IsWord k (symbol_bits group) (carried.encoding (symbol_bits (part (carried.each * m) carried.each carried.symbols)))) (sym none)
-        (field_word carries.long carried.encoding carries.encodes carried.each (length (word_places size table)) carried.symbols carries.sixes places.cover i inside)
+  -- the inner word of a group carries it
+  group_encoded : (i : ℕ) → i < length (word_places size table) → IsEncoding IsWord k (symbol_bits (part (carried.each * i) carried.each carried.symbols)) (group_word carries (0 + i))
+  unfolding group_word
+  group_encoded i inside =
+      let none : 0 + i ≡ i = omega arith in
+      let group = part (carried.each * i) carried.each carried.symbols in
+      subst (λ m. IsEncoding IsWord k (symbol_bits group) (carried.encoding (symbol_bits (part (carried.each * m) carried.each carried.symbols)))) (sym none)
+      (field_word carries.long carried.encoding carries.encodes carried.each (length (word_places size table)) carried.symbols carries.sixes are.cover i inside)
 
-    module _ (inner_reading : List Bool → Option (List Bool)) (outer_reading : List (Option Sym) → Option (List Sym)) (n : ℕ) {IsOuterWord : List Sym → Type 0} where
-      -- the unit carries its field
-      pub field_carried : (info : List Sym) → IsEncoding IsOuterWord n info carried.symbols → (nac duid : ℕ) (bare : List Bool) → bare ≡ unit_front nac duid ++ rows_bits carried table
-          → HasField IsWord IsOuterWord (field_layout (word_places size table) size carried.each inner_reading outer_reading n) info bare
-      field_carried info outer nac duid bare is =
-          let layout = field_layout (word_places size table) size carried.each inner_reading outer_reading n in
-          let words = words_from_rows carries table 0 bare are.counted are.fit (unit_parts nac duid bare is) in
-          subst (λ xs. HasField IsWord IsOuterWord layout xs bare) outer.begins
-          (field_there layout k carried.symbols bare carries.sixes carries.begins places.cover (within bare (ap length is ∙ length-unit nac duid)) outer.word_of_set
-          (λ i d inside.
-          subst (λ w. IsEncoding IsWord k (symbol_bits (part (carried.each * i) carried.each carried.symbols)) w)
-          (sym (ap (λ m. part m size bare) (get_or_default (word_places size table) i d 0 inside) ∙ words i inside))
-          (group_encoded i inside)))
+  -- where the symbols are the outer word of some information
+  module _ (n information : ℕ) (code : IsCode n information) (info : List Sym) (long : length info ≡ information) (made : carried.symbols ≡ rs_word n information info) (inner_reading : List Bool → Option (List Bool)) where
+    abbrev coded : Layout
+    coded = field_layout (word_places size table) size carried.each inner_reading (rs_erased_reading_of n information) information
 
-      -- what carries the field has its words
-      pub words_carried : (info : List Sym) → ((word : List Sym) → IsEncoding IsOuterWord n info word → word ≡ carried.symbols) → (bare : List Bool) → length bare ≡ count
-          → HasField IsWord IsOuterWord (field_layout (word_places size table) size carried.each inner_reading outer_reading n) info bare
-          → (i : ℕ) → i < length (word_places size table) → part (get_or (word_places size table) i 0) size bare ≡ group_word carries (0 + i)
-      words_carried info only bare long has i inside =
-          let layout = field_layout (word_places size table) size carried.each inner_reading outer_reading n in
-          let sent = only (sent_in layout bare) (record { word_of_set = has.outer; begins = has.begins }) in
-          let there = field_word_there layout k info bare carries.sixes carries.begins (within bare long) has i inside in
-          let made = group_encoded i inside in
-          carries.one_word (part (get_or (word_places size table) i 0) size bare) (group_word carries (0 + i)) there.word_of_set made.word_of_set
-          (there.begins ∙ ap (λ (xs : List Sym). symbol_bits (part (carried.each * i) carried.each xs)) sent ∙ sym made.begins)
+    -- the unit carries its field
+    field_carried : (nac duid : ℕ) (bare : List Bool) → bare ≡ unit_front nac duid ++ rows_bits carried table → HasField IsWord (IsOuterWord n information) coded info bare
+    field_carried nac duid bare is =
+        let outer = subst (IsEncoding (IsOuterWord n information) information info) (sym made) (IsEncoding-rs_word n information info code long) in
+        let words = words_from_rows carries table 0 bare are.counted are.fit (unit_parts nac duid bare is) in
+        subst (λ xs. HasField IsWord (IsOuterWord n information) coded xs bare) outer.begins
+        (field_there coded k carried.symbols bare carries.sixes carries.begins are.cover (within bare (ap length is ∙ length-unit nac duid)) outer.word_of_set
+        (λ i d inside.
+        subst (λ w. IsEncoding IsWord k (symbol_bits (part (carried.each * i) carried.each carried.symbols)) w)
+        (sym (ap (λ m. part m size bare) (get_or_default (word_places size table) i d 0 inside) ∙ words i inside))
+        (group_encoded i inside)))
+
+    -- what carries the field has its words
+    words_carried : (bare : List Bool) → length bare ≡ count → HasField IsWord (IsOuterWord n information) coded info bare
+        → (i : ℕ) → i < length (word_places size table) → part (get_or (word_places size table) i 0) size bare ≡ group_word carries (0 + i)
+    words_carried bare filled has i inside =
+        let sent = rs_word-only n information info (sent_in coded bare) code long (record { word_of_set = has.outer; begins = has.begins }) ∙ sym made in
+        let there = field_word_there coded k info bare carries.sixes carries.begins (within bare filled) has i inside in
+        let encoded = group_encoded i inside in
+        carries.one_word (part (get_or (word_places size table) i 0) size bare) (group_word carries (0 + i)) there.word_of_set encoded.word_of_set
+        (there.begins ∙ ap (λ (xs : List Sym). symbol_bits (part (carried.each * i) carried.each xs)) sent ∙ sym encoded.begins)
+
+    -- so bits are laid out and carry the field exactly where they are the unit's
+    pub unit_form : (nac duid : ℕ) (bare : List Bool) → (IsLaidOut nac duid count table carried.low carried.voice bare × HasField IsWord (IsOuterWord n information) coded info bare)
+        ↔ (bare ≡ unit_front nac duid ++ rows_bits carried table)
+    unit_form nac duid bare = (λ (laid, has). laid_out-only nac duid bare laid (words_carried bare laid.long has), λ is. (laid_out nac duid bare is, field_carried nac duid bare is))

@@ -1,5 +1,5 @@
 -- How many bits the kinds of voice units have, each by its data unit identifier.
-use Rattle.std.proofs.Common.{◌≡◌, ◌≢◌, ℕ, ◌%◌, ◌≤◌, eqb, Some, None, refl, ap, sym, subst, ◌∙◌, inl, inr, lit≤}
+use Rattle.std.proofs.Common.{◌≡◌, ◌≢◌, ℕ, ◌%◌, ◌≤◌, eqb, cond, Some, None, refl, sym, subst, ◌∙◌, inl, inr, lit≤}
 use Rattle.std.proofs.lemmas.Bool.{cond-false, ne_eqb, cases_eq}
 use Rattle.p25_voice_units.specs.Lengths.{voice_length_of}
 
@@ -23,43 +23,55 @@ pub length-tdulc : voice_length_of 15 ≡ Some 420
 unfolding voice_length_of
 length-tdulc = refl
 
--- an identifier of no voice unit
-pub length-other : (duid : ℕ) → duid ≢ 0 → duid ≢ 3 → duid ≢ 5 → duid ≢ 10 → duid ≢ 15 → voice_length_of duid ≡ None
-unfolding voice_length_of
-length-other duid header end ldu1 ldu2 tdulc =
-    cond-false (eqb duid 0) _ _ (ne_eqb duid 0 header)
-    ∙ cond-false (eqb duid 3) _ _ (ne_eqb duid 3 end)
-    ∙ cond-false (eqb duid 5) _ _ (ne_eqb duid 5 ldu1)
-    ∙ cond-false (eqb duid 10) _ _ (ne_eqb duid 10 ldu2)
-    ∙ cond-false (eqb duid 15) _ _ (ne_eqb duid 15 tdulc)
+-- what is chosen by the identifier of a voice unit's kind, or of none: so it is for all where it is for each
+module _ {X : Type 0} (header end ldu1 ldu2 tdulc other : X) where
+  abbrev by_duid : ℕ → X
+  by_duid duid = cond (eqb duid 0) header (cond (eqb duid 3) end (cond (eqb duid 5) ldu1 (cond (eqb duid 10) ldu2 (cond (eqb duid 15) tdulc other))))
 
--- an identifier of a length is one of these
-pub length-cases : (P : ℕ → ℕ → Type 0) → P 0 770 → P 3 140 → P 5 1680 → P 10 1680 → P 15 420 → (duid count : ℕ) → voice_length_of duid ≡ Some count → P duid count
-length-cases P header end ldu1 ldu2 tdulc duid count is =
-    elim (cases_eq duid 0) [
-      | inl same ↦ at 0 770 same length-header header
-      | inr not_header ↦ elim (cases_eq duid 3) [
-        | inl same ↦ at 3 140 same length-end end
-        | inr not_end ↦ elim (cases_eq duid 5) [
-          | inl same ↦ at 5 1680 same length-ldu1 ldu1
-          | inr not_ldu1 ↦ elim (cases_eq duid 10) [
-            | inl same ↦ at 10 1680 same length-ldu2 ldu2
-            | inr not_ldu2 ↦ elim (cases_eq duid 15) [
-              | inl same ↦ at 15 420 same length-tdulc tdulc
-              | inr not_tdulc ↦
-                  let none : None ≡ Some count = sym (length-other duid not_header not_end not_ldu1 not_ldu2 not_tdulc) ∙ is in
-                  absurd (cc)
+  pub by_duid-other : (duid : ℕ) → duid ≢ 0 → duid ≢ 3 → duid ≢ 5 → duid ≢ 10 → duid ≢ 15 → by_duid duid ≡ other
+  by_duid-other duid no_header no_end no_ldu1 no_ldu2 no_tdulc =
+      cond-false (eqb duid 0) _ _ (ne_eqb duid 0 no_header)
+      ∙ cond-false (eqb duid 3) _ _ (ne_eqb duid 3 no_end)
+      ∙ cond-false (eqb duid 5) _ _ (ne_eqb duid 5 no_ldu1)
+      ∙ cond-false (eqb duid 10) _ _ (ne_eqb duid 10 no_ldu2)
+      ∙ cond-false (eqb duid 15) _ _ (ne_eqb duid 15 no_tdulc)
+
+  pub by_duid-cases : (P : ℕ → X → Type 0) → P 0 header → P 3 end → P 5 ldu1 → P 10 ldu2 → P 15 tdulc → ((duid : ℕ) → P duid other) → (duid : ℕ) → P duid (by_duid duid)
+  by_duid-cases P of_header of_end of_ldu1 of_ldu2 of_tdulc of_other duid =
+      elim (cases_eq duid 0) [
+        | inl same ↦ at 0 same of_header
+        | inr no_header ↦ elim (cases_eq duid 3) [
+          | inl same ↦ at 3 same of_end
+          | inr no_end ↦ elim (cases_eq duid 5) [
+            | inl same ↦ at 5 same of_ldu1
+            | inr no_ldu1 ↦ elim (cases_eq duid 10) [
+              | inl same ↦ at 10 same of_ldu2
+              | inr no_ldu2 ↦ elim (cases_eq duid 15) [
+                | inl same ↦ at 15 same of_tdulc
+                | inr no_tdulc ↦ subst (P duid) (sym (by_duid-other duid no_header no_end no_ldu1 no_ldu2 no_tdulc)) (of_other duid)
+              ]
             ]
           ]
         ]
       ]
-    ]
+    where
+      at : (kind : ℕ) → duid ≡ kind → P kind (by_duid kind) → P duid (by_duid duid)
+      at kind same holds = subst (λ d. P d (by_duid d)) (sym same) holds
+
+-- an identifier of no voice unit
+pub length-other : (duid : ℕ) → duid ≢ 0 → duid ≢ 3 → duid ≢ 5 → duid ≢ 10 → duid ≢ 15 → voice_length_of duid ≡ None
+unfolding voice_length_of
+length-other = by_duid-other (Some 770) (Some 140) (Some 1680) (Some 1680) (Some 420) None
+
+-- an identifier of a length is one of these
+pub length-cases : (P : ℕ → ℕ → Type 0) → P 0 770 → P 3 140 → P 5 1680 → P 10 1680 → P 15 420 → (duid count : ℕ) → voice_length_of duid ≡ Some count → P duid count
+unfolding voice_length_of
+length-cases P header end ldu1 ldu2 tdulc duid count =
+    by_duid-cases (Some 770) (Some 140) (Some 1680) (Some 1680) (Some 420) None (λ d found. found ≡ Some count → P d count)
+    (at 0 770 header) (at 3 140 end) (at 5 1680 ldu1) (at 10 1680 ldu2) (at 15 420 tdulc) (λ d none. absurd (cc)) duid
   where
-    at : (k n : ℕ) → duid ≡ k → voice_length_of k ≡ Some n → P k n → P duid count
-    at k n same length_is holds =
-        let equal : Some n ≡ Some count = sym length_is ∙ ap voice_length_of (sym same) ∙ is in
-        let many : n ≡ count = cc in
-        subst (λ d. P d count) (sym same) (subst (P k) many holds)
+    at : (k n : ℕ) → P k n → Some n ≡ Some count → P k count
+    at k n holds is = let many : n ≡ count = cc in subst (P k) many holds
 
 -- a unit of each kind has at least its front, at most 1,680 bits, and fills blocks of 70
 pub voice_lengths : (duid count : ℕ) → voice_length_of duid ≡ Some count → (112 ≤ count) × (count ≤ 1680) × (count % 70 ≡ 0)

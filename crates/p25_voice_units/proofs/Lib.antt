@@ -1,6 +1,5 @@
 pub mod CodesLaws
 pub mod LengthsLaws
-pub mod SendableLaws
 pub mod ImageSteps
 pub mod KindsLaws
 pub mod FailuresLaws
@@ -13,6 +12,5 @@ pub mod FieldCodesLaws
 pub mod ReadingLaws
 pub mod RadiusLaws
 pub mod FixesLaws
-pub mod ImageReadingLaws
 pub mod WholeLaws
 pub mod CountedLaws

@@ -1,6 +1,6 @@
 -- Voice units within radius are read as sent: the coded field by the law of its layout, each low speed word by its code, and the words
 -- of symbols back from these. By whole inner words is within radius too; and a unit's own bits are within radius, and give its frames.
-use Rattle.std.proofs.Common.{◌≡◌, ℕ, zero, suc, ◌+◌, ◌*◌, ◌<◌, ◌≤◌, Bool, List, [], ◌∷◌, length, take, drop, map, slice_index, get_or, Some, option_map, Ok, All, refl, ap, ap₂, sym, ◌∙◌, arith, lit<, length-drop}
+use Rattle.std.proofs.Common.{◌≡◌, ℕ, zero, suc, ◌+◌, ◌*◌, ◌<◌, ◌≤◌, Bool, List, [], ◌∷◌, length, take, drop, map, slice_index, get_or, Option, Some, option_map, Ok, All, refl, ap, ap₂, sym, ◌∙◌, arith, lit<, length-drop}
 use Rattle.std.proofs.Math.Nat.{mod-eq_of_lt}
 use Rattle.std.proofs.lemmas.List.{ext_get_or, get_or-map, length-map}
 use Rattle.p25_bits.specs.Bits.{bits_of, field_of, octet_bits, part}
@@ -24,13 +24,14 @@ use Rattle.p25_voice_units.specs.declared.unit.VoiceUnit.TheVariants.{Header, Li
 use Rattle.p25_voice_units.specs.declared.voice.VoiceFrame.{VoiceFrame}
 use Rattle.p25_voice_units.specs.Layouts.{ldu_rows}
 use Rattle.p25_voice_units.specs.FieldLayouts.{link_layout}
-use Rattle.p25_voice_units.specs.Images.{frame_at}
+use Rattle.p25_voice_units.specs.Images.{frame_at, voice_image_of}
 use Rattle.p25_voice_units.specs.Lengths.{voice_duid}
 use Rattle.p25_voice_units.specs.Places.{HasPiece, IsLaidOut, IsVoiceImage}
-use Rattle.p25_voice_units.specs.Readings.{ldu1_in, ldu2_in, frame_places, low_places, frame_in, voice_in, low_in, header_in, link_in, sync_in, header_from, tdulc_from, voice_reading_of}
+use Rattle.p25_voice_units.specs.Readings.{ldu1_in, ldu2_in, frame_places, low_places, frame_in, voice_in, low_in, header_in, link_in, sync_in, header_from, ldu_from, tdulc_from, voice_reading_of}
 use Rattle.p25_voice_units.specs.Sendable.{IsVoiceFrame, IsSpeech, IsSendableVoice}
 use Rattle.p25_voice_units.specs.WithinRadius.{AreLowWithin, IsVoiceWithin, received_voice, IsVoiceWithinByWords}
-use Rattle.p25_status.specs.declared.fields.Field.TheVariants.{LinkControl as LinkField, EncryptionSync as SyncField}
+use Rattle.p25_status.specs.declared.fields.Field.{Field, TheVariants.{LinkControl as LinkField, EncryptionSync as SyncField}}
+use Rattle.p25_voice_units.proofs.ImagesLaws.{IsVoiceImage-iff}
 use Rattle.p25_voice_units.proofs.KindsLaws.{reading-header, reading-end, reading-ldu1, reading-ldu2, reading-tdulc, ldu_whole}
 use Rattle.p25_voice_units.proofs.ReadLaws.{nine_frames}
 use Rattle.p25_voice_units.proofs.FieldCodesLaws.{header_codes, link_codes, sync_codes, tdulc_codes, header_there, link_there, tdulc_there}
@@ -51,20 +52,17 @@ two_of (x ∷ []) long = absurd (omega arith)
 two_of (x ∷ y ∷ []) long = refl
 two_of (x ∷ y ∷ z ∷ xs) long = absurd (omega arith)
 
--- the low speed words of a unit with voice
-low_first : (low : List ℕ) (voice : List VoiceFrame) (sent received : List Bool) → IsSpeech low voice → All (λ row. HasPiece low voice sent row.0 row.1) ldu_rows → length received ≡ 1680
-    → AreLowWithin sent received → low_in 0 received ≡ Some (slice_index low 0)
+-- a unit with voice whose word is read, and whose low speed words are near
+ldu_within : {X : Type 0} (field : Field) (unit : X → List ℕ → VoiceUnit) (answer : Option X) (word : X) (low : List ℕ) (voice : List VoiceFrame) (sent received : List Bool) → answer ≡ Some word → IsSpeech low voice
+    → All (λ row. HasPiece low voice sent row.0 row.1) ldu_rows → length received ≡ 1680 → AreLowWithin sent received → ldu_from field unit answer (low_in 0 received) (low_in 1 received) ≡ Ok (unit word low)
 unfolding low_in low_places
-low_first low voice sent received keeps pieces long near =
+ldu_within field unit answer word low voice sent received is keeps pieces long near =
     let there : 1504 + 16 ≤ length received = omega arith in
-    low_near 1504 (slice_index low 0) sent received (keeps.small 0 0 (omega (arith, keeps.two))) (pieces 14 (0, Nulls 0) (lit< tt)) there (near 0 0 (lit< tt))
-
-low_second : (low : List ℕ) (voice : List VoiceFrame) (sent received : List Bool) → IsSpeech low voice → All (λ row. HasPiece low voice sent row.0 row.1) ldu_rows → length received ≡ 1680
-    → AreLowWithin sent received → low_in 1 received ≡ Some (slice_index low 1)
-unfolding low_in low_places
-low_second low voice sent received keeps pieces long near =
-    let there : 1520 + 16 ≤ length received = omega arith in
-    low_near 1520 (slice_index low 1) sent received (keeps.small 1 0 (omega (arith, keeps.two))) (pieces 15 (0, Nulls 0) (lit< tt)) there (near 1 0 (lit< tt))
+    let there' : 1520 + 16 ≤ length received = omega arith in
+    ldu_whole field unit answer (low_in 0 received) (low_in 1 received) word (slice_index low 0) (slice_index low 1) is
+    (low_near 1504 (slice_index low 0) sent received (keeps.small 0 0 (omega (arith, keeps.two))) (pieces 14 (0, Nulls 0) (lit< tt)) there (near 0 0 (lit< tt)))
+    (low_near 1520 (slice_index low 1) sent received (keeps.small 1 0 (omega (arith, keeps.two))) (pieces 15 (0, Nulls 0) (lit< tt)) there' (near 1 0 (lit< tt)))
+    ∙ ap (λ octets. Ok (unit word octets)) (two_of low keeps.two)
 
 -- a unit within radius is read as sent, with its voice as received
 pub voice_within : (nac : ℕ) (unit : VoiceUnit) (sent received : List Bool) → IsSendableVoice unit → IsVoiceImage nac unit sent → length received ≡ length sent → IsVoiceWithin unit sent received
@@ -74,21 +72,13 @@ voice_within nac (Header word) sent received keeps is long near =
     reading-header received
     ∙ ap header_from (ap (option_map header_of_symbols) (field_within header_codes (header_symbols word) sent received is.1 near) ∙ ap Some (header_back word keeps))
 voice_within nac (Link1 link low voice) sent received keeps is long near =
-    let field = ap (option_map link_of_symbols) (field_within link_codes (link_symbols link) sent received is.1 near.field) ∙ ap Some (link_back link keeps.word) in
-    let whole : length received ≡ 1680 = long ∙ is.0.long in
     reading-ldu1 received
-    ∙ ldu_whole LinkField (λ link low. Link1 link low (voice_in received)) (link_in link_layout received) (low_in 0 received) (low_in 1 received) link (slice_index low 0) (slice_index low 1) field
-    (low_first low voice sent received keeps.speech is.0.pieces whole near.low)
-    (low_second low voice sent received keeps.speech is.0.pieces whole near.low)
-    ∙ ap (λ octets. Ok (Link1 link octets (voice_in received))) (two_of low keeps.speech.two)
+    ∙ ldu_within LinkField (λ link low. Link1 link low (voice_in received)) (link_in link_layout received) link low voice sent received
+    (ap (option_map link_of_symbols) (field_within link_codes (link_symbols link) sent received is.1 near.field) ∙ ap Some (link_back link keeps.word)) keeps.speech is.0.pieces (long ∙ is.0.long) near.low
 voice_within nac (Link2 sync low voice) sent received keeps is long near =
-    let field = ap (option_map sync_of_symbols) (field_within sync_codes (sync_symbols sync) sent received is.1 near.field) ∙ ap Some (sync_back sync keeps.word) in
-    let whole : length received ≡ 1680 = long ∙ is.0.long in
     reading-ldu2 received
-    ∙ ldu_whole SyncField (λ sync low. Link2 sync low (voice_in received)) (sync_in received) (low_in 0 received) (low_in 1 received) sync (slice_index low 0) (slice_index low 1) field
-    (low_first low voice sent received keeps.speech is.0.pieces whole near.low)
-    (low_second low voice sent received keeps.speech is.0.pieces whole near.low)
-    ∙ ap (λ octets. Ok (Link2 sync octets (voice_in received))) (two_of low keeps.speech.two)
+    ∙ ldu_within SyncField (λ sync low. Link2 sync low (voice_in received)) (sync_in received) sync low voice sent received
+    (ap (option_map sync_of_symbols) (field_within sync_codes (sync_symbols sync) sent received is.1 near.field) ∙ ap Some (sync_back sync keeps.word)) keeps.speech is.0.pieces (long ∙ is.0.long) near.low
 voice_within nac End sent received keeps is long near = reading-end received
 voice_within nac (EndLink link) sent received keeps is long near =
     reading-tdulc received
@@ -179,3 +169,14 @@ received_itself nac (Link1 link low voice) sent keeps is = ap (Link1 link low) (
 received_itself nac (Link2 sync low voice) sent keeps is = ap (Link2 sync low) (voice_back nac 10 low voice sent keeps.speech is.0)
 received_itself nac End sent keeps is = refl
 received_itself nac (EndLink link) sent keeps is = refl
+
+-- a unit's own bits stand by their places
+pub IsVoiceImage-same : (nac : ℕ) (unit : VoiceUnit) → IsSendableVoice unit → IsVoiceImage nac unit (voice_image_of nac unit)
+IsVoiceImage-same nac unit keeps = (IsVoiceImage-iff nac unit (voice_image_of nac unit) keeps).1 refl
+
+-- and are read as the unit
+pub voice_reading_of-image : (nac : ℕ) (unit : VoiceUnit) → IsSendableVoice unit → voice_reading_of (voice_duid unit) (voice_image_of nac unit) ≡ Ok unit
+voice_reading_of-image nac unit keeps =
+    let image = voice_image_of nac unit in
+    let form = IsVoiceImage-same nac unit keeps in
+    voice_within nac unit image image keeps form refl (within_itself nac unit image form) ∙ ap Ok (received_itself nac unit image keeps form)

@@ -1,7 +1,6 @@
 -- What voice units are read as: a unit that was read is of the kind of its DUID, and keeps what its type keeps, since each part is made
 -- of so many bits.
-use Rattle.std.proofs.Common.{◌≡◌, ◌≢◌, ℕ, ◌<◌, Bool, eqb, List, [], ◌∷◌, length, take, drop, slice_index, get_or, Option, Some, None, option_map, Ok, Err, Result, All, refl, ap, sym, ◌∙◌, subst, inl, inr}
-use Rattle.std.proofs.lemmas.Bool.{cases_eq, cond-false, ne_eqb}
+use Rattle.std.proofs.Common.{◌≡◌, ℕ, ◌<◌, Bool, List, [], ◌∷◌, length, take, drop, slice_index, get_or, Option, Some, None, option_map, Ok, Err, Result, All, refl, ◌∙◌, subst}
 use Rattle.std.proofs.lemmas.List.{length-map}
 use Rattle.std.proofs.lemmas.List.Elements.{All-nil, All-cons, All-map}
 use Rattle.p25_bits.specs.Bits.{field_of, part}
@@ -11,7 +10,6 @@ use Rattle.p25_gf64.specs.declared.symbol.Sym.{Sym}
 use Rattle.p25_hamming.specs.Lsd16Readings.{lsd16_reading_of}
 use Rattle.p25_link.specs.Symbols.{symbol_bits}
 use Rattle.p25_link.specs.Words.{header_of_bits, header_of_symbols, link_of_bits, link_of_symbols, sync_of_bits, sync_of_symbols, AreNineOctets, IsHeaderWord, IsLinkControl, IsEncryptionSync}
-use Rattle.p25_link.specs.declared.encryption_sync.EncryptionSync.{EncryptionSync}
 use Rattle.p25_link.specs.declared.header_word.HeaderWord.{HeaderWord}
 use Rattle.p25_link.specs.declared.link_control.LinkControl.{LinkControl}
 use Rattle.p25_status.specs.declared.fields.Field.{Field}
@@ -24,7 +22,7 @@ use Rattle.p25_voice_units.specs.FieldLayouts.{link_layout, sync_layout, header_
 use Rattle.p25_voice_units.specs.Lengths.{voice_duid}
 use Rattle.p25_voice_units.specs.Readings.{frame_places, low_places, frame_in, voice_in, low_in, header_in, link_in, sync_in, header_from, ldu_from, ldu1_in, ldu2_in, tdulc_from, voice_reading_of}
 use Rattle.p25_voice_units.specs.Sendable.{IsVoiceFrame, IsSpeech, IsSendableVoice}
-use Rattle.p25_voice_units.proofs.KindsLaws.{reading-header, reading-end, reading-ldu1, reading-ldu2, reading-tdulc}
+use Rattle.p25_voice_units.proofs.LengthsLaws.{by_duid-cases}
 use Rattle.p25_voice_units.proofs.ReadLaws.{nine_frames}
 
 -- words of symbols keep what their types keep
@@ -65,7 +63,7 @@ voice_keeps bare = (
       record { long = length-numbers_from 8 18 behind; small = All-numbers_from 8 18 behind }),
 )
 
-pub speech_keeps : (first second : ℕ) (bare : List Bool) → low_in 0 bare ≡ Some first → low_in 1 bare ≡ Some second → IsSpeech (first ∷ second ∷ []) (voice_in bare)
+speech_keeps : (first second : ℕ) (bare : List Bool) → low_in 0 bare ≡ Some first → low_in 1 bare ≡ Some second → IsSpeech (first ∷ second ∷ []) (voice_in bare)
 speech_keeps first second bare a b = record {
   two = refl;
   small = All-cons (λ n. n < 256) first (second ∷ []) (low_keeps 0 first bare a) (All-cons (λ n. n < 256) second [] (low_keeps 1 second bare b) (All-nil (λ n. n < 256)));
@@ -93,73 +91,34 @@ tdulc_read bare (Some link) unit is read =
     let same : EndLink link ≡ unit = cc in
     subst (IsUnitOf 15) same (record { kind = refl; sendable = read_keeps IsLinkControl link_of_symbols (field_reading_of tdulc_layout bare) link link_keeps is })
 
-ldu1_read : (bare : List Bool) (answer : Option LinkControl) (first second : Option ℕ) (unit : VoiceUnit) → link_in link_layout bare ≡ answer → low_in 0 bare ≡ first → low_in 1 bare ≡ second
-    → ldu_from LinkField (λ link low. Link1 link low (voice_in bare)) answer first second ≡ Ok unit
-    → IsUnitOf 5 unit
-unfolding link_in ldu_from IsSendableVoice
-ldu1_read bare None first second unit is a b read = absurd (cc)
-ldu1_read bare (Some link) None second unit is a b read = absurd (cc)
-ldu1_read bare (Some link) (Some first) None unit is a b read = absurd (cc)
-ldu1_read bare (Some link) (Some first) (Some second) unit is a b read =
-    let same : Link1 link (first ∷ second ∷ []) (voice_in bare) ≡ unit = cc in
-    subst (IsUnitOf 5) same (record {
-      kind = refl;
-      sendable = record { word = read_keeps IsLinkControl link_of_symbols (field_reading_of link_layout bare) link link_keeps is; speech = speech_keeps first second bare a b };
-    })
-
-ldu2_read : (bare : List Bool) (answer : Option EncryptionSync) (first second : Option ℕ) (unit : VoiceUnit) → sync_in bare ≡ answer → low_in 0 bare ≡ first → low_in 1 bare ≡ second
-    → ldu_from SyncField (λ sync low. Link2 sync low (voice_in bare)) answer first second ≡ Ok unit
-    → IsUnitOf 10 unit
-unfolding sync_in ldu_from IsSendableVoice
-ldu2_read bare None first second unit is a b read = absurd (cc)
-ldu2_read bare (Some sync) None second unit is a b read = absurd (cc)
-ldu2_read bare (Some sync) (Some first) None unit is a b read = absurd (cc)
-ldu2_read bare (Some sync) (Some first) (Some second) unit is a b read =
-    let same : Link2 sync (first ∷ second ∷ []) (voice_in bare) ≡ unit = cc in
-    subst (IsUnitOf 10) same (record {
-      kind = refl;
-      sendable = record { word = read_keeps IsEncryptionSync sync_of_symbols (field_reading_of sync_layout bare) sync sync_keeps is; speech = speech_keeps first second bare a b };
-    })
+ldu_read : {X : Type 0} (duid : ℕ) (field : Field) (make : X → List ℕ → VoiceUnit) (bare : List Bool) (answer : Option X) (first second : Option ℕ) (unit : VoiceUnit) → low_in 0 bare ≡ first → low_in 1 bare ≡ second
+    → ((word : X) (low : List ℕ) → answer ≡ Some word → IsSpeech low (voice_in bare) → IsUnitOf duid (make word low)) → ldu_from field make answer first second ≡ Ok unit → IsUnitOf duid unit
+unfolding ldu_from
+ldu_read duid field make bare None first second unit a b made read = absurd (cc)
+ldu_read duid field make bare (Some word) None second unit a b made read = absurd (cc)
+ldu_read duid field make bare (Some word) (Some first) None unit a b made read = absurd (cc)
+ldu_read duid field make bare (Some word) (Some first) (Some second) unit a b made read =
+    let same : make word (first ∷ second ∷ []) ≡ unit = cc in
+    subst (IsUnitOf duid) same (made word (first ∷ second ∷ []) refl (speech_keeps first second bare a b))
 
 end_read : (unit : VoiceUnit) → ◌≡◌ {A = Result VoiceUnit (List Field)} (Ok End) (Ok unit) → IsUnitOf 3 unit
 unfolding IsSendableVoice
 end_read unit read = let same : End ≡ unit = cc in subst (IsUnitOf 3) same (record { kind = refl; sendable = tt })
 
--- DUIDs of no voice unit are not read
-pub reading-other : (duid : ℕ) (bare : List Bool) → duid ≢ 0 → duid ≢ 3 → duid ≢ 5 → duid ≢ 10 → duid ≢ 15 → voice_reading_of duid bare ≡ Err []
-unfolding voice_reading_of
-reading-other duid bare header end ldu1 ldu2 tdulc =
-    cond-false (eqb duid 0) _ _ (ne_eqb duid 0 header)
-    ∙ cond-false (eqb duid 3) _ _ (ne_eqb duid 3 end)
-    ∙ cond-false (eqb duid 5) _ _ (ne_eqb duid 5 ldu1)
-    ∙ cond-false (eqb duid 10) _ _ (ne_eqb duid 10 ldu2)
-    ∙ cond-false (eqb duid 15) _ _ (ne_eqb duid 15 tdulc)
-
 -- what is read for a DUID is a unit of it
 pub unit_read : (duid : ℕ) (bare : List Bool) (unit : VoiceUnit) → voice_reading_of duid bare ≡ Ok unit → IsUnitOf duid unit
-unfolding ldu1_in ldu2_in
-unit_read duid bare unit read =
-    elim (cases_eq duid 0) [
-      | inl same ↦ at 0 same (header_read bare (header_in bare) unit refl (sym (reading-header bare) ∙ there 0 same))
-      | inr not_header ↦ elim (cases_eq duid 3) [
-        | inl same ↦ at 3 same (end_read unit (sym (reading-end bare) ∙ there 3 same))
-        | inr not_end ↦ elim (cases_eq duid 5) [
-          | inl same ↦ at 5 same (ldu1_read bare (link_in link_layout bare) (low_in 0 bare) (low_in 1 bare) unit refl refl refl (sym (reading-ldu1 bare) ∙ there 5 same))
-          | inr not_ldu1 ↦ elim (cases_eq duid 10) [
-            | inl same ↦ at 10 same (ldu2_read bare (sync_in bare) (low_in 0 bare) (low_in 1 bare) unit refl refl refl (sym (reading-ldu2 bare) ∙ there 10 same))
-            | inr not_ldu2 ↦ elim (cases_eq duid 15) [
-              | inl same ↦ at 15 same (tdulc_read bare (link_in tdulc_layout bare) unit refl (sym (reading-tdulc bare) ∙ there 15 same))
-              | inr not_tdulc ↦
-                  let none : Err [] ≡ Ok unit = sym (reading-other duid bare not_header not_end not_ldu1 not_ldu2 not_tdulc) ∙ read in
-                  absurd (cc)
-            ]
-          ]
-        ]
-      ]
-    ]
-  where
-    at : (kind : ℕ) → duid ≡ kind → IsUnitOf kind unit → IsUnitOf duid unit
-    at kind same is = subst (λ d. IsUnitOf d unit) (sym same) is
-
-    there : (kind : ℕ) → duid ≡ kind → voice_reading_of kind bare ≡ Ok unit
-    there kind same = ap (λ d. voice_reading_of d bare) (sym same) ∙ read
+unfolding voice_reading_of ldu1_in ldu2_in link_in sync_in IsSendableVoice
+unit_read duid bare unit =
+    by_duid-cases (header_from (header_in bare)) (Ok End) (ldu1_in bare) (ldu2_in bare) (tdulc_from (link_in tdulc_layout bare)) (Err []) (λ d reading. reading ≡ Ok unit → IsUnitOf d unit)
+    (header_read bare (header_in bare) unit refl)
+    (end_read unit)
+    (ldu_read 5 LinkField (λ link low. Link1 link low (voice_in bare)) bare (link_in link_layout bare) (low_in 0 bare) (low_in 1 bare) unit refl refl (λ link low is speech. record {
+      kind = refl;
+      sendable = record { word = read_keeps IsLinkControl link_of_symbols (field_reading_of link_layout bare) link link_keeps is; speech = speech };
+    }))
+    (ldu_read 10 SyncField (λ sync low. Link2 sync low (voice_in bare)) bare (sync_in bare) (low_in 0 bare) (low_in 1 bare) unit refl refl (λ sync low is speech. record {
+      kind = refl;
+      sendable = record { word = read_keeps IsEncryptionSync sync_of_symbols (field_reading_of sync_layout bare) sync sync_keeps is; speech = speech };
+    }))
+    (tdulc_read bare (link_in tdulc_layout bare) unit refl)
+    (λ d none. absurd (cc)) duid

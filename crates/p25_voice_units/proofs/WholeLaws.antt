@@ -16,7 +16,6 @@ use Rattle.p25_hamming.specs.Lsd16.{IsLsd16}
 use Rattle.p25_hamming.specs.Lsd16Laws.{lsd16_is_code}
 use Rattle.p25_hamming.specs.Lsd16Readings.{lsd16_reading_of, lsd16_reads_as}
 use Rattle.p25_link.specs.Words.{header_of_symbols, header_symbols, link_of_symbols, link_symbols, sync_of_symbols, sync_symbols}
-use Rattle.p25_link.specs.declared.encryption_sync.EncryptionSync.{EncryptionSync}
 use Rattle.p25_link.specs.declared.header_word.HeaderWord.{HeaderWord}
 use Rattle.p25_link.specs.declared.link_control.LinkControl.{LinkControl}
 use Rattle.p25_link.proofs.WordsLaws.{header_symbols_back, link_symbols_back, sync_symbols_back}
@@ -75,16 +74,6 @@ ldu_read_parts field unit (Some read) (Some a) (Some b) word low made known is =
     let parts = known read (a ∷ b ∷ []) same in
     record { word_read = ap Some parts.0; first_read = ap (λ xs. Some (slice_index xs 0)) parts.1; second_read = ap (λ xs. Some (slice_index xs 1)) parts.1 }
 
-ldu1_read_parts : (voice : List VoiceFrame) (answer : Option LinkControl) (first second : Option ℕ) (link : LinkControl) (low : List ℕ) (frames : List VoiceFrame)
-    → ldu_from LinkField (λ link low. Link1 link low voice) answer first second ≡ Ok (Link1 link low frames) → AreRead answer first second link low
-ldu1_read_parts voice answer first second link low frames is =
-    ldu_read_parts LinkField (λ link low. Link1 link low voice) answer first second link low (Link1 link low frames) (λ read octets same. (cc same, cc same)) is
-
-ldu2_read_parts : (voice : List VoiceFrame) (answer : Option EncryptionSync) (first second : Option ℕ) (sync : EncryptionSync) (low : List ℕ) (frames : List VoiceFrame)
-    → ldu_from SyncField (λ sync low. Link2 sync low voice) answer first second ≡ Ok (Link2 sync low frames) → AreRead answer first second sync low
-ldu2_read_parts voice answer first second sync low frames is =
-    ldu_read_parts SyncField (λ sync low. Link2 sync low voice) answer first second sync low (Link2 sync low frames) (λ read octets same. (cc same, cc same)) is
-
 -- a low speed word that was read lies within 2 bits of the one that carries the octet
 low_whole : (at octet : ℕ) (sent received : List Bool) (answer : Option (List Bool)) → IsReadAs beq IsLsd16 2 (part at 16 received) answer → option_map (λ (w : List Bool). field_of (take 8 w)) answer ≡ Some octet
     → IsEncoding IsLsd16 8 (bits_of 8 octet) (part at 16 sent) → distance_of (part at 16 received) (part at 16 sent) ≤ 2
@@ -116,14 +105,16 @@ voice_whole nac (Header word) sent received is read =
     near_from_reading (word_places 18 hdu_rows) 18 1 36 20 golay18_reading_of header_code (header_symbols word) sent received is.1
     (symbols_read header_of_symbols header_symbols 20 (field_reading_of header_layout received) word header_symbols_back (field_information (word_places 18 hdu_rows) 18 1 36 20 golay18_reading_of header_code received) part_read)
 voice_whole nac (Link1 link low voice) sent received is read =
-    let parts = ldu1_read_parts (voice_in received) (link_in link_layout received) (low_in 0 received) (low_in 1 received) link low voice (sym (reading-ldu1 received) ∙ read) in
+    let parts = ldu_read_parts LinkField (λ word octets. Link1 word octets (voice_in received)) (link_in link_layout received) (low_in 0 received) (low_in 1 received) link low (Link1 link low voice) (λ word octets same. (cc same, cc same))
+    (sym (reading-ldu1 received) ∙ read) in
     record {
       field = near_from_reading (word_places 10 ldu_rows) 10 1 24 12 hamming10_reading_of link_code (link_symbols link) sent received is.1
           (symbols_read link_of_symbols link_symbols 12 (field_reading_of link_layout received) link link_symbols_back (field_information (word_places 10 ldu_rows) 10 1 24 12 hamming10_reading_of link_code received) parts.word_read);
       low = low_words_whole low voice sent received is.0.pieces parts.first_read parts.second_read;
     }
 voice_whole nac (Link2 sync low voice) sent received is read =
-    let parts = ldu2_read_parts (voice_in received) (sync_in received) (low_in 0 received) (low_in 1 received) sync low voice (sym (reading-ldu2 received) ∙ read) in
+    let parts = ldu_read_parts SyncField (λ word octets. Link2 word octets (voice_in received)) (sync_in received) (low_in 0 received) (low_in 1 received) sync low (Link2 sync low voice) (λ word octets same. (cc same, cc same))
+    (sym (reading-ldu2 received) ∙ read) in
     record {
       field = near_from_reading (word_places 10 ldu_rows) 10 1 24 16 hamming10_reading_of sync_code (sync_symbols sync) sent received is.1
           (symbols_read sync_of_symbols sync_symbols 16 (field_reading_of sync_layout received) sync sync_symbols_back (field_information (word_places 10 ldu_rows) 10 1 24 16 hamming10_reading_of sync_code received) parts.word_read);

@@ -3,14 +3,14 @@
 ghost use Rattle.std.specs.Prelude.{◌≡◌, ◌+◌, ◌*◌, ◌/◌, ◌<◌, ◌≤◌, ◌++◌, Bool, List, Ok, Some, true, length, sum_by};
 ghost use Rattle.std.specs.List.{list_all};
 ghost use Rattle.p25_coded_fields.specs.Written.{Encodes};
-ghost use Rattle.p25_bits.specs.Bits.{bits_of, octet_bits};
+ghost use Rattle.p25_bits.specs.Bits.{octet_bits};
 ghost use Rattle.p25_reed_solomon.specs.Encoding.{rs_word};
 ghost use Rattle.p25_reed_solomon.specs.Words.{IsCode};
-ghost use Rattle.p25_voice_units.specs.Images.{piece_bits, rows_bits, contents, lsd16_word, voice_body, voice_image_of};
+ghost use Rattle.p25_voice_units.specs.Images.{piece_bits, rows_bits, contents, voice_body, voice_image_of};
 ghost use Rattle.p25_voice_units.specs.Lengths.{voice_duid, voice_length_of};
 ghost use Rattle.p25_voice_units.specs.Readings.{voice_reading_of};
 ghost use Rattle.p25_voice_units.specs.Pieces.{piece_fits, piece_length};
-ghost use Rattle.p25_voice_units.specs.Sendable.{IsSendableVoice, IsSpeech, IsVoiceFrame};
+ghost use Rattle.p25_voice_units.specs.Sendable.{IsSendableVoice, IsSpeech};
 
 use crate::layout::{HDU_ROWS, LDU_ROWS, Piece, TDU_ROWS, TDULC_ROWS};
 use crate::unit::VoiceUnit;
@@ -33,16 +33,6 @@ fn put_frame(octets: &[u8; 18], out: &mut BitBuf)
     ensures len { length out.new ≡ length out.old + 144 }
 {
     out.put_numbers(octets, 8);
-}
-
-// Appends the low speed data (LSD) word of an octet.
-fn put_low(octet: u8, out: &mut BitBuf)
-    requires { length out.old + 16 ≤ 25928 }
-    ensures list { out.new ≡ out.old ++ lsd16_word (bits_of 8 octet) }
-    ensures len { length out.new ≡ length out.old + 16 }
-{
-    let word = Lsd16::encode_number(u32::from(octet));
-    out.put_field(u64::from(word), 16);
 }
 
 // Appends a piece of a unit, whose inner words carry the symbols.
@@ -69,7 +59,10 @@ fn put_piece<I: NumberCode>(
             put_coded::<I>(&symbols[start..start + each * count], count, out);
         }
         Piece::Frame(i) => put_frame(&frames[i].0, out),
-        Piece::LowSpeed(i) => put_low(low[i], out),
+        Piece::LowSpeed(i) => {
+            let word = Lsd16::encode_number(u32::from(low[i]));
+            out.put_field(u64::from(word), 16);
+        }
         Piece::Nulls(count) => out.put_field(0, count as u32),
     }
 }
@@ -120,20 +113,13 @@ fn put_coded_rows<I: NumberCode, const N: usize, const K: usize>(
     put_rows::<I>(rows, &symbols, low, frames, out);
 }
 
-// A voice frame keeps what its type says.
-fn fit_frame(frame: &VoiceFrame)
-    ensures { IsVoiceFrame frame.now }
-{
-    octets_fit(&frame.0);
-}
-
 // Low speed data (LSD) and voice keep what their types say.
 fn fit_speech(low: &[u8; 2], voice: &Voice)
     ensures { IsSpeech low.now voice.now }
 {
     octets_fit(low);
     for frame in voice.frames() {
-        fit_frame(frame);
+        octets_fit(&frame.0);
     }
 }
 
@@ -175,16 +161,7 @@ pub fn voice_image(nac: u16, unit: &VoiceUnit, out: &mut BitBuf)
     ensures again { voice_reading_of (voice_duid unit.now) out.new ≡ Ok unit.now }
 {
     out.clear();
-    put_front(&identifier(nac, unit.duid()), out);
+    let duid = unit.duid();
+    put_front(&Nid { nac, duid }, out);
     put_body(unit, out);
-}
-
-// The network identifier (NID) of a NAC and a DUID.
-fn identifier(nac: u16, duid: u8) -> Nid
-    requires nac { nac ≤ 4095 }
-    requires duid { duid ≤ 15 }
-    ensures nac { result.nac ≡ nac }
-    ensures duid { result.duid ≡ duid }
-{
-    Nid { nac, duid }
 }

@@ -1,22 +1,22 @@
 //! Voice units (HDU, LDU1, LDU2, TDU and TDULC) read from bits.
 
-ghost use Rattle.std.specs.Prelude.{◌≡◌, ◌+◌, ◌*◌, ◌/◌, ◌<◌, ◌≤◌, [], ◌∷◌, ◌++◌, All, Bool, List, Some, IfErr, IfSome, Ok, length, option_map, ℕ};
+ghost use Rattle.std.specs.Prelude.{◌≡◌, ◌+◌, ◌*◌, ◌/◌, ◌<◌, ◌≤◌, ◌++◌, All, Bool, List, Some, IfErr, IfSome, length, option_map, slice_index, ℕ};
+ghost use Rattle.p25_gf64.specs.declared.symbol.Sym.{Sym as symbol};
+ghost use Rattle.p25_hamming.specs.Hamming10Readings.{hamming10_reading_of};
 ghost use Rattle.p25_reed_solomon.specs.Encoding.{rs_word};
 ghost use Rattle.p25_reed_solomon.specs.Words.{IsCode};
 ghost use Rattle.p25_reed_solomon.specs.RsReadings.{rs_erased_reading_of};
-ghost use Rattle.p25_link.specs.Words.{header_symbols, link_symbols, sync_symbols};
 ghost use Rattle.p25_coded_fields.specs.Fixes.{field_fixes_of};
-ghost use Rattle.p25_coded_fields.specs.Layouts.{Layout, field_layout, field_reading_of};
+ghost use Rattle.p25_coded_fields.specs.Layouts.{field_layout, field_reading_of};
 ghost use Rattle.p25_coded_fields.specs.Written.{Encodes};
-ghost use Rattle.p25_voice_units.specs.FieldLayouts.{header_layout, link_layout, sync_layout, tdulc_layout, word_places};
+ghost use Rattle.p25_voice_units.specs.FieldLayouts.{tdulc_layout, word_places};
 ghost use Rattle.p25_voice_units.specs.Fixes.{AreFixes, low_fixes_of};
-ghost use Rattle.p25_voice_units.specs.Images.{golay18_word, golay24_word, hamming10_word};
-ghost use Rattle.p25_voice_units.specs.Layouts.{hdu_rows, ldu_rows, tdulc_rows};
+ghost use Rattle.p25_voice_units.specs.Images.{hamming10_word};
+ghost use Rattle.p25_voice_units.specs.Layouts.{ldu_rows};
 ghost use Rattle.p25_voice_units.specs.Lengths.{voice_length_of};
-ghost use Rattle.p25_voice_units.specs.Readings.{frame_in, voice_in, low_places, low_in, header_in, link_in, sync_in, missing, failing, header_from, ldu_from, ldu1_in, ldu2_in, tdulc_from, voice_reading_of};
+ghost use Rattle.p25_voice_units.specs.Readings.{voice_in, low_in, header_in, link_in, missing, failing, header_from, ldu_from, ldu1_in, ldu2_in, tdulc_from, voice_reading_of};
 ghost use Rattle.p25_status.specs.Outcomes.{read_or, IfRead};
 ghost use Rattle.p25_voice_units.specs.declared.unit.VoiceUnit.{VoiceUnit as voice_unit};
-ghost use Rattle.p25_voice_units.specs.declared.unit.VoiceUnit.TheVariants.{End as tdu_unit};
 
 use crate::places::{FRAMES, HDU_WORDS, LDU_WORDS, LOW_WORDS, TDULC_WORDS};
 use crate::unit::VoiceUnit;
@@ -83,16 +83,6 @@ fn read_low(bare: &BitBuf, i: usize, octet: &mut u8) -> Option<u32>
     }
 }
 
-// The voice frame at a place.
-fn read_frame(bare: &BitBuf, at: usize) -> VoiceFrame
-    requires { at + 144 ≤ length bare.now }
-    ensures { result ≡ frame_in at bare.now }
-{
-    let mut octets = [0; 18];
-    bare.take_numbers(at, 8, &mut octets);
-    VoiceFrame(octets)
-}
-
 // The nine voice frames of an LDU1 or an LDU2.
 fn read_frames(bare: &BitBuf) -> Voice
     requires { 1680 ≤ length bare.now }
@@ -100,7 +90,9 @@ fn read_frames(bare: &BitBuf) -> Voice
 {
     let mut frames = [VoiceFrame([0; 18]); 9];
     for i in 0..9 {
-        frames[i] = read_frame(bare, FRAMES[i]);
+        let mut octets = [0; 18];
+        bare.take_numbers(FRAMES[i], 8, &mut octets);
+        frames[i] = VoiceFrame(octets);
     }
     Voice::new(frames)
 }
@@ -127,22 +119,34 @@ fn failing_of(field: Field, word: Option<u32>, first: Option<u32>, second: Optio
     fields
 }
 
-// The outcome of an LDU1 or an LDU2 by how many bits of its word and of its low speed data (LSD) words were put right, where each was
-// read.
-fn ldu_outcome(field: Field, word: Option<u32>, first: Option<u32>, second: Option<u32>) -> Outcome
-    requires word { IfSome word (λ wrong. wrong ≤ 576) }
-    requires first { IfSome first (λ wrong. wrong ≤ 16) }
-    requires second { IfSome second (λ wrong. wrong ≤ 16) }
-    ensures value { (unit : voice_unit) → read_or result unit ≡ ldu_from field (λ word low. unit) word first second }
-    ensures wrong { IfRead result (λ wrong. (a b c : ℕ) → word ≡ Some a → first ≡ Some b → second ≡ Some c → wrong ≡ a + (b + c)) }
+// Reads the coded field of an LDU1 or an LDU2 into the symbols of its information, and the low speed data (LSD) words into their octets.
+// `field` is the one that fails where no outer word is read.
+fn read_ldu<const K: usize>(
+    bare: &BitBuf,
+    field: Field,
+    symbols: &mut [Sym],
+    low: &mut [u8; 2],
+) -> Outcome
+    requires code { IsCode 24 K }
+    requires there { 1680 ≤ length bare.now }
+    requires room { length symbols.old ≡ K }
+    ensures value { (unit : List symbol → List ℕ → voice_unit) → read_or result (unit symbols.new low.new) ≡ ldu_from field unit
+        (field_reading_of (field_layout (word_places 10 ldu_rows) 10 1 hamming10_reading_of (rs_erased_reading_of 24 K) K) bare.now) (low_in 0 bare.now) (low_in 1 bare.now) }
+    ensures wrong { IfRead result (λ wrong. wrong ≡ field_fixes_of hamming10_word 10 1 (word_places 10 ldu_rows) (rs_word 24 K symbols.new) bare.now
+        + (low_fixes_of 0 (slice_index low.new 0) bare.now + low_fixes_of 1 (slice_index low.new 1) bare.now)) }
     ensures most { IfRead result (λ wrong. wrong ≤ 608) }
 {
-    match (word, first, second) {
-        (Some(word), Some(first), Some(second)) => Outcome::Read {
-            wrong: word + first + second,
+    let (mut first, mut second) = (0, 0);
+    let word = read_symbols::<Hamming10, 24, K>(bare, &LDU_WORDS, symbols);
+    let low1 = read_low(bare, 0, &mut first);
+    let low2 = read_low(bare, 1, &mut second);
+    *low = [first, second];
+    match (word, low1, low2) {
+        (Some(word), Some(low1), Some(low2)) => Outcome::Read {
+            wrong: word + low1 + low2,
         },
         _ => Outcome::Failing {
-            fields: failing_of(field, word, first, second),
+            fields: failing_of(field, word, low1, low2),
         },
     }
 }
@@ -171,16 +175,12 @@ fn read_ldu1(bare: &BitBuf, unit: &mut VoiceUnit) -> Outcome
     ensures wrong { IfRead result (λ wrong. AreFixes unit.new bare.now wrong) }
     ensures most { IfRead result (λ wrong. wrong ≤ 864) }
 {
-    let mut symbols = [Sym::ZERO; 12];
-    let (mut first, mut second) = (0, 0);
-    let word = read_symbols::<Hamming10, 24, 12>(bare, &LDU_WORDS, &mut symbols);
-    let low1 = read_low(bare, 0, &mut first);
-    let low2 = read_low(bare, 1, &mut second);
-    match ldu_outcome(Field::LinkControl, word, low1, low2) {
+    let (mut symbols, mut low) = ([Sym::ZERO; 12], [0; 2]);
+    match read_ldu::<12>(bare, Field::LinkControl, &mut symbols, &mut low) {
         Outcome::Read { wrong } => {
             *unit = VoiceUnit::Link1 {
                 link: LinkControl::from_symbols(&symbols),
-                low: [first, second],
+                low,
                 voice: read_frames(bare),
             };
             Outcome::Read { wrong }
@@ -196,32 +196,18 @@ fn read_ldu2(bare: &BitBuf, unit: &mut VoiceUnit) -> Outcome
     ensures wrong { IfRead result (λ wrong. AreFixes unit.new bare.now wrong) }
     ensures most { IfRead result (λ wrong. wrong ≤ 864) }
 {
-    let mut symbols = [Sym::ZERO; 16];
-    let (mut first, mut second) = (0, 0);
-    let word = read_symbols::<Hamming10, 24, 16>(bare, &LDU_WORDS, &mut symbols);
-    let low1 = read_low(bare, 0, &mut first);
-    let low2 = read_low(bare, 1, &mut second);
-    match ldu_outcome(Field::EncryptionSync, word, low1, low2) {
+    let (mut symbols, mut low) = ([Sym::ZERO; 16], [0; 2]);
+    match read_ldu::<16>(bare, Field::EncryptionSync, &mut symbols, &mut low) {
         Outcome::Read { wrong } => {
             *unit = VoiceUnit::Link2 {
                 sync: EncryptionSync::from_symbols(&symbols),
-                low: [first, second],
+                low,
                 voice: read_frames(bare),
             };
             Outcome::Read { wrong }
         }
         Outcome::Failing { fields } => Outcome::Failing { fields },
     }
-}
-
-// Sets `unit` to a TDU, a terminator, in which nothing fails.
-fn read_tdu(bare: &BitBuf, unit: &mut VoiceUnit) -> Outcome
-    ensures value { read_or result unit.new ≡ Ok tdu_unit }
-    ensures wrong { IfRead result (λ wrong. AreFixes unit.new bare.now wrong) }
-    ensures most { IfRead result (λ wrong. wrong ≤ 864) }
-{
-    *unit = VoiceUnit::End;
-    Outcome::Read { wrong: 0 }
 }
 
 // Sets `unit` to a TDULC, a terminator with link control (LC).
@@ -274,7 +260,10 @@ pub fn read_voice_in(duid: u8, bare: &BitBuf, unit: &mut VoiceUnit) -> Outcome
 {
     match duid {
         HDU => read_hdu(bare, unit),
-        TDU => read_tdu(bare, unit),
+        TDU => {
+            *unit = VoiceUnit::End;
+            Outcome::Read { wrong: 0 }
+        }
         LDU1 => read_ldu1(bare, unit),
         LDU2 => read_ldu2(bare, unit),
         TDULC => read_tdulc(bare, unit),

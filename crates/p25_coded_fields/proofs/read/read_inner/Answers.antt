@@ -1,4 +1,4 @@
-use Rattle.std.proofs.Common.{◌≡◌, ◌*◌, ◌-◌, ◌/◌, ◌^◌, ◌<◌, true, false, length, replicate, IfSome, is_some, refl, sym, subst, ap, ap₂, ◌∙◌, arith}
+use Rattle.std.proofs.Common.{◌≡◌, ◌*◌, ◌-◌, ◌/◌, ◌^◌, ◌<◌, true, false, length, replicate, IfSome, refl, sym, subst, ap, ap₂, ◌∙◌, arith}
 use Rattle.std.specs.Bool.{beq}
 use Rattle.p25_bits.specs.Bits.{bits_of, part}
 use Rattle.p25_bits.proofs.DistanceLaws.{ones-xor-le}
@@ -6,64 +6,36 @@ use Rattle.p25_link.specs.Symbols.{symbol_bits, symbols_in}
 use Rattle.p25_coded_fields.proofs.ReadLaws.{received_bits, received_reading, inner_found, inner_beyond, read_encoding, read_word_of_set, wrong_bits}
 use Rattle.p25_coded_fields.proofs.read.read_inner.Goals as goal
 
-pub returns-in-Some-clause-erasures : goal.returns-in-Some-clause-erasures
-returns-in-Some-clause-erasures g c =
-    let b = g.I.BlockCode in
-    let bare = c.args.bare.now in
-    let at = c.args.at in
-    let each = length c.args.symbols.now in
-    let value = c.in-Some.sent in
-    let taken = received_bits b.N at c.field-received.result bare c.field-received.ensures.value c.N.ensures c.requires.there in
-    let read = received_reading b.N c.field-received.result (part at b.N bare) b.reading_is c.in-Some.is c.read_number.ensures.reading taken in
-    inner_found b.N b.K each value (b.reading_is (part at b.N bare)) c.put_symbols.new.symbols c.set_all.new.erased c.requires.sixes (g.met.I.BlockCode.begins c.requires.code) read
-    (c.put_symbols.ensures ∙ ap (λ v. symbols_in each (bits_of (6 * each) v)) (c.from.ensures ∙ ap₂ (λ m n. value / 2 ^ (m - n)) c.N-in-Some.ensures c.K.ensures))
-    (c.set_all.ensures ∙ ap (λ n. replicate n false) c.requires.same)
-
-pub returns-in-Some-clause-known : goal.returns-in-Some-clause-known
-returns-in-Some-clause-known g c =
-    let b = g.I.BlockCode in
-    let bare = c.args.bare.now in
-    let at = c.args.at in
-    let taken = received_bits b.N at c.field-received.result bare c.field-received.ensures.value c.N.ensures c.requires.there in
-    ap is_some (received_reading b.N c.field-received.result (part at b.N bare) b.reading_is c.in-Some.is c.read_number.ensures.reading taken)
-
-pub returns-in-Some-clause-count : goal.returns-in-Some-clause-count
-returns-in-Some-clause-count g c =
+pub returns-in-Some : goal.returns-in-Some
+returns-in-Some g c =
     let b = g.I.BlockCode in
     let m = g.met.I.BlockCode in
     let bare = c.args.bare.now in
-    let at = c.args.at in
     let each = length c.args.symbols.now in
     let value = c.in-Some.sent in
     let symbols = c.put_symbols.new.symbols in
-    let bits = part at b.N bare in
-    let taken = received_bits b.N at c.field-received.result bare c.field-received.ensures.value c.N.ensures c.requires.there in
+    let bits = part c.args.at b.N bare in
+    let taken = received_bits b.N c.args.at c.field-received.result bare c.field-received.ensures.value c.N.ensures c.requires.there in
     let read = received_reading b.N c.field-received.result bits b.reading_is c.in-Some.is c.read_number.ensures.reading taken in
-    let fits : c.field-received.result < 2 ^ b.N = subst (λ n. c.field-received.result < 2 ^ n) c.N.ensures c.field-received.ensures.fits in
-    let small : value < 2 ^ b.N = subst (λ r. IfSome r (λ sent. sent < 2 ^ b.N)) c.in-Some.is c.read_number.ensures.fits in
     let made : symbols ≡ symbols_in each (bits_of (6 * each) (value / 2 ^ (b.N - b.K)))
     = c.put_symbols.ensures ∙ ap (λ v. symbols_in each (bits_of (6 * each) v)) (c.from.ensures ∙ ap₂ (λ m n. value / 2 ^ (m - n)) c.N-in-Some.ensures c.K.ensures) in
+    let fits : c.field-received.result < 2 ^ b.N = subst (λ n. c.field-received.result < 2 ^ n) c.N.ensures c.field-received.ensures.fits in
+    let small : value < 2 ^ b.N = subst (λ r. IfSome r (λ sent. sent < 2 ^ b.N)) c.in-Some.is c.read_number.ensures.fits in
     let is_word = read_word_of_set beq b.IsWord b.radius_is bits (bits_of b.N value) (b.reading_is bits) (m.reads_as c.requires.code bits) (sym read) in
     let encoding = read_encoding b.N b.K each value symbols c.requires.sixes (m.begins c.requires.code) is_word made in
     record {
-      few = omega (arith, ones-xor-le b.N c.field-received.result value fits small, c.requires.small);
-      value = λ sent is. wrong_bits b.N b.K (m.one_word c.requires.code) c.field-received.result value (symbol_bits symbols) bits sent encoding is taken fits small;
+      erasures = inner_found b.N b.K each value (b.reading_is bits) symbols c.set_all.new.erased c.requires.sixes (m.begins c.requires.code) read made (c.set_all.ensures ∙ ap (λ n. replicate n false) c.requires.same);
+      count = record {
+        few = omega (arith, ones-xor-le b.N c.field-received.result value fits small, c.requires.small);
+        value = λ sent is. wrong_bits b.N b.K (m.one_word c.requires.code) c.field-received.result value (symbol_bits symbols) bits sent encoding is taken fits small;
+      };
     }
-
-pub returns-in-None-clause-known : goal.returns-in-None-clause-known
-returns-in-None-clause-known g c =
-    let b = g.I.BlockCode in
-    let bare = c.args.bare.now in
-    let at = c.args.at in
-    let taken = received_bits b.N at c.field-received.result bare c.field-received.ensures.value c.N.ensures c.requires.there in
-    ap is_some (received_reading b.N c.field-received.result (part at b.N bare) b.reading_is c.in-None.is c.read_number.ensures.reading taken)
 
 pub returns-in-None-clause-erasures : goal.returns-in-None-clause-erasures
 returns-in-None-clause-erasures g c =
     let b = g.I.BlockCode in
-    let bare = c.args.bare.now in
-    let at = c.args.at in
-    let taken = received_bits b.N at c.field-received.result bare c.field-received.ensures.value c.N.ensures c.requires.there in
-    inner_beyond (length c.args.symbols.now) (b.reading_is (part at b.N bare)) c.args.symbols.now c.set_all-in-None.new.erased refl
-    (received_reading b.N c.field-received.result (part at b.N bare) b.reading_is c.in-None.is c.read_number.ensures.reading taken)
+    let bits = part c.args.at b.N c.args.bare.now in
+    let taken = received_bits b.N c.args.at c.field-received.result c.args.bare.now c.field-received.ensures.value c.N.ensures c.requires.there in
+    inner_beyond (length c.args.symbols.now) (b.reading_is bits) c.args.symbols.now c.set_all-in-None.new.erased refl
+    (received_reading b.N c.field-received.result bits b.reading_is c.in-None.is c.read_number.ensures.reading taken)
     (c.set_all-in-None.ensures ∙ ap (λ n. replicate n true) c.requires.same)

@@ -53,13 +53,11 @@ returns-in-Failing-clause-item c =
     item-is c.args.bits.now c.args.at c.args.count c.args.place is nid c.in-Some.ensures.value c.broken_item.result
     (c.broken_item.ensures ∙ broken-is c.args.place nid.nac nid.duid c.args.bits.now c.args.at c.args.count c.in-Failing.fields c.requires.there kind c.in-Failing.ensures.frame)
 
-made : goal.returns-in_default-clause-item
-made c =
+pub returns-in_default-clause-item : goal.returns-in_default-clause-item
+returns-in_default-clause-item c =
     let is = IsUnitAt-from c.args.bits.now c.args.at c.args.count c.requires.there c.requires.needed in
     item-is c.args.bits.now c.args.at c.args.count c.args.place is c.in-Some.read.nid c.in-Some.ensures.value c.new_item.result c.new_item.ensures
 
-pub returns-in_default-clause-item : goal.returns-in_default-clause-item
-returns-in_default-clause-item c = made c
-
 pub returns-in_default-clause-sound : goal.returns-in_default-clause-sound
-returns-in_default-clause-sound c = subst (λ (item : Item). IsSoundItem item) (sym (made c)) (IsSoundItem-unit_item_of c.args.place (drop c.args.at c.args.bits.now) c.args.count c.requires.needed)
+returns-in_default-clause-sound c =
+    subst (λ (item : Item). IsSoundItem item) (sym (returns-in_default-clause-item c)) (IsSoundItem-unit_item_of c.args.place (drop c.args.at c.args.bits.now) c.args.count c.requires.needed)

@@ -10,7 +10,7 @@ use Rattle.p25_units.specs.Fixes.{body_fixes_of}
 use Rattle.p25_units.specs.Needs.{kind_need}
 use Rattle.p25_units.specs.Readings.{body_reading_of}
 use Rattle.p25_units.specs.declared.needs.Need.TheVariants.{Length}
-use Rattle.p25_units.proofs.OutcomeLaws.{packet-most, voice-most}
+use Rattle.p25_units.proofs.OutcomeLaws.{most-le}
 use Rattle.p25_units.proofs.PacketItemLaws.{frame_outcome, frame_wrong}
 use Rattle.p25_units.proofs.ReadingsLaws.{body_reading_of-packet, body_reading_of-voice}
 use Rattle.p25_units.proofs.UnitPlaceLaws.{IsCountAt-kind, IsPacketAt, IsPacketAt-kind, voice_long}
@@ -45,7 +45,7 @@ read_voice-requires c =
     (bare_long duid c.args.bits.now c.unweave.new.out c.args.at c.args.count c.requires.there c.requires.kind c.unweave.ensures.bare) counted.there
 
 pub with_front-requires-clause-few : goal.with_front-requires-clause-few
-with_front-requires-clause-few c = voice-most c.read_voice.result c.read_voice.ensures.most
+with_front-requires-clause-few c = most-le c.read_voice.result 864 (omega arith) c.read_voice.ensures.most
 
 pub with_front-requires-clause-front : goal.with_front-requires-clause-front
 with_front-requires-clause-front c = omega (arith, c.requires.front, front_fixes_of-le (c.args.read.now.nid.nac, c.args.read.now.nid.duid) (drop c.args.at c.args.bits.now))
@@ -86,7 +86,7 @@ with_front-requires-in-Ok-clause-few c =
     let counted = IsCountAt-kind duid c.args.bits.now c.args.at c.args.count c.requires.there c.requires.kind in
     let short : length c.unweave.new.out ≤ 25200
     = omega (arith, counted.most, bare_long duid c.args.bits.now c.unweave.new.out c.args.at c.args.count c.requires.there c.requires.kind c.unweave.ensures.bare) in
-    packet-most c.read_packet.result (length c.unweave.new.out) short c.read_packet.ensures.few
+    most-le c.read_packet.result (length c.unweave.new.out) short c.read_packet.ensures.few
 
 pub with_front-requires-in-Ok-clause-front : goal.with_front-requires-in-Ok-clause-front
 with_front-requires-in-Ok-clause-front c = omega (arith, c.requires.front, front_fixes_of-le (c.args.read.now.nid.nac, c.args.read.now.nid.duid) (drop c.args.at c.args.bits.now))

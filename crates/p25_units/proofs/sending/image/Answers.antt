@@ -9,15 +9,12 @@ use Rattle.p25_units.proofs.sending.image.Goals as goal
 pub weave-requires : goal.weave-requires
 weave-requires c = c.unit_image.ensures.len ∙ symbols-sound c.args.frame.now c.requires
 
-is_image : goal.returns-clause-list
-unfolding image_of
-is_image c = c.weave.ensures.list ∙ ap (λ bits. woven bits c.args.frame.now.statuses) c.unit_image.ensures.list
-
 pub returns-clause-list : goal.returns-clause-list
-returns-clause-list c = is_image c
+unfolding image_of
+returns-clause-list c = c.weave.ensures.list ∙ ap (λ bits. woven bits c.args.frame.now.statuses) c.unit_image.ensures.list
 
 pub returns-clause-len : goal.returns-clause-len
-returns-clause-len c = ap length (is_image c) ∙ length-image_of c.args.frame.now c.requires c.unit_image.ensures.sendable
+returns-clause-len c = ap length (returns-clause-list c) ∙ length-image_of c.args.frame.now c.requires c.unit_image.ensures.sendable
 
 pub returns-clause-again : goal.returns-clause-again
-returns-clause-again c = ap unit_reading_of (is_image c) ∙ unit_reading_of-image_of c.args.frame.now c.requires c.unit_image.ensures.sendable
+returns-clause-again c = ap unit_reading_of (returns-clause-list c) ∙ unit_reading_of-image_of c.args.frame.now c.requires c.unit_image.ensures.sendable

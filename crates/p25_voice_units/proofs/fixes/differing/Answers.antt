@@ -1,30 +1,39 @@
-use Rattle.std.proofs.Common.{◌+◌, ◌≤◌, length, arith}
-use Rattle.std.proofs.Math.Nat.{mul-le-mul_left}
-use Rattle.p25_voice_units.proofs.FixesLaws.{counted_none, counted_next, counted-le, counted-small, counted_all}
+use Rattle.std.proofs.Common.{◌+◌, ◌<◌, length, get_or, sum_by, ap, ap₂, sym, ◌∙◌, arith}
+use Rattle.std.proofs.lemmas.List.{take_all}
+use Rattle.std.proofs.lemmas.List.Sums.{sum_by_more, sum_by_more_le}
+use Rattle.p25_voice_units.proofs.FixesLaws.{differ_at, differ_at-ones, differ_at-all, differ_at-le, differ_at-small}
 use Rattle.p25_voice_units.proofs.fixes.differing.Goals as goal
-
-pub loop-at-init : goal.loop-at-init
-loop-at-init c = counted_none c.args.width c.args.places.now c.args.received.now c.args.image.now
 
 pub loop-at-preserved : goal.loop-at-preserved
 loop-at-preserved c =
-    counted_next c.args.width c.args.places.now c.args.received.now c.args.image.now c.loop-at.at-index c.loop-at.wrong c.field.result c.field-in-loop-at.result (omega arith) c.requires.received c.requires.image c.loop-at.invariant
-    c.field.ensures.value
-    c.field-in-loop-at.ensures.value
+    let places = c.args.places.now in
+    let i = c.loop-at.at-index in
+    let inside : i < length places = omega arith in
+    ap₂ ◌+◌ c.loop-at.invariant (differ_at-ones c.args.width (get_or places i 0) c.args.received.now c.args.image.now c.field.result c.field-in-loop-at.result
+    (c.requires.received i 0 inside) (c.requires.image i 0 inside)
+    c.field.ensures.value c.field-in-loop-at.ensures.value)
+    ∙ sym (sum_by_more (differ_at c.args.width c.args.received.now c.args.image.now) places i 0 inside)
 
 pub overflow_add-wrong : goal.overflow_add-wrong
 overflow_add-wrong c =
-    let few : c.loop-at.at-index + 1 ≤ 36 = omega arith in
-    let next
-    = counted_next c.args.width c.args.places.now c.args.received.now c.args.image.now c.loop-at.at-index c.loop-at.wrong c.field.result c.field-in-loop-at.result (omega arith) c.requires.received c.requires.image c.loop-at.invariant
-    c.field.ensures.value
-    c.field-in-loop-at.ensures.value in
-    omega (arith, counted-small c.requires.width few next)
+    let places = c.args.places.now in
+    let i = c.loop-at.at-index in
+    let inside : i < length places = omega arith in
+    omega (
+      arith,
+      loop-at-preserved c,
+      sum_by_more (differ_at c.args.width c.args.received.now c.args.image.now) places i 0 inside,
+      sum_by_more_le (differ_at c.args.width c.args.received.now c.args.image.now) places i 0 inside,
+      differ_at-small c.args.width c.args.received.now c.args.image.now places c.requires.width c.requires.few c.requires.received,
+    )
 
 pub returns-clause-value : goal.returns-clause-value
-returns-clause-value c = counted_all c.args.width c.args.places.now c.args.received.now c.args.image.now c.loop-at.at-index c.loop-at.wrong (omega arith) c.loop-at.invariant
+returns-clause-value c =
+    c.loop-at.invariant
+    ∙ ap (sum_by (differ_at c.args.width c.args.received.now c.args.image.now)) (take_all c.loop-at.at-index c.args.places.now (omega arith))
+    ∙ differ_at-all c.args.width c.args.received.now c.args.image.now c.args.places.now c.requires.received c.requires.image
 
 pub returns-clause-most : goal.returns-clause-most
 returns-clause-most c =
-    let inside : c.loop-at.at-index ≤ length c.args.places.now = omega arith in
-    omega (arith, counted-le c.loop-at.invariant, mul-le-mul_left c.args.width inside)
+    let all = ap (sum_by (differ_at c.args.width c.args.received.now c.args.image.now)) (take_all c.loop-at.at-index c.args.places.now (omega arith)) in
+    omega (arith, c.loop-at.invariant, all, differ_at-le c.args.width c.args.received.now c.args.image.now c.args.places.now c.requires.received)

@@ -1,25 +1,45 @@
+use Rattle.std.proofs.Common.{◌+◌, ◌/◌, ◌^◌, ◌≤◌, Bool, List, length, take, slice_index, Some, option_map, refl, ap, sym, ◌∙◌, arith, lit≤}
+use Rattle.std.specs.Bool.{beq}
+use Rattle.p25_bits.specs.Bits.{bits_of, field_of, part}
+use Rattle.p25_bits.proofs.BitsLaws.{length-bits_of, take-bits_of}
 use Rattle.p25_bits.proofs.DistanceLaws.{ones-xor-le}
-use Rattle.p25_voice_units.specs.Readings.{low_places}
-use Rattle.p25_voice_units.proofs.ReadLaws.{low_found, low_wrong, low_beyond, some_at}
+use Rattle.p25_code.specs.Words.{IsEncoding}
+use Rattle.p25_coded_fields.proofs.ReadLaws.{received_bits, received_reading, read_word_of_set, wrong_bits}
+use Rattle.p25_hamming.specs.Lsd16.{IsLsd16}
+use Rattle.p25_hamming.specs.Lsd16Laws.{lsd16_is_code}
+use Rattle.p25_hamming.specs.Lsd16Readings.{lsd16_reading_of, lsd16_reads_as}
+use Rattle.p25_voice_units.specs.Fixes.{low_fixes_of}
+use Rattle.p25_voice_units.specs.Layouts.{ldu_rows}
+use Rattle.p25_voice_units.specs.Readings.{low_in, low_places}
+use Rattle.p25_voice_units.proofs.CodesLaws.{lsd16_encodes}
+use Rattle.p25_voice_units.proofs.ReadLaws.{low_octet, low_place-le, some_at}
 use Rattle.p25_voice_units.proofs.read.read_low.Goals as goal
 
-pub returns-in-Some-clause-value : goal.returns-in-Some-clause-value
-unfolding low_places
-returns-in-Some-clause-value c =
-    low_found c.args.i c.field-received.result c.in-Some.sent c.args.bare.now c.read_number.result c.requires.i c.requires.there c.field-received.ensures.value
-    (some_at _ c.read_number.result c.in-Some.sent c.read_number.ensures.fits c.in-Some.is) c.in-Some.is c.read_number.ensures.reading
-
-pub returns-in-Some-clause-wrong : goal.returns-in-Some-clause-wrong
-unfolding low_places
-returns-in-Some-clause-wrong c =
-    low_wrong c.args.i c.field-received.result c.in-Some.sent c.args.bare.now c.read_number.result c.requires.i c.requires.there c.field-received.ensures.value c.field-received.ensures.fits
-    (some_at _ c.read_number.result c.in-Some.sent c.read_number.ensures.fits c.in-Some.is) c.in-Some.is c.read_number.ensures.reading
-
-pub returns-in-Some-clause-most : goal.returns-in-Some-clause-most
-returns-in-Some-clause-most c =
-    ones-xor-le 16 c.field-received.result c.in-Some.sent c.field-received.ensures.fits (some_at _ c.read_number.result c.in-Some.sent c.read_number.ensures.fits c.in-Some.is)
+pub returns-in-Some : goal.returns-in-Some
+unfolding low_in low_places low_fixes_of
+returns-in-Some c =
+    let at = slice_index (low_places ldu_rows) c.args.i in
+    let received = c.field-received.result in
+    let sent = c.in-Some.sent in
+    let info = bits_of 8 (sent / 2 ^ 8) in
+    let bits = part at 16 c.args.bare.now in
+    let there : at + 16 ≤ length c.args.bare.now = omega (arith, low_place-le c.args.i c.requires.i, c.requires.there) in
+    let small = some_at _ c.read_number.result sent c.read_number.ensures.fits c.in-Some.is in
+    let taken = received_bits 16 at received c.args.bare.now c.field-received.ensures.value refl there in
+    let read = received_reading 16 received bits lsd16_reading_of c.in-Some.is c.read_number.ensures.reading taken in
+    let is_word = read_word_of_set beq IsLsd16 2 bits (bits_of 16 sent) (lsd16_reading_of bits) (lsd16_reads_as bits) (sym read) in
+    let made : IsEncoding IsLsd16 8 info (bits_of 16 sent) = record { word_of_set = is_word; begins = take-bits_of 8 16 sent (lit≤ tt) } in
+    record {
+      value = ap Some (low_octet sent small) ∙ ap (option_map (λ (w : List Bool). field_of (take 8 w))) read;
+      wrong = wrong_bits 16 8 lsd16_is_code.one_word received sent info bits _ made (lsd16_encodes info (length-bits_of 8 (sent / 2 ^ 8))) taken c.field-received.ensures.fits small;
+      most = ones-xor-le 16 received sent c.field-received.ensures.fits small;
+    }
 
 pub returns-in-None-clause-value : goal.returns-in-None-clause-value
-unfolding low_places
+unfolding low_in low_places
 returns-in-None-clause-value c =
-    low_beyond c.args.i c.field-received.result c.args.bare.now c.read_number.result c.requires.i c.requires.there c.field-received.ensures.value c.in-None.is c.read_number.ensures.reading
+    let at = slice_index (low_places ldu_rows) c.args.i in
+    let there : at + 16 ≤ length c.args.bare.now = omega (arith, low_place-le c.args.i c.requires.i, c.requires.there) in
+    let taken = received_bits 16 at c.field-received.result c.args.bare.now c.field-received.ensures.value refl there in
+    ap (option_map (λ (w : List Bool). field_of (take 8 w)))
+    (received_reading 16 c.field-received.result (part at 16 c.args.bare.now) lsd16_reading_of c.in-None.is c.read_number.ensures.reading taken)

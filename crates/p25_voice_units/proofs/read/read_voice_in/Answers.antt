@@ -1,6 +1,7 @@
-use Rattle.std.proofs.Common.{◌≡◌, length, Some, None, sym, ◌∙◌, arith}
+use Rattle.std.proofs.Common.{◌≡◌, length, Some, None, refl, sym, ◌∙◌, arith}
 use Rattle.p25_voice_units.specs.Lengths.{voice_length_of}
 use Rattle.p25_voice_units.proofs.LengthsLaws.{length-header, length-ldu1, length-ldu2, length-tdulc, length-other}
+use Rattle.p25_voice_units.proofs.CountedLaws.{end_fixes}
 use Rattle.p25_voice_units.proofs.KindsLaws.{long_by_kind, reading-header, reading-end, reading-ldu1, reading-ldu2, reading-tdulc, reading_by_kind}
 use Rattle.p25_voice_units.proofs.read.read_voice_in.Goals as goal
 
@@ -20,7 +21,10 @@ pub returns-in-0-clause-value : goal.returns-in-0-clause-value
 returns-in-0-clause-value c = reading_by_kind c.args.duid 0 c.args.bare.now _ _ c.in-0.is c.read_hdu.ensures.value (reading-header c.args.bare.now)
 
 pub returns-in-3-clause-value : goal.returns-in-3-clause-value
-returns-in-3-clause-value c = reading_by_kind c.args.duid 3 c.args.bare.now _ _ c.in-3.is c.read_tdu.ensures.value (reading-end c.args.bare.now)
+returns-in-3-clause-value c = reading_by_kind c.args.duid 3 c.args.bare.now _ _ c.in-3.is refl (reading-end c.args.bare.now)
+
+pub returns-in-3-clause-wrong : goal.returns-in-3-clause-wrong
+returns-in-3-clause-wrong c = end_fixes c.args.bare.now
 
 pub returns-in-5-clause-value : goal.returns-in-5-clause-value
 returns-in-5-clause-value c = reading_by_kind c.args.duid 5 c.args.bare.now _ _ c.in-5.is c.read_ldu1.ensures.value (reading-ldu1 c.args.bare.now)

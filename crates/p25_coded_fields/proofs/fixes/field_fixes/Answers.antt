@@ -7,7 +7,7 @@ use Rattle.p25_gf64.specs.declared.symbol.Sym.{Sym}
 use Rattle.p25_coded_fields.specs.Fixes.{AreCounted, IsInnerCount}
 use Rattle.p25_coded_fields.proofs.FixesLaws.{counted_none, counted_more, all_groups, front_more}
 use Rattle.p25_coded_fields.proofs.SymbolsLaws.{group_is, room_at}
-use Rattle.p25_coded_fields.proofs.fixes.encoded_fixes.Goals as goal
+use Rattle.p25_coded_fields.proofs.fixes.field_fixes.Goals as goal
 
 pub loop-i-init : goal.loop-i-init
 loop-i-init g c = let b = g.I.BlockCode in counted_none b.N b.K (c.K-each.result / 6) c.args.places.now (take (c.K-each.result / 6 * 0) c.args.word.now) c.args.bare.now

@@ -1,6 +1,6 @@
 use Rattle.std.proofs.Common.{◌*◌, take}
 use Rattle.p25_coded_fields.specs.Fixes.{AreCounted}
-use Rattle.p25_coded_fields.proofs.fixes.encoded_fixes.Given as goal
+use Rattle.p25_coded_fields.proofs.fixes.field_fixes.Given as goal
 
 abbrev pub invariant-loop-i : goal.invariant-loop-i
 invariant-loop-i g l =
