@@ -30,11 +30,6 @@ nid_reading_of-word bits word long isw near =
     ap (option_map identifier_of_word)
     (read_as_sent bch63_is_code (take 63 bits) word (bch63_reading_of (take 63 bits)) (length-take-le 63 bits long) (bch63_reads_as (take 63 bits)) isw near)
 
--- none is read exactly where no word lies within 11 bits of the first 63
-pub nid_reading_of-none : (bits : List Bool) → nid_reading_of bits ≡ None → NoneWithin beq IsBch63 11 (take 63 bits)
-unfolding IsNidReading
-nid_reading_of-none bits none = subst (IsNidReading bits) none (IsNidReading-nid_reading_of bits)
-
 -- the last bit is not looked at
 pub nid_reading_of-first : (a b : List Bool) → take 63 a ≡ take 63 b → nid_reading_of a ≡ nid_reading_of b
 unfolding nid_reading_of

@@ -215,38 +215,10 @@ get_or-bits_of (suc width) number (suc place) d h =
     let e : width - 1 - place ≡ suc width - 1 - suc place = omega arith in
     get_or-bits_of width number place d (omega arith) ∙ ap (λ k. eqb (bit_at number k) 1) e
 
--- a bit at a place of the bits of octets
-pub get_or-octet_bits : (octets : List ℕ) (place : ℕ) (d : Bool) → place < 8 * length octets → get_or (octet_bits octets) place d ≡ eqb (bit_and (get_or octets (place / 8) 0 / 2 ^ (7 - place % 8)) 1) 1
-get_or-octet_bits [] place d h = absurd (omega arith)
-get_or-octet_bits (x ∷ xs) place d h =
-    let eight = length-bits_of 8 x in
-    elim (cases_lt place 8) [
-      | inl low ↦
-          let inside : place < length (bits_of 8 x) = omega arith in
-          let first : 0 ≡ place / 8 = omega arith in
-          let rest : 8 - 1 - place ≡ 7 - place % 8 = omega arith in
-          ap (λ bits. get_or bits place d) (octet_bits-cons x xs)
-          ∙ get_or_append_left (bits_of 8 x) (octet_bits xs) d place inside
-          ∙ get_or-bits_of 8 x place d low
-          ∙ ap (λ b. eqb b 1) (sym (shr_and_one x (8 - 1 - place)))
-          ∙ ap₂ (λ i k. eqb (bit_and (get_or (x ∷ xs) i 0 / 2 ^ k) 1) 1) first rest
-      | inr high ↦
-          let next : suc ((place - 8) / 8) ≡ place / 8 = omega arith in
-          let rest : 7 - (place - 8) % 8 ≡ 7 - place % 8 = omega arith in
-          ap (λ bits. get_or bits place d) (octet_bits-cons x xs)
-          ∙ get_or-append_right (bits_of 8 x) (octet_bits xs) 8 place d eight high
-          ∙ get_or-octet_bits xs (place - 8) d (omega arith)
-          ∙ ap₂ (λ i k. eqb (bit_and (get_or (x ∷ xs) i 0 / 2 ^ k) 1) 1) next rest
-    ]
-
 -- one bit writes its digit
 pub field_of-one : (bit : Bool) → field_of (bit ∷ []) ≡ digit_of bit
 unfolding field_of field_after
 field_of-one bit = omega arith
-
--- one more bit after others doubles their number
-pub field_of-push : (bits : List Bool) (bit : Bool) → field_of (bits ++ bit ∷ []) ≡ 2 * field_of bits + digit_of bit
-field_of-push bits bit = field_of-append bits (bit ∷ []) ∙ omega (arith, field_of-one bit)
 
 -- an inverted bit leaves the number of bits
 pub length-flipped : (bits : List Bool) (place : ℕ) → length (flipped bits place) ≡ length bits

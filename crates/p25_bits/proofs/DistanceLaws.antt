@@ -73,20 +73,6 @@ distance_by-append same [] ys (u ∷ us) vs long = absurd (omega arith)
 distance_by-append same (x ∷ xs) ys [] vs long = absurd (omega arith)
 distance_by-append same (x ∷ xs) ys (u ∷ us) vs long = omega (arith, distance_by-append same xs ys us vs (omega arith))
 
--- one more place of both lists
-distance_by-drop_suc : {X : Type 0} (same : X → X → Bool) (xs ys : List X) (i : ℕ) (d : X) → i < length xs → i < length ys
-    → distance_by same (drop i xs) (drop i ys) ≡ cond (same (get_or xs i d) (get_or ys i d)) 0 1 + distance_by same (drop (suc i) xs) (drop (suc i) ys)
-unfolding distance_by
-distance_by-drop_suc same [] ys i d h k = absurd (omega arith)
-distance_by-drop_suc same (x ∷ xs) [] i d h k = absurd (omega arith)
-distance_by-drop_suc same (x ∷ xs) (y ∷ ys) zero d h k = refl
-distance_by-drop_suc same (x ∷ xs) (y ∷ ys) (suc i) d h k = distance_by-drop_suc same xs ys i d (omega arith) (omega arith)
-
--- the distance of two lists from a place on, as a loop over the places counts it
-pub distance_by-drop : {X : Type 0} (same : X → X → Bool) (xs ys : List X) (i : ℕ) (d : X) → i < length xs → i < length ys
-    → distance_by same (drop i xs) (drop i ys) ≡ cond (same (get_or xs i d) (get_or ys i d)) 0 1 + distance_by same (drop (i + 1) xs) (drop (i + 1) ys)
-distance_by-drop same xs ys i d h k = rw add-one (distance_by-drop_suc same xs ys i d h k)
-
 -- no places, no distance
 pub distance_by-nil : {X : Type 0} (same : X → X → Bool) (ys : List X) → distance_by same [] ys ≡ 0
 unfolding distance_by

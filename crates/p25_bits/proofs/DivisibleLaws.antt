@@ -256,12 +256,3 @@ some_remainder generator degree number g =
     let some = some_remainder_after generator degree g bits 0 0 (IsRemainder-lower generator degree 0 (pow_pos degree)) in
     let e = sym (field_of-after bits) ∙ field_of-bits_of number number ∙ mod-eq_of_lt (lt-two_pow number) in
     (some.0, subst (λ (n : ℕ). IsRemainder generator degree n some.0) e some.1)
-
--- each polynomial is divisible or not
-pub divisible_or_not : (generator degree number : ℕ) → HasDegree generator degree → IsDivisible generator number ⊎ ¬ IsDivisible generator number
-divisible_or_not generator degree number g =
-    let some = some_remainder generator degree number g in
-    elim (cases_eq some.0 0) [
-      | inl none ↦ inl (divisible_from_remainder generator degree number (subst (IsRemainder generator degree number) none some.1))
-      | inr other ↦ inr (λ d. other (IsRemainder-unique generator degree number some.0 0 g some.1 (remainder_from_divisible generator degree number d)))
-    ]

@@ -75,17 +75,6 @@ pub bits_of-field : (width at : ℕ) (bits : List Bool) → at + width ≤ lengt
 bits_of-field width at bits there =
     ap (λ n. bits_of n (field_of (part at width bits))) (sym (length-part at width bits there)) ∙ bits_of-field_of (part at width bits)
 
--- a number read from bits, after those read before it
-pub number_bits-take_more : (bits : List Bool) (at width : ℕ) (numbers : List ℕ) (i value : ℕ) → i < length numbers → at + width * i + width ≤ length bits
-    → value ≡ field_of (part (at + width * i) width bits) → number_bits width (take i numbers) ≡ part at (width * i) bits
-    → number_bits width (take (i + 1) (set numbers i value)) ≡ part at (width * (i + 1)) bits
-number_bits-take_more bits at width numbers i value inside there read so_far =
-    ap (number_bits width) (take_more_set numbers i value inside)
-    ∙ number_bits-append width (take i numbers) (value ∷ [])
-    ∙ ap₂ (λ (xs ys : List Bool). xs ++ ys) so_far (number_bits-one width value ∙ ap (bits_of width) read ∙ bits_of-field width (at + width * i) bits there)
-    ∙ part_add at (width * i) width bits
-    ∙ ap (λ n. part at n bits) (let more : width * i + width ≡ width * (i + 1) = omega (arith, more_bits 0 width i) in more)
-
 -- a number read from so many bits is below that power of two
 pub field-lt : (width at : ℕ) (bits : List Bool) → field_of (part at width bits) < 2 ^ width
 field-lt width at bits =
@@ -279,12 +268,6 @@ each_below-list xs d zero inside = refl
 each_below-list xs d (suc n) inside =
     let one : suc n ≡ n + 1 = omega arith in
     ap (λ (ys : List _). ys ++ get_or xs n d ∷ []) (each_below-list xs d n (omega arith)) ∙ sym (take_more xs n d (omega arith)) ∙ ap (λ k. take k xs) (sym one)
-
--- the bits of numbers made place by place
-pub number_bits-each_below : (width n : ℕ) (f : ℕ → ℕ) → number_bits width (each_below n f) ≡ joined_below n (λ j. bits_of width (f j))
-unfolding each_below joined_below
-number_bits-each_below width zero f = number_bits-nil width
-number_bits-each_below width (suc n) f = number_bits-append width (each_below n f) (f n ∷ []) ∙ ap₂ (λ (xs ys : List Bool). xs ++ ys) (number_bits-each_below width n f) (number_bits-one width (f n))
 
 pub joined_below-zero : {X : Type 0} (f : ℕ → List X) → joined_below 0 f ≡ []
 unfolding joined_below

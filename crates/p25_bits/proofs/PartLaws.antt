@@ -104,12 +104,6 @@ part-take at count len xs inside =
     let front : count ≤ len - at = omega arith in
     ap (λ k. take count (drop at (take k xs))) split ∙ ap (λ ys. take count ys) (drop-take at (len - at) xs) ∙ take-take count (len - at) (drop at xs) front
 
--- one more element of a part
-pub part_more : {X : Type 0} (at i : ℕ) (xs : List X) (d : X) → at + i < length xs → part at (i + 1) xs ≡ part at i xs ++ get_or xs (at + i) d ∷ []
-part_more at i xs d inside =
-    let there : i < length (drop at xs) = omega (arith, length-drop at xs) in
-    take_more (drop at xs) i d there ∙ ap (λ x. take i (drop at xs) ++ x ∷ []) (get_or-drop at xs i d)
-
 -- an element of a part
 pub get_or-part : {X : Type 0} (at count i : ℕ) (xs : List X) (d : X) → i < count → get_or (part at count xs) i d ≡ get_or xs (at + i) d
 get_or-part at count i xs d inside = get_or-take count (drop at xs) i d inside ∙ get_or-drop at xs i d

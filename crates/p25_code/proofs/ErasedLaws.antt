@@ -99,15 +99,6 @@ module _ {L : Type 0} {same : L → L → Bool} {IsWord : List L → Type 0} {n 
         one_within_cost list word sent long (record { word_of_set = is.word_of_set; within = is.within }) (record { word_of_set = sent_is; within = near })
     erased_reading_sent list received word sent Beyond long is sent_is near = absurd (omega (arith, is.none_within.dearer sent sent_is))
 
-  -- where the cost is twice the radius, a list without an erasure is read as what was received
-  pub whole_reading : (most : ℕ) → most ≡ 2 * radius → (received : List L) (a b : Option (List L)) → length received ≡ n → IsErasedReadAs same IsWord most (map Some received) a → IsReadAs same IsWord radius received b → a ≡ b
-  unfolding IsReadAs IsErasedReadAs
-  whole_reading most twice received a b long first second = one_reading code received a b long (as_read a first) second
-    where
-      as_read : (a : Option (List L)) → IsErasedReadAs same IsWord most (map Some received) a → IsReadAs same IsWord radius received a
-      as_read (Some word) is = record { word_of_set = is.word_of_set; within = omega (arith, is.within, erased_cost-letters same received word) }
-      as_read None is = record { farther = λ word w. omega (arith, is.dearer word w, erased_cost-letters same received word) }
-
 -- where the cost is twice the radius, what a reader of a list without an erasure answers and leaves is the reading of the letters
 pub reading_without_erasures : {L : Type 0} (same : L → L → Bool) (IsWord : List L → Type 0) (most radius : ℕ) → most ≡ 2 * radius → (received word : List L) (erased : List Bool) (reading : Reading) → All (λ gone. gone ≡ false) erased
     → IsErasedReading same IsWord most (without_erased received erased) received word reading → IsReading same IsWord radius received word reading

@@ -78,7 +78,3 @@ module _ {L : Type 0} {same : L → L → Bool} {IsWord : List L → Type 0} {n 
   unfolding IsReading IsReadAs word_read
   word_read_as received word (Found fixes) is = record { word_of_set = is.word_of_set; within = omega (arith, is.fixes_is, is.within) }
   word_read_as received word Beyond is = is.none_within
-
-  -- the encoding of some information is one word
-  pub encoding_unique : (info v w : List L) → IsEncoding IsWord k info v → IsEncoding IsWord k info w → v ≡ w
-  encoding_unique info v w first second = code.one_word v w first.word_of_set second.word_of_set (first.begins ∙ sym second.begins)

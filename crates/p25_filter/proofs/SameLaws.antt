@@ -18,43 +18,6 @@ pub record AreAlike (f g : Future) : Type 0 where
   pub pauses : (is : Bool) (octets : List ℕ) → f.pauses is octets ≡ g.pauses is octets
 
 module _ (f g : Future) (alike : AreAlike f g) where
-  -- all that is to be written
-  pub all_written-same : (input : List ℕ) → all_written f input ≡ all_written g input
-  all_written-same input = by_length (nat_lt input_most (length input))
-    where
-      by_length : (long : Bool) → cond long (f.writes false (take input_most input)) (f.writes true input) ≡ cond long (g.writes false (take input_most input)) (g.writes true input)
-      by_length true = alike.writes false (take input_most input)
-      by_length false = alike.writes true input
-
-  -- what is said of work on an input
-  Meets-same : (told left first last : Option (List ℕ)) (octets : List ℕ) (end : FilterEnd) → Meets told left first last f octets end → Meets told left first last g octets end
-  Meets-same told left first last octets (FilterEnded ending) meets = record {
-    ended = meets.ended;
-    all = meets.all;
-    ends = sym (alike.ends meets.ended (take input_most octets)) ∙ meets.ends;
-    stays = λ same is more. sym (alike.ends is (take input_most octets ++ more)) ∙ meets.stays same is more;
-    wrote = Appended-same (alike.writes meets.ended (take input_most octets)) meets.wrote;
-  }
-  Meets-same told left first last octets ReadFault meets =
-      record { few = meets.few; ends = sym (alike.ends false octets) ∙ meets.ends; wrote = Appended-same (alike.writes false octets) meets.wrote }
-  Meets-same told left first last octets WriteFault meets =
-      record { beginning = λ rest is. AppendedBeginning-same (all_written-same (octets ++ rest)) (meets.beginning rest is) }
-  Meets-same told left first last octets TooLong meets = record {
-    many = meets.many;
-    ends = sym (alike.ends false (take input_most octets)) ∙ meets.ends;
-    wrote = Appended-same (alike.writes false (take input_most octets)) meets.wrote;
-  }
-  Meets-same told left first last octets Memory meets = record {
-    ended = meets.ended;
-    all = meets.all;
-    text = meets.text;
-    pauses = subst (λ (texts : List (List ℕ)). Contains texts meets.text) (alike.pauses meets.ended (take input_most octets)) meets.pauses;
-    wrote = meets.wrote;
-  }
-
-  pub Filtered-same : (told left first last : Option (List ℕ)) (end : FilterEnd) → Filtered told left first last f end → Filtered told left first last g end
-  Filtered-same told left first last end worked =
-      record { octets = worked.octets; taken = worked.taken; few = worked.few; meets = Meets-same told left first last worked.octets end worked.meets }
 
   -- a run of events
   IsDecided-same : (phase : Phase) (octets text : List ℕ) → IsDecided f phase octets text → IsDecided g phase octets text

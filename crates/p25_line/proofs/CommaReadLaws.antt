@@ -38,13 +38,6 @@ module _ {X : Type 0} (read : List ℕ → Option X) where
       ∙ ap (λ o. option_map (λ entries. done ++ entries) (with_entry o (entries_in read (parts_from word next)))) found
       ∙ one_more done entry (entries_in read (parts_from word next))
 
-  -- a part that is not read
-  pub EntriesSoFar-none : (word part : List ℕ) (start next : ℕ) (done : List X) → EntriesSoFar word start done → parts_from word start ≡ part ∷ parts_from word next
-      → read part ≡ None → entries_in read (comma_parts word) ≡ None
-  EntriesSoFar-none word part start next done so_far parts found =
-      so_far ∙ ap (λ l. option_map (λ entries. done ++ entries) (entries_in read l)) parts
-      ∙ ap (λ o. option_map (λ entries. done ++ entries) (with_entry o (entries_in read (parts_from word next)))) found
-
   -- no part is left
   pub EntriesSoFar-end : (word : List ℕ) (start : ℕ) (done : List X) → EntriesSoFar word start done → length word < start → entries_in read (comma_parts word) ≡ Some done
   EntriesSoFar-end word start done so_far past =
@@ -69,6 +62,3 @@ module _ {X : Type 0} (read : List ℕ → Option X) where
   -- the list of a word that is not `-`
   pub list_in-parts : (word : List ℕ) → bytes_eq word dash ≡ false → list_in read word ≡ entries_in read (comma_parts word)
   list_in-parts word other = cond-false (bytes_eq word dash) (Some []) (entries_in read (comma_parts word)) other
-
-  pub list_in-dash : (word : List ℕ) → bytes_eq word dash ≡ true → list_in read word ≡ Some []
-  list_in-dash word same = cond-true (bytes_eq word dash) (Some []) (entries_in read (comma_parts word)) same

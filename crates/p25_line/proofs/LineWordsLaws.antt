@@ -82,11 +82,6 @@ pub first-others : {X : Type 0} (words : List X) (first : X) → slice_get words
 first-others [] first at = cc at
 first-others (word ∷ words) first at = let same : word ≡ first = cc at in ap (λ w. w ∷ words) same
 
-pub no-others : {X : Type 0} (words : List X) → length words ≡ 1 → drop 1 words ≡ []
-no-others [] count = absurd (omega arith)
-no-others (first ∷ []) count = refl
-no-others (first ∷ second ∷ words) count = absurd (omega arith)
-
 pub one-other : {X : Type 0} (words : List X) (x : X) → length words ≡ 2 → slice_get words 1 ≡ Some x → drop 1 words ≡ x ∷ []
 one-other [] x count at = absurd (omega arith)
 one-other (first ∷ []) x count at = absurd (omega arith)

@@ -47,21 +47,6 @@ pub record Cut (line : List ℕ) (list : Marks) (start i : ℕ) : Type 0 where
   pub lies : All (LiesIn line) list.places
   pub printed : list_all is_printed (take (i - start) (drop start line)) ≡ true
 
-pub Cut-start : (line : List ℕ) (list : Marks) → list ≡ record { places = []; count = 0 } → Cut line list 0 0
-Cut-start line list none =
-    let empty : Marks = record { places = []; count = 0 } in
-    let cut : Cut line empty 0 0 = record {
-      order = omega arith;
-      within = omega arith;
-      few = omega arith;
-      rest = refl;
-      words = refl;
-      places = refl;
-      lies = All-nil (LiesIn line);
-      printed = refl;
-    } in
-    subst (λ (l : Marks). Cut line l 0 0) (sym none) cut
-
 -- one more printed octet
 pub Cut-printed : (line : List ℕ) (list : Marks) (start i : ℕ) → Cut line list start i → i < length line → is_printed (get_or line i 0) ≡ true
     → Cut line list start (i + 1)

@@ -93,11 +93,3 @@ symbols_in-more n bits = let next : n + 1 ≡ suc n = omega arith in ap (λ k. s
 pub symbol_bits-nil : symbol_bits [] ≡ []
 unfolding symbol_bits
 symbol_bits-nil = refl
-
--- the bits of one more symbol
-pub symbol_bits-more : (before : List Bool) (symbols : List Sym) (i : ℕ) (d : Sym) → i < length symbols
-    → (before ++ symbol_bits (take i symbols)) ++ bits_of 6 (number (get_or symbols i d)) ≡ before ++ symbol_bits (take (i + 1) symbols)
-unfolding symbol_bits
-symbol_bits-more before symbols i d inside =
-    flat_map_more (λ symbol. bits_of 6 (number symbol)) before (take i symbols) (get_or symbols i d)
-    ∙ ap (λ xs. before ++ flat_map (λ symbol. bits_of 6 (number symbol)) xs) (sym (take_more symbols i d inside))

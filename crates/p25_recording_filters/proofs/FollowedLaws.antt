@@ -11,14 +11,6 @@ use Rattle.p25_follow.specs.Relayed.{IsFitItem}
 use Rattle.p25_recording_filters.specs.Commands.{followed_item, unfilled}
 use Rattle.p25_recording_filters.proofs.OctetsLaws.{whole_octets-append}
 
--- an item of a stretch is short
-pub rest-short : (item : Item) → IsFitItem item → is_rest item ≡ true → covered item ≤ 4096
-rest-short (Whole place frame fixes) fits rest = absurd (cc rest)
-rest-short (Broken place count nac duid fields) fits rest = absurd (cc rest)
-rest-short (NoUnit place field) fits rest = omega arith
-rest-short (Gap place count) fits rest = fits
-rest-short (Cut place have) fits rest = absurd (cc rest)
-
 own-rest : (item : Item) (raw : List Bool) → is_rest item ≡ true → written_item item raw ≡ []
 unfolding written_item
 own-rest item raw rest = ap (λ (b : Bool). cond b [] raw) rest

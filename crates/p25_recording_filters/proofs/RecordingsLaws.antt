@@ -29,14 +29,6 @@ gave-place before now item raw gave =
 pub gave-fits : (before now : Scan) (item : Item) (raw : List Bool) → Gave before item raw now → IsFitItem item
 gave-fits before now item raw gave = items-fit before.finished before.place before.held [] item (given now) gave.items
 
--- the bits that an item covers are those with which it was given
-pub gave-bits : (before now : Scan) (item : Item) (raw : List Bool) → Gave before item raw now → Gave before item (take (covered item) before.held) now
-gave-bits before now item raw gave = subst (λ (bits : List Bool). Gave before item bits now) gave.raw_bits gave
-
--- the bits of one octet
-pub octet_bits-one : (octet : ℕ) → octet_bits (octet ∷ []) ≡ bits_of 8 octet
-octet_bits-one octet = octet_bits-cons octet [] ∙ ap (λ (zs : List Bool). bits_of 8 octet ++ zs) octet_bits-nil ∙ append-nil (bits_of 8 octet)
-
 module _ {R : Type 0} (reporting : Reporting R) where
   -- what is written of an item and what is kept after it are those of the bits that it covers, where the report is given these bits
   -- or looks at none

@@ -45,10 +45,6 @@ are_true_slots-step sent heard i was slot same long h s t e =
     are_true_slots-is sent heard i h (omega arith)
     ∙ ap (λ (b : Bool). b && are_true_slots (drop (i + 1) sent) (drop (i + 1) heard)) (ap₂ is_true_slot (get_or_from_slice_get sent i was Bad s) (get_or_from_slice_get heard i slot Bad t) ∙ sym e)
 
-pub are_true_slots-none : (sent heard : List Slot) → sent ≡ [] → heard ≡ [] → are_true_slots sent heard ≡ true
-unfolding are_true_slots
-are_true_slots-none sent heard s h = ap₂ are_true_slots s h
-
 pub are_true_slots-lengths : (sent heard : List Slot) → (length sent ≡ length heard → ⊥) → are_true_slots sent heard ≡ false
 unfolding are_true_slots
 are_true_slots-lengths [] [] h = absurd (h refl)

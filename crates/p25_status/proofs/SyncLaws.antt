@@ -68,15 +68,3 @@ pub has_sync-take : (bits : List Bool) (count : ℕ) → 48 ≤ count → count 
 has_sync-take bits count enough there =
     let long : 48 ≤ length (take count bits) = omega (arith, length-take count bits) in
     sym (has_sync-append (take count bits) (drop count bits) long) ∙ ap has_sync (take-append-drop count bits)
-
--- the sync begins with a sync, whatever stands after it
-pub has_sync-sync_bits : (more : List Bool) → has_sync (sync_bits ++ more) ≡ true
-has_sync-sync_bits more =
-    let long : 48 ≤ length (sync_bits ++ more) = omega (arith, length-append sync_bits more, length-sync_bits) in
-    let near : distance_of (take 48 (sync_bits ++ more)) sync_bits ≤ sync_slack
-    = omega (arith, ap (λ (bits : List Bool). distance_of bits sync_bits) (take_at sync_bits more 48 length-sync_bits), distance_of-same sync_bits) in
-    has_sync-yes (sync_bits ++ more) long near
-
--- the bits of a window are those that it was read from
-pub window_bits : (bits : List Bool) (at : ℕ) → at + 48 ≤ length bits → bits_of 48 (field_of (part at 48 bits)) ≡ take 48 (drop at bits)
-window_bits bits at there = bits_of-field 48 at bits there

@@ -132,13 +132,3 @@ IsNearReading-from states width apart point received octets distance far long re
 -- a block has 196 bits
 pub length-block : (states width : ℕ) (point : ℕ → ℕ → ℕ) (octets : List ℕ) (block : List Bool) → IsBlock states width point octets block → length block ≡ 196
 length-block states width point octets block is = ap length is.sent ∙ length-sent_bits states point is.path is.is_path
-
--- a block that is all that was received is at no distance
-pub distance_of-block : (states width : ℕ) (point : ℕ → ℕ → ℕ) (octets : List ℕ) (before received block : List Bool) → before ≡ [] → received ≡ before ++ block
-    → IsBlock states width point octets block → distance_of block (part 0 196 received) ≡ 0
-distance_of-block states width point octets before received block none all is =
-    let long : length block ≡ 196 = length-block states width point octets block is in
-    let short : length block ≤ 196 = omega arith in
-    let same : part 0 196 received ≡ block
-    = ap (λ (bits : List Bool). take 196 bits) (all ∙ ap (λ (bits : List Bool). bits ++ block) none) ∙ take_all 196 block short in
-    ap (distance_of block) same ∙ distance_of-same block

@@ -31,25 +31,6 @@ identifier_number bits at before behind there first second =
 pub identifier_bits-of : (rest : List Bool) (number : ℕ) → 114 ≤ length rest → number ≡ field_of (identifier_bits rest) → bits_of 64 number ≡ identifier_bits rest
 identifier_bits-of rest number long is = ap₂ bits_of (sym (length-identifier_bits rest long)) is ∙ bits_of-field_of (identifier_bits rest)
 
--- the first 63 of 64 bits
-first_63 : (number : ℕ) → take 63 (bits_of 64 number) ≡ bits_of 63 (number / 2)
-first_63 number =
-    ap (take 63) (bits_of-add 63 1 number) ∙ take_at (bits_of 63 (number / 2 ^ 1)) (bits_of 1 number) 63 (length-bits_of 63 (number / 2 ^ 1))
-
-number_63 : (number : ℕ) → number < 2 ^ 64 → field_of (take 63 (bits_of 64 number)) ≡ number / 2
-number_63 number below =
-    let small : number / 2 < 2 ^ 63 = omega arith in
-    ap field_of (first_63 number) ∙ field_of-bits_of 63 (number / 2) ∙ mod-eq_of_lt small
-
-pub length_63 : (number : ℕ) → length (take 63 (bits_of 64 number)) ≡ 63
-length_63 number = ap length (first_63 number) ∙ length-bits_of 63 (number / 2)
-
--- the weight of the exclusive or without the last bit is the distance of the first 63 bits
-pub weight-distance : (a b : ℕ) → a < 2 ^ 64 → b < 2 ^ 64 → count_ones (bit_xor a b / 2) ≡ distance_of (take 63 (bits_of 64 a)) (take 63 (bits_of 64 b))
-weight-distance a b first second =
-    ap count_ones (xor_shr a b 1 ∙ ap₂ bit_xor (sym (number_63 a first)) (sym (number_63 b second)))
-    ∙ ones-xor (take 63 (bits_of 64 a)) (take 63 (bits_of 64 b)) (length_63 a ∙ sym (length_63 b))
-
 -- the bits of a window's number are the window
 pub window_bits : (bits : List Bool) (at window : ℕ) → at + 48 ≤ length bits → window ≡ field_of (part at 48 bits) → bits_of 48 window ≡ take 48 (drop at bits)
 window_bits bits at window there is =

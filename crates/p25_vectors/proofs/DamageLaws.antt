@@ -141,11 +141,6 @@ pub damaged-none : (counts : List ℕ) (bits : List Bool) → damaged [] counts 
 unfolding damaged
 damaged-none counts bits = refl
 
-pub damaged-cons : (word : ℕ × ℕ) (words : List (ℕ × ℕ)) (count : ℕ) (counts : List ℕ) (bits : List Bool)
-    → damaged (word ∷ words) (count ∷ counts) bits ≡ damaged words counts (inverted word.0 count bits)
-unfolding damaged
-damaged-cons word words count counts bits = refl
-
 pub damaged-one : (word : ℕ × ℕ) (count : ℕ) (bits : List Bool) → damaged (word ∷ []) (count ∷ []) bits ≡ inverted word.0 count bits
 unfolding damaged
 damaged-one word count bits = refl
