@@ -2,7 +2,7 @@
 use Rattle.std.proofs.Common.{◌≡◌, ℕ, ◌+◌, ◌<◌, ◌⊎◌, inl, inr, Bool, true, false, cond, eqb, ◌&&◌, List, length, take, Option, Some, None, refl, ap, sym, ◌∙◌, subst, arith}
 use Rattle.std.specs.Prelude.{nat_le, not}
 use Rattle.std.specs.List.{list_any}
-use Rattle.std.proofs.lemmas.Bool.{cond-true, cond-false, and_parts}
+use Rattle.std.proofs.lemmas.Bool.{cond-true, cond-false, and_parts, eqb-true}
 use Rattle.std.proofs.lemmas.Bool.Decides.{nat_tests}
 use Rattle.p25_packet_blocks.specs.Heads.{response_class}
 use Rattle.p25_packet_blocks.specs.Parts.{PlainParts}
@@ -227,15 +227,12 @@ quiet-answer s (Plain packet) o =
 
 -- which numbers the answers of a receiver acknowledge
 
-eq-from_true : (m n : ℕ) → eqb m n ≡ true → m ≡ n
-eq-from_true m n e = grind (arith, nat_tests)
-
 pub acks-ack : (status number : ℕ) → status < 8 → acks (ack_packet status) number ≡ true → status ≡ number
 unfolding acks short_response is_ack
-acks-ack status number h e = sym (response_head-status 0 1 status 0 h) ∙ eq-from_true _ number (and_parts _ _ e).1
+acks-ack status number h e = sym (response_head-status 0 1 status 0 h) ∙ eqb-true _ number (and_parts _ _ e).1
 
 pub acks-retry : (status number : ℕ) (flags : List Bool) → status < 8 → acks (retry_packet status flags) number ≡ true → ⊥
 unfolding acks retry_packet is_ack
 acks-retry status number flags h e =
-    let class : response_class _ ≡ 0 = eq-from_true _ 0 (and_parts _ _ (and_parts _ _ e).0).0 in
+    let class : response_class _ ≡ 0 = eqb-true _ 0 (and_parts _ _ (and_parts _ _ e).0).0 in
     absurd (omega (arith, class, response_head-class 2 0 status (cond (nat_le (length flags) 64) 1 2) (omega arith) h))

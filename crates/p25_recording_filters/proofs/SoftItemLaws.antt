@@ -2,7 +2,7 @@
 -- its place, so these can be let go.
 use Rattle.std.proofs.Common.{◌≡◌, ℕ, ◌+◌, ◌-◌, ◌*◌, ◌/◌, ◌%◌, ◌<◌, ◌≤◌, ◌&&◌, inl, inr, Bool, true, false, cond, List, [], ◌∷◌, ◌++◌, length, take, drop, refl, ap, ap₂, sym, subst, ◌∙◌, arith, append_assoc, append-nil, length-append, length-drop, eq-eqb, ℤ}
 use Rattle.std.specs.Prelude.{nat_eq}
-use Rattle.std.proofs.lemmas.Bool.{cases_Bool, cond-true, cond-false, eqb-true}
+use Rattle.std.proofs.lemmas.Bool.{cases_Bool, cond-true, cond-false, eqb-true, and_parts}
 use Rattle.std.proofs.lemmas.List.{take-append-drop, take-append-le, drop-append-le, drop-drop, length-take-le, drop_at}
 use Rattle.p25_bits.specs.Bits.{part}
 use Rattle.p25_bits.proofs.PartLaws.{part-drop, part_left}
@@ -304,12 +304,8 @@ record IsEvenPacket (item : Item) : Type 0 where
 
 even-parts : (item : Item) → is_even_packet item ≡ true → IsEvenPacket item
 even-parts (Broken at size nac duid fields) yes' =
-    let both = and_both (nat_eq duid 0xC) (nat_eq (at % 2) 0) yes' in
+    let both = and_parts (nat_eq duid 0xC) (nat_eq (at % 2) 0) yes' in
     record { at = at; size = size; nac = nac; duid = duid; fields = fields; is = refl; packet = eqb-true duid 0xC both.0; even = eqb-true (at % 2) 0 both.1 }
-  where
-    and_both : (a b : Bool) → (a && b) ≡ true → (a ≡ true) × (b ≡ true)
-    and_both true b h = (refl, h)
-    and_both false b h = absurd (cc)
 even-parts (Whole place frame fixes) yes' = absurd (cc)
 even-parts (NoUnit place field) yes' = absurd (cc)
 even-parts (Gap place count) yes' = absurd (cc)

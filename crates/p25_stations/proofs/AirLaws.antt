@@ -4,7 +4,7 @@ use Rattle.std.proofs.Common.{subst, ◌≡◌, ℕ, ◌*◌, ◌<◌, inl, inr,
 use Rattle.std.specs.Prelude.{◌↔◌}
 use Rattle.std.specs.Str.{bytes_eq}
 use Rattle.std.specs.Cmp.Lexicographic.{same_text}
-use Rattle.std.proofs.lemmas.Bool.{and_parts, and_from, eq-eqb, ne_eqb, cond-true, cond-false}
+use Rattle.std.proofs.lemmas.Bool.{and_parts, and_from, eq-eqb, ne_eqb, cond-true, cond-false, eqb-true, not-false}
 use Rattle.std.proofs.lemmas.Bool.Decides.{nat_tests}
 use Rattle.std.proofs.lemmas.List.{length-replicate}
 use Rattle.std.proofs.lemmas.Slice.Eq.{bytes_eq-Decides}
@@ -31,13 +31,10 @@ use Rattle.p25_stations.specs.Air.{station_nac, station_status, transmission_of,
 same-octets : (xs ys : List ℕ) → bytes_eq xs ys ≡ true → xs ≡ ys
 same-octets xs ys e = same_text xs ys (sym e)
 
-eq-from_true : (m n : ℕ) → eqb m n ≡ true → m ≡ n
-eq-from_true m n e = grind (arith, nat_tests)
-
 same-block : (was block : BlockParts) → eqb was.serial block.serial && bytes_eq was.octets block.octets ≡ true → block ≡ was
 same-block was block e =
     let parts = and_parts _ _ e in
-    ap₂ (λ (n : ℕ) (xs : List ℕ). record { serial = n; octets = xs }) (sym (eq-from_true was.serial block.serial parts.0)) (sym (same-octets was.octets block.octets parts.1))
+    ap₂ (λ (n : ℕ) (xs : List ℕ). record { serial = n; octets = xs }) (sym (eqb-true was.serial block.serial parts.0)) (sym (same-octets was.octets block.octets parts.1))
 
 true-slots : (sent heard : List Slot) → are_true_slots sent heard ≡ true → AreTrueSlots sent heard
 unfolding are_true_slots is_true_slot AreTrueSlots
@@ -63,10 +60,6 @@ true-packet (Plain sent) (Confirmed heard) e = cc
 true-packet (Plain sent) (Plain heard) e =
     let parts = and_parts _ _ e in
     ap₂ (λ (h : PacketHead) (xs : List ℕ). record { head = h; octets = xs }) (same-head sent.head heard.head parts.0) (sym (same-octets sent.octets heard.octets parts.1))
-
-not-false : (b : Bool) → not b ≡ false → b ≡ true
-not-false true e = refl
-not-false false e = cc
 
 heard-same : (sent read packet : Packet) (false_pass : Bool) → Heard read (not (is_true_to sent read)) ≡ Heard packet false_pass → false_pass ≡ not (is_true_to sent packet)
 heard-same sent read packet false_pass h = cc

@@ -1,7 +1,7 @@
 -- The items of a stream: the cases of the first item, the walk a step at a time, and what stays under more bits. All that is
 -- known of units are the laws that p25_units gives a scanner.
 use Rattle.std.proofs.Common.{◌≡◌, ℕ, zero, suc, ◌+◌, ◌<◌, ◌≤◌, inl, inr, Bool, true, false, ◌||◌, cond, min, List, [], ◌∷◌, ◌++◌, length, take, drop, refl, ap, sym, ◌∙◌, subst, arith, length-append, length-drop}
-use Rattle.std.proofs.lemmas.Bool.{cases_Bool, cases_lt, le-leb, leb-true, cond-true, cond-false}
+use Rattle.std.proofs.lemmas.Bool.{cases_Bool, cases_lt, le-leb, leb-true, cond-true, cond-false, or_right}
 use Rattle.std.proofs.lemmas.List.{take-append-le, drop-append-le}
 use Rattle.p25_status.specs.Sync.{has_sync}
 use Rattle.p25_status.specs.declared.fields.Field.{Field}
@@ -199,10 +199,6 @@ decided-some bits decided =
       | inl yes' ↦ omega (arith, has_sync-length bits yes')
     ]
 
-or_true : (ended decided : Bool) → decided ≡ true → (ended || decided) ≡ true
-or_true true decided is = refl
-or_true false decided is = is
-
 -- the items of more bits, where the first is decided
 pub items_by-decided : (ended : Bool) (at : ℕ) (bits more : List Bool) → is_decided bits ≡ true
     → items_by ended at (bits ++ more) ≡ first_item at bits ∷ items_by ended (at + covered (first_item at bits)) (drop (covered (first_item at bits)) bits ++ more)
@@ -210,7 +206,7 @@ items_by-decided ended at bits more decided =
     let some = decided-some bits decided in
     let stays = first_item-append at bits more decided in
     let left = drop-append-le (covered (first_item at bits)) bits more (covered-first_item at bits some).1 in
-    items_by-more ended at (bits ++ more) (omega (arith, length-append bits more)) (or_true ended (is_decided (bits ++ more)) stays.1)
+    items_by-more ended at (bits ++ more) (omega (arith, length-append bits more)) (or_right ended (is_decided (bits ++ more)) stays.1)
     ∙ ap (λ item. item ∷ items_by ended (at + covered item) (drop (covered item) (bits ++ more))) stays.0
     ∙ ap (λ rest. first_item at bits ∷ items_by ended (at + covered (first_item at bits)) rest) left
 

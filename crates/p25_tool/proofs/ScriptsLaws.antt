@@ -5,6 +5,7 @@ use Rattle.std.specs.Prelude.{IfSome}
 use Rattle.std.specs.List.{flat_map}
 use Rattle.std.proofs.lemmas.List.{take_all}
 use Rattle.std.proofs.lemmas.Bool.Decides.{nat_tests}
+use Rattle.std.proofs.lemmas.Bool.{cond-false}
 use Rattle.p25_delivery.specs.Runs.{EachIs}
 use Rattle.p25_io.specs.Octets.{Appended}
 use Rattle.p25_io.proofs.OctetsLaws.{Appended-same}
@@ -97,10 +98,6 @@ ended-done EndDone is = refl
 ended-done (Found faults) is = cc is
 ended-done (BadLine line fault) is = cc is
 
-by_length : (long : Bool) (x y : Outcome) → long ≡ false → cond long x y ≡ y
-by_length true x y is = cc is
-by_length false x y is = refl
-
 -- each of the events that lines are read as is what each event is that a line is read as
 each-read : {E : Type 0} (read : Reading E) (Is : E → Type 0) → ((line : List ℕ) (event : E) → read line ≡ Ok event → Is event)
     → (lines : List (List ℕ)) (events : List E) → map read lines ≡ map (λ e. Ok e) events → EachIs Is events
@@ -148,7 +145,7 @@ module _ {E S : Type 0} (read : Reading E) (steps : List E → List S) (line : S
   answer-done : answer_of command input ≡ Done
   answer-done =
       let short : answer_of command input ≡ ending_or (ending_by command true input) OutcomeTooLong
-      = by_length (nat_lt input_most (length input)) _ _ (grind (arith, nat_tests, script.short)) in
+      = cond-false (nat_lt input_most (length input)) _ _ (grind (arith, nat_tests, script.short)) in
       short ∙ ap (λ (o : Option Ending). ending_or o OutcomeTooLong)
       (ap (λ (f : Future). f.ends true input) is ∙ ap (λ (r : Option Ending). lines_ending true r) are.accepted)
 
