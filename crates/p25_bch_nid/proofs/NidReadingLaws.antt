@@ -1,11 +1,10 @@
 -- The laws of the reading of identifiers. They follow from those of the code: at most one word lies within the radius, and one word
 -- begins with a NAC and a DUID.
-use Rattle.std.proofs.Common.{◌≡◌, ℕ, ◌≤◌, Bool, List, length, take, Option, Some, None, option_map, ap, sym, subst, ◌∙◌, refl, arith}
+use Rattle.std.proofs.Common.{◌≡◌, ℕ, ◌≤◌, Bool, List, length, take, Option, Some, None, option_map, ap, sym, ◌∙◌, refl, arith}
 use Rattle.std.specs.Bool.{beq}
 use Rattle.std.proofs.lemmas.List.{length-take-le}
 use Rattle.p25_bits.specs.Distance.{distance_of}
 use Rattle.p25_code.specs.Readings.{IsReadAs}
-use Rattle.p25_code.specs.Words.{NoneWithin}
 use Rattle.p25_code.proofs.ReadingLaws.{read_as_sent}
 use Rattle.p25_bch_nid.specs.Bch63.{IsBch63}
 use Rattle.p25_bch_nid.specs.Bch63Laws.{bch63_is_code}

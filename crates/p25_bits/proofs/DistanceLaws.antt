@@ -1,6 +1,6 @@
 -- Laws of the distance of two lists, for any test that calls letters equal exactly where they are one letter, and of the distance of bits as the
 -- weight of an exclusive or. By induction on both lists.
-use Rattle.std.proofs.Common.{◌≡◌, ℕ, zero, suc, ◌+◌, ◌*◌, ◌^◌, ◌<◌, ◌≤◌, inl, inr, Bool, true, false, cond, not, List, [], ◌∷◌, ◌++◌, length, get_or, take, drop, refl, ap, ap₂, sym, ◌∙◌, subst, arith, add-one, bit_xor, mod-eq_of_lt, nat_eq, length-drop}
+use Rattle.std.proofs.Common.{◌≡◌, ℕ, zero, suc, ◌+◌, ◌*◌, ◌^◌, ◌<◌, ◌≤◌, inl, inr, Bool, true, false, cond, not, List, [], ◌∷◌, ◌++◌, length, take, drop, refl, ap, ap₂, sym, ◌∙◌, subst, arith, bit_xor, mod-eq_of_lt, nat_eq, length-drop}
 use Rattle.std.specs.Bool.{beq}
 use Rattle.std.specs.Cmp.{booleans_Decides, unsigned_Decides, both_ways}
 use Rattle.std.specs.Cmp.Lexicographic.{pointwise, pointwise_decides}

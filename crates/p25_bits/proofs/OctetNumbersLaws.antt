@@ -1,12 +1,10 @@
 -- Numbers that octets write in base 256: by their bits, which they share with the octets. By induction on the octets.
-use Rattle.std.proofs.Common.{◌≡◌, ℕ, zero, suc, ◌+◌, ◌*◌, ◌^◌, ◌<◌, ◌≤◌, Bool, List, [], ◌∷◌, ◌++◌, length, refl, ap, ap₂, sym, ◌∙◌, arith, pow-add, All}
+use Rattle.std.proofs.Common.{◌≡◌, ℕ, zero, suc, ◌+◌, ◌*◌, ◌^◌, ◌<◌, List, [], ◌∷◌, length, refl, ap, ap₂, sym, ◌∙◌, arith, pow-add, All}
 use Rattle.std.proofs.Math.Nat.{mul_comm, mul_assoc, add-mul, pow-suc, mod-eq_of_lt}
-use Rattle.std.proofs.lemmas.List.{take_all}
 use Rattle.std.proofs.lemmas.List.Elements.{All-head, All-tail}
 use Rattle.p25_bits.specs.Bits.{bits_of, field_of, octet_bits}
-use Rattle.p25_bits.specs.Numbers.{octets_from, number_after, octets_number}
-use Rattle.p25_bits.proofs.BitsLaws.{bits_of-field_of, field_of-bits_of, field_of-lt, field_of-append, field_of-nil, length-octet_bits, octet_bits-cons, octet_bits-nil}
-use Rattle.p25_bits.proofs.NumbersLaws.{number_bits-octets, All-numbers_from, numbers_from-number_bits, number_bits-numbers_from}
+use Rattle.p25_bits.specs.Numbers.{number_after, octets_number}
+use Rattle.p25_bits.proofs.BitsLaws.{field_of-bits_of, field_of-append, field_of-nil, length-octet_bits, octet_bits-cons, octet_bits-nil}
 
 pub octets_number-nil : octets_number [] ≡ 0
 unfolding octets_number number_after

@@ -5,10 +5,10 @@ use Rattle.p25_bits.specs.Distance.{distance_by}
 use Rattle.p25_code.specs.declared.code.Reading.{Reading}
 use Rattle.p25_code.specs.declared.code.Reading.TheVariants.{Found, Beyond}
 use Rattle.p25_code.specs.Words.{IsReading}
-use Rattle.p25_code.specs.Readings.{IsReadAs, word_read}
+use Rattle.p25_code.specs.Readings.{word_read}
 use Rattle.p25_code.specs.Erasures.{without_erased, erasures_in, letter_distance, kept_distance, erased_cost, IsErasedReading}
 use Rattle.p25_code.specs.ErasedReadings.{IsErasedReadAs, IsWithinCost}
-use Rattle.p25_code.proofs.ReadingLaws.{IsBlockCode, near_words, one_reading}
+use Rattle.p25_code.proofs.ReadingLaws.{IsBlockCode, near_words}
 
 -- a list with erasures is as long as what was received
 pub length-without_erased : {L : Type 0} (received : List L) (erased : List Bool) → length (without_erased received erased) ≡ length received

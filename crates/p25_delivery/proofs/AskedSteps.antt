@@ -6,7 +6,6 @@ use Rattle.std.proofs.lemmas.List.{get_or-take, length-take-le}
 use Rattle.std.proofs.lemmas.List.Folds.{list_any_at, list_any_more}
 use Rattle.std.proofs.lemmas.Option.{slice_get_within, get_or_from_slice_get}
 use Rattle.std.proofs.lemmas.Bool.{and_from, le-leb}
-use Rattle.std.proofs.lemmas.Bool.Decides.{nat_tests}
 
 pub misses_here : (flags : List Bool) (n i : ℕ) (flag : Bool) → n ≤ length flags → i < n → slice_get flags i ≡ Some flag → flag ≡ false → true ≡ nat_le n (length flags) && list_any not (take n flags)
 misses_here flags n i flag h below e f =

@@ -4,7 +4,6 @@ use Rattle.std.proofs.Common.{◌≡◌, ℕ, zero, suc, ◌+◌, ◌-◌, ◌*�
 use Rattle.std.specs.Prelude.{nat_lt, nat_le, eqb}
 use Rattle.std.proofs.lemmas.List.{get_or-set_same, get_or-set_other, ext_get_or, take_at, drop_at, length-replicate, take-append-le, append-nil}
 use Rattle.std.proofs.lemmas.Bool.{cases_eq, cond-true, and_from, eq-eqb, le-leb, lt-ltb}
-use Rattle.std.proofs.lemmas.Bool.Decides.{nat_tests}
 use Rattle.p25_bits.specs.Bits.{part}
 use Rattle.p25_bits.specs.Numbers.{octets_number, each_below, joined_below}
 use Rattle.p25_bits.proofs.NumbersLaws.{each_below-zero, each_below-suc, length-each_below, get_or-each_below, joined_below-zero, joined_below-suc, joined_below-same, joined_below-parts}

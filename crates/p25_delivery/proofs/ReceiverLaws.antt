@@ -4,7 +4,6 @@ use Rattle.std.specs.Prelude.{slice_get, IfSome}
 use Rattle.std.proofs.lemmas.List.{get_or-replicate, length-replicate}
 use Rattle.std.proofs.lemmas.Option.{slice_get-get_or}
 use Rattle.std.proofs.lemmas.Bool.{cases_eq, cond-true, cond-false, and_from, eq-eqb, ne_eqb}
-use Rattle.std.proofs.lemmas.Bool.Decides.{nat_tests}
 use Rattle.p25_packet_blocks.specs.Heads.{head_is_full, head_blocks, head_pad, head_llid, head_syn, head_number, opening_head}
 use Rattle.p25_packet_blocks.specs.Parts.{BlockParts}
 use Rattle.p25_packet_blocks.specs.ConfirmedParts.{ConfirmedParts}

@@ -1,13 +1,12 @@
 -- What is said of the work of one future holds of that of another that is alike: by cases on the end.
-use Rattle.std.proofs.Common.{◌≡◌, ℕ, Bool, true, false, cond, nat_lt, List, [], ◌∷◌, ◌++◌, length, take, Option, sym, subst, ◌∙◌}
+use Rattle.std.proofs.Common.{◌≡◌, ℕ, Bool, true, false, List, [], ◌∷◌, ◌++◌, take, sym, subst, ◌∙◌}
 use Rattle.std.specs.Prelude.{Contains}
 use Rattle.p25_io.specs.Events.{Event, Read, ReadFailed, Wrote, WriteFailed}
-use Rattle.p25_io.proofs.OctetsLaws.{Appended-same, AppendedBeginning-same}
 use Rattle.p25_filter.specs.declared.ending.Ending.{Ending}
 use Rattle.p25_filter.specs.declared.ending.FilterEnd.{FilterEnd}
 use Rattle.p25_filter.specs.declared.ending.FilterEnd.TheVariants.{Ended as FilterEnded, ReadFault, WriteFault, TooLong, Memory}
 use Rattle.p25_filter.specs.Futures.{Future}
-use Rattle.p25_filter.specs.Runs.{Filtered, Meets, all_written, input_most}
+use Rattle.p25_filter.specs.Runs.{input_most}
 use Rattle.p25_filter.specs.Traces.{Broken, EndsAs, Going, IsDecided, IsFinalAt, IsLive, IsMemoryAt, IsRun, IsSettled, MayCome, Over, Phase, Standing, after_all, at_first, standing_after}
 use Rattle.p25_filter.proofs.WritesLaws.{Begins-same}
 

@@ -10,7 +10,7 @@ use Rattle.p25_stations.proofs.FalsePassLaws.{clean-from_none, none-from_clean}
 use Rattle.p25_stations.proofs.HistoryLaws.{each-append}
 use Rattle.p25_fragments.specs.LongState.{LongState, first_long}
 use Rattle.p25_fragments.specs.declared.long_step.LongEvent.TheVariants.{Long, Inner}
-use Rattle.p25_fragments.specs.LongRuns.{AreLongEvents, HasLongHistory, IsCleanLongRun, IsEventOf, IsLongEvent, IsNoOffer, LongEvent, LongStep, long_run, long_sessions_of, long_step, offers_beside}
+use Rattle.p25_fragments.specs.LongRuns.{HasLongHistory, IsCleanLongRun, IsEventOf, IsLongEvent, IsNoOffer, LongEvent, LongStep, long_run, long_sessions_of, long_step, offers_beside}
 use Rattle.p25_fragments.proofs.InnerRunLaws.{inner-run}
 use Rattle.p25_fragments.proofs.LongRunLaws.{long-orderly}
 

@@ -19,7 +19,7 @@ use Rattle.p25_fragments.specs.declared.joiner.Joined.TheVariants.{Whole as Join
 use Rattle.p25_fragments.specs.declared.long_step.LongEvent.{LongEvent}
 use Rattle.p25_fragments.specs.declared.long_step.LongEvent.TheVariants.{Long, Inner}
 use Rattle.p25_fragments.specs.declared.long_step.Then.{Then}
-use Rattle.p25_fragments.specs.declared.long_step.Then.TheVariants.{Down, Busy, Finished}
+use Rattle.p25_fragments.specs.declared.long_step.Then.TheVariants.{Down, Finished}
 use Rattle.p25_fragments.specs.declared.long_step.LongStep.{LongStep}
 use Rattle.p25_fragments.specs.Joining.{Joining, message_taken}
 use Rattle.p25_fragments.specs.LongState.{LongState, OutstandingPart}

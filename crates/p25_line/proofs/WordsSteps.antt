@@ -4,7 +4,7 @@ use Rattle.std.specs.Prelude.{ok_or}
 use Rattle.std.specs.List.{list_all, All}
 use Rattle.std.proofs.lemmas.Bool.{cases_Bool, eqb-true, lt-ltb, true≢false}
 use Rattle.std.proofs.lemmas.List.{drop_more, take_all, take_at, drop_all, drop-drop, take-map, get_or-drop, map-append}
-use Rattle.std.proofs.lemmas.List.Elements.{All-nil, All-push, All-take}
+use Rattle.std.proofs.lemmas.List.Elements.{All-push, All-take}
 use Rattle.std.proofs.lemmas.List.Folds.{list_all-append, list_all_more, list_all_at}
 use Rattle.std.proofs.lemmas.List.Splits.{slice_split_none, slice_split_at}
 use Rattle.p25_line.specs.Marks.{Marks}

@@ -1,8 +1,8 @@
 -- How a recording's work goes on: octets come, an item is given, the input ends. Each is one unfolding of what is reported.
 use Rattle.std.proofs.Common.{◌≡◌, ◌≢◌, ℕ, ◌+◌, Bool, true, false, cond, List, [], ◌∷◌, ◌++◌, take, drop, Some, None, Ok, refl, ap, ap₂, sym, subst, ◌∙◌, arith, append_assoc, append-nil}
 use Rattle.std.proofs.lemmas.List.{take-append-le, drop-append-le}
-use Rattle.p25_bits.specs.Bits.{bits_of, octet_bits}
-use Rattle.p25_bits.proofs.BitsLaws.{octet_bits-append, octet_bits-cons, octet_bits-nil}
+use Rattle.p25_bits.specs.Bits.{octet_bits}
+use Rattle.p25_bits.proofs.BitsLaws.{octet_bits-append, octet_bits-nil}
 use Rattle.p25_units.specs.declared.item.Item.{Item}
 use Rattle.p25_units.specs.Items.{covered, place_of}
 use Rattle.p25_stream.specs.Items.{items_by, items_in}

@@ -2,12 +2,11 @@
 use Rattle.std.proofs.Common.{◌≡◌, ℕ, ◌+◌, ◌<◌, ◌≤◌, ◌&&◌, Bool, true, false, nat_le, List, ◌++◌, length, length-append, take, drop, bit_xor, refl, ap, ap₂, sym, ◌∙◌, arith}
 use Rattle.std.specs.Int.RustNames.{count_ones}
 use Rattle.std.proofs.lemmas.Bool.{and_parts, and_from, and_left, and_right, le-leb, leb-true, lt-leb}
-use Rattle.std.proofs.lemmas.List.{take-append-le, take_at, take-append-drop, length-take}
-use Rattle.p25_bits.specs.Bits.{bits_of, field_of, part}
+use Rattle.std.proofs.lemmas.List.{take-append-le, take-append-drop, length-take}
+use Rattle.p25_bits.specs.Bits.{bits_of, field_of}
 use Rattle.p25_bits.specs.Distance.{distance_of}
 use Rattle.p25_bits.proofs.BitsLaws.{length-bits_of, field_of-bits_of}
-use Rattle.p25_bits.proofs.NumbersLaws.{bits_of-field}
-use Rattle.p25_bits.proofs.DistanceLaws.{distance_of-same, ones-xor}
+use Rattle.p25_bits.proofs.DistanceLaws.{ones-xor}
 use Rattle.p25_status.specs.Sync.{sync_bits, sync_slack, has_sync}
 
 pub length-sync_bits : length sync_bits ≡ 48

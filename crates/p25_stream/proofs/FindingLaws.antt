@@ -1,9 +1,9 @@
 -- Octets that are taken from a place on until the first item is known: the bits held and those left are the bits from there on, and so
 -- the first item of those held is the first of all.
-use Rattle.std.proofs.Common.{◌≡◌, ℕ, ◌+◌, ◌-◌, ◌*◌, ◌/◌, ◌%◌, ◌<◌, ◌≤◌, Bool, true, false, ◌||◌, inl, inr, List, [], ◌∷◌, ◌++◌, length, take, drop, get_or, ap, ap₂, sym, subst, ◌∙◌, arith, append_assoc, append-nil, length-append, length-take, length-drop, add-one}
+use Rattle.std.proofs.Common.{◌≡◌, ℕ, ◌+◌, ◌-◌, ◌*◌, ◌/◌, ◌%◌, ◌<◌, ◌≤◌, Bool, true, false, ◌||◌, inl, inr, List, [], ◌∷◌, ◌++◌, length, take, drop, get_or, ap, ap₂, sym, subst, ◌∙◌, arith, append_assoc, append-nil, length-append, length-take, add-one}
 use Rattle.std.proofs.Math.Seq.{drop-cons, take-add}
 use Rattle.std.proofs.lemmas.Bool.{cases_Bool}
-use Rattle.std.proofs.lemmas.List.{drop-append-le, drop_all, take-append-drop, take_all, take_rest}
+use Rattle.std.proofs.lemmas.List.{drop-append-le, drop_all, take-append-drop, take_rest}
 use Rattle.p25_bits.specs.Bits.{bits_of, octet_bits}
 use Rattle.p25_bits.proofs.BitsLaws.{length-bits_of, length-octet_bits, octet_bits-append, octet_bits-cons, octet_bits-nil}
 use Rattle.p25_bits.proofs.PartLaws.{drop_behind}

@@ -1,6 +1,6 @@
 -- What the work of each command that reads a recording writes from the first octet on is what the command is defined to write.
-use Rattle.std.proofs.Common.{◌≡◌, ℕ, ◌+◌, Bool, true, false, cond, List, [], ◌∷◌, ◌++◌, Some, refl, ap, ap₂, ◌∙◌, arith}
-use Rattle.std.specs.List.{concat, flat_map}
+use Rattle.std.proofs.Common.{◌≡◌, ℕ, ◌+◌, Bool, true, false, cond, List, [], ◌++◌, Some, refl, ap, ap₂, ◌∙◌, arith}
+use Rattle.std.specs.List.{flat_map}
 use Rattle.p25_bits.specs.Bits.{octet_bits}
 use Rattle.p25_status.specs.declared.symbols.Status.{Status}
 use Rattle.p25_stream.specs.Items.{items_by}
@@ -9,7 +9,7 @@ use Rattle.p25_tool.specs.declared.command.Command.TheVariants.{Show as ShowIt, 
 use Rattle.p25_recording_filters.specs.declared.reports.show.Show.{Show}
 use Rattle.p25_recording_filters.specs.declared.reports.check.Check.{Check}
 use Rattle.p25_recording_filters.specs.declared.reports.changed.Change.TheVariants.{Repaired, Bridged, Relayed}
-use Rattle.p25_recording_filters.specs.Commands.{changed_reporting, check_reporting, followed_reporting, show_reporting, CallsParts, FollowedParts, calls_reporting}
+use Rattle.p25_recording_filters.specs.Commands.{changed_reporting, check_reporting, followed_reporting, show_reporting, CallsParts, calls_reporting}
 use Rattle.p25_tool.specs.Outputs.{command_future, ending_by}
 use Rattle.p25_recording_filters.specs.ItemOutputs.{check_ending, check_line, faults_in, faulty, units_in, soft_output}
 use Rattle.p25_calls.specs.Taking.{fresh_caller}

@@ -1,6 +1,6 @@
 -- What the work on lines writes from the first octet on is what the command is defined to write: the texts of what its steps tell,
 -- and what closes them. By recursion on the events.
-use Rattle.std.proofs.Common.{◌≡◌, ℕ, Bool, true, false, cond, List, [], ◌∷◌, ◌++◌, map, Option, Result, refl, ap, ap₂, ◌∙◌}
+use Rattle.std.proofs.Common.{◌≡◌, ℕ, Bool, true, false, cond, List, [], ◌∷◌, ◌++◌, map, Result, refl, ap, ap₂, ◌∙◌}
 use Rattle.std.specs.List.{concat, flat_map}
 use Rattle.p25_line.specs.declared.fault.LineFault.{LineFault}
 use Rattle.p25_status.specs.declared.symbols.Status.{Status}

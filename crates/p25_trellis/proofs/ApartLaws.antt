@@ -1,11 +1,9 @@
 -- How far paths differ, and what lies so near to one that no other is as near. By induction on the symbols: two states ask for no more bits than a step
 -- differs in and the states after it ask for.
-use Rattle.std.proofs.Common.{◌≡◌, ◌≢◌, ℕ, zero, suc, ◌+◌, ◌*◌, ◌<◌, ◌≤◌, inl, inr, Bool, false, eqb, List, [], ◌∷◌, ◌++◌, length, take, refl, ap, ap₂, sym, subst, ◌∙◌, arith}
+use Rattle.std.proofs.Common.{◌≡◌, ◌≢◌, ℕ, zero, suc, ◌+◌, ◌*◌, ◌<◌, ◌≤◌, inl, inr, Bool, false, eqb, List, [], ◌∷◌, length, refl, ap, ap₂, sym, subst, ◌∙◌, arith}
 use Rattle.std.proofs.lemmas.Bool.{cases_Bool, eqb-true, eq-eqb}
 use Rattle.p25_bits.specs.Distance.{distance_of}
-use Rattle.p25_bits.proofs.DistanceLaws.{distance_of-same, distance_of-sym, distance_of-triangle}
-use Rattle.std.proofs.lemmas.List.{take_all}
-use Rattle.p25_bits.specs.Bits.{part}
+use Rattle.p25_bits.proofs.DistanceLaws.{distance_of-sym, distance_of-triangle}
 use Rattle.p25_trellis.specs.Interleave.{interleaved}
 use Rattle.p25_trellis.specs.Tables.{nibble_distance}
 use Rattle.p25_trellis.specs.Trellis.{IsPath, IsBlock, Carries, IsFirstLeastReading, IsNearReading, nibbles_from, sent_bits, distance_from}

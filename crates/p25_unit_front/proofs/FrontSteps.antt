@@ -1,12 +1,9 @@
 -- What fronts as numbers are as bits: a number of two fields, and the weight of an exclusive or as a distance.
-use Rattle.std.proofs.Common.{◌≡◌, ℕ, ◌+◌, ◌*◌, ◌/◌, ◌^◌, ◌<◌, ◌≤◌, Bool, List, length, take, drop, bit_xor, ap, ap₂, sym, ◌∙◌, arith, length-drop, mod-eq_of_lt}
-use Rattle.std.specs.Int.RustNames.{count_ones}
-use Rattle.std.proofs.lemmas.List.{length-take-le, take_at, drop-drop}
-use Rattle.std.proofs.lemmas.Nat.{xor_shr}
-use Rattle.p25_bits.proofs.DistanceLaws.{ones-xor}
+use Rattle.std.proofs.Common.{◌≡◌, ℕ, ◌+◌, ◌*◌, ◌^◌, ◌≤◌, Bool, List, length, take, drop, ap, ap₂, sym, ◌∙◌, arith, length-drop}
+use Rattle.std.proofs.lemmas.List.{length-take-le, drop-drop}
 use Rattle.p25_bits.specs.Bits.{bits_of, field_of, part}
 use Rattle.p25_bits.specs.Distance.{distance_of}
-use Rattle.p25_bits.proofs.BitsLaws.{bits_of-add, length-bits_of, field_of-bits_of, bits_of-field_of, field_of-append}
+use Rattle.p25_bits.proofs.BitsLaws.{bits_of-field_of, field_of-append}
 use Rattle.p25_status.specs.Sync.{sync_bits}
 use Rattle.p25_bch_nid.specs.NidWord.{nid_word}
 use Rattle.p25_unit_front.specs.Front.{identifier_bits, front_fixes_of}

@@ -1,7 +1,7 @@
 -- Draws after draws: counts of draws add up.
-use Rattle.std.proofs.Common.{◌≡◌, ℕ, zero, suc, ◌+◌, ◌%◌, ◌/◌, [], ◌∷◌, ◌++◌, length, refl, ap, sym, ◌∙◌, arith}
+use Rattle.std.proofs.Common.{◌≡◌, ℕ, zero, suc, ◌+◌, ◌%◌, [], ◌∷◌, ◌++◌, refl, ap, sym, ◌∙◌, arith}
 use Rattle.p25_bits.specs.Numbers.{each_below}
-use Rattle.p25_bits.proofs.NumbersLaws.{length-each_below, each_below-more, each_below-zero}
+use Rattle.p25_bits.proofs.NumbersLaws.{each_below-more, each_below-zero}
 use Rattle.p25_vectors.specs.Draws.{state_behind, state_after, draw, octets_drawn}
 
 pub state_after-none : (state : ℕ) → state_after 0 state ≡ state

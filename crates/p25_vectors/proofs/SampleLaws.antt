@@ -1,6 +1,6 @@
 -- Damaged sample units lie within radius of their frames and read as them: what is damaged lies in words that are read by their codes,
 -- so the voice frames and the status symbols come as they were sent.
-use Rattle.std.proofs.Common.{◌≡◌, ℕ, zero, suc, ◌+◌, ◌*◌, ◌/◌, ◌%◌, ◌<◌, ◌≤◌, ◌⊎◌, inl, inr, ◌&&◌, ◌||◌, Bool, true, nat_le, List, [], ◌∷◌, ◌++◌, length, take, drop, map, replicate, sum, Ok, refl, ap, ap₂, sym, subst, ◌∙◌, arith, length-drop}
+use Rattle.std.proofs.Common.{◌≡◌, ℕ, zero, suc, ◌+◌, ◌*◌, ◌/◌, ◌%◌, ◌<◌, ◌≤◌, ◌⊎◌, inl, inr, ◌&&◌, ◌||◌, Bool, true, nat_le, List, [], ◌∷◌, ◌++◌, length, take, drop, map, replicate, sum, Ok, refl, ap, ap₂, sym, subst, ◌∙◌, arith, length-drop, get_or}
 use Rattle.std.specs.List.{list_all}
 use Rattle.std.proofs.lemmas.Bool.{and_parts, or_cases, leb-true}
 use Rattle.std.proofs.lemmas.List.{length-replicate, length-take-le, take_at, drop_at, take-take, append-nil}
@@ -51,7 +51,6 @@ use Rattle.p25_vectors.specs.declared.kind.Kind.{Kind}
 use Rattle.p25_vectors.proofs.BodiesLaws.{body_next-whole}
 use Rattle.p25_vectors.proofs.DamageLaws.{no_word, AreCounts, length-damaged, part-damaged}
 use Rattle.p25_vectors.proofs.WithinLaws.{IsNearAt, voice-within, packet-within, words-fit, damaged-near, sync-near, identifier-near, body-near}
-use Rattle.std.proofs.Common.{get_or}
 
 -- Voice frames.
 
