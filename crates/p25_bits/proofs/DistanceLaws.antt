@@ -25,7 +25,7 @@ distance_by-sym same turned [] (y ∷ ys) = refl
 distance_by-sym same turned (x ∷ xs) [] = refl
 distance_by-sym same turned (x ∷ xs) (y ∷ ys) = ap₂ ◌+◌ (ap (λ b. cond b 0 1) (turned x y)) (distance_by-sym same turned xs ys)
 
-cond-le : (b : Bool) → cond b 0 1 ≤ 1
+pub cond-le : (b : Bool) → cond b 0 1 ≤ 1
 cond-le true = omega arith
 cond-le false = omega arith
 

@@ -2,6 +2,7 @@
 -- counts one; and a list without an erasure is read as what was received.
 use Rattle.std.proofs.Common.{◌≡◌, ℕ, suc, ◌+◌, ◌*◌, ◌<◌, ◌≤◌, Bool, true, false, cond, List, [], ◌∷◌, length, map, Option, Some, None, All, ap, ap₂, sym, ◌∙◌, subst, refl, arith}
 use Rattle.p25_bits.specs.Distance.{distance_by}
+use Rattle.p25_bits.proofs.DistanceLaws.{cond-le}
 use Rattle.p25_code.specs.declared.code.Reading.{Reading}
 use Rattle.p25_code.specs.declared.code.Reading.TheVariants.{Found, Beyond}
 use Rattle.p25_code.specs.Words.{IsReading}
@@ -49,14 +50,10 @@ module _ {L : Type 0} {same : L → L → Bool} {IsWord : List L → Type 0} {n 
   letters_apart x z None = elim (same x z) as (λ b. cond b 0 1 ≤ 1) [ true ↦ omega arith | false ↦ omega arith ]
   letters_apart x z (Some y) = through (same y x) (same y z) refl refl
     where
-      at_most_one : (b : Bool) → cond b 0 1 ≤ 1
-      at_most_one true = omega arith
-      at_most_one false = omega arith
-
       through : (a b : Bool) → same y x ≡ a → same y z ≡ b → cond (same x z) 0 1 ≤ cond (same y x) 0 1 + cond (same y z) 0 1 + 0
       through true true ea eb = omega (arith, ap {B = ℕ} (λ t. cond t 0 1) (subst (λ w. same w z ≡ true) (code.alike y x ea) eb))
-      through false b ea eb = omega (arith, ap {B = ℕ} (λ t. cond t 0 1) ea, at_most_one (same x z))
-      through true false ea eb = omega (arith, ap {B = ℕ} (λ t. cond t 0 1) eb, at_most_one (same x z))
+      through false b ea eb = omega (arith, ap {B = ℕ} (λ t. cond t 0 1) ea, cond-le (same x z))
+      through true false ea eb = omega (arith, ap {B = ℕ} (λ t. cond t 0 1) eb, cond-le (same x z))
 
   -- the way from one word to another by a list with erasures
   pub wrong_triangle : (list : List (Option L)) (v w : List L) → length list ≡ length v → length v ≡ length w → distance_by same v w ≤ kept_distance same list v + kept_distance same list w + erasures_in list

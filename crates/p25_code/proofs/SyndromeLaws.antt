@@ -2,17 +2,11 @@
 use Rattle.std.proofs.Common.{◌≡◌, ℕ, zero, suc, ◌+◌, ◌*◌, ◌^◌, ◌<◌, Bool, true, false, cond, List, [], ◌∷◌, ◌++◌, length, bit_xor, refl, ap, ap₂, sym, ◌∙◌, arith}
 use Rattle.std.specs.Bool.{beq}
 use Rattle.std.specs.Int.Bits.{xor_assoc, xor_self, xor_zero_l, xor_zero_r}
-use Rattle.std.proofs.lemmas.Nat.{xor_comm, xor_block, pow_pos}
+use Rattle.std.proofs.lemmas.Nat.{xor_block, pow_pos}
 use Rattle.p25_bits.specs.Bits.{digit_of, field_of}
 use Rattle.p25_bits.proofs.BitsLaws.{field_of-nil, field_of-cons, field_of-lt}
+use Rattle.p25_bits.proofs.DivisibleLaws.{xor_middle}
 use Rattle.p25_code.specs.Binary.{syndrome_of, check_columns, change_of}
-
--- of four, the two in the middle change places
-pub xor_middle : (a b c d : ℕ) → bit_xor (bit_xor a b) (bit_xor c d) ≡ bit_xor (bit_xor a c) (bit_xor b d)
-xor_middle a b c d =
-    xor_assoc a b (bit_xor c d)
-    ∙ ap (bit_xor a) (sym (xor_assoc b c d) ∙ ap (λ n. bit_xor n d) (xor_comm b c) ∙ xor_assoc c b d)
-    ∙ sym (xor_assoc a c (bit_xor b d))
 
 -- two runs, one after the other: their sums add up
 pub syndrome_of-append : (rows columns : List ℕ) (info checks : List Bool) → length info ≡ length rows → syndrome_of (rows ++ columns) (info ++ checks) ≡ bit_xor (syndrome_of rows info) (syndrome_of columns checks)

@@ -1,11 +1,11 @@
 -- A message is read back of its blocks, in whatever order they come. By recursion on the slots: a block that is put stays,
 -- as only the same block can come to its place again.
-use Rattle.std.proofs.Common.{◌≡◌, ℕ, zero, suc, ◌+◌, ◌-◌, ◌*◌, ◌/◌, ◌%◌, ◌^◌, ◌<◌, ◌≤◌, inl, inr, Bool, true, false, cond, List, [], ◌∷◌, ◌++◌, length, take, drop, get_or, set, replicate, Option, Some, None, refl, ap, sym, ◌∙◌, arith, length-append, zero-add}
+use Rattle.std.proofs.Common.{◌≡◌, ℕ, zero, suc, ◌+◌, ◌-◌, ◌*◌, ◌<◌, ◌≤◌, inl, inr, Bool, true, false, cond, List, [], ◌∷◌, ◌++◌, length, take, drop, get_or, set, replicate, Option, Some, None, refl, ap, sym, ◌∙◌, arith, length-append, zero-add}
 use Rattle.std.specs.Prelude.{nat_lt, nat_le, eqb}
 use Rattle.std.proofs.lemmas.List.{get_or-set_same, get_or-set_other, ext_get_or, take_at, drop_at, length-replicate, take-append-le, append-nil}
 use Rattle.std.proofs.lemmas.Bool.{cases_eq, cond-true, and_from, eq-eqb, le-leb, lt-ltb}
 use Rattle.p25_bits.specs.Bits.{part}
-use Rattle.p25_bits.specs.Numbers.{octets_number, each_below, joined_below}
+use Rattle.p25_bits.specs.Numbers.{octets_number, number_after, each_below, joined_below}
 use Rattle.p25_bits.proofs.NumbersLaws.{each_below-zero, each_below-suc, length-each_below, get_or-each_below, joined_below-zero, joined_below-suc, joined_below-same, joined_below-parts}
 use Rattle.p25_bits.proofs.PartLaws.{part_whole}
 use Rattle.p25_crc.specs.Values.{crc32_of}
@@ -16,14 +16,12 @@ use Rattle.p25_packet_blocks.specs.declared.block.Slot.TheVariants.{Good, Bad}
 use Rattle.p25_delivery.specs.MessageBlocks.{block_count, pad_count, message_octets, message_block, unpadded}
 use Rattle.p25_delivery.specs.Places.{put_block, put_slots, before_octets, all_octets, AreBlocksOf, HoldsSerial, CarriesMessage, unpadded_option, read_back}
 use Rattle.p25_delivery.proofs.PlacesLaws.{length-put_block, length-put_slots, both_octets, all_octets-append}
-use Rattle.p25_delivery.proofs.MessageBlocksLaws.{octets_number-four, length-message_octets}
+use Rattle.p25_delivery.proofs.MessageBlocksLaws.{length-message_octets}
 
 -- the number of the packet CRC's octets
-base-256 : (n : ℕ) → 16777216 * (n / 2 ^ 24) + 65536 * (n / 2 ^ 16 % 256) + 256 * (n / 2 ^ 8 % 256) + n % 256 ≡ n
-base-256 n = omega arith
-
 pub octets_number-four_octets : (n : ℕ) → octets_number (four_octets n) ≡ n
-octets_number-four_octets n = octets_number-four (four_octets n) refl ∙ base-256 n
+unfolding octets_number number_after
+octets_number-four_octets n = omega arith
 
 -- octets with their packet CRC after them
 pub unpadded-is : (beginning check : List ℕ) (pad : ℕ) → length check ≡ 4 → octets_number check ≡ crc32_of beginning → pad ≤ length beginning → unpadded (beginning ++ check) pad ≡ Some (take (length beginning - pad) beginning)

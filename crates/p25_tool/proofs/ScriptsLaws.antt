@@ -1,6 +1,6 @@
 -- A script whose lines are all read: they are read as its events and none is refused, by induction on the lines; and what stands
 -- when its run is done. For any machine that reads each line by itself.
-use Rattle.std.proofs.Common.{◌≡◌, ℕ, ◌+◌, ◌≤◌, Bool, true, false, nat_lt, List, [], ◌∷◌, ◌++◌, length, map, take, Option, Some, None, Result, Ok, Err, ◌⊎◌, inl, inr, refl, ap, ap₂, sym, subst, ◌∙◌, arith}
+use Rattle.std.proofs.Common.{◌≡◌, ℕ, ◌+◌, ◌≤◌, Bool, true, false, nat_lt, List, [], ◌∷◌, ◌++◌, length, map, take, Option, Some, None, Result, Ok, Err, ◌⊎◌, inl, inr, refl, ap, ap₂, sym, ◌∙◌, arith}
 use Rattle.std.specs.Prelude.{IfSome}
 use Rattle.std.specs.List.{flat_map}
 use Rattle.std.proofs.lemmas.List.{take_all}
@@ -10,8 +10,8 @@ use Rattle.p25_delivery.specs.Runs.{EachIs}
 use Rattle.p25_io.specs.Octets.{Appended}
 use Rattle.p25_io.proofs.OctetsLaws.{Appended-same}
 use Rattle.p25_line.specs.declared.fault.LineFault.{LineFault}
-use Rattle.p25_stations.specs.Runs.{AreClean, IsCleanRun, IsEvent, steps_of, world_run}
-use Rattle.p25_stations.specs.WorldState.{WorldState, first_world}
+use Rattle.p25_stations.specs.Runs.{IsCleanRun, IsEvent, steps_of, world_run}
+use Rattle.p25_stations.specs.WorldState.{first_world}
 use Rattle.p25_stations.specs.declared.step.Event.{Event}
 use Rattle.p25_stations.proofs.CleanLaws.{run-orderly}
 use Rattle.p25_stations.proofs.FalsePassLaws.{clean-from_none}
@@ -21,7 +21,7 @@ use Rattle.p25_fragments.specs.LongState.{first_long}
 use Rattle.p25_fragments.specs.LongRuns.{IsCleanLongRun, IsLongEvent, long_run, long_steps_of}
 use Rattle.p25_fragments.specs.declared.long_step.LongEvent.{LongEvent}
 use Rattle.p25_fragments.specs.declared.long_step.LongEvent.TheVariants.{Long, Inner}
-use Rattle.p25_fragments.proofs.InnerRunLaws.{inner-run}
+use Rattle.p25_fragments.proofs.LongHistoryLaws.{long-clean}
 use Rattle.p25_fragments.proofs.LongRunLaws.{long-orderly, long-unrefused}
 use Rattle.p25_fragment_script.specs.LongScript.{IsLongScripted, long_event_of}
 use Rattle.p25_fragment_script.specs.LongTexts.{long_step_text_of}
@@ -176,12 +176,6 @@ script-run told left first last input events script is_told =
     (λ all. (world_run first_world all).false_passes) IsCleanRun _ (clean-from_none events) (run-orderly events (each-read event_of IsEvent is_event (lines_in true [] input) events script.lines))
 
 -- Scripts of long messages.
-
--- the inner world counts its false passes
-long-clean : (events : List LongEvent) → (long_run first_long events).inner.false_passes ≡ 0 → IsCleanLongRun events
-long-clean events none =
-    let run = inner-run first_long events in
-    subst AreClean run.steps (clean-from_none run.events (ap (λ (w : WorldState). w.false_passes) run.world ∙ none))
 
 is-long_event : (line : List ℕ) (event : LongEvent) → long_event_of line ≡ Ok event → IsLongEvent event
 unfolding IsLongScripted IsLongEvent
