@@ -14,9 +14,8 @@ weight-le (inl a) = omega arith
 weight-le (inr b) = omega arith
 
 weight_more : {A B C D : Type 0} (less : A ⊎ B) (more : C ⊎ D) → (C → A) → (B → A → ⊥) → weight_by less ≤ weight_by more
-weight_more (inl a) more down apart = omega arith
 weight_more (inr b) (inl c) down apart = absurd (apart b (down c))
-weight_more (inr b) (inr d) down apart = omega arith
+weight_more less more down apart = omega arith
 
 module _ {F : Type 0} (K : Field F) where
   open K use {zero as 𝟘, one as 𝟙, add as ◌⊕◌, mul as ◌⊗◌}

@@ -1,6 +1,6 @@
 -- Inverting the bits of the places that are wrong makes the word that was sent: the symbols of two bits add to zero exactly where the
 -- bits are the same.
-use Rattle.std.proofs.Common.{◌≡◌, ◌≢◌, ◌↔◌, ℕ, zero, suc, ◌+◌, ◌-◌, ◌%◌, ◌^◌, ◌<◌, ◌⊎◌, inl, inr, eqb, bit_xor, ◌≤◌, Bool, true, false, cond, not, IsTrue, List, [], ◌∷◌, Option, length, get_or, refl, ap, ap₂, sym, ◌∙◌, subst, arith, lit<}
+use Rattle.std.proofs.Common.{◌≡◌, ◌≢◌, ◌↔◌, ℕ, zero, suc, ◌+◌, ◌-◌, ◌%◌, ◌^◌, ◌<◌, ◌⊎◌, inl, inr, eqb, bit_xor, ◌≤◌, Bool, true, false, cond, not, IsTrue, List, ◌∷◌, Option, length, get_or, refl, ap, ap₂, sym, ◌∙◌, subst, arith, lit<}
 use Rattle.std.specs.Bool.{beq}
 use Rattle.std.specs.Int.{bit_at}
 use Rattle.std.specs.Int.RustNames.{count_ones}
@@ -45,20 +45,16 @@ remainder_from_word word is = record { lower = lit< tt; divisible = subst (IsDiv
 
 -- the symbols of bits, place by place
 coefficient-symbols_of : (bits : List Bool) (j : ℕ) → coefficient gf64 (symbols_of bits) j ≡ bit_coefficient gf64 (get_or bits j false)
-coefficient-symbols_of [] j = refl
-coefficient-symbols_of (bit ∷ bits) zero = refl
 coefficient-symbols_of (bit ∷ bits) (suc j) = coefficient-symbols_of bits j
+coefficient-symbols_of bits j = refl
 
 -- a bit is inverted exactly where its symbol and the other's don't add to zero
 inverted : (wrong x y : Bool) → IsTrue wrong ↔ (gf64.add (bit_coefficient gf64 x) (bit_coefficient gf64 y) ≢ gf64.zero) → cond wrong (not x) x ≡ y
 inverted true true true is = absurd (is.0 refl (add_self gf64 gf64.one))
-inverted true true false is = refl
-inverted true false true is = refl
 inverted true false false is = absurd (is.0 refl (add_self gf64 gf64.zero))
-inverted false true true is = refl
 inverted false true false is = absurd (false≢true (is.1 (λ none. gf64.laws.one_ne_zero (sym (add_zero gf64 gf64.one) ∙ none))))
 inverted false false true is = absurd (false≢true (is.1 (λ none. gf64.laws.one_ne_zero (sym (zero_add gf64 gf64.one) ∙ none))))
-inverted false false false is = refl
+inverted wrong x y is = refl
 
 -- the value of a word's number is that of its symbols
 value_of_number : (word : List Bool) (i : ℕ) → length word ≡ 63 → value i (field_of word) ≡ value_of 63 (symbols_of word) i

@@ -109,10 +109,8 @@ slice_get-held now words len i held inside below there =
 
 -- the first bits, of which one is inverted
 take-flipped : (n : ℕ) (bits : List Bool) (i : ℕ) → take n (flipped bits i) ≡ flipped (take n bits) i
-take-flipped zero bits i = refl
-take-flipped (suc n) [] i = refl
-take-flipped (suc n) (x ∷ bits) zero = refl
 take-flipped (suc n) (x ∷ bits) (suc i) = ap (λ zs. x ∷ zs) (take-flipped n bits i)
+take-flipped n bits i = refl
 
 -- a bit of the first of two lists
 flipped_left : (xs ys : List Bool) (i : ℕ) → i < length xs → flipped xs i ++ ys ≡ flipped (xs ++ ys) i
@@ -139,9 +137,8 @@ xor_same n k =
     ap (λ b. eqb b 1) (bit_at_xor n (2 ^ k) k ∙ ap (λ b. (bit_at n k + b) % 2) (bit_at-pow_same k)) ∙ inverted (bit_at n k) (bit_at-lt n k)
   where
     inverted : (b : ℕ) → b < 2 → eqb ((b + 1) % 2) 1 ≡ not (eqb b 1)
-    inverted zero h = refl
-    inverted (suc zero) h = refl
     inverted (suc (suc b)) h = absurd (omega arith)
+    inverted b h = refl
 
 -- a bit above those that are looked at changes none of them
 bits_of-xor_above : (width n k : ℕ) → width ≤ k → bits_of width (bit_xor n (2 ^ k)) ≡ bits_of width n
@@ -209,10 +206,9 @@ flipped-set [] i is wanted at differs = refl
 flipped-set (x ∷ bits) zero is wanted at differs = let same : is ≡ x = cc in ap (λ b. b ∷ bits) (other x wanted (ap (λ b. not (beq b wanted)) (sym same) ∙ differs))
   where
     other : (a b : Bool) → not (beq a b) ≡ true → not a ≡ b
-    other true true h = cc
     other true false h = refl
     other false true h = refl
-    other false false h = cc
+    other a b h = cc
 flipped-set (x ∷ bits) (suc i) is wanted at differs = ap (λ zs. x ∷ zs) (flipped-set bits i is wanted at differs)
 
 -- a bit that is the wanted one stays
@@ -221,10 +217,9 @@ set-same [] i is wanted at same = refl
 set-same (x ∷ bits) zero is wanted at same = let held : is ≡ x = cc in ap (λ b. b ∷ bits) (alike x wanted (ap (λ b. not (beq b wanted)) (sym held) ∙ same))
   where
     alike : (a b : Bool) → not (beq a b) ≡ false → a ≡ b
-    alike true true h = refl
     alike true false h = cc
     alike false true h = cc
-    alike false false h = refl
+    alike a b h = refl
 set-same (x ∷ bits) (suc i) is wanted at same = ap (λ zs. x ∷ zs) (set-same bits i is wanted at same)
 
 -- Longer runs of bits.

@@ -67,9 +67,8 @@ digit_of-bit_at number k =
     cases (bit_at number k) bound
   where
     by_cases : (b : ℕ) → b < 2 → digit_of (eqb b 1) ≡ b
-    by_cases zero h = refl
-    by_cases (suc zero) h = refl
     by_cases (suc (suc b)) h = absurd (omega arith)
+    by_cases b h = refl
 
 -- the number that `width` bits of a number write is its remainder by that power of two
 pub field_of-bits_of : (width number : ℕ) → field_of (bits_of width number) ≡ number % 2 ^ width
@@ -221,6 +220,5 @@ field_of-one bit = omega arith
 
 -- an inverted bit leaves the number of bits
 pub length-flipped : (bits : List Bool) (place : ℕ) → length (flipped bits place) ≡ length bits
-length-flipped [] place = refl
-length-flipped (bit ∷ bits) zero = refl
 length-flipped (bit ∷ bits) (suc place) = ap suc (length-flipped bits place)
+length-flipped bits place = refl

@@ -85,8 +85,6 @@ field-lt width at bits =
 pub same_from_number_bits : (width : ℕ) (xs ys : List ℕ) → All (λ n. n < 2 ^ width) xs → All (λ n. n < 2 ^ width) ys → length xs ≡ length ys → number_bits width xs ≡ number_bits width ys → xs ≡ ys
 unfolding number_bits
 same_from_number_bits width [] [] small_x small_y long same = refl
-same_from_number_bits width [] (y ∷ ys) small_x small_y long same = absurd (omega arith)
-same_from_number_bits width (x ∷ xs) [] small_x small_y long same = absurd (omega arith)
 same_from_number_bits width (x ∷ xs) (y ∷ ys) small_x small_y long same =
     let P : ℕ → Type 0 = λ n. n < 2 ^ width in
     let front : bits_of width x ≡ bits_of width y
@@ -100,6 +98,7 @@ same_from_number_bits width (x ∷ xs) (y ∷ ys) small_x small_y long same =
     ap₂ ◌∷◌
     (sym (mod-eq_of_lt (All-head P x xs small_x)) ∙ sym (field_of-bits_of width x) ∙ ap field_of front ∙ field_of-bits_of width y ∙ mod-eq_of_lt (All-head P y ys small_y))
     (same_from_number_bits width xs ys (All-tail P x xs small_x) (All-tail P y ys small_y) (omega arith) back)
+same_from_number_bits width xs ys small_x small_y long same = absurd (omega arith)
 
 -- The numbers that bits write.
 

@@ -108,10 +108,9 @@ runs_by-packet false run rest unbroken packet no' =
 -- two calls of which one is none at least, one after the other
 both-lists : (first second : Option Call) (rest : List Call) → (first ≡ None) ⊎ (second ≡ None)
     → option_to_list first ++ (option_to_list second ++ rest) ≡ option_to_list (option_or first second) ++ rest
-both-lists None second rest one = refl
-both-lists (Some first) None rest one = refl
 both-lists (Some first) (Some second) rest (inl same) = cc
 both-lists (Some first) (Some second) rest (inr same) = cc
+both-lists first second rest one = refl
 
 -- a terminator closes it
 stepped-terminator : (pending : Option Call) (before : Option Run) (unit : UnitSeen) → LastRun pending before unit → is_terminator unit ≡ true

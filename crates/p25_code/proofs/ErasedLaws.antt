@@ -29,9 +29,8 @@ without_erased-none (x ∷ received) (gone ∷ erased) none =
 -- a list without an erasure differs where the letters differ, and has no erasure
 pub kept_distance-letters : {L : Type 0} (same : L → L → Bool) (received word : List L) → kept_distance same (map Some received) word ≡ distance_by same received word
 unfolding kept_distance distance_by
-kept_distance-letters same [] word = refl
-kept_distance-letters same (y ∷ received) [] = refl
 kept_distance-letters same (y ∷ received) (x ∷ word) = ap (λ n. cond (same y x) 0 1 + n) (kept_distance-letters same received word)
+kept_distance-letters same received word = refl
 
 pub erasures_in-letters : {L : Type 0} (received : List L) → erasures_in (map Some received) ≡ 0
 unfolding erasures_in
@@ -59,11 +58,9 @@ module _ {L : Type 0} {same : L → L → Bool} {IsWord : List L → Type 0} {n 
   pub wrong_triangle : (list : List (Option L)) (v w : List L) → length list ≡ length v → length v ≡ length w → distance_by same v w ≤ kept_distance same list v + kept_distance same list w + erasures_in list
   unfolding kept_distance distance_by erasures_in
   wrong_triangle [] [] w first second = omega arith
-  wrong_triangle [] (x ∷ v) w first second = absurd (omega arith)
-  wrong_triangle (y ∷ list) [] w first second = absurd (omega arith)
-  wrong_triangle (y ∷ list) (x ∷ v) [] first second = absurd (omega arith)
   wrong_triangle (y ∷ list) (x ∷ v) (z ∷ w) first second =
       omega (arith, letters_apart x z y, wrong_triangle list v w (omega arith) (omega arith))
+  wrong_triangle list v w first second = absurd (omega arith)
 
   module _ {most : ℕ} (close : most < apart) where
     -- two words within the cost of a list are one

@@ -12,11 +12,10 @@ use Rattle.p25_code.specs.Binary.{syndrome_of, check_columns, change_of}
 pub syndrome_of-append : (rows columns : List ℕ) (info checks : List Bool) → length info ≡ length rows → syndrome_of (rows ++ columns) (info ++ checks) ≡ bit_xor (syndrome_of rows info) (syndrome_of columns checks)
 unfolding syndrome_of
 syndrome_of-append [] columns [] checks long = sym (xor_zero_l (syndrome_of columns checks))
-syndrome_of-append [] columns (bit ∷ info) checks long = absurd (omega arith)
-syndrome_of-append (first ∷ rows) columns [] checks long = absurd (omega arith)
 syndrome_of-append (first ∷ rows) columns (bit ∷ info) checks long =
     ap (bit_xor (cond bit first 0)) (syndrome_of-append rows columns info checks (omega arith))
     ∙ sym (xor_assoc (cond bit first 0) (syndrome_of rows info) (syndrome_of columns checks))
+syndrome_of-append rows columns info checks long = absurd (omega arith)
 
 -- a bit above a number of lower bits
 pub above : (bit : Bool) (k low : ℕ) → low < 2 ^ k → bit_xor (cond bit (2 ^ k) 0) low ≡ digit_of bit * 2 ^ k + low
@@ -35,13 +34,12 @@ length-check_columns (suc checks) = ap suc (length-check_columns checks)
 pub syndrome_of-check_columns : (checks : ℕ) (bits : List Bool) → length bits ≡ checks → syndrome_of (check_columns checks) bits ≡ field_of bits
 unfolding syndrome_of check_columns
 syndrome_of-check_columns zero [] long = sym field_of-nil
-syndrome_of-check_columns zero (bit ∷ bits) long = absurd (omega arith)
-syndrome_of-check_columns (suc checks) [] long = absurd (omega arith)
 syndrome_of-check_columns (suc checks) (bit ∷ bits) long =
     let fewer : length bits ≡ checks = omega arith in
     ap₂ (λ k n. bit_xor (cond bit (2 ^ k) 0) n) (sym fewer) (syndrome_of-check_columns checks bits fewer)
     ∙ above bit (length bits) (field_of bits) (field_of-lt bits)
     ∙ sym (field_of-cons bit bits)
+syndrome_of-check_columns checks bits long = absurd (omega arith)
 
 -- where two letters differ, one of them is 1
 differs : (x y : Bool) (column : ℕ) → cond (beq x y) 0 column ≡ bit_xor (cond x column 0) (cond y column 0)

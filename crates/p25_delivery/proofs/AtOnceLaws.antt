@@ -143,9 +143,8 @@ delivers-delivering b s w message (opening number h) o short = let both : Openin
 
 small-opening : (out : Outstanding) (next : ℕ) → IsNumbered out → opening_number out next < 8
 unfolding IsNumbered opening_number
-small-opening Nothing next h = omega arith
-small-opening (Message message) next h = omega arith
 small-opening (Opening number) next h = h
+small-opening out next h = omega arith
 
 opener-heard : (r : Receiving) (number : ℕ) → number < 8 → receiver_heard r (opening_packet number) ≡ (record { last = number; kept = None }, Opened number (ack_packet number))
 unfolding opening_packet

@@ -33,16 +33,13 @@ when_wanting false texts pause is = absurd (Contains-none pause is)
 is_reading : (phase : LinePhase) → pieces_of phase ≡ 0 → is_ended_phase phase ≡ false → phase ≡ Reading
 is_reading Reading none going = refl
 is_reading Ready none going = absurd (omega arith)
-is_reading ReadyLast none going = cc
-is_reading Closing none going = cc
-is_reading Closed none going = cc
+is_reading phase none going = cc
 
 is_closed : (phase : LinePhase) → pieces_of phase ≡ 0 → is_ended_phase phase ≡ true → phase ≡ Closed
-is_closed Reading none ended = cc
-is_closed Ready none ended = cc
 is_closed ReadyLast none ended = absurd (omega arith)
 is_closed Closing none ended = absurd (omega arith)
 is_closed Closed none ended = refl
+is_closed phase none ended = cc
 
 -- two pieces and what follows them
 pieces-append : (out : List ℕ) (behind : Option (List ℕ)) (more : List ℕ) → both_pieces out behind ++ more ≡ out ++ (both_pieces [] behind ++ more)
@@ -329,10 +326,8 @@ module _ {M E : Type 0} (rules : LineRules M E) where
       → IsIdle (is_ended_phase phase) (line_future rules (line_filtering machine line lines None phase))
   unfolding IsIdle line_future lines_in written_for texts_of machine_after read_of refusal_in
   working-idle machine line lines Reading none = (refl, refl)
-  working-idle machine line lines Ready none = absurd (omega arith)
-  working-idle machine line lines ReadyLast none = absurd (omega arith)
-  working-idle machine line lines Closing none = absurd (omega arith)
   working-idle machine line lines Closed none = λ ended more. refl
+  working-idle machine line lines phase none = absurd (omega arith)
 
   working-done : (machine : M) (line : List ℕ) (lines : ℕ) (behind : Option (List ℕ)) (ended : Bool) (more : List ℕ)
       → (line_future rules (line_filtering machine line lines behind Closed)).ends ended more ≡ Some Done

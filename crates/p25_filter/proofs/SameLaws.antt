@@ -4,7 +4,7 @@ use Rattle.std.specs.Prelude.{Contains}
 use Rattle.p25_io.specs.Events.{Event, Read, ReadFailed, Wrote, WriteFailed}
 use Rattle.p25_filter.specs.declared.ending.Ending.{Ending}
 use Rattle.p25_filter.specs.declared.ending.FilterEnd.{FilterEnd}
-use Rattle.p25_filter.specs.declared.ending.FilterEnd.TheVariants.{Ended as FilterEnded, ReadFault, WriteFault, TooLong, Memory}
+use Rattle.p25_filter.specs.declared.ending.FilterEnd.TheVariants.{Ended as FilterEnded, TooLong, Memory}
 use Rattle.p25_filter.specs.Futures.{Future}
 use Rattle.p25_filter.specs.Runs.{input_most}
 use Rattle.p25_filter.specs.Traces.{Broken, EndsAs, Going, IsDecided, IsFinalAt, IsLive, IsMemoryAt, IsRun, IsSettled, MayCome, Over, Phase, Standing, after_all, at_first, standing_after}
@@ -58,8 +58,6 @@ module _ (f g : Future) (alike : AreAlike f g) where
 
   EndsAs-same : (events : List Event) (at : Standing) (end : FilterEnd) → EndsAs f events at end → EndsAs g events at end
   EndsAs-same events at (FilterEnded ending) is = IsFinalAt-same at.phase at.octets at.text ending is
-  EndsAs-same events at ReadFault is = is
-  EndsAs-same events at WriteFault is = is
   EndsAs-same events at TooLong is = record {
     going = is.going;
     many = is.many;
@@ -67,6 +65,7 @@ module _ (f g : Future) (alike : AreAlike f g) where
     wrote = is.wrote ∙ alike.writes false (take input_most at.octets);
   }
   EndsAs-same events at Memory is = IsMemoryAt-same at.phase at.octets at.text is
+  EndsAs-same events at end is = is
 
   pub IsRun-same : (events : List Event) (end : FilterEnd) → IsRun f events end → IsRun g events end
   IsRun-same events end run = record { live = IsLive-same at_first events run.live; ends = EndsAs-same events (after_all at_first events) end run.ends }

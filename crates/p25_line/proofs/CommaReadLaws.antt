@@ -44,10 +44,9 @@ module _ {X : Type 0} (read : List ℕ → Option X) where
       so_far ∙ ap (λ l. option_map (λ entries. done ++ entries) (entries_in read l)) (parts_from-past word start past) ∙ ap Some (append-nil done)
 
   more_parts : (done : List X) (part : Option X) (others : Option (List X)) → counted (length done) (option_map (λ entries. done ++ entries) (with_entry part others)) ≡ None
-  more_parts done None others = refl
-  more_parts done (Some entry) None = refl
   more_parts done (Some entry) (Some others) =
       cond-false (length (done ++ entry ∷ others) == length done) (Some (done ++ entry ∷ others)) None (ne_eqb (length (done ++ entry ∷ others)) (length done) (λ same. omega (arith, length-append done (entry ∷ others))))
+  more_parts done part others = refl
 
   more_entries : (done : List X) (parts : List (List ℕ)) → 0 < length parts → counted (length done) (option_map (λ entries. done ++ entries) (entries_in read parts)) ≡ None
   more_entries done [] some = absurd (omega arith)

@@ -83,17 +83,12 @@ first-others [] first at = cc at
 first-others (word ∷ words) first at = let same : word ≡ first = cc at in ap (λ w. w ∷ words) same
 
 pub one-other : {X : Type 0} (words : List X) (x : X) → length words ≡ 2 → slice_get words 1 ≡ Some x → drop 1 words ≡ x ∷ []
-one-other [] x count at = absurd (omega arith)
-one-other (first ∷ []) x count at = absurd (omega arith)
 one-other (first ∷ second ∷ []) x count at = let same : second ≡ x = cc at in ap (λ y. y ∷ []) same
-one-other (first ∷ second ∷ third ∷ words) x count at = absurd (omega arith)
+one-other words x count at = absurd (omega arith)
 
 pub two-others : {X : Type 0} (words : List X) (x y : X) → length words ≡ 3 → slice_get words 1 ≡ Some x → slice_get words 2 ≡ Some y → drop 1 words ≡ x ∷ y ∷ []
-two-others [] x y count at next = absurd (omega arith)
-two-others (first ∷ []) x y count at next = absurd (omega arith)
-two-others (first ∷ second ∷ []) x y count at next = absurd (omega arith)
 two-others (first ∷ second ∷ third ∷ []) x y count at next =
     let same : second ≡ x = cc at in
     let last : third ≡ y = cc next in
     ap₂ (λ a b. a ∷ b ∷ []) same last
-two-others (first ∷ second ∷ third ∷ fourth ∷ words) x y count at next = absurd (omega arith)
+two-others words x y count at next = absurd (omega arith)

@@ -30,12 +30,11 @@ symbol_bits-numbers symbols = sym (flat_map-map (bits_of 6) number symbols)
 -- symbols of the same numbers are the same
 pub same_symbols_list : (xs ys : List Sym) → map number xs ≡ map number ys → xs ≡ ys
 same_symbols_list [] [] same = refl
-same_symbols_list [] (y ∷ ys) same = absurd (cc)
-same_symbols_list (x ∷ xs) [] same = absurd (cc)
 same_symbols_list (x ∷ xs) (y ∷ ys) same =
     let first : number x ≡ number y = cc in
     let others : map number xs ≡ map number ys = cc in
     ap₂ ◌∷◌ (same_symbol x y first) (same_symbols_list xs ys others)
+same_symbols_list xs ys same = absurd (cc)
 
 pub length-symbols_in : (n : ℕ) (bits : List Bool) → length (symbols_in n bits) ≡ n
 unfolding symbols_in

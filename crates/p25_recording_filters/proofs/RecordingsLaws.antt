@@ -151,8 +151,7 @@ module _ {R : Type 0} (reporting : Reporting R) where
   -- a recording's phase: more octets may come, the input has ended, or the end was written
   is-reading : (phase : Phase) → has_ended phase ≡ false → phase ≡ Reading
   is-reading Reading going = refl
-  is-reading Ended going = cc
-  is-reading Closed going = cc
+  is-reading phase going = cc
 
   is-closed : (phase : Phase) → has_ended phase ≡ true → (phase ≡ Ended → ⊥) → phase ≡ Closed
   is-closed Reading ended other = cc
@@ -243,5 +242,4 @@ module _ {R : Type 0} (reporting : Reporting R) where
 -- while more octets may come, nothing was written at the end
 pub going-open : (phase : Phase) → has_ended phase ≡ false → phase ≡ Closed → ⊥
 going-open Reading going is = cc
-going-open Ended going is = cc
-going-open Closed going is = cc
+going-open phase going is = cc

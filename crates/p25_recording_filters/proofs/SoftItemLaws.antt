@@ -47,10 +47,7 @@ softened-even (Broken place count nac duid fields) levels raw yes' =
     second : (a b : Bool) → (a && b) ≡ true → b ≡ true
     second true b h = h
     second false b h = absurd (cc)
-softened-even (Whole place frame fixes) levels raw yes' = absurd (cc)
-softened-even (NoUnit place field) levels raw yes' = absurd (cc)
-softened-even (Gap place count) levels raw yes' = absurd (cc)
-softened-even (Cut place have) levels raw yes' = absurd (cc)
+softened-even item levels raw yes' = absurd (cc)
 
 same_both : {X : Type 0} (b : Bool) (x : X) → cond b x x ≡ x
 same_both true x = refl
@@ -306,10 +303,7 @@ even-parts : (item : Item) → is_even_packet item ≡ true → IsEvenPacket ite
 even-parts (Broken at size nac duid fields) yes' =
     let both = and_parts (nat_eq duid 0xC) (nat_eq (at % 2) 0) yes' in
     record { at = at; size = size; nac = nac; duid = duid; fields = fields; is = refl; packet = eqb-true duid 0xC both.0; even = eqb-true (at % 2) 0 both.1 }
-even-parts (Whole place frame fixes) yes' = absurd (cc)
-even-parts (NoUnit place field) yes' = absurd (cc)
-even-parts (Gap place count) yes' = absurd (cc)
-even-parts (Cut place have) yes' = absurd (cc)
+even-parts item yes' = absurd (cc)
 
 -- a broken packet at an even place is heard from the levels of its bits
 pub heard-given : (scan next : Scan) (levels : List ℤ) (item : Item) (raw : List Bool) → IsHolding scan levels → Gave scan item raw next → is_even_packet item ≡ true → IsHeardAmong item levels raw

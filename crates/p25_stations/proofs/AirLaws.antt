@@ -38,13 +38,11 @@ same-block was block e =
 true-slots : (sent heard : List Slot) → are_true_slots sent heard ≡ true → AreTrueSlots sent heard
 unfolding are_true_slots is_true_slot AreTrueSlots
 true-slots [] [] e = tt
-true-slots [] (slot ∷ heard) e = cc
-true-slots (was ∷ sent) [] e = cc
 true-slots (was ∷ sent) (Bad ∷ heard) e = (inl refl, true-slots sent heard (and_parts (is_true_slot was Bad) _ e).1)
-true-slots (Bad ∷ sent) (Good block ∷ heard) e = cc
 true-slots (Good was ∷ sent) (Good block ∷ heard) e =
     let parts = and_parts _ _ e in
     (inr (ap (λ (b : BlockParts). Good b) (same-block was block parts.0)), true-slots sent heard parts.1)
+true-slots sent heard e = cc
 
 same-head : (was head : PacketHead) → bytes_eq was.0 head.0 ≡ true → head ≡ was
 same-head was head e = ap (λ (xs : List ℕ). record { 0 = xs }) (sym (same-octets was.0 head.0 e))
@@ -54,11 +52,10 @@ unfolding is_true_to IsTrueTo
 true-packet (Confirmed sent) (Confirmed heard) e =
     let parts = and_parts _ _ e in
     (same-head sent.head heard.head parts.0, true-slots sent.slots heard.slots parts.1)
-true-packet (Confirmed sent) (Plain heard) e = cc
-true-packet (Plain sent) (Confirmed heard) e = cc
 true-packet (Plain sent) (Plain heard) e =
     let parts = and_parts _ _ e in
     ap₂ (λ (h : PacketHead) (xs : List ℕ). record { head = h; octets = xs }) (same-head sent.head heard.head parts.0) (sym (same-octets sent.octets heard.octets parts.1))
+true-packet sent heard e = cc
 
 heard-same : (sent read packet : Packet) (false_pass : Bool) → Heard read (not (is_true_to sent read)) ≡ Heard packet false_pass → false_pass ≡ not (is_true_to sent packet)
 heard-same sent read packet false_pass h = cc
@@ -103,13 +100,11 @@ true-tests [] [] t = refl
 true-tests [] (slot ∷ heard) t = absurd t
 true-tests (was ∷ sent) [] t = absurd t
 true-tests (was ∷ sent) (Bad ∷ heard) t = true-tests sent heard t.1
-true-tests (Bad ∷ sent) (Good block ∷ heard) (inl e, t) = cc
-true-tests (Bad ∷ sent) (Good block ∷ heard) (inr e, t) = cc
-true-tests (Good was ∷ sent) (Good block ∷ heard) (inl e, t) = cc
 true-tests (Good was ∷ sent) (Good block ∷ heard) (inr e, t) =
     let same : was ≡ block = cc in
     let P : BlockParts → Type 0 = λ (b : BlockParts). (eqb was.serial b.serial && bytes_eq was.octets b.octets) ≡ true in
     and_from _ _ (subst P same (and_from _ _ (eq-eqb was.serial was.serial refl) (itself was.octets))) (true-tests sent heard t)
+true-tests sent (Good block ∷ heard) other = cc
 
 pub true-exactly : (sent heard : Packet) → IsTrueTo sent heard ↔ (is_true_to sent heard ≡ true)
 unfolding is_true_to IsTrueTo

@@ -48,7 +48,6 @@ are_true_slots-step sent heard i was slot same long h s t e =
 pub are_true_slots-lengths : (sent heard : List Slot) → (length sent ≡ length heard → ⊥) → are_true_slots sent heard ≡ false
 unfolding are_true_slots
 are_true_slots-lengths [] [] h = absurd (h refl)
-are_true_slots-lengths [] (slot ∷ heard) h = refl
-are_true_slots-lengths (was ∷ sent) [] h = refl
 are_true_slots-lengths (was ∷ sent) (slot ∷ heard) h =
     ap (λ (b : Bool). is_true_slot was slot && b) (are_true_slots-lengths sent heard (λ e. h (ap suc e))) ∙ and-false (is_true_slot was slot)
+are_true_slots-lengths sent heard h = refl

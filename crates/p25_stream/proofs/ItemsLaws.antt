@@ -92,18 +92,15 @@ gap-first at bits place count is =
 -- with turns enough for every bit it does not matter how many there are
 items_in-enough : (more turns : ℕ) (ended : Bool) (at : ℕ) (bits : List Bool) → length bits ≤ more → length bits ≤ turns → items_in more ended at bits ≡ items_in turns ended at bits
 unfolding items_in
-items_in-enough zero zero ended at bits a b = refl
-items_in-enough zero (suc turns) ended at [] a b = refl
 items_in-enough zero (suc turns) ended at (bit ∷ bits) a b = absurd (omega arith)
-items_in-enough (suc more) zero ended at [] a b = refl
 items_in-enough (suc more) zero ended at (bit ∷ bits) a b = absurd (omega arith)
-items_in-enough (suc more) (suc turns) ended at [] a b = refl
 items_in-enough (suc more) (suc turns) ended at (bit ∷ bits) a b =
     let item = first_item at (bit ∷ bits) in
     let rest = drop (covered item) (bit ∷ bits) in
     let fits = covered-first_item at (bit ∷ bits) (omega arith) in
     let less : length rest ≤ length bits = omega (arith, length-drop (covered item) (bit ∷ bits)) in
     ap (λ items. cond (ended || is_decided (bit ∷ bits)) (item ∷ items) []) (items_in-enough more turns ended (at + covered item) rest (omega arith) (omega arith))
+items_in-enough more turns ended at bits a b = refl
 
 -- no bits have no item
 pub items_by-nil : (ended : Bool) (at : ℕ) → items_by ended at [] ≡ []
@@ -164,10 +161,9 @@ gap-append bits more no' known =
 
 -- the item at a sync stays
 synced-append : (at : ℕ) (bits more : List Bool) (need : Need) → need_of bits ≡ need → is_known need ≡ true → synced_item at (bits ++ more) need ≡ synced_item at bits need
-synced-append at bits more NoSync is known = refl
 synced-append at bits more (More count) is known = absurd (cc)
 synced-append at bits more (Length count) is known = ap (unit_item_of at) (take-append-le count bits more (need_of-there bits count is).3)
-synced-append at bits more (NoLength field) is known = refl
+synced-append at bits more need is known = refl
 
 -- a first item that is decided stays the first
 pub first_item-append : (at : ℕ) (bits more : List Bool) → is_decided bits ≡ true → (first_item at (bits ++ more) ≡ first_item at bits) × (is_decided (bits ++ more) ≡ true)

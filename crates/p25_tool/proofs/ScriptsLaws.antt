@@ -34,9 +34,9 @@ use Rattle.p25_duplex.proofs.RunLaws.{run-orderly as duplex-orderly}
 use Rattle.p25_duplex_script.specs.DuplexLines.{duplex_event_of}
 use Rattle.p25_duplex_script.proofs.DuplexLineLaws.{read-event}
 use Rattle.p25_filter.specs.declared.ending.Ending.{Ending}
-use Rattle.p25_filter.specs.declared.ending.Ending.TheVariants.{Done as EndDone, Found, BadLine}
+use Rattle.p25_filter.specs.declared.ending.Ending.TheVariants.{Done as EndDone}
 use Rattle.p25_filter.specs.declared.ending.FilterEnd.{FilterEnd}
-use Rattle.p25_filter.specs.declared.ending.FilterEnd.TheVariants.{Ended, ReadFault, WriteFault, TooLong, Memory as NoMemory}
+use Rattle.p25_filter.specs.declared.ending.FilterEnd.TheVariants.{Ended}
 use Rattle.p25_filter.specs.Futures.{Future}
 use Rattle.p25_filter.specs.Lines.{closing_by, lines_ending, lines_future, lines_in, read_of, refusal_in}
 use Rattle.p25_filter.specs.Runs.{IsFinal, Filtered, input_most}
@@ -73,11 +73,10 @@ head_of read line lines event events same = (cc same, cc same)
 
 read-as : {E : Type 0} (read : Reading E) (lines : List (List ℕ)) (events : List E) (number : ℕ) → map read lines ≡ map (λ e. Ok e) events → AreReadAs read number lines events
 read-as read [] [] number same = record { events_are = read_of-nil read; accepted = refusal_in-nil read number }
-read-as read [] (event ∷ events) number same = cc same
-read-as read (line ∷ lines) [] number same = cc same
 read-as read (line ∷ lines) (event ∷ events) number same =
     let parts = head_of read line lines event events same in
     with_event read number line lines event events parts.0 (read-as read lines events (number + 1) parts.1)
+read-as read lines events number same = cc same
 
 -- no line is refused by an ending that is Done
 refusal-done : {E : Type 0} (read : Reading E) (lines : List (List ℕ)) (number : ℕ) → refusal_in read number lines ≡ Some EndDone → ⊥
@@ -95,8 +94,7 @@ not-done None never is = cc is
 
 ended-done : (ending : Ending) → ending_outcome ending ≡ Done → ending ≡ EndDone
 ended-done EndDone is = refl
-ended-done (Found faults) is = cc is
-ended-done (BadLine line fault) is = cc is
+ended-done ending is = cc is
 
 -- each of the events that lines are read as is what each event is that a line is read as
 each-read : {E : Type 0} (read : Reading E) (Is : E → Type 0) → ((line : List ℕ) (event : E) → read line ≡ Ok event → Is event)
@@ -136,10 +134,7 @@ module _ {E S : Type 0} (read : Reading E) (steps : List E → List S) (line : S
 
   wrote-done : (end : FilterEnd) → Filtered told left first last (command_future command) end → filter_outcome end ≡ Done → Appended first (text events) last
   wrote-done (Ended ending) worked same = wrote-final worked.octets ending worked.meets (ended-done ending same)
-  wrote-done ReadFault worked same = cc same
-  wrote-done WriteFault worked same = cc same
-  wrote-done TooLong worked same = cc same
-  wrote-done NoMemory worked same = cc same
+  wrote-done end worked same = cc same
 
   -- the answer for such a script is Done
   answer-done : answer_of command input ≡ Done
