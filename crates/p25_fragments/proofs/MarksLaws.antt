@@ -61,10 +61,7 @@ moved-marks v h x (opens_session number p o q n l e) = inl (ap (λ (u : Delivery
 happens-marks : (v : Delivery) (happening : Happening) → OneMore (erasures_in v) (erasures_in (happens v happening).0)
 unfolding OneMore happens IsNoOffering
 happens-marks v (Offering message) = inl (offer-marks v message (offered v.outbound.sender message))
-happens-marks v Time_up = moved-marks v Time_up (happens v Time_up) (happens-moves v Time_up tt)
-happens-marks v Opening_again = moved-marks v Opening_again (happens v Opening_again) (happens-moves v Opening_again tt)
-happens-marks v (Data_heard packet) = moved-marks v (Data_heard packet) (happens v (Data_heard packet)) (happens-moves v (Data_heard packet) tt)
-happens-marks v (Answer_heard packet) = moved-marks v (Answer_heard packet) (happens v (Answer_heard packet)) (happens-moves v (Answer_heard packet) tt)
+happens-marks v happening = moved-marks v happening (happens v happening) (happens-moves v happening tt)
 
 -- The marks of the world of long messages.
 

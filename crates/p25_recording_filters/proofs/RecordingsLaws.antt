@@ -202,9 +202,8 @@ module _ {R : Type 0} (reporting : Reporting R) where
   close-by : (phase : Phase) (report : R) (scan : Scan) (now : RecordingParts R) (answer : Bool) (out : List ℕ) → scan.finished ≡ has_ended phase → given scan ≡ []
       → IsClosingBy reporting phase (record { report = report; scan = scan; phase = phase }) answer out now
       → NextPiece (recording_future reporting (record { report = report; scan = scan; phase = phase })) (Ok answer) out (recording_future reporting now)
-  close-by Reading report scan now answer out same none closing = close-none (record { report = report; scan = scan; phase = Reading }) now answer out closing.0 closing.1
   close-by Ended report scan now answer out same none closing = close-end report scan now answer out same none closing.0 closing.1 closing.2
-  close-by Closed report scan now answer out same none closing = close-none (record { report = report; scan = scan; phase = Closed }) now answer out closing.0 closing.1
+  close-by other report scan now answer out same none closing = close-none (record { report = report; scan = scan; phase = other }) now answer out closing.0 closing.1
 
   pub step-close : (before now : RecordingParts R) (answer : Bool) (out : List ℕ) → before.scan.finished ≡ has_ended before.phase → given before.scan ≡ [] → IsClosing reporting before answer out now
       → NextPiece (recording_future reporting before) (Ok answer) out (recording_future reporting now)
@@ -214,13 +213,10 @@ module _ {R : Type 0} (reporting : Reporting R) where
   idle-by : (phase : Phase) (report : R) (scan : Scan) (now : RecordingParts R) (answer : Bool) (out : List ℕ) → scan.finished ≡ has_ended phase → given scan ≡ [] → answer ≡ false
       → IsClosingBy reporting phase (record { report = report; scan = scan; phase = phase }) answer out now → (now.phase ≡ Ended → ⊥) × (given now.scan ≡ []) × IsIdle (has_ended now.phase) (recording_future reporting now)
   unfolding recording_future
-  idle-by Reading report scan now answer out same none no_piece closing =
-      subst (λ (r : RecordingParts R). (r.phase ≡ Ended → ⊥) × (given r.scan ≡ []) × IsIdle (has_ended r.phase) (recording_future reporting r)) (sym closing.1)
-      ((λ is. cc), none, future-idle Reading report scan same (λ is. cc) none)
   idle-by Ended report scan now answer out same none no_piece closing = cc
-  idle-by Closed report scan now answer out same none no_piece closing =
+  idle-by other report scan now answer out same none no_piece closing =
       subst (λ (r : RecordingParts R). (r.phase ≡ Ended → ⊥) × (given r.scan ≡ []) × IsIdle (has_ended r.phase) (recording_future reporting r)) (sym closing.1)
-      ((λ is. cc), none, future-idle Closed report scan same (λ is. cc) none)
+      ((λ is. cc), none, future-idle other report scan same (λ is. cc) none)
 
   pub step-idle : (before now : RecordingParts R) (answer : Bool) (out : List ℕ) → before.scan.finished ≡ has_ended before.phase → given before.scan ≡ [] → answer ≡ false → IsClosing reporting before answer out now
       → (now.phase ≡ Ended → ⊥) × (given now.scan ≡ []) × IsIdle (has_ended now.phase) (recording_future reporting now)

@@ -78,10 +78,7 @@ softened-uneven (Broken place count nac duid fields) first levels raw no' =
 
     differs : {b : Bool} → b ≡ true → b ≡ false → ⊥
     differs h e = cc
-softened-uneven (Whole place frame fixes) first levels raw no' = not_packet (Whole place frame fixes) first levels raw (λ ls. softened-other (Whole place frame fixes) ls raw (λ p c n d f is. cc))
-softened-uneven (NoUnit place field) first levels raw no' = not_packet (NoUnit place field) first levels raw (λ ls. softened-other (NoUnit place field) ls raw (λ p c n d f is. cc))
-softened-uneven (Gap place count) first levels raw no' = not_packet (Gap place count) first levels raw (λ ls. softened-other (Gap place count) ls raw (λ p c n d f is. cc))
-softened-uneven (Cut place have) first levels raw no' = not_packet (Cut place have) first levels raw (λ ls. softened-other (Cut place have) ls raw (λ p c n d f is. cc))
+softened-uneven item first levels raw no' = not_packet item first levels raw (λ ls. softened-other item ls raw (λ p c n d f is. cc))
 
 -- equal levels soften an item to equal bits, wherever they are counted from
 softened-same : (item : Item) (first other : ℕ) (levels others : List ℤ) (raw : List Bool)

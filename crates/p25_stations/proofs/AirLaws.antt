@@ -111,11 +111,10 @@ unfolding is_true_to IsTrueTo
 true-exactly (Confirmed sent) (Confirmed heard) =
     let P : PacketHead → Type 0 = λ (h : PacketHead). bytes_eq sent.head.0 h.0 ≡ true in
     (λ (t : (heard.head ≡ sent.head) × AreTrueSlots sent.slots heard.slots). and_from _ _ (subst P (sym t.0) (itself sent.head.0)) (true-tests sent.slots heard.slots t.1), true-packet (Confirmed sent) (Confirmed heard))
-true-exactly (Confirmed sent) (Plain heard) = (λ t. absurd t, true-packet (Confirmed sent) (Plain heard))
-true-exactly (Plain sent) (Confirmed heard) = (λ t. absurd t, true-packet (Plain sent) (Confirmed heard))
 true-exactly (Plain sent) (Plain heard) =
     let P : PlainParts → Type 0 = λ (p : PlainParts). (bytes_eq sent.head.0 p.head.0 && bytes_eq sent.octets p.octets) ≡ true in
     (λ (e : heard ≡ sent). subst P (sym e) (and_from _ _ (itself sent.head.0) (itself sent.octets)), true-packet (Plain sent) (Plain heard))
+true-exactly sent heard = (λ t. absurd t, true-packet sent heard)
 
 -- Within radius.
 
