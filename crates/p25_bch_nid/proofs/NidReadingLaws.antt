@@ -17,7 +17,6 @@ unfolding IsReadAs IsNidReading
 as_nid bits None is = is
 as_nid bits (Some word) is = record { word = word; word_of_set = is.word_of_set; within = is.within; begins = refl }
 
--- it is the reading
 pub IsNidReading-nid_reading_of : (bits : List Bool) → IsNidReading bits (nid_reading_of bits)
 unfolding nid_reading_of
 IsNidReading-nid_reading_of bits = as_nid bits (bch63_reading_of (take 63 bits)) (bch63_reads_as (take 63 bits))

@@ -146,7 +146,6 @@ numbers_from-add width (suc m) n bits =
     ∙ ap (λ numbers. field_of (take width bits) ∷ numbers) (numbers_from-add width m n (drop width bits))
     ∙ ap (λ rest. field_of (take width bits) ∷ (numbers_from width m (drop width bits) ++ numbers_from width n rest)) (drop-drop (width * m) width bits ∙ ap (λ k. drop k bits) next)
 
--- one more number
 pub numbers_from-more : (width n : ℕ) (bits : List Bool) → numbers_from width (n + 1) bits ≡ numbers_from width n bits ++ field_of (part (width * n) width bits) ∷ []
 numbers_from-more width n bits =
     numbers_from-add width n 1 bits

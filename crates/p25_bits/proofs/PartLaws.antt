@@ -63,7 +63,6 @@ part_last at count xs ys before long =
     let all : length ys ≤ count = omega arith in
     part_right at count xs ys behind ∙ ap (λ n. part n count ys) first ∙ take_all count ys all
 
--- a part of a part
 pub part-part : {X : Type 0} (at count from more : ℕ) (xs : List X) → from + more ≤ count → part from more (part at count xs) ≡ part (at + from) more xs
 part-part at count from more xs inside =
     let split : count ≡ from + (count - from) = omega arith in

@@ -75,7 +75,6 @@ waiting-kept : (number : ℕ) (message : List ℕ) (s : Session) (r : Receiving)
     IsWaiting number message s (record { last = r.last; kept = Some kept }) (Some (retry_packet number (held_flags kept.places)))
 waiting-kept number message s r answered kept h k = record { last_small = h.last_small; sync = h.sync; kept = k; answer = inr (kept, refl, refl); sent = h.sent; acknowledged = h.acknowledged }
 
--- it is delivered
 waiting-delivered : (number : ℕ) (message : List ℕ) (s : Session) (r : Receiving) (answered : Option Packet) → IsWaiting number message s r answered →
     IsArrived number message (with_delivered s message) (record { last = number; kept = None }) (Some (ack_packet number))
 waiting-delivered number message s r answered h = record { last_is = refl; kept = refl; answer = refl; earlier = s.delivered; sent = h.sent; delivered = sym h.sent; acknowledged = h.acknowledged }

@@ -88,7 +88,6 @@ first-in-order = first-within first_mark
 
 -- The parts between marks in order are what lies behind the first.
 
--- two parts that meet
 parts-meet : (from to last : ℕ) (xs : List (List ℕ)) → from ≤ to → to ≤ last
     → part from (to - from) xs ++ part to (last - to) xs ≡ part from (last - from) xs
 parts-meet from to last xs first second =

@@ -109,7 +109,6 @@ word-part line start i some within printed =
 words-more : (found : List (List ℕ)) (word : List ℕ) → list_all is_word found ≡ true → is_word word ≡ true → list_all is_word (found ++ word ∷ []) ≡ true
 words-more found word all one = list_all-append is_word found (word ∷ []) ∙ ap₂ ◌&&◌ all (ap (λ b. b && true) one)
 
--- a word is noted
 noted_word : (line : List ℕ) (list noted : Marks) (start i : ℕ) → Cut line list start i → start < i
     → noted.places ≡ take 16 (list.places ++ record { start = start; len = i - start } ∷ []) → (others : List (List ℕ))
     → drop list.count (parts_of line) ≡ take (i - start) (drop start line) ∷ others

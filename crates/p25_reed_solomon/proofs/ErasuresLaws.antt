@@ -128,7 +128,6 @@ module _ (n : ℕ) (erased : List Bool) where
       → value_at gf64 (m + erased_below erased (suc j)) (times_erasures n erased (suc j) f) z ≡ value_at gf64 (m + erased_below erased j) (times_erasures n erased j f) z
   value-times_kept m j f z none = ap₂ (λ k g. value_at gf64 (m + k) g z) (erased_below-kept erased j none) (times_erasures-kept j f none)
 
-  -- a zero stays
   pub zero_stays : (m j : ℕ) (f : ℕ → Sym) (z : Sym) → IsShort gf64 m f → value_at gf64 m f z ≡ gf64.zero → value_at gf64 (m + erased_below erased j) (times_erasures n erased j f) z ≡ gf64.zero
   zero_stays m zero f z short none = let e : m + erased_below erased 0 ≡ m = omega (arith, erased_below-none erased) in ap₂ (λ k g. value_at gf64 k g z) e (times_erasures-none f) ∙ none
   zero_stays m (suc j) f z short none =

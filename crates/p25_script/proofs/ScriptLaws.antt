@@ -21,7 +21,6 @@ use Rattle.p25_script.proofs.ValueLaws.{length-message_text, length-places_text,
 
 -- ---- the line of an event is read as it
 
--- the words of an event are words
 pub event_words-words : (event : Event) → IsScripted event → list_all is_word (event_words event) ≡ true
 event_words-words (Send message) fits = ap₂ ◌&&◌ (message-word message fits) refl
 event_words-words (ToReceiver places) fits = ap₂ ◌&&◌ (places-word places fits) refl

@@ -135,7 +135,6 @@ values-body_in kind values body found = cc found
 
 -- ---- what holds of all kinds
 
--- the words of a unit are words
 unit_words-words : (unit : UnitParts) → IsSendableUnit unit → list_all is_word (unit_words unit) ≡ true
 unit_words-words unit fits =
     let digits = digits-printed (three_digits unit.nac) (printed-three_digits unit.nac (omega (arith, fits.nac_fits))) in

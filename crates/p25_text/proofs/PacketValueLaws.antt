@@ -170,7 +170,6 @@ joined-printed (slot ∷ next ∷ slots) good =
     list_all-append is_printed (slot_text slot) (44 ∷ join_with_byte 44 (map slot_text (next ∷ slots)))
     ∙ ap₂ ◌&&◌ (marks-printed (slot_text slot) (slot-marks slot good.0)) (joined-printed (next ∷ slots) good.1)
 
--- it is printed
 pub slots-printed : (slots : List Slot) → AllFit IsGoodSlot slots → list_all is_printed (list_text slot_text slots) ≡ true
 unfolding comma_text
 slots-printed [] good = refl
