@@ -12,7 +12,7 @@ use Rattle.p25_messages.specs.declared.answers.Offer.TheVariants.{Taken}
 use Rattle.p25_messages.specs.declared.step_kind.StepKind.{StepKind}
 use Rattle.p25_messages.specs.declared.step_kind.StepKind.TheVariants.{Acknowledged, Delivered}
 use Rattle.p25_delivery.specs.HalfRules.{after_offer}
-use Rattle.p25_delivery.specs.Delivery.{Delivery, with_outbound, Happening, Offering, Time_up, Opening_again, Data_heard, Answer_heard, happens, present_mark}
+use Rattle.p25_delivery.specs.Delivery.{Delivery, with_outbound, Happening, Offering, happens, present_mark}
 use Rattle.p25_stations.specs.declared.step.Event.{Event}
 use Rattle.p25_stations.specs.declared.step.Event.TheVariants.{Send}
 use Rattle.p25_stations.specs.declared.step.Step.{Step}

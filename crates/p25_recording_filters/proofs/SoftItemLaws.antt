@@ -7,7 +7,7 @@ use Rattle.std.proofs.lemmas.List.{take-append-drop, take-append-le, drop-append
 use Rattle.p25_bits.specs.Bits.{part}
 use Rattle.p25_bits.proofs.PartLaws.{part-drop, part_left}
 use Rattle.p25_units.specs.declared.item.Item.{Item}
-use Rattle.p25_units.specs.declared.item.Item.TheVariants.{Whole, Broken, NoUnit, Gap, Cut}
+use Rattle.p25_units.specs.declared.item.Item.TheVariants.{Broken}
 use Rattle.p25_units.specs.Items.{covered, place_of, unit_item_of}
 use Rattle.p25_status.specs.Sync.{has_sync}
 use Rattle.p25_units.specs.Needs.{need_of}
