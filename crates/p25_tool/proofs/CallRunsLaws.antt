@@ -13,7 +13,6 @@ use Rattle.p25_filter.specs.declared.ending.FilterEnd.{FilterEnd}
 use Rattle.p25_filter.specs.declared.ending.FilterEnd.TheVariants.{Ended, ReadFault as EndedReadFault, WriteFault as EndedWriteFault, TooLong, Memory as NoMemory}
 use Rattle.p25_filter.proofs.RunsLaws.{run-filtered, run-read_fault, run-untouched, run-write_fault}
 use Rattle.p25_filter.proofs.LinesLaws.{Contains-none}
-use Rattle.p25_filter.proofs.SameLaws.{AreAlike, IsRun-same}
 use Rattle.p25_stations.specs.declared.step.Event.{Event as StationsEvent}
 use Rattle.p25_fragments.specs.declared.long_step.LongEvent.{LongEvent}
 use Rattle.p25_duplex.specs.declared.event.DuplexEvent.{DuplexEvent}
@@ -35,16 +34,16 @@ use Rattle.p25_tool.proofs.RecordedRunsLaws.{command-fit, units-run}
 use Rattle.p25_tool.proofs.RunsLaws.{answer-without-faults, memory-command}
 use Rattle.p25_tool.proofs.ScriptsLaws.{duplex-script-run, long-script-run, script-run}
 
--- the run of a future that is alike to that of a command that reads
-pub alike-run : {P : Type 0} (moves : P → List Event → P → Type 0) (first last : P) (f : Future) (command : Command) (end : FilterEnd)
-    → AreAlike f (command_future command) → ((count : ℕ) → command ≡ Sample count → ⊥)
+-- the run of a command that reads, by what it is named and a future that is its own
+pub alike-run : {P : Type 0} (moves : P → List Event → P → Type 0) (first last : P) (f : Future) (named command : Command) (end : FilterEnd)
+    → command ≡ named → f ≡ command_future named → ((count : ℕ) → named ≡ Sample count → ⊥)
     → ((events : List Event) × moves first events last × IsRun f events end)
     → (events : List Event) × moves first events last × IsRun (command_future command) events end × ((count : ℕ) → command ≡ Sample count → AreWrites events)
-alike-run moves first last f command end alike other went = (
+alike-run moves first last f named command end is alike other went = (
   went.0,
   went.1,
-  IsRun-same f (command_future command) alike went.0 end went.2,
-  λ count is. absurd (other count is),
+  subst (λ (future : Future). IsRun future went.0 end) (alike ∙ ap command_future (sym is)) went.2,
+  λ count sampled. absurd (other count (sym is ∙ sampled)),
 )
 
 -- the outcome of an end tells the fault, and is not that of words that name no command
