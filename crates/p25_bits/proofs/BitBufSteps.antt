@@ -9,6 +9,7 @@ use Rattle.std.proofs.lemmas.Bool.{cases_lt}
 use Rattle.std.proofs.lemmas.Nat.{shl_whole, shl-shr, shr_below, one_shl}
 use Rattle.std.proofs.lemmas.Nat.Bits.{bit_at_xor, bit_at-pow_same, bit_at-pow_other, bit_at-lt, shr_and_one}
 use Rattle.std.proofs.lemmas.List.{take-take, drop-take, length-take-le, take-append-drop, take_all, take-set, drop-set, get_or-drop, get_or-take, get_or_append_left}
+use Rattle.std.proofs.lemmas.Option.{slice_get-get_or}
 use Rattle.p25_bits.specs.Bits.{digit_of, bits_of, field_of, part, flipped}
 use Rattle.p25_bits.specs.Distance.{distance_of}
 use Rattle.p25_bits.specs.Numbers.{number_bits}
@@ -97,13 +98,8 @@ get_or-number_bits words i inside =
 pub slice_get-held : (now : List Bool) (words : List ℕ) (len i : ℕ) → take len (number_bits 64 words) ≡ now → i < length now → i < len → i / 64 < length words
     → slice_get now i ≡ Some (eqb (bit_and (get_or words (i / 64) 0 / 2 ^ (63 - i % 64)) 1) 1)
 slice_get-held now words len i held inside below there =
-    slice_get-is now i inside
+    slice_get-get_or now i false inside
     ∙ ap Some (ap (λ bits. get_or bits i false) (sym held) ∙ get_or-take len (number_bits 64 words) i false below ∙ get_or-number_bits words i there)
-  where
-    slice_get-is : (xs : List Bool) (k : ℕ) → k < length xs → slice_get xs k ≡ Some (get_or xs k false)
-    slice_get-is [] k h = absurd (omega arith)
-    slice_get-is (x ∷ xs) zero h = refl
-    slice_get-is (x ∷ xs) (suc k) h = slice_get-is xs k (omega arith)
 
 -- Inverted bits.
 

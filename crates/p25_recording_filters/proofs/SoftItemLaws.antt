@@ -2,7 +2,7 @@
 -- its place, so these can be let go.
 use Rattle.std.proofs.Common.{◌≡◌, ℕ, ◌+◌, ◌-◌, ◌*◌, ◌/◌, ◌%◌, ◌<◌, ◌≤◌, ◌&&◌, inl, inr, Bool, true, false, cond, List, [], ◌∷◌, ◌++◌, length, take, drop, refl, ap, ap₂, sym, subst, ◌∙◌, arith, append_assoc, append-nil, length-append, length-drop, eq-eqb, ℤ}
 use Rattle.std.specs.Prelude.{nat_eq}
-use Rattle.std.proofs.lemmas.Bool.{cases_Bool, cond-true, cond-false, eqb-true, and_parts}
+use Rattle.std.proofs.lemmas.Bool.{cases_Bool, cond-true, cond-false, eqb-true, and_parts, both_ways}
 use Rattle.std.proofs.lemmas.List.{take-append-drop, take-append-le, drop-append-le, drop-drop, length-take-le, drop_at}
 use Rattle.p25_bits.specs.Bits.{part}
 use Rattle.p25_bits.proofs.PartLaws.{part-drop, part_left}
@@ -40,13 +40,9 @@ pub softened-even : (item : Item) (levels : List ℤ) (raw : List Bool) → is_e
 unfolding item_softened
 softened-even (Broken place count nac duid fields) levels raw yes' =
     let item = Broken place count nac duid fields in
-    let even : nat_eq (place % 2) 0 ≡ true = second (nat_eq duid 0xC) (nat_eq (place % 2) 0) yes' in
+    let even : nat_eq (place % 2) 0 ≡ true = (and_parts (nat_eq duid 0xC) (nat_eq (place % 2) 0) yes').1 in
     cond-true (nat_eq (place % 2) 0) (softened item (part (place / 2 - first_level place) (count / 2) levels) raw) raw even
     ∙ ap (λ (ls : List ℤ). softened item ls raw) (part_from_group place (count / 2) levels)
-  where
-    second : (a b : Bool) → (a && b) ≡ true → b ≡ true
-    second true b h = h
-    second false b h = absurd (cc)
 softened-even item levels raw yes' = absurd (cc)
 
 same_both : {X : Type 0} (b : Bool) (x : X) → cond b x x ≡ x
@@ -69,15 +65,12 @@ softened-uneven (Broken place count nac duid fields) first levels raw no' =
           let odd : nat_eq (place % 2) 0 ≡ false = second (nat_eq duid 0xC) (nat_eq (place % 2) 0) packet no' in
           cond-false (nat_eq (place % 2) 0) (softened item (part (place / 2 - first) (count / 2) levels) raw) raw odd
       | inr other ↦ unfold item_softened in
-          not_packet item first levels raw (λ ls. softened-unpacked item ls raw place count nac duid fields refl (λ is. differs (eq-eqb duid 0xC is) other))
+          not_packet item first levels raw (λ ls. softened-unpacked item ls raw place count nac duid fields refl (λ is. both_ways _ other (eq-eqb duid 0xC is)))
     ]
   where
     second : (a b : Bool) → a ≡ true → (a && b) ≡ false → b ≡ false
     second true b h e = e
     second false b h e = absurd (cc)
-
-    differs : {b : Bool} → b ≡ true → b ≡ false → ⊥
-    differs h e = cc
 softened-uneven item first levels raw no' = not_packet item first levels raw (λ ls. softened-other item ls raw (λ p c n d f is. cc))
 
 -- equal levels soften an item to equal bits, wherever they are counted from
