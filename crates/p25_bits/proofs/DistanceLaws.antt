@@ -20,6 +20,7 @@ distance_by-same same alike (x ∷ xs) = rw (alike x) (omega (arith, distance_by
 -- where a test is symmetric, so is the distance
 pub distance_by-sym : {X : Type 0} (same : X → X → Bool) → ((x y : X) → same x y ≡ same y x) → (xs ys : List X) → distance_by same xs ys ≡ distance_by same ys xs
 unfolding distance_by
+distance_by-sym same turned [] [] = refl
 distance_by-sym same turned (x ∷ xs) (y ∷ ys) = ap₂ ◌+◌ (ap (λ b. cond b 0 1) (turned x y)) (distance_by-sym same turned xs ys)
 distance_by-sym same turned xs ys = refl
 
@@ -79,6 +80,7 @@ beq-same false = refl
 
 beq-sym : (x y : Bool) → beq x y ≡ beq y x
 beq-sym true true = refl
+beq-sym false true = refl
 beq-sym x y = refl
 
 beq-alike : (x y : Bool) → beq x y ≡ true → x ≡ y
@@ -134,6 +136,7 @@ pointwise-distance_of xs ys long =
 ones_digits : (x y : Bool) → count_ones (bit_xor (digit_of x) (digit_of y)) ≡ cond (beq x y) 0 1
 unfolding count_ones
 ones_digits true true = refl
+ones_digits false true = refl
 ones_digits x y = refl
 
 -- the number of places in which two lists of one length differ is the weight of the exclusive or of their numbers

@@ -52,8 +52,7 @@ differs false false column = sym (xor_self 0)
 pub change_of-is : (columns : List ℕ) (old new : List Bool) → length old ≡ length columns → length new ≡ length columns → change_of columns old new ≡ bit_xor (syndrome_of columns old) (syndrome_of columns new)
 unfolding syndrome_of change_of
 change_of-is [] old new long long' = sym (xor_self 0)
-change_of-is (column ∷ columns) [] new long long' = absurd (omega arith)
-change_of-is (column ∷ columns) (x ∷ old) [] long long' = absurd (omega arith)
 change_of-is (column ∷ columns) (x ∷ old) (y ∷ new) long long' =
     ap₂ bit_xor (differs x y column) (change_of-is columns old new (omega arith) (omega arith))
     ∙ xor_middle (cond x column 0) (cond y column 0) (syndrome_of columns old) (syndrome_of columns new)
+change_of-is (column ∷ columns) old new long long' = absurd (omega arith)

@@ -1,5 +1,5 @@
 -- Whatever happens at a delivery, each session that ends was the present one. By the rules, each answer in turn.
-use Rattle.std.proofs.Common.{Bool, false, List, ℕ, length}
+use Rattle.std.proofs.Common.{Bool, false, List, ℕ, length, true}
 use Rattle.p25_delivery.specs.Halves.{Sending, Receiving}
 use Rattle.p25_delivery.specs.SenderRules.{offered, timed_out, sender_heard, reopened, is_opening}
 use Rattle.p25_delivery.specs.ReceiverRules.{receiver_heard}
@@ -29,6 +29,7 @@ timeout-divided P w x h = h
 
 reopen-divided : (P : Session → Type 0) (w : Delivery) (again : Bool) (x : Sending × Reopen) → IsDivided P w → P (present_session w) → IsDivided P (with_outbound w (after_reopening w.outbound (length w.inbound.received) again x)).0
 unfolding with_outbound after_reopening
+reopen-divided P w true (s, ReopenSent number packet) h p = h
 reopen-divided P w false (s, ReopenSent number packet) h p = divided-marked P w h p
 reopen-divided P w again x h p = h
 

@@ -1,5 +1,5 @@
 -- The sessions of a delivery are the whole of its lists: in every run the marks stand in order, and so the parts between them end to end.
-use Rattle.std.proofs.Common.{◌≡◌, ℕ, ◌+◌, ◌-◌, ◌≤◌, Bool, false, List, [], ◌∷◌, ◌++◌, length, ap, ◌∙◌, arith, length-append, append-nil}
+use Rattle.std.proofs.Common.{◌≡◌, ℕ, ◌+◌, ◌-◌, ◌≤◌, Bool, false, List, [], ◌∷◌, ◌++◌, length, ap, ◌∙◌, arith, length-append, append-nil, true}
 use Rattle.std.specs.Prelude.{sum_by}
 use Rattle.std.specs.List.{flat_map}
 use Rattle.std.proofs.lemmas.List.Sums.{sum_by-cons}
@@ -58,6 +58,7 @@ timeout-in-order w x h = h
 reopen-in-order : (w : Delivery) (again : Bool) (x : Sending × Reopen) → IsInOrder w
     → IsInOrder (with_outbound w (after_reopening w.outbound (length w.inbound.received) again x)).0
 unfolding with_outbound after_reopening
+reopen-in-order w true (s, ReopenSent number packet) h = h
 reopen-in-order w false (s, ReopenSent number packet) h = in-order-marked first_mark w.outbound.marks (present_mark w) h
 reopen-in-order w again x h = h
 

@@ -72,6 +72,7 @@ reopen-tells : (own other : StationState) (side : Side) (count : ℕ) (again : B
     → Tells (Reopen side) own (station_told false (after_sending own (with_outbound (delivery_between own other) (after_reopening own.outbound count again answer))))
 unfolding with_outbound after_reopening
 reopen-tells own other side count true (s, ReopenSent number packet) = silent (Reopen side) own _ (refl, refl, refl) (refl, refl, refl)
+reopen-tells own other side count false (s, ReopenSent number packet) = silent (Reopen side) own _ (refl, refl, refl) (refl, refl, refl)
 reopen-tells own other side count again answer = silent (Reopen side) own _ (refl, refl, refl) (refl, refl, refl)
 
 answer-tells : (own other : StationState) (to : Side) (flips : List ℕ) (false_pass : Bool) (answer : Sending × SenderHeard)

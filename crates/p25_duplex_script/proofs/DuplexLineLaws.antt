@@ -28,6 +28,8 @@ use Rattle.p25_duplex_script.specs.declared.read.DuplexStart.TheVariants.{Acts, 
 words-words : (event : DuplexEvent) → IsDuplexScripted event → list_all is_word (duplex_words event) ≡ true
 words-words (Send A message) fits = ap₂ ◌&&◌ (message-word message fits) refl
 words-words (Send B message) fits = ap₂ ◌&&◌ (message-word message fits) refl
+words-words (Timeout A) fits = refl
+words-words (Reopen A) fits = refl
 words-words (Deliver A places) fits = ap₂ ◌&&◌ (places-word places fits) refl
 words-words (Deliver B places) fits = ap₂ ◌&&◌ (places-word places fits) refl
 words-words event fits = refl
@@ -40,6 +42,8 @@ words-some event = omega arith
 by_words-words : (event : DuplexEvent) → IsDuplexScripted event → duplex_by_words (duplex_words event) ≡ Ok event
 by_words-words (Send A message) fits = ap (value_or_fault (Send A)) (message_in-text message fits)
 by_words-words (Send B message) fits = ap (value_or_fault (Send B)) (message_in-text message fits)
+by_words-words (Timeout A) fits = refl
+by_words-words (Reopen A) fits = refl
 by_words-words (Deliver A places) fits = ap (value_or_fault (Deliver A)) (places_in-text places fits)
 by_words-words (Deliver B places) fits = ap (value_or_fault (Deliver B)) (places_in-text places fits)
 by_words-words event fits = refl

@@ -9,6 +9,7 @@ use Rattle.p25_duplex.specs.declared.side.Side.{Side}
 use Rattle.p25_duplex_script.specs.DuplexLines.{duplex_by_words, event_behind, event_of_side, start_named}
 use Rattle.p25_duplex_script.specs.declared.read.DuplexStart.{DuplexStart}
 use Rattle.p25_duplex_script.specs.declared.read.DuplexStart.TheVariants.{Acts, Delivery}
+use Rattle.p25_script.specs.declared.names.EventKind.TheVariants.{Send as SendLine}
 
 -- the first word names nothing
 pub wrong-start : (words : List (List ℕ)) (first : List ℕ) → slice_get words 0 ≡ Some first → start_named first ≡ None → duplex_by_words words ≡ Err WrongKind
@@ -31,7 +32,7 @@ three-words words first second third start at named count next last = right-star
 -- a line of another number of words
 
 many-behind : (side : Side) (kind : Option EventKind) (x y : List ℕ) (others : List (List ℕ)) → event_of_side side kind (x ∷ y ∷ others) ≡ Err Key
-many-behind side None x y others = refl
+many-behind side (Some SendLine) x y others = refl
 many-behind side kind x y others = refl
 
 other-count : (start : DuplexStart) (others : List (List ℕ)) → (length others ≡ 1 → ⊥) → (length others ≡ 2 → ⊥) → event_behind start others ≡ Err Key

@@ -5,7 +5,7 @@ use Rattle.p25_line.proofs.LineReadLaws.{keyed-not_long, named-not_long, value-n
 use Rattle.p25_script.specs.Script.{event_named}
 use Rattle.p25_script.specs.Values.{message_in, places_in}
 use Rattle.p25_script.specs.declared.names.EventKind.{EventKind}
-use Rattle.p25_script.specs.declared.names.EventKind.TheVariants.{Send as SendLine}
+use Rattle.p25_script.specs.declared.names.EventKind.TheVariants.{Send as SendLine, Timeout as TimeoutLine, Reopen as ReopenLine}
 use Rattle.p25_duplex.specs.declared.event.DuplexEvent.TheVariants.{Deliver, Send}
 use Rattle.p25_duplex.specs.declared.side.Side.{Side}
 use Rattle.p25_duplex_script.specs.DuplexLines.{duplex_by_words, event_behind, event_of_side, hearer_named, start_named}
@@ -14,6 +14,8 @@ use Rattle.p25_duplex_script.specs.declared.read.DuplexStart.TheVariants.{Acts, 
 
 side-not_long : (side : Side) (kind : Option EventKind) (others : List (List ℕ)) → event_of_side side kind others ≡ Err Long → ⊥
 side-not_long side (Some SendLine) (message ∷ []) e = value-not_long (Send side) (message_in message) e
+side-not_long side (Some TimeoutLine) [] e = cc e
+side-not_long side (Some ReopenLine) [] e = cc e
 side-not_long side kind others e = cc e
 
 start-not_long : (start : DuplexStart) (others : List (List ℕ)) → event_behind start others ≡ Err Long → ⊥

@@ -50,6 +50,8 @@ nothing-after_write_fault future before after piece count live =
 
 -- the last of some events is one alone
 last-is : (xs ys : List Event) (x y : Event) → xs ++ x ∷ [] ≡ ys ++ y ∷ [] → x ≡ y
+last-is [] (b ∷ []) x y same = cc
+last-is (a ∷ []) [] x y same = cc
 last-is (a ∷ xs) (b ∷ ys) x y same = let rest : xs ++ x ∷ [] ≡ ys ++ y ∷ [] = cc in last-is xs ys x y rest
 last-is xs ys x y same = cc
 

@@ -221,12 +221,13 @@ cut-front first last text piece whole count appended begins =
 -- of the octets that a source told, none are left where the input is over
 none-left : (told left : Option (List ℕ)) (octets rest : List ℕ) → Taken told octets left → IfSome told (λ input. input ≡ octets) → left ≡ Some rest → rest ≡ []
 none-left None (Some some) octets rest taken all same = let wrong : None ≡ Some (octets ++ some) = taken.left in cc
+none-left None None octets rest taken all same = cc
+none-left (Some input) None octets rest taken all same = cc
 none-left (Some input) (Some some) octets rest taken all same =
     let told : Some input ≡ Some (octets ++ some) = taken.left in
     let whole : input ≡ octets ++ some = cc in
     let equal : some ≡ rest = cc in
     nil_from_length rest (omega (arith, length-append octets rest, ap length (sym all ∙ whole ∙ ap (λ (zs : List ℕ). octets ++ zs) equal)))
-none-left told None octets rest taken all same = cc
 
 write-meets : (told left first last : Option (List ℕ)) (future : Future) (at : Standing) (piece : List ℕ) (count : ℕ) → Reached told at left
     → IsDecided future at.phase at.octets (at.text ++ piece) → Appended first (at.text ++ take count piece) last → IsWriteFault left first last future at.octets

@@ -8,10 +8,11 @@ use Rattle.p25_stations.specs.Runs.{AreClean}
 use Rattle.p25_stations.proofs.FalsePassLaws.{clean-from_none, none-from_clean}
 use Rattle.p25_stations.proofs.HistoryLaws.{each-append}
 use Rattle.p25_fragments.specs.LongState.{LongState, first_long}
-use Rattle.p25_fragments.specs.declared.long_step.LongEvent.TheVariants.{Long}
+use Rattle.p25_fragments.specs.declared.long_step.LongEvent.TheVariants.{Long, Inner}
 use Rattle.p25_fragments.specs.LongRuns.{HasLongHistory, IsCleanLongRun, IsEventOf, IsLongEvent, IsNoOffer, LongEvent, LongStep, long_run, long_sessions_of, long_step, offers_beside}
 use Rattle.p25_fragments.proofs.InnerRunLaws.{inner-run}
 use Rattle.p25_fragments.proofs.LongRunLaws.{long-orderly}
+use Rattle.p25_stations.specs.declared.step.Event.TheVariants.{Send}
 
 -- the inner world counts its false passes: none is counted exactly where the run is clean
 
@@ -29,6 +30,7 @@ long-none events clean =
 pub event-kept : (event : LongEvent) → ((message : List ℕ) → event ≡ Long message → length message ≤ 4000) → IsEventOf (offers_beside event) event
 unfolding IsLongEvent IsNoOffer
 event-kept (Long message) short = short message refl
+event-kept (Inner (Send message)) short = tt
 event-kept event short = tt
 
 -- a world before its first step has a history

@@ -58,9 +58,8 @@ places_kept line list i are held kept = omega (arith, length-map list.places (wo
 
 slice_get-take : {X : Type 0} (n : ℕ) (xs : List X) (i : ℕ) → i < n → slice_get (take n xs) i ≡ slice_get xs i
 slice_get-take zero xs i below = absurd (omega arith)
-slice_get-take (suc n) [] i below = refl
-slice_get-take (suc n) (x ∷ xs) zero below = refl
 slice_get-take (suc n) (x ∷ xs) (suc i) below = slice_get-take n xs i (omega arith)
+slice_get-take (suc n) xs i below = refl
 
 pub word_kept : (line : List ℕ) (list : Marks) (i : ℕ) (word : List ℕ) → AreWordsOf line list → i < 16 → slice_get (marked line list.places) i ≡ Some word → slice_get (parts_of line) i ≡ Some word
 word_kept line list i word are kept at = sym (slice_get-take 16 (parts_of line) i kept) ∙ ap (λ (l : List (List ℕ)). slice_get l i) (sym are.places) ∙ at

@@ -89,6 +89,8 @@ parts-space line list start i cut inside space =
 -- one more part: the parts up to it and those after it
 more-parts : (parts : List (List ℕ)) (count : ℕ) (part : List ℕ) (others : List (List ℕ)) → drop count parts ≡ part ∷ others
     → (take (count + 1) parts ≡ take count parts ++ part ∷ []) × (drop (count + 1) parts ≡ others)
+more-parts [] zero part others rest = cc rest
+more-parts [] (suc count) part others rest = cc rest
 more-parts (first ∷ parts) zero part others rest = (cc rest, cc rest)
 more-parts (first ∷ parts) (suc count) part others rest =
     let more = more-parts parts count part others rest in
@@ -96,7 +98,6 @@ more-parts (first ∷ parts) (suc count) part others rest =
       ap (λ n. take n (first ∷ parts)) next ∙ ap (λ l. first ∷ l) more.0,
       ap (λ n. drop n (first ∷ parts)) next ∙ more.1,
     )
-more-parts [] count part others rest = cc rest
 
 -- a part with a printed octet is a word
 word-part : (line : List ℕ) (start i : ℕ) → start < i → i ≤ length line → list_all is_printed (take (i - start) (drop start line)) ≡ true

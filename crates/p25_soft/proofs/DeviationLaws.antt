@@ -47,10 +47,9 @@ pub deviation-triangle : (xs ys : List ℕ) (levels : List ℤ) → length xs �
     → deviation_of xs (map nominal_level ys) ≤ 2 * deviation_of xs levels + 2 * deviation_of ys levels
 unfolding deviation_of
 deviation-triangle [] ys levels long same = omega arith
-deviation-triangle (x ∷ xs) [] levels long same = absurd (omega arith)
-deviation-triangle (x ∷ xs) (y ∷ ys) [] long same = absurd (omega arith)
 deviation-triangle (x ∷ xs) (y ∷ ys) (level ∷ levels) long same =
     omega (arith, squared-triangle x y level, deviation-triangle xs ys levels (omega arith) (omega arith))
+deviation-triangle (x ∷ xs) ys levels long same = absurd (omega arith)
 
 squared-same : (x : ℕ) → squared_deviation x (nominal_level x) ≡ 0
 unfolding squared_deviation
@@ -70,7 +69,21 @@ dibit high low = 2 * digit_of high + digit_of low
 far_test : (a b c d : Bool) → leb (4096 * (cond (beq a c) 0 1 + cond (beq b d) 0 1)) (squared_deviation (dibit a b) (nominal_level (dibit c d))) ≡ true
 unfolding squared_deviation nominal_level
 far_test false false false false = refl
-far_test a b c d = refl
+far_test false false false true = refl
+far_test false false true false = refl
+far_test false false true true = refl
+far_test false true false false = refl
+far_test false true false true = refl
+far_test false true true false = refl
+far_test false true true true = refl
+far_test true false false false = refl
+far_test true false false true = refl
+far_test true false true false = refl
+far_test true false true true = refl
+far_test true true false false = refl
+far_test true true false true = refl
+far_test true true true false = refl
+far_test true true true true = refl
 
 far-dibits : (a b c d : Bool) → 4096 * (cond (beq a c) 0 1 + cond (beq b d) 0 1) ≤ squared_deviation (dibit a b) (nominal_level (dibit c d))
 far-dibits a b c d = leb-true (4096 * (cond (beq a c) 0 1 + cond (beq b d) 0 1)) (squared_deviation (dibit a b) (nominal_level (dibit c d))) (far_test a b c d)
@@ -92,6 +105,7 @@ length-dibits_of n xs long = absurd (omega arith)
 hard-nominal : (a b : Bool) → bits_of 2 (hard_dibit (nominal_level (dibit a b))) ≡ a ∷ b ∷ []
 unfolding hard_dibit nominal_level bits_of
 hard-nominal false false = refl
+hard-nominal true false = refl
 hard-nominal a b = refl
 
 -- the hard bits of nominal levels are the bits

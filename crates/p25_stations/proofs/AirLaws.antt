@@ -97,14 +97,15 @@ packet-itself (Plain packet) = and_from _ _ (itself packet.head.0) (itself packe
 true-tests : (sent heard : List Slot) → AreTrueSlots sent heard → are_true_slots sent heard ≡ true
 unfolding are_true_slots is_true_slot AreTrueSlots
 true-tests [] [] t = refl
-true-tests [] (slot ∷ heard) t = absurd t
-true-tests (was ∷ sent) [] t = absurd t
 true-tests (was ∷ sent) (Bad ∷ heard) t = true-tests sent heard t.1
+true-tests (Bad ∷ sent) (Good block ∷ heard) (inl e, t) = cc
+true-tests (Bad ∷ sent) (Good block ∷ heard) (inr e, t) = cc
+true-tests (Good was ∷ sent) (Good block ∷ heard) (inl e, t) = cc
 true-tests (Good was ∷ sent) (Good block ∷ heard) (inr e, t) =
     let same : was ≡ block = cc in
     let P : BlockParts → Type 0 = λ (b : BlockParts). (eqb was.serial b.serial && bytes_eq was.octets b.octets) ≡ true in
     and_from _ _ (subst P same (and_from _ _ (eq-eqb was.serial was.serial refl) (itself was.octets))) (true-tests sent heard t)
-true-tests sent (Good block ∷ heard) other = cc
+true-tests sent heard t = absurd t
 
 pub true-exactly : (sent heard : Packet) → IsTrueTo sent heard ↔ (is_true_to sent heard ≡ true)
 unfolding is_true_to IsTrueTo

@@ -60,6 +60,7 @@ timeout-tells w answer = silent Timeout w _ (refl, refl, refl) (refl, refl, refl
 reopen-tells : (w : Delivery) (count : ℕ) (again : Bool) (answer : Sending × ReopenAnswer) → Tells Reopen w (with_outbound w (after_reopening w.outbound count again answer))
 unfolding with_outbound after_reopening
 reopen-tells w count true (s, ReopenSent number packet) = silent Reopen w _ (refl, refl, refl) (refl, refl, refl)
+reopen-tells w count false (s, ReopenSent number packet) = silent Reopen w _ (refl, refl, refl) (refl, refl, refl)
 reopen-tells w count again answer = silent Reopen w _ (refl, refl, refl) (refl, refl, refl)
 
 data-tells : (w : Delivery) (flips : List ℕ) (answer : Receiving × HeardAnswer) → Tells (ToReceiver flips) w (with_inbound w (after_data w.inbound answer))

@@ -25,6 +25,7 @@ both (x ∷ xs) (m ∷ ms) = cond (x && m) 1 0 + both xs ms
 ones_digits : (x m : Bool) → count_ones (bit_and (digit_of x) (digit_of m)) ≡ cond (x && m) 1 0
 unfolding count_ones
 ones_digits true true = refl
+ones_digits false true = refl
 ones_digits x m = refl
 
 ones-and : (xs ms : List Bool) → length xs ≡ length ms → count_ones (bit_and (field_of xs) (field_of ms)) ≡ both xs ms
@@ -63,13 +64,16 @@ within-none (suc n) (y ∷ ys) = within-none n ys
 
 -- a 1 of the mask is missed only where the bits are wrong
 missed_at : (x y m : Bool) → (not m || y) ≡ true → cond (m && m) 1 0 ≤ cond (x && m) 1 0 + cond (beq x y) 0 1
+missed_at true true true is = omega arith
 missed_at true false true is = absurd (cc)
+missed_at false true true is = omega arith
 missed_at false false true is = absurd (cc)
 missed_at x y m is = omega arith
 
 missed : (xs ys ms : List Bool) → length xs ≡ length ys → length xs ≡ length ms → within ms ys ≡ true → both ms ms ≤ both xs ms + distance_of xs ys
 unfolding both within distance_by
 missed [] [] [] a b is = omega arith
+missed [] ys (m ∷ ms) a b is = absurd (omega arith)
 missed (x ∷ xs) (y ∷ ys) (m ∷ ms) a b is =
     let parts = and_parts (not m || y) (within ms ys) is in
     omega (arith, missed_at x y m parts.0, missed xs ys ms (omega arith) (omega arith) parts.1)

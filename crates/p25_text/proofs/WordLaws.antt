@@ -41,6 +41,7 @@ keyed-more : (key : UnitKey) (keys : List UnitKey) (word : List ℕ) (words valu
     → behind (key_text key) word ≡ first → values_behind keys words ≡ others → with_entry first others ≡ Some values
     → ((rest : List (List ℕ)) → values_behind keys words ≡ Some rest → (keyed keys rest ≡ words) × (length rest ≡ length keys))
     → (keyed (key ∷ keys) values ≡ word ∷ words) × (length values ≡ suc (length keys))
+keyed-more key keys word words values (Some value) None found rest all step = cc all
 keyed-more key keys word words (first ∷ values) (Some value) (Some others) found rest all step =
     let same_value : value ≡ first = cc all in
     let same_others : others ≡ values = cc all in

@@ -1,6 +1,6 @@
 -- What `build` writes: the bits are those of the units of its lines, by induction on the units, and so a recording of undamaged units;
 -- what lines are read as, by induction on the lines and cases on the first.
-use Rattle.std.proofs.Common.{◌≡◌, ℕ, ◌+◌, ◌/◌, Bool, true, List, [], ◌∷◌, ◌++◌, length, map, take, Option, Some, Result, Ok, Err, refl, subst, ap, ap₂, sym, ◌∙◌, append-nil, arith}
+use Rattle.std.proofs.Common.{◌≡◌, ℕ, ◌+◌, ◌/◌, Bool, true, List, [], ◌∷◌, ◌++◌, length, map, take, Option, Some, Result, Ok, Err, refl, subst, ap, ap₂, sym, ◌∙◌, append-nil, arith, false, None}
 use Rattle.std.specs.Prelude.{All}
 use Rattle.std.specs.List.{flat_map}
 use Rattle.std.proofs.lemmas.List.{length-replicate}
@@ -113,7 +113,8 @@ accepted-read other another read = cc read
 -- `build` writes nothing at the end
 closing_none : (ended : Bool) (refusal : Option Ending) → closing_by ended refusal [] ≡ []
 closing_none ended (Some refusal) = refl
-closing_none ended refusal = refl
+closing_none true None = refl
+closing_none false None = refl
 
 output-images : (ended : Bool) (status : Status) (octets : List ℕ)
     → output_by (Build status) ended octets ≡ flat_map (image_octets status) (units_of (lines_in ended [] octets))
