@@ -71,7 +71,7 @@ offered-follows w message x f short i (told_taken number blocks k d o e) = subst
 no-offering : (delivery : Delivery) (event : Event) (false_pass : Bool) (happening : Happening) → HasHappen delivery event false_pass happening → IsNoOffer event → IsNoOffering happening
 unfolding IsNoOffer IsNoOffering
 no-offering delivery event false_pass happening (offers message) is = is
-no-offering delivery event false_pass happening is_late is = tt
+no-offering delivery event false_pass happening other is = tt
 
 no-offer-event : (event : Event) → IsNoOffer event → IsEvent event
 unfolding IsNoOffer IsEvent

@@ -12,8 +12,8 @@ returns c = record {
   no_read_ahead = no_read-ahead;
   no_read_after_end = no_read-after_end;
   no_empty_write = λ future before after live.
-        let due = (IsLive-parts future at_first before (Wrote [] ∷ after) live).1.0 in
-        omega (arith, due.some);
+      let due = (IsLive-parts future at_first before (Wrote [] ∷ after) live).1.0 in
+      omega (arith, due.some);
   nothing_after_read_fault = nothing-after_read_fault;
   nothing_after_write_fault = nothing-after_write_fault;
   read_fault_is_told = read_fault-told;
