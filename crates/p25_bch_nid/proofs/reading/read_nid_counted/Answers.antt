@@ -7,9 +7,9 @@ pub returns-in-Some : goal.returns-in-Some
 returns-in-Some c = record {
   value = ap Some c.identifier_in.ensures ∙ sym (code_reading c.args.bits (Some (bits_of 63 c.in-Some.sent)) c.in-Some.ensures.reading);
   wrong =
-        wrong_in c.args.bits c.in-Some.sent (c.identifier_in.result.nac, c.identifier_in.result.duid) (omega arith) c.in-Some.ensures.fits c.in-Some.ensures.reading c.identifier_in.ensures;
+      wrong_in c.args.bits c.in-Some.sent (c.identifier_in.result.nac, c.identifier_in.result.duid) (omega arith) c.in-Some.ensures.fits c.in-Some.ensures.reading c.identifier_in.ensures;
   most =
-        wrong-le c.args.bits c.in-Some.sent (c.identifier_in.result.nac, c.identifier_in.result.duid) (omega arith) c.in-Some.ensures.fits c.in-Some.ensures.reading c.identifier_in.ensures;
+      wrong-le c.args.bits c.in-Some.sent (c.identifier_in.result.nac, c.identifier_in.result.duid) (omega arith) c.in-Some.ensures.fits c.in-Some.ensures.reading c.identifier_in.ensures;
 }
 
 pub returns-in-None-clause-value : goal.returns-in-None-clause-value

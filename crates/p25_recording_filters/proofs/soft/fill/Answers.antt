@@ -56,9 +56,9 @@ pub returns : goal.returns
 unfolding filled
 returns c = record {
   list =
-        let levels = c.args.levels.now in
-        let all : c.loop-filled._filled ≡ (4 - length levels % 4) % 4 = omega (arith, c.len.ensures) in
-        c.loop-filled.invariant.list ∙ ap (λ n. levels ++ replicate n (pos 32)) all;
+      let levels = c.args.levels.now in
+      let all : c.loop-filled._filled ≡ (4 - length levels % 4) % 4 = omega (arith, c.len.ensures) in
+      c.loop-filled.invariant.list ∙ ap (λ n. levels ++ replicate n (pos 32)) all;
   full = omega (arith, c.loop-filled.invariant.len, c.len.ensures);
   few = omega (arith, c.loop-filled.invariant.len, c.len.ensures);
   holding = c.loop-filled.invariant.holding;

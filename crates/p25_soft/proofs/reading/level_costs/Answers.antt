@@ -28,10 +28,10 @@ loop-entry-preserved c =
 pub returns : goal.returns
 returns c = record {
   costs =
-        IsPointTable-from c.args.levels.now c.sent_places-places.result c.loop-entry.costs c.sent_places-places.ensures.len c.sent_places-places.ensures.in_order
-        (λ k below. let there : k < c.loop-entry.entry = omega arith in (c.loop-entry.invariant.so_far k there).0);
+      IsPointTable-from c.args.levels.now c.sent_places-places.result c.loop-entry.costs c.sent_places-places.ensures.len c.sent_places-places.ensures.in_order
+      (λ k below. let there : k < c.loop-entry.entry = omega arith in (c.loop-entry.invariant.so_far k there).0);
   low =
-        All-from_get_or (λ (cost : ℕ). cost ≤ 2 ^ 24) c.loop-entry.costs 0
-        (λ k inside. let there : k < c.loop-entry.entry = omega (arith, c.loop-entry.invariant.long) in (c.loop-entry.invariant.so_far k there).1);
+      All-from_get_or (λ (cost : ℕ). cost ≤ 2 ^ 24) c.loop-entry.costs 0
+      (λ k inside. let there : k < c.loop-entry.entry = omega (arith, c.loop-entry.invariant.long) in (c.loop-entry.invariant.so_far k there).1);
   len = c.loop-entry.invariant.long;
 }
