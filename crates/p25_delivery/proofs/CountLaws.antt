@@ -29,9 +29,8 @@ use Rattle.p25_delivery.proofs.RunLaws.{each-all, run-keeps_all}
 
 -- the numbers sent and acknowledged, by what is outstanding
 unfoldable CountsBy : Outstanding → ℕ → ℕ → Type 0
-CountsBy Nothing sent acknowledged = sent ≡ acknowledged
 CountsBy (Message message) sent acknowledged = sent ≡ acknowledged + 1
-CountsBy (Opening number) sent acknowledged = sent ≡ acknowledged
+CountsBy other sent acknowledged = sent ≡ acknowledged
 
 abbrev CountsIn : Outstanding → Session → Type 0
 CountsIn out s = CountsBy out (length s.sent) s.acknowledged

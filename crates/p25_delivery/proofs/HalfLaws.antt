@@ -91,8 +91,7 @@ data-sendable number message packet n is (inr (wanted, e)) = subst IsSendable (s
 -- a message or the opening packet
 unfoldable IsHeldUp : Outstanding → Type 0
 IsHeldUp Nothing = ⊥
-IsHeldUp (Message message) = Unit {0}
-IsHeldUp (Opening number) = Unit {0}
+IsHeldUp other = Unit {0}
 
 counted-again : (o : Outgoing) (s : Sending) (out : Outstanding) → IsHeldUp out → IsCountedWith out o → IsCountedWith out (record o { sender = s })
 unfolding IsHeldUp IsCountedWith

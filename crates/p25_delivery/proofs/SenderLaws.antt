@@ -56,8 +56,7 @@ offer-opening s message number o =
 -- a packet that is sent again has some property
 abbrev pub ResendsOf : (Packet → Type 0) → Resend → Type 0
 ResendsOf P (Sent number tries packet) = P packet
-ResendsOf P Idle = Unit {0}
-ResendsOf P ResendDown = Unit {0}
+ResendsOf P other = Unit {0}
 
 -- what is outstanding stays, and is sent again or not
 abbrev pub Resends : (Packet → Type 0) → Sending → Sending × Resend → Type 0
@@ -117,12 +116,11 @@ acks (Plain packet) number = is_ack packet.head number
 
 -- what is sent again carries the message
 abbrev pub RetriesOf : ℕ → List ℕ → SenderHeard → Type 0
-RetriesOf number message (Acknowledged other) = ⊥
-RetriesOf number message (Opened other) = ⊥
 RetriesOf number message (Retry other wanted tries packet) = IsDataOf number message packet
 RetriesOf number message (Repeat other tries packet) = IsDataOf number message packet
 RetriesOf number message Ignored = Unit {0}
 RetriesOf number message HeardDown = Unit {0}
+RetriesOf number message other = ⊥
 
 -- the message stays outstanding
 abbrev pub Stays : Sending → List ℕ → Sending × SenderHeard → Type 0
