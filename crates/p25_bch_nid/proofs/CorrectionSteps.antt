@@ -1,6 +1,6 @@
 -- Inverting the bits of the places that are wrong makes the word that was sent: the symbols of two bits add to zero exactly where the
 -- bits are the same.
-use Rattle.std.proofs.Common.{◌≡◌, ◌≢◌, ◌↔◌, ℕ, zero, suc, ◌+◌, ◌-◌, ◌%◌, ◌^◌, ◌<◌, ◌⊎◌, inl, inr, eqb, bit_xor, ◌≤◌, Bool, true, false, cond, not, IsTrue, List, ◌∷◌, Option, length, get_or, refl, ap, ap₂, sym, ◌∙◌, subst, arith, lit<}
+use Rattle.std.proofs.Common.{◌≡◌, ◌≢◌, ◌↔◌, ℕ, zero, suc, ◌+◌, ◌-◌, ◌%◌, ◌^◌, ◌<◌, eqb, bit_xor, ◌≤◌, Bool, true, false, cond, not, IsTrue, List, ◌∷◌, Option, length, get_or, refl, ap, ap₂, sym, ◌∙◌, subst, arith, lit<}
 use Rattle.std.specs.Bool.{beq}
 use Rattle.std.specs.Int.{bit_at}
 use Rattle.std.specs.Int.RustNames.{count_ones}
@@ -11,7 +11,7 @@ use Rattle.p25_bch_nid.specs.Bch63Laws.{bch63_is_code}
 use Rattle.p25_bch_nid.specs.Bch63Readings.{bch63_reading_of, bch63_reads_as}
 use Rattle.std.specs.Int.Bits.{xor_zero_r}
 use Rattle.std.proofs.lemmas.Nat.Bits.{bit_at_xor, bit_at-lt}
-use Rattle.std.proofs.lemmas.Bool.{false≢true, cases_lt}
+use Rattle.std.proofs.lemmas.Bool.{false≢true}
 use Rattle.std.proofs.lemmas.List.{ext_get_or, length-map}
 use Rattle.p25_bits.specs.Bits.{bits_of, field_of}
 use Rattle.p25_bits.specs.Distance.{distance_of}
@@ -89,24 +89,12 @@ corrected_is received sent made wrong long full of_code is exactly =
 xored : (a b e : ℕ) → eqb (bit_at (bit_xor a b) e) 1 ≡ cond (eqb (bit_at b e) 1) (not (eqb (bit_at a e) 1)) (eqb (bit_at a e) 1)
 xored a b e = ap (λ n. eqb n 1) (bit_at_xor a b e) ∙ of_bits (bit_at a e) (bit_at b e) (bit_at-lt a e) (bit_at-lt b e)
   where
-    is : ℕ → ℕ → Type 0
-    is x y = eqb ((x + y) % 2) 1 ≡ cond (eqb y 1) (not (eqb x 1)) (eqb x 1)
-
-    either : (x : ℕ) → x < 2 → (x ≡ 0) ⊎ (x ≡ 1)
-    either x low = elim (cases_lt x 1) [ inl zero_bit ↦ inl (omega arith) | inr one_bit ↦ inr (omega arith) ]
-
     of_bits : (x y : ℕ) → x < 2 → y < 2 → eqb ((x + y) % 2) 1 ≡ cond (eqb y 1) (not (eqb x 1)) (eqb x 1)
-    of_bits x y x_low y_low =
-        elim (either x x_low) [
-          | inl x_is ↦ elim (either y y_low) [
-            | inl y_is ↦ subst (λ n. is n y) (sym x_is) (subst (λ n. is 0 n) (sym y_is) refl)
-            | inr y_is ↦ subst (λ n. is n y) (sym x_is) (subst (λ n. is 0 n) (sym y_is) refl)
-          ]
-          | inr x_is ↦ elim (either y y_low) [
-            | inl y_is ↦ subst (λ n. is n y) (sym x_is) (subst (λ n. is 1 n) (sym y_is) refl)
-            | inr y_is ↦ subst (λ n. is n y) (sym x_is) (subst (λ n. is 1 n) (sym y_is) refl)
-          ]
-        ]
+    of_bits zero zero x_low y_low = refl
+    of_bits zero (suc zero) x_low y_low = refl
+    of_bits (suc zero) zero x_low y_low = refl
+    of_bits (suc zero) (suc zero) x_low y_low = refl
+    of_bits x y x_low y_low = absurd (omega arith)
 
 -- what was sent, by numbers
 pub corrected_number : (received sent made : List Bool) (number wrong : ℕ) → length received ≡ 63 → number ≡ field_of received → made ≡ bits_of 63 (bit_xor number wrong) → IsBch63 sent

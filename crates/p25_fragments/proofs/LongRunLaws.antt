@@ -14,7 +14,7 @@ use Rattle.p25_stations.specs.declared.step.Step.{Step}
 use Rattle.p25_stations.specs.WorldState.{WorldState}
 use Rattle.p25_stations.specs.Steps.{world_step}
 use Rattle.p25_stations.specs.Runs.{IsEvent, AreClean}
-use Rattle.p25_stations.proofs.StepLaws.{HasHappen, offers, is_late, IsQuiet, nothing, Does, rests, does, step-does}
+use Rattle.p25_stations.proofs.StepLaws.{HasHappen, offers, IsQuiet, nothing, Does, rests, does, step-does}
 use Rattle.p25_stations.proofs.CleanLaws.{happening-clean}
 use Rattle.p25_fragments.specs.declared.long_step.LongEvent.{LongEvent}
 use Rattle.p25_fragments.specs.declared.long_step.LongEvent.TheVariants.{Long, Inner}
