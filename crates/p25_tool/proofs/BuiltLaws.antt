@@ -108,7 +108,7 @@ accepted-read (line ∷ lines) (unit ∷ units) read =
     let later : map read_line_of lines ≡ map Ok units = cc read in
     let rest = accepted-read lines units later in
     (read_of-ok read_line_of line lines unit first ∙ ap (λ (us : List UnitParts). unit ∷ us) rest.0, ap₂ ◌∷◌ (text_of-read_line line unit first).0 rest.1)
-accepted-read other another read = cc read
+accepted-read lines units read = cc read
 
 -- `build` writes nothing at the end
 closing_none : (ended : Bool) (refusal : Option Ending) → closing_by ended refusal [] ≡ []
