@@ -25,16 +25,16 @@ unfolding recording_future
 show-alike report = same-future (λ is octets. reported-show is report (items_by is 0 (octet_bits octets)) (octet_bits octets)) (λ is octets. refl) (λ is octets. refl)
 
 pub check-alike : (report : Check) → report ≡ record { units = 0; faults = 0 } → recording_future check_reporting (fresh report) ≡ command_future CheckIt
-check-alike report empty = same-future writes ends (λ is octets. unfold recording_future in refl)
+unfolding recording_future
+check-alike report empty =
+    same-future
+    (λ is octets.
+    let items = items_by is 0 (octet_bits octets) in
+    let units : report.units + units_in items ≡ units_in items = omega (arith, ap (λ (r : Check). r.units) empty) in
+    let faults : report.faults + faults_in items ≡ faults_in items = omega (arith, ap (λ (r : Check). r.faults) empty) in
+    reported-check is report items (octet_bits octets) ∙ ap₂ (λ (u f : ℕ). flat_map faulty items ++ cond is (check_line u f) []) units faults)
+    ends (λ is octets. refl)
   where
-    writes : (is : Bool) (octets : List ℕ) → (recording_future check_reporting (fresh report)).writes is octets ≡ (command_future CheckIt).writes is octets
-    writes is octets =
-        let items = items_by is 0 (octet_bits octets) in
-        let units : report.units + units_in items ≡ units_in items = omega (arith, ap (λ (r : Check). r.units) empty) in
-        let faults : report.faults + faults_in items ≡ faults_in items = omega (arith, ap (λ (r : Check). r.faults) empty) in
-        unfold recording_future in
-        reported-check is report items (octet_bits octets) ∙ ap₂ (λ (u f : ℕ). flat_map faulty items ++ cond is (check_line u f) []) units faults
-
     ends : (is : Bool) (octets : List ℕ) → (recording_future check_reporting (fresh report)).ends is octets ≡ ending_by CheckIt is octets
     ends false octets = unfold recording_future in refl
     ends true octets =
