@@ -1,4 +1,4 @@
-use Rattle.std.proofs.Common.{◌≤◌, length, decimal, arith}
+use Rattle.std.proofs.Common.{ℕ, ◌^◌, ◌≤◌, ◌<◌, length, decimal, arith}
 use Rattle.std.proofs.lemmas.Fmt.{length-decimal-le}
 use Rattle.p25_suite.proofs.tests.put_named.Goals as goal
 
