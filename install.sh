@@ -102,7 +102,7 @@ for companion in "$top"/companions/p25-*; do
         put 644 "$made" "share/man/man1/${companion##*/}.1"
     fi
 done
-for page in RECIPES.md FORMATS.md; do
+for page in RECIPES.md FORMATS.md WEAK.md; do
     put 644 "$top/docs/$page" "share/p25/$page"
 done
 put 644 "$top/RELEASE" share/p25/RELEASE

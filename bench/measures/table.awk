@@ -1,4 +1,5 @@
-# Makes the rows of the table. Reads the figures wished for (`name|case|figure`) and then the lines of what was timed: of a call
+# Makes the rows of the table. Reads the figures wished for (`name|case|figure`), of which one may be so many times another row above it
+# (``1.2 times `repair` `` of the same recording), and then the lines of what was timed: of a call
 # `call|words|input|seconds|KiB|octets|COUNT UNITS|kind`, and of a coder `program|name|case|tenths of a nanosecond|sum`.
 BEGIN {
     FS = "|"
@@ -12,9 +13,11 @@ function text(seconds) {
     return seconds >= 0.0000001 ? sprintf("%.2f µs", seconds * 1000000) : sprintf("%.1f ns", seconds * 1000000000)
 }
 
-# The seconds of a figure that is wished for. A block from levels is compared with one from bits that has to be searched for.
+# The seconds of a figure that is wished for. A call is compared with `repair` of the same recording, and a block from levels with one from bits
+# that has to be searched for.
 function seconds_of(name,   parts) {
     split(goals[name], parts, " ")
+    if (parts[3] == "`repair`") return parts[1] * taken["repair" substr(name, index(name, "|"))] + 0.000001
     if (parts[2] == "times") return parts[1] * least["coders|" part[name] "|8"] / 10000000000
     return parts[1] * (parts[2] == "s" ? 1 : parts[2] == "µs" ? 0.000001 : 0.000000001)
 }
@@ -39,6 +42,7 @@ function row_of_call(   name, seconds, whole, speed, large) {
         whole = seconds * 16 * mib / $6
         speed = seconds > 0 ? sprintf("%.1f", $6 / seconds / 1000000) : ""
         large = $5 > 4096 ? ", missed" : ""
+        taken[name] = whole
     }
     printf("| `%s` | %s | %.2f s | %s | %s | %s | | | %s |\n",
         $2, $3, whole, speed, rate($7, seconds), $5 large, wished(name, whole))
