@@ -24,7 +24,6 @@ module _ {F : Type 0} (K : Field F) where
   sum_same zero s t e = refl
   sum_same (suc n) s t e = ap₂ ◌⊕◌ (sum_same n s t (λ i h. e i (omega arith))) (e n (omega arith))
 
-  -- a sum of zeros is zero
   pub sum_of_zeros : (n : ℕ) (t : ℕ → F) → ((i : ℕ) → i < n → t i ≡ 𝟘) → sum_below K n t ≡ 𝟘
   unfolding sum_below
   sum_of_zeros zero t e = refl

@@ -90,8 +90,6 @@ module _ {F : Type 0} (K : Field F) where
 
   -- n coefficients are all zero where the polynomial has n different zeros
   pub few_zeros : (n m : ℕ) (f z : ℕ → F) → n ≤ m → AreApart m z → ((j : ℕ) → j < m → value_at K n f (z j) ≡ 𝟘) → (i : ℕ) → i < n → f i ≡ 𝟘
-  few_zeros zero m f z le apart zeros i h = absurd (omega arith)
-  few_zeros (suc n) zero f z le apart zeros i h = absurd (omega arith)
   few_zeros (suc n) (suc m) f z le apart zeros i h =
       let (g, q) = quotient_at n f (z m) in
       let others = few_zeros n m g z (omega arith) (record { apart = λ i k hi hk e. apart.apart i k (omega arith) (omega arith) e }) (zeros_left g q) in
@@ -116,3 +114,4 @@ module _ {F : Type 0} (K : Field F) where
           ∙ sym (value_first n f (z m))
           ∙ zeros m (omega arith)
       all_zero rest (suc i) low = rest i (omega arith)
+  few_zeros n m f z le apart zeros i h = absurd (omega arith)

@@ -14,9 +14,8 @@ weight-le (inl a) = omega arith
 weight-le (inr b) = omega arith
 
 weight_more : {A B C D : Type 0} (less : A ⊎ B) (more : C ⊎ D) → (C → A) → (B → A → ⊥) → weight_by less ≤ weight_by more
-weight_more (inl a) more down apart = omega arith
 weight_more (inr b) (inl c) down apart = absurd (apart b (down c))
-weight_more (inr b) (inr d) down apart = omega arith
+weight_more less more down apart = omega arith
 
 module _ {F : Type 0} (K : Field F) where
   open K use {zero as 𝟘, one as 𝟙, add as ◌⊕◌, mul as ◌⊗◌}
@@ -33,34 +32,12 @@ module _ {F : Type 0} (K : Field F) where
   pub weight_one : (x : F) → x ≢ 𝟘 → weight_by (K.is_zero x) ≡ 1
   weight_one x h = elim (K.is_zero x) as (λ w. weight_by w ≡ 1) [ inl same ↦ absurd (h same) | inr apart ↦ refl ]
 
-  pub nonzeros-le : (n : ℕ) (f : ℕ → F) → nonzeros K n f ≤ n
-  unfolding nonzeros
-  nonzeros-le zero f = omega arith
-  nonzeros-le (suc n) f = omega (arith, nonzeros-le n f, weight-le (K.is_zero (f n)))
-
-  -- where none is zero, all count
-  pub nonzeros_all : (n : ℕ) (f : ℕ → F) → ((i : ℕ) → i < n → f i ≢ 𝟘) → nonzeros K n f ≡ n
-  unfolding nonzeros
-  nonzeros_all zero f apart = refl
-  nonzeros_all (suc n) f apart =
-      omega (arith, nonzeros_all n f (λ i h. apart i (omega arith)), weight_one (f n) (apart n (omega arith)))
-
   -- where one list of factors is zero wherever another is, it has no more that are not zero
   pub nonzeros_mono : (n : ℕ) (f g : ℕ → F) → ((i : ℕ) → i < n → g i ≡ 𝟘 → f i ≡ 𝟘) → nonzeros K n f ≤ nonzeros K n g
   unfolding nonzeros
   nonzeros_mono zero f g down = omega arith
   nonzeros_mono (suc n) f g down =
       omega (arith, nonzeros_mono n f g (λ i h. down i (omega arith)), weight_more (K.is_zero (f n)) (K.is_zero (g n)) (down n (omega arith)) (λ apart same. apart same))
-
-  -- where none is left, every factor is zero
-  pub nonzeros_none : (n : ℕ) (f : ℕ → F) → nonzeros K n f ≡ 0 → (i : ℕ) → i < n → f i ≡ 𝟘
-  unfolding nonzeros
-  nonzeros_none zero f e i h = absurd (omega arith)
-  nonzeros_none (suc n) f e i h =
-      elim (cases_eq i n) [
-        | inl last ↦ rw last (elim (K.is_zero (f n)) [ inl same ↦ same | inr apart ↦ absurd (omega (arith, weight_one (f n) apart)) ])
-        | inr before ↦ nonzeros_none n f (omega arith) i (omega arith)
-      ]
 
   -- each factor times the sum of its element and another
   abbrev pub lowered : (ℕ → F) → (ℕ → F) → F → ℕ → F

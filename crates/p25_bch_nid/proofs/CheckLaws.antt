@@ -1,12 +1,12 @@
 -- The table of remainders is right at each place: an entry is made from its four bits by doubling, a remainder at each step, and
 -- the checker computes all of them. A word's remainder is the sum of those of its four-bit parts.
 use Rattle.std.proofs.Common.{◌≡◌, ℕ, zero, suc, ◌+◌, ◌*◌, ◌/◌, ◌%◌, ◌^◌, ◌<◌, ◌==◌, inl, inr, Bool, true, cond, nat_lt, slice_index_or, bit_xor, refl, ap, ap₂, sym, ◌∙◌, subst, arith}
-use Rattle.std.specs.Int.Bits.{xor_assoc, xor_zero_r}
+use Rattle.std.specs.Int.Bits.{xor_zero_r}
 use Rattle.std.proofs.Math.Nat.{mul_assoc, mul_comm, pow-suc}
 use Rattle.std.proofs.lemmas.Bool.{cases_Bool, eqb-true, ltb-true, ltb-false}
-use Rattle.std.proofs.lemmas.Nat.{xor_comm, xor_lt}
 use Rattle.p25_bits.specs.Divisible.{IsDivisible, IsRemainder}
-use Rattle.p25_bits.proofs.DivisibleLaws.{IsDivisible-sum, IsRemainder-lower, IsRemainder-unique, remainder_kept, remainder_reduced, remainder_from_divisible, xor_apart}
+use Rattle.p25_bits.proofs.DivisibleLaws.{IsRemainder-lower, IsRemainder-unique, remainder_kept, remainder_reduced, remainder_from_divisible, xor_apart}
+use Rattle.p25_bits.proofs.DivisionLaws.{IsRemainder-sum}
 use Rattle.p25_gf64.specs.ProductLaws.{all_below, all_below_at}
 use Rattle.p25_bch_nid.specs.Bch63FormLaws.{generator_degree}
 use Rattle.p25_bch_nid.specs.Nid.{generator}
@@ -58,19 +58,6 @@ entry-is place bits low small =
     let rest : j % 16 ≡ bits = omega arith in
     subst (IsRemainder generator 47 (bits * 2 ^ (47 + 4 * place))) (sym (entry ∙ ap₂ (λ p b. times_power (47 + 4 * p) b) high rest)) (times_power-is (47 + 4 * place) bits small)
 
--- the remainder of a sum is the sum of the remainders
-xor_middle : (a b c d : ℕ) → bit_xor (bit_xor a b) (bit_xor c d) ≡ bit_xor (bit_xor a c) (bit_xor b d)
-xor_middle a b c d =
-    xor_assoc a b (bit_xor c d)
-    ∙ ap (bit_xor a) (sym (xor_assoc b c d) ∙ ap (λ n. bit_xor n d) (xor_comm b c) ∙ xor_assoc c b d)
-    ∙ sym (xor_assoc a c (bit_xor b d))
-
-IsRemainder-sum : (a b r s : ℕ) → IsRemainder generator 47 a r → IsRemainder generator 47 b s → IsRemainder generator 47 (bit_xor a b) (bit_xor r s)
-IsRemainder-sum a b r s first second = record {
-  lower = xor_lt 47 r s first.lower second.lower;
-  divisible = subst (IsDivisible generator) (xor_middle a r b s) (IsDivisible-sum generator (bit_xor a r) (bit_xor b s) first.divisible second.divisible);
-}
-
 -- the information is the sum of its four parts
 pub parts-is : (information a b c d : ℕ) → information < 2 ^ 16
     → IsRemainder generator 47 (information / 4096 * 2 ^ (47 + 4 * 3)) a → IsRemainder generator 47 (information / 256 % 16 * 2 ^ (47 + 4 * 2)) b
@@ -91,7 +78,7 @@ parts-is information a b c d small first second third fourth =
     ∙ xor_apart n3 59 (n2 * 2 ^ 55 + (n1 * 2 ^ 51 + n0 * 2 ^ 47)) high
     ∙ whole in
     subst (λ (n : ℕ). IsRemainder generator 47 n (bit_xor a (bit_xor b (bit_xor c d)))) joined
-    (IsRemainder-sum (n3 * 2 ^ 59) _ a _ first (IsRemainder-sum (n2 * 2 ^ 55) _ b _ second (IsRemainder-sum (n1 * 2 ^ 51) (n0 * 2 ^ 47) c d third fourth)))
+    (IsRemainder-sum generator 47 (n3 * 2 ^ 59) _ a _ first (IsRemainder-sum generator 47 (n2 * 2 ^ 55) _ b _ second (IsRemainder-sum generator 47 (n1 * 2 ^ 51) (n0 * 2 ^ 47) c d third fourth)))
 
 -- a word with the check bits of its information has the remainder 0
 pub clean-is : (word checks : ℕ) → word < 2 ^ 63 → IsRemainder generator 47 (word / 2 ^ 47 * 2 ^ 47) checks → checks ≡ word % 2 ^ 47 → IsRemainder generator 47 word 0

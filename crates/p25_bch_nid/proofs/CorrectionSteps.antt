@@ -1,6 +1,6 @@
 -- Inverting the bits of the places that are wrong makes the word that was sent: the symbols of two bits add to zero exactly where the
 -- bits are the same.
-use Rattle.std.proofs.Common.{◌≡◌, ◌≢◌, ◌↔◌, ℕ, zero, suc, ◌+◌, ◌-◌, ◌%◌, ◌^◌, ◌<◌, ◌⊎◌, inl, inr, eqb, bit_xor, ◌≤◌, Bool, true, false, cond, not, IsTrue, List, [], ◌∷◌, Option, length, get_or, refl, ap, ap₂, sym, ◌∙◌, subst, arith, lit<}
+use Rattle.std.proofs.Common.{◌≡◌, ◌≢◌, ◌↔◌, ℕ, zero, suc, ◌+◌, ◌-◌, ◌%◌, ◌^◌, ◌<◌, eqb, bit_xor, ◌≤◌, Bool, true, false, cond, not, IsTrue, List, ◌∷◌, Option, length, get_or, refl, ap, ap₂, sym, ◌∙◌, subst, arith, lit<}
 use Rattle.std.specs.Bool.{beq}
 use Rattle.std.specs.Int.{bit_at}
 use Rattle.std.specs.Int.RustNames.{count_ones}
@@ -11,7 +11,7 @@ use Rattle.p25_bch_nid.specs.Bch63Laws.{bch63_is_code}
 use Rattle.p25_bch_nid.specs.Bch63Readings.{bch63_reading_of, bch63_reads_as}
 use Rattle.std.specs.Int.Bits.{xor_zero_r}
 use Rattle.std.proofs.lemmas.Nat.Bits.{bit_at_xor, bit_at-lt}
-use Rattle.std.proofs.lemmas.Bool.{false≢true, cases_lt}
+use Rattle.std.proofs.lemmas.Bool.{false≢true}
 use Rattle.std.proofs.lemmas.List.{ext_get_or, length-map}
 use Rattle.p25_bits.specs.Bits.{bits_of, field_of}
 use Rattle.p25_bits.specs.Distance.{distance_of}
@@ -45,20 +45,16 @@ remainder_from_word word is = record { lower = lit< tt; divisible = subst (IsDiv
 
 -- the symbols of bits, place by place
 coefficient-symbols_of : (bits : List Bool) (j : ℕ) → coefficient gf64 (symbols_of bits) j ≡ bit_coefficient gf64 (get_or bits j false)
-coefficient-symbols_of [] j = refl
-coefficient-symbols_of (bit ∷ bits) zero = refl
 coefficient-symbols_of (bit ∷ bits) (suc j) = coefficient-symbols_of bits j
+coefficient-symbols_of bits j = refl
 
 -- a bit is inverted exactly where its symbol and the other's don't add to zero
 inverted : (wrong x y : Bool) → IsTrue wrong ↔ (gf64.add (bit_coefficient gf64 x) (bit_coefficient gf64 y) ≢ gf64.zero) → cond wrong (not x) x ≡ y
 inverted true true true is = absurd (is.0 refl (add_self gf64 gf64.one))
-inverted true true false is = refl
-inverted true false true is = refl
 inverted true false false is = absurd (is.0 refl (add_self gf64 gf64.zero))
-inverted false true true is = refl
 inverted false true false is = absurd (false≢true (is.1 (λ none. gf64.laws.one_ne_zero (sym (add_zero gf64 gf64.one) ∙ none))))
 inverted false false true is = absurd (false≢true (is.1 (λ none. gf64.laws.one_ne_zero (sym (zero_add gf64 gf64.one) ∙ none))))
-inverted false false false is = refl
+inverted wrong x y is = refl
 
 -- the value of a word's number is that of its symbols
 value_of_number : (word : List Bool) (i : ℕ) → length word ≡ 63 → value i (field_of word) ≡ value_of 63 (symbols_of word) i
@@ -93,24 +89,12 @@ corrected_is received sent made wrong long full of_code is exactly =
 xored : (a b e : ℕ) → eqb (bit_at (bit_xor a b) e) 1 ≡ cond (eqb (bit_at b e) 1) (not (eqb (bit_at a e) 1)) (eqb (bit_at a e) 1)
 xored a b e = ap (λ n. eqb n 1) (bit_at_xor a b e) ∙ of_bits (bit_at a e) (bit_at b e) (bit_at-lt a e) (bit_at-lt b e)
   where
-    is : ℕ → ℕ → Type 0
-    is x y = eqb ((x + y) % 2) 1 ≡ cond (eqb y 1) (not (eqb x 1)) (eqb x 1)
-
-    either : (x : ℕ) → x < 2 → (x ≡ 0) ⊎ (x ≡ 1)
-    either x low = elim (cases_lt x 1) [ inl zero_bit ↦ inl (omega arith) | inr one_bit ↦ inr (omega arith) ]
-
     of_bits : (x y : ℕ) → x < 2 → y < 2 → eqb ((x + y) % 2) 1 ≡ cond (eqb y 1) (not (eqb x 1)) (eqb x 1)
-    of_bits x y x_low y_low =
-        elim (either x x_low) [
-          | inl x_is ↦ elim (either y y_low) [
-            | inl y_is ↦ subst (λ n. is n y) (sym x_is) (subst (λ n. is 0 n) (sym y_is) refl)
-            | inr y_is ↦ subst (λ n. is n y) (sym x_is) (subst (λ n. is 0 n) (sym y_is) refl)
-          ]
-          | inr x_is ↦ elim (either y y_low) [
-            | inl y_is ↦ subst (λ n. is n y) (sym x_is) (subst (λ n. is 1 n) (sym y_is) refl)
-            | inr y_is ↦ subst (λ n. is n y) (sym x_is) (subst (λ n. is 1 n) (sym y_is) refl)
-          ]
-        ]
+    of_bits zero zero x_low y_low = refl
+    of_bits zero (suc zero) x_low y_low = refl
+    of_bits (suc zero) zero x_low y_low = refl
+    of_bits (suc zero) (suc zero) x_low y_low = refl
+    of_bits x y x_low y_low = absurd (omega arith)
 
 -- what was sent, by numbers
 pub corrected_number : (received sent made : List Bool) (number wrong : ℕ) → length received ≡ 63 → number ≡ field_of received → made ≡ bits_of 63 (bit_xor number wrong) → IsBch63 sent

@@ -1,11 +1,10 @@
 -- The laws of the reading of identifiers. They follow from those of the code: at most one word lies within the radius, and one word
 -- begins with a NAC and a DUID.
-use Rattle.std.proofs.Common.{◌≡◌, ℕ, ◌≤◌, Bool, List, length, take, Option, Some, None, option_map, ap, sym, subst, ◌∙◌, refl, arith}
+use Rattle.std.proofs.Common.{◌≡◌, ℕ, ◌≤◌, Bool, List, length, take, Option, Some, None, option_map, ap, sym, ◌∙◌, refl, arith}
 use Rattle.std.specs.Bool.{beq}
 use Rattle.std.proofs.lemmas.List.{length-take-le}
 use Rattle.p25_bits.specs.Distance.{distance_of}
 use Rattle.p25_code.specs.Readings.{IsReadAs}
-use Rattle.p25_code.specs.Words.{NoneWithin}
 use Rattle.p25_code.proofs.ReadingLaws.{read_as_sent}
 use Rattle.p25_bch_nid.specs.Bch63.{IsBch63}
 use Rattle.p25_bch_nid.specs.Bch63Laws.{bch63_is_code}
@@ -18,7 +17,6 @@ unfolding IsReadAs IsNidReading
 as_nid bits None is = is
 as_nid bits (Some word) is = record { word = word; word_of_set = is.word_of_set; within = is.within; begins = refl }
 
--- it is the reading
 pub IsNidReading-nid_reading_of : (bits : List Bool) → IsNidReading bits (nid_reading_of bits)
 unfolding nid_reading_of
 IsNidReading-nid_reading_of bits = as_nid bits (bch63_reading_of (take 63 bits)) (bch63_reads_as (take 63 bits))
@@ -29,11 +27,6 @@ unfolding nid_reading_of
 nid_reading_of-word bits word long isw near =
     ap (option_map identifier_of_word)
     (read_as_sent bch63_is_code (take 63 bits) word (bch63_reading_of (take 63 bits)) (length-take-le 63 bits long) (bch63_reads_as (take 63 bits)) isw near)
-
--- none is read exactly where no word lies within 11 bits of the first 63
-pub nid_reading_of-none : (bits : List Bool) → nid_reading_of bits ≡ None → NoneWithin beq IsBch63 11 (take 63 bits)
-unfolding IsNidReading
-nid_reading_of-none bits none = subst (IsNidReading bits) none (IsNidReading-nid_reading_of bits)
 
 -- the last bit is not looked at
 pub nid_reading_of-first : (a b : List Bool) → take 63 a ≡ take 63 b → nid_reading_of a ≡ nid_reading_of b

@@ -9,6 +9,7 @@ use Rattle.std.proofs.lemmas.Bool.{cases_lt}
 use Rattle.std.proofs.lemmas.Nat.{shl_whole, shl-shr, shr_below, one_shl}
 use Rattle.std.proofs.lemmas.Nat.Bits.{bit_at_xor, bit_at-pow_same, bit_at-pow_other, bit_at-lt, shr_and_one}
 use Rattle.std.proofs.lemmas.List.{take-take, drop-take, length-take-le, take-append-drop, take_all, take-set, drop-set, get_or-drop, get_or-take, get_or_append_left}
+use Rattle.std.proofs.lemmas.Option.{slice_get-get_or}
 use Rattle.p25_bits.specs.Bits.{digit_of, bits_of, field_of, part, flipped}
 use Rattle.p25_bits.specs.Distance.{distance_of}
 use Rattle.p25_bits.specs.Numbers.{number_bits}
@@ -97,22 +98,15 @@ get_or-number_bits words i inside =
 pub slice_get-held : (now : List Bool) (words : List ℕ) (len i : ℕ) → take len (number_bits 64 words) ≡ now → i < length now → i < len → i / 64 < length words
     → slice_get now i ≡ Some (eqb (bit_and (get_or words (i / 64) 0 / 2 ^ (63 - i % 64)) 1) 1)
 slice_get-held now words len i held inside below there =
-    slice_get-is now i inside
+    slice_get-get_or now i false inside
     ∙ ap Some (ap (λ bits. get_or bits i false) (sym held) ∙ get_or-take len (number_bits 64 words) i false below ∙ get_or-number_bits words i there)
-  where
-    slice_get-is : (xs : List Bool) (k : ℕ) → k < length xs → slice_get xs k ≡ Some (get_or xs k false)
-    slice_get-is [] k h = absurd (omega arith)
-    slice_get-is (x ∷ xs) zero h = refl
-    slice_get-is (x ∷ xs) (suc k) h = slice_get-is xs k (omega arith)
 
 -- Inverted bits.
 
 -- the first bits, of which one is inverted
 take-flipped : (n : ℕ) (bits : List Bool) (i : ℕ) → take n (flipped bits i) ≡ flipped (take n bits) i
-take-flipped zero bits i = refl
-take-flipped (suc n) [] i = refl
-take-flipped (suc n) (x ∷ bits) zero = refl
 take-flipped (suc n) (x ∷ bits) (suc i) = ap (λ zs. x ∷ zs) (take-flipped n bits i)
+take-flipped n bits i = refl
 
 -- a bit of the first of two lists
 flipped_left : (xs ys : List Bool) (i : ℕ) → i < length xs → flipped xs i ++ ys ≡ flipped (xs ++ ys) i
@@ -139,9 +133,8 @@ xor_same n k =
     ap (λ b. eqb b 1) (bit_at_xor n (2 ^ k) k ∙ ap (λ b. (bit_at n k + b) % 2) (bit_at-pow_same k)) ∙ inverted (bit_at n k) (bit_at-lt n k)
   where
     inverted : (b : ℕ) → b < 2 → eqb ((b + 1) % 2) 1 ≡ not (eqb b 1)
-    inverted zero h = refl
-    inverted (suc zero) h = refl
     inverted (suc (suc b)) h = absurd (omega arith)
+    inverted b h = refl
 
 -- a bit above those that are looked at changes none of them
 bits_of-xor_above : (width n k : ℕ) → width ≤ k → bits_of width (bit_xor n (2 ^ k)) ≡ bits_of width n
@@ -209,10 +202,9 @@ flipped-set [] i is wanted at differs = refl
 flipped-set (x ∷ bits) zero is wanted at differs = let same : is ≡ x = cc in ap (λ b. b ∷ bits) (other x wanted (ap (λ b. not (beq b wanted)) (sym same) ∙ differs))
   where
     other : (a b : Bool) → not (beq a b) ≡ true → not a ≡ b
-    other true true h = cc
     other true false h = refl
     other false true h = refl
-    other false false h = cc
+    other a b h = cc
 flipped-set (x ∷ bits) (suc i) is wanted at differs = ap (λ zs. x ∷ zs) (flipped-set bits i is wanted at differs)
 
 -- a bit that is the wanted one stays
@@ -221,10 +213,9 @@ set-same [] i is wanted at same = refl
 set-same (x ∷ bits) zero is wanted at same = let held : is ≡ x = cc in ap (λ b. b ∷ bits) (alike x wanted (ap (λ b. not (beq b wanted)) (sym held) ∙ same))
   where
     alike : (a b : Bool) → not (beq a b) ≡ false → a ≡ b
-    alike true true h = refl
     alike true false h = cc
     alike false true h = cc
-    alike false false h = refl
+    alike a b h = refl
 set-same (x ∷ bits) (suc i) is wanted at same = ap (λ zs. x ∷ zs) (set-same bits i is wanted at same)
 
 -- Longer runs of bits.

@@ -1,11 +1,10 @@
 -- Numbers and the bits that write them. By induction on the bits or on the width: the first bit is the highest.
-use Rattle.std.proofs.Common.{◌≡◌, ℕ, zero, suc, ◌+◌, ◌-◌, ◌*◌, ◌/◌, ◌%◌, ◌^◌, ◌<◌, ◌≤◌, inl, inr, Bool, true, false, eqb, List, [], ◌∷◌, ◌++◌, length, take, drop, refl, ap, ap₂, sym, ◌∙◌, arith, length-append, get_or, add-one, bit_and}
+use Rattle.std.proofs.Common.{◌≡◌, ℕ, zero, suc, ◌+◌, ◌-◌, ◌*◌, ◌/◌, ◌%◌, ◌^◌, ◌<◌, ◌≤◌, Bool, true, false, eqb, List, [], ◌∷◌, ◌++◌, length, take, drop, refl, ap, ap₂, sym, ◌∙◌, arith, length-append, get_or, add-one, bit_and}
 use Rattle.std.specs.Int.{bit_at}
 use Rattle.std.proofs.Math.Nat.{pow-suc, add-mul, mul_comm, mul_assoc, mod-one}
-use Rattle.std.proofs.lemmas.Bool.{cases_lt}
 use Rattle.std.proofs.lemmas.Nat.{mod-pow-add, shr_high, shr-shr, shr_split, div-mul-add}
 use Rattle.std.proofs.lemmas.Nat.Bits.{bit_at-lt, bit_at_cat_low, shr_and_one}
-use Rattle.std.proofs.lemmas.List.{drop_more, take_at, drop_at, get_or_append_left, get_or-append_right}
+use Rattle.std.proofs.lemmas.List.{drop_more, take_at, drop_at}
 use Rattle.std.proofs.lemmas.List.Concat.{flat_map-append}
 use Rattle.p25_bits.specs.Bits.{digit_of, bits_of, field_after, field_of, octet_bits, flipped}
 
@@ -68,9 +67,8 @@ digit_of-bit_at number k =
     cases (bit_at number k) bound
   where
     by_cases : (b : ℕ) → b < 2 → digit_of (eqb b 1) ≡ b
-    by_cases zero h = refl
-    by_cases (suc zero) h = refl
     by_cases (suc (suc b)) h = absurd (omega arith)
+    by_cases b h = refl
 
 -- the number that `width` bits of a number write is its remainder by that power of two
 pub field_of-bits_of : (width number : ℕ) → field_of (bits_of width number) ≡ number % 2 ^ width
@@ -215,41 +213,12 @@ get_or-bits_of (suc width) number (suc place) d h =
     let e : width - 1 - place ≡ suc width - 1 - suc place = omega arith in
     get_or-bits_of width number place d (omega arith) ∙ ap (λ k. eqb (bit_at number k) 1) e
 
--- a bit at a place of the bits of octets
-pub get_or-octet_bits : (octets : List ℕ) (place : ℕ) (d : Bool) → place < 8 * length octets → get_or (octet_bits octets) place d ≡ eqb (bit_and (get_or octets (place / 8) 0 / 2 ^ (7 - place % 8)) 1) 1
-get_or-octet_bits [] place d h = absurd (omega arith)
-get_or-octet_bits (x ∷ xs) place d h =
-    let eight = length-bits_of 8 x in
-    elim (cases_lt place 8) [
-      | inl low ↦
-          let inside : place < length (bits_of 8 x) = omega arith in
-          let first : 0 ≡ place / 8 = omega arith in
-          let rest : 8 - 1 - place ≡ 7 - place % 8 = omega arith in
-          ap (λ bits. get_or bits place d) (octet_bits-cons x xs)
-          ∙ get_or_append_left (bits_of 8 x) (octet_bits xs) d place inside
-          ∙ get_or-bits_of 8 x place d low
-          ∙ ap (λ b. eqb b 1) (sym (shr_and_one x (8 - 1 - place)))
-          ∙ ap₂ (λ i k. eqb (bit_and (get_or (x ∷ xs) i 0 / 2 ^ k) 1) 1) first rest
-      | inr high ↦
-          let next : suc ((place - 8) / 8) ≡ place / 8 = omega arith in
-          let rest : 7 - (place - 8) % 8 ≡ 7 - place % 8 = omega arith in
-          ap (λ bits. get_or bits place d) (octet_bits-cons x xs)
-          ∙ get_or-append_right (bits_of 8 x) (octet_bits xs) 8 place d eight high
-          ∙ get_or-octet_bits xs (place - 8) d (omega arith)
-          ∙ ap₂ (λ i k. eqb (bit_and (get_or (x ∷ xs) i 0 / 2 ^ k) 1) 1) next rest
-    ]
-
 -- one bit writes its digit
 pub field_of-one : (bit : Bool) → field_of (bit ∷ []) ≡ digit_of bit
 unfolding field_of field_after
 field_of-one bit = omega arith
 
--- one more bit after others doubles their number
-pub field_of-push : (bits : List Bool) (bit : Bool) → field_of (bits ++ bit ∷ []) ≡ 2 * field_of bits + digit_of bit
-field_of-push bits bit = field_of-append bits (bit ∷ []) ∙ omega (arith, field_of-one bit)
-
 -- an inverted bit leaves the number of bits
 pub length-flipped : (bits : List Bool) (place : ℕ) → length (flipped bits place) ≡ length bits
-length-flipped [] place = refl
-length-flipped (bit ∷ bits) zero = refl
 length-flipped (bit ∷ bits) (suc place) = ap suc (length-flipped bits place)
+length-flipped bits place = refl

@@ -1,6 +1,6 @@
 -- Laws of the distance of two lists, for any test that calls letters equal exactly where they are one letter, and of the distance of bits as the
 -- weight of an exclusive or. By induction on both lists.
-use Rattle.std.proofs.Common.{◌≡◌, ℕ, zero, suc, ◌+◌, ◌*◌, ◌^◌, ◌<◌, ◌≤◌, inl, inr, Bool, true, false, cond, not, List, [], ◌∷◌, ◌++◌, length, get_or, take, drop, refl, ap, ap₂, sym, ◌∙◌, subst, arith, add-one, bit_xor, mod-eq_of_lt, nat_eq, length-drop}
+use Rattle.std.proofs.Common.{◌≡◌, ℕ, zero, suc, ◌+◌, ◌*◌, ◌^◌, ◌<◌, ◌≤◌, inl, inr, Bool, true, false, cond, not, List, [], ◌∷◌, ◌++◌, length, take, drop, refl, ap, ap₂, sym, ◌∙◌, subst, arith, bit_xor, mod-eq_of_lt, nat_eq, length-drop}
 use Rattle.std.specs.Bool.{beq}
 use Rattle.std.specs.Cmp.{booleans_Decides, unsigned_Decides, both_ways}
 use Rattle.std.specs.Cmp.Lexicographic.{pointwise, pointwise_decides}
@@ -21,71 +21,51 @@ distance_by-same same alike (x ∷ xs) = rw (alike x) (omega (arith, distance_by
 pub distance_by-sym : {X : Type 0} (same : X → X → Bool) → ((x y : X) → same x y ≡ same y x) → (xs ys : List X) → distance_by same xs ys ≡ distance_by same ys xs
 unfolding distance_by
 distance_by-sym same turned [] [] = refl
-distance_by-sym same turned [] (y ∷ ys) = refl
-distance_by-sym same turned (x ∷ xs) [] = refl
 distance_by-sym same turned (x ∷ xs) (y ∷ ys) = ap₂ ◌+◌ (ap (λ b. cond b 0 1) (turned x y)) (distance_by-sym same turned xs ys)
+distance_by-sym same turned xs ys = refl
 
-cond-le : (b : Bool) → cond b 0 1 ≤ 1
+pub cond-le : (b : Bool) → cond b 0 1 ≤ 1
 cond-le true = omega arith
 cond-le false = omega arith
 
 -- the distance is at most the length
 pub distance_by-le : {X : Type 0} (same : X → X → Bool) (xs ys : List X) → distance_by same xs ys ≤ length xs
 unfolding distance_by
-distance_by-le same [] ys = omega arith
-distance_by-le same (x ∷ xs) [] = omega arith
 distance_by-le same (x ∷ xs) (y ∷ ys) = omega (arith, distance_by-le same xs ys, cond-le (same x y))
+distance_by-le same xs ys = omega arith
 
 -- lists of one length at no distance are one list
 pub same_from_distance_by : {X : Type 0} (same : X → X → Bool) → ((x y : X) → same x y ≡ true → x ≡ y) → (xs ys : List X) → length xs ≡ length ys → distance_by same xs ys ≡ 0 → xs ≡ ys
 unfolding distance_by
 same_from_distance_by same alike [] [] long near = refl
-same_from_distance_by same alike [] (y ∷ ys) long near = absurd (omega arith)
-same_from_distance_by same alike (x ∷ xs) [] long near = absurd (omega arith)
 same_from_distance_by same alike (x ∷ xs) (y ∷ ys) long near = elim (cases_Bool (same x y)) [
   | inl yes' ↦ ap₂ ◌∷◌ (alike x y yes') (same_from_distance_by same alike xs ys (omega arith) (omega (arith, cond-true {A = ℕ} (same x y) 0 1 yes')))
   | inr no' ↦ absurd (omega (arith, cond-false {A = ℕ} (same x y) 0 1 no'))
 ]
+same_from_distance_by same alike xs ys long near = absurd (omega arith)
 
 letters : (a b c : Bool) → (a ≡ true → b ≡ true → c ≡ true) → cond c 0 1 ≤ cond a 0 1 + cond b 0 1
 letters true true c h = rw (h refl refl) (omega arith)
-letters true false c h = omega (arith, cond-le c)
-letters false b c h = omega (arith, cond-le c)
+letters a b c h = omega (arith, cond-le c)
 
 -- the triangle: the way round by a third list is no shorter
 pub distance_by-triangle : {X : Type 0} (same : X → X → Bool) → ((x y z : X) → same x y ≡ true → same y z ≡ true → same x z ≡ true) → (xs ys zs : List X) → length xs ≡ length ys
     → distance_by same xs zs ≤ distance_by same xs ys + distance_by same ys zs
 unfolding distance_by
-distance_by-triangle same through [] ys zs long = omega arith
 distance_by-triangle same through (x ∷ xs) [] zs long = absurd (omega arith)
-distance_by-triangle same through (x ∷ xs) (y ∷ ys) [] long = omega arith
 distance_by-triangle same through (x ∷ xs) (y ∷ ys) (z ∷ zs) long = omega (
   arith,
   letters (same x y) (same y z) (same x z) (through x y z),
   distance_by-triangle same through xs ys zs (omega arith),
 )
+distance_by-triangle same through xs ys zs long = omega arith
 
 -- two runs, one after the other: their distances add up
 pub distance_by-append : {X : Type 0} (same : X → X → Bool) (xs ys us vs : List X) → length xs ≡ length us → distance_by same (xs ++ ys) (us ++ vs) ≡ distance_by same xs us + distance_by same ys vs
 unfolding distance_by
 distance_by-append same [] ys [] vs long = omega arith
-distance_by-append same [] ys (u ∷ us) vs long = absurd (omega arith)
-distance_by-append same (x ∷ xs) ys [] vs long = absurd (omega arith)
 distance_by-append same (x ∷ xs) ys (u ∷ us) vs long = omega (arith, distance_by-append same xs ys us vs (omega arith))
-
--- one more place of both lists
-distance_by-drop_suc : {X : Type 0} (same : X → X → Bool) (xs ys : List X) (i : ℕ) (d : X) → i < length xs → i < length ys
-    → distance_by same (drop i xs) (drop i ys) ≡ cond (same (get_or xs i d) (get_or ys i d)) 0 1 + distance_by same (drop (suc i) xs) (drop (suc i) ys)
-unfolding distance_by
-distance_by-drop_suc same [] ys i d h k = absurd (omega arith)
-distance_by-drop_suc same (x ∷ xs) [] i d h k = absurd (omega arith)
-distance_by-drop_suc same (x ∷ xs) (y ∷ ys) zero d h k = refl
-distance_by-drop_suc same (x ∷ xs) (y ∷ ys) (suc i) d h k = distance_by-drop_suc same xs ys i d (omega arith) (omega arith)
-
--- the distance of two lists from a place on, as a loop over the places counts it
-pub distance_by-drop : {X : Type 0} (same : X → X → Bool) (xs ys : List X) (i : ℕ) (d : X) → i < length xs → i < length ys
-    → distance_by same (drop i xs) (drop i ys) ≡ cond (same (get_or xs i d) (get_or ys i d)) 0 1 + distance_by same (drop (i + 1) xs) (drop (i + 1) ys)
-distance_by-drop same xs ys i d h k = rw add-one (distance_by-drop_suc same xs ys i d h k)
+distance_by-append same xs ys us vs long = absurd (omega arith)
 
 -- no places, no distance
 pub distance_by-nil : {X : Type 0} (same : X → X → Bool) (ys : List X) → distance_by same [] ys ≡ 0
@@ -100,15 +80,13 @@ beq-same false = refl
 
 beq-sym : (x y : Bool) → beq x y ≡ beq y x
 beq-sym true true = refl
-beq-sym true false = refl
 beq-sym false true = refl
-beq-sym false false = refl
+beq-sym x y = refl
 
 beq-alike : (x y : Bool) → beq x y ≡ true → x ≡ y
-beq-alike true true h = refl
 beq-alike true false h = sym h
 beq-alike false true h = h
-beq-alike false false h = refl
+beq-alike x y h = refl
 
 pub distance_of-same : (xs : List Bool) → distance_of xs xs ≡ 0
 distance_of-same = distance_by-same beq beq-same
@@ -125,11 +103,10 @@ distance_of-triangle = distance_by-triangle beq (λ x y z a b. subst (λ w. beq 
 -- what stands before a place of two lists, and what stands from it on: their distances add up
 pub distance_of-split : (n : ℕ) (xs ys : List Bool) → length xs ≡ length ys → distance_of (take n xs) (take n ys) + distance_of (drop n xs) (drop n ys) ≡ distance_of xs ys
 unfolding distance_by
-distance_of-split zero xs ys long = omega arith
-distance_of-split (suc n) [] [] long = omega arith
 distance_of-split (suc n) [] (y ∷ ys) long = absurd (omega arith)
 distance_of-split (suc n) (x ∷ xs) [] long = absurd (omega arith)
 distance_of-split (suc n) (x ∷ xs) (y ∷ ys) long = omega (arith, distance_of-split n xs ys (omega arith))
+distance_of-split n xs ys long = omega arith
 
 -- so the beginnings of two lists differ in no more places than the lists, and so do any two parts
 pub distance_of-take : (n : ℕ) (xs ys : List Bool) → length xs ≡ length ys → distance_of (take n xs) (take n ys) ≤ distance_of xs ys
@@ -159,16 +136,13 @@ pointwise-distance_of xs ys long =
 ones_digits : (x y : Bool) → count_ones (bit_xor (digit_of x) (digit_of y)) ≡ cond (beq x y) 0 1
 unfolding count_ones
 ones_digits true true = refl
-ones_digits true false = refl
 ones_digits false true = refl
-ones_digits false false = refl
+ones_digits x y = refl
 
 -- the number of places in which two lists of one length differ is the weight of the exclusive or of their numbers
 pub ones-xor : (xs ys : List Bool) → length xs ≡ length ys → count_ones (bit_xor (field_of xs) (field_of ys)) ≡ distance_of xs ys
 unfolding distance_by count_ones
 ones-xor [] [] same = ap (λ n. count_ones (bit_xor n n)) field_of-nil
-ones-xor [] (y ∷ ys) same = absurd (omega arith)
-ones-xor (x ∷ xs) [] same = absurd (omega arith)
 ones-xor (x ∷ xs) (y ∷ ys) same =
     let k = length xs in
     let long : length ys ≡ k = omega arith in
@@ -179,6 +153,7 @@ ones-xor (x ∷ xs) (y ∷ ys) same =
     ap count_ones (ap₂ bit_xor (field_of-cons x xs) second ∙ xor_block k (digit_of x) (digit_of y) (field_of xs) (field_of ys) below below')
     ∙ ones_cat k (bit_xor (digit_of x) (digit_of y)) (bit_xor (field_of xs) (field_of ys)) (xor_lt k (field_of xs) (field_of ys) below below')
     ∙ ap₂ ◌+◌ (ones_digits x y) (ones-xor xs ys long')
+ones-xor xs ys same = absurd (omega arith)
 
 -- so the weight of the exclusive or of two numbers is the distance of their bits
 pub distance_of-bits_of : (width m n : ℕ) → m < 2 ^ width → n < 2 ^ width → distance_of (bits_of width m) (bits_of width n) ≡ count_ones (bit_xor m n)

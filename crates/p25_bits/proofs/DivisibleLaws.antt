@@ -1,9 +1,9 @@
 -- Laws of multiples and remainders of polynomials over GF(2). Multiples add up as their quotients do, and the only multiple of lower degree is 0, so there
 -- is one remainder. It is made a coefficient at a time, and falls below the generator's degree where it reaches it.
-use Rattle.std.proofs.Common.{◌⊎◌, zero, suc, ◌≡◌, ℕ, suc, ◌+◌, ◌-◌, ◌*◌, ◌/◌, ◌%◌, ◌^◌, ◌<◌, ◌≤◌, inl, inr, Bool, true, false, not, cond, List, [], ◌∷◌, bit_xor, bit_and, eqb, refl, ap, ap₂, sym, ◌∙◌, subst, arith, add-one, mod-eq_of_lt}
+use Rattle.std.proofs.Common.{zero, suc, ◌≡◌, ℕ, suc, ◌+◌, ◌-◌, ◌*◌, ◌/◌, ◌%◌, ◌^◌, ◌<◌, ◌≤◌, inl, inr, Bool, true, false, not, cond, List, [], ◌∷◌, bit_xor, bit_and, eqb, refl, ap, ap₂, sym, ◌∙◌, subst, arith, add-one, mod-eq_of_lt}
 use Rattle.std.specs.Int.Bits.{xor_assoc, xor_self, xor_zero_l, xor_zero_r}
 use Rattle.std.proofs.Math.Nat.{pow-suc}
-use Rattle.std.proofs.lemmas.Bool.{cases_lt, cases_eq}
+use Rattle.std.proofs.lemmas.Bool.{cases_lt}
 use Rattle.std.proofs.lemmas.Nat.{xor_comm, xor_lt, xor_block, xor_shr, shr_high, le-div, pow_pos, shr_split, shr-shr, shr_below, div_below}
 use Rattle.std.proofs.lemmas.Nat.Bits.{shr_and_one}
 use Rattle.p25_bits.specs.Bits.{digit_of, bits_of, field_after}
@@ -256,12 +256,3 @@ some_remainder generator degree number g =
     let some = some_remainder_after generator degree g bits 0 0 (IsRemainder-lower generator degree 0 (pow_pos degree)) in
     let e = sym (field_of-after bits) ∙ field_of-bits_of number number ∙ mod-eq_of_lt (lt-two_pow number) in
     (some.0, subst (λ (n : ℕ). IsRemainder generator degree n some.0) e some.1)
-
--- each polynomial is divisible or not
-pub divisible_or_not : (generator degree number : ℕ) → HasDegree generator degree → IsDivisible generator number ⊎ ¬ IsDivisible generator number
-divisible_or_not generator degree number g =
-    let some = some_remainder generator degree number g in
-    elim (cases_eq some.0 0) [
-      | inl none ↦ inl (divisible_from_remainder generator degree number (subst (IsRemainder generator degree number) none some.1))
-      | inr other ↦ inr (λ d. other (IsRemainder-unique generator degree number some.0 0 g some.1 (remainder_from_divisible generator degree number d)))
-    ]

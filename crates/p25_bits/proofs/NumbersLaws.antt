@@ -1,11 +1,11 @@
 -- Numbers as bits and back, and lists made place by place. Each law is by induction on the list or on the count.
-use Rattle.std.proofs.Common.{◌≡◌, ℕ, zero, suc, ◌+◌, ◌-◌, ◌*◌, ◌^◌, ◌<◌, ◌≤◌, inl, inr, Bool, List, [], ◌∷◌, ◌++◌, length, take, drop, get_or, set, refl, ap, ap₂, sym, ◌∙◌, arith, length-append, length-drop, append-nil, add-one, All}
+use Rattle.std.proofs.Common.{◌≡◌, ℕ, zero, suc, ◌+◌, ◌-◌, ◌*◌, ◌^◌, ◌<◌, ◌≤◌, inl, inr, Bool, List, [], ◌∷◌, ◌++◌, length, take, drop, get_or, refl, ap, ap₂, sym, ◌∙◌, arith, length-append, length-drop, append-nil, add-one, All}
 use Rattle.std.specs.List.{flat_map}
 use Rattle.std.proofs.Math.Nat.{mul-suc, mod-eq_of_lt, mul-le-mul_left}
 use Rattle.std.proofs.Math.Pow.{pow_mono}
 use Rattle.std.proofs.Math.Seq.{take-add}
 use Rattle.std.proofs.lemmas.Bool.{cases_lt}
-use Rattle.std.proofs.lemmas.List.{flat_map_more, take_more, take_more_set, drop-drop, drop-append-le, take-append-le, take_at, drop_at, get_or_append_left, get_or-append_right, length-take, length-take-le, drop_more, take_all, take-append-drop}
+use Rattle.std.proofs.lemmas.List.{flat_map_more, take_more, drop-drop, drop-append-le, take-append-le, take_at, drop_at, get_or_append_left, get_or-append_right, length-take, length-take-le, drop_more, take_all, take-append-drop}
 use Rattle.std.proofs.lemmas.List.Elements.{All-nil, All-cons, All-head, All-tail, All-append}
 use Rattle.std.proofs.lemmas.List.Concat.{flat_map-append}
 use Rattle.p25_bits.specs.Bits.{bits_of, field_of, octet_bits, part}
@@ -75,17 +75,6 @@ pub bits_of-field : (width at : ℕ) (bits : List Bool) → at + width ≤ lengt
 bits_of-field width at bits there =
     ap (λ n. bits_of n (field_of (part at width bits))) (sym (length-part at width bits there)) ∙ bits_of-field_of (part at width bits)
 
--- a number read from bits, after those read before it
-pub number_bits-take_more : (bits : List Bool) (at width : ℕ) (numbers : List ℕ) (i value : ℕ) → i < length numbers → at + width * i + width ≤ length bits
-    → value ≡ field_of (part (at + width * i) width bits) → number_bits width (take i numbers) ≡ part at (width * i) bits
-    → number_bits width (take (i + 1) (set numbers i value)) ≡ part at (width * (i + 1)) bits
-number_bits-take_more bits at width numbers i value inside there read so_far =
-    ap (number_bits width) (take_more_set numbers i value inside)
-    ∙ number_bits-append width (take i numbers) (value ∷ [])
-    ∙ ap₂ (λ (xs ys : List Bool). xs ++ ys) so_far (number_bits-one width value ∙ ap (bits_of width) read ∙ bits_of-field width (at + width * i) bits there)
-    ∙ part_add at (width * i) width bits
-    ∙ ap (λ n. part at n bits) (let more : width * i + width ≡ width * (i + 1) = omega (arith, more_bits 0 width i) in more)
-
 -- a number read from so many bits is below that power of two
 pub field-lt : (width at : ℕ) (bits : List Bool) → field_of (part at width bits) < 2 ^ width
 field-lt width at bits =
@@ -96,8 +85,6 @@ field-lt width at bits =
 pub same_from_number_bits : (width : ℕ) (xs ys : List ℕ) → All (λ n. n < 2 ^ width) xs → All (λ n. n < 2 ^ width) ys → length xs ≡ length ys → number_bits width xs ≡ number_bits width ys → xs ≡ ys
 unfolding number_bits
 same_from_number_bits width [] [] small_x small_y long same = refl
-same_from_number_bits width [] (y ∷ ys) small_x small_y long same = absurd (omega arith)
-same_from_number_bits width (x ∷ xs) [] small_x small_y long same = absurd (omega arith)
 same_from_number_bits width (x ∷ xs) (y ∷ ys) small_x small_y long same =
     let P : ℕ → Type 0 = λ n. n < 2 ^ width in
     let front : bits_of width x ≡ bits_of width y
@@ -111,6 +98,7 @@ same_from_number_bits width (x ∷ xs) (y ∷ ys) small_x small_y long same =
     ap₂ ◌∷◌
     (sym (mod-eq_of_lt (All-head P x xs small_x)) ∙ sym (field_of-bits_of width x) ∙ ap field_of front ∙ field_of-bits_of width y ∙ mod-eq_of_lt (All-head P y ys small_y))
     (same_from_number_bits width xs ys (All-tail P x xs small_x) (All-tail P y ys small_y) (omega arith) back)
+same_from_number_bits width xs ys small_x small_y long same = absurd (omega arith)
 
 -- The numbers that bits write.
 
@@ -158,7 +146,6 @@ numbers_from-add width (suc m) n bits =
     ∙ ap (λ numbers. field_of (take width bits) ∷ numbers) (numbers_from-add width m n (drop width bits))
     ∙ ap (λ rest. field_of (take width bits) ∷ (numbers_from width m (drop width bits) ++ numbers_from width n rest)) (drop-drop (width * m) width bits ∙ ap (λ k. drop k bits) next)
 
--- one more number
 pub numbers_from-more : (width n : ℕ) (bits : List Bool) → numbers_from width (n + 1) bits ≡ numbers_from width n bits ++ field_of (part (width * n) width bits) ∷ []
 numbers_from-more width n bits =
     numbers_from-add width n 1 bits
@@ -279,12 +266,6 @@ each_below-list xs d zero inside = refl
 each_below-list xs d (suc n) inside =
     let one : suc n ≡ n + 1 = omega arith in
     ap (λ (ys : List _). ys ++ get_or xs n d ∷ []) (each_below-list xs d n (omega arith)) ∙ sym (take_more xs n d (omega arith)) ∙ ap (λ k. take k xs) (sym one)
-
--- the bits of numbers made place by place
-pub number_bits-each_below : (width n : ℕ) (f : ℕ → ℕ) → number_bits width (each_below n f) ≡ joined_below n (λ j. bits_of width (f j))
-unfolding each_below joined_below
-number_bits-each_below width zero f = number_bits-nil width
-number_bits-each_below width (suc n) f = number_bits-append width (each_below n f) (f n ∷ []) ∙ ap₂ (λ (xs ys : List Bool). xs ++ ys) (number_bits-each_below width n f) (number_bits-one width (f n))
 
 pub joined_below-zero : {X : Type 0} (f : ℕ → List X) → joined_below 0 f ≡ []
 unfolding joined_below

@@ -1,7 +1,7 @@
 -- Parts of lists: of joined lists, parts of parts, and parts that touch. Each follows from the laws of `take` and `drop` in std.
 use Rattle.std.proofs.Common.{◌≡◌, ℕ, zero, suc, ◌+◌, ◌-◌, ◌<◌, ◌≤◌, List, [], ◌∷◌, ◌++◌, length, take, drop, get_or, slice_get, refl, ap, sym, ◌∙◌, arith, length-drop}
 use Rattle.std.proofs.Math.Seq.{take-add, drop-append-add, get_or-take}
-use Rattle.std.proofs.lemmas.List.{take-take, drop-take, drop-drop, take-append-le, drop-append-le, length-take-le, take_at, get_or-drop, take_all, take_more}
+use Rattle.std.proofs.lemmas.List.{take-take, drop-take, drop-drop, take-append-le, drop-append-le, length-take-le, take_at, get_or-drop, take_all}
 use Rattle.p25_bits.specs.Bits.{part}
 
 -- what the second of two lists has from a place on
@@ -63,7 +63,6 @@ part_last at count xs ys before long =
     let all : length ys ≤ count = omega arith in
     part_right at count xs ys behind ∙ ap (λ n. part n count ys) first ∙ take_all count ys all
 
--- a part of a part
 pub part-part : {X : Type 0} (at count from more : ℕ) (xs : List X) → from + more ≤ count → part from more (part at count xs) ≡ part (at + from) more xs
 part-part at count from more xs inside =
     let split : count ≡ from + (count - from) = omega arith in
@@ -103,12 +102,6 @@ part-take at count len xs inside =
     let split : len ≡ at + (len - at) = omega arith in
     let front : count ≤ len - at = omega arith in
     ap (λ k. take count (drop at (take k xs))) split ∙ ap (λ ys. take count ys) (drop-take at (len - at) xs) ∙ take-take count (len - at) (drop at xs) front
-
--- one more element of a part
-pub part_more : {X : Type 0} (at i : ℕ) (xs : List X) (d : X) → at + i < length xs → part at (i + 1) xs ≡ part at i xs ++ get_or xs (at + i) d ∷ []
-part_more at i xs d inside =
-    let there : i < length (drop at xs) = omega (arith, length-drop at xs) in
-    take_more (drop at xs) i d there ∙ ap (λ x. take i (drop at xs) ++ x ∷ []) (get_or-drop at xs i d)
 
 -- an element of a part
 pub get_or-part : {X : Type 0} (at count i : ℕ) (xs : List X) (d : X) → i < count → get_or (part at count xs) i d ≡ get_or xs (at + i) d

@@ -5,7 +5,7 @@ use Rattle.std.specs.Prelude.{IfSome, nat_lt}
 use Rattle.std.specs.Option.{option_or}
 use Rattle.p25_units.specs.Items.{covered, place_of}
 use Rattle.p25_units.specs.declared.item.Item.{Item}
-use Rattle.p25_units.specs.declared.item.Item.TheVariants.{Whole, Broken, NoUnit, Gap, Cut}
+use Rattle.p25_units.specs.declared.item.Item.TheVariants.{Whole, Broken}
 use Rattle.p25_calls.specs.declared.call.Call.{Call}
 use Rattle.p25_calls.specs.declared.seen.UnitSeen.{UnitSeen}
 use Rattle.p25_calls.specs.Seen.{is_link_unit, is_terminator, is_voice, unit_end, unit_of, whole_unit, broken_unit}
@@ -20,9 +20,7 @@ some-same a b same = cc
 pub unit-ends : (item : Item) (unit : UnitSeen) → Some unit ≡ unit_of item → unit_end unit ≡ place_of item + covered item
 unit-ends (Whole place frame fixes) unit is = ap unit_end (some-same unit (whole_unit place frame) is)
 unit-ends (Broken place count nac duid fields) unit is = ap unit_end (some-same unit (broken_unit place count nac duid) is)
-unit-ends (NoUnit place field) unit is = cc
-unit-ends (Gap place count) unit is = cc
-unit-ends (Cut place have) unit is = cc
+unit-ends item unit is = cc
 
 -- ---- what every caller keeps
 

@@ -67,9 +67,8 @@ no_break-inside units before run after front unit next back divided inside =
 -- ---- a break between
 
 AllDivided : List Run → Type 0
-AllDivided [] = Unit {0}
-AllDivided (run ∷ []) = Unit {0}
 AllDivided (run ∷ next ∷ runs) = (is_break (last_unit run) next.first ≡ true) × AllDivided (next ∷ runs)
+AllDivided other = Unit {0}
 
 -- a run keeps its last unit where one more is put before it
 divided-joined : (unit : UnitSeen) (run : Run) (runs : List Run) → AllDivided (run ∷ runs) → AllDivided (run_from unit (units_in run) ∷ runs)

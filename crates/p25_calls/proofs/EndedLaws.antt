@@ -2,7 +2,7 @@
 use Rattle.std.proofs.Common.{◌≡◌, ℕ, ◌+◌, Bool, true, false, cond, not, ◌&&◌, ◌||◌, List, [], ◌∷◌, ◌++◌, Option, Some, None, refl, sym, ap, ap₂, subst, ◌∙◌, inl, inr, ◌⊎◌, arith}
 use Rattle.std.specs.Prelude.{nat_eq, nat_lt, option_to_list}
 use Rattle.std.specs.Option.{option_or}
-use Rattle.std.proofs.lemmas.Bool.{cond-true, cond-false, eqb-true, or_cases}
+use Rattle.std.proofs.lemmas.Bool.{cond-true, cond-false, eqb-true, or_cases, not-false}
 use Rattle.p25_calls.specs.declared.call.Call.{Call}
 use Rattle.p25_calls.specs.declared.seen.UnitSeen.{UnitSeen}
 use Rattle.p25_calls.specs.Seen.{is_break, is_header, is_link_unit, is_terminator, is_voice, unit_end}
@@ -30,10 +30,6 @@ end-only unit ends =
     ]
 
 -- a packet is no terminator
-not-false : (b : Bool) → not b ≡ false → b ≡ true
-not-false true same = refl
-not-false false same = cc
-
 packet-open : (unit : UnitSeen) → is_voice unit ≡ false → is_terminator unit ≡ false
 packet-open unit packet =
     let is = eqb-true unit.duid 0xC (not-false (nat_eq unit.duid 0xC) packet) in ap (λ (d : ℕ). nat_eq d 3 || nat_eq d 0xF) is
@@ -112,10 +108,9 @@ runs_by-packet false run rest unbroken packet no' =
 -- two calls of which one is none at least, one after the other
 both-lists : (first second : Option Call) (rest : List Call) → (first ≡ None) ⊎ (second ≡ None)
     → option_to_list first ++ (option_to_list second ++ rest) ≡ option_to_list (option_or first second) ++ rest
-both-lists None second rest one = refl
-both-lists (Some first) None rest one = refl
 both-lists (Some first) (Some second) rest (inl same) = cc
 both-lists (Some first) (Some second) rest (inr same) = cc
+both-lists first second rest one = refl
 
 -- a terminator closes it
 stepped-terminator : (pending : Option Call) (before : Option Run) (unit : UnitSeen) → LastRun pending before unit → is_terminator unit ≡ true

@@ -18,11 +18,8 @@ use Rattle.p25_calls.proofs.CallLaws.{call_of-grown, calls_among-voice, grown}
 -- ---- whether a unit joins
 
 joined-bools : (voice same header near : Bool) → (not true || not voice || not same || false || header || not near) ≡ not (voice && same && not header && near)
-joined-bools false same header near = refl
-joined-bools true false header near = refl
-joined-bools true true true near = refl
 joined-bools true true false true = refl
-joined-bools true true false false = refl
+joined-bools voice same header near = refl
 
 far-not_near : (place end : ℕ) → nat_lt end place ≡ not (nat_le place end)
 far-not_near place end = grind (arith, nat_tests)

@@ -5,7 +5,7 @@ use Rattle.std.specs.List.{cons_option}
 use Rattle.std.proofs.lemmas.Bool.{cond-false}
 use Rattle.p25_units.specs.Items.{covered, place_of}
 use Rattle.p25_units.specs.declared.item.Item.{Item}
-use Rattle.p25_units.specs.declared.item.Item.TheVariants.{Whole, Broken, NoUnit, Gap, Cut}
+use Rattle.p25_units.specs.declared.item.Item.TheVariants.{Whole, Broken}
 use Rattle.p25_calls.specs.declared.call.Call.{Call}
 use Rattle.p25_calls.specs.declared.seen.UnitSeen.{UnitSeen}
 use Rattle.p25_calls.specs.Seen.{is_terminator, unit_end, unit_of, units_of}
@@ -42,9 +42,7 @@ unit-at : (item : Item) → IsUnitAt (place_of item) (place_of item + covered it
 unfolding IsUnitAt
 unit-at (Whole place frame fixes) = (refl, refl)
 unit-at (Broken place count nac duid fields) = (refl, refl)
-unit-at (NoUnit place field) = tt
-unit-at (Gap place count) = tt
-unit-at (Cut place have) = tt
+unit-at item = tt
 
 caller_at : ℕ → ℕ → Option Call → CallerParts
 caller_at reached taken pending = record { reached = reached; taken = taken; pending = pending }

@@ -1,6 +1,6 @@
 -- The words that a check matrix lets pass, where its last columns are check columns: they are the systematic words, and a
 -- computed test of all information gives their least distance.
-use Rattle.std.proofs.Common.{◌≡◌, ◌≢◌, ◌⊎◌, ℕ, ◌+◌, ◌*◌, ◌^◌, ◌<◌, ◌≤◌, inl, inr, Bool, true, false, cond, ◌||◌, eqb, ltb, leb, List, [], ◌∷◌, ◌++◌, length, take, drop, bit_xor, ap, ap₂, sym, ◌∙◌, subst, arith, length-append, take-append-drop, length-drop}
+use Rattle.std.proofs.Common.{◌≡◌, ◌≢◌, ◌⊎◌, ℕ, ◌+◌, ◌*◌, ◌^◌, ◌<◌, ◌≤◌, inl, inr, Bool, true, false, cond, eqb, ltb, leb, List, ◌∷◌, ◌++◌, length, take, drop, bit_xor, ap, ap₂, sym, ◌∙◌, subst, arith, length-append, take-append-drop, length-drop}
 use Rattle.std.specs.Bool.{beq}
 use Rattle.std.specs.Cmp.{bool_eq_equiv}
 use Rattle.std.specs.Int.Bits.{xor_self}
@@ -36,8 +36,6 @@ IsChecked-tested columns word =
 -- each sum of rows has a bit for each check and no other
 pub syndrome_of-lt : (checks : ℕ) (rows : List ℕ) (info : List Bool) → rows_fit checks rows ≡ true → syndrome_of rows info < 2 ^ checks
 unfolding syndrome_of
-syndrome_of-lt checks [] info fit = pow_pos checks
-syndrome_of-lt checks (first ∷ rows) [] fit = pow_pos checks
 syndrome_of-lt checks (first ∷ rows) (bit ∷ info) fit =
     let parts = and_parts (ltb first (2 ^ checks)) (rows_fit checks rows) fit in
     xor_lt checks (cond bit first 0) (syndrome_of rows info) (chosen bit (ltb-true first (2 ^ checks) parts.0)) (syndrome_of-lt checks rows info parts.1)
@@ -45,6 +43,7 @@ syndrome_of-lt checks (first ∷ rows) (bit ∷ info) fit =
     chosen : (b : Bool) → first < 2 ^ checks → cond b first 0 < 2 ^ checks
     chosen true h = h
     chosen false h = pow_pos checks
+syndrome_of-lt checks rows info fit = pow_pos checks
 
 module _ {rows : List ℕ} {checks apart : ℕ} (code : IsSystematic rows checks apart) where
   -- a word has as many letters as there are rows and checks

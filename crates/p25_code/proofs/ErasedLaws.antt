@@ -2,13 +2,14 @@
 -- counts one; and a list without an erasure is read as what was received.
 use Rattle.std.proofs.Common.{◌≡◌, ℕ, suc, ◌+◌, ◌*◌, ◌<◌, ◌≤◌, Bool, true, false, cond, List, [], ◌∷◌, length, map, Option, Some, None, All, ap, ap₂, sym, ◌∙◌, subst, refl, arith}
 use Rattle.p25_bits.specs.Distance.{distance_by}
+use Rattle.p25_bits.proofs.DistanceLaws.{cond-le}
 use Rattle.p25_code.specs.declared.code.Reading.{Reading}
 use Rattle.p25_code.specs.declared.code.Reading.TheVariants.{Found, Beyond}
 use Rattle.p25_code.specs.Words.{IsReading}
-use Rattle.p25_code.specs.Readings.{IsReadAs, word_read}
+use Rattle.p25_code.specs.Readings.{word_read}
 use Rattle.p25_code.specs.Erasures.{without_erased, erasures_in, letter_distance, kept_distance, erased_cost, IsErasedReading}
 use Rattle.p25_code.specs.ErasedReadings.{IsErasedReadAs, IsWithinCost}
-use Rattle.p25_code.proofs.ReadingLaws.{IsBlockCode, near_words, one_reading}
+use Rattle.p25_code.proofs.ReadingLaws.{IsBlockCode, near_words}
 
 -- a list with erasures is as long as what was received
 pub length-without_erased : {L : Type 0} (received : List L) (erased : List Bool) → length (without_erased received erased) ≡ length received
@@ -28,9 +29,8 @@ without_erased-none (x ∷ received) (gone ∷ erased) none =
 -- a list without an erasure differs where the letters differ, and has no erasure
 pub kept_distance-letters : {L : Type 0} (same : L → L → Bool) (received word : List L) → kept_distance same (map Some received) word ≡ distance_by same received word
 unfolding kept_distance distance_by
-kept_distance-letters same [] word = refl
-kept_distance-letters same (y ∷ received) [] = refl
 kept_distance-letters same (y ∷ received) (x ∷ word) = ap (λ n. cond (same y x) 0 1 + n) (kept_distance-letters same received word)
+kept_distance-letters same received word = refl
 
 pub erasures_in-letters : {L : Type 0} (received : List L) → erasures_in (map Some received) ≡ 0
 unfolding erasures_in
@@ -49,24 +49,18 @@ module _ {L : Type 0} {same : L → L → Bool} {IsWord : List L → Type 0} {n 
   letters_apart x z None = elim (same x z) as (λ b. cond b 0 1 ≤ 1) [ true ↦ omega arith | false ↦ omega arith ]
   letters_apart x z (Some y) = through (same y x) (same y z) refl refl
     where
-      at_most_one : (b : Bool) → cond b 0 1 ≤ 1
-      at_most_one true = omega arith
-      at_most_one false = omega arith
-
       through : (a b : Bool) → same y x ≡ a → same y z ≡ b → cond (same x z) 0 1 ≤ cond (same y x) 0 1 + cond (same y z) 0 1 + 0
       through true true ea eb = omega (arith, ap {B = ℕ} (λ t. cond t 0 1) (subst (λ w. same w z ≡ true) (code.alike y x ea) eb))
-      through false b ea eb = omega (arith, ap {B = ℕ} (λ t. cond t 0 1) ea, at_most_one (same x z))
-      through true false ea eb = omega (arith, ap {B = ℕ} (λ t. cond t 0 1) eb, at_most_one (same x z))
+      through false b ea eb = omega (arith, ap {B = ℕ} (λ t. cond t 0 1) ea, cond-le (same x z))
+      through true false ea eb = omega (arith, ap {B = ℕ} (λ t. cond t 0 1) eb, cond-le (same x z))
 
   -- the way from one word to another by a list with erasures
   pub wrong_triangle : (list : List (Option L)) (v w : List L) → length list ≡ length v → length v ≡ length w → distance_by same v w ≤ kept_distance same list v + kept_distance same list w + erasures_in list
   unfolding kept_distance distance_by erasures_in
   wrong_triangle [] [] w first second = omega arith
-  wrong_triangle [] (x ∷ v) w first second = absurd (omega arith)
-  wrong_triangle (y ∷ list) [] w first second = absurd (omega arith)
-  wrong_triangle (y ∷ list) (x ∷ v) [] first second = absurd (omega arith)
   wrong_triangle (y ∷ list) (x ∷ v) (z ∷ w) first second =
       omega (arith, letters_apart x z y, wrong_triangle list v w (omega arith) (omega arith))
+  wrong_triangle list v w first second = absurd (omega arith)
 
   module _ {most : ℕ} (close : most < apart) where
     -- two words within the cost of a list are one
@@ -98,15 +92,6 @@ module _ {L : Type 0} {same : L → L → Bool} {IsWord : List L → Type 0} {n 
     erased_reading_sent list received word sent (Found fixes) long is sent_is near =
         one_within_cost list word sent long (record { word_of_set = is.word_of_set; within = is.within }) (record { word_of_set = sent_is; within = near })
     erased_reading_sent list received word sent Beyond long is sent_is near = absurd (omega (arith, is.none_within.dearer sent sent_is))
-
-  -- where the cost is twice the radius, a list without an erasure is read as what was received
-  pub whole_reading : (most : ℕ) → most ≡ 2 * radius → (received : List L) (a b : Option (List L)) → length received ≡ n → IsErasedReadAs same IsWord most (map Some received) a → IsReadAs same IsWord radius received b → a ≡ b
-  unfolding IsReadAs IsErasedReadAs
-  whole_reading most twice received a b long first second = one_reading code received a b long (as_read a first) second
-    where
-      as_read : (a : Option (List L)) → IsErasedReadAs same IsWord most (map Some received) a → IsReadAs same IsWord radius received a
-      as_read (Some word) is = record { word_of_set = is.word_of_set; within = omega (arith, is.within, erased_cost-letters same received word) }
-      as_read None is = record { farther = λ word w. omega (arith, is.dearer word w, erased_cost-letters same received word) }
 
 -- where the cost is twice the radius, what a reader of a list without an erasure answers and leaves is the reading of the letters
 pub reading_without_erasures : {L : Type 0} (same : L → L → Bool) (IsWord : List L → Type 0) (most radius : ℕ) → most ≡ 2 * radius → (received word : List L) (erased : List Bool) (reading : Reading) → All (λ gone. gone ≡ false) erased

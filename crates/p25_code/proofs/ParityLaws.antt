@@ -14,13 +14,10 @@ use Rattle.p25_code.proofs.WeightLaws.{sum_of_words, syndrome_of-sum_of_words, s
 -- the sum of two bits
 sum_of_bits : (a b : ℕ) → a < 2 → b < 2 → (xs ys : List Bool) → eqb ((a + b) % 2) 1 ∷ sum_of_words xs ys ≡ sum_of_words (eqb a 1 ∷ xs) (eqb b 1 ∷ ys)
 unfolding sum_of_words
-sum_of_bits zero zero h k xs ys = refl
-sum_of_bits zero (suc zero) h k xs ys = refl
-sum_of_bits (suc zero) zero h k xs ys = refl
-sum_of_bits (suc zero) (suc zero) h k xs ys = refl
 sum_of_bits zero (suc (suc b)) h k xs ys = absurd (omega arith)
 sum_of_bits (suc zero) (suc (suc b)) h k xs ys = absurd (omega arith)
 sum_of_bits (suc (suc a)) b h k xs ys = absurd (omega arith)
+sum_of_bits a b h k xs ys = refl
 
 -- the bits of a sum are the sums of the bits
 pub bits_of-xor : (width a b : ℕ) → bits_of width (bit_xor a b) ≡ sum_of_words (bits_of width a) (bits_of width b)
@@ -53,10 +50,9 @@ sum-chosen mix false column = sym (number_sum-zero mix)
 -- the sum by mixed columns is the mixed sum by the columns
 pub syndrome_of-mixed : (mix columns : List ℕ) (word : List Bool) → syndrome_of (map (number_sum mix) columns) word ≡ number_sum mix (syndrome_of columns word)
 unfolding syndrome_of
-syndrome_of-mixed mix [] word = sym (number_sum-zero mix)
-syndrome_of-mixed mix (column ∷ columns) [] = sym (number_sum-zero mix)
 syndrome_of-mixed mix (column ∷ columns) (bit ∷ word) =
     ap₂ bit_xor (sum-chosen mix bit column) (syndrome_of-mixed mix columns word) ∙ sym (number_sum-xor mix (cond bit column 0) (syndrome_of columns word))
+syndrome_of-mixed mix columns word = sym (number_sum-zero mix)
 
 -- so what passes the checks passes their sums
 pub mixed_passes : (mix columns : List ℕ) (word : List Bool) → syndrome_of columns word ≡ 0 → syndrome_of (map (number_sum mix) columns) word ≡ 0
@@ -80,18 +76,16 @@ parities false weight = xor_zero_l (weight % 2) ∙ omega arith
 parities true weight = flipped (weight % 2) refl
   where
     flipped : (odd : ℕ) → odd ≡ weight % 2 → bit_xor 1 odd ≡ (1 + weight) % 2
-    flipped zero e = omega arith
-    flipped (suc zero) e = omega arith
     flipped (suc (suc odd)) e = absurd (omega arith)
+    flipped odd e = omega arith
 
 -- the sum by columns with the parity: the sum by the columns, and whether the weight is odd
 pub syndrome_of-with_parity : (columns : List ℕ) (word : List Bool) → length word ≡ length columns → syndrome_of (map with_parity columns) word ≡ 2 * syndrome_of columns word + weight_of word % 2
 unfolding syndrome_of weight_of
 syndrome_of-with_parity [] [] long = refl
-syndrome_of-with_parity [] (bit ∷ word) long = absurd (omega arith)
-syndrome_of-with_parity (column ∷ columns) [] long = absurd (omega arith)
 syndrome_of-with_parity (column ∷ columns) (bit ∷ word) long =
     let odd : weight_of word % 2 < 2 = omega arith in
     ap₂ bit_xor (doubled bit column) (syndrome_of-with_parity columns word (omega arith))
     ∙ xor_doubled (cond bit column 0) (syndrome_of columns word) (digit_of bit) (weight_of word % 2) (digit-lt bit) odd
     ∙ ap (λ n. 2 * bit_xor (cond bit column 0) (syndrome_of columns word) + n) (parities bit (weight_of word))
+syndrome_of-with_parity columns word long = absurd (omega arith)

@@ -1,11 +1,10 @@
 -- What follows from the laws of a block code: a reading leaves the word within the radius and no other.
-use Rattle.std.proofs.Common.{◌≡◌, ◌≢◌, ℕ, ◌+◌, ◌*◌, ◌<◌, ◌≤◌, inl, inr, Bool, true, List, length, take, Option, Some, None, ap, sym, ◌∙◌, subst, refl, arith}
-use Rattle.std.specs.Cmp.{IsEquivalence}
+use Rattle.std.proofs.Common.{◌≡◌, ◌≢◌, ℕ, ◌+◌, ◌<◌, ◌≤◌, inl, inr, Bool, true, List, length, Option, Some, None, ap, sym, ◌∙◌, subst, refl, arith}
 use Rattle.std.proofs.lemmas.Bool.{cases_eq}
 use Rattle.p25_bits.specs.Distance.{distance_by}
 use Rattle.p25_bits.proofs.DistanceLaws.{distance_by-same, distance_by-sym, distance_by-triangle, same_from_distance_by}
 pub use Rattle.p25_code.specs.CodeLaws.{IsBlockCode}
-use Rattle.p25_code.specs.Words.{IsEncoding, IsFound, IsReading}
+use Rattle.p25_code.specs.Words.{IsFound, IsReading}
 use Rattle.p25_code.specs.Readings.{IsNear, IsReadAs, word_read}
 use Rattle.p25_code.specs.declared.code.Reading.{Reading}
 use Rattle.p25_code.specs.declared.code.Reading.TheVariants.{Found, Beyond}
@@ -78,7 +77,3 @@ module _ {L : Type 0} {same : L → L → Bool} {IsWord : List L → Type 0} {n 
   unfolding IsReading IsReadAs word_read
   word_read_as received word (Found fixes) is = record { word_of_set = is.word_of_set; within = omega (arith, is.fixes_is, is.within) }
   word_read_as received word Beyond is = is.none_within
-
-  -- the encoding of some information is one word
-  pub encoding_unique : (info v w : List L) → IsEncoding IsWord k info v → IsEncoding IsWord k info w → v ≡ w
-  encoding_unique info v w first second = code.one_word v w first.word_of_set second.word_of_set (first.begins ∙ sym second.begins)

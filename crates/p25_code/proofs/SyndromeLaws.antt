@@ -2,27 +2,20 @@
 use Rattle.std.proofs.Common.{◌≡◌, ℕ, zero, suc, ◌+◌, ◌*◌, ◌^◌, ◌<◌, Bool, true, false, cond, List, [], ◌∷◌, ◌++◌, length, bit_xor, refl, ap, ap₂, sym, ◌∙◌, arith}
 use Rattle.std.specs.Bool.{beq}
 use Rattle.std.specs.Int.Bits.{xor_assoc, xor_self, xor_zero_l, xor_zero_r}
-use Rattle.std.proofs.lemmas.Nat.{xor_comm, xor_block, pow_pos}
+use Rattle.std.proofs.lemmas.Nat.{xor_block, pow_pos}
 use Rattle.p25_bits.specs.Bits.{digit_of, field_of}
 use Rattle.p25_bits.proofs.BitsLaws.{field_of-nil, field_of-cons, field_of-lt}
+use Rattle.p25_bits.proofs.DivisibleLaws.{xor_middle}
 use Rattle.p25_code.specs.Binary.{syndrome_of, check_columns, change_of}
-
--- of four, the two in the middle change places
-pub xor_middle : (a b c d : ℕ) → bit_xor (bit_xor a b) (bit_xor c d) ≡ bit_xor (bit_xor a c) (bit_xor b d)
-xor_middle a b c d =
-    xor_assoc a b (bit_xor c d)
-    ∙ ap (bit_xor a) (sym (xor_assoc b c d) ∙ ap (λ n. bit_xor n d) (xor_comm b c) ∙ xor_assoc c b d)
-    ∙ sym (xor_assoc a c (bit_xor b d))
 
 -- two runs, one after the other: their sums add up
 pub syndrome_of-append : (rows columns : List ℕ) (info checks : List Bool) → length info ≡ length rows → syndrome_of (rows ++ columns) (info ++ checks) ≡ bit_xor (syndrome_of rows info) (syndrome_of columns checks)
 unfolding syndrome_of
 syndrome_of-append [] columns [] checks long = sym (xor_zero_l (syndrome_of columns checks))
-syndrome_of-append [] columns (bit ∷ info) checks long = absurd (omega arith)
-syndrome_of-append (first ∷ rows) columns [] checks long = absurd (omega arith)
 syndrome_of-append (first ∷ rows) columns (bit ∷ info) checks long =
     ap (bit_xor (cond bit first 0)) (syndrome_of-append rows columns info checks (omega arith))
     ∙ sym (xor_assoc (cond bit first 0) (syndrome_of rows info) (syndrome_of columns checks))
+syndrome_of-append rows columns info checks long = absurd (omega arith)
 
 -- a bit above a number of lower bits
 pub above : (bit : Bool) (k low : ℕ) → low < 2 ^ k → bit_xor (cond bit (2 ^ k) 0) low ≡ digit_of bit * 2 ^ k + low
@@ -41,13 +34,12 @@ length-check_columns (suc checks) = ap suc (length-check_columns checks)
 pub syndrome_of-check_columns : (checks : ℕ) (bits : List Bool) → length bits ≡ checks → syndrome_of (check_columns checks) bits ≡ field_of bits
 unfolding syndrome_of check_columns
 syndrome_of-check_columns zero [] long = sym field_of-nil
-syndrome_of-check_columns zero (bit ∷ bits) long = absurd (omega arith)
-syndrome_of-check_columns (suc checks) [] long = absurd (omega arith)
 syndrome_of-check_columns (suc checks) (bit ∷ bits) long =
     let fewer : length bits ≡ checks = omega arith in
     ap₂ (λ k n. bit_xor (cond bit (2 ^ k) 0) n) (sym fewer) (syndrome_of-check_columns checks bits fewer)
     ∙ above bit (length bits) (field_of bits) (field_of-lt bits)
     ∙ sym (field_of-cons bit bits)
+syndrome_of-check_columns checks bits long = absurd (omega arith)
 
 -- where two letters differ, one of them is 1
 differs : (x y : Bool) (column : ℕ) → cond (beq x y) 0 column ≡ bit_xor (cond x column 0) (cond y column 0)
@@ -60,8 +52,7 @@ differs false false column = sym (xor_self 0)
 pub change_of-is : (columns : List ℕ) (old new : List Bool) → length old ≡ length columns → length new ≡ length columns → change_of columns old new ≡ bit_xor (syndrome_of columns old) (syndrome_of columns new)
 unfolding syndrome_of change_of
 change_of-is [] old new long long' = sym (xor_self 0)
-change_of-is (column ∷ columns) [] new long long' = absurd (omega arith)
-change_of-is (column ∷ columns) (x ∷ old) [] long long' = absurd (omega arith)
 change_of-is (column ∷ columns) (x ∷ old) (y ∷ new) long long' =
     ap₂ bit_xor (differs x y column) (change_of-is columns old new (omega arith) (omega arith))
     ∙ xor_middle (cond x column 0) (cond y column 0) (syndrome_of columns old) (syndrome_of columns new)
+change_of-is (column ∷ columns) old new long long' = absurd (omega arith)

@@ -1,5 +1,5 @@
 -- Weights of words, sums of words, and a test of all lists of so many bits.
-use Rattle.std.proofs.Common.{◌≡◌, ℕ, zero, suc, ◌+◌, Bool, true, false, not, ◌&&◌, eqb, List, [], ◌∷◌, ◌++◌, length, bit_xor, refl, ap, ap₂, ◌∙◌, arith}
+use Rattle.std.proofs.Common.{◌≡◌, ℕ, zero, suc, ◌+◌, Bool, true, false, not, eqb, List, [], ◌∷◌, ◌++◌, length, bit_xor, refl, ap, ap₂, ◌∙◌, arith}
 use Rattle.std.specs.Int.Bits.{xor_zero_l}
 use Rattle.std.proofs.lemmas.Bool.{and_parts}
 use Rattle.std.proofs.lemmas.Nat.Bits.{bit_at-zero}
@@ -56,18 +56,15 @@ weight_of-sum_of_words (false ∷ xs) (false ∷ ys) long = ap (λ n. 0 + n) (we
 -- so its syndrome is what is changed between them
 pub syndrome_of-sum_of_words : (columns : List ℕ) (xs ys : List Bool) → syndrome_of columns (sum_of_words xs ys) ≡ change_of columns xs ys
 unfolding sum_of_words syndrome_of change_of
-syndrome_of-sum_of_words [] xs ys = refl
-syndrome_of-sum_of_words (column ∷ columns) [] ys = refl
-syndrome_of-sum_of_words (column ∷ columns) (x ∷ xs) [] = refl
 syndrome_of-sum_of_words (column ∷ columns) (true ∷ xs) (true ∷ ys) = ap (bit_xor 0) (syndrome_of-sum_of_words columns xs ys)
 syndrome_of-sum_of_words (column ∷ columns) (true ∷ xs) (false ∷ ys) = ap (bit_xor column) (syndrome_of-sum_of_words columns xs ys)
 syndrome_of-sum_of_words (column ∷ columns) (false ∷ xs) (true ∷ ys) = ap (bit_xor column) (syndrome_of-sum_of_words columns xs ys)
 syndrome_of-sum_of_words (column ∷ columns) (false ∷ xs) (false ∷ ys) = ap (bit_xor 0) (syndrome_of-sum_of_words columns xs ys)
+syndrome_of-sum_of_words columns xs ys = refl
 
 -- a word without weight has no sum
 pub syndrome_of-zeros : (columns : List ℕ) (word : List Bool) → weight_of word ≡ 0 → syndrome_of columns word ≡ 0
 unfolding syndrome_of weight_of
-syndrome_of-zeros [] word none = refl
-syndrome_of-zeros (column ∷ columns) [] none = refl
 syndrome_of-zeros (column ∷ columns) (true ∷ word) none = absurd (omega arith)
 syndrome_of-zeros (column ∷ columns) (false ∷ word) none = xor_zero_l (syndrome_of columns word) ∙ syndrome_of-zeros columns word (omega arith)
+syndrome_of-zeros columns word none = refl

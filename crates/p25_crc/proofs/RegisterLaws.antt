@@ -21,7 +21,6 @@ field_of-bits before width number below =
     field_of-append before (bits_of width number)
     ∙ ap₂ (λ n r. field_of before * 2 ^ n + r) (length-bits_of width number) (field_of-bits_of width number ∙ mod-eq_of_lt below)
 
--- one more octet
 octet_bits-more : (octets : List ℕ) (i : ℕ) → i < length octets → octet_bits (take (i + 1) octets) ≡ octet_bits (take i octets) ++ bits_of 8 (get_or octets i 0)
 octet_bits-more octets i h =
     ap octet_bits (take_more octets i 0 h)

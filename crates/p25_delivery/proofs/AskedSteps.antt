@@ -5,17 +5,13 @@ use Rattle.std.specs.List.{list_any}
 use Rattle.std.proofs.lemmas.List.{get_or-take, length-take-le}
 use Rattle.std.proofs.lemmas.List.Folds.{list_any_at, list_any_more}
 use Rattle.std.proofs.lemmas.Option.{slice_get_within, get_or_from_slice_get}
-use Rattle.std.proofs.lemmas.Bool.{and_from}
-use Rattle.std.proofs.lemmas.Bool.Decides.{nat_tests}
-
-pub le-test : (m n : ℕ) → m ≤ n → nat_le m n ≡ true
-le-test m n h = grind (arith, nat_tests)
+use Rattle.std.proofs.lemmas.Bool.{and_from, le-leb}
 
 pub misses_here : (flags : List Bool) (n i : ℕ) (flag : Bool) → n ≤ length flags → i < n → slice_get flags i ≡ Some flag → flag ≡ false → true ≡ nat_le n (length flags) && list_any not (take n flags)
 misses_here flags n i flag h below e f =
     let inside : i < length (take n flags) = omega (arith, length-take-le n flags h) in
     let here : get_or (take n flags) i false ≡ false = get_or-take n flags i false below ∙ get_or_from_slice_get flags i flag false e ∙ f in
-    sym (and_from (nat_le n (length flags)) (list_any not (take n flags)) (le-test n (length flags) h) (list_any_at not (take n flags) i false inside (ap not here)))
+    sym (and_from (nat_le n (length flags)) (list_any not (take n flags)) (le-leb n (length flags) h) (list_any_at not (take n flags) i false inside (ap not here)))
 
 pub misses_none_yet : (flags : List Bool) (i : ℕ) (flag : Bool) → slice_get flags i ≡ Some flag → flag ≡ true → list_any not (take i flags) ≡ false → list_any not (take (i + 1) flags) ≡ false
 misses_none_yet flags i flag e t none =

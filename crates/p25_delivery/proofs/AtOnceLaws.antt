@@ -1,7 +1,7 @@
 -- Packets that are heard as they were sent: the whole packet of a message delivers it, and an ACK is heard. By the rules.
 use Rattle.std.proofs.Common.{◌≡◌, ℕ, zero, suc, ◌+◌, ◌%◌, ◌<◌, ◌≤◌, ◌⊎◌, inl, inr, true, false, eqb, List, [], ◌∷◌, ◌++◌, length, map, Option, Some, None, refl, ap, ap₂, sym, ◌∙◌, subst, arith}
 use Rattle.std.proofs.lemmas.List.{map-append}
-use Rattle.std.proofs.lemmas.Bool.{cases_lt, cond-true, cond-false, and_from}
+use Rattle.std.proofs.lemmas.Bool.{cases_lt, cond-true, cond-false, and_from, eq-eqb, ne_eqb}
 use Rattle.p25_bits.specs.Numbers.{each_below}
 use Rattle.p25_bits.proofs.NumbersLaws.{each_below-suc}
 use Rattle.p25_packet_blocks.specs.Heads.{head_is_full, head_blocks, head_number, response_class, response_kind, response_status, response_head, confirmed_head, opening_head}
@@ -25,7 +25,7 @@ use Rattle.p25_delivery.specs.Delivery.{Delivery, Session}
 use Rattle.p25_delivery.specs.AtOnce.{DeliversAtOnce, OpensAtOnce}
 use Rattle.p25_delivery.proofs.HeadLaws.{response_head-status, response_head-class, response_head-kind, response_head-format, response_head-llid, confirmed_head-full}
 use Rattle.p25_delivery.proofs.SentLaws.{counts-small, all-blocks, whole-carries}
-use Rattle.p25_delivery.proofs.ReceiverLaws.{eq-true, eq-false, data-is_heard, opening-is_heard}
+use Rattle.p25_delivery.proofs.ReceiverLaws.{data-is_heard, opening-is_heard}
 use Rattle.p25_delivery.proofs.SenderLaws.{offer-quiet}
 use Rattle.p25_delivery.proofs.PhaseLaws.{IsQuiet, IsDelivering, quiet, busy, opening}
 
@@ -34,14 +34,14 @@ use Rattle.p25_delivery.proofs.PhaseLaws.{IsQuiet, IsDelivering, quiet, busy, op
 is_ack-ack : (status : ℕ) → status < 8 → is_ack (response_head 1 0 1 status 0) status ≡ true
 unfolding is_ack
 is_ack-ack status h =
-    let class : eqb (response_class (response_head 1 0 1 status 0)) 0 ≡ true = eq-true _ 0 (response_head-class 0 1 status 0 (omega arith) h) in
-    let kind : eqb (response_kind (response_head 1 0 1 status 0)) 1 ≡ true = eq-true _ 1 (response_head-kind 0 1 status 0 (omega arith) h) in
-    let number : eqb (response_status (response_head 1 0 1 status 0)) status ≡ true = eq-true _ status (response_head-status 0 1 status 0 h) in
+    let class : eqb (response_class (response_head 1 0 1 status 0)) 0 ≡ true = eq-eqb _ 0 (response_head-class 0 1 status 0 (omega arith) h) in
+    let kind : eqb (response_kind (response_head 1 0 1 status 0)) 1 ≡ true = eq-eqb _ 1 (response_head-kind 0 1 status 0 (omega arith) h) in
+    let number : eqb (response_status (response_head 1 0 1 status 0)) status ≡ true = eq-eqb _ status (response_head-status 0 1 status 0 h) in
     and_from _ _ (and_from _ _ class kind) number
 
 is_response-ack : (status : ℕ) → is_response (response_head 1 0 1 status 0) ≡ true
 unfolding is_response
-is_response-ack status = and_from _ _ (eq-true _ 3 (response_head-format 0 1 status 0)) (eq-true _ 1 (response_head-llid 0 1 status 0))
+is_response-ack status = and_from _ _ (eq-eqb _ 3 (response_head-format 0 1 status 0)) (eq-eqb _ 1 (response_head-llid 0 1 status 0))
 
 ack-is_heard : (s : Sending) (status : ℕ) → s.down ≡ false → sender_heard s (ack_packet status) ≡ response_heard s.outstanding s (record { head = response_head 1 0 1 status 0; octets = [] })
 unfolding sender_heard short_response
@@ -108,11 +108,11 @@ whole-heard r number message small sync none short =
     let pad = pad_count (length message) in
     let packet : ConfirmedParts = record { head = confirmed_head 1 true blocks pad number; slots = map good_slot (message_blocks message) } in
     let c = whole-carries number message (omega (arith, sync)) short in
-    let other : eqb (head_number packet.head) r.last ≡ false = eq-false (head_number packet.head) r.last (λ e. absurd (omega (arith, e, sync, c.number_is, small))) in
-    let next : eqb (head_number packet.head) ((r.last + 1) % 8) ≡ true = eq-true (head_number packet.head) ((r.last + 1) % 8) (c.number_is ∙ sym sync) in
+    let other : eqb (head_number packet.head) r.last ≡ false = ne_eqb (head_number packet.head) r.last (λ e. absurd (omega (arith, e, sync, c.number_is, small))) in
+    let next : eqb (head_number packet.head) ((r.last + 1) % 8) ≡ true = eq-eqb (head_number packet.head) ((r.last + 1) % 8) (c.number_is ∙ sym sync) in
     let full : head_is_full packet.head ≡ true = confirmed_head-full true blocks pad number (counts-small message short).0 in
     let count : head_blocks packet.head ≡ blocks = c.full full in
-    let some : eqb (head_blocks packet.head) 0 ≡ false = eq-false (head_blocks packet.head) 0 (λ z. absurd (omega (arith, z, count))) in
+    let some : eqb (head_blocks packet.head) 0 ≡ false = ne_eqb (head_blocks packet.head) 0 (λ z. absurd (omega (arith, z, count))) in
     let begins : keeping_for r.kept packet.head ≡ Some (empty_places blocks pad)
     = ap (λ (kept : Option Keeping). keeping_for kept packet.head) none ∙ cond-true _ _ _ full ∙ cond-false _ _ _ some ∙ ap₂ (λ (m n : ℕ). Some (empty_places m n)) count c.pad in
     data-is_heard r number message packet c ∙ cond-false _ _ _ other ∙ cond-true _ _ _ next ∙ ap (filled r packet) begins ∙
@@ -143,9 +143,8 @@ delivers-delivering b s w message (opening number h) o short = let both : Openin
 
 small-opening : (out : Outstanding) (next : ℕ) → IsNumbered out → opening_number out next < 8
 unfolding IsNumbered opening_number
-small-opening Nothing next h = omega arith
-small-opening (Message message) next h = omega arith
 small-opening (Opening number) next h = h
+small-opening out next h = omega arith
 
 opener-heard : (r : Receiving) (number : ℕ) → number < 8 → receiver_heard r (opening_packet number) ≡ (record { last = number; kept = None }, Opened number (ack_packet number))
 unfolding opening_packet

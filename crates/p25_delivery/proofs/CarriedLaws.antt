@@ -1,12 +1,11 @@
 -- A message is read back of its blocks, in whatever order they come. By recursion on the slots: a block that is put stays,
 -- as only the same block can come to its place again.
-use Rattle.std.proofs.Common.{◌≡◌, ℕ, zero, suc, ◌+◌, ◌-◌, ◌*◌, ◌/◌, ◌%◌, ◌^◌, ◌<◌, ◌≤◌, inl, inr, Bool, true, false, cond, List, [], ◌∷◌, ◌++◌, length, take, drop, get_or, set, replicate, Option, Some, None, refl, ap, sym, ◌∙◌, arith, length-append, zero-add}
+use Rattle.std.proofs.Common.{◌≡◌, ℕ, zero, suc, ◌+◌, ◌-◌, ◌*◌, ◌<◌, ◌≤◌, inl, inr, Bool, true, false, cond, List, [], ◌∷◌, ◌++◌, length, take, drop, get_or, set, replicate, Option, Some, None, refl, ap, sym, ◌∙◌, arith, length-append, zero-add}
 use Rattle.std.specs.Prelude.{nat_lt, nat_le, eqb}
 use Rattle.std.proofs.lemmas.List.{get_or-set_same, get_or-set_other, ext_get_or, take_at, drop_at, length-replicate, take-append-le, append-nil}
-use Rattle.std.proofs.lemmas.Bool.{cases_eq, cond-true, and_from}
-use Rattle.std.proofs.lemmas.Bool.Decides.{nat_tests}
+use Rattle.std.proofs.lemmas.Bool.{cases_eq, cond-true, and_from, eq-eqb, le-leb, lt-ltb}
 use Rattle.p25_bits.specs.Bits.{part}
-use Rattle.p25_bits.specs.Numbers.{octets_number, each_below, joined_below}
+use Rattle.p25_bits.specs.Numbers.{octets_number, number_after, each_below, joined_below}
 use Rattle.p25_bits.proofs.NumbersLaws.{each_below-zero, each_below-suc, length-each_below, get_or-each_below, joined_below-zero, joined_below-suc, joined_below-same, joined_below-parts}
 use Rattle.p25_bits.proofs.PartLaws.{part_whole}
 use Rattle.p25_crc.specs.Values.{crc32_of}
@@ -17,20 +16,12 @@ use Rattle.p25_packet_blocks.specs.declared.block.Slot.TheVariants.{Good, Bad}
 use Rattle.p25_delivery.specs.MessageBlocks.{block_count, pad_count, message_octets, message_block, unpadded}
 use Rattle.p25_delivery.specs.Places.{put_block, put_slots, before_octets, all_octets, AreBlocksOf, HoldsSerial, CarriesMessage, unpadded_option, read_back}
 use Rattle.p25_delivery.proofs.PlacesLaws.{length-put_block, length-put_slots, both_octets, all_octets-append}
-use Rattle.p25_delivery.proofs.MessageBlocksLaws.{octets_number-four, length-message_octets}
+use Rattle.p25_delivery.proofs.MessageBlocksLaws.{length-message_octets}
 
 -- the number of the packet CRC's octets
-base-256 : (n : ℕ) → 16777216 * (n / 2 ^ 24) + 65536 * (n / 2 ^ 16 % 256) + 256 * (n / 2 ^ 8 % 256) + n % 256 ≡ n
-base-256 n = omega arith
-
 pub octets_number-four_octets : (n : ℕ) → octets_number (four_octets n) ≡ n
-octets_number-four_octets n = octets_number-four (four_octets n) refl ∙ base-256 n
-
-le-true : (m n : ℕ) → m ≤ n → nat_le m n ≡ true
-le-true m n h = grind (arith, nat_tests)
-
-eq-true : (m n : ℕ) → m ≡ n → eqb m n ≡ true
-eq-true m n e = grind (arith, nat_tests)
+unfolding octets_number number_after
+octets_number-four_octets n = omega arith
 
 -- octets with their packet CRC after them
 pub unpadded-is : (beginning check : List ℕ) (pad : ℕ) → length check ≡ 4 → octets_number check ≡ crc32_of beginning → pad ≤ length beginning → unpadded (beginning ++ check) pad ≡ Some (take (length beginning - pad) beginning)
@@ -39,9 +30,9 @@ unpadded-is beginning check pad four agrees small =
     let count : length (beginning ++ check) - 4 ≡ length beginning = omega (arith, length-append beginning check) in
     let front_is : take (length (beginning ++ check) - 4) (beginning ++ check) ≡ beginning = take_at beginning check (length (beginning ++ check) - 4) (sym count) in
     let check_is : drop (length (beginning ++ check) - 4) (beginning ++ check) ≡ check = drop_at beginning check (length (beginning ++ check) - 4) (sym count) in
-    let fits : nat_le pad (length (beginning ++ check) - 4) ≡ true = le-true pad (length (beginning ++ check) - 4) (omega arith) in
+    let fits : nat_le pad (length (beginning ++ check) - 4) ≡ true = le-leb pad (length (beginning ++ check) - 4) (omega arith) in
     let right : eqb (octets_number (drop (length (beginning ++ check) - 4) (beginning ++ check))) (crc32_of (take (length (beginning ++ check) - 4) (beginning ++ check))) ≡ true
-    = eq-true _ _ (ap octets_number check_is ∙ agrees ∙ ap crc32_of (sym front_is)) in
+    = eq-eqb _ _ (ap octets_number check_is ∙ agrees ∙ ap crc32_of (sym front_is)) in
     let short : length (beginning ++ check) - 4 - pad ≡ length beginning - pad = omega arith in
     cond-true _ _ _ (and_from _ _ fits right) ∙ ap (λ (n : ℕ). Some (take n (beginning ++ check))) short ∙ ap (λ (xs : List ℕ). Some xs) (take-append-le (length beginning - pad) beginning check (omega arith))
 
@@ -56,14 +47,11 @@ message-read_back message =
     unpadded-is (message ++ zeros) (four_octets (crc32_of (message ++ zeros))) pad refl (octets_number-four_octets (crc32_of (message ++ zeros))) (omega (arith, length-append message zeros, many)) ∙
     ap (λ (xs : List ℕ). Some xs) (take_at message zeros (length (message ++ zeros) - pad) (sym count))
 
-lt-true : (m n : ℕ) → m < n → nat_lt m n ≡ true
-lt-true m n h = grind (arith, nat_tests)
-
 -- where a block is put, and where the others stay
 pub put_block-here : (places : List (Option BlockParts)) (block : BlockParts) (j : ℕ) → j < length places → block.serial ≡ j → get_or (put_block places block) j None ≡ Some block
 unfolding put_block
 put_block-here places block j h e =
-    let there : nat_lt block.serial (length places) ≡ true = lt-true block.serial (length places) (omega arith) in
+    let there : nat_lt block.serial (length places) ≡ true = lt-ltb block.serial (length places) (omega arith) in
     ap (λ (ps : List (Option BlockParts)). get_or ps j None) (cond-true (nat_lt block.serial (length places)) (set places block.serial (Some block)) places there) ∙ ap (λ (k : ℕ). get_or (set places k (Some block)) j None) e ∙
     get_or-set_same places j (Some block) None h
 

@@ -14,10 +14,10 @@ use Rattle.p25_messages.specs.declared.answers.Offer.TheVariants.{Taken, Down as
 use Rattle.p25_messages.specs.declared.answers.Resend.{Resend}
 use Rattle.p25_messages.specs.declared.answers.Resend.TheVariants.{Sent, Idle, Down as ResendDown}
 use Rattle.p25_messages.specs.declared.answers.SenderHeard.{SenderHeard}
-use Rattle.p25_messages.specs.declared.answers.SenderHeard.TheVariants.{Acknowledged, Opened as SenderOpened, Retry, Repeat, Ignored as SenderIgnored, Down as HeardDown}
+use Rattle.p25_messages.specs.declared.answers.SenderHeard.TheVariants.{Retry, Repeat, Ignored as SenderIgnored, Down as HeardDown}
 use Rattle.p25_messages.specs.declared.answers.Reopen.{Reopen}
 use Rattle.p25_messages.specs.declared.answers.Heard.{Heard}
-use Rattle.p25_messages.specs.declared.answers.Heard.TheVariants.{Delivered, Opened, Again, Kept, RefusedCrc, RefusedOrder, Ignored}
+use Rattle.p25_messages.specs.declared.answers.Heard.TheVariants.{Delivered}
 use Rattle.p25_delivery.specs.HalfRules.{after_offer, after_timeout, after_reopening, after_data, after_answer}
 use Rattle.p25_delivery.specs.Delivery.{Session, Delivery, first_delivery, last_mark, sessions_of, present_session, with_outbound, with_inbound, Happening, Offering, Time_up, Opening_again, Data_heard, Answer_heard, happens, delivery_run}
 use Rattle.p25_delivery.specs.Orderly.{IsCounted, AreCounted}
@@ -29,9 +29,8 @@ use Rattle.p25_delivery.proofs.RunLaws.{each-all, run-keeps_all}
 
 -- the numbers sent and acknowledged, by what is outstanding
 unfoldable CountsBy : Outstanding → ℕ → ℕ → Type 0
-CountsBy Nothing sent acknowledged = sent ≡ acknowledged
 CountsBy (Message message) sent acknowledged = sent ≡ acknowledged + 1
-CountsBy (Opening number) sent acknowledged = sent ≡ acknowledged
+CountsBy other sent acknowledged = sent ≡ acknowledged
 
 abbrev CountsIn : Outstanding → Session → Type 0
 CountsIn out s = CountsBy out (length s.sent) s.acknowledged
@@ -42,8 +41,7 @@ HasCounts w = CountsIn w.outbound.sender.outstanding (present_session w)
 counted-present : (out : Outstanding) (s : Session) → CountsIn out s → IsCounted s
 unfolding CountsBy
 counted-present Nothing s e = record { acknowledged = omega arith; sent = omega arith }
-counted-present (Message message) s e = record { acknowledged = omega arith; sent = omega arith }
-counted-present (Opening number) s e = record { acknowledged = omega arith; sent = omega arith }
+counted-present out s e = record { acknowledged = omega arith; sent = omega arith }
 
 -- the counts with what is outstanding under another name
 counts-at : (w : Delivery) (out : Outstanding) → out ≡ w.outbound.sender.outstanding → HasCounts w → CountsIn out (present_session w)
@@ -103,20 +101,15 @@ AfterReopening w again x = HasCounts (with_outbound w (after_reopening w.outboun
 
 reopen-counts : (w : Delivery) (out : Outstanding) → w.outbound.sender.outstanding ≡ out → HasCounts w → AfterReopening w (is_opening out) (reopened w.outbound.sender)
 unfolding AfterReopening with_outbound after_reopening CountsBy
-reopen-counts w Nothing o h =
-    elim (reopen-cases w.outbound.sender (opening_number w.outbound.sender.outstanding w.outbound.sender.next) refl) [
-      | inl e ↦ subst (AfterReopening w false) (sym e) h
-      | inr e ↦ subst (AfterReopening w false) (sym e) (subst (CountsIn (Opening (opening_number w.outbound.sender.outstanding w.outbound.sender.next))) (sym (present-marked w)) refl)
-    ]
-reopen-counts w (Message message) o h =
-    elim (reopen-cases w.outbound.sender (opening_number w.outbound.sender.outstanding w.outbound.sender.next) refl) [
-      | inl e ↦ subst (AfterReopening w false) (sym e) h
-      | inr e ↦ subst (AfterReopening w false) (sym e) (subst (CountsIn (Opening (opening_number w.outbound.sender.outstanding w.outbound.sender.next))) (sym (present-marked w)) refl)
-    ]
 reopen-counts w (Opening number) o h =
     elim (reopen-cases w.outbound.sender (opening_number w.outbound.sender.outstanding w.outbound.sender.next) refl) [
       | inl e ↦ subst (AfterReopening w true) (sym e) h
       | inr e ↦ subst (AfterReopening w true) (sym e) (counts-at w (Opening number) (sym o) h)
+    ]
+reopen-counts w out o h =
+    elim (reopen-cases w.outbound.sender (opening_number w.outbound.sender.outstanding w.outbound.sender.next) refl) [
+      | inl e ↦ subst (AfterReopening w false) (sym e) h
+      | inr e ↦ subst (AfterReopening w false) (sym e) (subst (CountsIn (Opening (opening_number w.outbound.sender.outstanding w.outbound.sender.next))) (sym (present-marked w)) refl)
     ]
 
 -- a packet that the receiver hears
@@ -124,12 +117,7 @@ reopen-counts w (Opening number) o h =
 data-counts : (w : Delivery) (x : Receiving × Heard) → HasCounts w → HasCounts (with_inbound w (after_data w.inbound x)).0
 unfolding with_inbound after_data
 data-counts w (r, Delivered number message answer) h = h
-data-counts w (r, Opened number answer) h = h
-data-counts w (r, Again number answer) h = h
-data-counts w (r, Kept number flags answer) h = h
-data-counts w (r, RefusedCrc number answer) h = h
-data-counts w (r, RefusedOrder last answer) h = h
-data-counts w (r, Ignored) h = h
+data-counts w x h = h
 
 -- a packet that the sender hears
 
@@ -138,12 +126,11 @@ AfterAnswer w x = HasCounts (with_outbound w (after_answer w.outbound x)).0
 
 stays-counts : (w : Delivery) (message : List ℕ) (x : Sending × SenderHeard) → Stays w.outbound.sender message x → HasCounts w → AfterAnswer w x
 unfolding AfterAnswer with_outbound after_answer
-stays-counts w message (s, Acknowledged number) t h = absurd t.1
-stays-counts w message (s, SenderOpened number) t h = absurd t.1
 stays-counts w message (s, Retry number wanted tries packet) t h = counts-at w s.outstanding t.0.outstanding h
 stays-counts w message (s, Repeat number tries packet) t h = counts-at w s.outstanding t.0.outstanding h
 stays-counts w message (s, SenderIgnored) t h = counts-at w s.outstanding t.0.outstanding h
 stays-counts w message (s, HeardDown) t h = counts-at w s.outstanding t.0.outstanding h
+stays-counts w message x t h = absurd t.1
 
 message-counts : (w : Delivery) (message : List ℕ) (packet : Packet) (x : Sending × SenderHeard) → w.outbound.sender.outstanding ≡ Message message → IsMarked w → HearsAnswer w.outbound.sender message packet x → HasCounts w → AfterAnswer w x
 unfolding AfterAnswer with_outbound after_answer CountsBy

@@ -12,7 +12,7 @@ use Rattle.p25_delivery.specs.SenderRules.{sending_after, sender_heard, opening_
 use Rattle.p25_delivery.specs.ReceiverRules.{receiver_heard}
 use Rattle.p25_delivery.specs.declared.sender.Outstanding.TheVariants.{Nothing, Message, Opening}
 use Rattle.p25_messages.specs.declared.answers.SenderHeard.{SenderHeard}
-use Rattle.p25_messages.specs.declared.answers.SenderHeard.TheVariants.{Acknowledged, Opened as SenderOpened, Retry, Repeat, Ignored as SenderIgnored, Down as HeardDown}
+use Rattle.p25_messages.specs.declared.answers.SenderHeard.TheVariants.{Acknowledged, Retry, Repeat, Ignored as SenderIgnored, Down as HeardDown}
 use Rattle.p25_messages.specs.declared.answers.Reopen.{Reopen}
 use Rattle.p25_messages.specs.declared.answers.Reopen.TheVariants.{Sent as ReopenSent, Up as ReopenUp}
 use Rattle.p25_messages.specs.declared.answers.Heard.{Heard}
@@ -75,7 +75,6 @@ waiting-kept : (number : ℕ) (message : List ℕ) (s : Session) (r : Receiving)
     IsWaiting number message s (record { last = r.last; kept = Some kept }) (Some (retry_packet number (held_flags kept.places)))
 waiting-kept number message s r answered kept h k = record { last_small = h.last_small; sync = h.sync; kept = k; answer = inr (kept, refl, refl); sent = h.sent; acknowledged = h.acknowledged }
 
--- it is delivered
 waiting-delivered : (number : ℕ) (message : List ℕ) (s : Session) (r : Receiving) (answered : Option Packet) → IsWaiting number message s r answered →
     IsArrived number message (with_delivered s message) (record { last = number; kept = None }) (Some (ack_packet number))
 waiting-delivered number message s r answered h = record { last_is = refl; kept = refl; answer = refl; earlier = s.delivered; sent = h.sent; delivered = sym h.sent; acknowledged = h.acknowledged }
@@ -165,12 +164,11 @@ AfterAnswer w x = IsDeliveringNow (with_outbound w (after_answer w.outbound x)).
 
 busy-stays : (number : ℕ) (message : List ℕ) (w : Delivery) (x : Sending × SenderHeard) → IsBusy number message (first_number w) (present_session w) w → IsSame w.outbound.sender x.0 → RetriesOf number message x.1 → AfterAnswer w x
 unfolding AfterAnswer with_outbound after_answer newest_after
-busy-stays number message w (t, Acknowledged n) h e r = absurd r
-busy-stays number message w (t, SenderOpened n) h e r = absurd r
 busy-stays number message w (t, Retry n wanted tries packet) h e r = busy number message (busy-data number message (first_number w) (present_session w) w t packet h e r)
 busy-stays number message w (t, Repeat n tries packet) h e r = busy number message (busy-data number message (first_number w) (present_session w) w t packet h e r)
 busy-stays number message w (t, SenderIgnored) h e r = busy number message (busy-sender number message (first_number w) (present_session w) w t h e)
 busy-stays number message w (t, HeardDown) h e r = busy number message (busy-sender number message (first_number w) (present_session w) w t h e)
+busy-stays number message w x h e r = absurd r
 
 -- an answer that does not acknowledge a message that has not arrived
 waiting-unacknowledged : (number : ℕ) (r : Receiving) (sent packet : Packet) → number < 8 → r.last < 8 → (r.last + 1) % 8 ≡ number → IsWaitingAnswer r number sent → IsTrueTo sent packet → acks packet number ≡ true → ⊥

@@ -1,18 +1,18 @@
 -- Whatever happens at a delivery, each session that ends was the present one. By the rules, each answer in turn.
-use Rattle.std.proofs.Common.{Bool, true, false, List, ℕ, length}
+use Rattle.std.proofs.Common.{Bool, false, List, ℕ, length, true}
 use Rattle.p25_delivery.specs.Halves.{Sending, Receiving}
 use Rattle.p25_delivery.specs.SenderRules.{offered, timed_out, sender_heard, reopened, is_opening}
 use Rattle.p25_delivery.specs.ReceiverRules.{receiver_heard}
 use Rattle.p25_messages.specs.declared.answers.Offer.{Offer}
-use Rattle.p25_messages.specs.declared.answers.Offer.TheVariants.{Taken, Busy, Down as DownAtOffer}
+use Rattle.p25_messages.specs.declared.answers.Offer.TheVariants.{Taken}
 use Rattle.p25_messages.specs.declared.answers.Resend.{Resend}
-use Rattle.p25_messages.specs.declared.answers.Resend.TheVariants.{Sent, Idle, Down as DownAtTimeout}
+use Rattle.p25_messages.specs.declared.answers.Resend.TheVariants.{Sent}
 use Rattle.p25_messages.specs.declared.answers.SenderHeard.{SenderHeard}
-use Rattle.p25_messages.specs.declared.answers.SenderHeard.TheVariants.{Acknowledged, Opened as SenderOpened, Retry, Repeat, Ignored as SenderIgnored, Down as DownAtAnswer}
+use Rattle.p25_messages.specs.declared.answers.SenderHeard.TheVariants.{Acknowledged}
 use Rattle.p25_messages.specs.declared.answers.Reopen.{Reopen}
-use Rattle.p25_messages.specs.declared.answers.Reopen.TheVariants.{Sent as ReopenSent, Up}
+use Rattle.p25_messages.specs.declared.answers.Reopen.TheVariants.{Sent as ReopenSent}
 use Rattle.p25_messages.specs.declared.answers.Heard.{Heard}
-use Rattle.p25_messages.specs.declared.answers.Heard.TheVariants.{Delivered, Opened, Again, Kept, RefusedCrc, RefusedOrder, Ignored}
+use Rattle.p25_messages.specs.declared.answers.Heard.TheVariants.{Delivered}
 use Rattle.p25_delivery.specs.HalfRules.{after_offer, after_timeout, after_reopening, after_data, after_answer}
 use Rattle.p25_delivery.specs.Delivery.{Delivery, Session, present_session, with_outbound, with_inbound, Happening, Offering, Time_up, Opening_again, Data_heard, Answer_heard, happens}
 use Rattle.p25_delivery.proofs.SessionLaws.{IsDivided, divided-sent, divided-delivered, divided-acknowledged, divided-marked}
@@ -20,40 +20,28 @@ use Rattle.p25_delivery.proofs.SessionLaws.{IsDivided, divided-sent, divided-del
 offer-divided : (P : Session → Type 0) (w : Delivery) (message : List ℕ) (x : Sending × Offer) → IsDivided P w → IsDivided P (with_outbound w (after_offer w.outbound message x)).0
 unfolding with_outbound after_offer
 offer-divided P w message (s, Taken number blocks packet) h = divided-sent P w message h
-offer-divided P w message (s, Busy) h = h
-offer-divided P w message (s, DownAtOffer) h = h
+offer-divided P w message x h = h
 
 timeout-divided : (P : Session → Type 0) (w : Delivery) (x : Sending × Resend) → IsDivided P w → IsDivided P (with_outbound w (after_timeout w.outbound x)).0
 unfolding with_outbound after_timeout
 timeout-divided P w (s, Sent number tries packet) h = h
-timeout-divided P w (s, Idle) h = h
-timeout-divided P w (s, DownAtTimeout) h = h
+timeout-divided P w x h = h
 
 reopen-divided : (P : Session → Type 0) (w : Delivery) (again : Bool) (x : Sending × Reopen) → IsDivided P w → P (present_session w) → IsDivided P (with_outbound w (after_reopening w.outbound (length w.inbound.received) again x)).0
 unfolding with_outbound after_reopening
 reopen-divided P w true (s, ReopenSent number packet) h p = h
 reopen-divided P w false (s, ReopenSent number packet) h p = divided-marked P w h p
-reopen-divided P w true (s, Up) h p = h
-reopen-divided P w false (s, Up) h p = h
+reopen-divided P w again x h p = h
 
 data-divided : (P : Session → Type 0) (w : Delivery) (x : Receiving × Heard) → IsDivided P w → IsDivided P (with_inbound w (after_data w.inbound x)).0
 unfolding with_inbound after_data
 data-divided P w (r, Delivered number message answer) h = divided-delivered P w message h
-data-divided P w (r, Opened number answer) h = h
-data-divided P w (r, Again number answer) h = h
-data-divided P w (r, Kept number flags answer) h = h
-data-divided P w (r, RefusedCrc number answer) h = h
-data-divided P w (r, RefusedOrder last answer) h = h
-data-divided P w (r, Ignored) h = h
+data-divided P w x h = h
 
 answer-divided : (P : Session → Type 0) (w : Delivery) (x : Sending × SenderHeard) → IsDivided P w → IsDivided P (with_outbound w (after_answer w.outbound x)).0
 unfolding with_outbound after_answer
 answer-divided P w (s, Acknowledged number) h = divided-acknowledged P w h
-answer-divided P w (s, SenderOpened number) h = h
-answer-divided P w (s, Retry number wanted tries packet) h = h
-answer-divided P w (s, Repeat number tries packet) h = h
-answer-divided P w (s, SenderIgnored) h = h
-answer-divided P w (s, DownAtAnswer) h = h
+answer-divided P w x h = h
 
 pub happens-divided : (P : Session → Type 0) (w : Delivery) (event : Happening) → IsDivided P w → P (present_session w) → IsDivided P (happens w event).0
 unfolding happens

@@ -15,10 +15,10 @@ use Rattle.p25_messages.specs.declared.answers.Offer.{Offer}
 use Rattle.p25_messages.specs.declared.answers.Resend.{Resend}
 use Rattle.p25_messages.specs.declared.answers.Resend.TheVariants.{Sent, Idle as ResendIdle, Down as DownAtTimeout}
 use Rattle.p25_messages.specs.declared.answers.SenderHeard.{SenderHeard}
-use Rattle.p25_messages.specs.declared.answers.SenderHeard.TheVariants.{Acknowledged as HeardAck, Opened as SenderOpened, Retry as HeardRetry, Repeat as HeardRepeat, Ignored as SenderIgnored, Down as DownAtAnswer}
+use Rattle.p25_messages.specs.declared.answers.SenderHeard.TheVariants.{Retry as HeardRetry, Repeat as HeardRepeat, Ignored as SenderIgnored, Down as DownAtAnswer}
 use Rattle.p25_messages.specs.declared.answers.Reopen.{Reopen as ReopenAnswer}
 use Rattle.p25_messages.specs.declared.answers.Heard.{Heard as HeardAnswer}
-use Rattle.p25_messages.specs.declared.answers.Heard.TheVariants.{Delivered as HeardDelivered, Opened as ReceiverOpened, Again as HeardAgain, Kept as HeardKept, RefusedCrc as HeardCrc, RefusedOrder as HeardOrder, Ignored as ReceiverIgnored}
+use Rattle.p25_messages.specs.declared.answers.Heard.TheVariants.{Ignored as ReceiverIgnored}
 use Rattle.p25_messages.specs.declared.step_kind.StepKind.{StepKind}
 use Rattle.p25_delivery.specs.SoundHalves.{IsMessage, IsMessageIn, IsCountedWith, IsOutgoing, IsReceiving, IsIncoming}
 use Rattle.p25_delivery.specs.HalfRules.{mark_of, after_offer, after_timeout, after_reopening, after_data, after_answer}
@@ -91,14 +91,12 @@ data-sendable number message packet n is (inr (wanted, e)) = subst IsSendable (s
 -- a message or the opening packet
 unfoldable IsHeldUp : Outstanding → Type 0
 IsHeldUp Nothing = ⊥
-IsHeldUp (Message message) = Unit {0}
-IsHeldUp (Opening number) = Unit {0}
+IsHeldUp other = Unit {0}
 
 counted-again : (o : Outgoing) (s : Sending) (out : Outstanding) → IsHeldUp out → IsCountedWith out o → IsCountedWith out (record o { sender = s })
 unfolding IsHeldUp IsCountedWith
 counted-again o s Nothing up c = absurd up
-counted-again o s (Message message) up c = c
-counted-again o s (Opening number) up c = c
+counted-again o s out up c = c
 
 same-outgoing : (o : Outgoing) (s : Sending) (out : Outstanding) → IsHeldUp out → o.sender.outstanding ≡ out → IsSame o.sender s → IsSending s → IsOutgoing o → IsOutgoing (record o { sender = s })
 same-outgoing o s out up e same sending sound =
@@ -228,13 +226,8 @@ reopen-keeps o delivered sound = reopen-by o delivered o.sender.outstanding refl
 
 heard-keeps : (i : Incoming) (x : Receiving × HeardAnswer) → IsReceiving x.0 → AnswersSendable x.1 → KeepsIncoming (after_data i x)
 unfolding after_data
-heard-keeps i (r, HeardDelivered number message answer) h a = (h, a)
-heard-keeps i (r, ReceiverOpened number answer) h a = (h, a)
-heard-keeps i (r, HeardAgain number answer) h a = (h, a)
-heard-keeps i (r, HeardKept number flags answer) h a = (h, a)
-heard-keeps i (r, HeardCrc number answer) h a = (h, a)
-heard-keeps i (r, HeardOrder last answer) h a = (h, a)
 heard-keeps i (r, ReceiverIgnored) h a = (h, tt)
+heard-keeps i x h a = (h, a)
 
 pub data-keeps : (i : Incoming) (packet : Packet) → IsIncoming i → KeepsIncoming (after_data i (receiver_heard i.receiver packet))
 data-keeps i packet sound =
@@ -253,14 +246,13 @@ open-keeps o number c = record { sender = after-sending number; message = tt; co
 
 stays-keeps : (o : Outgoing) (message : List ℕ) (x : Sending × SenderHeard) → o.sender.outstanding ≡ Message message → Stays o.sender message x → IsSending x.0 → IsOutgoing o → KeepsOutgoing (after_answer o x)
 unfolding after_answer
-stays-keeps o message (s, HeardAck number) e stay sending sound = absurd stay.1
-stays-keeps o message (s, SenderOpened number) e stay sending sound = absurd stay.1
 stays-keeps o message (s, HeardRetry number wanted tries packet) e stay sending sound =
     (same-outgoing o s (Message message) (up-message message) e stay.0 sending sound, data-sendable o.sender.next message packet sound.sender.next (message-in o.sender.outstanding message e sound.message) stay.1)
 stays-keeps o message (s, HeardRepeat number tries packet) e stay sending sound =
     (same-outgoing o s (Message message) (up-message message) e stay.0 sending sound, data-sendable o.sender.next message packet sound.sender.next (message-in o.sender.outstanding message e sound.message) stay.1)
 stays-keeps o message (s, SenderIgnored) e stay sending sound = (same-outgoing o s (Message message) (up-message message) e stay.0 sending sound, tt)
 stays-keeps o message (s, DownAtAnswer) e stay sending sound = (same-outgoing o s (Message message) (up-message message) e stay.0 sending sound, tt)
+stays-keeps o message x e stay sending sound = absurd stay.1
 
 message-keeps : (o : Outgoing) (message : List ℕ) (packet : Packet) (x : Sending × SenderHeard) → o.sender.outstanding ≡ Message message → HearsAnswer o.sender message packet x → IsSending x.0 →
     IsOutgoing o → KeepsOutgoing (after_answer o x)

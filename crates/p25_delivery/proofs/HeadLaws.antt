@@ -1,13 +1,6 @@
 -- The fields of the headers that stations send. By arithmetic on their octets.
 use Rattle.std.proofs.Common.{◌≡◌, ℕ, ◌+◌, ◌*◌, ◌/◌, ◌<◌, Bool, true, false, eqb, refl, ap, arith}
-use Rattle.p25_packet_blocks.specs.declared.head.PacketHead.{PacketHead}
 use Rattle.p25_packet_blocks.specs.Heads.{head_is_full, head_blocks, head_pad, head_format, head_llid, head_syn, head_number, response_class, response_kind, response_status, confirmed_head, response_head, opening_head}
-
--- any header says fewer than 128 blocks
-
-pub blocks-few : (head : PacketHead) → head_blocks head < 128
-unfolding head_blocks
-blocks-few head = omega arith
 
 -- a header of data
 pub confirmed_head-llid : (full : Bool) (blocks pad number : ℕ) → head_llid (confirmed_head 1 full blocks pad number) ≡ 1

@@ -1,6 +1,6 @@
 -- Blocks in their places: what slots one after another put there, and the octets of all. By recursion on the slots and on
 -- the places.
-use Rattle.std.proofs.Common.{◌≡◌, ℕ, zero, suc, ◌+◌, Bool, true, false, cond, List, [], ◌∷◌, ◌++◌, length, take, Option, Some, None, refl, ap, sym, ◌∙◌, append_assoc}
+use Rattle.std.proofs.Common.{◌≡◌, ℕ, suc, ◌+◌, Bool, true, false, cond, List, [], ◌∷◌, ◌++◌, length, take, Option, Some, None, refl, ap, sym, ◌∙◌, append_assoc}
 use Rattle.std.proofs.lemmas.List.{append-nil}
 use Rattle.std.specs.Prelude.{slice_get, slice_set, nat_lt}
 use Rattle.std.proofs.Math.ListN.{length-set}
@@ -51,9 +51,8 @@ both_octets-nil None = refl
 both_octets-nil (Some octets) = refl
 
 both_octets-before : (first : List ℕ) (some others : Option (List ℕ)) → before_octets first (both_octets some others) ≡ both_octets (before_octets first some) others
-both_octets-before first None others = refl
-both_octets-before first (Some octets) None = refl
 both_octets-before first (Some octets) (Some more) = ap (λ (xs : List ℕ). Some xs) (sym (append_assoc first octets more))
+both_octets-before first some others = refl
 
 pub all_octets-append : (xs ys : List (Option BlockParts)) → all_octets (xs ++ ys) ≡ both_octets (all_octets xs) (all_octets ys)
 unfolding all_octets
@@ -72,10 +71,9 @@ all_octets-more places i block octets e f =
 -- no octets where a place is empty
 pub all_octets-empty : (places : List (Option BlockParts)) (i : ℕ) → slice_get places i ≡ Some None → all_octets places ≡ None
 unfolding all_octets
-all_octets-empty [] i e = cc
 all_octets-empty (None ∷ places) i e = refl
-all_octets-empty (Some block ∷ places) zero e = cc
 all_octets-empty (Some block ∷ places) (suc i) e = ap (before_octets block.octets) (all_octets-empty places i e)
+all_octets-empty places i e = cc
 
 pub all_octets-nil : all_octets [] ≡ Some []
 unfolding all_octets

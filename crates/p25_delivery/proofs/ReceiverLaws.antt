@@ -3,8 +3,7 @@ use Rattle.std.proofs.Common.{◌≡◌, ℕ, ◌+◌, ◌%◌, ◌<◌, ◌⊎�
 use Rattle.std.specs.Prelude.{slice_get, IfSome}
 use Rattle.std.proofs.lemmas.List.{get_or-replicate, length-replicate}
 use Rattle.std.proofs.lemmas.Option.{slice_get-get_or}
-use Rattle.std.proofs.lemmas.Bool.{cases_eq, cond-true, cond-false, and_from}
-use Rattle.std.proofs.lemmas.Bool.Decides.{nat_tests}
+use Rattle.std.proofs.lemmas.Bool.{cases_eq, cond-true, cond-false, and_from, eq-eqb, ne_eqb}
 use Rattle.p25_packet_blocks.specs.Heads.{head_is_full, head_blocks, head_pad, head_llid, head_syn, head_number, opening_head}
 use Rattle.p25_packet_blocks.specs.Parts.{BlockParts}
 use Rattle.p25_packet_blocks.specs.ConfirmedParts.{ConfirmedParts}
@@ -23,12 +22,6 @@ use Rattle.p25_delivery.proofs.CarriedLaws.{put_block-here, put_block-other, pla
 use Rattle.p25_delivery.specs.Facts.{KeepsOf}
 use Rattle.p25_delivery.proofs.HeadLaws.{opening_head-llid, opening_head-syn, opening_head-number, opening_head-blocks}
 use Rattle.p25_delivery.proofs.SentLaws.{CarriesData}
-
-pub eq-true : (m n : ℕ) → m ≡ n → eqb m n ≡ true
-eq-true m n e = grind (arith, nat_tests)
-
-pub eq-false : (m n : ℕ) → (m ≡ n → ⊥) → eqb m n ≡ false
-eq-false m n e = grind (arith, nat_tests)
 
 -- empty places hold nothing
 empty-keeps : (message : List ℕ) → KeepsOf message (empty_places (block_count (length message)) (pad_count (length message)))
@@ -84,7 +77,7 @@ unfolding keeping_full
 keeping-keeps message None k = empty-keeps message
 keeping-keeps message (Some kept) k =
     let same : (eqb (length kept.places) (block_count (length message)) && eqb kept.pad (pad_count (length message))) ≡ true
-    = and_from _ _ (eq-true (length kept.places) (block_count (length message)) k.count) (eq-true kept.pad (pad_count (length message)) k.pad_is) in
+    = and_from _ _ (eq-eqb (length kept.places) (block_count (length message)) k.count) (eq-eqb kept.pad (pad_count (length message)) k.pad_is) in
     subst (KeepsOf message) (sym (cond-true _ kept (empty_places (block_count (length message)) (pad_count (length message))) same)) k
 
 kept-by_full : (message : List ℕ) (kept : Option Keeping) (number : ℕ) (packet : ConfirmedParts) (full : Bool) → CarriesData number message packet → IfSome kept (KeepsOf message) → head_is_full packet.head ≡ full →
@@ -92,7 +85,7 @@ kept-by_full : (message : List ℕ) (kept : Option Keeping) (number : ℕ) (pack
 kept-by_full message kept number packet false c k e = k
 kept-by_full message kept number packet true c k e =
     let blocks = c.full e in
-    let some : eqb (head_blocks packet.head) 0 ≡ false = eq-false (head_blocks packet.head) 0 (λ z. absurd (omega (arith, z, blocks))) in
+    let some : eqb (head_blocks packet.head) 0 ≡ false = ne_eqb (head_blocks packet.head) 0 (λ z. absurd (omega (arith, z, blocks))) in
     let is : cond (eqb (head_blocks packet.head) 0) None (Some (keeping_full kept (head_blocks packet.head) (head_pad packet.head))) ≡ Some (keeping_full kept (block_count (length message)) (pad_count (length message)))
     = cond-false _ None (Some (keeping_full kept (head_blocks packet.head) (head_pad packet.head))) some ∙ ap₂ (λ (m n : ℕ). Some (keeping_full kept m n)) blocks c.pad in
     subst (λ (o : Option Keeping). IfSome o (KeepsOf message)) (sym is) (keeping-keeps message kept k)
@@ -125,15 +118,15 @@ hears-filled r number message packet (Some kept) c k =
 pub data-is_heard : (r : Receiving) (number : ℕ) (message : List ℕ) (packet : ConfirmedParts) → CarriesData number message packet → receiver_heard r (Confirmed packet) ≡ data_heard r packet
 unfolding receiver_heard
 data-is_heard r number message packet c =
-    cond-true _ (cond (head_syn packet.head) (opening_heard r packet.head) (data_heard r packet)) (r, Ignored) (eq-true (head_llid packet.head) 1 c.llid) ∙ cond-false _ (opening_heard r packet.head) (data_heard r packet) c.syn
+    cond-true _ (cond (head_syn packet.head) (opening_heard r packet.head) (data_heard r packet)) (r, Ignored) (eq-eqb (head_llid packet.head) 1 c.llid) ∙ cond-false _ (opening_heard r packet.head) (data_heard r packet) c.syn
 
 -- blocks of the next message
 pub next-heard : (r : Receiving) (number : ℕ) (message : List ℕ) (packet : ConfirmedParts) → r.last < 8 → (r.last + 1) % 8 ≡ number → IfSome r.kept (KeepsOf message) → CarriesData number message packet →
     HearsNext r number message (receiver_heard r (Confirmed packet))
 unfolding data_heard
 next-heard r number message packet small sync kept c =
-    let other : eqb (head_number packet.head) r.last ≡ false = eq-false (head_number packet.head) r.last (λ e. absurd (omega (arith, e, sync, c.number_is, small))) in
-    let next : eqb (head_number packet.head) ((r.last + 1) % 8) ≡ true = eq-true (head_number packet.head) ((r.last + 1) % 8) (c.number_is ∙ sym sync) in
+    let other : eqb (head_number packet.head) r.last ≡ false = ne_eqb (head_number packet.head) r.last (λ e. absurd (omega (arith, e, sync, c.number_is, small))) in
+    let next : eqb (head_number packet.head) ((r.last + 1) % 8) ≡ true = eq-eqb (head_number packet.head) ((r.last + 1) % 8) (c.number_is ∙ sym sync) in
     let is : receiver_heard r (Confirmed packet) ≡ filled r packet (keeping_for r.kept packet.head)
     = data-is_heard r number message packet c ∙ cond-false _ _ _ other ∙ cond-true _ _ _ next in
     subst (HearsNext r number message) (sym is) (hears-filled r number message packet (keeping_for r.kept packet.head) c (keeping_for-keeps message r.kept number packet c kept))
@@ -142,7 +135,7 @@ next-heard r number message packet small sync kept c =
 pub last-heard : (r : Receiving) (number : ℕ) (message : List ℕ) (packet : ConfirmedParts) → r.last ≡ number → CarriesData number message packet → receiver_heard r (Confirmed packet) ≡ (r, Again r.last (ack_packet r.last))
 unfolding data_heard
 last-heard r number message packet last c =
-    data-is_heard r number message packet c ∙ cond-true _ _ _ (eq-true (head_number packet.head) r.last (c.number_is ∙ sym last))
+    data-is_heard r number message packet c ∙ cond-true _ _ _ (eq-eqb (head_number packet.head) r.last (c.number_is ∙ sym last))
 
 -- an opening packet
 pub opening-is_heard : (r : Receiving) (number : ℕ) (packet : ConfirmedParts) → number < 8 → packet.head ≡ opening_head 1 number →
@@ -153,4 +146,4 @@ opening-is_heard r number packet small e =
     let syn : head_syn packet.head ≡ true = ap head_syn e ∙ opening_head-syn number small in
     let none : head_blocks packet.head ≡ 0 = ap head_blocks e ∙ opening_head-blocks number in
     let is : head_number packet.head ≡ number = ap head_number e ∙ opening_head-number number small in
-    cond-true _ _ _ (eq-true (head_llid packet.head) 1 llid) ∙ cond-true _ _ _ syn ∙ cond-true _ _ _ (eq-true (head_blocks packet.head) 0 none) ∙ ap (λ (n : ℕ). (record { last = n; kept = None }, Opened n (ack_packet n))) is
+    cond-true _ _ _ (eq-eqb (head_llid packet.head) 1 llid) ∙ cond-true _ _ _ syn ∙ cond-true _ _ _ (eq-eqb (head_blocks packet.head) 0 none) ∙ ap (λ (n : ℕ). (record { last = n; kept = None }, Opened n (ack_packet n))) is

@@ -20,7 +20,7 @@ use Rattle.p25_messages.specs.declared.answers.Heard.{Heard}
 use Rattle.p25_messages.specs.declared.answers.Heard.TheVariants.{Delivered, Opened, Again, Kept, RefusedCrc, RefusedOrder, Ignored}
 use Rattle.p25_delivery.proofs.PlacesLaws.{length-put_slots}
 use Rattle.p25_delivery.specs.SoundHalves.{IsReceiving}
-use Rattle.p25_delivery.proofs.HeadLaws.{blocks-few}
+use Rattle.p25_packet_blocks.proofs.HeadLaws.{head_blocks-lt}
 use Rattle.p25_delivery.proofs.SendableLaws.{short_response-sendable, retry_packet-sendable}
 
 -- the answer, where there is one, can be sent
@@ -78,7 +78,7 @@ unfolding keeping_for
 keeping-few kept head k =
     let full = Some (keeping_full kept (head_blocks head) (head_pad head)) in
     let some : IfSome (cond (eqb (head_blocks head) 0) None full) IsFew
-    = elim (eqb (head_blocks head) 0) as (λ (b : Bool). IfSome (cond b None full) IsFew) [ true ↦ tt | false ↦ full-few kept (head_blocks head) (head_pad head) (blocks-few head) k ] in
+    = elim (eqb (head_blocks head) 0) as (λ (b : Bool). IfSome (cond b None full) IsFew) [ true ↦ tt | false ↦ full-few kept (head_blocks head) (head_pad head) (head_blocks-lt head) k ] in
     elim (head_is_full head) as (λ (b : Bool). IfSome (cond b (cond (eqb (head_blocks head) 0) None full) kept) IsFew) [ true ↦ some | false ↦ k ]
 
 -- what comes of it

@@ -1,9 +1,8 @@
 -- What a sender answers, by what is outstanding. By the rules, each test taken both ways.
-use Rattle.std.proofs.Common.{◌≡◌, ℕ, ◌+◌, ◌<◌, ◌⊎◌, inl, inr, Bool, true, false, cond, eqb, ◌&&◌, List, length, take, Option, Some, None, refl, ap, sym, ◌∙◌, subst, arith}
+use Rattle.std.proofs.Common.{◌≡◌, ℕ, ◌+◌, ◌<◌, ◌⊎◌, inl, inr, Bool, true, false, cond, ◌&&◌, List, length, take, Option, Some, None, refl, ap, sym, ◌∙◌, subst, arith}
 use Rattle.std.specs.Prelude.{nat_le, not}
 use Rattle.std.specs.List.{list_any}
-use Rattle.std.proofs.lemmas.Bool.{cond-true, cond-false, and_parts}
-use Rattle.std.proofs.lemmas.Bool.Decides.{nat_tests}
+use Rattle.std.proofs.lemmas.Bool.{cond-true, cond-false, and_parts, eqb-true}
 use Rattle.p25_packet_blocks.specs.Heads.{response_class}
 use Rattle.p25_packet_blocks.specs.Parts.{PlainParts}
 use Rattle.p25_packet_blocks.specs.FlagOctets.{flags_of_octets}
@@ -57,8 +56,7 @@ offer-opening s message number o =
 -- a packet that is sent again has some property
 abbrev pub ResendsOf : (Packet → Type 0) → Resend → Type 0
 ResendsOf P (Sent number tries packet) = P packet
-ResendsOf P Idle = Unit {0}
-ResendsOf P ResendDown = Unit {0}
+ResendsOf P other = Unit {0}
 
 -- what is outstanding stays, and is sent again or not
 abbrev pub Resends : (Packet → Type 0) → Sending → Sending × Resend → Type 0
@@ -118,12 +116,11 @@ acks (Plain packet) number = is_ack packet.head number
 
 -- what is sent again carries the message
 abbrev pub RetriesOf : ℕ → List ℕ → SenderHeard → Type 0
-RetriesOf number message (Acknowledged other) = ⊥
-RetriesOf number message (Opened other) = ⊥
 RetriesOf number message (Retry other wanted tries packet) = IsDataOf number message packet
 RetriesOf number message (Repeat other tries packet) = IsDataOf number message packet
 RetriesOf number message Ignored = Unit {0}
 RetriesOf number message HeardDown = Unit {0}
+RetriesOf number message other = ⊥
 
 -- the message stays outstanding
 abbrev pub Stays : Sending → List ℕ → Sending × SenderHeard → Type 0
@@ -227,15 +224,12 @@ quiet-answer s (Plain packet) o =
 
 -- which numbers the answers of a receiver acknowledge
 
-eq-from_true : (m n : ℕ) → eqb m n ≡ true → m ≡ n
-eq-from_true m n e = grind (arith, nat_tests)
-
 pub acks-ack : (status number : ℕ) → status < 8 → acks (ack_packet status) number ≡ true → status ≡ number
 unfolding acks short_response is_ack
-acks-ack status number h e = sym (response_head-status 0 1 status 0 h) ∙ eq-from_true _ number (and_parts _ _ e).1
+acks-ack status number h e = sym (response_head-status 0 1 status 0 h) ∙ eqb-true _ number (and_parts _ _ e).1
 
 pub acks-retry : (status number : ℕ) (flags : List Bool) → status < 8 → acks (retry_packet status flags) number ≡ true → ⊥
 unfolding acks retry_packet is_ack
 acks-retry status number flags h e =
-    let class : response_class _ ≡ 0 = eq-from_true _ 0 (and_parts _ _ (and_parts _ _ e).0).0 in
+    let class : response_class _ ≡ 0 = eqb-true _ 0 (and_parts _ _ (and_parts _ _ e).0).0 in
     absurd (omega (arith, class, response_head-class 2 0 status (cond (nat_le (length flags) 64) 1 2) (omega arith) h))

@@ -75,8 +75,6 @@ some-blocks message wanted (suc n) =
 true-blocks : (message : List ℕ) (sent heard : List Slot) → AreTrueSlots sent heard → AreBlocksOf message sent → AreBlocksOf message heard
 unfolding AreTrueSlots AreBlocksOf
 true-blocks message [] [] t a = tt
-true-blocks message [] (slot ∷ heard) t a = absurd t
-true-blocks message (was ∷ sent) [] t a = absurd t
 true-blocks message (Bad ∷ sent) (Bad ∷ heard) t a = true-blocks message sent heard t.1 a
 true-blocks message (Good was ∷ sent) (Bad ∷ heard) t a = true-blocks message sent heard t.1 a.1
 true-blocks message (Bad ∷ sent) (Good block ∷ heard) (inl e, t) a = cc
@@ -85,6 +83,7 @@ true-blocks message (Good was ∷ sent) (Good block ∷ heard) (inl e, t) a = cc
 true-blocks message (Good was ∷ sent) (Good block ∷ heard) (inr e, t) a =
     let same : block ≡ was = cc in
     (subst (λ (b : BlockParts). b ≡ message_block message b.serial) (sym same) a.0, true-blocks message sent heard t a.1)
+true-blocks message sent heard t a = absurd t
 
 -- a confirmed packet is heard as one
 confirmed-heard : (sent : ConfirmedParts) (heard : Packet) → IsTrueTo (Confirmed sent) heard → (packet : ConfirmedParts) × (heard ≡ Confirmed packet) × (packet.head ≡ sent.head) × AreTrueSlots sent.slots packet.slots

@@ -1,20 +1,20 @@
 -- The sessions of a delivery are the whole of its lists: in every run the marks stand in order, and so the parts between them end to end.
-use Rattle.std.proofs.Common.{◌≡◌, ℕ, ◌+◌, ◌-◌, ◌≤◌, Bool, true, false, List, [], ◌∷◌, ◌++◌, length, ap, ◌∙◌, arith, length-append, append-nil}
+use Rattle.std.proofs.Common.{◌≡◌, ℕ, ◌+◌, ◌-◌, ◌≤◌, Bool, false, List, [], ◌∷◌, ◌++◌, length, ap, ◌∙◌, arith, length-append, append-nil, true}
 use Rattle.std.specs.Prelude.{sum_by}
 use Rattle.std.specs.List.{flat_map}
 use Rattle.std.proofs.lemmas.List.Sums.{sum_by-cons}
 use Rattle.p25_bits.specs.Bits.{part}
 use Rattle.p25_bits.proofs.PartLaws.{part_add, part_whole}
 use Rattle.p25_messages.specs.declared.answers.Offer.{Offer}
-use Rattle.p25_messages.specs.declared.answers.Offer.TheVariants.{Taken, Busy, Down as OfferDown}
+use Rattle.p25_messages.specs.declared.answers.Offer.TheVariants.{Taken}
 use Rattle.p25_messages.specs.declared.answers.Resend.{Resend}
-use Rattle.p25_messages.specs.declared.answers.Resend.TheVariants.{Sent, Idle, Down as ResendDown}
+use Rattle.p25_messages.specs.declared.answers.Resend.TheVariants.{Sent}
 use Rattle.p25_messages.specs.declared.answers.SenderHeard.{SenderHeard}
-use Rattle.p25_messages.specs.declared.answers.SenderHeard.TheVariants.{Acknowledged, Opened as SenderOpened, Retry, Repeat, Ignored as SenderIgnored, Down as HeardDown}
+use Rattle.p25_messages.specs.declared.answers.SenderHeard.TheVariants.{Acknowledged}
 use Rattle.p25_messages.specs.declared.answers.Reopen.{Reopen}
-use Rattle.p25_messages.specs.declared.answers.Reopen.TheVariants.{Sent as ReopenSent, Up as ReopenUp}
+use Rattle.p25_messages.specs.declared.answers.Reopen.TheVariants.{Sent as ReopenSent}
 use Rattle.p25_messages.specs.declared.answers.Heard.{Heard}
-use Rattle.p25_messages.specs.declared.answers.Heard.TheVariants.{Delivered, Opened, Again, Kept, RefusedCrc, RefusedOrder, Ignored}
+use Rattle.p25_messages.specs.declared.answers.Heard.TheVariants.{Delivered}
 use Rattle.p25_delivery.specs.declared.outbound.Mark.{Mark}
 use Rattle.p25_delivery.specs.Halves.{Sending, Receiving}
 use Rattle.p25_delivery.specs.HalfRules.{after_offer, after_timeout, after_reopening, after_data, after_answer}
@@ -48,44 +48,32 @@ unfolding with_outbound after_offer
 offer-in-order w message (s, Taken number blocks packet) h =
     in-order-grown first_mark w.outbound.marks (present_mark w) _
     (record { sent = omega (arith, length-append w.outbound.sent (message ∷ [])); delivered = omega arith; acknowledged = omega arith }) h
-offer-in-order w message (s, Busy) h = h
-offer-in-order w message (s, OfferDown) h = h
+offer-in-order w message x h = h
 
 timeout-in-order : (w : Delivery) (x : Sending × Resend) → IsInOrder w → IsInOrder (with_outbound w (after_timeout w.outbound x)).0
 unfolding with_outbound after_timeout
 timeout-in-order w (s, Sent number tries packet) h = h
-timeout-in-order w (s, Idle) h = h
-timeout-in-order w (s, ResendDown) h = h
+timeout-in-order w x h = h
 
 reopen-in-order : (w : Delivery) (again : Bool) (x : Sending × Reopen) → IsInOrder w
     → IsInOrder (with_outbound w (after_reopening w.outbound (length w.inbound.received) again x)).0
 unfolding with_outbound after_reopening
 reopen-in-order w true (s, ReopenSent number packet) h = h
 reopen-in-order w false (s, ReopenSent number packet) h = in-order-marked first_mark w.outbound.marks (present_mark w) h
-reopen-in-order w true (s, ReopenUp) h = h
-reopen-in-order w false (s, ReopenUp) h = h
+reopen-in-order w again x h = h
 
 data-in-order : (w : Delivery) (x : Receiving × Heard) → IsInOrder w → IsInOrder (with_inbound w (after_data w.inbound x)).0
 unfolding with_inbound after_data
 data-in-order w (r, Delivered number message answer) h =
     in-order-grown first_mark w.outbound.marks (present_mark w) _
     (record { sent = omega arith; delivered = omega (arith, length-append w.inbound.received (message ∷ [])); acknowledged = omega arith }) h
-data-in-order w (r, Opened number answer) h = h
-data-in-order w (r, Again number answer) h = h
-data-in-order w (r, Kept number flags answer) h = h
-data-in-order w (r, RefusedCrc number answer) h = h
-data-in-order w (r, RefusedOrder last answer) h = h
-data-in-order w (r, Ignored) h = h
+data-in-order w x h = h
 
 answer-in-order : (w : Delivery) (x : Sending × SenderHeard) → IsInOrder w → IsInOrder (with_outbound w (after_answer w.outbound x)).0
 unfolding with_outbound after_answer
 answer-in-order w (s, Acknowledged number) h =
     in-order-grown first_mark w.outbound.marks (present_mark w) _ (record { sent = omega arith; delivered = omega arith; acknowledged = omega arith }) h
-answer-in-order w (s, SenderOpened number) h = h
-answer-in-order w (s, Retry number wanted tries packet) h = h
-answer-in-order w (s, Repeat number tries packet) h = h
-answer-in-order w (s, SenderIgnored) h = h
-answer-in-order w (s, HeardDown) h = h
+answer-in-order w x h = h
 
 pub happens-in-order : (w : Delivery) (event : Happening) → IsInOrder w → IsInOrder (happens w event).0
 unfolding happens
@@ -101,7 +89,6 @@ first-in-order = first-within first_mark
 
 -- The parts between marks in order are what lies behind the first.
 
--- two parts that meet
 parts-meet : (from to last : ℕ) (xs : List (List ℕ)) → from ≤ to → to ≤ last
     → part from (to - from) xs ++ part to (last - to) xs ≡ part from (last - from) xs
 parts-meet from to last xs first second =

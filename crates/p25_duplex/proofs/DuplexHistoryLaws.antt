@@ -7,7 +7,7 @@ use Rattle.p25_delivery.specs.Orderly.{AreOrderly}
 use Rattle.p25_delivery.specs.Runs.{run_by, EachIs}
 use Rattle.p25_delivery.proofs.RunLaws.{run-append}
 use Rattle.p25_stations.proofs.HistoryLaws.{each-append}
-use Rattle.p25_duplex.specs.declared.event.DuplexEvent.TheVariants.{Send, Timeout, Reopen, Deliver}
+use Rattle.p25_duplex.specs.declared.event.DuplexEvent.TheVariants.{Send}
 use Rattle.p25_duplex.specs.DuplexRuns.{DuplexEvent, DuplexState, DuplexStep, HasDuplexHistory, HasFacts, IsCleanDuplex, IsDuplexEvent, Side, delivery_after, delivery_at, duplex_step, first_duplex}
 use Rattle.p25_duplex.proofs.CountLaws.{clean-from_none}
 use Rattle.p25_duplex.proofs.RunLaws.{run-facts, run-orderly}
@@ -16,9 +16,7 @@ use Rattle.p25_duplex.proofs.RunLaws.{run-facts, run-orderly}
 pub event-kept : (event : DuplexEvent) → ((side : Side) (message : List ℕ) → event ≡ Send side message → IsMessage message) → IsDuplexEvent event
 unfolding IsDuplexEvent
 event-kept (Send side message) sends = sends side message refl
-event-kept (Timeout side) sends = tt
-event-kept (Reopen side) sends = tt
-event-kept (Deliver to flips) sends = tt
+event-kept event sends = tt
 
 -- a world before its first step has a history
 pub history_first : HasDuplexHistory first_duplex

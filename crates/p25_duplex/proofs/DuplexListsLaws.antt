@@ -8,19 +8,19 @@ use Rattle.p25_delivery.specs.Halves.{Sending, Receiving}
 use Rattle.p25_delivery.specs.SenderRules.{offered, timed_out, sender_heard, reopened, is_opening}
 use Rattle.p25_delivery.specs.ReceiverRules.{receiver_heard}
 use Rattle.p25_messages.specs.declared.answers.Offer.{Offer}
-use Rattle.p25_messages.specs.declared.answers.Offer.TheVariants.{Taken as OfferTaken, Busy as OfferBusy, Down as DownAtOffer}
+use Rattle.p25_messages.specs.declared.answers.Offer.TheVariants.{Taken as OfferTaken}
 use Rattle.p25_messages.specs.declared.answers.Resend.{Resend}
-use Rattle.p25_messages.specs.declared.answers.Resend.TheVariants.{Sent, Idle as ResendIdle, Down as DownAtTimeout}
+use Rattle.p25_messages.specs.declared.answers.Resend.TheVariants.{Sent}
 use Rattle.p25_messages.specs.declared.answers.SenderHeard.{SenderHeard}
-use Rattle.p25_messages.specs.declared.answers.SenderHeard.TheVariants.{Acknowledged as HeardAck, Opened as SenderOpened, Retry as HeardRetry, Repeat as HeardRepeat, Ignored as SenderIgnored, Down as DownAtAnswer}
+use Rattle.p25_messages.specs.declared.answers.SenderHeard.TheVariants.{Acknowledged as HeardAck}
 use Rattle.p25_messages.specs.declared.answers.Reopen.{Reopen as ReopenAnswer}
-use Rattle.p25_messages.specs.declared.answers.Reopen.TheVariants.{Sent as ReopenSent, Up as ReopenUp}
+use Rattle.p25_messages.specs.declared.answers.Reopen.TheVariants.{Sent as ReopenSent}
 use Rattle.p25_messages.specs.declared.answers.Heard.{Heard as HeardAnswer}
-use Rattle.p25_messages.specs.declared.answers.Heard.TheVariants.{Delivered as HeardDelivered, Opened as ReceiverOpened, Again as HeardAgain, Kept as HeardKept, RefusedCrc as HeardCrc, RefusedOrder as HeardOrder, Ignored as ReceiverIgnored}
+use Rattle.p25_messages.specs.declared.answers.Heard.TheVariants.{Delivered as HeardDelivered}
 use Rattle.p25_delivery.specs.HalfRules.{after_offer, after_timeout, after_reopening, after_data, after_answer}
 use Rattle.p25_delivery.specs.Delivery.{with_outbound, with_inbound, happens}
 use Rattle.p25_stations.specs.declared.air.Carried.{Carried}
-use Rattle.p25_stations.specs.declared.air.Carried.TheVariants.{Lost as CarriedLost, Foreign, Heard}
+use Rattle.p25_stations.specs.declared.air.Carried.TheVariants.{Heard}
 use Rattle.p25_stations.specs.Air.{carried_of}
 use Rattle.p25_stations.specs.declared.step.Step.{Step}
 use Rattle.p25_stations.specs.Steps.{Packets, delivery_of, heard_of}
@@ -60,33 +60,26 @@ offer-tells : (own other : StationState) (side : Side) (message : List ℕ) (ans
     → Tells (Send side message) own (station_told false (after_sending own (with_outbound (delivery_between own other) (after_offer own.outbound message answer))))
 unfolding with_outbound after_offer
 offer-tells own other side message (s, OfferTaken number blocks packet) = record { heard = none own.inbound.received; sent = refl; acknowledged = omega arith }
-offer-tells own other side message (s, OfferBusy) = silent (Send side message) own _ (refl, refl, refl) (refl, refl, refl)
-offer-tells own other side message (s, DownAtOffer) = silent (Send side message) own _ (refl, refl, refl) (refl, refl, refl)
+offer-tells own other side message answer = silent (Send side message) own _ (refl, refl, refl) (refl, refl, refl)
 
 timeout-tells : (own other : StationState) (side : Side) (answer : Sending × Resend)
     → Tells (Timeout side) own (station_told false (after_sending own (with_outbound (delivery_between own other) (after_timeout own.outbound answer))))
 unfolding with_outbound after_timeout
 timeout-tells own other side (s, Sent number tries packet) = silent (Timeout side) own _ (refl, refl, refl) (refl, refl, refl)
-timeout-tells own other side (s, ResendIdle) = silent (Timeout side) own _ (refl, refl, refl) (refl, refl, refl)
-timeout-tells own other side (s, DownAtTimeout) = silent (Timeout side) own _ (refl, refl, refl) (refl, refl, refl)
+timeout-tells own other side answer = silent (Timeout side) own _ (refl, refl, refl) (refl, refl, refl)
 
 reopen-tells : (own other : StationState) (side : Side) (count : ℕ) (again : Bool) (answer : Sending × ReopenAnswer)
     → Tells (Reopen side) own (station_told false (after_sending own (with_outbound (delivery_between own other) (after_reopening own.outbound count again answer))))
 unfolding with_outbound after_reopening
 reopen-tells own other side count true (s, ReopenSent number packet) = silent (Reopen side) own _ (refl, refl, refl) (refl, refl, refl)
 reopen-tells own other side count false (s, ReopenSent number packet) = silent (Reopen side) own _ (refl, refl, refl) (refl, refl, refl)
-reopen-tells own other side count true (s, ReopenUp) = silent (Reopen side) own _ (refl, refl, refl) (refl, refl, refl)
-reopen-tells own other side count false (s, ReopenUp) = silent (Reopen side) own _ (refl, refl, refl) (refl, refl, refl)
+reopen-tells own other side count again answer = silent (Reopen side) own _ (refl, refl, refl) (refl, refl, refl)
 
 answer-tells : (own other : StationState) (to : Side) (flips : List ℕ) (false_pass : Bool) (answer : Sending × SenderHeard)
     → Tells (Deliver to flips) own (station_told false_pass (after_sending own (with_outbound (delivery_between own other) (after_answer own.outbound answer))))
 unfolding with_outbound after_answer
 answer-tells own other to flips false_pass (s, HeardAck number) = record { heard = none own.inbound.received; sent = none own.outbound.sent; acknowledged = omega arith }
-answer-tells own other to flips false_pass (s, SenderOpened number) = silent (Deliver to flips) own _ (refl, refl, refl) (refl, refl, refl)
-answer-tells own other to flips false_pass (s, HeardRetry number wanted tries packet) = silent (Deliver to flips) own _ (refl, refl, refl) (refl, refl, refl)
-answer-tells own other to flips false_pass (s, HeardRepeat number tries packet) = silent (Deliver to flips) own _ (refl, refl, refl) (refl, refl, refl)
-answer-tells own other to flips false_pass (s, SenderIgnored) = silent (Deliver to flips) own _ (refl, refl, refl) (refl, refl, refl)
-answer-tells own other to flips false_pass (s, DownAtAnswer) = silent (Deliver to flips) own _ (refl, refl, refl) (refl, refl, refl)
+answer-tells own other to flips false_pass answer = silent (Deliver to flips) own _ (refl, refl, refl) (refl, refl, refl)
 
 -- ---- and of the half that receives
 
@@ -94,12 +87,7 @@ data-tells : (own other : StationState) (to : Side) (flips : List ℕ) (false_pa
     → Tells (Deliver to flips) own (station_told false_pass (after_receiving own (with_inbound (delivery_between other own) (after_data own.inbound answer))))
 unfolding with_inbound after_data
 data-tells own other to flips false_pass (r, HeardDelivered number message answer) = record { heard = refl; sent = none own.outbound.sent; acknowledged = omega arith }
-data-tells own other to flips false_pass (r, ReceiverOpened number answer) = silent (Deliver to flips) own _ (refl, refl, refl) (refl, refl, refl)
-data-tells own other to flips false_pass (r, HeardAgain number answer) = silent (Deliver to flips) own _ (refl, refl, refl) (refl, refl, refl)
-data-tells own other to flips false_pass (r, HeardKept number flags answer) = silent (Deliver to flips) own _ (refl, refl, refl) (refl, refl, refl)
-data-tells own other to flips false_pass (r, HeardCrc number answer) = silent (Deliver to flips) own _ (refl, refl, refl) (refl, refl, refl)
-data-tells own other to flips false_pass (r, HeardOrder last answer) = silent (Deliver to flips) own _ (refl, refl, refl) (refl, refl, refl)
-data-tells own other to flips false_pass (r, ReceiverIgnored) = silent (Deliver to flips) own _ (refl, refl, refl) (refl, refl, refl)
+data-tells own other to flips false_pass answer = silent (Deliver to flips) own _ (refl, refl, refl) (refl, refl, refl)
 
 -- ---- what is delivered
 
@@ -111,9 +99,8 @@ heard-tells own other to flips false_pass false packet = data-tells own other to
 
 carried-tells : (own other : StationState) (to : Side) (flips : List ℕ) (carried : Carried) → Tells (Deliver to flips) own (delivered_at own other (heard_of Packets carried))
 unfolding heard_of
-carried-tells own other to flips (CarriedLost field) = silent (Deliver to flips) own _ (refl, refl, refl) (refl, refl, refl)
-carried-tells own other to flips Foreign = silent (Deliver to flips) own _ (refl, refl, refl) (refl, refl, refl)
 carried-tells own other to flips (Heard packet false_pass) = heard-tells own other to flips false_pass (is_answer packet) packet
+carried-tells own other to flips carried = silent (Deliver to flips) own _ (refl, refl, refl) (refl, refl, refl)
 
 delivery-tells : (own other : StationState) (to : Side) (flips : List ℕ) (newest : Option Packet) → Tells (Deliver to flips) own (delivered_at own other (delivery_of Packets newest flips))
 unfolding delivery_of
@@ -135,10 +122,9 @@ record SideTells (side at : Side) (event : DuplexEvent) (d : DuplexState) (x : D
   pub acknowledged : (station_at side x.0).outbound.acknowledged ≡ (station_at side d).outbound.acknowledged + cond (is_side side x.1.side && is_acknowledged x.1.step.kind) 1 0
 
 after-tells : (side at : Side) (event : DuplexEvent) (d : DuplexState) (y : StationState × Step) → Tells event (station_at at d) y → SideTells side at event d (after_step at d y)
-after-tells A A event d y t = record { heard = t.heard; sent = t.sent; acknowledged = t.acknowledged }
 after-tells A B event d y t = record { heard = none d.a.inbound.received; sent = none d.a.outbound.sent; acknowledged = omega arith }
 after-tells B A event d y t = record { heard = none d.b.inbound.received; sent = none d.b.outbound.sent; acknowledged = omega arith }
-after-tells B B event d y t = record { heard = t.heard; sent = t.sent; acknowledged = t.acknowledged }
+after-tells side at event d y t = record { heard = t.heard; sent = t.sent; acknowledged = t.acknowledged }
 
 step-tells : (side : Side) (d : DuplexState) (event : DuplexEvent) → SideTells side (side_of event) event d (duplex_step d event)
 unfolding duplex_step

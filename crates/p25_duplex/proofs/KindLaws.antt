@@ -9,7 +9,7 @@ use Rattle.p25_packet_blocks.specs.Heads.{head_format, confirmed_head, response_
 use Rattle.p25_delivery.specs.Places.{held_flags}
 use Rattle.p25_delivery.specs.SentPackets.{message_packet, blocks_packet, opening_packet, short_response, ack_packet, retry_packet}
 use Rattle.p25_delivery.specs.declared.sender.Outstanding.{Outstanding}
-use Rattle.p25_delivery.specs.declared.sender.Outstanding.TheVariants.{Nothing, Message, Opening}
+use Rattle.p25_delivery.specs.declared.sender.Outstanding.TheVariants.{Opening}
 use Rattle.p25_delivery.specs.Delivery.{Delivery, Session}
 use Rattle.p25_delivery.specs.Orderly.{IsTrueTo}
 use Rattle.p25_delivery.specs.Facts.{IsDataOf, IsNewestData, SessionFacts, FactsBy, DeliveryFacts}
@@ -64,9 +64,8 @@ session-data b s w packet f e = newest-data b s packet (newest-is w.packet_sent 
 
 sent-by : (o : Outstanding) (b : ℕ) (s : Session) (w : Delivery) (packet : Packet) → FactsBy o b s w → w.packet_sent ≡ Some packet → IsData packet
 unfolding FactsBy
-sent-by Nothing b s w packet f e = session-data b s w packet f e
-sent-by (Message message) b s w packet f e = session-data b s w packet f e
 sent-by (Opening number) b s w packet f e = newest-is w.packet_sent IsData packet (subst (λ (o : Option Packet). IfSome o IsData) (sym f.newest_data) (opening-data number)) e
+sent-by o b s w packet f e = session-data b s w packet f e
 
 pub sent-data : (w : Delivery) (packet : Packet) → DeliveryFacts w → w.packet_sent ≡ Some packet → IsData packet
 sent-data w packet f e = sent-by w.outbound.sender.outstanding _ _ w packet f e
@@ -80,13 +79,12 @@ session-answer b s w packet f e =
 
 answer-by : (o : Outstanding) (b : ℕ) (s : Session) (w : Delivery) (packet : Packet) → FactsBy o b s w → w.answer ≡ Some packet → IsAnswer packet
 unfolding FactsBy
-answer-by Nothing b s w packet f e = session-answer b s w packet f e
-answer-by (Message message) b s w packet f e = session-answer b s w packet f e
 answer-by (Opening number) b s w packet f e =
     elim (newest-is w.answer _ packet f.newest_answer e) [
       | inl is ↦ ack-answer w.inbound.receiver.last packet is
       | inr (away, flags, is) ↦ retry-answer ((number + 4) % 8) flags packet is
     ]
+answer-by o b s w packet f e = session-answer b s w packet f e
 
 pub answered-answer : (w : Delivery) (packet : Packet) → DeliveryFacts w → w.answer ≡ Some packet → IsAnswer packet
 answered-answer w packet f e = answer-by w.outbound.sender.outstanding _ _ w packet f e
@@ -95,6 +93,5 @@ answered-answer w packet f e = answer-by w.outbound.sender.outstanding _ _ w pac
 pub true-kind : (sent packet : Packet) → IsTrueTo sent packet → is_answer sent ≡ is_answer packet
 unfolding IsTrueTo
 true-kind (Confirmed sent) (Confirmed heard) t = ap (λ (head : PacketHead). eqb (head_format head) 3) (sym t.0)
-true-kind (Confirmed sent) (Plain heard) t = absurd t
-true-kind (Plain sent) (Confirmed heard) t = absurd t
 true-kind (Plain sent) (Plain heard) t = ap (λ x. is_answer (Plain x)) (sym t)
+true-kind sent packet t = absurd t

@@ -15,7 +15,7 @@ use Rattle.p25_delivery.specs.Facts.{DeliveryFacts}
 use Rattle.p25_delivery.proofs.DeliveryLaws.{facts-kept}
 use Rattle.p25_delivery.proofs.RunLaws.{run-append, meet-append}
 use Rattle.p25_stations.specs.declared.air.Carried.{Carried}
-use Rattle.p25_stations.specs.declared.air.Carried.TheVariants.{Lost, Foreign, Heard}
+use Rattle.p25_stations.specs.declared.air.Carried.TheVariants.{Heard}
 use Rattle.p25_messages.specs.declared.step_kind.Way.TheVariants.{Packets}
 use Rattle.p25_stations.specs.Air.{carried_of}
 use Rattle.p25_stations.specs.Steps.{heard_of, delivery_of}
@@ -167,10 +167,9 @@ hears false mine its n m sent packet l e t b =
 carries : (mine its : StationState) (n m : Newest) (sent : Packet) (flips : List ℕ) (carried : Carried) → AreDeliveries mine its n m → its.newest ≡ Some sent → carried_of sent flips ≡ carried →
     (delivered_at mine its (heard_of Packets carried)).1.false_pass ≡ false → AreFollowed (delivered_at mine its (heard_of Packets carried)).0 its n m
 unfolding heard_of
-carries mine its n m sent flips (Lost field) l e c f = stays mine its n m l
-carries mine its n m sent flips Foreign l e c f = stays mine its n m l
 carries mine its n m sent flips (Heard packet false_pass) l e c f =
     hears (is_answer packet) mine its n m sent packet l e (air-true sent flips packet (c ∙ ap (λ (b : Bool). Heard packet b) f)) refl
+carries mine its n m sent flips carried l e c f = stays mine its n m l
 
 delivers : (mine its : StationState) (n m : Newest) (newest : Option Packet) (flips : List ℕ) → AreDeliveries mine its n m → its.newest ≡ newest →
     (delivered_at mine its (delivery_of Packets newest flips)).1.false_pass ≡ false → AreFollowed (delivered_at mine its (delivery_of Packets newest flips)).0 its n m

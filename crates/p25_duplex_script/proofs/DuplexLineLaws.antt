@@ -29,28 +29,24 @@ words-words : (event : DuplexEvent) → IsDuplexScripted event → list_all is_w
 words-words (Send A message) fits = ap₂ ◌&&◌ (message-word message fits) refl
 words-words (Send B message) fits = ap₂ ◌&&◌ (message-word message fits) refl
 words-words (Timeout A) fits = refl
-words-words (Timeout B) fits = refl
 words-words (Reopen A) fits = refl
-words-words (Reopen B) fits = refl
 words-words (Deliver A places) fits = ap₂ ◌&&◌ (places-word places fits) refl
 words-words (Deliver B places) fits = ap₂ ◌&&◌ (places-word places fits) refl
+words-words event fits = refl
 
 words-some : (event : DuplexEvent) → 0 < length (duplex_words event)
 words-some (Send side message) = omega arith
-words-some (Timeout side) = omega arith
-words-some (Reopen side) = omega arith
-words-some (Deliver to places) = omega arith
+words-some event = omega arith
 
 -- and they are read as it
 by_words-words : (event : DuplexEvent) → IsDuplexScripted event → duplex_by_words (duplex_words event) ≡ Ok event
 by_words-words (Send A message) fits = ap (value_or_fault (Send A)) (message_in-text message fits)
 by_words-words (Send B message) fits = ap (value_or_fault (Send B)) (message_in-text message fits)
 by_words-words (Timeout A) fits = refl
-by_words-words (Timeout B) fits = refl
 by_words-words (Reopen A) fits = refl
-by_words-words (Reopen B) fits = refl
 by_words-words (Deliver A places) fits = ap (value_or_fault (Deliver A)) (places_in-text places fits)
 by_words-words (Deliver B places) fits = ap (value_or_fault (Deliver B)) (places_in-text places fits)
+by_words-words event fits = refl
 
 -- ---- a line that is read is the line of its event
 
@@ -66,18 +62,14 @@ from_message side word (Some message) event read found =
     subst (λ (e : DuplexEvent). ReadFrom (side_word side ∷ event_word SendLine ∷ word ∷ []) e) same (ap (λ w. side_word side ∷ event_word SendLine ∷ w ∷ []) facts.0, facts.1)
 
 from_kind : (side : Side) (kind : EventKind) (others : List (List ℕ)) (event : DuplexEvent) → event_of_side side (Some kind) others ≡ Ok event → ReadFrom (side_word side ∷ event_word kind ∷ others) event
-from_kind side SendLine [] event found = cc found
 from_kind side SendLine (word ∷ []) event found = from_message side word (message_in word) event refl found
-from_kind side SendLine (word ∷ next ∷ others) event found = cc found
 from_kind side TimeoutLine [] event found =
     let same : Timeout side ≡ event = cc found in
     subst (λ (e : DuplexEvent). ReadFrom (side_word side ∷ event_word TimeoutLine ∷ []) e) same (refl, tt)
-from_kind side TimeoutLine (word ∷ others) event found = cc found
 from_kind side ReopenLine [] event found =
     let same : Reopen side ≡ event = cc found in
     subst (λ (e : DuplexEvent). ReadFrom (side_word side ∷ event_word ReopenLine ∷ []) e) same (refl, tt)
-from_kind side ReopenLine (word ∷ others) event found = cc found
-from_kind side DeliverLine others event found = cc found
+from_kind side kind others event found = cc found
 
 from_side : (side : Side) (second : List ℕ) (others : List (List ℕ)) (kind : Option EventKind) (event : DuplexEvent) → event_named second ≡ kind → event_of_side side kind others ≡ Ok event →
     ReadFrom (side_word side ∷ second ∷ others) event
@@ -89,22 +81,18 @@ from_side side second others (Some kind) event named found =
 
 from_delivery : (direction word : List ℕ) (to : Option Side) (made : Option (List ℕ)) (event : DuplexEvent) → hearer_named direction ≡ to → places_in word ≡ made → keyed_or_fault Deliver to made ≡ Ok event →
     ReadFrom (event_word DeliverLine ∷ direction ∷ word ∷ []) event
-from_delivery direction word None made event named read found = cc found
-from_delivery direction word (Some to) None event named read found = cc found
 from_delivery direction word (Some to) (Some places) event named read found =
     let facts = places-places_in word places read in
     let way = named-word direction_word (A ∷ B ∷ []) direction to named in
     let words : duplex_words (Deliver to places) ≡ event_word DeliverLine ∷ direction ∷ word ∷ [] = ap₂ (λ v w. event_word DeliverLine ∷ v ∷ w ∷ []) way facts.0 in
     let same : Deliver to places ≡ event = cc found in
     subst (λ (e : DuplexEvent). ReadFrom (event_word DeliverLine ∷ direction ∷ word ∷ []) e) same (words, facts.1)
+from_delivery direction word to made event named read found = cc found
 
 from_others : (start : DuplexStart) (others : List (List ℕ)) (event : DuplexEvent) → event_behind start others ≡ Ok event → ReadFrom (start_word start ∷ others) event
-from_others (Acts side) [] event found = cc found
 from_others (Acts side) (second ∷ others) event found = from_side side second others (event_named second) event refl found
-from_others Delivery [] event found = cc found
-from_others Delivery (direction ∷ []) event found = cc found
 from_others Delivery (direction ∷ word ∷ []) event found = from_delivery direction word (hearer_named direction) (places_in word) event refl refl found
-from_others Delivery (direction ∷ word ∷ next ∷ others) event found = cc found
+from_others start others event found = cc found
 
 from_start : (first : List ℕ) (others : List (List ℕ)) (start : Option DuplexStart) (event : DuplexEvent) → start_named first ≡ start → named_or_fault event_behind start others ≡ Ok event → ReadFrom (first ∷ others) event
 from_start first others None event named found = cc found
@@ -130,9 +118,7 @@ event_of-text event fits short = line_read-words duplex_laws event fits short
 is-event : (event : DuplexEvent) → IsDuplexScripted event → IsDuplexEvent event
 unfolding IsDuplexEvent
 is-event (Send side message) fits = fits
-is-event (Timeout side) fits = tt
-is-event (Reopen side) fits = tt
-is-event (Deliver to places) fits = tt
+is-event event fits = tt
 
 -- as the reader tells it
 pub read-facts : (line : List ℕ) (result : Result DuplexEvent LineFault) → result ≡ duplex_event_of line → (IfOk result (λ event. duplex_text event ≡ line)) × (IfOk result (λ event. IsDuplexScripted event))

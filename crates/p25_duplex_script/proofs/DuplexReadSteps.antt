@@ -4,12 +4,12 @@ use Rattle.p25_line.specs.declared.fault.LineFault.TheVariants.{Key, Kind as Wro
 use Rattle.p25_line.specs.LineReadings.{named_or_fault}
 use Rattle.p25_line.proofs.LineWordsLaws.{first-others, one-other, two-others}
 use Rattle.p25_script.specs.declared.names.EventKind.{EventKind}
-use Rattle.p25_script.specs.declared.names.EventKind.TheVariants.{Send as SendLine, Timeout as TimeoutLine, Reopen as ReopenLine, Deliver as DeliverLine}
 use Rattle.p25_script.specs.Script.{event_named}
 use Rattle.p25_duplex.specs.declared.side.Side.{Side}
 use Rattle.p25_duplex_script.specs.DuplexLines.{duplex_by_words, event_behind, event_of_side, start_named}
 use Rattle.p25_duplex_script.specs.declared.read.DuplexStart.{DuplexStart}
 use Rattle.p25_duplex_script.specs.declared.read.DuplexStart.TheVariants.{Acts, Delivery}
+use Rattle.p25_script.specs.declared.names.EventKind.TheVariants.{Send as SendLine}
 
 -- the first word names nothing
 pub wrong-start : (words : List (List ℕ)) (first : List ℕ) → slice_get words 0 ≡ Some first → start_named first ≡ None → duplex_by_words words ≡ Err WrongKind
@@ -32,21 +32,16 @@ three-words words first second third start at named count next last = right-star
 -- a line of another number of words
 
 many-behind : (side : Side) (kind : Option EventKind) (x y : List ℕ) (others : List (List ℕ)) → event_of_side side kind (x ∷ y ∷ others) ≡ Err Key
-many-behind side None x y others = refl
 many-behind side (Some SendLine) x y others = refl
-many-behind side (Some TimeoutLine) x y others = refl
-many-behind side (Some ReopenLine) x y others = refl
-many-behind side (Some DeliverLine) x y others = refl
+many-behind side kind x y others = refl
 
 other-count : (start : DuplexStart) (others : List (List ℕ)) → (length others ≡ 1 → ⊥) → (length others ≡ 2 → ⊥) → event_behind start others ≡ Err Key
-other-count (Acts side) [] one two = refl
 other-count (Acts side) (w ∷ []) one two = absurd (one refl)
 other-count (Acts side) (w ∷ x ∷ []) one two = absurd (two refl)
 other-count (Acts side) (w ∷ x ∷ y ∷ others) one two = many-behind side (event_named w) x y others
-other-count Delivery [] one two = refl
 other-count Delivery (w ∷ []) one two = absurd (one refl)
 other-count Delivery (w ∷ x ∷ []) one two = absurd (two refl)
-other-count Delivery (w ∷ x ∷ y ∷ others) one two = refl
+other-count start others one two = refl
 
 pub other-words : (words : List (List ℕ)) (first : List ℕ) (start : DuplexStart) → slice_get words 0 ≡ Some first → start_named first ≡ Some start → (length words ≡ 2 → ⊥) → (length words ≡ 3 → ⊥)
     → duplex_by_words words ≡ Err Key

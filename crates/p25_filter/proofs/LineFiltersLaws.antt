@@ -6,6 +6,7 @@ use Rattle.std.specs.List.{concat}
 use Rattle.std.proofs.lemmas.List.{take_all, take_min}
 use Rattle.std.proofs.Math.Seq.{take-append-add}
 use Rattle.std.proofs.lemmas.Bool.Decides.{nat_tests}
+use Rattle.std.proofs.lemmas.Bool.{cond-true, lt-ltb}
 use Rattle.p25_line.specs.declared.fault.LineFault.TheVariants.{Long}
 use Rattle.p25_filter.specs.declared.ending.Ending.{Ending}
 use Rattle.p25_filter.specs.declared.ending.Ending.TheVariants.{BadLine, Done}
@@ -17,7 +18,7 @@ use Rattle.p25_filter.specs.Futures.{IsClosed, IsIdle, IsRefusedBy, NextPiece, P
 use Rattle.p25_filter.specs.Lines.{closing_by, each_behind, lines_ending, lines_in, read_of, refusal_in, texts_before}
 use Rattle.p25_filter.specs.LineRules.{LineRules, both_pieces, machine_after, texts_of, written_before, written_for}
 use Rattle.p25_filter.specs.LineFilters.{IsLineGiven, IsTextGiven, LineFiltering, closes_with, ends_with, is_ended_phase, line_future, line_filtering, lines_left, pieces_of}
-use Rattle.p25_filter.proofs.LinesLaws.{Contains-here, Contains-later, Contains-none, each_behind-from, each_behind-in, is_more, lines_in-end, lines_in-part, octets_before, read_of-err, read_of-ok, refusal_in-err, refusal_in-ok, test_true}
+use Rattle.p25_filter.proofs.LinesLaws.{Contains-here, Contains-later, Contains-none, each_behind-from, each_behind-in, lines_in-end, lines_in-part, octets_before, read_of-err, read_of-ok, refusal_in-err, refusal_in-ok}
 
 -- where memory may be wanting, and where it may not
 wanting : (wants : Bool) (texts : List (List ℕ)) (pause : List ℕ) → wants ≡ true → Contains texts pause → Contains (cond wants texts []) pause
@@ -32,16 +33,13 @@ when_wanting false texts pause is = absurd (Contains-none pause is)
 is_reading : (phase : LinePhase) → pieces_of phase ≡ 0 → is_ended_phase phase ≡ false → phase ≡ Reading
 is_reading Reading none going = refl
 is_reading Ready none going = absurd (omega arith)
-is_reading ReadyLast none going = cc
-is_reading Closing none going = cc
-is_reading Closed none going = cc
+is_reading phase none going = cc
 
 is_closed : (phase : LinePhase) → pieces_of phase ≡ 0 → is_ended_phase phase ≡ true → phase ≡ Closed
-is_closed Reading none ended = cc
-is_closed Ready none ended = cc
 is_closed ReadyLast none ended = absurd (omega arith)
 is_closed Closing none ended = absurd (omega arith)
 is_closed Closed none ended = refl
+is_closed phase none ended = cc
 
 -- two pieces and what follows them
 pieces-append : (out : List ℕ) (behind : Option (List ℕ)) (more : List ℕ) → both_pieces out behind ++ more ≡ out ++ (both_pieces [] behind ++ more)
@@ -55,10 +53,10 @@ module _ {X : Type 0} (f : List (List ℕ) → X) (x : X) (first : (line : List 
   unfolding lines_in
   long-same [] false line other long also = refl
   long-same [] true line other long also =
-      ap f (test_true (nat_lt 0 (length line)) (line ∷ []) [] (is_more 0 (length line) (omega arith)))
+      ap f (cond-true (nat_lt 0 (length line)) (line ∷ []) [] (lt-ltb 0 (length line) (omega arith)))
       ∙ first line [] long
       ∙ sym (first other [] also)
-      ∙ ap f (sym (test_true (nat_lt 0 (length other)) (other ∷ []) [] (is_more 0 (length other) (omega arith))))
+      ∙ ap f (sym (cond-true (nat_lt 0 (length other)) (other ∷ []) [] (lt-ltb 0 (length other) (omega arith))))
   long-same (octet ∷ more) ended line other long also =
       by_test (nat_eq octet 10)
       (long-same more ended (line ++ octet ∷ []) (other ++ octet ∷ []) (omega (arith, length-append line (octet ∷ []))) (omega (arith, length-append other (octet ∷ []))))
@@ -193,7 +191,7 @@ module _ {M E : Type 0} (rules : LineRules M E) where
       → IsClosed (line_future rules (line_filtering machine line lines behind Reading)) (line_future rules (line_filtering machine line lines behind ReadyLast))
   unfolding line_future lines_in
   working-finish machine line lines behind some =
-      let last : cond (nat_lt 0 (length line)) (line ∷ []) [] ≡ line ∷ [] = test_true (nat_lt 0 (length line)) (line ∷ []) [] (is_more 0 (length line) some) in
+      let last : cond (nat_lt 0 (length line)) (line ∷ []) [] ≡ line ∷ [] = cond-true (nat_lt 0 (length line)) (line ∷ []) [] (lt-ltb 0 (length line) some) in
       record {
         writes = λ ended more.
             ap (λ (ls : List (List ℕ)). both_pieces [] behind ++ written_for rules true (refusal_in rules.read (lines + 1) ls) machine (read_of rules.read ls)) (sym last);
@@ -328,10 +326,8 @@ module _ {M E : Type 0} (rules : LineRules M E) where
       → IsIdle (is_ended_phase phase) (line_future rules (line_filtering machine line lines None phase))
   unfolding IsIdle line_future lines_in written_for texts_of machine_after read_of refusal_in
   working-idle machine line lines Reading none = (refl, refl)
-  working-idle machine line lines Ready none = absurd (omega arith)
-  working-idle machine line lines ReadyLast none = absurd (omega arith)
-  working-idle machine line lines Closing none = absurd (omega arith)
   working-idle machine line lines Closed none = λ ended more. refl
+  working-idle machine line lines phase none = absurd (omega arith)
 
   working-done : (machine : M) (line : List ℕ) (lines : ℕ) (behind : Option (List ℕ)) (ended : Bool) (more : List ℕ)
       → (line_future rules (line_filtering machine line lines behind Closed)).ends ended more ≡ Some Done

@@ -1,24 +1,13 @@
 -- The lines after more octets, texts after one more, and what lines are read as, by what the first is read as: each by one
 -- unfolding, or by induction on the octets or the texts.
-use Rattle.std.proofs.Common.{◌≡◌, ℕ, zero, suc, ◌+◌, ◌<◌, Bool, true, false, not, cond, nat_eq, nat_lt, List, [], ◌∷◌, ◌++◌, length, take, Some, None, Result, Ok, Err, refl, ap, sym, subst, ◌∙◌, arith, append_assoc, append-nil}
+use Rattle.std.proofs.Common.{◌≡◌, ℕ, zero, suc, ◌+◌, ◌<◌, Bool, true, false, not, cond, nat_eq, List, [], ◌∷◌, ◌++◌, length, take, Some, None, Result, Ok, Err, refl, ap, sym, subst, ◌∙◌, arith, append_assoc, append-nil}
 use Rattle.std.specs.Prelude.{Contains}
 use Rattle.std.specs.List.{position_or_len}
 use Rattle.std.proofs.lemmas.Bool.Decides.{nat_tests}
+use Rattle.std.proofs.lemmas.Bool.{cond-false}
 use Rattle.p25_line.specs.declared.fault.LineFault.{LineFault}
 use Rattle.p25_filter.specs.declared.ending.Ending.TheVariants.{BadLine}
 use Rattle.p25_filter.specs.Lines.{each_behind, lines_in, read_of, refusal_in}
-
--- a test that holds chooses the first, and one that does not the second
-pub test_true : {X : Type 0} (test : Bool) (x y : X) → test ≡ true → cond test x y ≡ x
-test_true true x y same = refl
-test_true false x y same = cc
-
-pub test_false : {X : Type 0} (test : Bool) (x y : X) → test ≡ false → cond test x y ≡ y
-test_false true x y same = cc
-test_false false x y same = refl
-
-pub is_more : (m n : ℕ) → m < n → nat_lt m n ≡ true
-is_more m n more = grind (arith, nat_tests)
 
 -- how many octets are before the first LF
 abbrev pub octets_before : List ℕ → ℕ
@@ -41,7 +30,7 @@ lines_in-part ended line (octet ∷ octets) more = by_test (nat_eq octet 10) ref
     by_test false same rest =
         let next : suc count ≡ 1 + count = omega arith in
         subst (λ (n : ℕ). lines_in ended line (take n (octet ∷ octets) ++ more) ≡ lines_in ended (line ++ take n (octet ∷ octets)) more) next
-        (test_false (nat_eq octet 10) (line ∷ lines_in ended [] (take count octets ++ more)) (lines_in ended (line ++ octet ∷ []) (take count octets ++ more)) same
+        (cond-false (nat_eq octet 10) (line ∷ lines_in ended [] (take count octets ++ more)) (lines_in ended (line ++ octet ∷ []) (take count octets ++ more)) same
         ∙ rest ∙ ap (λ (l : List ℕ). lines_in ended l more) (append_assoc line (octet ∷ []) (take count octets)))
 
 -- the first LF ends the line

@@ -3,7 +3,7 @@
 use Rattle.std.proofs.Common.{◌≡◌, ℕ, false, List, [], ◌∷◌, ◌++◌, take, refl, sym, subst, ◌∙◌}
 use Rattle.p25_io.specs.Events.{Event, Read, ReadFailed, Wrote, WriteFailed}
 use Rattle.p25_filter.specs.declared.ending.FilterEnd.{FilterEnd}
-use Rattle.p25_filter.specs.declared.ending.FilterEnd.TheVariants.{Ended, ReadFault, WriteFault, TooLong, Memory}
+use Rattle.p25_filter.specs.declared.ending.FilterEnd.TheVariants.{ReadFault, WriteFault, TooLong}
 use Rattle.p25_filter.specs.Futures.{Future}
 use Rattle.p25_filter.specs.Traces.{Broken, EndsAs, Going, IsLive, IsRun, Over, Standing, after_all, at_first, standing_after, standing_at}
 use Rattle.p25_filter.proofs.TracesLaws.{IsLive-parts, after_all-append}
@@ -17,12 +17,11 @@ no_read-ahead future before after first second live =
 -- once the input is over no read comes
 pub no-more_reads : (future : Future) (at : Standing) (between after : List Event) (octets : List ℕ) → (at.phase ≡ Going → ⊥)
     → IsLive future at (between ++ Read octets ∷ after) → ⊥
-no-more_reads future at [] after octets not live = not live.0.0.going
-no-more_reads future at (Read other ∷ between) after octets not live = not live.0.0.going
 no-more_reads future at (ReadFailed ∷ between) after octets not live = not live.0.going
 no-more_reads future at (Wrote piece ∷ between) after octets not live = no-more_reads future (standing_after at (Wrote piece)) between after octets not live.1
 no-more_reads future at (WriteFailed piece count ∷ between) after octets not live =
     no-more_reads future (standing_after at (WriteFailed piece count)) between after octets (λ (same : Broken ≡ Going). cc) live.1
+no-more_reads future at between after octets not live = not live.0.0.going
 
 pub no_read-after_end : (future : Future) (before between after : List Event) (octets : List ℕ)
     → IsLive future at_first (before ++ Read [] ∷ (between ++ Read octets ∷ after)) → ⊥
@@ -51,31 +50,27 @@ nothing-after_write_fault future before after piece count live =
 
 -- the last of some events is one alone
 last-is : (xs ys : List Event) (x y : Event) → xs ++ x ∷ [] ≡ ys ++ y ∷ [] → x ≡ y
-last-is [] [] x y same = cc
 last-is [] (b ∷ []) x y same = cc
-last-is [] (b ∷ c ∷ ys) x y same = cc
 last-is (a ∷ []) [] x y same = cc
-last-is (a ∷ c ∷ xs) [] x y same = cc
 last-is (a ∷ xs) (b ∷ ys) x y same = let rest : xs ++ x ∷ [] ≡ ys ++ y ∷ [] = cc in last-is xs ys x y rest
+last-is xs ys x y same = cc
 
 -- and the end tells which fault it was
 read-told-at : (future : Future) (before : List Event) (octets text : List ℕ) (end : FilterEnd)
     → EndsAs future (before ++ ReadFailed ∷ []) (standing_at Broken octets text) end → end ≡ ReadFault
-read-told-at future before octets text (Ended ending) ends = absurd ends
-read-told-at future before octets text Memory ends = absurd ends
 read-told-at future before octets text TooLong ends = let going : Broken ≡ Going = ends.going in cc
 read-told-at future before octets text ReadFault ends = refl
 read-told-at future before octets text WriteFault ends =
     let same : ReadFailed ≡ WriteFailed ends.0 ends.1 = last-is before ends.2.0 ReadFailed (WriteFailed ends.0 ends.1) ends.2.1 in cc
+read-told-at future before octets text end ends = absurd ends
 
 write-told-at : (future : Future) (before : List Event) (piece : List ℕ) (count : ℕ) (octets text : List ℕ) (end : FilterEnd)
     → EndsAs future (before ++ WriteFailed piece count ∷ []) (standing_at Broken octets text) end → end ≡ WriteFault
-write-told-at future before piece count octets text (Ended ending) ends = absurd ends
-write-told-at future before piece count octets text Memory ends = absurd ends
 write-told-at future before piece count octets text TooLong ends = let going : Broken ≡ Going = ends.going in cc
 write-told-at future before piece count octets text WriteFault ends = refl
 write-told-at future before piece count octets text ReadFault ends =
     let same : WriteFailed piece count ≡ ReadFailed = last-is before ends.0 (WriteFailed piece count) ReadFailed ends.1 in cc
+write-told-at future before piece count octets text end ends = absurd ends
 
 pub read_fault-told : (future : Future) (before after : List Event) (end : FilterEnd) → IsRun future (before ++ ReadFailed ∷ after) end → end ≡ ReadFault
 read_fault-told future before after end run =

@@ -2,9 +2,10 @@
 -- written, and what the end says of both.
 use Rattle.std.proofs.Common.{◌≡◌, ℕ, ◌+◌, ◌<◌, ◌≤◌, Bool, true, false, cond, nat_lt, zero, suc, List, [], ◌∷◌, ◌++◌, length, take, Option, Some, None, refl, ap, sym, subst, ◌∙◌, arith, append-nil, length-append}
 use Rattle.std.specs.Prelude.{Contains, IfSome}
-use Rattle.std.proofs.lemmas.List.{take_all}
+use Rattle.std.proofs.lemmas.List.{take_all, nil_from_length}
 use Rattle.std.proofs.lemmas.Bool.Decides.{nat_tests}
 use Rattle.std.proofs.Math.Seq.{take-append-add}
+use Rattle.std.proofs.lemmas.Bool.{ltb-false}
 use Rattle.p25_io.specs.Events.{Event, Read, ReadFailed, Wrote, WriteFailed}
 use Rattle.p25_io.specs.Faults.{Rose}
 use Rattle.p25_io.specs.Octets.{Taken, Appended, AppendedBeginning}
@@ -23,9 +24,6 @@ pub use Rattle.p25_filter.proofs.TracesLaws.{first-take}
 -- of an input that is not too long all is written
 not-long : (most count : ℕ) (x y : List ℕ) → count ≤ most → cond (nat_lt most count) x y ≡ y
 not-long most count x y few = grind (arith, nat_tests)
-
-is-few : (most count : ℕ) → nat_lt most count ≡ false → count ≤ most
-is-few most count is = grind (arith, nat_tests)
 
 pub ended-input : (told : Option (List ℕ)) (octets input : List ℕ) → IfSome told (λ all. all ≡ octets) → told ≡ Some input → input ≡ octets
 ended-input None octets input all same = cc
@@ -63,7 +61,7 @@ decided-begins future Going octets rest text decided over = by_length (nat_lt in
         let first = take-some input_most octets rest in
         subst (λ (zs : List ℕ). Begins text (future.writes false zs)) (sym first.1) (decided false first.0)
     by_length false is =
-        let few : length octets ≤ input_most = omega (arith, is-few input_most (length (octets ++ rest)) is, length-append octets rest) in
+        let few : length octets ≤ input_most = omega (arith, ltb-false input_most (length (octets ++ rest)) is, length-append octets rest) in
         subst (λ (zs : List ℕ). Begins text (future.writes true (zs ++ rest))) (take_all input_most octets few) (decided true rest)
 decided-begins future Over octets rest text decided over =
     let ended = over refl in
@@ -229,11 +227,7 @@ none-left (Some input) (Some some) octets rest taken all same =
     let told : Some input ≡ Some (octets ++ some) = taken.left in
     let whole : input ≡ octets ++ some = cc in
     let equal : some ≡ rest = cc in
-    by_length rest (omega (arith, length-append octets rest, ap length (sym all ∙ whole ∙ ap (λ (zs : List ℕ). octets ++ zs) equal)))
-  where
-    by_length : (zs : List ℕ) → length zs ≡ 0 → zs ≡ []
-    by_length [] none = refl
-    by_length (z ∷ zs) none = absurd (omega (arith, none))
+    nil_from_length rest (omega (arith, length-append octets rest, ap length (sym all ∙ whole ∙ ap (λ (zs : List ℕ). octets ++ zs) equal)))
 
 write-meets : (told left first last : Option (List ℕ)) (future : Future) (at : Standing) (piece : List ℕ) (count : ℕ) → Reached told at left
     → IsDecided future at.phase at.octets (at.text ++ piece) → Appended first (at.text ++ take count piece) last → IsWriteFault left first last future at.octets
@@ -327,12 +321,8 @@ module _ {S K : Type 0} (left : S → Option (List ℕ)) (source_faults : S → 
       let begins =
       decided-begins future at.phase at.octets parts.0 (at.text ++ piece) decided
       (λ same. let over = reached.over same in
-      (over.0, nothing (omega (arith, length-append at.octets parts.0, ap length (sym parts.1 ∙ ended-input (left source) at.octets input over.1 told))))) in
+      (over.0, nil_from_length _ (omega (arith, length-append at.octets parts.0, ap length (sym parts.1 ∙ ended-input (left source) at.octets input over.1 told))))) in
       omega (arith, some, ap length begins.is, ap length (ap (all_written future) (sym parts.1) ∙ none), length-append (at.text ++ piece) begins.rest, length-append at.text piece)
-    where
-      nothing : {zs : List ℕ} → length zs ≡ 0 → zs ≡ []
-      nothing {zs = []} none = refl
-      nothing {zs = z ∷ zs} none = absurd (omega (arith, none))
 
   -- an input of which nothing is to be written leaves the sink as it was
   untouched-by : (input : List ℕ) → left source ≡ Some input → all_written future input ≡ [] → (at : Standing) (events : List Event) (s : S) (k : K) → IsLive future at events

@@ -1,7 +1,7 @@
 -- Live runs of events: how one goes on, read after read and write after write, and how it ends.
 use Rattle.std.proofs.Common.{◌≡◌, ℕ, ◌+◌, ◌-◌, ◌<◌, ◌≤◌, Bool, false, true, List, [], ◌∷◌, ◌++◌, length, take, drop, min, None, refl, ap, sym, subst, ◌∙◌, arith, append_assoc, append-nil, length-take}
 use Rattle.std.specs.Prelude.{Contains}
-use Rattle.std.proofs.lemmas.List.{take-append-drop}
+use Rattle.std.proofs.lemmas.List.{take-append-drop, nil_from_length}
 use Rattle.std.proofs.Math.Seq.{take-add, take-append-add}
 use Rattle.p25_io.specs.Events.{Event, Read, ReadFailed, Wrote, WriteFailed}
 use Rattle.p25_filter.specs.declared.ending.FilterEnd.{FilterEnd}
@@ -22,17 +22,13 @@ first-take octets more few =
     let e : input_most ≡ length octets + (input_most - length octets) = omega arith in
     ap (λ (n : ℕ). take n (octets ++ more)) e ∙ take-append-add octets more (input_most - length octets)
 
-none-left : (xs : List ℕ) → length xs ≡ 0 → xs ≡ []
-none-left [] none = refl
-none-left (x ∷ xs) none = absurd (omega (arith, none))
-
 -- of the octets before a read and those that it gave, the first are those before and what fits of the read
 pub first-read : (octets buf : List ℕ) (count fits : ℕ) → length octets ≤ input_most → count ≤ length buf → fits ≡ min count (input_most - length octets)
     → take input_most (octets ++ take count buf) ≡ octets ++ take fits buf
 first-read octets buf count fits few there fit =
     first-take octets (take count buf) few ∙ ap (λ (zs : List ℕ). octets ++ zs) (
     ap (take most) parts ∙ ap (λ (n : ℕ). take n (fed ++ rest)) e ∙ take-append-add fed rest (most - length fed)
-    ∙ ap (λ (zs : List ℕ). fed ++ zs) (none-left (take (most - length fed) rest) none) ∙ append-nil fed
+    ∙ ap (λ (zs : List ℕ). fed ++ zs) (nil_from_length (take (most - length fed) rest) none) ∙ append-nil fed
     )
   where
     most : ℕ

@@ -15,10 +15,6 @@ AreSome-append : (xs ys : List (List ℕ)) → AreSome xs → AreSome ys → Are
 AreSome-append [] ys some more = more
 AreSome-append (x ∷ xs) ys some more = (some.0, AreSome-append xs ys some.1 more)
 
--- a text begins itself and what comes after it
-pub Begins-first : (text rest : List ℕ) → Begins text (text ++ rest)
-Begins-first text rest = record { rest = rest; is = refl }
-
 pub Begins-same : {text whole other : List ℕ} → whole ≡ other → Begins text whole → Begins text other
 Begins-same same begins = record { rest = begins.rest; is = sym same ∙ begins.is }
 
@@ -31,9 +27,6 @@ module _ {P : Type 0} (moves : P → List Event → P → Type 0) (stays : (port
   -- nothing is written
   pub Written-none : (port : P) → Written moves port [] port
   Written-none port = record { pieces = []; moved = stays port; some = tt; whole = refl }
-
-  pub Written-nothing : (port : P) (text : List ℕ) → text ≡ [] → Written moves port text port
-  Written-nothing port text none = subst (λ (zs : List ℕ). Written moves port zs port) (sym none) (Written-none port)
 
   -- one piece is written, or its write fails
   pub Written-one : (first last : P) (piece : List ℕ) → 0 < length piece → moves first (Wrote piece ∷ []) last → Written moves first piece last

@@ -10,7 +10,7 @@ use Rattle.p25_script.proofs.AsciiStepLaws.{ascii-sessions_text, ascii-step_text
 use Rattle.p25_fragments.specs.LongState.{LongState}
 use Rattle.p25_fragments.specs.declared.long_step.LongStep.{LongStep}
 use Rattle.p25_fragments.specs.declared.long_step.Then.{Then}
-use Rattle.p25_fragments.specs.declared.long_step.Then.TheVariants.{Plain, Started, Busy, Down, Part, Whole, Refused, Next, Finished}
+use Rattle.p25_fragments.specs.declared.long_step.Then.TheVariants.{Started, Part, Whole, Next}
 use Rattle.p25_fragment_script.specs.LongTexts.{ended_line, first_line_of, line_before, line_behind, long_closing_text_of, long_step_text_of}
 
 ended : (text : List ℕ) → is_ascii text ≡ true → is_ascii (ended_line text) ≡ true
@@ -23,27 +23,15 @@ ascii-first (Some step) = ended (step_text_of step) (ascii-step_text_of step)
 
 ascii-before : (then : Then) → is_ascii (line_before then) ≡ true
 unfolding line_before
-ascii-before Plain = refl
 ascii-before (Started parts) = ended (codes "long taken parts=" ++ decimal parts) (ascii-append (codes "long taken parts=") (decimal parts) refl (ascii-decimal parts))
-ascii-before Busy = refl
-ascii-before Down = refl
-ascii-before (Part number) = refl
-ascii-before (Whole message) = refl
-ascii-before Refused = refl
-ascii-before (Next step) = refl
-ascii-before Finished = refl
+ascii-before then = refl
 
 ascii-behind : (then : Then) → is_ascii (line_behind then) ≡ true
 unfolding line_behind
-ascii-behind Plain = refl
-ascii-behind (Started parts) = refl
-ascii-behind Busy = refl
-ascii-behind Down = refl
 ascii-behind (Part number) = ended (codes "part " ++ decimal number) (ascii-append (codes "part ") (decimal number) refl (ascii-decimal number))
 ascii-behind (Whole message) = ended (codes "whole message=" ++ octets_text message) (ascii-append (codes "whole message=") (octets_text message) refl (ascii-octets_text message))
-ascii-behind Refused = refl
 ascii-behind (Next step) = ended (step_text_of step) (ascii-step_text_of step)
-ascii-behind Finished = refl
+ascii-behind then = refl
 
 pub ascii-long_step_text_of : (step : LongStep) → is_ascii (long_step_text_of step) ≡ true
 unfolding long_step_text_of

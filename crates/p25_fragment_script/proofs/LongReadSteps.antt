@@ -21,9 +21,8 @@ long_word words first at long =
 
 -- with another number of words than it has
 other_count : (others : List (List ℕ)) → (suc (length others) ≡ 2 → ⊥) → long_in others ≡ Err Key
-other_count [] other = refl
 other_count (word ∷ []) other = absurd (other refl)
-other_count (word ∷ next ∷ others) other = refl
+other_count others other = refl
 
 pub wrong_count : (words : List (List ℕ)) (first : List ℕ) → slice_get words 0 ≡ Some first → bytes_eq first (codes "long") ≡ true → (length words ≡ 2 → ⊥) → long_event_by_words words ≡ Err Key
 wrong_count words first at long other =

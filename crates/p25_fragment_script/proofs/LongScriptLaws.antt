@@ -12,7 +12,7 @@ use Rattle.p25_line.specs.declared.fault.LineFault.TheVariants.{Kind as WrongKin
 use Rattle.p25_line.proofs.LineReadLaws.{IsLineOf, WordLaws, line_read-facts, line_read-words, words-line_read}
 use Rattle.p25_line.proofs.OctetsLaws.{octets-word, octets_up_to-text, text-octets_up_to}
 use Rattle.p25_stations.specs.declared.step.Event.{Event}
-use Rattle.p25_stations.specs.declared.step.Event.TheVariants.{Send, Timeout, Reopen, ToReceiver, ToSender}
+use Rattle.p25_stations.specs.declared.step.Event.TheVariants.{Send}
 use Rattle.p25_script.specs.Script.{event_by_words, event_words}
 use Rattle.p25_script.proofs.ScriptLaws.{event_laws}
 use Rattle.p25_fragments.specs.LongRuns.{IsNoOffer}
@@ -35,10 +35,7 @@ words-words (Inner event) fits = event_laws.are_words event fits.scripted
 inner-words : (event : Event) → IsNoOffer event → long_event_by_words (event_words event) ≡ inner_or_fault (event_by_words (event_words event))
 unfolding IsNoOffer
 inner-words (Send message) is = absurd is
-inner-words Timeout is = refl
-inner-words Reopen is = refl
-inner-words (ToReceiver places) is = refl
-inner-words (ToSender places) is = refl
+inner-words event is = refl
 
 by_words-words : (event : LongEvent) → IsLongScripted event → long_event_by_words (long_event_words event) ≡ Ok event
 unfolding IsLongScripted
@@ -60,9 +57,8 @@ from_message word (Some message) event read found =
     subst (λ (e : LongEvent). ReadFrom (codes "long" ∷ word ∷ []) e) same (ap (λ w. codes "long" ∷ w ∷ []) is.text, record { short = is.few; octets = is.fits })
 
 from_long : (others : List (List ℕ)) (event : LongEvent) → long_in others ≡ Ok event → ReadFrom (codes "long" ∷ others) event
-from_long [] event found = cc found
 from_long (word ∷ []) event found = from_message word (long_message_in word) event refl found
-from_long (word ∷ next ∷ others) event found = cc found
+from_long others event found = cc found
 
 -- an event whose words begin with another word than `send` offers no message
 no-offer : (first : List ℕ) (others : List (List ℕ)) (event : Event) → bytes_eq first (codes "send") ≡ false → event_words event ≡ first ∷ others → IsNoOffer event
@@ -70,10 +66,7 @@ unfolding IsNoOffer
 no-offer first others (Send message) other words =
     let first_is : first ≡ codes "send" = cc words in
     absurd (false≢true (sym other ∙ ap (λ (x : List ℕ). bytes_eq x (codes "send")) first_is))
-no-offer first others Timeout other words = tt
-no-offer first others Reopen other words = tt
-no-offer first others (ToReceiver places) other words = tt
-no-offer first others (ToSender places) other words = tt
+no-offer first others event other words = tt
 
 from_inner : (first : List ℕ) (others : List (List ℕ)) (read : Result Event LineFault) (event : LongEvent) → bytes_eq first (codes "send") ≡ false → event_by_words (first ∷ others) ≡ read → inner_or_fault read ≡ Ok event →
     ReadFrom (first ∷ others) event

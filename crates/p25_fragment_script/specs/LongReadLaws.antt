@@ -13,9 +13,8 @@ use Rattle.p25_script.specs.ScriptReadLaws.{event_not_long}
 use Rattle.p25_fragment_script.specs.LongScript.{inner_or_fault, long_event_by_words, long_in, long_message_in, other_event}
 
 long-not_long : (others : List (List ℕ)) → long_in others ≡ Err Long → ⊥
-long-not_long [] e = cc e
 long-not_long (word ∷ []) e = value-not_long LongIt (long_message_in word) e
-long-not_long (word ∷ next ∷ others) e = cc e
+long-not_long others e = cc e
 
 inner-not_long : (read : Result Event LineFault) → (read ≡ Err Long → ⊥) → inner_or_fault read ≡ Err Long → ⊥
 inner-not_long (Ok event) other e = cc e

@@ -126,9 +126,8 @@ away b s v number (opening at h) d i n l = absurd (cc (i, ap is_opening h.outsta
 -- The opening packet is heard: no message is outstanding.
 
 unfoldable pub IsNoMessage : Outstanding → Type 0
-IsNoMessage Nothing = Unit {0}
 IsNoMessage (Message message) = ⊥
-IsNoMessage (Opening number) = Unit {0}
+IsNoMessage other = Unit {0}
 
 pub no-message : (b : ℕ) (s : Session) (v : Delivery) (packet : ConfirmedParts) → IsDelivering b s v → IsHeardOf v.packet_sent (Confirmed packet) → head_syn packet.head ≡ true → IsNoMessage (outstanding_in v)
 unfolding IsNoMessage

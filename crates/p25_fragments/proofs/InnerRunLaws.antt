@@ -15,7 +15,7 @@ use Rattle.p25_stations.specs.Steps.{world_step}
 use Rattle.p25_stations.specs.Runs.{world_run, steps_of}
 use Rattle.p25_fragments.specs.declared.long_stations.OutstandingPart.{OutstandingPart}
 use Rattle.p25_fragments.specs.declared.joiner.Joined.{Joined}
-use Rattle.p25_fragments.specs.declared.joiner.Joined.TheVariants.{Whole as JoinedWhole, Part as JoinedPart, Refused as JoinedRefused}
+use Rattle.p25_fragments.specs.declared.joiner.Joined.TheVariants.{Whole as JoinedWhole}
 use Rattle.p25_fragments.specs.declared.long_step.LongEvent.{LongEvent}
 use Rattle.p25_fragments.specs.declared.long_step.LongEvent.TheVariants.{Long, Inner}
 use Rattle.p25_fragments.specs.declared.long_step.Then.{Then}
@@ -86,8 +86,7 @@ acknowledged-run (Some sent) w =
 delivered-run : (w : LongState) (x : Joining × Joined) → Follow w (after_delivered w x)
 unfolding Follow after_delivered next_steps
 delivered-run w (j, JoinedWhole message) = no-events w.inner
-delivered-run w (j, JoinedPart number) = no-events w.inner
-delivered-run w (j, JoinedRefused) = no-events w.inner
+delivered-run w x = no-events w.inner
 
 plain-run : (w : LongState) → Follow w (w, Plain)
 unfolding Follow next_steps

@@ -1,18 +1,18 @@
 -- Each step of a world of long messages makes its history one event longer; and what its history says of it.
-use Rattle.std.proofs.Common.{◌≡◌, ℕ, ◌≤◌, Bool, true, false, ◌||◌, length, List, [], ◌∷◌, ◌++◌, refl, sym, ap, subst, ◌∙◌}
+use Rattle.std.proofs.Common.{◌≡◌, ℕ, ◌≤◌, Bool, false, ◌||◌, length, List, [], ◌∷◌, ◌++◌, refl, sym, ap, subst, ◌∙◌}
 use Rattle.p25_delivery.specs.Orderly.{AreOrderly}
 use Rattle.p25_delivery.specs.Runs.{run_by, EachIs}
 use Rattle.p25_delivery.proofs.RunLaws.{run-append}
-use Rattle.p25_stations.specs.declared.step.Event.TheVariants.{Send, Timeout, Reopen, ToReceiver, ToSender}
 use Rattle.p25_stations.specs.WorldState.{WorldState}
 use Rattle.p25_stations.specs.Runs.{AreClean}
 use Rattle.p25_stations.proofs.FalsePassLaws.{clean-from_none, none-from_clean}
 use Rattle.p25_stations.proofs.HistoryLaws.{each-append}
 use Rattle.p25_fragments.specs.LongState.{LongState, first_long}
 use Rattle.p25_fragments.specs.declared.long_step.LongEvent.TheVariants.{Long, Inner}
-use Rattle.p25_fragments.specs.LongRuns.{AreLongEvents, HasLongHistory, IsCleanLongRun, IsEventOf, IsLongEvent, IsNoOffer, LongEvent, LongStep, long_run, long_sessions_of, long_step, offers_beside}
+use Rattle.p25_fragments.specs.LongRuns.{HasLongHistory, IsCleanLongRun, IsEventOf, IsLongEvent, IsNoOffer, LongEvent, LongStep, long_run, long_sessions_of, long_step, offers_beside}
 use Rattle.p25_fragments.proofs.InnerRunLaws.{inner-run}
 use Rattle.p25_fragments.proofs.LongRunLaws.{long-orderly}
+use Rattle.p25_stations.specs.declared.step.Event.TheVariants.{Send}
 
 -- the inner world counts its false passes: none is counted exactly where the run is clean
 
@@ -31,10 +31,7 @@ pub event-kept : (event : LongEvent) → ((message : List ℕ) → event ≡ Lon
 unfolding IsLongEvent IsNoOffer
 event-kept (Long message) short = short message refl
 event-kept (Inner (Send message)) short = tt
-event-kept (Inner Timeout) short = tt
-event-kept (Inner Reopen) short = tt
-event-kept (Inner (ToReceiver flips)) short = tt
-event-kept (Inner (ToSender flips)) short = tt
+event-kept event short = tt
 
 -- a world before its first step has a history
 pub history_first : HasLongHistory first_long false
@@ -44,22 +41,16 @@ history_first = record { events = []; kept = λ none. tt; run = refl }
 -- a world after a step has one, where the world before it has
 pub history-step : (w next : LongState) (beside offers : Bool) (event : LongEvent) (step : LongStep) → HasLongHistory w beside → IsEventOf offers event → (next, step) ≡ long_step w event → HasLongHistory next (beside || offers)
 unfolding run_by EachIs
-history-step w next true offers event step before is now =
-    record {
-      events = before.events ++ event ∷ [];
-      kept = λ none. absurd (cc);
-      run = run-append long_step first_long before.events (event ∷ []) ∙ ap (λ (v : LongState). (long_step v event).0) before.run ∙ ap (λ (x : LongState × LongStep). x.0) (sym now);
-    }
-history-step w next false true event step before is now =
-    record {
-      events = before.events ++ event ∷ [];
-      kept = λ none. absurd (cc);
-      run = run-append long_step first_long before.events (event ∷ []) ∙ ap (λ (v : LongState). (long_step v event).0) before.run ∙ ap (λ (x : LongState × LongStep). x.0) (sym now);
-    }
 history-step w next false false event step before is now =
     record {
       events = before.events ++ event ∷ [];
       kept = λ none. each-append IsLongEvent before.events (event ∷ []) (before.kept refl) (is, tt);
+      run = run-append long_step first_long before.events (event ∷ []) ∙ ap (λ (v : LongState). (long_step v event).0) before.run ∙ ap (λ (x : LongState × LongStep). x.0) (sym now);
+    }
+history-step w next beside offers event step before is now =
+    record {
+      events = before.events ++ event ∷ [];
+      kept = λ none. absurd (cc);
       run = run-append long_step first_long before.events (event ∷ []) ∙ ap (λ (v : LongState). (long_step v event).0) before.run ∙ ap (λ (x : LongState × LongStep). x.0) (sym now);
     }
 

@@ -5,21 +5,21 @@ use Rattle.std.specs.Prelude.{nat_lt}
 use Rattle.std.proofs.lemmas.List.Sums.{sum_by-cons}
 use Rattle.p25_messages.specs.LongMessages.{part_count, part_of}
 use Rattle.p25_messages.specs.declared.step_kind.StepKind.{StepKind}
-use Rattle.p25_messages.specs.declared.step_kind.StepKind.TheVariants.{Acknowledged, Delivered, SynHeard}
+use Rattle.p25_messages.specs.declared.step_kind.StepKind.TheVariants.{Acknowledged, Delivered}
 use Rattle.p25_delivery.specs.Runs.{run_by, steps_by}
 use Rattle.p25_delivery.specs.declared.sender.Outstanding.{Outstanding}
-use Rattle.p25_delivery.specs.declared.sender.Outstanding.TheVariants.{Nothing, Message, Opening}
+use Rattle.p25_delivery.specs.declared.sender.Outstanding.TheVariants.{Nothing}
 use Rattle.p25_stations.specs.declared.step.Event.{Event}
 use Rattle.p25_stations.specs.declared.step.Event.TheVariants.{Send}
 use Rattle.p25_stations.specs.declared.step.Step.{Step}
 use Rattle.p25_stations.specs.WorldState.{WorldState}
 use Rattle.p25_stations.specs.Steps.{world_step}
 use Rattle.p25_fragments.specs.declared.joiner.Joined.{Joined}
-use Rattle.p25_fragments.specs.declared.joiner.Joined.TheVariants.{Whole as JoinedWhole, Part as JoinedPart, Refused as JoinedRefused}
+use Rattle.p25_fragments.specs.declared.joiner.Joined.TheVariants.{Whole as JoinedWhole}
 use Rattle.p25_fragments.specs.declared.long_step.LongEvent.{LongEvent}
 use Rattle.p25_fragments.specs.declared.long_step.LongEvent.TheVariants.{Long, Inner}
 use Rattle.p25_fragments.specs.declared.long_step.Then.{Then}
-use Rattle.p25_fragments.specs.declared.long_step.Then.TheVariants.{Down, Busy, Finished}
+use Rattle.p25_fragments.specs.declared.long_step.Then.TheVariants.{Down, Finished}
 use Rattle.p25_fragments.specs.declared.long_step.LongStep.{LongStep}
 use Rattle.p25_fragments.specs.Joining.{Joining, message_taken}
 use Rattle.p25_fragments.specs.LongState.{LongState, OutstandingPart}
@@ -58,15 +58,13 @@ acknowledged-tells (Some sent) w =
 delivered-tells : (w : LongState) (x : Joining × Joined) → ThenTells w (after_delivered w x)
 unfolding after_delivered
 delivered-tells w (j, JoinedWhole message) = record { whole = refl; taken = refl; acknowledged = omega arith }
-delivered-tells w (j, JoinedPart number) = record { whole = none w.whole; taken = refl; acknowledged = omega arith }
-delivered-tells w (j, JoinedRefused) = record { whole = none w.whole; taken = refl; acknowledged = omega arith }
+delivered-tells w x = record { whole = none w.whole; taken = refl; acknowledged = omega arith }
 
 kind-tells : (kind : StepKind) (w : LongState) → ThenTells w (after_kind kind w)
 unfolding after_kind
 kind-tells (Acknowledged number) w = acknowledged-tells w.outstanding w
 kind-tells (Delivered number message) w = delivered-tells w (message_taken w.joining message)
-kind-tells (SynHeard number) w = record { whole = none w.whole; taken = refl; acknowledged = omega arith }
-kind-tells other w = record { whole = none w.whole; taken = refl; acknowledged = omega arith }
+kind-tells kind w = record { whole = none w.whole; taken = refl; acknowledged = omega arith }
 
 -- ---- each event
 
@@ -85,8 +83,7 @@ inner-tells event w inner step =
 beside-tells : (out : Outstanding) (w : LongState) (message : List ℕ) → Tells (Long message) w (long_offered_beside out w message)
 unfolding long_offered_beside started
 beside-tells Nothing w message = record { whole = none w.whole; taken = refl; acknowledged = omega arith }
-beside-tells (Message part) w message = record { whole = none w.whole; taken = none w.taken; acknowledged = omega arith }
-beside-tells (Opening number) w message = record { whole = none w.whole; taken = none w.taken; acknowledged = omega arith }
+beside-tells out w message = record { whole = none w.whole; taken = none w.taken; acknowledged = omega arith }
 
 offer-tells : (w : LongState) (message : List ℕ) → Tells (Long message) w (long_offered w message)
 unfolding long_offered

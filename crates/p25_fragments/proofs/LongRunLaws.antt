@@ -9,12 +9,12 @@ use Rattle.p25_delivery.specs.Orderly.{IsClean, IsOrderly, AreOrderly}
 use Rattle.p25_delivery.proofs.DeliveryLaws.{happens-kept, first-kept}
 use Rattle.p25_delivery.proofs.SessionLaws.{divided-sent, present-sent}
 use Rattle.p25_stations.specs.declared.step.Event.{Event}
-use Rattle.p25_stations.specs.declared.step.Event.TheVariants.{Send, Timeout, Reopen, ToReceiver, ToSender}
+use Rattle.p25_stations.specs.declared.step.Event.TheVariants.{Send}
 use Rattle.p25_stations.specs.declared.step.Step.{Step}
 use Rattle.p25_stations.specs.WorldState.{WorldState}
 use Rattle.p25_stations.specs.Steps.{world_step}
 use Rattle.p25_stations.specs.Runs.{IsEvent, AreClean}
-use Rattle.p25_stations.proofs.StepLaws.{HasHappen, offers, is_late, opens, brings_data, brings_answer, IsQuiet, nothing, lost, ignored, Does, rests, does, step-does}
+use Rattle.p25_stations.proofs.StepLaws.{HasHappen, offers, IsQuiet, nothing, Does, rests, does, step-does}
 use Rattle.p25_stations.proofs.CleanLaws.{happening-clean}
 use Rattle.p25_fragments.specs.declared.long_step.LongEvent.{LongEvent}
 use Rattle.p25_fragments.specs.declared.long_step.LongEvent.TheVariants.{Long, Inner}
@@ -71,24 +71,17 @@ offered-follows w message x f short i (told_taken number blocks k d o e) = subst
 no-offering : (delivery : Delivery) (event : Event) (false_pass : Bool) (happening : Happening) → HasHappen delivery event false_pass happening → IsNoOffer event → IsNoOffering happening
 unfolding IsNoOffer IsNoOffering
 no-offering delivery event false_pass happening (offers message) is = is
-no-offering delivery event false_pass happening is_late is = tt
-no-offering delivery event false_pass happening opens is = tt
-no-offering delivery event false_pass happening (brings_data flips sent packet b n e) is = tt
-no-offering delivery event false_pass happening (brings_answer flips sent packet b n e) is = tt
+no-offering delivery event false_pass happening other is = tt
 
 no-offer-event : (event : Event) → IsNoOffer event → IsEvent event
 unfolding IsNoOffer IsEvent
 no-offer-event (Send message) is = absurd is
-no-offer-event Timeout is = tt
-no-offer-event Reopen is = tt
-no-offer-event (ToReceiver flips) is = tt
-no-offer-event (ToSender flips) is = tt
+no-offer-event event is = tt
 
 quiet-plain : (kind : StepKind) → IsQuiet kind → IsPlainKind kind
 unfolding IsPlainKind
 quiet-plain kind (nothing way) = tt
-quiet-plain kind (lost way field) = tt
-quiet-plain kind (ignored way) = tt
+quiet-plain kind other = tt
 
 does-follows : (w : LongState) (event : Event) (x : WorldState × Step) → Follows w → IsNoOffer event → x.1.false_pass ≡ false → Does w.inner event x → FollowsStep (inner_happened w x)
 unfolding IsClean

@@ -8,11 +8,11 @@ use Rattle.p25_delivery.specs.Halves.{Sending}
 use Rattle.p25_delivery.specs.SenderRules.{offered}
 use Rattle.p25_delivery.specs.declared.outbound.Mark.{Mark}
 use Rattle.p25_messages.specs.declared.answers.Offer.{Offer}
-use Rattle.p25_messages.specs.declared.answers.Offer.TheVariants.{Taken, Busy as OfferBusy, Down as DownAtOffer}
+use Rattle.p25_messages.specs.declared.answers.Offer.TheVariants.{Taken}
 use Rattle.p25_messages.specs.declared.step_kind.StepKind.{StepKind}
-use Rattle.p25_messages.specs.declared.step_kind.StepKind.TheVariants.{Acknowledged, Delivered, SynHeard}
+use Rattle.p25_messages.specs.declared.step_kind.StepKind.TheVariants.{Acknowledged, Delivered}
 use Rattle.p25_delivery.specs.HalfRules.{after_offer}
-use Rattle.p25_delivery.specs.Delivery.{Delivery, with_outbound, Happening, Offering, Time_up, Opening_again, Data_heard, Answer_heard, happens, present_mark}
+use Rattle.p25_delivery.specs.Delivery.{Delivery, with_outbound, Happening, Offering, happens, present_mark}
 use Rattle.p25_stations.specs.declared.step.Event.{Event}
 use Rattle.p25_stations.specs.declared.step.Event.TheVariants.{Send}
 use Rattle.p25_stations.specs.declared.step.Step.{Step}
@@ -21,7 +21,7 @@ use Rattle.p25_stations.specs.Steps.{world_step}
 use Rattle.p25_stations.proofs.StepLaws.{Does, rests, does, step-does}
 use Rattle.p25_fragments.specs.declared.long_stations.OutstandingPart.{OutstandingPart}
 use Rattle.p25_fragments.specs.declared.joiner.Joined.{Joined}
-use Rattle.p25_fragments.specs.declared.joiner.Joined.TheVariants.{Whole as JoinedWhole, Part as JoinedPart, Refused as JoinedRefused}
+use Rattle.p25_fragments.specs.declared.joiner.Joined.TheVariants.{Whole as JoinedWhole}
 use Rattle.p25_fragments.specs.declared.long_step.LongEvent.{LongEvent}
 use Rattle.p25_fragments.specs.declared.long_step.LongEvent.TheVariants.{Long, Inner}
 use Rattle.p25_fragments.specs.declared.long_step.Then.{Then}
@@ -47,8 +47,7 @@ OneMore before after = (after ≡ before) ⊎ ((mark : Mark) × (after ≡ befor
 offer-marks : (v : Delivery) (message : List ℕ) (x : Sending × Offer) → erasures_in (with_outbound v (after_offer v.outbound message x)).0 ≡ erasures_in v
 unfolding erasures_in with_outbound after_offer
 offer-marks v message (s, Taken number blocks packet) = refl
-offer-marks v message (s, OfferBusy) = refl
-offer-marks v message (s, DownAtOffer) = refl
+offer-marks v message x = refl
 
 moved-marks : (v : Delivery) (happening : Happening) (x : Delivery × StepKind) → Moves v happening x → OneMore (erasures_in v) (erasures_in x.0)
 unfolding OneMore erasures_in
@@ -62,10 +61,7 @@ moved-marks v h x (opens_session number p o q n l e) = inl (ap (λ (u : Delivery
 happens-marks : (v : Delivery) (happening : Happening) → OneMore (erasures_in v) (erasures_in (happens v happening).0)
 unfolding OneMore happens IsNoOffering
 happens-marks v (Offering message) = inl (offer-marks v message (offered v.outbound.sender message))
-happens-marks v Time_up = moved-marks v Time_up (happens v Time_up) (happens-moves v Time_up tt)
-happens-marks v Opening_again = moved-marks v Opening_again (happens v Opening_again) (happens-moves v Opening_again tt)
-happens-marks v (Data_heard packet) = moved-marks v (Data_heard packet) (happens v (Data_heard packet)) (happens-moves v (Data_heard packet) tt)
-happens-marks v (Answer_heard packet) = moved-marks v (Answer_heard packet) (happens v (Answer_heard packet)) (happens-moves v (Answer_heard packet) tt)
+happens-marks v happening = moved-marks v happening (happens v happening) (happens-moves v happening tt)
 
 -- The marks of the world of long messages.
 
@@ -98,15 +94,13 @@ acknowledged-marks (Some sent) w h =
 delivered-marks : (w : LongState) (x : Joining × Joined) → AreMarked w → AreMarked (after_delivered w x).0
 unfolding AreMarked after_delivered
 delivered-marks w (j, JoinedWhole message) h = h
-delivered-marks w (j, JoinedPart number) h = h
-delivered-marks w (j, JoinedRefused) h = h
+delivered-marks w x h = h
 
 kind-marks : (kind : StepKind) (w : LongState) → AreMarked w → AreMarked (after_kind kind w).0
 unfolding AreMarked after_kind
 kind-marks (Acknowledged number) w h = acknowledged-marks w.outstanding w h
 kind-marks (Delivered number message) w h = delivered-marks w (message_taken w.joining message) h
-kind-marks (SynHeard number) w h = h
-kind-marks other w h = h
+kind-marks kind w h = h
 
 inner-marks : (w : LongState) (inner : WorldState) (step : Step) → AreMarked w → OneMore (erasures_in w.inner.delivery) (erasures_in inner.delivery) → AreMarked (inner_happened w (inner, step)).0
 unfolding AreMarked erasures_in OneMore

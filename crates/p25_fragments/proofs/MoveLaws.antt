@@ -14,9 +14,9 @@ use Rattle.p25_delivery.specs.ReceiverRules.{keeping_for, finished, completed, f
 use Rattle.p25_delivery.specs.declared.sender.Outstanding.{Outstanding}
 use Rattle.p25_delivery.specs.declared.sender.Outstanding.TheVariants.{Nothing, Message, Opening}
 use Rattle.p25_messages.specs.declared.answers.Resend.{Resend}
-use Rattle.p25_messages.specs.declared.answers.Resend.TheVariants.{Sent, Idle as ResendIdle, Down as DownAtTimeout}
+use Rattle.p25_messages.specs.declared.answers.Resend.TheVariants.{Sent}
 use Rattle.p25_messages.specs.declared.answers.SenderHeard.{SenderHeard}
-use Rattle.p25_messages.specs.declared.answers.SenderHeard.TheVariants.{Acknowledged as HeardAck, Opened as SenderOpened, Retry, Repeat, Ignored as SenderIgnored, Down as DownAtAnswer}
+use Rattle.p25_messages.specs.declared.answers.SenderHeard.TheVariants.{Acknowledged as HeardAck, Opened as SenderOpened}
 use Rattle.p25_messages.specs.declared.answers.Reopen.{Reopen as ReopenAnswer}
 use Rattle.p25_messages.specs.declared.answers.Reopen.TheVariants.{Sent as ReopenSent, Up as ReopenUp}
 use Rattle.p25_messages.specs.declared.answers.Heard.{Heard as HeardAnswer}
@@ -80,8 +80,7 @@ timed-same s = (timeout-of (λ packet. Unit {0}) s s.outstanding refl (timed-wit
 timeout-by : (v : Delivery) (x : Sending × Resend) → x.0.outstanding ≡ outstanding_in v → Moves v Time_up (with_outbound v (after_timeout v.outbound x))
 unfolding with_outbound after_timeout newest_after IsPlainKind
 timeout-by v (s, Sent number tries packet) o = moves_nothing tt o refl refl
-timeout-by v (s, ResendIdle) o = moves_nothing tt o refl refl
-timeout-by v (s, DownAtTimeout) o = moves_nothing tt o refl refl
+timeout-by v x o = moves_nothing tt o refl refl
 
 -- The session is opened again.
 
@@ -92,15 +91,13 @@ ReopensBy v out x = Moves v Opening_again (with_outbound v (after_reopening v.ou
 opening-sent : (v : Delivery) (out : Outstanding) (number : ℕ) (s : Sending) → outstanding_in v ≡ out → v.outbound.sender.down ≡ true → opening_number out v.outbound.sender.next ≡ number → s.outstanding ≡ Opening number →
     ReopensBy v out (s, ReopenSent number (opening_packet number))
 unfolding ReopensBy with_outbound after_reopening newest_after IsPlainKind opening_number
-opening-sent v Nothing number s o d n p = ends number tt d (ap is_opening o) (ap (λ (x : Outstanding). opening_number x v.outbound.sender.next) o ∙ n) p refl refl
-opening-sent v (Message message) number s o d n p = ends number tt d (ap is_opening o) (ap (λ (x : Outstanding). opening_number x v.outbound.sender.next) o ∙ n) p refl refl
 opening-sent v (Opening before) number s o d n p = moves_nothing tt (p ∙ ap Opening (sym n) ∙ sym o) refl refl
+opening-sent v out number s o d n p = ends number tt d (ap is_opening o) (ap (λ (x : Outstanding). opening_number x v.outbound.sender.next) o ∙ n) p refl refl
 
 reopen-up : (v : Delivery) (out : Outstanding) → ReopensBy v out (v.outbound.sender, ReopenUp)
 unfolding ReopensBy with_outbound after_reopening newest_after IsPlainKind
 reopen-up v Nothing = moves_nothing tt refl refl refl
-reopen-up v (Message message) = moves_nothing tt refl refl refl
-reopen-up v (Opening number) = moves_nothing tt refl refl refl
+reopen-up v out = moves_nothing tt refl refl refl
 
 reopen-moves : (v : Delivery) → ReopensBy v (outstanding_in v) (reopened v.outbound.sender)
 unfolding reopened
@@ -189,10 +186,7 @@ answer-same : (v : Delivery) (packet : Packet) (number : ℕ) (message : List �
 unfolding AnswersBy with_outbound after_answer newest_after IsPlainKind
 answer-same v packet number message (s, HeardAck n) o r = absurd r
 answer-same v packet number message (s, SenderOpened n) o r = absurd r
-answer-same v packet number message (s, Retry n wanted tries again) o r = moves_nothing tt o refl refl
-answer-same v packet number message (s, Repeat n tries again) o r = moves_nothing tt o refl refl
-answer-same v packet number message (s, SenderIgnored) o r = moves_nothing tt o refl refl
-answer-same v packet number message (s, DownAtAnswer) o r = moves_nothing tt o refl refl
+answer-same v packet number message x o r = moves_nothing tt o refl refl
 
 answer-message : (v : Delivery) (message : List ℕ) (packet : Packet) (x : Sending × SenderHeard) → outstanding_in v ≡ Message message → HearsAnswer v.outbound.sender message packet x → AnswersBy v packet x
 unfolding AnswersBy with_outbound after_answer newest_after

@@ -1,5 +1,5 @@
 -- The laws of the Golay code (24,12).
-use Rattle.std.specs.Prelude.{◌≡◌, ℕ, ◌<◌, ◌≤◌, ◌^◌, ◌+◌, ◌*◌, ◌%◌, ◌++◌, Bool, true, false, List, [], ◌∷◌, length, take, drop, map, bit_xor, refl}
+use Rattle.std.specs.Prelude.{◌≡◌, ℕ, ◌<◌, ◌≤◌, ◌^◌, ◌+◌, ◌*◌, ◌%◌, ◌++◌, Bool, true, List, [], ◌∷◌, length, take, drop, map, bit_xor, refl, false}
 use Rattle.std.specs.Int.Bits.{xor_zero_r}
 use Rattle.std.proofs.Common.{arith, ap, ap₂, sym, ◌∙◌, take-append-drop}
 use Rattle.std.proofs.lemmas.List.{length-take-le}
@@ -68,9 +68,8 @@ length-stated = refl
 -- a place without checks adds nothing
 no_checks : (bits : List Bool) → syndrome_of (0 ∷ []) bits ≡ 0
 unfolding syndrome_of
-no_checks [] = refl
 no_checks (false ∷ bits) = refl
-no_checks (true ∷ bits) = refl
+no_checks bits = refl
 
 -- the last place takes no part in the remainder
 remainder_sum : (word : List Bool) → length word ≡ 24

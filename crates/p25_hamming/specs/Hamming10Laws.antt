@@ -1,5 +1,5 @@
 -- The laws of the Hamming code (10,6).
-use Rattle.std.specs.Prelude.{◌≡◌, ◌≤◌, ◌++◌, Bool, true, List, refl}
+use Rattle.std.specs.Prelude.{◌≡◌, ◌++◌, Bool, true, List, refl}
 use Rattle.p25_code.specs.Binary.{IsChecked, check_columns, systematic, syndrome_of, weight_of}
 use Rattle.p25_code.specs.CodeLaws.{IsBlockCode, IsSystematic, is_heavy, all_bits}
 use Rattle.p25_code.proofs.BinaryLaws.{sum_checked, checked_sum, length_checked, is_code}

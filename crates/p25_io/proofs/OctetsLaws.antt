@@ -1,11 +1,10 @@
 -- Laws for a loop that reads to the end, or that writes piece after piece.
 use Rattle.std.proofs.Common.{ℕ, ◌+◌, ◌-◌, ◌≡◌, ◌≤◌, Option, None, Some, List, [], ◌++◌, length, take, min, refl, sym, ap, subst, ◌∙◌, arith, append_assoc, append-nil, length-append, length-take}
 use Rattle.std.proofs.lemmas.List.{take_min, take-append-le}
-use Rattle.std.proofs.Math.Seq.{take-append-add, take-length}
-use Rattle.std.specs.Prelude.{IfSome}
+use Rattle.std.proofs.Math.Seq.{take-append-add}
 use Rattle.std.specs.Io.KnownBytes.{prepend_known, append_known}
 use Rattle.p25_io.specs.Faults.{Rose}
-use Rattle.p25_io.specs.Octets.{Taken, Gives, Appended, AppendedBeginning}
+use Rattle.p25_io.specs.Octets.{Taken, Appended, AppendedBeginning}
 
 -- equal octets may stand for each other
 pub Taken-same : {first now : Option (List ℕ)} {xs ys : List ℕ} → xs ≡ ys → Taken first xs now → Taken first ys now
@@ -35,15 +34,6 @@ Taken-told {all = all} {xs = xs} {now = Some rest} p =
     let same : Some all ≡ Some (xs ++ rest) = p.left in
     (rest, refl, cc)
 
--- at the end of the input all that was told is taken
-pub Taken-ended : {first now after : Option (List ℕ)} {taken buf : List ℕ} → Taken first taken now → Gives now after buf 0 → IfSome first (λ all. all ≡ taken)
-Taken-ended {first = None} p end = tt
-Taken-ended {first = Some all} {now = None} p end = let wrong : Some all ≡ None = p.left in cc
-Taken-ended {first = Some all} {now = Some rest} {taken = taken} p end =
-    let same : Some all ≡ Some (taken ++ rest) = p.left in
-    let joined : all ≡ taken ++ rest = cc in
-    joined ∙ ap (λ l. taken ++ l) (end.ending.0 refl) ∙ append-nil taken
-
 -- before the first write nothing is added
 pub Appended-none : (written : Option (List ℕ)) → Appended written [] written
 Appended-none None = record { written = refl }
@@ -54,10 +44,6 @@ pub Appended-trans : {first second third : Option (List ℕ)} {xs ys : List ℕ}
 Appended-trans {first = None} {ys = ys} p q = record { written = q.written ∙ ap (λ w. append_known w ys) p.written }
 Appended-trans {first = Some zs} {xs = xs} {ys = ys} p q =
     record { written = q.written ∙ ap (λ w. append_known w ys) p.written ∙ ap Some (append_assoc zs xs ys) }
-
--- a whole piece is a beginning of itself
-pub Appended-front : {first now : Option (List ℕ)} {xs : List ℕ} → Appended first xs now → AppendedBeginning first xs now
-Appended-front {xs = xs} p = record { count = length xs; beginning = Appended-same (sym (take-length xs)) p }
 
 -- a whole piece, and then a beginning of the next
 pub AppendedBeginning-next : {first second third : Option (List ℕ)} {xs ys : List ℕ} → Appended first xs second → AppendedBeginning second ys third → AppendedBeginning first (xs ++ ys) third

@@ -7,7 +7,7 @@ use Rattle.p25_io.specs.Asked.{Took}
 use Rattle.p25_io.specs.declared.asked.AskedWriter.{AskedWriter}
 
 -- the octets that are done and the next ones, of those that are left
-take-done_next : (piece : List ℕ) (done count : ℕ) → take (done + count) piece ≡ take done piece ++ take count (take (length piece - done) (drop done piece))
+pub take-done_next : (piece : List ℕ) (done count : ℕ) → take (done + count) piece ≡ take done piece ++ take count (take (length piece - done) (drop done piece))
 take-done_next piece done count =
     take-add done count piece ∙ ap (λ rest. take done piece ++ take count rest) (sym (take_rest piece done))
 

@@ -44,7 +44,6 @@ ascii-joined text (part ∷ parts) first all =
     let each = and_parts (is_ascii part) (list_all is_ascii parts) all in
     ascii-joined (text ++ part) parts (ascii-append text part first each.0) each.1
 
--- a word
 pub ascii-word : (word : List ℕ) → is_word word ≡ true → is_ascii word ≡ true
 ascii-word word is = all-also is_printed (λ octet. nat_lt octet 128) printed-ascii word (and_parts (nat_lt 0 (length word)) (list_all is_printed word) is).1
   where

@@ -1,5 +1,5 @@
 -- A list is read from its text, and a word that is read as a list is its text, where that holds of each entry and no entry's text has a comma. By induction on the parts.
-use Rattle.std.proofs.Common.{◌≡◌, ℕ, ◌<◌, ◌==◌, ◌&&◌, Bool, true, false, List, [], ◌∷◌, length, map, Option, Some, None, inl, inr, refl, sym, ap, ap₂, subst, ◌∙◌, arith}
+use Rattle.std.proofs.Common.{◌≡◌, ℕ, ◌<◌, ◌==◌, ◌&&◌, Bool, true, false, List, [], ◌∷◌, length, map, Option, Some, inl, inr, refl, sym, ap, ap₂, subst, ◌∙◌, arith}
 use Rattle.std.specs.List.{join_with_byte, list_all}
 use Rattle.std.specs.Str.{bytes_eq}
 use Rattle.std.proofs.lemmas.Bool.{cases_Bool, cond-true, cond-false}
@@ -31,15 +31,13 @@ module _ {X : Type 0} {text : X → List ℕ} {read : List ℕ → Option X} {Fi
 
   entries_more : (part : List ℕ) (parts : List (List ℕ)) (first : Option X) (others : Option (List X)) (entries : List X) → read part ≡ first → with_entry first others ≡ Some entries
       → ((rest : List X) → others ≡ Some rest → (map text rest ≡ parts) × AllFit Fits rest) → (map text entries ≡ part ∷ parts) × AllFit Fits entries
-  entries_more part parts None others entries found all step = cc all
-  entries_more part parts (Some entry) None entries found all step = cc all
-  entries_more part parts (Some entry) (Some others) [] found all step = cc all
   entries_more part parts (Some entry) (Some others) (first ∷ entries) found all step =
       let same_first : entry ≡ first = cc all in
       let same_rest : others ≡ entries = cc all in
       let one = laws.again part first (found ∙ ap Some same_first) in
       let rest = step entries (ap Some same_rest) in
       (ap₂ ◌∷◌ one.0 rest.0, (one.1, rest.1))
+  entries_more part parts first others entries found all step = cc all
 
   text-entries_in : (parts : List (List ℕ)) (entries : List X) → entries_in read parts ≡ Some entries → (map text entries ≡ parts) × AllFit Fits entries
   text-entries_in [] [] found = (refl, tt)

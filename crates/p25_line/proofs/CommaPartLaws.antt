@@ -59,7 +59,6 @@ part-comma word part start i order inside comma none same =
     shifted : (start n count : ℕ) → count ≡ n → start + (n + 1) ≡ start + count + 1
     shifted start n count same = omega arith
 
--- the last part
 pub part-last : (word part : List ℕ) (start : ℕ) → start ≤ length word → NoComma word start (length word) → part ≡ take (length word - start) (drop start word)
     → parts_from word start ≡ part ∷ parts_from word (start + length part + 1)
 part-last word part start within none same =

@@ -1,5 +1,5 @@
 -- A list that is read part by part, as a loop does it: all entries are those read so far and those of the parts that are left.
-use Rattle.std.proofs.Common.{◌≡◌, ◌≢◌, ℕ, ◌<◌, ◌≤◌, ◌==◌, true, false, List, [], ◌∷◌, ◌++◌, length, Option, Some, None, refl, sym, ap, ap₂, ◌∙◌, arith, append-nil, append_assoc, length-append}
+use Rattle.std.proofs.Common.{◌≡◌, ◌≢◌, ℕ, ◌<◌, ◌≤◌, ◌==◌, false, List, [], ◌∷◌, ◌++◌, length, Option, Some, None, refl, sym, ap, ap₂, ◌∙◌, arith, append-nil, append_assoc, length-append}
 use Rattle.std.specs.Option.{option_map}
 use Rattle.std.specs.Str.{bytes_eq}
 use Rattle.std.proofs.lemmas.Bool.{cond-true, cond-false, eq-eqb, ne_eqb}
@@ -38,23 +38,15 @@ module _ {X : Type 0} (read : List ℕ → Option X) where
       ∙ ap (λ o. option_map (λ entries. done ++ entries) (with_entry o (entries_in read (parts_from word next)))) found
       ∙ one_more done entry (entries_in read (parts_from word next))
 
-  -- a part that is not read
-  pub EntriesSoFar-none : (word part : List ℕ) (start next : ℕ) (done : List X) → EntriesSoFar word start done → parts_from word start ≡ part ∷ parts_from word next
-      → read part ≡ None → entries_in read (comma_parts word) ≡ None
-  EntriesSoFar-none word part start next done so_far parts found =
-      so_far ∙ ap (λ l. option_map (λ entries. done ++ entries) (entries_in read l)) parts
-      ∙ ap (λ o. option_map (λ entries. done ++ entries) (with_entry o (entries_in read (parts_from word next)))) found
-
   -- no part is left
   pub EntriesSoFar-end : (word : List ℕ) (start : ℕ) (done : List X) → EntriesSoFar word start done → length word < start → entries_in read (comma_parts word) ≡ Some done
   EntriesSoFar-end word start done so_far past =
       so_far ∙ ap (λ l. option_map (λ entries. done ++ entries) (entries_in read l)) (parts_from-past word start past) ∙ ap Some (append-nil done)
 
   more_parts : (done : List X) (part : Option X) (others : Option (List X)) → counted (length done) (option_map (λ entries. done ++ entries) (with_entry part others)) ≡ None
-  more_parts done None others = refl
-  more_parts done (Some entry) None = refl
   more_parts done (Some entry) (Some others) =
       cond-false (length (done ++ entry ∷ others) == length done) (Some (done ++ entry ∷ others)) None (ne_eqb (length (done ++ entry ∷ others)) (length done) (λ same. omega (arith, length-append done (entry ∷ others))))
+  more_parts done part others = refl
 
   more_entries : (done : List X) (parts : List (List ℕ)) → 0 < length parts → counted (length done) (option_map (λ entries. done ++ entries) (entries_in read parts)) ≡ None
   more_entries done [] some = absurd (omega arith)
@@ -69,6 +61,3 @@ module _ {X : Type 0} (read : List ℕ → Option X) where
   -- the list of a word that is not `-`
   pub list_in-parts : (word : List ℕ) → bytes_eq word dash ≡ false → list_in read word ≡ entries_in read (comma_parts word)
   list_in-parts word other = cond-false (bytes_eq word dash) (Some []) (entries_in read (comma_parts word)) other
-
-  pub list_in-dash : (word : List ℕ) → bytes_eq word dash ≡ true → list_in read word ≡ Some []
-  list_in-dash word same = cond-true (bytes_eq word dash) (Some []) (entries_in read (comma_parts word)) same

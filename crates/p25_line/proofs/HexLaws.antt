@@ -70,9 +70,6 @@ pub octets_of-facts : (n : ℕ) (word : List ℕ) → length word ≡ 2 * n → 
     → (encode_lower (octets_of word) ≡ word) × (AllOctets (octets_of word)) × (length (octets_of word) ≡ n)
 unfolding encode_with octets_of
 octets_of-facts zero [] even digits = (refl, All-nil (λ x. x < 256), refl)
-octets_of-facts zero (high ∷ word) even digits = absurd (omega arith)
-octets_of-facts (suc n) [] even digits = absurd (omega arith)
-octets_of-facts (suc n) (high ∷ []) even digits = absurd (omega arith)
 octets_of-facts (suc n) (high ∷ low ∷ word) even digits =
     let first = and_parts (is_lower_digit high) (list_all is_lower_digit (low ∷ word)) digits in
     let second = and_parts (is_lower_digit low) (list_all is_lower_digit word) first.1 in
@@ -89,6 +86,7 @@ octets_of-facts (suc n) (high ∷ low ∷ word) even digits =
       All-cons (λ x. x < 256) octet (octets_of word) fits others.1,
       ap suc others.2,
     )
+octets_of-facts n word even digits = absurd (omega arith)
 
 -- octets as the kit's hexadecimal crate speaks of them
 pub IsBytes-AllOctets : (octets : List ℕ) → AllOctets octets → IsBytes octets

@@ -58,9 +58,8 @@ places_kept line list i are held kept = omega (arith, length-map list.places (wo
 
 slice_get-take : {X : Type 0} (n : ℕ) (xs : List X) (i : ℕ) → i < n → slice_get (take n xs) i ≡ slice_get xs i
 slice_get-take zero xs i below = absurd (omega arith)
-slice_get-take (suc n) [] i below = refl
-slice_get-take (suc n) (x ∷ xs) zero below = refl
 slice_get-take (suc n) (x ∷ xs) (suc i) below = slice_get-take n xs i (omega arith)
+slice_get-take (suc n) xs i below = refl
 
 pub word_kept : (line : List ℕ) (list : Marks) (i : ℕ) (word : List ℕ) → AreWordsOf line list → i < 16 → slice_get (marked line list.places) i ≡ Some word → slice_get (parts_of line) i ≡ Some word
 word_kept line list i word are kept at = sym (slice_get-take 16 (parts_of line) i kept) ∙ ap (λ (l : List (List ℕ)). slice_get l i) (sym are.places) ∙ at
@@ -82,23 +81,13 @@ pub first-others : {X : Type 0} (words : List X) (first : X) → slice_get words
 first-others [] first at = cc at
 first-others (word ∷ words) first at = let same : word ≡ first = cc at in ap (λ w. w ∷ words) same
 
-pub no-others : {X : Type 0} (words : List X) → length words ≡ 1 → drop 1 words ≡ []
-no-others [] count = absurd (omega arith)
-no-others (first ∷ []) count = refl
-no-others (first ∷ second ∷ words) count = absurd (omega arith)
-
 pub one-other : {X : Type 0} (words : List X) (x : X) → length words ≡ 2 → slice_get words 1 ≡ Some x → drop 1 words ≡ x ∷ []
-one-other [] x count at = absurd (omega arith)
-one-other (first ∷ []) x count at = absurd (omega arith)
 one-other (first ∷ second ∷ []) x count at = let same : second ≡ x = cc at in ap (λ y. y ∷ []) same
-one-other (first ∷ second ∷ third ∷ words) x count at = absurd (omega arith)
+one-other words x count at = absurd (omega arith)
 
 pub two-others : {X : Type 0} (words : List X) (x y : X) → length words ≡ 3 → slice_get words 1 ≡ Some x → slice_get words 2 ≡ Some y → drop 1 words ≡ x ∷ y ∷ []
-two-others [] x y count at next = absurd (omega arith)
-two-others (first ∷ []) x y count at next = absurd (omega arith)
-two-others (first ∷ second ∷ []) x y count at next = absurd (omega arith)
 two-others (first ∷ second ∷ third ∷ []) x y count at next =
     let same : second ≡ x = cc at in
     let last : third ≡ y = cc next in
     ap₂ (λ a b. a ∷ b ∷ []) same last
-two-others (first ∷ second ∷ third ∷ fourth ∷ words) x y count at next = absurd (omega arith)
+two-others words x y count at next = absurd (omega arith)

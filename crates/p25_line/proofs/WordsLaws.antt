@@ -41,7 +41,6 @@ printed-parts [] = refl
 printed-parts (octet ∷ line) =
     allowed_more octet (parts_of line) (list_all is_allowed line) (octet == 32) (printed-parts line) (omega (arith, length-slice_split (λ x. x == 32) line))
 
--- words are printed
 pub words-printed : (words : List (List ℕ)) → list_all is_word words ≡ true → list_all (list_all is_printed) words ≡ true
 words-printed [] all = refl
 words-printed (word ∷ words) all =
@@ -80,7 +79,6 @@ find-passes test (y ∷ xs) x found =
       | inr failed ↦ find-passes test xs x (sym (cond-false (test y) (Some y) (find test xs) failed) ∙ found)
     ]
 
--- digits are printed
 digit-printed : (digit : ℕ) → is_lower_digit digit ≡ true → is_printed digit ≡ true
 digit-printed digit lower = grind arith
 

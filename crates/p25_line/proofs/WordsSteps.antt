@@ -4,7 +4,7 @@ use Rattle.std.specs.Prelude.{ok_or}
 use Rattle.std.specs.List.{list_all, All}
 use Rattle.std.proofs.lemmas.Bool.{cases_Bool, eqb-true, lt-ltb, true≢false}
 use Rattle.std.proofs.lemmas.List.{drop_more, take_all, take_at, drop_all, drop-drop, take-map, get_or-drop, map-append}
-use Rattle.std.proofs.lemmas.List.Elements.{All-nil, All-push, All-take}
+use Rattle.std.proofs.lemmas.List.Elements.{All-push, All-take}
 use Rattle.std.proofs.lemmas.List.Folds.{list_all-append, list_all_more, list_all_at}
 use Rattle.std.proofs.lemmas.List.Splits.{slice_split_none, slice_split_at}
 use Rattle.p25_line.specs.Marks.{Marks}
@@ -24,9 +24,8 @@ noted-full places place full = sym (take_at places (place ∷ []) 16 (eqb-true (
 
 -- the first elements of a list, some of which were cut off before
 take-take_append : {X : Type 0} (n : ℕ) (xs ys : List X) → take n (take n xs ++ ys) ≡ take n (xs ++ ys)
-take-take_append zero xs ys = refl
-take-take_append (suc n) [] ys = refl
 take-take_append (suc n) (x ∷ xs) ys = ap (λ l. x ∷ l) (take-take_append n xs ys)
+take-take_append n xs ys = refl
 
 -- the words at the places, after one more place
 marked-noted : (line : List ℕ) (places : List Place) (place : Place) (found : List (List ℕ)) → marked line places ≡ take 16 found
@@ -46,21 +45,6 @@ pub record Cut (line : List ℕ) (list : Marks) (start i : ℕ) : Type 0 where
   pub places : marked line list.places ≡ take 16 (take list.count (parts_of line))
   pub lies : All (LiesIn line) list.places
   pub printed : list_all is_printed (take (i - start) (drop start line)) ≡ true
-
-pub Cut-start : (line : List ℕ) (list : Marks) → list ≡ record { places = []; count = 0 } → Cut line list 0 0
-Cut-start line list none =
-    let empty : Marks = record { places = []; count = 0 } in
-    let cut : Cut line empty 0 0 = record {
-      order = omega arith;
-      within = omega arith;
-      few = omega arith;
-      rest = refl;
-      words = refl;
-      places = refl;
-      lies = All-nil (LiesIn line);
-      printed = refl;
-    } in
-    subst (λ (l : Marks). Cut line l 0 0) (sym none) cut
 
 -- one more printed octet
 pub Cut-printed : (line : List ℕ) (list : Marks) (start i : ℕ) → Cut line list start i → i < length line → is_printed (get_or line i 0) ≡ true
@@ -126,7 +110,6 @@ word-part line start i some within printed =
 words-more : (found : List (List ℕ)) (word : List ℕ) → list_all is_word found ≡ true → is_word word ≡ true → list_all is_word (found ++ word ∷ []) ≡ true
 words-more found word all one = list_all-append is_word found (word ∷ []) ∙ ap₂ ◌&&◌ all (ap (λ b. b && true) one)
 
--- a word is noted
 noted_word : (line : List ℕ) (list noted : Marks) (start i : ℕ) → Cut line list start i → start < i
     → noted.places ≡ take 16 (list.places ++ record { start = start; len = i - start } ∷ []) → (others : List (List ℕ))
     → drop list.count (parts_of line) ≡ take (i - start) (drop start line) ∷ others

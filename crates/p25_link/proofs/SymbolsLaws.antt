@@ -1,8 +1,7 @@
 -- Symbols of six bits are numbers of six bits: each law follows from that of numbers in p25_bits, or by induction on the symbols.
 use Rattle.std.proofs.Common.{◌≡◌, ℕ, zero, suc, ◌+◌, ◌*◌, ◌<◌, ◌≤◌, Bool, List, [], ◌∷◌, ◌++◌, length, take, drop, map, refl, ap, ap₂, sym, ◌∙◌, arith, All, get_or, ◌^◌}
-use Rattle.std.specs.List.{flat_map}
 use Rattle.std.proofs.Math.Seq.{take-length}
-use Rattle.std.proofs.lemmas.List.{drop-drop, flat_map_more, length-map, take_more}
+use Rattle.std.proofs.lemmas.List.{drop-drop, length-map}
 use Rattle.std.proofs.lemmas.List.Elements.{All-map}
 use Rattle.std.proofs.lemmas.List.Folds.{flat_map-map}
 use Rattle.p25_bits.specs.Bits.{bits_of, field_of}
@@ -31,12 +30,11 @@ symbol_bits-numbers symbols = sym (flat_map-map (bits_of 6) number symbols)
 -- symbols of the same numbers are the same
 pub same_symbols_list : (xs ys : List Sym) → map number xs ≡ map number ys → xs ≡ ys
 same_symbols_list [] [] same = refl
-same_symbols_list [] (y ∷ ys) same = absurd (cc)
-same_symbols_list (x ∷ xs) [] same = absurd (cc)
 same_symbols_list (x ∷ xs) (y ∷ ys) same =
     let first : number x ≡ number y = cc in
     let others : map number xs ≡ map number ys = cc in
     ap₂ ◌∷◌ (same_symbol x y first) (same_symbols_list xs ys others)
+same_symbols_list xs ys same = absurd (cc)
 
 pub length-symbols_in : (n : ℕ) (bits : List Bool) → length (symbols_in n bits) ≡ n
 unfolding symbols_in
@@ -93,11 +91,3 @@ symbols_in-more n bits = let next : n + 1 ≡ suc n = omega arith in ap (λ k. s
 pub symbol_bits-nil : symbol_bits [] ≡ []
 unfolding symbol_bits
 symbol_bits-nil = refl
-
--- the bits of one more symbol
-pub symbol_bits-more : (before : List Bool) (symbols : List Sym) (i : ℕ) (d : Sym) → i < length symbols
-    → (before ++ symbol_bits (take i symbols)) ++ bits_of 6 (number (get_or symbols i d)) ≡ before ++ symbol_bits (take (i + 1) symbols)
-unfolding symbol_bits
-symbol_bits-more before symbols i d inside =
-    flat_map_more (λ symbol. bits_of 6 (number symbol)) before (take i symbols) (get_or symbols i d)
-    ∙ ap (λ xs. before ++ flat_map (λ symbol. bits_of 6 (number symbol)) xs) (sym (take_more symbols i d inside))

@@ -1,23 +1,12 @@
 -- The octets that `follow` writes as an item comes: those that the bits before its own fill, and then its own.
-use Rattle.std.proofs.Common.{◌≡◌, ℕ, ◌+◌, ◌-◌, ◌*◌, ◌/◌, ◌≤◌, Bool, true, false, cond, List, [], ◌++◌, length, drop, refl, ap, ap₂, sym, ◌∙◌, arith, append_assoc, append-nil, length-append, length-drop}
+use Rattle.std.proofs.Common.{◌≡◌, ℕ, ◌+◌, ◌-◌, ◌*◌, ◌/◌, ◌≤◌, Bool, true, false, cond, List, [], ◌++◌, length, drop, ap, ap₂, sym, ◌∙◌, arith, append_assoc, append-nil, length-append, length-drop}
 use Rattle.std.proofs.lemmas.List.{drop-append-le, drop-drop}
-use Rattle.p25_units.specs.Items.{covered}
 use Rattle.p25_units.specs.Units.{whole_octets}
 use Rattle.p25_units.specs.declared.item.Item.{Item}
-use Rattle.p25_units.specs.declared.item.Item.TheVariants.{Whole, Broken, NoUnit, Gap, Cut}
 use Rattle.p25_follow.specs.Followed.{is_rest}
 use Rattle.p25_follow.specs.Following.{Follow, written_before, written_item}
-use Rattle.p25_follow.specs.Relayed.{IsFitItem}
 use Rattle.p25_recording_filters.specs.Commands.{followed_item, unfilled}
 use Rattle.p25_recording_filters.proofs.OctetsLaws.{whole_octets-append}
-
--- an item of a stretch is short
-pub rest-short : (item : Item) → IsFitItem item → is_rest item ≡ true → covered item ≤ 4096
-rest-short (Whole place frame fixes) fits rest = absurd (cc rest)
-rest-short (Broken place count nac duid fields) fits rest = absurd (cc rest)
-rest-short (NoUnit place field) fits rest = omega arith
-rest-short (Gap place count) fits rest = fits
-rest-short (Cut place have) fits rest = absurd (cc rest)
 
 own-rest : (item : Item) (raw : List Bool) → is_rest item ≡ true → written_item item raw ≡ []
 unfolding written_item

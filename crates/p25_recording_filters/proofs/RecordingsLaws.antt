@@ -1,8 +1,8 @@
 -- How a recording's work goes on: octets come, an item is given, the input ends. Each is one unfolding of what is reported.
 use Rattle.std.proofs.Common.{◌≡◌, ◌≢◌, ℕ, ◌+◌, Bool, true, false, cond, List, [], ◌∷◌, ◌++◌, take, drop, Some, None, Ok, refl, ap, ap₂, sym, subst, ◌∙◌, arith, append_assoc, append-nil}
 use Rattle.std.proofs.lemmas.List.{take-append-le, drop-append-le}
-use Rattle.p25_bits.specs.Bits.{bits_of, octet_bits}
-use Rattle.p25_bits.proofs.BitsLaws.{octet_bits-append, octet_bits-cons, octet_bits-nil}
+use Rattle.p25_bits.specs.Bits.{octet_bits}
+use Rattle.p25_bits.proofs.BitsLaws.{octet_bits-append, octet_bits-nil}
 use Rattle.p25_units.specs.declared.item.Item.{Item}
 use Rattle.p25_units.specs.Items.{covered, place_of}
 use Rattle.p25_stream.specs.Items.{items_by, items_in}
@@ -28,14 +28,6 @@ gave-place before now item raw gave =
 -- an item that was given has as many bits as a scan gives it
 pub gave-fits : (before now : Scan) (item : Item) (raw : List Bool) → Gave before item raw now → IsFitItem item
 gave-fits before now item raw gave = items-fit before.finished before.place before.held [] item (given now) gave.items
-
--- the bits that an item covers are those with which it was given
-pub gave-bits : (before now : Scan) (item : Item) (raw : List Bool) → Gave before item raw now → Gave before item (take (covered item) before.held) now
-gave-bits before now item raw gave = subst (λ (bits : List Bool). Gave before item bits now) gave.raw_bits gave
-
--- the bits of one octet
-pub octet_bits-one : (octet : ℕ) → octet_bits (octet ∷ []) ≡ bits_of 8 octet
-octet_bits-one octet = octet_bits-cons octet [] ∙ ap (λ (zs : List Bool). bits_of 8 octet ++ zs) octet_bits-nil ∙ append-nil (bits_of 8 octet)
 
 module _ {R : Type 0} (reporting : Reporting R) where
   -- what is written of an item and what is kept after it are those of the bits that it covers, where the report is given these bits
@@ -159,8 +151,7 @@ module _ {R : Type 0} (reporting : Reporting R) where
   -- a recording's phase: more octets may come, the input has ended, or the end was written
   is-reading : (phase : Phase) → has_ended phase ≡ false → phase ≡ Reading
   is-reading Reading going = refl
-  is-reading Ended going = cc
-  is-reading Closed going = cc
+  is-reading phase going = cc
 
   is-closed : (phase : Phase) → has_ended phase ≡ true → (phase ≡ Ended → ⊥) → phase ≡ Closed
   is-closed Reading ended other = cc
@@ -211,9 +202,8 @@ module _ {R : Type 0} (reporting : Reporting R) where
   close-by : (phase : Phase) (report : R) (scan : Scan) (now : RecordingParts R) (answer : Bool) (out : List ℕ) → scan.finished ≡ has_ended phase → given scan ≡ []
       → IsClosingBy reporting phase (record { report = report; scan = scan; phase = phase }) answer out now
       → NextPiece (recording_future reporting (record { report = report; scan = scan; phase = phase })) (Ok answer) out (recording_future reporting now)
-  close-by Reading report scan now answer out same none closing = close-none (record { report = report; scan = scan; phase = Reading }) now answer out closing.0 closing.1
   close-by Ended report scan now answer out same none closing = close-end report scan now answer out same none closing.0 closing.1 closing.2
-  close-by Closed report scan now answer out same none closing = close-none (record { report = report; scan = scan; phase = Closed }) now answer out closing.0 closing.1
+  close-by other report scan now answer out same none closing = close-none (record { report = report; scan = scan; phase = other }) now answer out closing.0 closing.1
 
   pub step-close : (before now : RecordingParts R) (answer : Bool) (out : List ℕ) → before.scan.finished ≡ has_ended before.phase → given before.scan ≡ [] → IsClosing reporting before answer out now
       → NextPiece (recording_future reporting before) (Ok answer) out (recording_future reporting now)
@@ -223,13 +213,10 @@ module _ {R : Type 0} (reporting : Reporting R) where
   idle-by : (phase : Phase) (report : R) (scan : Scan) (now : RecordingParts R) (answer : Bool) (out : List ℕ) → scan.finished ≡ has_ended phase → given scan ≡ [] → answer ≡ false
       → IsClosingBy reporting phase (record { report = report; scan = scan; phase = phase }) answer out now → (now.phase ≡ Ended → ⊥) × (given now.scan ≡ []) × IsIdle (has_ended now.phase) (recording_future reporting now)
   unfolding recording_future
-  idle-by Reading report scan now answer out same none no_piece closing =
-      subst (λ (r : RecordingParts R). (r.phase ≡ Ended → ⊥) × (given r.scan ≡ []) × IsIdle (has_ended r.phase) (recording_future reporting r)) (sym closing.1)
-      ((λ is. cc), none, future-idle Reading report scan same (λ is. cc) none)
   idle-by Ended report scan now answer out same none no_piece closing = cc
-  idle-by Closed report scan now answer out same none no_piece closing =
+  idle-by other report scan now answer out same none no_piece closing =
       subst (λ (r : RecordingParts R). (r.phase ≡ Ended → ⊥) × (given r.scan ≡ []) × IsIdle (has_ended r.phase) (recording_future reporting r)) (sym closing.1)
-      ((λ is. cc), none, future-idle Closed report scan same (λ is. cc) none)
+      ((λ is. cc), none, future-idle other report scan same (λ is. cc) none)
 
   pub step-idle : (before now : RecordingParts R) (answer : Bool) (out : List ℕ) → before.scan.finished ≡ has_ended before.phase → given before.scan ≡ [] → answer ≡ false → IsClosing reporting before answer out now
       → (now.phase ≡ Ended → ⊥) × (given now.scan ≡ []) × IsIdle (has_ended now.phase) (recording_future reporting now)
@@ -251,5 +238,4 @@ module _ {R : Type 0} (reporting : Reporting R) where
 -- while more octets may come, nothing was written at the end
 pub going-open : (phase : Phase) → has_ended phase ≡ false → phase ≡ Closed → ⊥
 going-open Reading going is = cc
-going-open Ended going is = cc
-going-open Closed going is = cc
+going-open phase going is = cc

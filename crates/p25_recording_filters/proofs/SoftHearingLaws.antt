@@ -57,14 +57,9 @@ octet-dibits a b c d hb hc hd =
     ∙ ap (λ (bits : List Bool). bits_of 2 b ++ bits) (ap (bits_of 4) third ∙ bits_of-joined 2 2 c d hd)
     )
 
--- four levels
 pub four-levels : (levels : List ℤ) → length levels ≡ 4 → levels ≡ get_or levels 0 (pos 0) ∷ get_or levels 1 (pos 0) ∷ get_or levels 2 (pos 0) ∷ get_or levels 3 (pos 0) ∷ []
-four-levels [] long = absurd (omega arith)
-four-levels (a ∷ []) long = absurd (omega arith)
-four-levels (a ∷ b ∷ []) long = absurd (omega arith)
-four-levels (a ∷ b ∷ c ∷ []) long = absurd (omega arith)
 four-levels (a ∷ b ∷ c ∷ d ∷ []) long = refl
-four-levels (a ∷ b ∷ c ∷ d ∷ e ∷ levels) long = absurd (omega arith)
+four-levels levels long = absurd (omega arith)
 
 -- the bits of four levels
 pub group-bits : (levels : List ℤ) (a b c d octet : ℕ) → length levels ≡ 4 → a ≡ hard_dibit (get_or levels 0 (pos 0)) → b ≡ hard_dibit (get_or levels 1 (pos 0))

@@ -2,12 +2,12 @@
 -- its place, so these can be let go.
 use Rattle.std.proofs.Common.{◌≡◌, ℕ, ◌+◌, ◌-◌, ◌*◌, ◌/◌, ◌%◌, ◌<◌, ◌≤◌, ◌&&◌, inl, inr, Bool, true, false, cond, List, [], ◌∷◌, ◌++◌, length, take, drop, refl, ap, ap₂, sym, subst, ◌∙◌, arith, append_assoc, append-nil, length-append, length-drop, eq-eqb, ℤ}
 use Rattle.std.specs.Prelude.{nat_eq}
-use Rattle.std.proofs.lemmas.Bool.{cases_Bool, cond-true, cond-false, eqb-true}
+use Rattle.std.proofs.lemmas.Bool.{cases_Bool, cond-true, cond-false, eqb-true, and_parts, both_ways}
 use Rattle.std.proofs.lemmas.List.{take-append-drop, take-append-le, drop-append-le, drop-drop, length-take-le, drop_at}
 use Rattle.p25_bits.specs.Bits.{part}
 use Rattle.p25_bits.proofs.PartLaws.{part-drop, part_left}
 use Rattle.p25_units.specs.declared.item.Item.{Item}
-use Rattle.p25_units.specs.declared.item.Item.TheVariants.{Whole, Broken, NoUnit, Gap, Cut}
+use Rattle.p25_units.specs.declared.item.Item.TheVariants.{Broken}
 use Rattle.p25_units.specs.Items.{covered, place_of, unit_item_of}
 use Rattle.p25_status.specs.Sync.{has_sync}
 use Rattle.p25_units.specs.Needs.{need_of}
@@ -40,17 +40,10 @@ pub softened-even : (item : Item) (levels : List ℤ) (raw : List Bool) → is_e
 unfolding item_softened
 softened-even (Broken place count nac duid fields) levels raw yes' =
     let item = Broken place count nac duid fields in
-    let even : nat_eq (place % 2) 0 ≡ true = second (nat_eq duid 0xC) (nat_eq (place % 2) 0) yes' in
+    let even : nat_eq (place % 2) 0 ≡ true = (and_parts (nat_eq duid 0xC) (nat_eq (place % 2) 0) yes').1 in
     cond-true (nat_eq (place % 2) 0) (softened item (part (place / 2 - first_level place) (count / 2) levels) raw) raw even
     ∙ ap (λ (ls : List ℤ). softened item ls raw) (part_from_group place (count / 2) levels)
-  where
-    second : (a b : Bool) → (a && b) ≡ true → b ≡ true
-    second true b h = h
-    second false b h = absurd (cc)
-softened-even (Whole place frame fixes) levels raw yes' = absurd (cc)
-softened-even (NoUnit place field) levels raw yes' = absurd (cc)
-softened-even (Gap place count) levels raw yes' = absurd (cc)
-softened-even (Cut place have) levels raw yes' = absurd (cc)
+softened-even item levels raw yes' = absurd (cc)
 
 same_both : {X : Type 0} (b : Bool) (x : X) → cond b x x ≡ x
 same_both true x = refl
@@ -72,19 +65,13 @@ softened-uneven (Broken place count nac duid fields) first levels raw no' =
           let odd : nat_eq (place % 2) 0 ≡ false = second (nat_eq duid 0xC) (nat_eq (place % 2) 0) packet no' in
           cond-false (nat_eq (place % 2) 0) (softened item (part (place / 2 - first) (count / 2) levels) raw) raw odd
       | inr other ↦ unfold item_softened in
-          not_packet item first levels raw (λ ls. softened-unpacked item ls raw place count nac duid fields refl (λ is. differs (eq-eqb duid 0xC is) other))
+          not_packet item first levels raw (λ ls. softened-unpacked item ls raw place count nac duid fields refl (λ is. both_ways _ other (eq-eqb duid 0xC is)))
     ]
   where
     second : (a b : Bool) → a ≡ true → (a && b) ≡ false → b ≡ false
     second true b h e = e
     second false b h e = absurd (cc)
-
-    differs : {b : Bool} → b ≡ true → b ≡ false → ⊥
-    differs h e = cc
-softened-uneven (Whole place frame fixes) first levels raw no' = not_packet (Whole place frame fixes) first levels raw (λ ls. softened-other (Whole place frame fixes) ls raw (λ p c n d f is. cc))
-softened-uneven (NoUnit place field) first levels raw no' = not_packet (NoUnit place field) first levels raw (λ ls. softened-other (NoUnit place field) ls raw (λ p c n d f is. cc))
-softened-uneven (Gap place count) first levels raw no' = not_packet (Gap place count) first levels raw (λ ls. softened-other (Gap place count) ls raw (λ p c n d f is. cc))
-softened-uneven (Cut place have) first levels raw no' = not_packet (Cut place have) first levels raw (λ ls. softened-other (Cut place have) ls raw (λ p c n d f is. cc))
+softened-uneven item first levels raw no' = not_packet item first levels raw (λ ls. softened-other item ls raw (λ p c n d f is. cc))
 
 -- equal levels soften an item to equal bits, wherever they are counted from
 softened-same : (item : Item) (first other : ℕ) (levels others : List ℤ) (raw : List Bool)
@@ -304,16 +291,9 @@ record IsEvenPacket (item : Item) : Type 0 where
 
 even-parts : (item : Item) → is_even_packet item ≡ true → IsEvenPacket item
 even-parts (Broken at size nac duid fields) yes' =
-    let both = and_both (nat_eq duid 0xC) (nat_eq (at % 2) 0) yes' in
+    let both = and_parts (nat_eq duid 0xC) (nat_eq (at % 2) 0) yes' in
     record { at = at; size = size; nac = nac; duid = duid; fields = fields; is = refl; packet = eqb-true duid 0xC both.0; even = eqb-true (at % 2) 0 both.1 }
-  where
-    and_both : (a b : Bool) → (a && b) ≡ true → (a ≡ true) × (b ≡ true)
-    and_both true b h = (refl, h)
-    and_both false b h = absurd (cc)
-even-parts (Whole place frame fixes) yes' = absurd (cc)
-even-parts (NoUnit place field) yes' = absurd (cc)
-even-parts (Gap place count) yes' = absurd (cc)
-even-parts (Cut place have) yes' = absurd (cc)
+even-parts item yes' = absurd (cc)
 
 -- a broken packet at an even place is heard from the levels of its bits
 pub heard-given : (scan next : Scan) (levels : List ℤ) (item : Item) (raw : List Bool) → IsHolding scan levels → Gave scan item raw next → is_even_packet item ≡ true → IsHeardAmong item levels raw

@@ -34,11 +34,10 @@ pub kept_distance-nonzeros : (received word : List Sym) (erased : List Bool) →
     → kept_distance same_symbols (without_erased received erased) word ≡ nonzeros gf64 (length received) (kept_errors erased (λ j. gf64.add (coefficient gf64 received j) (coefficient gf64 word j)))
 unfolding kept_distance without_erased nonzeros
 kept_distance-nonzeros [] word erased long erasures = refl
-kept_distance-nonzeros (x ∷ received) [] erased long erasures = absurd (omega arith)
-kept_distance-nonzeros (x ∷ received) (y ∷ word) [] long erasures = absurd (omega arith)
 kept_distance-nonzeros (x ∷ received) (y ∷ word) (gone ∷ erased) long erasures =
     ap₂ ◌+◌ (place_distance gone x y) (kept_distance-nonzeros received word erased (omega arith) (omega arith))
     ∙ sym (nonzeros_first (length received) (kept_errors (gone ∷ erased) (λ j. gf64.add (coefficient gf64 (x ∷ received) j) (coefficient gf64 (y ∷ word) j))))
+kept_distance-nonzeros (x ∷ received) word erased long erasures = absurd (omega arith)
 
 -- so the cost is that of the errors
 pub cost-errors : (received word : List Sym) (erased : List Bool) → length received ≡ length word → length erased ≡ length received

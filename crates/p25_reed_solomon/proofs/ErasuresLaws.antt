@@ -27,19 +27,6 @@ pub erased_below-kept : (erased : List Bool) (j : ℕ) → is_erased erased j �
 unfolding erased_below
 erased_below-kept erased j none = omega (arith, ap {B = ℕ} (λ t. cond t 1 0) none)
 
-pub erased_below-mono : (erased : List Bool) (j n : ℕ) → j ≤ n → erased_below erased j ≤ erased_below erased n
-erased_below-mono erased j zero low = let e : j ≡ 0 = omega arith in rw e (omega arith)
-erased_below-mono erased j (suc n) low =
-    elim (cases_eq j (suc n)) [
-      | inl same ↦ rw same (omega arith)
-      | inr apart ↦
-          let before = erased_below-mono erased j n (omega arith) in
-          elim (cases_Bool (is_erased erased n)) [
-            | inl here ↦ omega (arith, erased_below-gone erased n here)
-            | inr none ↦ omega (arith, erased_below-kept erased n none)
-          ]
-    ]
-
 module _ (n : ℕ) (erased : List Bool) where
   pub times_erasures-none : (f : ℕ → Sym) → times_erasures n erased 0 f ≡ f
   unfolding times_erasures
@@ -112,8 +99,6 @@ module _ (n : ℕ) (erased : List Bool) where
   long m j = m + erased_below erased j
 
   -- the factor of a place, at the point of another
-  factor_at : ℕ → ℕ → Sym
-  factor_at i j = gf64.add gf64.one (gf64.mul (element_of n i) (point_of n j))
 
   pub point_inverse : (j : ℕ) → gf64.mul (element_of n j) (point_of n j) ≡ gf64.one
   point_inverse j = mul_inverse gf64 (element_of n j) (element_ne_zero n j)
@@ -143,7 +128,6 @@ module _ (n : ℕ) (erased : List Bool) where
       → value_at gf64 (m + erased_below erased (suc j)) (times_erasures n erased (suc j) f) z ≡ value_at gf64 (m + erased_below erased j) (times_erasures n erased j f) z
   value-times_kept m j f z none = ap₂ (λ k g. value_at gf64 (m + k) g z) (erased_below-kept erased j none) (times_erasures-kept j f none)
 
-  -- a zero stays
   pub zero_stays : (m j : ℕ) (f : ℕ → Sym) (z : Sym) → IsShort gf64 m f → value_at gf64 m f z ≡ gf64.zero → value_at gf64 (m + erased_below erased j) (times_erasures n erased j f) z ≡ gf64.zero
   zero_stays m zero f z short none = let e : m + erased_below erased 0 ≡ m = omega (arith, erased_below-none erased) in ap₂ (λ k g. value_at gf64 k g z) e (times_erasures-none f) ∙ none
   zero_stays m (suc j) f z short none =

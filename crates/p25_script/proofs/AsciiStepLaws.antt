@@ -8,7 +8,7 @@ use Rattle.p25_line.proofs.AsciiLaws.{ascii-append, ascii-comma_text, ascii-deci
 use Rattle.p25_text.specs.ItemTexts.{field_name}
 use Rattle.p25_text.proofs.AsciiTextLaws.{ascii-field_name}
 use Rattle.p25_messages.specs.declared.step_kind.StepKind.{StepKind}
-use Rattle.p25_messages.specs.declared.step_kind.StepKind.TheVariants.{Taken, Busy, OfferDown, Resent, Idle, TimeoutDown, Reopened, Up, Nothing, Lost, Ignored, Delivered, SynHeard, Again, Kept, RefusedCrc, RefusedOrder, Acknowledged, LinkOpened, Retry, Repeat, AnswerDown}
+use Rattle.p25_messages.specs.declared.step_kind.StepKind.TheVariants.{Taken, Resent, Reopened, Nothing, Lost, Ignored, Delivered, SynHeard, Again, Kept, RefusedCrc, RefusedOrder, Acknowledged, LinkOpened, Retry, Repeat}
 use Rattle.p25_messages.specs.declared.step_kind.Way.{Way}
 use Rattle.p25_messages.specs.declared.step_kind.Way.TheVariants.{Packets, Answers}
 use Rattle.p25_stations.specs.WorldState.{WorldState}
@@ -42,13 +42,8 @@ ascii-flags_text flags = ascii-encode_lower (octets_from (length flags / 8) flag
 ascii-kind_text : (kind : StepKind) → is_ascii (kind_text kind) ≡ true
 unfolding kind_text
 ascii-kind_text (Taken number blocks) = numbered_twice (codes "send taken ns=") number (codes " blocks=") blocks refl refl
-ascii-kind_text Busy = refl
-ascii-kind_text OfferDown = refl
 ascii-kind_text (Resent number tries) = numbered_twice (codes "timeout sent ns=") number (codes " try=") tries refl refl
-ascii-kind_text Idle = refl
-ascii-kind_text TimeoutDown = refl
 ascii-kind_text (Reopened number) = numbered (codes "reopen sent ns=") number refl
-ascii-kind_text Up = refl
 ascii-kind_text (Nothing way) = after_way way (codes " none") refl
 ascii-kind_text (Lost way field) = ascii-joined (way_word way) (codes " lost " ∷ field_name field ∷ []) (ascii-way way) (ap₂ ◌&&◌ (ascii-field_name field) refl)
 ascii-kind_text (Ignored way) = after_way way (codes " ignored") refl
@@ -68,7 +63,7 @@ ascii-kind_text (Retry number wanted tries) =
     ascii-joined (codes "answer retry ns=") (decimal number ∷ codes " blocks=" ∷ comma_text decimal (serials_of wanted) ∷ codes " try=" ∷ decimal tries ∷ []) refl
     (ap₂ ◌&&◌ (ascii-decimal number) (ap₂ ◌&&◌ (ascii-comma_text decimal ascii-decimal (serials_of wanted)) (ap₂ ◌&&◌ (ascii-decimal tries) refl)))
 ascii-kind_text (Repeat number tries) = numbered_twice (codes "answer repeat ns=") number (codes " try=") tries refl refl
-ascii-kind_text AnswerDown = refl
+ascii-kind_text kind = refl
 
 ascii-false_text : (passed : Bool) → is_ascii (false_text passed) ≡ true
 ascii-false_text true = refl

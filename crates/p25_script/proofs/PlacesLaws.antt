@@ -8,22 +8,20 @@ use Rattle.p25_script.specs.Values.{is_ascending}
 
 -- the test is that of the standard library's relation
 pub is_ascending-increasing : (places : List ℕ) → IsStrictlyIncreasing places → is_ascending places ≡ true
-is_ascending-increasing [] increasing = refl
-is_ascending-increasing (place ∷ []) increasing = refl
 is_ascending-increasing (place ∷ next ∷ places) increasing =
     ap₂ ◌&&◌ (lt-ltb place next (increasing 0 (omega arith))) (is_ascending-increasing (next ∷ places) (λ k below.
     let same : suc k + 1 ≡ suc (k + 1) = omega arith in
     subst (λ (i : ℕ). slice_index (next ∷ places) k < slice_index (place ∷ next ∷ places) i) same (increasing (suc k) (omega arith))))
+is_ascending-increasing places increasing = refl
 
 pub increasing-is_ascending : (places : List ℕ) → is_ascending places ≡ true → IsStrictlyIncreasing places
-increasing-is_ascending [] ascending k below = absurd (omega arith)
-increasing-is_ascending (place ∷ []) ascending k below = absurd (omega arith)
 increasing-is_ascending (place ∷ next ∷ places) ascending zero below =
     ltb-true place next (and_parts (nat_lt place next) (is_ascending (next ∷ places)) ascending).0
 increasing-is_ascending (place ∷ next ∷ places) ascending (suc k) below =
     let same : suc (k + 1) ≡ suc k + 1 = omega arith in
     let rest = increasing-is_ascending (next ∷ places) (and_parts (nat_lt place next) (is_ascending (next ∷ places)) ascending).1 k (omega arith) in
     subst (λ (i : ℕ). slice_index (next ∷ places) k < slice_index (place ∷ next ∷ places) i) same rest
+increasing-is_ascending places ascending k below = absurd (omega arith)
 
 -- one more than the last place, or 0 where there is none
 abbrev pub next_place : List ℕ → ℕ
@@ -32,9 +30,8 @@ next_place (place ∷ []) = place + 1
 next_place (place ∷ next ∷ places) = next_place (next ∷ places)
 
 pub next_place-push : (places : List ℕ) (place : ℕ) → next_place (places ++ place ∷ []) ≡ place + 1
-next_place-push [] place = refl
-next_place-push (first ∷ []) place = refl
 next_place-push (first ∷ next ∷ places) place = next_place-push (next ∷ places) place
+next_place-push places place = refl
 
 -- a place that is not below the next one is the last of more places
 pub is_ascending-push : (places : List ℕ) (place : ℕ) → is_ascending places ≡ true → next_place places ≤ place → is_ascending (places ++ place ∷ []) ≡ true

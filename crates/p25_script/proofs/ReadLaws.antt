@@ -17,17 +17,11 @@ right_kind words first kind at named = ap event_by_words (first-others words fir
 
 -- another number of words is a wrong key
 other_count : (kind : EventKind) (others : List (List ℕ)) → (suc (length others) ≡ word_count kind → ⊥) → event_in kind others ≡ Err Key
-other_count SendLine [] other = refl
 other_count SendLine (word ∷ []) other = absurd (other refl)
-other_count SendLine (word ∷ next ∷ others) other = refl
 other_count TimeoutLine [] other = absurd (other refl)
-other_count TimeoutLine (word ∷ others) other = refl
 other_count ReopenLine [] other = absurd (other refl)
-other_count ReopenLine (word ∷ others) other = refl
-other_count DeliverLine [] other = refl
-other_count DeliverLine (way ∷ []) other = refl
 other_count DeliverLine (way ∷ word ∷ []) other = absurd (other refl)
-other_count DeliverLine (way ∷ word ∷ next ∷ others) other = refl
+other_count kind others other = refl
 
 pub wrong_count : (words : List (List ℕ)) (first : List ℕ) (kind : EventKind) → slice_get words 0 ≡ Some first → event_named first ≡ Some kind → (length words ≡ word_count kind → ⊥)
     → event_by_words words ≡ Err Key

@@ -21,28 +21,22 @@ use Rattle.p25_script.proofs.ValueLaws.{length-message_text, length-places_text,
 
 -- ---- the line of an event is read as it
 
--- the words of an event are words
 pub event_words-words : (event : Event) → IsScripted event → list_all is_word (event_words event) ≡ true
 event_words-words (Send message) fits = ap₂ ◌&&◌ (message-word message fits) refl
-event_words-words Timeout fits = refl
-event_words-words Reopen fits = refl
 event_words-words (ToReceiver places) fits = ap₂ ◌&&◌ (places-word places fits) refl
 event_words-words (ToSender places) fits = ap₂ ◌&&◌ (places-word places fits) refl
+event_words-words event fits = refl
 
 pub event_words-some : (event : Event) → 0 < length (event_words event)
 event_words-some (Send message) = omega arith
-event_words-some Timeout = omega arith
-event_words-some Reopen = omega arith
-event_words-some (ToReceiver places) = omega arith
-event_words-some (ToSender places) = omega arith
+event_words-some event = omega arith
 
 -- and they are read as it
 event_by_words-words : (event : Event) → IsScripted event → event_by_words (event_words event) ≡ Ok event
 event_by_words-words (Send message) fits = ap (value_or_fault Send) (message_in-text message fits)
-event_by_words-words Timeout fits = refl
-event_by_words-words Reopen fits = refl
 event_by_words-words (ToReceiver places) fits = ap (value_or_fault ToReceiver) (places_in-text places fits)
 event_by_words-words (ToSender places) fits = ap (value_or_fault ToSender) (places_in-text places fits)
+event_by_words-words event fits = refl
 
 -- ---- a line that is read is the line of its event
 
@@ -70,28 +64,21 @@ way-way_named word way found = named-word way_word ways word way found
 
 from_delivery : (first word : List ℕ) (way : Option Way) (made : Option (List ℕ)) (event : Event) → way_named first ≡ way → places_in word ≡ made
     → keyed_or_fault delivery way made ≡ Ok event → ReadFrom (event_word DeliverLine ∷ first ∷ word ∷ []) event
-from_delivery first word None made event named read found = cc found
-from_delivery first word (Some way) None event named read found = cc found
 from_delivery first word (Some way) (Some places) event named read found =
     let facts = places-places_in word places read in
     let words = delivered_words way places word facts.0 ∙ ap (λ w. event_word DeliverLine ∷ w ∷ word ∷ []) (way-way_named first way named) in
     let same : delivery way places ≡ event = cc found in
     subst (λ (e : Event). ReadFrom (event_word DeliverLine ∷ first ∷ word ∷ []) e) same (words, delivered_fits way places facts.1)
+from_delivery first word way made event named read found = cc found
 
 from_others : (kind : EventKind) (others : List (List ℕ)) (event : Event) → event_in kind others ≡ Ok event → ReadFrom (event_word kind ∷ others) event
-from_others SendLine [] event found = cc found
 from_others SendLine (word ∷ []) event found = from_send word (message_in word) event refl found
-from_others SendLine (word ∷ next ∷ others) event found = cc found
 from_others TimeoutLine [] event found =
     let same : Timeout ≡ event = cc found in subst (λ (e : Event). ReadFrom (event_word TimeoutLine ∷ []) e) same (refl, tt)
-from_others TimeoutLine (word ∷ others) event found = cc found
 from_others ReopenLine [] event found =
     let same : Reopen ≡ event = cc found in subst (λ (e : Event). ReadFrom (event_word ReopenLine ∷ []) e) same (refl, tt)
-from_others ReopenLine (word ∷ others) event found = cc found
-from_others DeliverLine [] event found = cc found
-from_others DeliverLine (first ∷ []) event found = cc found
 from_others DeliverLine (first ∷ word ∷ []) event found = from_delivery first word (way_named first) (places_in word) event refl refl found
-from_others DeliverLine (first ∷ word ∷ next ∷ others) event found = cc found
+from_others kind others event found = cc found
 
 from_kind : (first : List ℕ) (others : List (List ℕ)) (kind : Option EventKind) (event : Event) → event_named first ≡ kind → named_or_fault event_in kind others ≡ Ok event
     → ReadFrom (first ∷ others) event
@@ -141,7 +128,4 @@ length-answer places are = omega (arith, length-places_text places are)
 pub IsEvent-IsScripted : (event : Event) → IsScripted event → IsEvent event
 unfolding IsEvent
 IsEvent-IsScripted (Send message) fits = fits
-IsEvent-IsScripted Timeout fits = tt
-IsEvent-IsScripted Reopen fits = tt
-IsEvent-IsScripted (ToReceiver places) fits = tt
-IsEvent-IsScripted (ToSender places) fits = tt
+IsEvent-IsScripted event fits = tt

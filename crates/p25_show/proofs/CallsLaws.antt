@@ -1,8 +1,8 @@
 -- What a call of `show` comes to, in one form, follows from what holds of each call.
-use Rattle.std.proofs.Common.{◌≡◌, ℕ, ◌<◌, ◌≤◌, Bool, true, false, cond, nat_lt, List, [], ◌∷◌, ◌++◌, length, take, Option, Some, refl, ap, sym, subst, ◌∙◌, arith, append-nil, length-append, inl, inr}
+use Rattle.std.proofs.Common.{◌≡◌, ℕ, ◌<◌, ◌≤◌, Bool, true, false, cond, nat_lt, List, [], ◌++◌, length, take, Option, Some, refl, ap, sym, subst, ◌∙◌, arith, append-nil, length-append, inl, inr}
 use Rattle.std.specs.Prelude.{IfSome}
 use Rattle.std.specs.List.{flat_map}
-use Rattle.std.proofs.lemmas.List.{take_all}
+use Rattle.std.proofs.lemmas.List.{take_all, nil_from_length}
 use Rattle.std.proofs.lemmas.Bool.Decides.{nat_tests}
 use Rattle.p25_io.specs.Octets.{Appended}
 use Rattle.p25_stream.specs.Arrivals.{Arrival, wholes_of}
@@ -25,10 +25,6 @@ use Rattle.p25_tool.specs.Words.{command_of}
 use Rattle.p25_show.specs.Calls.{IsShown, ShowSays, all_shown, lines_shown}
 use Rattle.p25_tool.proofs.RecordedLaws.{shows-units}
 use Rattle.p25_tool.proofs.RunsLaws.{wanting-command}
-
-no-octets : (xs : List ℕ) → length xs ≡ 0 → xs ≡ []
-no-octets [] none = refl
-no-octets (x ∷ xs) none = absurd (omega (arith, none))
 
 -- all that is to be written for an input that is not too long, and for one that is
 all-short : (octets : List ℕ) → length octets ≤ input_most → all_shown octets ≡ lines_shown true octets
@@ -60,7 +56,7 @@ module _ (input before : List ℕ) (left last : Option (List ℕ)) where
           let few : length octets ≤ input_most = (all refl).0 in
           let same : input ≡ octets = (all refl).1 in
           let done : EndDone ≡ ending = cc in
-          let none : rest ≡ [] = no-octets rest (omega (arith, ap length (sym same ∙ parts), length-append octets rest)) in
+          let none : rest ≡ [] = nil_from_length rest (omega (arith, ap length (sym same ∙ parts), length-append octets rest)) in
           subst (λ (e : Ending). HasText octets rest (ending_outcome e)) done
           (lines_shown true (take input_most octets), wrote.written, (none, few, ap (lines_shown true) (take_all input_most octets few) ∙ sym (all-short octets few)))
       by_end false all ends wrote = cc

@@ -47,10 +47,9 @@ pub deviation-triangle : (xs ys : List ℕ) (levels : List ℤ) → length xs �
     → deviation_of xs (map nominal_level ys) ≤ 2 * deviation_of xs levels + 2 * deviation_of ys levels
 unfolding deviation_of
 deviation-triangle [] ys levels long same = omega arith
-deviation-triangle (x ∷ xs) [] levels long same = absurd (omega arith)
-deviation-triangle (x ∷ xs) (y ∷ ys) [] long same = absurd (omega arith)
 deviation-triangle (x ∷ xs) (y ∷ ys) (level ∷ levels) long same =
     omega (arith, squared-triangle x y level, deviation-triangle xs ys levels (omega arith) (omega arith))
+deviation-triangle (x ∷ xs) ys levels long same = absurd (omega arith)
 
 squared-same : (x : ℕ) → squared_deviation x (nominal_level x) ≡ 0
 unfolding squared_deviation
@@ -93,34 +92,25 @@ far-dibits a b c d = leb-true (4096 * (cond (beq a c) 0 1 + cond (beq b d) 0 1))
 pub far-bits : (n : ℕ) (xs ys : List Bool) → length xs ≡ 2 * n → length ys ≡ 2 * n → 4096 * distance_of xs ys ≤ deviation_of (dibits_of xs) (nominal_levels ys)
 unfolding distance_by dibits_of nominal_levels deviation_of
 far-bits zero [] ys long same = omega arith
-far-bits zero (x ∷ xs) ys long same = absurd (omega arith)
-far-bits (suc n) [] ys long same = absurd (omega arith)
-far-bits (suc n) (a ∷ []) ys long same = absurd (omega arith)
-far-bits (suc n) (a ∷ b ∷ xs) [] long same = absurd (omega arith)
-far-bits (suc n) (a ∷ b ∷ xs) (c ∷ []) long same = absurd (omega arith)
 far-bits (suc n) (a ∷ b ∷ xs) (c ∷ d ∷ ys) long same = omega (arith, far-dibits a b c d, far-bits n xs ys (omega arith) (omega arith))
+far-bits n xs ys long same = absurd (omega arith)
 
 -- there is a dibit for each two bits
 pub length-dibits_of : (n : ℕ) (xs : List Bool) → length xs ≡ 2 * n → length (dibits_of xs) ≡ n
 unfolding dibits_of
 length-dibits_of zero [] long = refl
-length-dibits_of zero (x ∷ xs) long = absurd (omega arith)
-length-dibits_of (suc n) [] long = absurd (omega arith)
-length-dibits_of (suc n) (a ∷ []) long = absurd (omega arith)
 length-dibits_of (suc n) (a ∷ b ∷ xs) long = ap suc (length-dibits_of n xs (omega arith))
+length-dibits_of n xs long = absurd (omega arith)
 
 hard-nominal : (a b : Bool) → bits_of 2 (hard_dibit (nominal_level (dibit a b))) ≡ a ∷ b ∷ []
 unfolding hard_dibit nominal_level bits_of
 hard-nominal false false = refl
-hard-nominal false true = refl
 hard-nominal true false = refl
-hard-nominal true true = refl
+hard-nominal a b = refl
 
 -- the hard bits of nominal levels are the bits
 pub hard_bits-nominal : (n : ℕ) (xs : List Bool) → length xs ≡ 2 * n → hard_bits (nominal_levels xs) ≡ xs
 unfolding hard_bits nominal_levels dibits_of number_bits
 hard_bits-nominal zero [] long = refl
-hard_bits-nominal zero (x ∷ xs) long = absurd (omega arith)
-hard_bits-nominal (suc n) [] long = absurd (omega arith)
-hard_bits-nominal (suc n) (a ∷ []) long = absurd (omega arith)
 hard_bits-nominal (suc n) (a ∷ b ∷ xs) long = ap₂ (λ (us vs : List Bool). us ++ vs) (hard-nominal a b) (hard_bits-nominal n xs (omega arith))
+hard_bits-nominal n xs long = absurd (omega arith)

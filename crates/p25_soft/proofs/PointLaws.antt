@@ -1,6 +1,6 @@
 -- What a path costs in the table of points is what its sent bits deviate from the levels: step by step along the path, then in the order of sending.
-use Rattle.std.proofs.Common.{◌≡◌, ◌≢◌, ℕ, suc, ◌+◌, ◌*◌, ◌/◌, ◌%◌, ◌^◌, ◌<◌, ◌≤◌, ◌&&◌, Bool, true, false, eqb, List, [], ◌∷◌, ◌++◌, length, drop, get_or, set, refl, ap, ap₂, sym, ◌∙◌, arith, All, below_more, get_or-set_same, get_or-set_other, ℤ, pos}
-use Rattle.std.proofs.lemmas.Bool.{eqb-true}
+use Rattle.std.proofs.Common.{◌≡◌, ◌≢◌, ℕ, suc, ◌+◌, ◌*◌, ◌/◌, ◌%◌, ◌^◌, ◌<◌, ◌≤◌, ◌&&◌, Bool, true, eqb, List, [], ◌∷◌, ◌++◌, length, drop, get_or, set, refl, ap, ap₂, sym, ◌∙◌, arith, All, below_more, get_or-set_same, get_or-set_other, ℤ, pos}
+use Rattle.std.proofs.lemmas.Bool.{eqb-true, and_parts}
 use Rattle.std.proofs.lemmas.List.{drop_more}
 use Rattle.std.proofs.lemmas.List.Elements.{All-head, All-tail, All-from_get_or}
 use Rattle.std.specs.Int.{bit_at}
@@ -61,11 +61,6 @@ IsPointTable-from levels places costs long in_order entries = record {
 abbrev bit_of : ℕ → ℕ → Bool
 bit_of n place = eqb (bit_at n place) 1
 
--- what an `and` says
-and-both : (a b : Bool) → (a && b) ≡ true → (a ≡ true) × (b ≡ true)
-and-both true b h = (refl, h)
-and-both false b h = absurd (cc)
-
 point_deviation-is : (levels : List ℤ) (nibble place : ℕ)
     → point_deviation levels nibble place ≡ squared_deviation (nibble / 4) (get_or levels (2 * place) (pos 0)) + squared_deviation (nibble % 4) (get_or levels (2 * place + 1) (pos 0))
 unfolding point_deviation
@@ -79,7 +74,7 @@ nibble_test = refl
 pub dibits_of-nibble : (n : ℕ) (rest : List Bool) → n < 16 → dibits_of (bits_of 4 n ++ rest) ≡ n / 4 ∷ n % 4 ∷ dibits_of rest
 unfolding dibits_of bits_of
 dibits_of-nibble n rest small =
-    let both = and-both _ _ (passed_below-at 16 (λ k. eqb (2 * digit_of (bit_of k 3) + digit_of (bit_of k 2)) (k / 4) && eqb (2 * digit_of (bit_of k 1) + digit_of (bit_of k 0)) (k % 4)) nibble_test n small) in
+    let both = and_parts _ _ (passed_below-at 16 (λ k. eqb (2 * digit_of (bit_of k 3) + digit_of (bit_of k 2)) (k / 4) && eqb (2 * digit_of (bit_of k 1) + digit_of (bit_of k 0)) (k % 4)) nibble_test n small) in
     ap₂ (λ a b. a ∷ b ∷ dibits_of rest) (eqb-true _ _ both.0) (eqb-true _ _ both.1)
 
 deviation_of-two : (a b : ℕ) (dibits : List ℕ) (first second : ℤ) (levels : List ℤ) → deviation_of (a ∷ b ∷ dibits) (first ∷ second ∷ levels) ≡ squared_deviation a first + squared_deviation b second + deviation_of dibits levels

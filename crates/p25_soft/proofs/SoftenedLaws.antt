@@ -88,9 +88,8 @@ softened_bare-from fields levels n count bare none start blocks whole none_is st
     whole_is ∙ ap₂ (λ (xs ys : List Bool). xs ++ ys) (blocks_are ∙ ap (λ (xs : List Bool). xs ++ middle) first) last
 
 none_of_two : (a b : Bool) → ◌≡◌ {A = ℕ} (cond (a || b) 1 0) 0 → (a ≡ false) × (b ≡ false)
-none_of_two true b e = absurd (omega arith)
-none_of_two false true e = absurd (omega arith)
 none_of_two false false e = (refl, refl)
+none_of_two a b e = absurd (omega arith)
 
 -- where none is replaced each block stays
 blocks_kept : (fields : List Field) (levels : List ℤ) (bare : List Bool) (n : ℕ) → blocks_replaced fields n ≡ 0 → (j : ℕ) → j < n → softened_block fields levels bare j ≡ block_bits bare j

@@ -4,8 +4,7 @@ use Rattle.std.proofs.Common.{subst, ◌≡◌, ℕ, ◌*◌, ◌<◌, inl, inr,
 use Rattle.std.specs.Prelude.{◌↔◌}
 use Rattle.std.specs.Str.{bytes_eq}
 use Rattle.std.specs.Cmp.Lexicographic.{same_text}
-use Rattle.std.proofs.lemmas.Bool.{and_parts, and_from, eq-eqb, ne_eqb, cond-true, cond-false}
-use Rattle.std.proofs.lemmas.Bool.Decides.{nat_tests}
+use Rattle.std.proofs.lemmas.Bool.{and_parts, and_from, eq-eqb, ne_eqb, cond-true, cond-false, eqb-true, not-false}
 use Rattle.std.proofs.lemmas.List.{length-replicate}
 use Rattle.std.proofs.lemmas.Slice.Eq.{bytes_eq-Decides}
 use Rattle.p25_status.specs.declared.symbols.Status.{Status}
@@ -31,24 +30,19 @@ use Rattle.p25_stations.specs.Air.{station_nac, station_status, transmission_of,
 same-octets : (xs ys : List ℕ) → bytes_eq xs ys ≡ true → xs ≡ ys
 same-octets xs ys e = same_text xs ys (sym e)
 
-eq-from_true : (m n : ℕ) → eqb m n ≡ true → m ≡ n
-eq-from_true m n e = grind (arith, nat_tests)
-
 same-block : (was block : BlockParts) → eqb was.serial block.serial && bytes_eq was.octets block.octets ≡ true → block ≡ was
 same-block was block e =
     let parts = and_parts _ _ e in
-    ap₂ (λ (n : ℕ) (xs : List ℕ). record { serial = n; octets = xs }) (sym (eq-from_true was.serial block.serial parts.0)) (sym (same-octets was.octets block.octets parts.1))
+    ap₂ (λ (n : ℕ) (xs : List ℕ). record { serial = n; octets = xs }) (sym (eqb-true was.serial block.serial parts.0)) (sym (same-octets was.octets block.octets parts.1))
 
 true-slots : (sent heard : List Slot) → are_true_slots sent heard ≡ true → AreTrueSlots sent heard
 unfolding are_true_slots is_true_slot AreTrueSlots
 true-slots [] [] e = tt
-true-slots [] (slot ∷ heard) e = cc
-true-slots (was ∷ sent) [] e = cc
 true-slots (was ∷ sent) (Bad ∷ heard) e = (inl refl, true-slots sent heard (and_parts (is_true_slot was Bad) _ e).1)
-true-slots (Bad ∷ sent) (Good block ∷ heard) e = cc
 true-slots (Good was ∷ sent) (Good block ∷ heard) e =
     let parts = and_parts _ _ e in
     (inr (ap (λ (b : BlockParts). Good b) (same-block was block parts.0)), true-slots sent heard parts.1)
+true-slots sent heard e = cc
 
 same-head : (was head : PacketHead) → bytes_eq was.0 head.0 ≡ true → head ≡ was
 same-head was head e = ap (λ (xs : List ℕ). record { 0 = xs }) (sym (same-octets was.0 head.0 e))
@@ -58,15 +52,10 @@ unfolding is_true_to IsTrueTo
 true-packet (Confirmed sent) (Confirmed heard) e =
     let parts = and_parts _ _ e in
     (same-head sent.head heard.head parts.0, true-slots sent.slots heard.slots parts.1)
-true-packet (Confirmed sent) (Plain heard) e = cc
-true-packet (Plain sent) (Confirmed heard) e = cc
 true-packet (Plain sent) (Plain heard) e =
     let parts = and_parts _ _ e in
     ap₂ (λ (h : PacketHead) (xs : List ℕ). record { head = h; octets = xs }) (same-head sent.head heard.head parts.0) (sym (same-octets sent.octets heard.octets parts.1))
-
-not-false : (b : Bool) → not b ≡ false → b ≡ true
-not-false true e = refl
-not-false false e = cc
+true-packet sent heard e = cc
 
 heard-same : (sent read packet : Packet) (false_pass : Bool) → Heard read (not (is_true_to sent read)) ≡ Heard packet false_pass → false_pass ≡ not (is_true_to sent packet)
 heard-same sent read packet false_pass h = cc
@@ -108,8 +97,6 @@ packet-itself (Plain packet) = and_from _ _ (itself packet.head.0) (itself packe
 true-tests : (sent heard : List Slot) → AreTrueSlots sent heard → are_true_slots sent heard ≡ true
 unfolding are_true_slots is_true_slot AreTrueSlots
 true-tests [] [] t = refl
-true-tests [] (slot ∷ heard) t = absurd t
-true-tests (was ∷ sent) [] t = absurd t
 true-tests (was ∷ sent) (Bad ∷ heard) t = true-tests sent heard t.1
 true-tests (Bad ∷ sent) (Good block ∷ heard) (inl e, t) = cc
 true-tests (Bad ∷ sent) (Good block ∷ heard) (inr e, t) = cc
@@ -118,17 +105,17 @@ true-tests (Good was ∷ sent) (Good block ∷ heard) (inr e, t) =
     let same : was ≡ block = cc in
     let P : BlockParts → Type 0 = λ (b : BlockParts). (eqb was.serial b.serial && bytes_eq was.octets b.octets) ≡ true in
     and_from _ _ (subst P same (and_from _ _ (eq-eqb was.serial was.serial refl) (itself was.octets))) (true-tests sent heard t)
+true-tests sent heard t = absurd t
 
 pub true-exactly : (sent heard : Packet) → IsTrueTo sent heard ↔ (is_true_to sent heard ≡ true)
 unfolding is_true_to IsTrueTo
 true-exactly (Confirmed sent) (Confirmed heard) =
     let P : PacketHead → Type 0 = λ (h : PacketHead). bytes_eq sent.head.0 h.0 ≡ true in
     (λ (t : (heard.head ≡ sent.head) × AreTrueSlots sent.slots heard.slots). and_from _ _ (subst P (sym t.0) (itself sent.head.0)) (true-tests sent.slots heard.slots t.1), true-packet (Confirmed sent) (Confirmed heard))
-true-exactly (Confirmed sent) (Plain heard) = (λ t. absurd t, true-packet (Confirmed sent) (Plain heard))
-true-exactly (Plain sent) (Confirmed heard) = (λ t. absurd t, true-packet (Plain sent) (Confirmed heard))
 true-exactly (Plain sent) (Plain heard) =
     let P : PlainParts → Type 0 = λ (p : PlainParts). (bytes_eq sent.head.0 p.head.0 && bytes_eq sent.octets p.octets) ≡ true in
     (λ (e : heard ≡ sent). subst P (sym e) (and_from _ _ (itself sent.head.0) (itself sent.octets)), true-packet (Plain sent) (Plain heard))
+true-exactly sent heard = (λ t. absurd t, true-packet sent heard)
 
 -- Within radius.
 

@@ -1,5 +1,5 @@
 -- The loops of the air: one more place inverted, one more status symbol, one more slot. By the laws of lists by their places.
-use Rattle.std.proofs.Common.{◌≡◌, ℕ, zero, suc, ◌+◌, ◌<◌, ◌≤◌, Bool, true, false, ◌&&◌, List, [], ◌∷◌, ◌++◌, length, take, drop, get_or, Some, refl, ap, ap₂, sym, ◌∙◌, arith}
+use Rattle.std.proofs.Common.{◌≡◌, ℕ, zero, suc, ◌+◌, ◌<◌, ◌≤◌, Bool, false, ◌&&◌, List, [], ◌∷◌, ◌++◌, length, take, drop, get_or, Some, refl, ap, ap₂, sym, ◌∙◌, arith}
 use Rattle.std.specs.Prelude.{slice_get}
 use Rattle.std.proofs.lemmas.List.{take_more, drop_more}
 use Rattle.std.proofs.Math.Bool.{and-false}
@@ -45,14 +45,9 @@ are_true_slots-step sent heard i was slot same long h s t e =
     are_true_slots-is sent heard i h (omega arith)
     ∙ ap (λ (b : Bool). b && are_true_slots (drop (i + 1) sent) (drop (i + 1) heard)) (ap₂ is_true_slot (get_or_from_slice_get sent i was Bad s) (get_or_from_slice_get heard i slot Bad t) ∙ sym e)
 
-pub are_true_slots-none : (sent heard : List Slot) → sent ≡ [] → heard ≡ [] → are_true_slots sent heard ≡ true
-unfolding are_true_slots
-are_true_slots-none sent heard s h = ap₂ are_true_slots s h
-
 pub are_true_slots-lengths : (sent heard : List Slot) → (length sent ≡ length heard → ⊥) → are_true_slots sent heard ≡ false
 unfolding are_true_slots
 are_true_slots-lengths [] [] h = absurd (h refl)
-are_true_slots-lengths [] (slot ∷ heard) h = refl
-are_true_slots-lengths (was ∷ sent) [] h = refl
 are_true_slots-lengths (was ∷ sent) (slot ∷ heard) h =
     ap (λ (b : Bool). is_true_slot was slot && b) (are_true_slots-lengths sent heard (λ e. h (ap suc e))) ∙ and-false (is_true_slot was slot)
+are_true_slots-lengths sent heard h = refl

@@ -167,7 +167,6 @@ unfolding world_step happens with_outbound newest_after after_reopening reopened
 after-opening w true s number packet a e = record { step = ap₂ (reopened_world w) a e; sender = refl; receiver = refl; newest = refl }
 after-opening w false s number packet a e = record { step = ap₂ (reopened_world w) a e; sender = refl; receiver = refl; newest = refl }
 
--- its number
 number-is : (s t : Sending) (number : ℕ) (packet : Packet) → s.down ≡ true → reopened s ≡ (t, ReopenSent number packet) → number ≡ opening_number s.outstanding s.next
 unfolding reopened
 number-is s t number packet down e =

@@ -8,7 +8,7 @@ use Rattle.p25_messages.specs.declared.step_kind.Way.{Way}
 use Rattle.p25_messages.specs.declared.step_kind.Way.TheVariants.{Packets, Answers}
 use Rattle.p25_stations.specs.declared.air.Carried.{Carried}
 use Rattle.p25_stations.specs.declared.step.Event.{Event}
-use Rattle.p25_stations.specs.declared.step.Event.TheVariants.{Send, Timeout, Reopen, ToReceiver, ToSender}
+use Rattle.p25_stations.specs.declared.step.Event.TheVariants.{ToReceiver, ToSender}
 use Rattle.p25_stations.specs.declared.step.Step.{Step}
 use Rattle.p25_stations.specs.Air.{places_within, ArrivesWithin}
 use Rattle.p25_stations.specs.WorldState.{WorldState, first_world}
@@ -30,11 +30,9 @@ delivered-within reads w way (Some packet) flips sendable within = ap (λ (c : C
 
 pub step-within : ReadsWithin → (w : WorldState) (event : Event) → IsSoundDelivery w.delivery → IsWithin w event → (world_step w event).1.false_pass ≡ false
 unfolding world_step newest_by IsWithin
-step-within reads w (Send message) sound within = refl
-step-within reads w Timeout sound within = refl
-step-within reads w Reopen sound within = refl
 step-within reads w (ToReceiver flips) sound within = delivered-within reads w Packets w.delivery.packet_sent flips sound.packet_sent within
 step-within reads w (ToSender flips) sound within = delivered-within reads w Answers w.delivery.answer flips sound.answer within
+step-within reads w event sound within = refl
 
 -- A false pass takes two wrong bits.
 
@@ -54,11 +52,9 @@ delivered-twice reads w way (Some packet) flips sendable e =
 
 pub step-twice : ReadsWithin → (w : WorldState) (event : Event) → IsSoundDelivery w.delivery → (world_step w event).1.false_pass ≡ true → IsTwiceDamaged w event
 unfolding world_step newest_by IsTwiceDamaged
-step-twice reads w (Send message) sound e = false≢true e
-step-twice reads w Timeout sound e = false≢true e
-step-twice reads w Reopen sound e = false≢true e
 step-twice reads w (ToReceiver flips) sound e = delivered-twice reads w Packets w.delivery.packet_sent flips sound.packet_sent e
 step-twice reads w (ToSender flips) sound e = delivered-twice reads w Answers w.delivery.answer flips sound.answer e
+step-twice reads w event sound e = false≢true e
 
 -- The count.
 

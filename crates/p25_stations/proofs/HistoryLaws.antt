@@ -6,7 +6,7 @@ use Rattle.p25_delivery.specs.Orderly.{AreCounted, AreOrderly}
 use Rattle.p25_delivery.specs.Runs.{run_by, EachIs}
 use Rattle.p25_delivery.proofs.RunLaws.{run-append}
 use Rattle.p25_delivery.specs.SoundHalves.{IsMessage}
-use Rattle.p25_stations.specs.Steps.{Event, Send, Timeout, Reopen, ToReceiver, ToSender, Step, WorldState, first_world, world_step}
+use Rattle.p25_stations.specs.Steps.{Event, Send, Step, WorldState, first_world, world_step}
 use Rattle.p25_stations.specs.Runs.{HasHistory, IsCleanRun, IsEvent}
 use Rattle.p25_stations.proofs.CleanLaws.{run-orderly, run-facts, run-counted}
 use Rattle.p25_stations.proofs.FalsePassLaws.{clean-from_none}
@@ -21,10 +21,7 @@ each-append Is (x ∷ xs) ys first second = (first.0, each-append Is xs ys first
 pub event-kept : (event : Event) → ((message : List ℕ) → event ≡ Send message → IsMessage message) → IsEvent event
 unfolding IsEvent
 event-kept (Send message) sends = sends message refl
-event-kept Timeout sends = tt
-event-kept Reopen sends = tt
-event-kept (ToReceiver flips) sends = tt
-event-kept (ToSender flips) sends = tt
+event-kept event sends = tt
 
 -- a world before its first step has a history
 pub history_first : HasHistory first_world

@@ -7,15 +7,15 @@ use Rattle.p25_delivery.specs.Halves.{Sending, Receiving}
 use Rattle.p25_delivery.specs.SenderRules.{offered, timed_out, sender_heard, reopened, is_opening}
 use Rattle.p25_delivery.specs.ReceiverRules.{receiver_heard}
 use Rattle.p25_messages.specs.declared.answers.Offer.{Offer}
-use Rattle.p25_messages.specs.declared.answers.Offer.TheVariants.{Taken as OfferTaken, Busy as OfferBusy, Down as DownAtOffer}
+use Rattle.p25_messages.specs.declared.answers.Offer.TheVariants.{Taken as OfferTaken}
 use Rattle.p25_messages.specs.declared.answers.Resend.{Resend}
-use Rattle.p25_messages.specs.declared.answers.Resend.TheVariants.{Sent, Idle as ResendIdle, Down as DownAtTimeout}
+use Rattle.p25_messages.specs.declared.answers.Resend.TheVariants.{Sent}
 use Rattle.p25_messages.specs.declared.answers.SenderHeard.{SenderHeard}
-use Rattle.p25_messages.specs.declared.answers.SenderHeard.TheVariants.{Acknowledged as HeardAck, Opened as SenderOpened, Retry as HeardRetry, Repeat as HeardRepeat, Ignored as SenderIgnored, Down as DownAtAnswer}
+use Rattle.p25_messages.specs.declared.answers.SenderHeard.TheVariants.{Acknowledged as HeardAck}
 use Rattle.p25_messages.specs.declared.answers.Reopen.{Reopen as ReopenAnswer}
-use Rattle.p25_messages.specs.declared.answers.Reopen.TheVariants.{Sent as ReopenSent, Up as ReopenUp}
+use Rattle.p25_messages.specs.declared.answers.Reopen.TheVariants.{Sent as ReopenSent}
 use Rattle.p25_messages.specs.declared.answers.Heard.{Heard as HeardAnswer}
-use Rattle.p25_messages.specs.declared.answers.Heard.TheVariants.{Delivered as HeardDelivered, Opened as ReceiverOpened, Again as HeardAgain, Kept as HeardKept, RefusedCrc as HeardCrc, RefusedOrder as HeardOrder, Ignored as ReceiverIgnored}
+use Rattle.p25_messages.specs.declared.answers.Heard.TheVariants.{Delivered as HeardDelivered}
 use Rattle.p25_messages.specs.declared.step_kind.StepKind.{StepKind}
 use Rattle.p25_delivery.specs.HalfRules.{after_offer, after_timeout, after_reopening, after_data, after_answer}
 use Rattle.p25_delivery.specs.Delivery.{Delivery, Happening, with_outbound, with_inbound, happens}
@@ -25,7 +25,7 @@ use Rattle.p25_stations.specs.declared.step.Step.{Step}
 use Rattle.p25_stations.specs.WorldState.{WorldState}
 use Rattle.p25_stations.specs.Steps.{world_step}
 use Rattle.p25_stations.specs.Runs.{steps_of, world_run, delivered_by, delivered_in, sent_by, sent_in, is_acknowledged, acknowledged_in}
-use Rattle.p25_stations.proofs.StepLaws.{HasHappen, offers, is_late, opens, brings_data, brings_answer, IsQuiet, nothing, lost, ignored, Does, rests, does, step-does}
+use Rattle.p25_stations.proofs.StepLaws.{HasHappen, offers, is_late, opens, brings_data, brings_answer, IsQuiet, nothing, Does, rests, does, step-does}
 
 -- what an event of a kind adds to the lists of a delivery
 record Tells (event : Event) (w : Delivery) (x : Delivery × StepKind) : Type 0 where
@@ -50,40 +50,28 @@ silent event w x same told =
 offer-tells : (w : Delivery) (message : List ℕ) (answer : Sending × Offer) → Tells (Send message) w (with_outbound w (after_offer w.outbound message answer))
 unfolding with_outbound after_offer
 offer-tells w message (s, OfferTaken number blocks packet) = record { delivered = none w.inbound.received; sent = refl; acknowledged = omega arith }
-offer-tells w message (s, OfferBusy) = silent (Send message) w _ (refl, refl, refl) (refl, refl, refl)
-offer-tells w message (s, DownAtOffer) = silent (Send message) w _ (refl, refl, refl) (refl, refl, refl)
+offer-tells w message answer = silent (Send message) w _ (refl, refl, refl) (refl, refl, refl)
 
 timeout-tells : (w : Delivery) (answer : Sending × Resend) → Tells Timeout w (with_outbound w (after_timeout w.outbound answer))
 unfolding with_outbound after_timeout
 timeout-tells w (s, Sent number tries packet) = silent Timeout w _ (refl, refl, refl) (refl, refl, refl)
-timeout-tells w (s, ResendIdle) = silent Timeout w _ (refl, refl, refl) (refl, refl, refl)
-timeout-tells w (s, DownAtTimeout) = silent Timeout w _ (refl, refl, refl) (refl, refl, refl)
+timeout-tells w answer = silent Timeout w _ (refl, refl, refl) (refl, refl, refl)
 
 reopen-tells : (w : Delivery) (count : ℕ) (again : Bool) (answer : Sending × ReopenAnswer) → Tells Reopen w (with_outbound w (after_reopening w.outbound count again answer))
 unfolding with_outbound after_reopening
 reopen-tells w count true (s, ReopenSent number packet) = silent Reopen w _ (refl, refl, refl) (refl, refl, refl)
 reopen-tells w count false (s, ReopenSent number packet) = silent Reopen w _ (refl, refl, refl) (refl, refl, refl)
-reopen-tells w count true (s, ReopenUp) = silent Reopen w _ (refl, refl, refl) (refl, refl, refl)
-reopen-tells w count false (s, ReopenUp) = silent Reopen w _ (refl, refl, refl) (refl, refl, refl)
+reopen-tells w count again answer = silent Reopen w _ (refl, refl, refl) (refl, refl, refl)
 
 data-tells : (w : Delivery) (flips : List ℕ) (answer : Receiving × HeardAnswer) → Tells (ToReceiver flips) w (with_inbound w (after_data w.inbound answer))
 unfolding with_inbound after_data
 data-tells w flips (r, HeardDelivered number message answer) = record { delivered = refl; sent = none w.outbound.sent; acknowledged = omega arith }
-data-tells w flips (r, ReceiverOpened number answer) = silent (ToReceiver flips) w _ (refl, refl, refl) (refl, refl, refl)
-data-tells w flips (r, HeardAgain number answer) = silent (ToReceiver flips) w _ (refl, refl, refl) (refl, refl, refl)
-data-tells w flips (r, HeardKept number flags answer) = silent (ToReceiver flips) w _ (refl, refl, refl) (refl, refl, refl)
-data-tells w flips (r, HeardCrc number answer) = silent (ToReceiver flips) w _ (refl, refl, refl) (refl, refl, refl)
-data-tells w flips (r, HeardOrder last answer) = silent (ToReceiver flips) w _ (refl, refl, refl) (refl, refl, refl)
-data-tells w flips (r, ReceiverIgnored) = silent (ToReceiver flips) w _ (refl, refl, refl) (refl, refl, refl)
+data-tells w flips answer = silent (ToReceiver flips) w _ (refl, refl, refl) (refl, refl, refl)
 
 answer-tells : (w : Delivery) (flips : List ℕ) (answer : Sending × SenderHeard) → Tells (ToSender flips) w (with_outbound w (after_answer w.outbound answer))
 unfolding with_outbound after_answer
 answer-tells w flips (s, HeardAck number) = record { delivered = none w.inbound.received; sent = none w.outbound.sent; acknowledged = omega arith }
-answer-tells w flips (s, SenderOpened number) = silent (ToSender flips) w _ (refl, refl, refl) (refl, refl, refl)
-answer-tells w flips (s, HeardRetry number wanted tries packet) = silent (ToSender flips) w _ (refl, refl, refl) (refl, refl, refl)
-answer-tells w flips (s, HeardRepeat number tries packet) = silent (ToSender flips) w _ (refl, refl, refl) (refl, refl, refl)
-answer-tells w flips (s, SenderIgnored) = silent (ToSender flips) w _ (refl, refl, refl) (refl, refl, refl)
-answer-tells w flips (s, DownAtAnswer) = silent (ToSender flips) w _ (refl, refl, refl) (refl, refl, refl)
+answer-tells w flips answer = silent (ToSender flips) w _ (refl, refl, refl) (refl, refl, refl)
 
 happening-tells : (w : Delivery) (event : Event) (false_pass : Bool) (happening : Happening) → HasHappen w event false_pass happening → Tells event w (happens w happening)
 unfolding happens
@@ -96,17 +84,11 @@ happening-tells w event false_pass happening (brings_answer flips sent packet b 
 -- a quiet step is none of an event that sends
 quiet-tells : (event : Event) (w : Delivery) (kind : StepKind) → IsQuiet kind → sent_by event kind ≡ [] → Tells event w (w, kind)
 quiet-tells event w kind (nothing way) none_sent = silent event w _ (refl, refl, refl) (refl, none_sent, refl)
-quiet-tells event w kind (lost way field) none_sent = silent event w _ (refl, refl, refl) (refl, none_sent, refl)
-quiet-tells event w kind (ignored way) none_sent = silent event w _ (refl, refl, refl) (refl, none_sent, refl)
+quiet-tells event w kind other none_sent = silent event w _ (refl, refl, refl) (refl, none_sent, refl)
 
 none-sent : (event : Event) (kind : StepKind) → IsQuiet kind → sent_by event kind ≡ []
 none-sent (Send message) kind (nothing way) = refl
-none-sent (Send message) kind (lost way field) = refl
-none-sent (Send message) kind (ignored way) = refl
-none-sent Timeout kind quiet = refl
-none-sent Reopen kind quiet = refl
-none-sent (ToReceiver flips) kind quiet = refl
-none-sent (ToSender flips) kind quiet = refl
+none-sent event kind quiet = refl
 
 told : (w : WorldState) (event : Event) (x : WorldState × Step) → Does w event x → Tells event w.delivery (x.0.delivery, x.1.kind)
 told w event x (rests kind quiet) = quiet-tells event w.delivery kind quiet (none-sent event kind quiet)

@@ -11,7 +11,7 @@ use Rattle.p25_delivery.specs.Asked.{is_response, is_ack, asked_of}
 use Rattle.p25_delivery.specs.SenderRules.{sending_after, tried, fallen, may_send, offered, resent, timed_out_with, timed_out, repeated, retried, answered, response_heard, sender_heard, opening_number, reopened, is_opening}
 use Rattle.p25_delivery.specs.ReceiverRules.{receiver_heard}
 use Rattle.p25_delivery.specs.declared.asked.Asked.{Asked}
-use Rattle.p25_delivery.specs.declared.asked.Asked.TheVariants.{Nothing as NothingAsked, NextMessage, WholeMessage, Blocks}
+use Rattle.p25_delivery.specs.declared.asked.Asked.TheVariants.{WholeMessage, Blocks}
 use Rattle.p25_delivery.specs.declared.sender.Outstanding.{Outstanding}
 use Rattle.p25_delivery.specs.declared.sender.Outstanding.TheVariants.{Nothing, Message, Opening}
 use Rattle.p25_messages.specs.declared.answers.Offer.{Offer}
@@ -23,7 +23,7 @@ use Rattle.p25_messages.specs.declared.answers.SenderHeard.TheVariants.{Opened a
 use Rattle.p25_messages.specs.declared.answers.Reopen.{Reopen as ReopenAnswer}
 use Rattle.p25_messages.specs.declared.answers.Reopen.TheVariants.{Sent as ReopenSent, Up as ReopenUp}
 use Rattle.p25_messages.specs.declared.answers.Heard.{Heard as HeardAnswer}
-use Rattle.p25_messages.specs.declared.answers.Heard.TheVariants.{Delivered as HeardDelivered, Opened as ReceiverOpened, Again as HeardAgain, Kept as HeardKept, RefusedCrc as HeardCrc, RefusedOrder as HeardOrder, Ignored as ReceiverIgnored}
+use Rattle.p25_messages.specs.declared.answers.Heard.TheVariants.{Delivered as HeardDelivered}
 use Rattle.p25_messages.specs.declared.step_kind.StepKind.{StepKind}
 use Rattle.p25_delivery.specs.HalfRules.{after_offer, after_timeout, after_reopening, after_data, after_answer}
 use Rattle.p25_delivery.specs.SoundHalves.{IsOutgoing}
@@ -35,7 +35,7 @@ use Rattle.p25_stations.specs.declared.step.Step.{Step}
 use Rattle.p25_stations.specs.WorldState.{WorldState, first_world}
 use Rattle.p25_stations.specs.Steps.{world_step}
 use Rattle.p25_stations.specs.Runs.{AreEvents, world_run, steps_of, tries_after, tries_in}
-use Rattle.p25_stations.proofs.StepLaws.{IsQuiet, nothing, lost, ignored, Does, rests, does, step-does}
+use Rattle.p25_stations.proofs.StepLaws.{IsQuiet, nothing, Does, rests, does, step-does}
 use Rattle.p25_stations.proofs.SoundLaws.{IsSoundDelivery, step-sound, run-sound, first-sound}
 
 -- what happened tells how often the half has sent what is outstanding, where it had sent it so often before
@@ -110,12 +110,7 @@ reopen-tries o count again s =
 data-tries : (i : Incoming) (tries : ℕ) (x : Receiving × HeardAnswer) → tries_after tries (after_data i x).1.0 ≡ tries
 unfolding after_data
 data-tries i tries (r, HeardDelivered number message answer) = refl
-data-tries i tries (r, ReceiverOpened number answer) = refl
-data-tries i tries (r, HeardAgain number answer) = refl
-data-tries i tries (r, HeardKept number flags answer) = refl
-data-tries i tries (r, HeardCrc number answer) = refl
-data-tries i tries (r, HeardOrder last answer) = refl
-data-tries i tries (r, ReceiverIgnored) = refl
+data-tries i tries x = refl
 
 -- An answer that the sender hears.
 
@@ -124,12 +119,11 @@ AnswerTells o s x = Tells s.tries (after_answer o x)
 
 answered-tries : (o : Outgoing) (asked : Asked) (s : Sending) (message : List ℕ) → AnswerTells o s (answered asked s message)
 unfolding answered repeated retried after_answer
-answered-tries o NothingAsked s message = refl
-answered-tries o NextMessage s message = refl
 answered-tries o WholeMessage s message =
     elim (may_send s) as (λ (b : Bool). AnswerTells o s (cond b (tried s, HeardRepeat s.next (s.tries + 1) (message_packet s.next message)) (fallen s, DownAtAnswer))) [ true ↦ refl | false ↦ refl ]
 answered-tries o (Blocks wanted) s message =
     elim (may_send s) as (λ (b : Bool). AnswerTells o s (cond b (tried s, HeardRetry s.next wanted (s.tries + 1) (blocks_packet s.next message wanted)) (fallen s, DownAtAnswer))) [ true ↦ refl | false ↦ refl ]
+answered-tries o asked s message = refl
 
 response-tries : (o : Outgoing) (out : Outstanding) (s : Sending) (response : PlainParts) → AnswerTells o s (response_heard out s response)
 unfolding response_heard after_answer
@@ -158,8 +152,7 @@ happening-tries w (Answer_heard packet) sound = answer-tries w.outbound w.outbou
 
 quiet-tries : (kind : StepKind) → IsQuiet kind → (tries : ℕ) → tries_after tries kind ≡ tries
 quiet-tries kind (nothing way) tries = refl
-quiet-tries kind (lost way field) tries = refl
-quiet-tries kind (ignored way) tries = refl
+quiet-tries kind other tries = refl
 
 tries-told : (w : WorldState) (event : Event) (x : WorldState × Step) → Does w event x → IsSoundDelivery w.delivery → tries_after w.delivery.outbound.sender.tries x.1.kind ≡ x.0.delivery.outbound.sender.tries
 tries-told w event x (rests kind quiet) sound = quiet-tries kind quiet w.delivery.outbound.sender.tries

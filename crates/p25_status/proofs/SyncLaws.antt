@@ -2,12 +2,11 @@
 use Rattle.std.proofs.Common.{◌≡◌, ℕ, ◌+◌, ◌<◌, ◌≤◌, ◌&&◌, Bool, true, false, nat_le, List, ◌++◌, length, length-append, take, drop, bit_xor, refl, ap, ap₂, sym, ◌∙◌, arith}
 use Rattle.std.specs.Int.RustNames.{count_ones}
 use Rattle.std.proofs.lemmas.Bool.{and_parts, and_from, and_left, and_right, le-leb, leb-true, lt-leb}
-use Rattle.std.proofs.lemmas.List.{take-append-le, take_at, take-append-drop, length-take}
-use Rattle.p25_bits.specs.Bits.{bits_of, field_of, part}
+use Rattle.std.proofs.lemmas.List.{take-append-le, take-append-drop, length-take}
+use Rattle.p25_bits.specs.Bits.{bits_of, field_of}
 use Rattle.p25_bits.specs.Distance.{distance_of}
 use Rattle.p25_bits.proofs.BitsLaws.{length-bits_of, field_of-bits_of}
-use Rattle.p25_bits.proofs.NumbersLaws.{bits_of-field}
-use Rattle.p25_bits.proofs.DistanceLaws.{distance_of-same, ones-xor}
+use Rattle.p25_bits.proofs.DistanceLaws.{ones-xor}
 use Rattle.p25_status.specs.Sync.{sync_bits, sync_slack, has_sync}
 
 pub length-sync_bits : length sync_bits ≡ 48
@@ -68,15 +67,3 @@ pub has_sync-take : (bits : List Bool) (count : ℕ) → 48 ≤ count → count 
 has_sync-take bits count enough there =
     let long : 48 ≤ length (take count bits) = omega (arith, length-take count bits) in
     sym (has_sync-append (take count bits) (drop count bits) long) ∙ ap has_sync (take-append-drop count bits)
-
--- the sync begins with a sync, whatever stands after it
-pub has_sync-sync_bits : (more : List Bool) → has_sync (sync_bits ++ more) ≡ true
-has_sync-sync_bits more =
-    let long : 48 ≤ length (sync_bits ++ more) = omega (arith, length-append sync_bits more, length-sync_bits) in
-    let near : distance_of (take 48 (sync_bits ++ more)) sync_bits ≤ sync_slack
-    = omega (arith, ap (λ (bits : List Bool). distance_of bits sync_bits) (take_at sync_bits more 48 length-sync_bits), distance_of-same sync_bits) in
-    has_sync-yes (sync_bits ++ more) long near
-
--- the bits of a window are those that it was read from
-pub window_bits : (bits : List Bool) (at : ℕ) → at + 48 ≤ length bits → bits_of 48 (field_of (part at 48 bits)) ≡ take 48 (drop at bits)
-window_bits bits at there = bits_of-field 48 at bits there

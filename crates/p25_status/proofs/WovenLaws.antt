@@ -25,9 +25,8 @@ symbol_again status = same_status _ status (two_digits (status_number status) st
 pub bits_again : (high low : Bool) → bits_of 2 (status_number (status_from_bits high low)) ≡ high ∷ low ∷ []
 unfolding status_from_bits bits_of
 bits_again true true = refl
-bits_again true false = refl
 bits_again false true = refl
-bits_again false false = refl
+bits_again high low = refl
 
 -- the bits of a first block are there
 whole_block : {X : Type 0} (bits : List Bool) (s : X) (ss : List X) → length bits ≡ 70 * length (s ∷ ss) → length (take 70 bits) ≡ 70

@@ -10,7 +10,7 @@ use Rattle.p25_status.proofs.SyncLaws.{has_sync-append, has_sync-length}
 use Rattle.p25_units.specs.Items.{covered}
 use Rattle.p25_units.specs.Units.{IsSendableUnit, IsSoundFrame}
 use Rattle.p25_units.specs.declared.item.Item.{Item}
-use Rattle.p25_units.specs.declared.item.Item.TheVariants.{Whole, Broken, NoUnit, Gap, Cut}
+use Rattle.p25_units.specs.declared.item.Item.TheVariants.{NoUnit, Gap}
 use Rattle.p25_units.proofs.WithinRadiusLaws.{has_sync-near}
 use Rattle.p25_stream.specs.Arrivals.{Arrival, IsFound, IsHidden, IsNearArrival, IsUnitItem, UnitIsFound, UnitsAreWhole, bits_arrived, frame_arrived, whole_of, wholes_of}
 use Rattle.p25_stream.specs.Items.{first_item, is_decided, items_by, items_of}
@@ -107,11 +107,9 @@ module _ (place : ℕ) (arrival : Arrival) (more : List Bool) (is : IsNearArriva
         absurd (cc)
 
     reaching : (item : Item) → item ≡ first_item at (bits ++ rest) → length bits < covered item → IsUnitItem item
-    reaching (Whole start frame fixes) same far = tt
-    reaching (Broken start count nac duid fields) same far = tt
     reaching (NoUnit start field) same far = absurd (omega arith)
     reaching (Gap start count) same far = no_gap start count same far
-    reaching (Cut start have) same far = tt
+    reaching item same far = tt
 
   walk : (turns at : ℕ) (bits : List Bool) → length bits ≤ turns → place ≡ at + length bits → IsHidden place (items_of at (bits ++ rest)) ⊎ IsFound at place arrival more (items_of at (bits ++ rest))
   walk turns at [] few here =

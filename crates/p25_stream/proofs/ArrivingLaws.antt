@@ -18,14 +18,7 @@ eight_number : (octets : List ℕ) → 8 ≤ length octets
     + get_or octets 4 0 * 16777216 + get_or octets 5 0 * 65536 + get_or octets 6 0 * 256 + get_or octets 7 0
 unfolding octets_number number_after
 eight_number (a ∷ b ∷ c ∷ d ∷ e ∷ f ∷ g ∷ h ∷ rest) long = omega arith
-eight_number [] long = absurd (omega arith)
-eight_number (a ∷ []) long = absurd (omega arith)
-eight_number (a ∷ b ∷ []) long = absurd (omega arith)
-eight_number (a ∷ b ∷ c ∷ []) long = absurd (omega arith)
-eight_number (a ∷ b ∷ c ∷ d ∷ []) long = absurd (omega arith)
-eight_number (a ∷ b ∷ c ∷ d ∷ e ∷ []) long = absurd (omega arith)
-eight_number (a ∷ b ∷ c ∷ d ∷ e ∷ f ∷ []) long = absurd (omega arith)
-eight_number (a ∷ b ∷ c ∷ d ∷ e ∷ f ∷ g ∷ []) long = absurd (omega arith)
+eight_number octets long = absurd (omega arith)
 
 -- the bits of the word that they make
 pub bits_of-eight : (octets : List ℕ) (word : ℕ) → 8 ≤ length octets → All (λ octet. octet < 256) (take 8 octets)

@@ -46,9 +46,7 @@ pub IsBeginning-few : (beginning : Beginning) (bits : List Bool) → IsBeginning
 unfolding IsBeginning
 IsBeginning-few (Searching clear) bits is open' = omega (arith, is.all, is.few)
 IsBeginning-few (Waiting count begun) bits is open' = let few = need_of-few bits count is.needs in omega (arith, few.0, few.1)
-IsBeginning-few (Gap count) bits is open' = absurd (cc)
-IsBeginning-few (Ready count begun) bits is open' = absurd (cc)
-IsBeginning-few (NoUnit field) bits is open' = absurd (cc)
+IsBeginning-few beginning bits is open' = absurd (cc)
 
 -- each case, made
 pub beginning-searching : (bits : List Bool) (clear : ℕ) → clear < 4096 → clear ≡ length bits - 47 → clear ≤ sync_place bits → IsBeginning (Searching clear) bits
@@ -123,9 +121,7 @@ pub waits-stays : (beginning : Beginning) (bits more : List Bool) → IsBeginnin
 unfolding IsBeginning
 waits-stays (Searching clear) bits more is few = searching-stays bits more clear is (leb-true (length (bits ++ more) - 47) clear few)
 waits-stays (Waiting count begun) bits more is few = waits-more bits more count begun is (ltb-true (length (bits ++ more)) count few)
-waits-stays (Gap count) bits more is few = absurd (cc)
-waits-stays (Ready count begun) bits more is few = absurd (cc)
-waits-stays (NoUnit field) bits more is few = absurd (cc)
+waits-stays beginning bits more is few = absurd (cc)
 
 pub was-stays : (beginning : Beginning) (bits : List Bool) → WasBeginning beginning bits → waits beginning (length bits) ≡ true → IsBeginning beginning bits
 was-stays beginning bits was few =

@@ -25,15 +25,12 @@ both (x ∷ xs) (m ∷ ms) = cond (x && m) 1 0 + both xs ms
 ones_digits : (x m : Bool) → count_ones (bit_and (digit_of x) (digit_of m)) ≡ cond (x && m) 1 0
 unfolding count_ones
 ones_digits true true = refl
-ones_digits true false = refl
 ones_digits false true = refl
-ones_digits false false = refl
+ones_digits x m = refl
 
 ones-and : (xs ms : List Bool) → length xs ≡ length ms → count_ones (bit_and (field_of xs) (field_of ms)) ≡ both xs ms
 unfolding count_ones both
 ones-and [] [] same = ap (λ n. count_ones (bit_and n n)) field_of-nil
-ones-and [] (m ∷ ms) same = absurd (omega arith)
-ones-and (x ∷ xs) [] same = absurd (omega arith)
 ones-and (x ∷ xs) (m ∷ ms) same =
     let k = length xs in
     let long : length ms ≡ k = omega arith in
@@ -43,6 +40,7 @@ ones-and (x ∷ xs) (m ∷ ms) same =
     ap count_ones (ap₂ bit_and (field_of-cons x xs) second ∙ and_block k (digit_of x) (digit_of m) (field_of xs) (field_of ms) below below')
     ∙ ones_cat k (bit_and (digit_of x) (digit_of m)) (bit_and (field_of xs) (field_of ms)) (omega (arith, and_le_l (field_of xs) (field_of ms)))
     ∙ ap₂ ◌+◌ (ones_digits x m) (ones-and xs ms (sym long))
+ones-and xs ms same = absurd (omega arith)
 
 -- every 1 of the first list is one of the second
 within : List Bool → List Bool → Bool
@@ -53,11 +51,10 @@ within (m ∷ ms) (y ∷ ys) = (not m || y) && within ms ys
 within-append : (ms ys ns zs : List Bool) → length ms ≡ length ys → within ms ys ≡ true → within ns zs ≡ true → within (ms ++ ns) (ys ++ zs) ≡ true
 unfolding within
 within-append [] [] ns zs long a b = b
-within-append [] (y ∷ ys) ns zs long a b = absurd (omega arith)
-within-append (m ∷ ms) [] ns zs long a b = absurd (omega arith)
 within-append (m ∷ ms) (y ∷ ys) ns zs long a b =
     let parts = and_parts (not m || y) (within ms ys) a in
     and_from (not m || y) (within (ms ++ ns) (ys ++ zs)) parts.0 (within-append ms ys ns zs (omega arith) parts.1 b)
+within-append ms ys ns zs long a b = absurd (omega arith)
 
 within-none : (n : ℕ) (ys : List Bool) → within (replicate n false) ys ≡ true
 unfolding within
@@ -68,24 +65,19 @@ within-none (suc n) (y ∷ ys) = within-none n ys
 -- a 1 of the mask is missed only where the bits are wrong
 missed_at : (x y m : Bool) → (not m || y) ≡ true → cond (m && m) 1 0 ≤ cond (x && m) 1 0 + cond (beq x y) 0 1
 missed_at true true true is = omega arith
-missed_at true true false is = omega arith
 missed_at true false true is = absurd (cc)
-missed_at true false false is = omega arith
 missed_at false true true is = omega arith
-missed_at false true false is = omega arith
 missed_at false false true is = absurd (cc)
-missed_at false false false is = omega arith
+missed_at x y m is = omega arith
 
 missed : (xs ys ms : List Bool) → length xs ≡ length ys → length xs ≡ length ms → within ms ys ≡ true → both ms ms ≤ both xs ms + distance_of xs ys
 unfolding both within distance_by
 missed [] [] [] a b is = omega arith
 missed [] ys (m ∷ ms) a b is = absurd (omega arith)
-missed [] (y ∷ ys) ms a b is = absurd (omega arith)
-missed (x ∷ xs) [] ms a b is = absurd (omega arith)
-missed (x ∷ xs) (y ∷ ys) [] a b is = absurd (omega arith)
 missed (x ∷ xs) (y ∷ ys) (m ∷ ms) a b is =
     let parts = and_parts (not m || y) (within ms ys) is in
     omega (arith, missed_at x y m parts.0, missed xs ys ms (omega arith) (omega arith) parts.1)
+missed xs ys ms a b is = absurd (omega arith)
 
 -- a mask has its ones within those of the sync, where the sync stands at a place
 record MaskFits (ms : List Bool) (place left : ℕ) : Type 0 where

@@ -1,9 +1,9 @@
 -- Octets that are taken from a place on until the first item is known: the bits held and those left are the bits from there on, and so
 -- the first item of those held is the first of all.
-use Rattle.std.proofs.Common.{◌≡◌, ℕ, ◌+◌, ◌-◌, ◌*◌, ◌/◌, ◌%◌, ◌<◌, ◌≤◌, Bool, true, false, ◌||◌, inl, inr, List, [], ◌∷◌, ◌++◌, length, take, drop, get_or, ap, ap₂, sym, subst, ◌∙◌, arith, append_assoc, append-nil, length-append, length-take, length-drop, add-one}
+use Rattle.std.proofs.Common.{◌≡◌, ℕ, ◌+◌, ◌-◌, ◌*◌, ◌/◌, ◌%◌, ◌<◌, ◌≤◌, Bool, true, false, ◌||◌, inl, inr, List, [], ◌∷◌, ◌++◌, length, take, drop, get_or, ap, ap₂, sym, subst, ◌∙◌, arith, append_assoc, append-nil, length-append, length-take, add-one}
 use Rattle.std.proofs.Math.Seq.{drop-cons, take-add}
 use Rattle.std.proofs.lemmas.Bool.{cases_Bool}
-use Rattle.std.proofs.lemmas.List.{drop-append-le, drop_all, take-append-drop, take_all}
+use Rattle.std.proofs.lemmas.List.{drop-append-le, drop_all, take-append-drop, take_rest}
 use Rattle.p25_bits.specs.Bits.{bits_of, octet_bits}
 use Rattle.p25_bits.proofs.BitsLaws.{length-bits_of, length-octet_bits, octet_bits-append, octet_bits-cons, octet_bits-nil}
 use Rattle.p25_bits.proofs.PartLaws.{drop_behind}
@@ -15,10 +15,6 @@ use Rattle.p25_stream.specs.declared.beginning.Beginning.{Beginning}
 use Rattle.p25_stream.proofs.BeginningsLaws.{IsBeginning-decided}
 use Rattle.p25_stream.proofs.ItemsLaws.{covered-first_item, decided-some, items_by-decided, items_by-more, items_by-nil, items_by-none}
 
--- the octets from a place on, as a slice of them is seen
-pub range-is : (octets : List ℕ) (at : ℕ) → take (length octets - at) (drop at octets) ≡ drop at octets
-range-is octets at = let all : length (drop at octets) ≤ length octets - at = omega (arith, length-drop at octets) in take_all (length octets - at) (drop at octets) all
-
 pub put-none : (held : List Bool) (octets : List ℕ) → held ≡ held ++ octet_bits (take 0 octets)
 put-none held octets = sym (append-nil held) ∙ ap (λ (zs : List Bool). held ++ zs) (sym octet_bits-nil)
 
@@ -27,7 +23,7 @@ pub put-more : (before held later : List Bool) (octets : List ℕ) (taken count 
 put-more before held later octets taken count was is =
     let rest = take count (drop taken octets) in
     is
-    ∙ ap (λ (zs : List ℕ). held ++ octet_bits (take count zs)) (range-is octets taken)
+    ∙ ap (λ (zs : List ℕ). held ++ octet_bits (take count zs)) (take_rest octets taken)
     ∙ ap (λ (zs : List Bool). zs ++ octet_bits rest) was
     ∙ append_assoc before (octet_bits (take taken octets)) (octet_bits rest)
     ∙ ap (λ (zs : List Bool). before ++ zs) (sym (octet_bits-append (take taken octets) rest) ∙ ap octet_bits (sym (take-add taken count octets)))
@@ -116,7 +112,7 @@ bits-at octets at before inside is =
     ap₂ drop at_is whole
     ∙ drop_behind (8 * first) (at % 8) front (bits_of 8 octet ++ behind) long
     ∙ drop-append-le (at % 8) (bits_of 8 octet) behind within
-    ∙ ap₂ (λ (xs : List Bool) (ys : List ℕ). xs ++ octet_bits ys) (sym is) (sym (range-is octets (first + 1)))
+    ∙ ap₂ (λ (xs : List Bool) (ys : List ℕ). xs ++ octet_bits ys) (sym is) (sym (take_rest octets (first + 1)))
 
 -- there are none from their end on
 pub none-at_end : (ended : Bool) (place at : ℕ) (octets : List ℕ) → 8 * length octets ≤ at → items_by ended place (drop at (octet_bits octets)) ≡ []

@@ -5,7 +5,7 @@ use Rattle.std.proofs.lemmas.List.{drop-drop, take-append-le}
 use Rattle.std.proofs.Math.Seq.{take-length}
 use Rattle.std.specs.List.{sum_by}
 use Rattle.std.proofs.lemmas.List.Sums.{sum_by-cons}
-use Rattle.p25_status.proofs.SyncLaws.{has_sync-append}
+use Rattle.p25_status.proofs.SyncLaws.{has_sync-append, has_sync-length}
 use Rattle.p25_units.specs.Fixes.{fixes_of}
 use Rattle.p25_units.specs.Items.{covered, place_of, IsSoundItem, unit_item_of}
 use Rattle.p25_units.specs.Units.{frame_length_of, image_of}
@@ -18,7 +18,6 @@ use Rattle.p25_units.proofs.ItemsLaws.{covered-unit_item_of}
 use Rattle.p25_units.proofs.FixesLaws.{fixes_of-image_of}
 use Rattle.p25_units.proofs.WholeLaws.{whole-near}
 use Rattle.p25_units.proofs.WithinRadiusLaws.{has_sync-near, need_of-near, unit_item_of-near, IsWithinRadius-image_of, received-image_of}
-use Rattle.p25_status.proofs.SyncLaws.{has_sync-length}
 use Rattle.p25_stream.specs.Items.{sync_place, first_item, items_by, items_of}
 use Rattle.p25_stream.specs.ItemLaws.{NearIsWhole, WholeIsRead, ImageIsWhole}
 use Rattle.p25_stream.proofs.SyncPlaceLaws.{sync_place-left, sync_place-unsynced}

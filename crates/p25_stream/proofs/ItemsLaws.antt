@@ -1,7 +1,7 @@
 -- The items of a stream: the cases of the first item, the walk a step at a time, and what stays under more bits. All that is
 -- known of units are the laws that p25_units gives a scanner.
 use Rattle.std.proofs.Common.{◌≡◌, ℕ, zero, suc, ◌+◌, ◌<◌, ◌≤◌, inl, inr, Bool, true, false, ◌||◌, cond, min, List, [], ◌∷◌, ◌++◌, length, take, drop, refl, ap, sym, ◌∙◌, subst, arith, length-append, length-drop}
-use Rattle.std.proofs.lemmas.Bool.{cases_Bool, cases_lt, le-leb, leb-true, cond-true, cond-false}
+use Rattle.std.proofs.lemmas.Bool.{cases_Bool, cases_lt, le-leb, leb-true, cond-true, cond-false, or_right}
 use Rattle.std.proofs.lemmas.List.{take-append-le, drop-append-le}
 use Rattle.p25_status.specs.Sync.{has_sync}
 use Rattle.p25_status.specs.declared.fields.Field.{Field}
@@ -92,18 +92,15 @@ gap-first at bits place count is =
 -- with turns enough for every bit it does not matter how many there are
 items_in-enough : (more turns : ℕ) (ended : Bool) (at : ℕ) (bits : List Bool) → length bits ≤ more → length bits ≤ turns → items_in more ended at bits ≡ items_in turns ended at bits
 unfolding items_in
-items_in-enough zero zero ended at bits a b = refl
-items_in-enough zero (suc turns) ended at [] a b = refl
 items_in-enough zero (suc turns) ended at (bit ∷ bits) a b = absurd (omega arith)
-items_in-enough (suc more) zero ended at [] a b = refl
 items_in-enough (suc more) zero ended at (bit ∷ bits) a b = absurd (omega arith)
-items_in-enough (suc more) (suc turns) ended at [] a b = refl
 items_in-enough (suc more) (suc turns) ended at (bit ∷ bits) a b =
     let item = first_item at (bit ∷ bits) in
     let rest = drop (covered item) (bit ∷ bits) in
     let fits = covered-first_item at (bit ∷ bits) (omega arith) in
     let less : length rest ≤ length bits = omega (arith, length-drop (covered item) (bit ∷ bits)) in
     ap (λ items. cond (ended || is_decided (bit ∷ bits)) (item ∷ items) []) (items_in-enough more turns ended (at + covered item) rest (omega arith) (omega arith))
+items_in-enough more turns ended at bits a b = refl
 
 -- no bits have no item
 pub items_by-nil : (ended : Bool) (at : ℕ) → items_by ended at [] ≡ []
@@ -164,10 +161,9 @@ gap-append bits more no' known =
 
 -- the item at a sync stays
 synced-append : (at : ℕ) (bits more : List Bool) (need : Need) → need_of bits ≡ need → is_known need ≡ true → synced_item at (bits ++ more) need ≡ synced_item at bits need
-synced-append at bits more NoSync is known = refl
 synced-append at bits more (More count) is known = absurd (cc)
 synced-append at bits more (Length count) is known = ap (unit_item_of at) (take-append-le count bits more (need_of-there bits count is).3)
-synced-append at bits more (NoLength field) is known = refl
+synced-append at bits more need is known = refl
 
 -- a first item that is decided stays the first
 pub first_item-append : (at : ℕ) (bits more : List Bool) → is_decided bits ≡ true → (first_item at (bits ++ more) ≡ first_item at bits) × (is_decided (bits ++ more) ≡ true)
@@ -199,10 +195,6 @@ decided-some bits decided =
       | inl yes' ↦ omega (arith, has_sync-length bits yes')
     ]
 
-or_true : (ended decided : Bool) → decided ≡ true → (ended || decided) ≡ true
-or_true true decided is = refl
-or_true false decided is = is
-
 -- the items of more bits, where the first is decided
 pub items_by-decided : (ended : Bool) (at : ℕ) (bits more : List Bool) → is_decided bits ≡ true
     → items_by ended at (bits ++ more) ≡ first_item at bits ∷ items_by ended (at + covered (first_item at bits)) (drop (covered (first_item at bits)) bits ++ more)
@@ -210,7 +202,7 @@ items_by-decided ended at bits more decided =
     let some = decided-some bits decided in
     let stays = first_item-append at bits more decided in
     let left = drop-append-le (covered (first_item at bits)) bits more (covered-first_item at bits some).1 in
-    items_by-more ended at (bits ++ more) (omega (arith, length-append bits more)) (or_true ended (is_decided (bits ++ more)) stays.1)
+    items_by-more ended at (bits ++ more) (omega (arith, length-append bits more)) (or_right ended (is_decided (bits ++ more)) stays.1)
     ∙ ap (λ item. item ∷ items_by ended (at + covered item) (drop (covered item) (bits ++ more))) stays.0
     ∙ ap (λ rest. first_item at bits ∷ items_by ended (at + covered (first_item at bits)) rest) left
 

@@ -39,11 +39,13 @@ drained-going beginning place held is =
     )
 
 -- a drained scanner that goes on holds few bits
-pub drained-open : (beginning : Beginning) (scan : Scan) → given scan ≡ [] → scan.finished ≡ false → IsBeginning beginning scan.held → is_settled beginning ≡ false
-drained-open beginning scan none going is = (drained-going beginning scan.place scan.held is).1 (subst (λ (b : Bool). items_by b scan.place scan.held ≡ []) going none)
+pub drained-open : (beginning : Beginning) (scan told : Scan) → scan ≡ told → given told ≡ [] → told.finished ≡ false → IsBeginning beginning scan.held → is_settled beginning ≡ false
+drained-open beginning scan told same none going is =
+    (drained-going beginning scan.place scan.held is).1
+    (subst (λ (b : Bool). items_by b scan.place scan.held ≡ []) (ap (λ (s : Scan). s.finished) same ∙ going) (ap given same ∙ none))
 
-pub drained-few : (beginning : Beginning) (scan : Scan) → given scan ≡ [] → scan.finished ≡ false → IsBeginning beginning scan.held → length scan.held < 25920
-drained-few beginning scan none going is = IsBeginning-few beginning scan.held is (drained-open beginning scan none going is)
+pub drained-few : (beginning : Beginning) (scan told : Scan) → scan ≡ told → given told ≡ [] → told.finished ≡ false → IsBeginning beginning scan.held → length scan.held < 25920
+drained-few beginning scan told same none going is = IsBeginning-few beginning scan.held is (drained-open beginning scan told same none going is)
 
 -- the first item given, with the bits that it covers
 pub gave-first : (scan now : Scan) (item : Item) (raw : List Bool) → (given scan ≡ [] → ⊥) → item ≡ first_item scan.place scan.held

@@ -8,12 +8,12 @@ use Rattle.p25_line.specs.Values.{three_digits}
 use Rattle.p25_line.proofs.AsciiLaws.{ascii-append, ascii-comma_text, ascii-decimal, ascii-drop, ascii-encode_lower, ascii-join, ascii-joined, ascii-list_text, ascii-map, ascii-octets_text, ascii-three_digits, ascii-word, is_ascii}
 use Rattle.p25_status.specs.Status.{status_number}
 use Rattle.p25_status.specs.declared.fields.Field.{Field}
-use Rattle.p25_status.specs.declared.fields.Field.TheVariants.{Sync, Nid, Duid, HeaderWord, LinkControl, EncryptionSync, LowSpeed1, LowSpeed2, PacketHeader, Length, Format, PacketCrc, Block}
+use Rattle.p25_status.specs.declared.fields.Field.TheVariants.{Block}
 use Rattle.p25_status.specs.declared.symbols.Status.{Status}
 use Rattle.p25_link.specs.declared.link_control.LinkControl.{LinkControl as Link}
 use Rattle.p25_calls.specs.declared.call.Call.{Call}
 use Rattle.p25_calls.specs.declared.call.CallEnd.{CallEnd}
-use Rattle.p25_calls.specs.declared.call.CallEnd.TheVariants.{Tdu, Tdulc, Open}
+use Rattle.p25_calls.specs.declared.call.CallEnd.TheVariants.{Tdu}
 use Rattle.p25_packet_blocks.specs.declared.block.Slot.{Slot}
 use Rattle.p25_packet_blocks.specs.declared.block.Slot.TheVariants.{Good, Bad}
 use Rattle.p25_packet_blocks.specs.declared.packet.Packet.{Packet as BlockPacket}
@@ -37,11 +37,10 @@ use Rattle.p25_text.proofs.WordLaws.{key-word}
 -- ---- units
 
 ascii-keyed : (keys : List UnitKey) (values : List (List ℕ)) → list_all is_ascii values ≡ true → list_all is_ascii (keyed keys values) ≡ true
-ascii-keyed [] values all = refl
-ascii-keyed (key ∷ keys) [] all = refl
 ascii-keyed (key ∷ keys) (value ∷ values) all =
     let parts = and_parts (is_ascii value) (list_all is_ascii values) all in
     ap₂ ◌&&◌ (ascii-append (key_text key) value (ascii-word (key_text key) (key-word key)) parts.0) (ascii-keyed keys values parts.1)
+ascii-keyed keys values all = refl
 
 ascii-slot : (slot : Slot) → is_ascii (slot_text slot) ≡ true
 ascii-slot (Good block) = ascii-append (encode_lower (block.serial ∷ [])) (58 ∷ encode_lower block.octets) (ascii-encode_lower (block.serial ∷ [])) (ascii-encode_lower block.octets)
@@ -65,19 +64,8 @@ ascii-text_of unit =
 -- ---- items
 
 pub ascii-field_name : (field : Field) → is_ascii (field_name field) ≡ true
-ascii-field_name Sync = refl
-ascii-field_name Nid = refl
-ascii-field_name Duid = refl
-ascii-field_name HeaderWord = refl
-ascii-field_name LinkControl = refl
-ascii-field_name EncryptionSync = refl
-ascii-field_name LowSpeed1 = refl
-ascii-field_name LowSpeed2 = refl
-ascii-field_name PacketHeader = refl
-ascii-field_name Length = refl
-ascii-field_name Format = refl
-ascii-field_name PacketCrc = refl
 ascii-field_name (Block block) = ascii-decimal block
+ascii-field_name field = refl
 
 ascii-status_digits : (statuses : List Status) → is_ascii (status_digits statuses) ≡ true
 unfolding status_digits
@@ -115,8 +103,7 @@ ascii-entry false = refl
 
 ascii-end : (end : CallEnd) → is_ascii (end_word end) ≡ true
 ascii-end Tdu = refl
-ascii-end Tdulc = refl
-ascii-end Open = refl
+ascii-end end = refl
 
 ascii-link : (link : Option Link) → is_ascii (link_text link) ≡ true
 ascii-link None = refl

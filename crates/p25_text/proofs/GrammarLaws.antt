@@ -9,7 +9,7 @@ use Rattle.p25_line.specs.declared.fault.LineFault.{LineFault}
 use Rattle.p25_line.specs.declared.fault.LineFault.TheVariants.{Key, Value}
 use Rattle.p25_line.proofs.LineReadLaws.{WordLaws, line_read-facts, line_read-words, words-line_read}
 use Rattle.p25_voice_units.specs.declared.unit.VoiceUnit.{VoiceUnit}
-use Rattle.p25_voice_units.specs.declared.unit.VoiceUnit.TheVariants.{Header, Link1, Link2, End, EndLink}
+use Rattle.p25_voice_units.specs.declared.unit.VoiceUnit.TheVariants.{Header}
 use Rattle.p25_packet_blocks.specs.declared.packet.Packet.{Packet as BlockPacket}
 use Rattle.p25_packet_blocks.specs.declared.packet.Packet.TheVariants.{Confirmed as ConfirmedPacket, Plain as PlainPacket}
 use Rattle.p25_packet_blocks.specs.Sendable.{IsSendable}
@@ -37,13 +37,7 @@ use Rattle.p25_text.proofs.WordLaws.{keyed-values_behind, keyed-words, length-jo
 -- a kind is named by its word, and by no other
 pub kind_named-word : (kind : UnitKind) → kind_named (kind_word kind) ≡ Some kind
 kind_named-word Hdu = refl
-kind_named-word Ldu1 = refl
-kind_named-word Ldu2 = refl
-kind_named-word Tdu = refl
-kind_named-word Tdulc = refl
-kind_named-word Confirmed = refl
-kind_named-word Plain = refl
-kind_named-word Response = refl
+kind_named-word kind = refl
 
 pub word-kind_named : (word : List ℕ) (kind : UnitKind) → kind_named word ≡ Some kind → kind_word kind ≡ word
 word-kind_named word kind found = named-word kind_word kinds word kind found
@@ -51,33 +45,15 @@ word-kind_named word kind found = named-word kind_word kinds word kind found
 -- the word of a kind is a word of at most nine octets
 pub kind-word : (kind : UnitKind) → is_word (kind_word kind) ≡ true
 kind-word Hdu = refl
-kind-word Ldu1 = refl
-kind-word Ldu2 = refl
-kind-word Tdu = refl
-kind-word Tdulc = refl
-kind-word Confirmed = refl
-kind-word Plain = refl
-kind-word Response = refl
+kind-word kind = refl
 
 kind-short : (kind : UnitKind) → length (kind_word kind) ≤ 9
 kind-short Hdu = omega arith
-kind-short Ldu1 = omega arith
-kind-short Ldu2 = omega arith
-kind-short Tdu = omega arith
-kind-short Tdulc = omega arith
-kind-short Confirmed = omega arith
-kind-short Plain = omega arith
-kind-short Response = omega arith
+kind-short kind = omega arith
 
 keys-few : (kind : UnitKind) → length (keys_of kind) ≤ 6
 keys-few Hdu = omega arith
-keys-few Ldu1 = omega arith
-keys-few Ldu2 = omega arith
-keys-few Tdu = omega arith
-keys-few Tdulc = omega arith
-keys-few Confirmed = omega arith
-keys-few Plain = omega arith
-keys-few Response = omega arith
+keys-few kind = omega arith
 
 -- there is a value for each key
 body-count : (body : Body) → IsSendableBody body → length (keys_of (kind_of body)) ≡ suc (length (body_values body))
@@ -99,10 +75,7 @@ body-short (Packet packet) fits = packet-short packet fits
 -- the values of a body are read as the body
 body_in-voice : (unit : VoiceUnit) (values : List (List ℕ)) → body_in (voice_kind unit) values ≡ option_map Voice (voice_in (voice_kind unit) values)
 body_in-voice (Header word) values = refl
-body_in-voice (Link1 link low voice) values = refl
-body_in-voice (Link2 sync low voice) values = refl
-body_in-voice End values = refl
-body_in-voice (EndLink link) values = refl
+body_in-voice unit values = refl
 
 packet_in-values : (packet : BlockPacket) → IsSendable packet → body_in (packet_kind packet) (packet_values packet) ≡ Some (Packet packet)
 unfolding IsSendable
@@ -158,19 +131,10 @@ values-body_in Plain (head ∷ octets ∷ []) body found =
     packet-read Plain (head ∷ octets ∷ []) (plain_in 0x15 head octets) body (λ packet same. values-plain_in 0x15 head octets packet (inl refl) same) found
 values-body_in Response (head ∷ octets ∷ []) body found =
     packet-read Response (head ∷ octets ∷ []) (plain_in 0x03 head octets) body (λ packet same. values-plain_in 0x03 head octets packet (inr refl) same) found
-values-body_in Confirmed [] body found = cc found
-values-body_in Confirmed (a ∷ []) body found = cc found
-values-body_in Confirmed (a ∷ b ∷ c ∷ others) body found = cc found
-values-body_in Plain [] body found = cc found
-values-body_in Plain (a ∷ []) body found = cc found
-values-body_in Plain (a ∷ b ∷ c ∷ others) body found = cc found
-values-body_in Response [] body found = cc found
-values-body_in Response (a ∷ []) body found = cc found
-values-body_in Response (a ∷ b ∷ c ∷ others) body found = cc found
+values-body_in kind values body found = cc found
 
 -- ---- what holds of all kinds
 
--- the words of a unit are words
 unit_words-words : (unit : UnitParts) → IsSendableUnit unit → list_all is_word (unit_words unit) ≡ true
 unit_words-words unit fits =
     let digits = digits-printed (three_digits unit.nac) (printed-three_digits unit.nac (omega (arith, fits.nac_fits))) in
@@ -196,14 +160,13 @@ read_words-unit_words unit fits =
 from-parts : (kind : UnitKind) (nac_word : List ℕ) (values : List (List ℕ)) (nac : Option ℕ) (body : Option Body) (unit : UnitParts)
     → nac_in nac_word ≡ nac → body_in kind values ≡ body → unit_from nac body ≡ Some unit
     → (kind_of unit.body ≡ kind) × (values_of unit ≡ nac_word ∷ values) × IsSendableUnit unit
-from-parts kind nac_word values None body unit nac_found body_found made = cc made
-from-parts kind nac_word values (Some nac) None unit nac_found body_found made = cc made
 from-parts kind nac_word values (Some nac) (Some body) unit nac_found body_found made =
     let parts = nac_in-text nac_word nac nac_found in
     let read = values-body_in kind values body body_found in
     let same : record { nac = nac; body = body } ≡ unit = cc made in
     subst (λ (u : UnitParts). (kind_of u.body ≡ kind) × (values_of u ≡ nac_word ∷ values) × IsSendableUnit u) same
     (read.same_kind, ap₂ ◌∷◌ parts.0 read.same_values, record { nac_fits = omega (arith, parts.1); body = read.fits })
+from-parts kind nac_word values nac body unit nac_found body_found made = cc made
 
 from-values : (kind : UnitKind) (values : List (List ℕ)) (unit : UnitParts) → read_values kind values ≡ Ok unit
     → (kind_of unit.body ≡ kind) × (values_of unit ≡ values) × IsSendableUnit unit

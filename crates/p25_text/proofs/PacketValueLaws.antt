@@ -71,10 +71,8 @@ block_parts block = (refl, refl, refl)
 
 -- a text of 35 octets by these parts
 text_parts : (text : List ℕ) → length text ≡ 35 → take 2 text ++ slice_index text 2 ∷ drop 3 text ≡ text
-text_parts [] same = absurd (omega arith)
-text_parts (a ∷ []) same = absurd (omega arith)
-text_parts (a ∷ b ∷ []) same = absurd (omega arith)
 text_parts (a ∷ b ∷ c ∷ text) same = refl
+text_parts text same = absurd (omega arith)
 
 -- a block is read from its text
 block_in-text : (block : Block) → IsDataBlock block → block_in (block_text block) ≡ Some block
@@ -91,10 +89,6 @@ block_in-text block fits =
 -- what is read as a block is its text
 block_made : (first second : List ℕ) (serial octets : Option (List ℕ)) (block : Block) → octets_in 1 first ≡ serial → octets_in 16 second ≡ octets
     → block_from serial octets ≡ Some block → (encode_lower (block.serial ∷ []) ≡ first) × (encode_lower block.octets ≡ second) × IsDataBlock block
-block_made first second None octets block one two found = cc found
-block_made first second (Some []) octets block one two found = cc found
-block_made first second (Some (a ∷ b ∷ more)) octets block one two found = cc found
-block_made first second (Some (serial ∷ [])) None block one two found = cc found
 block_made first second (Some (serial ∷ [])) (Some octets) block one two found =
     let made : Block = record { serial = serial; octets = octets } in
     elim (cases_lt serial 128) [
@@ -109,6 +103,7 @@ block_made first second (Some (serial ∷ [])) (Some octets) block one two found
   where
     not_lt : (n : ℕ) → 128 ≤ n → nat_lt n 128 ≡ false
     not_lt n large = grind arith
+block_made first second serial octets block one two found = cc found
 
 text-block_in : (text : List ℕ) (block : Block) → block_in text ≡ Some block → (block_text block ≡ text) × IsDataBlock block
 text-block_in text block found =
@@ -175,7 +170,6 @@ joined-printed (slot ∷ next ∷ slots) good =
     list_all-append is_printed (slot_text slot) (44 ∷ join_with_byte 44 (map slot_text (next ∷ slots)))
     ∙ ap₂ ◌&&◌ (marks-printed (slot_text slot) (slot-marks slot good.0)) (joined-printed (next ∷ slots) good.1)
 
--- it is printed
 pub slots-printed : (slots : List Slot) → AllFit IsGoodSlot slots → list_all is_printed (list_text slot_text slots) ≡ true
 unfolding comma_text
 slots-printed [] good = refl

@@ -1,10 +1,8 @@
 -- What each answer of the reader of lines shows of the reading by the definition.
-use Rattle.std.proofs.Common.{◌≡◌, ℕ, suc, true, false, ◌+◌, ◌<◌, List, [], ◌∷◌, ◌++◌, length, drop, slice_get, get_or, Option, Some, None, Err, refl, sym, ap, ap₂, ◌∙◌, arith, append-nil, append_assoc}
-use Rattle.std.specs.Prelude.{◌==◌, ok_or}
+use Rattle.std.proofs.Common.{◌≡◌, ℕ, suc, ◌+◌, ◌<◌, List, [], ◌∷◌, ◌++◌, length, drop, slice_get, get_or, Option, Some, None, Err, refl, sym, ap, ap₂, ◌∙◌, arith, append_assoc}
+use Rattle.std.specs.Prelude.{ok_or}
 use Rattle.std.specs.Option.{option_map, option_and_then}
-use Rattle.std.specs.List.{starts_with}
-use Rattle.std.proofs.lemmas.Bool.{cond-true, cond-false}
-use Rattle.std.proofs.lemmas.List.{drop_more, drop_all}
+use Rattle.std.proofs.lemmas.List.{drop_more}
 use Rattle.std.proofs.lemmas.Option.{slice_get-get_or}
 use Rattle.p25_line.specs.declared.fault.LineFault.TheVariants.{Key, Kind as WrongKind}
 use Rattle.p25_line.specs.LineReadings.{found_read, named_or_fault}
@@ -32,14 +30,6 @@ wrong_count words first kind at named other =
     let count : length words ≡ suc (length (drop 1 words)) = ap length (first-others words first at) in
     right_kind words first kind at named ∙ ap (λ values. found_read (read_values kind) (ok_or values Key)) (values_behind-other (keys_of kind) (drop 1 words) (λ same. other (omega (arith, count, same))))
 
--- what stands after a key
-pub after-key : (word text rest : List ℕ) (key : UnitKey) → text ≡ key_text key → starts_with ◌==◌ word text ≡ true → rest ≡ drop (length text) word → Some rest ≡ behind (key_text key) word
-after-key word text rest key same starts is =
-    ap Some is ∙ sym (cond-true (starts_with ◌==◌ word text) (Some (drop (length text) word)) None starts) ∙ ap (λ t. behind t word) same
-
-pub no-key : (word text : List ℕ) (key : UnitKey) → text ≡ key_text key → starts_with ◌==◌ word text ≡ false → None ≡ behind (key_text key) word
-no-key word text key same other = sym (cond-false (starts_with ◌==◌ word text) (Some (drop (length text) word)) None other) ∙ ap (λ t. behind t word) same
-
 -- one key and one word more
 pub values-more : (keys : List UnitKey) (words : List (List ℕ)) (i : ℕ) (d : UnitKey) (first : Option (List ℕ)) → i < length keys → i + 1 < length words
     → first ≡ option_and_then (behind (key_text (get_or keys i d))) (slice_get words (i + 1))
@@ -59,13 +49,6 @@ so_far-more done value (Some values) = ap Some (sym (append_assoc done (value �
 abbrev pub SoFar : List UnitKey → List (List ℕ) → ℕ → List (List ℕ) → Type 0
 SoFar keys words i done = values_behind keys (drop 1 words) ≡ option_map (λ values. done ++ values) (values_behind (drop i keys) (drop (i + 1) words))
 
-pub SoFar-start : (keys : List UnitKey) (words : List (List ℕ)) → SoFar keys words 0 []
-SoFar-start keys words = sym (same-map (values_behind keys (drop 1 words)))
-  where
-    same-map : (o : Option (List (List ℕ))) → option_map (λ values. [] ++ values) o ≡ o
-    same-map None = refl
-    same-map (Some values) = refl
-
 pub SoFar-more : (keys : List UnitKey) (words : List (List ℕ)) (i : ℕ) (d : UnitKey) (done : List (List ℕ)) (value : List ℕ) → SoFar keys words i done → i < length keys → i + 1 < length words
     → Some value ≡ option_and_then (behind (key_text (get_or keys i d))) (slice_get words (i + 1)) → SoFar keys words (i + 1) (done ++ value ∷ [])
 SoFar-more keys words i d done value so_far in_keys in_words found =
@@ -76,8 +59,3 @@ pub SoFar-none : (keys : List UnitKey) (words : List (List ℕ)) (i : ℕ) (d : 
     → None ≡ option_and_then (behind (key_text (get_or keys i d))) (slice_get words (i + 1)) → None ≡ values_behind keys (drop 1 words)
 SoFar-none keys words i d done so_far in_keys in_words other =
     sym (so_far ∙ ap (option_map (λ values. done ++ values)) (values-more keys words i d None in_keys in_words other))
-
-pub SoFar-end : (keys : List UnitKey) (words : List (List ℕ)) (i : ℕ) (done : List (List ℕ)) → SoFar keys words i done → i ≡ length keys → length words ≡ length keys + 1
-    → Some done ≡ values_behind keys (drop 1 words)
-SoFar-end keys words i done so_far last count =
-    sym (so_far ∙ ap (option_map (λ values. done ++ values)) (ap₂ values_behind (drop_all i keys (omega arith)) (drop_all (i + 1) words (omega arith))) ∙ ap Some (append-nil done))

@@ -92,10 +92,6 @@ first_digit high low word fits text =
     omega arith
 
 nac_from : (word : List ℕ) (octets : Option (List ℕ)) (nac : ℕ) → octets_in 2 (48 ∷ word) ≡ octets → number_in octets ≡ Some nac → (three_digits nac ≡ word) × (nac < 4096)
-nac_from word None nac found number = cc number
-nac_from word (Some []) nac found number = cc number
-nac_from word (Some (high ∷ [])) nac found number = cc number
-nac_from word (Some (high ∷ low ∷ next ∷ octets)) nac found number = cc number
 nac_from word (Some (high ∷ low ∷ [])) nac found number =
     let facts = octets_in-text 2 (48 ∷ word) (high ∷ low ∷ []) found in
     let high_fits : high < 256 = All-head (λ x. x < 256) high (low ∷ []) facts.1 in
@@ -105,6 +101,7 @@ nac_from word (Some (high ∷ low ∷ [])) nac found number =
     let upper : nac / 256 ≡ high = omega arith in
     let lower : nac % 256 ≡ low = omega arith in
     (ap₂ (λ h l. drop 1 (encode_lower (h ∷ l ∷ []))) upper lower ∙ ap (drop 1) facts.0, omega arith)
+nac_from word octets nac found number = cc number
 
 -- what is read as a network access code is its text
 pub nac_in-text : (word : List ℕ) (nac : ℕ) → nac_in word ≡ Some nac → (three_digits nac ≡ word) × (nac < 4096)
@@ -112,11 +109,8 @@ nac_in-text word nac found = nac_from word (octets_in 2 (48 ∷ word)) nac refl 
 
 -- the octets of a word of three, one by one
 three_octets : (word : List ℕ) → length word ≡ 3 → get_or word 0 0 ∷ get_or word 1 0 ∷ get_or word 2 0 ∷ [] ≡ word
-three_octets [] same = absurd (omega arith)
-three_octets (a ∷ []) same = absurd (omega arith)
-three_octets (a ∷ b ∷ []) same = absurd (omega arith)
 three_octets (a ∷ b ∷ c ∷ []) same = refl
-three_octets (a ∷ b ∷ c ∷ d ∷ word) same = absurd (omega arith)
+three_octets word same = absurd (omega arith)
 
 -- a word of three that is no text of a network access code
 pub nac_value-none : (word : List ℕ) → length word ≡ 3
@@ -126,10 +120,8 @@ nac_value-none word same other =
     sym (ap number_in (octets_in-none 2 (48 ∷ word) (λ octets count fits text. other octets count fits (text ∙ sym whole))))
 
 number_of_two : (octets : List ℕ) → length octets ≡ 2 → number_in (Some octets) ≡ Some (get_or octets 0 0 * 256 + get_or octets 1 0)
-number_of_two [] same = absurd (omega arith)
-number_of_two (a ∷ []) same = absurd (omega arith)
 number_of_two (a ∷ b ∷ []) same = let turned : 256 * a + b ≡ a * 256 + b = omega arith in ap Some turned
-number_of_two (a ∷ b ∷ c ∷ octets) same = absurd (omega arith)
+number_of_two octets same = absurd (omega arith)
 
 -- a word of three that is the text of a network access code
 pub nac_value-some : (word octets : List ℕ) (number : ℕ) → length word ≡ 3 → length octets ≡ 2 → AllOctets octets

@@ -1,5 +1,5 @@
 -- The values of a voice unit are read as the unit, and what is read as a voice unit has them. The octets of values are read in general, by induction on the keys; each kind then adds its fields.
-use Rattle.std.proofs.Common.{◌≡◌, ℕ, zero, suc, ◌+◌, ◌*◌, ◌/◌, ◌%◌, ◌^◌, ◌<◌, ◌≤◌, ◌&&◌, true, List, [], ◌∷◌, ◌++◌, length, take, drop, map, Option, Some, None, refl, ap, ap₂, subst, ◌∙◌, arith, length-append, length-take, length-drop}
+use Rattle.std.proofs.Common.{◌≡◌, ℕ, zero, suc, ◌+◌, ◌*◌, ◌/◌, ◌%◌, ◌^◌, ◌<◌, ◌≤◌, ◌&&◌, true, List, [], ◌∷◌, ◌++◌, length, take, drop, map, Option, Some, refl, ap, ap₂, subst, ◌∙◌, arith, length-append, length-take, length-drop}
 use Rattle.std.specs.Prelude.{All}
 use Rattle.std.specs.List.{list_all}
 use Rattle.std.specs.Option.{option_and_then}
@@ -22,7 +22,7 @@ use Rattle.p25_line.specs.CommaLists.{with_entry}
 use Rattle.p25_text.specs.Voices.{frame_octets, frames_of, octet_number, octets_behind, pair_of, voice_from, voice_in, voice_kind, voice_octets, voice_values}
 use Rattle.p25_text.specs.declared.names.UnitKey.{UnitKey}
 use Rattle.p25_text.specs.declared.names.UnitKind.{UnitKind}
-use Rattle.p25_text.specs.declared.names.UnitKind.TheVariants.{Hdu, Ldu1, Ldu2, Tdu, Tdulc, Confirmed, Plain, Response}
+use Rattle.p25_text.specs.declared.names.UnitKind.TheVariants.{Hdu, Ldu1, Ldu2, Tdu, Tdulc}
 use Rattle.p25_text.proofs.OptionLaws.{option_and_then-found}
 use Rattle.p25_text.proofs.ValueLaws.{octets_in-encode_lower, octets_in-text, one_octet, two_octets}
 use Rattle.p25_line.proofs.WordsLaws.{digits-printed}
@@ -44,10 +44,9 @@ AllWide (key ∷ keys) (octets ∷ fields) = HasOctets (width_of key) octets × 
 
 octets_behind-encode : (keys : List UnitKey) (fields : List (List ℕ)) → AllWide keys fields → octets_behind keys (map encode_lower fields) ≡ Some fields
 octets_behind-encode [] [] wide = refl
-octets_behind-encode [] (octets ∷ fields) wide = absurd wide
-octets_behind-encode (key ∷ keys) [] wide = absurd wide
 octets_behind-encode (key ∷ keys) (octets ∷ fields) wide =
     ap₂ with_entry (octets_in-encode_lower (width_of key) octets wide.0.small wide.0.long) (octets_behind-encode keys fields wide.1)
+octets_behind-encode keys fields wide = absurd wide
 
 record AreOctetsOf (keys : List UnitKey) (values fields : List (List ℕ)) : Type 0 where
   texts : map encode_lower fields ≡ values
@@ -56,38 +55,32 @@ record AreOctetsOf (keys : List UnitKey) (values fields : List (List ℕ)) : Typ
 octets_more : (key : UnitKey) (keys : List UnitKey) (value : List ℕ) (values : List (List ℕ)) (first : Option (List ℕ)) (others : Option (List (List ℕ))) (fields : List (List ℕ))
     → octets_in (width_of key) value ≡ first → with_entry first others ≡ Some fields → ((rest : List (List ℕ)) → others ≡ Some rest → AreOctetsOf keys values rest)
     → AreOctetsOf (key ∷ keys) (value ∷ values) fields
-octets_more key keys value values None others fields found all step = cc all
-octets_more key keys value values (Some octets) None fields found all step = cc all
-octets_more key keys value values (Some octets) (Some others) [] found all step = cc all
 octets_more key keys value values (Some octets) (Some others) (first ∷ rest) found all step =
     let same_first : octets ≡ first = cc all in
     let same_rest : others ≡ rest = cc all in
     let facts = octets_in-text (width_of key) value first (found ∙ ap Some same_first) in
     let more = step rest (ap Some same_rest) in
     record { texts = ap₂ ◌∷◌ facts.0 more.texts; wide = (record { long = facts.2; small = facts.1 }, more.wide) }
+octets_more key keys value values first others fields found all step = cc all
 
 encode-octets_behind : (keys : List UnitKey) (values fields : List (List ℕ)) → octets_behind keys values ≡ Some fields → AreOctetsOf keys values fields
 encode-octets_behind [] [] [] found = record { texts = refl; wide = tt }
-encode-octets_behind [] [] (octets ∷ fields) found = cc found
-encode-octets_behind [] (value ∷ values) fields found = cc found
-encode-octets_behind (key ∷ keys) [] fields found = cc found
 encode-octets_behind (key ∷ keys) (value ∷ values) fields found =
     octets_more key keys value values (octets_in (width_of key) value) (octets_behind keys values) fields refl found (λ rest h. encode-octets_behind keys values rest h)
+encode-octets_behind keys values fields found = cc found
 
 -- there is a value for each key
 wide-count : (keys : List UnitKey) (fields : List (List ℕ)) → AllWide keys fields → length keys ≡ length (map encode_lower fields)
 wide-count [] [] wide = refl
-wide-count [] (octets ∷ fields) wide = absurd wide
-wide-count (key ∷ keys) [] wide = absurd wide
 wide-count (key ∷ keys) (octets ∷ fields) wide = ap suc (wide-count keys fields wide.1)
+wide-count keys fields wide = absurd wide
 
 -- values are printed
 wide-printed : (keys : List UnitKey) (fields : List (List ℕ)) → AllWide keys fields → list_all (list_all is_printed) (map encode_lower fields) ≡ true
 wide-printed [] [] wide = refl
-wide-printed [] (octets ∷ fields) wide = absurd wide
-wide-printed (key ∷ keys) [] wide = absurd wide
 wide-printed (key ∷ keys) (octets ∷ fields) wide =
     ap₂ ◌&&◌ (digits-printed (encode_lower octets) (list_all-encode_lower octets wide.0.small)) (wide-printed keys fields wide.1)
+wide-printed keys fields wide = absurd wide
 
 -- the number of octets of the values of keys, with one more for each
 abbrev digits_of : List UnitKey → ℕ
@@ -96,9 +89,8 @@ digits_of (key ∷ keys) = suc (2 * width_of key) + digits_of keys
 
 wide-size : (keys : List UnitKey) (fields : List (List ℕ)) → AllWide keys fields → size_of (map encode_lower fields) ≤ digits_of keys
 wide-size [] [] wide = omega arith
-wide-size [] (octets ∷ fields) wide = absurd wide
-wide-size (key ∷ keys) [] wide = absurd wide
 wide-size (key ∷ keys) (octets ∷ fields) wide = omega (arith, length-encode_with lower_digits octets, wide.0.long, wide-size keys fields wide.1)
+wide-size keys fields wide = absurd wide
 
 -- ---- numbers of octets
 
@@ -151,8 +143,6 @@ frames-octets (frame ∷ frames) each =
 frames_of-octets : (n : ℕ) (frames : List VoiceFrame) → length frames ≡ n → All IsVoiceFrame frames → frames_of n (frame_octets frames) ≡ frames
 unfolding frame_octets frames_of
 frames_of-octets zero [] same each = refl
-frames_of-octets (suc n) [] same each = absurd (omega arith)
-frames_of-octets zero (frame ∷ frames) same each = absurd (omega arith)
 frames_of-octets (suc n) (frame ∷ frames) same each =
     let first : IsVoiceFrame frame = All-head IsVoiceFrame frame frames each in
     let make : List ℕ → VoiceFrame = λ octets. record { 0 = octets } in
@@ -160,6 +150,7 @@ frames_of-octets (suc n) (frame ∷ frames) same each =
     (ap make (take_at frame.0 (frame_octets frames) 18 first.long))
     (ap (frames_of n) (drop_at frame.0 (frame_octets frames) 18 first.long)
     ∙ frames_of-octets n frames (omega arith) (All-tail IsVoiceFrame frame frames each))
+frames_of-octets n frames same each = absurd (omega arith)
 
 -- the octets of frames that were read
 octets-frames_of : (n : ℕ) (octets : List ℕ) → HasOctets (18 * n) octets
@@ -202,8 +193,7 @@ voice_from-octets (Header word) fits =
 voice_from-octets (Link1 link low voice) fits = ap (λ v. Some (Link1 link low v)) (frames_of-octets 9 voice fits.speech.nine fits.speech.frames)
 voice_from-octets (Link2 sync low voice) fits =
     λ i. Some (Link2 (record { mi = sync.mi; algid = sync.algid; kid = pair_at-pair_of sync.kid i }) low (frames_of-octets 9 voice fits.speech.nine fits.speech.frames i))
-voice_from-octets End fits = refl
-voice_from-octets (EndLink link) fits = refl
+voice_from-octets unit fits = refl
 
 -- what is made of octets has them
 record IsMadeOf (kind : UnitKind) (octets : List (List ℕ)) (unit : VoiceUnit) : Type 0 where
@@ -257,38 +247,11 @@ octets-voice_from Ldu2 (mi ∷ algid ∷ kid ∷ low ∷ voice ∷ []) unit wide
 octets-voice_from Tdu [] unit wide found = made Tdu [] End unit found (record { same_kind = refl; same_octets = refl; fits = tt })
 octets-voice_from Tdulc (link ∷ []) unit wide found =
     made Tdulc (link ∷ []) (EndLink (record { 0 = link })) unit found (record { same_kind = refl; same_octets = refl; fits = record { octets = octets_nine link wide.0 } })
-octets-voice_from Hdu [] unit wide found = cc found
-octets-voice_from Hdu (a ∷ []) unit wide found = cc found
-octets-voice_from Hdu (a ∷ b ∷ []) unit wide found = cc found
-octets-voice_from Hdu (a ∷ b ∷ c ∷ []) unit wide found = cc found
-octets-voice_from Hdu (a ∷ b ∷ c ∷ d ∷ []) unit wide found = cc found
-octets-voice_from Hdu (a ∷ b ∷ c ∷ d ∷ e ∷ f ∷ others) unit wide found = cc found
-octets-voice_from Ldu1 [] unit wide found = cc found
-octets-voice_from Ldu1 (a ∷ []) unit wide found = cc found
-octets-voice_from Ldu1 (a ∷ b ∷ []) unit wide found = cc found
-octets-voice_from Ldu1 (a ∷ b ∷ c ∷ d ∷ others) unit wide found = cc found
-octets-voice_from Ldu2 [] unit wide found = cc found
-octets-voice_from Ldu2 (a ∷ []) unit wide found = cc found
-octets-voice_from Ldu2 (a ∷ b ∷ []) unit wide found = cc found
-octets-voice_from Ldu2 (a ∷ b ∷ c ∷ []) unit wide found = cc found
-octets-voice_from Ldu2 (a ∷ b ∷ c ∷ d ∷ []) unit wide found = cc found
-octets-voice_from Ldu2 (a ∷ b ∷ c ∷ d ∷ e ∷ f ∷ others) unit wide found = cc found
-octets-voice_from Tdu (a ∷ others) unit wide found = cc found
-octets-voice_from Tdulc [] unit wide found = cc found
-octets-voice_from Tdulc (a ∷ b ∷ others) unit wide found = cc found
-octets-voice_from Confirmed octets unit wide found = cc found
-octets-voice_from Plain octets unit wide found = cc found
-octets-voice_from Response octets unit wide found = cc found
+octets-voice_from kind octets unit wide found = cc found
 
 digits-few : (kind : UnitKind) → digits_of (other_keys kind) ≤ 4620
 digits-few Hdu = omega arith
-digits-few Ldu1 = omega arith
-digits-few Ldu2 = omega arith
-digits-few Tdu = omega arith
-digits-few Tdulc = omega arith
-digits-few Confirmed = omega arith
-digits-few Plain = omega arith
-digits-few Response = omega arith
+digits-few kind = omega arith
 
 -- ---- all voice units
 

@@ -12,7 +12,7 @@ use Rattle.p25_text.specs.Grammar.{behind, keyed, values_behind}
 use Rattle.p25_text.specs.Names.{key_text}
 use Rattle.p25_line.specs.CommaLists.{with_entry}
 use Rattle.p25_text.specs.declared.names.UnitKey.{UnitKey}
-use Rattle.p25_text.specs.declared.names.UnitKey.TheVariants.{Nac, Mi, Mfid, Algid, Kid, Tgid, Lc, Lsd, Frames, Head, Blocks, Octets}
+use Rattle.p25_text.specs.declared.names.UnitKey.TheVariants.{Nac}
 
 -- what stands after a key
 pub behind-append : (key value : List ℕ) → behind key (key ++ value) ≡ Some value
@@ -34,31 +34,27 @@ append-behind key word value found =
 -- the values of words that were made of keys and values
 pub values_behind-keyed : (keys : List UnitKey) (values : List (List ℕ)) → length keys ≡ length values → values_behind keys (keyed keys values) ≡ Some values
 values_behind-keyed [] [] same = refl
-values_behind-keyed [] (value ∷ values) same = absurd (omega arith)
-values_behind-keyed (key ∷ keys) [] same = absurd (omega arith)
 values_behind-keyed (key ∷ keys) (value ∷ values) same = ap₂ with_entry (behind-append (key_text key) value) (values_behind-keyed keys values (omega arith))
+values_behind-keyed keys values same = absurd (omega arith)
 
 keyed-more : (key : UnitKey) (keys : List UnitKey) (word : List ℕ) (words values : List (List ℕ)) (first : Option (List ℕ)) (others : Option (List (List ℕ)))
     → behind (key_text key) word ≡ first → values_behind keys words ≡ others → with_entry first others ≡ Some values
     → ((rest : List (List ℕ)) → values_behind keys words ≡ Some rest → (keyed keys rest ≡ words) × (length rest ≡ length keys))
     → (keyed (key ∷ keys) values ≡ word ∷ words) × (length values ≡ suc (length keys))
-keyed-more key keys word words values None others found rest all step = cc all
 keyed-more key keys word words values (Some value) None found rest all step = cc all
-keyed-more key keys word words [] (Some value) (Some others) found rest all step = cc all
 keyed-more key keys word words (first ∷ values) (Some value) (Some others) found rest all step =
     let same_value : value ≡ first = cc all in
     let same_others : others ≡ values = cc all in
     let facts = step values (rest ∙ ap Some same_others) in
     (ap₂ ◌∷◌ (append-behind (key_text key) word first (found ∙ ap Some same_value)) facts.0, ap suc facts.1)
+keyed-more key keys word words values first others found rest all step = cc all
 
 -- words whose values were found are made of keys and values
 pub keyed-values_behind : (keys : List UnitKey) (words values : List (List ℕ)) → values_behind keys words ≡ Some values → (keyed keys values ≡ words) × (length values ≡ length keys)
 keyed-values_behind [] [] [] found = (refl, refl)
-keyed-values_behind [] [] (value ∷ values) found = cc found
-keyed-values_behind [] (word ∷ words) values found = cc found
-keyed-values_behind (key ∷ keys) [] values found = cc found
 keyed-values_behind (key ∷ keys) (word ∷ words) values found =
     keyed-more key keys word words values (behind (key_text key) word) (values_behind keys words) refl refl found (λ rest h. keyed-values_behind keys words rest h)
+keyed-values_behind keys words values found = cc found
 
 with_entry-none : (value : Option (List ℕ)) → with_entry value None ≡ None
 with_entry-none None = refl
@@ -67,10 +63,9 @@ with_entry-none (Some value) = refl
 -- a wrong number of words has no values
 pub values_behind-other : (keys : List UnitKey) (words : List (List ℕ)) → (length words ≡ length keys → ⊥) → values_behind keys words ≡ None
 values_behind-other [] [] other = absurd (other refl)
-values_behind-other [] (word ∷ words) other = refl
-values_behind-other (key ∷ keys) [] other = refl
 values_behind-other (key ∷ keys) (word ∷ words) other =
     ap (with_entry (behind (key_text key) word)) (values_behind-other keys words (λ same. other (ap suc same))) ∙ with_entry-none (behind (key_text key) word)
+values_behind-other keys words other = refl
 
 -- a word stays a word with more printed octets after it
 word-more : (word value : List ℕ) → is_word word ≡ true → list_all is_printed value ≡ true → is_word (word ++ value) ≡ true
@@ -83,39 +78,18 @@ word-more (octet ∷ word) value some printed =
 -- each key is a word of at most seven octets
 pub key-word : (key : UnitKey) → is_word (key_text key) ≡ true
 key-word Nac = refl
-key-word Mi = refl
-key-word Mfid = refl
-key-word Algid = refl
-key-word Kid = refl
-key-word Tgid = refl
-key-word Lc = refl
-key-word Lsd = refl
-key-word Frames = refl
-key-word Head = refl
-key-word Blocks = refl
-key-word Octets = refl
+key-word key = refl
 
 key-short : (key : UnitKey) → length (key_text key) ≤ 7
 key-short Nac = omega arith
-key-short Mi = omega arith
-key-short Mfid = omega arith
-key-short Algid = omega arith
-key-short Kid = omega arith
-key-short Tgid = omega arith
-key-short Lc = omega arith
-key-short Lsd = omega arith
-key-short Frames = omega arith
-key-short Head = omega arith
-key-short Blocks = omega arith
-key-short Octets = omega arith
+key-short key = omega arith
 
 -- keys with printed values are words
 pub keyed-words : (keys : List UnitKey) (values : List (List ℕ)) → list_all (list_all is_printed) values ≡ true → list_all is_word (keyed keys values) ≡ true
-keyed-words [] values printed = refl
-keyed-words (key ∷ keys) [] printed = refl
 keyed-words (key ∷ keys) (value ∷ values) printed =
     let parts = and_parts (list_all is_printed value) (list_all (list_all is_printed) values) printed in
     ap₂ ◌&&◌ (word-more (key_text key) value (key-word key) parts.0) (keyed-words keys values parts.1)
+keyed-words keys values printed = refl
 
 -- the number of octets of words, with one more for each
 abbrev pub size_of : List (List ℕ) → ℕ
@@ -123,11 +97,9 @@ size_of [] = 0
 size_of (word ∷ words) = suc (length word) + size_of words
 
 pub length-join : (separator : ℕ) (words : List (List ℕ)) → length (join_with_byte separator words) ≤ size_of words
-length-join separator [] = omega arith
-length-join separator (word ∷ []) = omega arith
 length-join separator (word ∷ next ∷ words) = omega (arith, length-append word (separator ∷ join_with_byte separator (next ∷ words)), length-join separator (next ∷ words))
+length-join separator words = omega arith
 
 pub size_of-keyed : (keys : List UnitKey) (values : List (List ℕ)) → size_of (keyed keys values) ≤ 8 * length keys + size_of values
-size_of-keyed [] values = omega arith
-size_of-keyed (key ∷ keys) [] = omega arith
 size_of-keyed (key ∷ keys) (value ∷ values) = omega (arith, length-append (key_text key) value, key-short key, size_of-keyed keys values)
+size_of-keyed keys values = omega arith

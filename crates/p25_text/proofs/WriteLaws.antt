@@ -33,9 +33,8 @@ tail_text (key ∷ keys) [] = []
 tail_text (key ∷ keys) (value ∷ values) = (32 ∷ key_text key ++ value) ++ tail_text keys values
 
 join-tail : (word : List ℕ) (keys : List UnitKey) (values : List (List ℕ)) → join_with_byte 32 (word ∷ keyed keys values) ≡ word ++ tail_text keys values
-join-tail word [] values = sym (append-nil word)
-join-tail word (key ∷ keys) [] = sym (append-nil word)
 join-tail word (key ∷ keys) (value ∷ values) = ap (λ l. word ++ 32 ∷ l) (join-tail (key_text key ++ value) keys values)
+join-tail word keys values = sym (append-nil word)
 
 -- the line of a unit
 text-tail : (unit : UnitParts) → text_of unit ≡ kind_word (kind_of unit.body) ++ tail_text (keys_of (kind_of unit.body)) (values_of unit)
@@ -114,10 +113,9 @@ fields_text (key ∷ keys) [] = []
 fields_text (key ∷ keys) (octets ∷ fields) = key_value_text key octets ∷ fields_text keys fields
 
 joined-tail : (keys : List UnitKey) (fields : List (List ℕ)) (out : List ℕ) → joined out (fields_text keys fields) ≡ out ++ tail_text keys (map encode_lower fields)
-joined-tail [] fields out = sym (append-nil out)
-joined-tail (key ∷ keys) [] out = sym (append-nil out)
 joined-tail (key ∷ keys) (octets ∷ fields) out =
     joined-tail keys fields (out ++ key_value_text key octets) ∙ append_assoc out (key_value_text key octets) (tail_text keys (map encode_lower fields))
+joined-tail keys fields out = sym (append-nil out)
 
 -- a line is put by its beginning and then each field
 pub voice-put : (nac : ℕ) (unit : VoiceUnit) (out : List ℕ)

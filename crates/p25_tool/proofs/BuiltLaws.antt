@@ -1,6 +1,6 @@
 -- What `build` writes: the bits are those of the units of its lines, by induction on the units, and so a recording of undamaged units;
 -- what lines are read as, by induction on the lines and cases on the first.
-use Rattle.std.proofs.Common.{◌≡◌, ℕ, ◌+◌, ◌/◌, Bool, true, false, List, [], ◌∷◌, ◌++◌, length, map, take, Option, Some, None, Result, Ok, Err, refl, subst, ap, ap₂, sym, ◌∙◌, append-nil, arith}
+use Rattle.std.proofs.Common.{◌≡◌, ℕ, ◌+◌, ◌/◌, Bool, true, List, [], ◌∷◌, ◌++◌, length, map, take, Option, Some, Result, Ok, Err, refl, subst, ap, ap₂, sym, ◌∙◌, append-nil, arith, false, None}
 use Rattle.std.specs.Prelude.{All}
 use Rattle.std.specs.List.{flat_map}
 use Rattle.std.proofs.lemmas.List.{length-replicate}
@@ -103,13 +103,12 @@ lines-texts lines = (units-texts lines).1
 
 pub accepted-read : AcceptedAreRead
 accepted-read [] [] read = (read_of-nil read_line_of, refl)
-accepted-read [] (unit ∷ units) read = cc read
-accepted-read (line ∷ lines) [] read = cc read
 accepted-read (line ∷ lines) (unit ∷ units) read =
     let first : read_line_of line ≡ Ok unit = cc read in
     let later : map read_line_of lines ≡ map Ok units = cc read in
     let rest = accepted-read lines units later in
     (read_of-ok read_line_of line lines unit first ∙ ap (λ (us : List UnitParts). unit ∷ us) rest.0, ap₂ ◌∷◌ (text_of-read_line line unit first).0 rest.1)
+accepted-read lines units read = cc read
 
 -- `build` writes nothing at the end
 closing_none : (ended : Bool) (refusal : Option Ending) → closing_by ended refusal [] ≡ []

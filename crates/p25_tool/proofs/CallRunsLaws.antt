@@ -1,19 +1,18 @@
 -- What a call between a source and a sink leaves, by the events that they went through.
 use Rattle.std.proofs.Common.{◌≡◌, ℕ, ◌≤◌, false, List, [], ◌∷◌, ◌++◌, length, Option, Some, None, refl, ap, sym, subst, ◌∙◌, ◌⊎◌, ◌↔◌}
 use Rattle.std.specs.Prelude.{IfSome}
-use Rattle.p25_io.specs.Events.{Event, Read, ReadFailed, Wrote, WriteFailed}
+use Rattle.p25_io.specs.Events.{Event, ReadFailed, Wrote, WriteFailed}
 use Rattle.p25_io.specs.Faults.{Rose}
 use Rattle.p25_io.specs.Pairs.{SinkGoes, SourceGoes}
 use Rattle.p25_filter.specs.Futures.{Future}
 use Rattle.p25_filter.specs.Runs.{Filtered, all_written, input_most}
 use Rattle.p25_filter.specs.Traces.{IsFinalAt, IsMemoryAt, IsRun, Phase, Going, Over, Broken, after_all, at_first}
 use Rattle.p25_filter.specs.declared.ending.Ending.{Ending}
-use Rattle.p25_filter.specs.declared.ending.Ending.TheVariants.{Done, Found, BadLine}
+use Rattle.p25_filter.specs.declared.ending.Ending.TheVariants.{Done}
 use Rattle.p25_filter.specs.declared.ending.FilterEnd.{FilterEnd}
 use Rattle.p25_filter.specs.declared.ending.FilterEnd.TheVariants.{Ended, ReadFault as EndedReadFault, WriteFault as EndedWriteFault, TooLong, Memory as NoMemory}
 use Rattle.p25_filter.proofs.RunsLaws.{run-filtered, run-read_fault, run-untouched, run-write_fault}
 use Rattle.p25_filter.proofs.LinesLaws.{Contains-none}
-use Rattle.p25_filter.proofs.SameLaws.{AreAlike, IsRun-same}
 use Rattle.p25_stations.specs.declared.step.Event.{Event as StationsEvent}
 use Rattle.p25_fragments.specs.declared.long_step.LongEvent.{LongEvent}
 use Rattle.p25_duplex.specs.declared.event.DuplexEvent.{DuplexEvent}
@@ -35,71 +34,56 @@ use Rattle.p25_tool.proofs.RecordedRunsLaws.{command-fit, units-run}
 use Rattle.p25_tool.proofs.RunsLaws.{answer-without-faults, memory-command}
 use Rattle.p25_tool.proofs.ScriptsLaws.{duplex-script-run, long-script-run, script-run}
 
--- the run of a future that is alike to that of a command that reads
-pub alike-run : {P : Type 0} (moves : P → List Event → P → Type 0) (first last : P) (f : Future) (command : Command) (end : FilterEnd)
-    → AreAlike f (command_future command) → ((count : ℕ) → command ≡ Sample count → ⊥)
+-- the run of a command that reads, by what it is named and a future that is its own
+pub alike-run : {P : Type 0} (moves : P → List Event → P → Type 0) (first last : P) (f : Future) (named command : Command) (end : FilterEnd)
+    → command ≡ named → f ≡ command_future named → ((count : ℕ) → named ≡ Sample count → ⊥)
     → ((events : List Event) × moves first events last × IsRun f events end)
     → (events : List Event) × moves first events last × IsRun (command_future command) events end × ((count : ℕ) → command ≡ Sample count → AreWrites events)
-alike-run moves first last f command end alike other went = (
+alike-run moves first last f named command end is alike other went = (
   went.0,
   went.1,
-  IsRun-same f (command_future command) alike went.0 end went.2,
-  λ count is. absurd (other count is),
+  subst (λ (future : Future). IsRun future went.0 end) (alike ∙ ap command_future (sym is)) went.2,
+  λ count sampled. absurd (other count (sym is ∙ sampled)),
 )
 
 -- the outcome of an end tells the fault, and is not that of words that name no command
 ending-not_usage : (ending : Ending) → ending_outcome ending ≡ Usage → ⊥
 ending-not_usage Done is = cc
-ending-not_usage (Found faults) is = cc
-ending-not_usage (BadLine line fault) is = cc
+ending-not_usage ending is = cc
 
 not-usage : (end : FilterEnd) → filter_outcome end ≡ Usage → ⊥
 not-usage (Ended ending) is = ending-not_usage ending is
-not-usage EndedReadFault is = cc
-not-usage EndedWriteFault is = cc
-not-usage TooLong is = cc
-not-usage NoMemory is = cc
+not-usage end is = cc
 
 ending-not_read : (ending : Ending) → ending_outcome ending ≡ ReadFault → ⊥
 ending-not_read Done is = cc
-ending-not_read (Found faults) is = cc
-ending-not_read (BadLine line fault) is = cc
+ending-not_read ending is = cc
 
 is-read_fault : (end : FilterEnd) → filter_outcome end ≡ ReadFault → end ≡ EndedReadFault
 is-read_fault (Ended ending) is = absurd (ending-not_read ending is)
-is-read_fault EndedReadFault is = cc
-is-read_fault EndedWriteFault is = cc
-is-read_fault TooLong is = cc
-is-read_fault NoMemory is = cc
+is-read_fault end is = cc
 
 ending-not_write : (ending : Ending) → ending_outcome ending ≡ WriteFault → ⊥
 ending-not_write Done is = cc
-ending-not_write (Found faults) is = cc
-ending-not_write (BadLine line fault) is = cc
+ending-not_write ending is = cc
 
 is-write_fault : (end : FilterEnd) → filter_outcome end ≡ WriteFault → end ≡ EndedWriteFault
 is-write_fault (Ended ending) is = absurd (ending-not_write ending is)
-is-write_fault EndedReadFault is = cc
-is-write_fault EndedWriteFault is = cc
-is-write_fault TooLong is = cc
-is-write_fault NoMemory is = cc
+is-write_fault end is = cc
 
 -- a source of which nothing is read stays as it was
 unread-source : {S : Type 0} (left : S → Option (List ℕ)) (faults : S → ℕ) (first last : S) (events : List Event) → SourceGoes left faults first events last → AreWrites events
     → last ≡ first
 unread-source left faults first last [] goes writes = goes
-unread-source left faults first last (Read octets ∷ events) goes writes = absurd writes
-unread-source left faults first last (ReadFailed ∷ events) goes writes = absurd writes
 unread-source left faults first last (Wrote piece ∷ events) goes writes = unread-source left faults first last events goes writes
 unread-source left faults first last (WriteFailed piece count ∷ events) goes writes = unread-source left faults first last events goes writes
+unread-source left faults first last events goes writes = absurd writes
 
 -- no read fails among writes
 writes-end : (before : List Event) → AreWrites (before ++ ReadFailed ∷ []) → ⊥
-writes-end [] writes = writes
-writes-end (Read octets ∷ before) writes = writes
-writes-end (ReadFailed ∷ before) writes = writes
 writes-end (Wrote piece ∷ before) writes = writes-end before writes
 writes-end (WriteFailed piece count ∷ before) writes = writes-end before writes
+writes-end before writes = writes
 
 -- `sample` ends as Done by any octets, and never for want of memory
 sample-final : (count : ℕ) (phase : Phase) (octets text : List ℕ) (ending : Ending) → IsFinalAt (command_future (Sample count)) phase octets text ending → ending ≡ Done
@@ -108,9 +92,8 @@ sample-final count Over octets text ending final = let same : Some Done ≡ Some
 sample-final count Broken octets text ending final = absurd final
 
 sample-memory : (count : ℕ) (phase : Phase) (octets text : List ℕ) → IsMemoryAt (command_future (Sample count)) phase octets text → ⊥
-sample-memory count Going octets text wants = Contains-none text wants
-sample-memory count Over octets text wants = Contains-none text wants
 sample-memory count Broken octets text wants = wants
+sample-memory count phase octets text wants = Contains-none text wants
 
 -- so it ends as Done where no write fails
 sample-done : (count : ℕ) (events : List Event) (end : FilterEnd) → IsRun (command_future (Sample count)) events end → AreWrites events → (end ≡ EndedWriteFault → ⊥) → filter_outcome end ≡ DoneOutcome

@@ -1,17 +1,18 @@
 -- What the work of each command that reads a recording writes from the first octet on is what the command is defined to write.
-use Rattle.std.proofs.Common.{◌≡◌, ℕ, ◌+◌, Bool, true, false, cond, List, [], ◌∷◌, ◌++◌, Some, refl, ap, ap₂, ◌∙◌, arith}
-use Rattle.std.specs.List.{concat, flat_map}
+use Rattle.std.proofs.Common.{◌≡◌, ℕ, ◌+◌, Bool, true, false, cond, List, [], ◌++◌, Some, refl, ap, ap₂, ◌∙◌, arith}
+use Rattle.std.specs.List.{flat_map}
 use Rattle.p25_bits.specs.Bits.{octet_bits}
-use Rattle.p25_status.specs.declared.symbols.Status.{Status}
+use Rattle.p25_units.specs.Units.{whole_octets}
 use Rattle.p25_stream.specs.Items.{items_by}
-use Rattle.p25_filter.proofs.SameLaws.{AreAlike}
-use Rattle.p25_tool.specs.declared.command.Command.TheVariants.{Show as ShowIt, Check as CheckIt, Repair as RepairIt, Bridge as BridgeIt, Relay as RelayIt, Follow as FollowIt, Calls as CallsIt, Soft as SoftIt}
+use Rattle.p25_filter.specs.declared.ending.Ending.TheVariants.{Done}
+use Rattle.p25_filter.proofs.SameLaws.{same-future}
+use Rattle.p25_tool.specs.declared.command.Command.TheVariants.{Show as ShowIt, Check as CheckIt, Follow as FollowIt, Calls as CallsIt, Soft as SoftIt}
 use Rattle.p25_recording_filters.specs.declared.reports.show.Show.{Show}
 use Rattle.p25_recording_filters.specs.declared.reports.check.Check.{Check}
-use Rattle.p25_recording_filters.specs.declared.reports.changed.Change.TheVariants.{Repaired, Bridged, Relayed}
-use Rattle.p25_recording_filters.specs.Commands.{changed_reporting, check_reporting, followed_reporting, show_reporting, CallsParts, FollowedParts, calls_reporting}
-use Rattle.p25_tool.specs.Outputs.{command_future, ending_by}
-use Rattle.p25_recording_filters.specs.ItemOutputs.{check_ending, check_line, faults_in, faulty, units_in, soft_output}
+use Rattle.p25_recording_filters.specs.declared.reports.changed.Change.{Change}
+use Rattle.p25_recording_filters.specs.Commands.{CallsParts, ChangedParts, FollowedParts, calls_reporting, change_of, changed_reporting, check_reporting, followed_reporting, show_reporting}
+use Rattle.p25_tool.specs.Outputs.{command_future, ending_by, items_future}
+use Rattle.p25_recording_filters.specs.ItemOutputs.{changed_bits, check_ending, check_line, faults_in, faulty, units_in, soft_output}
 use Rattle.p25_calls.specs.Taking.{fresh_caller}
 use Rattle.p25_follow.specs.Following.{fresh_follow}
 use Rattle.p25_recording_filters.specs.Softs.{fresh_soft, soft_future}
@@ -19,25 +20,20 @@ use Rattle.p25_recording_filters.specs.Recordings.{fresh, recording_future}
 use Rattle.p25_recording_filters.proofs.CallReportsLaws.{reported-calls}
 use Rattle.p25_recording_filters.proofs.ReportsLaws.{behind-check, reported-changed, reported-check, reported-followed, reported-show}
 
-pub show-alike : (report : Show) → AreAlike (recording_future show_reporting (fresh report)) (command_future ShowIt)
+pub show-alike : (report : Show) → recording_future show_reporting (fresh report) ≡ command_future ShowIt
 unfolding recording_future
-show-alike report = record {
-  writes = λ is octets. reported-show is report (items_by is 0 (octet_bits octets)) (octet_bits octets);
-  ends = λ is octets. refl;
-  pauses = λ is octets. refl;
-}
+show-alike report = same-future (λ is octets. reported-show is report (items_by is 0 (octet_bits octets)) (octet_bits octets)) (λ is octets. refl) (λ is octets. refl)
 
-pub check-alike : (report : Check) → report ≡ record { units = 0; faults = 0 } → AreAlike (recording_future check_reporting (fresh report)) (command_future CheckIt)
+pub check-alike : (report : Check) → report ≡ record { units = 0; faults = 0 } → recording_future check_reporting (fresh report) ≡ command_future CheckIt
 unfolding recording_future
-check-alike report empty = record {
-  writes = λ is octets.
-      let items = items_by is 0 (octet_bits octets) in
-      let units : report.units + units_in items ≡ units_in items = omega (arith, ap (λ (r : Check). r.units) empty) in
-      let faults : report.faults + faults_in items ≡ faults_in items = omega (arith, ap (λ (r : Check). r.faults) empty) in
-      reported-check is report items (octet_bits octets) ∙ ap₂ (λ (u f : ℕ). flat_map faulty items ++ cond is (check_line u f) []) units faults;
-  ends = ends;
-  pauses = λ is octets. refl;
-}
+check-alike report empty =
+    same-future
+    (λ is octets.
+    let items = items_by is 0 (octet_bits octets) in
+    let units : report.units + units_in items ≡ units_in items = omega (arith, ap (λ (r : Check). r.units) empty) in
+    let faults : report.faults + faults_in items ≡ faults_in items = omega (arith, ap (λ (r : Check). r.faults) empty) in
+    reported-check is report items (octet_bits octets) ∙ ap₂ (λ (u f : ℕ). flat_map faulty items ++ cond is (check_line u f) []) units faults)
+    ends (λ is octets. refl)
   where
     ends : (is : Bool) (octets : List ℕ) → (recording_future check_reporting (fresh report)).ends is octets ≡ ending_by CheckIt is octets
     ends false octets = unfold recording_future in refl
@@ -46,46 +42,24 @@ check-alike report empty = record {
         let faults : report.faults + faults_in items ≡ faults_in items = omega (arith, ap (λ (r : Check). r.faults) empty) in
         unfold recording_future in ap (λ (f : ℕ). Some (check_ending f)) (behind-check report items (octet_bits octets) ∙ faults)
 
-pub repair-alike : AreAlike (recording_future changed_reporting (fresh (record { change = Repaired; kept = [] }))) (command_future RepairIt)
+pub changed-alike : (change : Change) (parts : ChangedParts) → parts ≡ record { change = change; kept = [] }
+    → recording_future changed_reporting (fresh parts) ≡ items_future (λ is items bits. whole_octets (changed_bits (change_of change) items bits)) (λ items. Done)
 unfolding recording_future
-repair-alike = record {
-  writes = λ is octets. reported-changed is (record { change = Repaired; kept = [] }) (items_by is 0 (octet_bits octets)) (octet_bits octets) (omega arith);
-  ends = λ is octets. refl;
-  pauses = λ is octets. refl;
-}
+changed-alike change parts same =
+    ap (λ (p : ChangedParts). recording_future changed_reporting (fresh p)) same ∙ same-future
+    (λ is octets. reported-changed is (record { change = change; kept = [] }) (items_by is 0 (octet_bits octets)) (octet_bits octets) (omega arith))
+    (λ is octets. refl) (λ is octets. refl)
 
-pub bridge-alike : (nac : ℕ) (status : Status) → AreAlike (recording_future changed_reporting (fresh (record { change = Bridged nac status; kept = [] }))) (command_future (BridgeIt nac status))
+pub follow-alike : (parts : FollowedParts) → parts ≡ record { follower = fresh_follow; kept = [] } → recording_future followed_reporting (fresh parts) ≡ command_future FollowIt
 unfolding recording_future
-bridge-alike nac status = record {
-  writes = λ is octets. reported-changed is (record { change = Bridged nac status; kept = [] }) (items_by is 0 (octet_bits octets)) (octet_bits octets) (omega arith);
-  ends = λ is octets. refl;
-  pauses = λ is octets. refl;
-}
+follow-alike parts same =
+    ap (λ (p : FollowedParts). recording_future followed_reporting (fresh p)) same
+    ∙ same-future (λ is octets. reported-followed is (items_by is 0 (octet_bits octets)) (octet_bits octets)) (λ is octets. refl) (λ is octets. refl)
 
-pub relay-alike : (nac : ℕ) (status : Status) → AreAlike (recording_future changed_reporting (fresh (record { change = Relayed nac status; kept = [] }))) (command_future (RelayIt nac status))
+pub calls-alike : (report : CallsParts) → report ≡ record { caller = fresh_caller; count = 0 } → recording_future calls_reporting (fresh report) ≡ command_future CallsIt
 unfolding recording_future
-relay-alike nac status = record {
-  writes = λ is octets. reported-changed is (record { change = Relayed nac status; kept = [] }) (items_by is 0 (octet_bits octets)) (octet_bits octets) (omega arith);
-  ends = λ is octets. refl;
-  pauses = λ is octets. refl;
-}
+calls-alike report empty = same-future (λ is octets. reported-calls is report (octet_bits octets) empty) (λ is octets. refl) (λ is octets. refl)
 
-pub follow-alike : AreAlike (recording_future followed_reporting (fresh (record { follower = fresh_follow; kept = [] }))) (command_future FollowIt)
-unfolding recording_future
-follow-alike = record {
-  writes = λ is octets. reported-followed is (items_by is 0 (octet_bits octets)) (octet_bits octets);
-  ends = λ is octets. refl;
-  pauses = λ is octets. refl;
-}
-
-pub calls-alike : (report : CallsParts) → report ≡ record { caller = fresh_caller; count = 0 } → AreAlike (recording_future calls_reporting (fresh report)) (command_future CallsIt)
-unfolding recording_future
-calls-alike report empty = record {
-  writes = λ is octets. reported-calls is report (octet_bits octets) empty;
-  ends = λ is octets. refl;
-  pauses = λ is octets. refl;
-}
-
-pub soft-alike : AreAlike (soft_future fresh_soft) (command_future SoftIt)
+pub soft-alike : soft_future fresh_soft ≡ command_future SoftIt
 unfolding soft_future soft_output
-soft-alike = record { writes = λ is octets. refl; ends = λ is octets. refl; pauses = λ is octets. refl }
+soft-alike = refl

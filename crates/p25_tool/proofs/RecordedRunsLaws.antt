@@ -12,7 +12,7 @@ use Rattle.p25_filter.specs.declared.ending.Ending.{Ending}
 use Rattle.p25_filter.specs.declared.ending.Ending.TheVariants.{Done as EndDone}
 use Rattle.p25_filter.specs.declared.ending.FilterEnd.{FilterEnd}
 use Rattle.p25_tool.specs.declared.command.Command.{Command}
-use Rattle.p25_tool.specs.declared.command.Command.TheVariants.{Show, Check, Repair, Bridge, Relay, Follow, Build, Stations, Calls, Duplex, Fragments, Soft, Sample}
+use Rattle.p25_tool.specs.declared.command.Command.TheVariants.{Show, Check, Repair, Bridge, Relay, Follow, Build, Sample}
 use Rattle.p25_tool.specs.declared.outcome.Outcome.{Outcome}
 use Rattle.p25_tool.specs.declared.outcome.Outcome.TheVariants.{Done, Memory, TooLong}
 use Rattle.p25_tool.specs.Outcomes.{filter_outcome}
@@ -68,18 +68,16 @@ module _ (nac : ℕ) (status : Status) where
       ((λ is. absurd (cc is)), (λ is. let same : code ≡ nac = cc is in omega (arith, fits))) ((λ is. absurd (cc is)), (λ is. absurd (cc is))))
 
   forwarded-fit : (word text : List ℕ) (code : Option ℕ) (symbol : Option Status) → nac_in text ≡ code → IsFit (forwarded word code symbol)
-  forwarded-fit word text None symbol read = ((λ is. absurd (cc is)), (λ is. absurd (cc is)))
-  forwarded-fit word text (Some code) None read = ((λ is. absurd (cc is)), (λ is. absurd (cc is)))
   forwarded-fit word text (Some code) (Some symbol) read = forwarding-fit word text code symbol read
+  forwarded-fit word text code symbol read = ((λ is. absurd (cc is)), (λ is. absurd (cc is)))
 
   pub command-fit : (words : List (List ℕ)) → IsFit (command_of words)
-  command-fit [] = ((λ is. absurd (cc is)), (λ is. absurd (cc is)))
   command-fit (word ∷ []) = one-fit word
   command-fit (first ∷ second ∷ []) =
       either (bytes_eq first (codes "build")) (option_map Build (status_in second)) _ (build-fit (status_in second))
       (either (bytes_eq first (codes "sample")) (sample_of (number_below 10001 second)) None (sample-fit (number_below 10001 second)) ((λ is. absurd (cc is)), (λ is. absurd (cc is))))
   command-fit (first ∷ second ∷ third ∷ []) = forwarded-fit first second (nac_in second) (status_in third) refl
-  command-fit (first ∷ second ∷ third ∷ fourth ∷ others) = ((λ is. absurd (cc is)), (λ is. absurd (cc is)))
+  command-fit words = ((λ is. absurd (cc is)), (λ is. absurd (cc is)))
 
 -- a command that works on units takes no memory
 no-memory : (command : Command) → IsUnitCommand command → CanWantMemory command → ⊥
@@ -89,13 +87,7 @@ no-memory Repair units wants = wants
 no-memory (Bridge nac status) units wants = wants
 no-memory (Relay nac status) units wants = wants
 no-memory Follow units wants = wants
-no-memory (Build status) units wants = units
-no-memory Stations units wants = units
-no-memory Calls units wants = units
-no-memory Duplex units wants = units
-no-memory Fragments units wants = units
-no-memory Soft units wants = units
-no-memory (Sample count) units wants = units
+no-memory command units wants = units
 
 module _ (arrivals : List Arrival) (input : List ℕ) (recorded : IsRecording arrivals input) where
   units-end : (command : Command) → IsUnitCommand command → ending_by command true input ≡ Some EndDone
@@ -105,13 +97,7 @@ module _ (arrivals : List Arrival) (input : List ℕ) (recorded : IsRecording ar
   units-end (Bridge nac status) units = refl
   units-end (Relay nac status) units = refl
   units-end Follow units = refl
-  units-end (Build status) units = absurd units
-  units-end Stations units = absurd units
-  units-end Calls units = absurd units
-  units-end Duplex units = absurd units
-  units-end Fragments units = absurd units
-  units-end Soft units = absurd units
-  units-end (Sample count) units = absurd units
+  units-end command units = absurd units
 
   units-written : (command : Command) → HasFitCode command → IsUnitCommand command
       → AreWrittenOf command arrivals (output_by command true input)
@@ -121,13 +107,7 @@ module _ (arrivals : List Arrival) (input : List ℕ) (recorded : IsRecording ar
   units-written (Bridge nac status) fits units = bridges-units true nac status arrivals input ((fits nac status).0 refl) recorded
   units-written (Relay nac status) fits units = relays-units true nac status arrivals input ((fits nac status).1 refl) recorded
   units-written Follow fits units = follows-arrived true arrivals input recorded
-  units-written (Build status) fits units = absurd units
-  units-written Stations fits units = absurd units
-  units-written Calls fits units = absurd units
-  units-written Duplex fits units = absurd units
-  units-written Fragments fits units = absurd units
-  units-written Soft fits units = absurd units
-  units-written (Sample count) fits units = absurd units
+  units-written command fits units = absurd units
 
   units-done : (command : Command) (outcome : Outcome) → IsUnitCommand command → length input ≤ input_most
       → (outcome ≡ answer_of command input) ⊎ ((outcome ≡ Memory) × CanWantMemory command) → outcome ≡ Done

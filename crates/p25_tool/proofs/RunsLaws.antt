@@ -7,13 +7,13 @@ use Rattle.std.proofs.lemmas.Bool.Decides.{nat_tests}
 use Rattle.p25_io.specs.Octets.{Taken}
 use Rattle.p25_filter.specs.Runs.{IsFinal, IsTooLong, Filtered, input_most}
 use Rattle.p25_filter.specs.declared.ending.Ending.{Ending}
-use Rattle.p25_filter.specs.declared.ending.Ending.TheVariants.{Done, Found, BadLine}
+use Rattle.p25_filter.specs.declared.ending.Ending.TheVariants.{Done}
 use Rattle.p25_filter.specs.declared.ending.FilterEnd.{FilterEnd}
 use Rattle.p25_filter.specs.declared.ending.FilterEnd.TheVariants.{Ended, ReadFault, WriteFault, TooLong as InputTooLong, Memory as NoMemory}
 use Rattle.p25_filter.proofs.LinesLaws.{Contains-none}
 use Rattle.p25_filter.proofs.RunsLaws.{ended-input, first-take, told-parts}
 use Rattle.p25_tool.specs.declared.command.Command.{Command}
-use Rattle.p25_tool.specs.declared.command.Command.TheVariants.{Show, Check, Repair, Bridge, Relay, Follow, Build, Calls, Soft, Stations, Duplex, Fragments, Sample}
+use Rattle.p25_tool.specs.declared.command.Command.TheVariants.{Stations, Duplex, Fragments}
 use Rattle.p25_tool.specs.declared.outcome.Outcome.{Outcome}
 use Rattle.p25_tool.specs.declared.outcome.Outcome.TheVariants.{TooLong, Memory}
 use Rattle.p25_tool.specs.Outcomes.{ending_outcome, filter_outcome}
@@ -87,31 +87,19 @@ module _ (command : Command) (input : List ℕ) where
 
 -- where memory is wanting, the command is one that takes it
 pub wanting-command : (command : Command) (told left first last : Option (List ℕ)) → Filtered told left first last (command_future command) NoMemory → CanWantMemory command
-wanting-command Show told left first last worked = Contains-none worked.meets.text worked.meets.pauses
-wanting-command Check told left first last worked = Contains-none worked.meets.text worked.meets.pauses
-wanting-command Repair told left first last worked = Contains-none worked.meets.text worked.meets.pauses
-wanting-command (Bridge nac status) told left first last worked = Contains-none worked.meets.text worked.meets.pauses
-wanting-command (Relay nac status) told left first last worked = Contains-none worked.meets.text worked.meets.pauses
-wanting-command Follow told left first last worked = Contains-none worked.meets.text worked.meets.pauses
-wanting-command (Build status) told left first last worked = Contains-none worked.meets.text worked.meets.pauses
 wanting-command Stations told left first last worked = tt
 wanting-command Duplex told left first last worked = tt
 wanting-command Fragments told left first last worked = tt
-wanting-command Calls told left first last worked = Contains-none worked.meets.text worked.meets.pauses
-wanting-command Soft told left first last worked = Contains-none worked.meets.text worked.meets.pauses
-wanting-command (Sample count) told left first last worked = Contains-none worked.meets.text worked.meets.pauses
+wanting-command command told left first last worked = Contains-none worked.meets.text worked.meets.pauses
 
 ending-memory : (ending : Ending) → ending_outcome ending ≡ Memory → ⊥
 ending-memory Done is = cc
-ending-memory (Found faults) is = cc
-ending-memory (BadLine line fault) is = cc
+ending-memory ending is = cc
 
 pub memory-command : (command : Command) (told left first last : Option (List ℕ)) (end : FilterEnd) → Filtered told left first last (command_future command) end → filter_outcome end ≡ Memory → CanWantMemory command
 memory-command command told left first last (Ended ending) worked is = absurd (ending-memory ending is)
-memory-command command told left first last ReadFault worked is = cc
-memory-command command told left first last WriteFault worked is = cc
-memory-command command told left first last InputTooLong worked is = cc
 memory-command command told left first last NoMemory worked is = wanting-command command told left first last worked
+memory-command command told left first last end worked is = cc
 
 -- without a fault of the source or of the sink the outcome is the answer for the input, or memory was wanting
 pub answer-without-faults : (command : Command) (told left first last : Option (List ℕ)) (end : FilterEnd) → Filtered told left first last (command_future command) end → (end ≡ ReadFault → ⊥) → (end ≡ WriteFault → ⊥)

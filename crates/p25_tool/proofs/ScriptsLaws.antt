@@ -1,16 +1,17 @@
 -- A script whose lines are all read: they are read as its events and none is refused, by induction on the lines; and what stands
 -- when its run is done. For any machine that reads each line by itself.
-use Rattle.std.proofs.Common.{◌≡◌, ℕ, ◌+◌, ◌≤◌, Bool, true, false, cond, nat_lt, List, [], ◌∷◌, ◌++◌, length, map, take, Option, Some, None, Result, Ok, Err, ◌⊎◌, inl, inr, refl, ap, ap₂, sym, subst, ◌∙◌, arith}
+use Rattle.std.proofs.Common.{◌≡◌, ℕ, ◌+◌, ◌≤◌, Bool, true, false, nat_lt, List, [], ◌∷◌, ◌++◌, length, map, take, Option, Some, None, Result, Ok, Err, ◌⊎◌, inl, inr, refl, ap, ap₂, sym, ◌∙◌, arith}
 use Rattle.std.specs.Prelude.{IfSome}
 use Rattle.std.specs.List.{flat_map}
 use Rattle.std.proofs.lemmas.List.{take_all}
 use Rattle.std.proofs.lemmas.Bool.Decides.{nat_tests}
+use Rattle.std.proofs.lemmas.Bool.{cond-false}
 use Rattle.p25_delivery.specs.Runs.{EachIs}
 use Rattle.p25_io.specs.Octets.{Appended}
 use Rattle.p25_io.proofs.OctetsLaws.{Appended-same}
 use Rattle.p25_line.specs.declared.fault.LineFault.{LineFault}
-use Rattle.p25_stations.specs.Runs.{AreClean, IsCleanRun, IsEvent, steps_of, world_run}
-use Rattle.p25_stations.specs.WorldState.{WorldState, first_world}
+use Rattle.p25_stations.specs.Runs.{IsCleanRun, IsEvent, steps_of, world_run}
+use Rattle.p25_stations.specs.WorldState.{first_world}
 use Rattle.p25_stations.specs.declared.step.Event.{Event}
 use Rattle.p25_stations.proofs.CleanLaws.{run-orderly}
 use Rattle.p25_stations.proofs.FalsePassLaws.{clean-from_none}
@@ -20,7 +21,7 @@ use Rattle.p25_fragments.specs.LongState.{first_long}
 use Rattle.p25_fragments.specs.LongRuns.{IsCleanLongRun, IsLongEvent, long_run, long_steps_of}
 use Rattle.p25_fragments.specs.declared.long_step.LongEvent.{LongEvent}
 use Rattle.p25_fragments.specs.declared.long_step.LongEvent.TheVariants.{Long, Inner}
-use Rattle.p25_fragments.proofs.InnerRunLaws.{inner-run}
+use Rattle.p25_fragments.proofs.LongHistoryLaws.{long-clean}
 use Rattle.p25_fragments.proofs.LongRunLaws.{long-orderly, long-unrefused}
 use Rattle.p25_fragment_script.specs.LongScript.{IsLongScripted, long_event_of}
 use Rattle.p25_fragment_script.specs.LongTexts.{long_step_text_of}
@@ -33,9 +34,9 @@ use Rattle.p25_duplex.proofs.RunLaws.{run-orderly as duplex-orderly}
 use Rattle.p25_duplex_script.specs.DuplexLines.{duplex_event_of}
 use Rattle.p25_duplex_script.proofs.DuplexLineLaws.{read-event}
 use Rattle.p25_filter.specs.declared.ending.Ending.{Ending}
-use Rattle.p25_filter.specs.declared.ending.Ending.TheVariants.{Done as EndDone, Found, BadLine}
+use Rattle.p25_filter.specs.declared.ending.Ending.TheVariants.{Done as EndDone}
 use Rattle.p25_filter.specs.declared.ending.FilterEnd.{FilterEnd}
-use Rattle.p25_filter.specs.declared.ending.FilterEnd.TheVariants.{Ended, ReadFault, WriteFault, TooLong, Memory as NoMemory}
+use Rattle.p25_filter.specs.declared.ending.FilterEnd.TheVariants.{Ended}
 use Rattle.p25_filter.specs.Futures.{Future}
 use Rattle.p25_filter.specs.Lines.{closing_by, lines_ending, lines_future, lines_in, read_of, refusal_in}
 use Rattle.p25_filter.specs.Runs.{IsFinal, Filtered, input_most}
@@ -72,11 +73,10 @@ head_of read line lines event events same = (cc same, cc same)
 
 read-as : {E : Type 0} (read : Reading E) (lines : List (List ℕ)) (events : List E) (number : ℕ) → map read lines ≡ map (λ e. Ok e) events → AreReadAs read number lines events
 read-as read [] [] number same = record { events_are = read_of-nil read; accepted = refusal_in-nil read number }
-read-as read [] (event ∷ events) number same = cc same
-read-as read (line ∷ lines) [] number same = cc same
 read-as read (line ∷ lines) (event ∷ events) number same =
     let parts = head_of read line lines event events same in
     with_event read number line lines event events parts.0 (read-as read lines events (number + 1) parts.1)
+read-as read lines events number same = cc same
 
 -- no line is refused by an ending that is Done
 refusal-done : {E : Type 0} (read : Reading E) (lines : List (List ℕ)) (number : ℕ) → refusal_in read number lines ≡ Some EndDone → ⊥
@@ -94,12 +94,7 @@ not-done None never is = cc is
 
 ended-done : (ending : Ending) → ending_outcome ending ≡ Done → ending ≡ EndDone
 ended-done EndDone is = refl
-ended-done (Found faults) is = cc is
-ended-done (BadLine line fault) is = cc is
-
-by_length : (long : Bool) (x y : Outcome) → long ≡ false → cond long x y ≡ y
-by_length true x y is = cc is
-by_length false x y is = refl
+ended-done ending is = cc is
 
 -- each of the events that lines are read as is what each event is that a line is read as
 each-read : {E : Type 0} (read : Reading E) (Is : E → Type 0) → ((line : List ℕ) (event : E) → read line ≡ Ok event → Is event)
@@ -139,16 +134,13 @@ module _ {E S : Type 0} (read : Reading E) (steps : List E → List S) (line : S
 
   wrote-done : (end : FilterEnd) → Filtered told left first last (command_future command) end → filter_outcome end ≡ Done → Appended first (text events) last
   wrote-done (Ended ending) worked same = wrote-final worked.octets ending worked.meets (ended-done ending same)
-  wrote-done ReadFault worked same = cc same
-  wrote-done WriteFault worked same = cc same
-  wrote-done TooLong worked same = cc same
-  wrote-done NoMemory worked same = cc same
+  wrote-done end worked same = cc same
 
   -- the answer for such a script is Done
   answer-done : answer_of command input ≡ Done
   answer-done =
       let short : answer_of command input ≡ ending_or (ending_by command true input) OutcomeTooLong
-      = by_length (nat_lt input_most (length input)) _ _ (grind (arith, nat_tests, script.short)) in
+      = cond-false (nat_lt input_most (length input)) _ _ (grind (arith, nat_tests, script.short)) in
       short ∙ ap (λ (o : Option Ending). ending_or o OutcomeTooLong)
       (ap (λ (f : Future). f.ends true input) is ∙ ap (λ (r : Option Ending). lines_ending true r) are.accepted)
 
@@ -179,12 +171,6 @@ script-run told left first last input events script is_told =
     (λ all. (world_run first_world all).false_passes) IsCleanRun _ (clean-from_none events) (run-orderly events (each-read event_of IsEvent is_event (lines_in true [] input) events script.lines))
 
 -- Scripts of long messages.
-
--- the inner world counts its false passes
-long-clean : (events : List LongEvent) → (long_run first_long events).inner.false_passes ≡ 0 → IsCleanLongRun events
-long-clean events none =
-    let run = inner-run first_long events in
-    subst AreClean run.steps (clean-from_none run.events (ap (λ (w : WorldState). w.false_passes) run.world ∙ none))
 
 is-long_event : (line : List ℕ) (event : LongEvent) → long_event_of line ≡ Ok event → IsLongEvent event
 unfolding IsLongScripted IsLongEvent

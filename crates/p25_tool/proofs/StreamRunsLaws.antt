@@ -1,5 +1,5 @@
 -- What a call comes to on streams that tell what they hold: what it comes to between a source and a sink that went through its events.
-use Rattle.std.proofs.Common.{◌≡◌, ℕ, true, List, [], ◌++◌, Option, Some, None, refl, ap, sym, subst, ◌∙◌, arith}
+use Rattle.std.proofs.Common.{◌≡◌, ℕ, true, List, ◌++◌, Option, Some, None, ap, sym, subst, ◌∙◌, arith}
 use Rattle.std.specs.Prelude.{IfSome}
 use Rattle.p25_io.specs.Events.{Event}
 use Rattle.p25_io.specs.Faults.{Rose}

@@ -15,9 +15,9 @@ use Rattle.p25_filter.proofs.RunsLaws.{ended-input}
 use Rattle.p25_filter.specs.declared.ending.Ending.{Ending}
 use Rattle.p25_filter.specs.declared.ending.Ending.TheVariants.{BadLine}
 use Rattle.p25_filter.specs.declared.ending.FilterEnd.{FilterEnd}
-use Rattle.p25_filter.specs.declared.ending.FilterEnd.TheVariants.{Ended, ReadFault, WriteFault, TooLong, Memory}
+use Rattle.p25_filter.specs.declared.ending.FilterEnd.TheVariants.{Ended}
 use Rattle.p25_tool.specs.declared.command.Command.{Command}
-use Rattle.p25_tool.specs.declared.command.Command.TheVariants.{Show, Check, Repair, Bridge, Relay, Follow, Calls, Soft, Build, Stations, Fragments, Duplex, Sample}
+use Rattle.p25_tool.specs.declared.command.Command.TheVariants.{Build, Stations, Fragments, Duplex, Sample}
 use Rattle.p25_duplex_script.specs.DuplexLines.{duplex_event_of}
 use Rattle.p25_tool.specs.Outcomes.{ending_outcome, filter_outcome}
 use Rattle.p25_tool.specs.Outputs.{command_future, ending_by, output_by}
@@ -46,19 +46,12 @@ module _ {E : Type 0} (read : List ℕ → Result E LineFault) where
 -- while more octets may come, nothing else ends a call but of `sample`, which looks at no octet
 before_end : (command : Command) (octets input : List ℕ) (ending : Ending) → ending_by command false octets ≡ Some ending → HasEnded (ending_outcome ending)
     → output_by command false octets ≡ output_by command true input
-before_end Show octets input ending is end = absurd (cc is)
-before_end Check octets input ending is end = absurd (cc is)
-before_end Repair octets input ending is end = absurd (cc is)
-before_end (Bridge nac status) octets input ending is end = absurd (cc is)
-before_end (Relay nac status) octets input ending is end = absurd (cc is)
-before_end Follow octets input ending is end = absurd (cc is)
-before_end Calls octets input ending is end = absurd (cc is)
-before_end Soft octets input ending is end = absurd (cc is)
 before_end (Build status) octets input ending is end = absurd (lines-go_on read_line_of (lines_in false [] octets) ending is end)
 before_end Stations octets input ending is end = absurd (lines-go_on event_of (lines_in false [] octets) ending is end)
 before_end Fragments octets input ending is end = absurd (lines-go_on long_event_of (lines_in false [] octets) ending is end)
 before_end Duplex octets input ending is end = absurd (lines-go_on duplex_event_of (lines_in false [] octets) ending is end)
 before_end (Sample count) octets input ending is end = refl
+before_end command octets input ending is end = absurd (cc is)
 
 module _ (command : Command) (input : List ℕ) (told first last : Option (List ℕ)) (is_told : told ≡ Some input) where
   wrote-all : (ending : Ending) (octets : List ℕ) → HasEnded (ending_outcome ending) → IsFinal told first last (command_future command) octets ending → Appended first (output_by command true input) last
@@ -75,10 +68,7 @@ module _ (command : Command) (input : List ℕ) (told first last : Option (List 
   -- work that came to the end of its input wrote all of its output, whether it is told what was written or not
   pub ended-wrote : (left : Option (List ℕ)) (end : FilterEnd) → HasEnded (filter_outcome end) → Filtered told left first last (command_future command) end → Appended first (output_by command true input) last
   ended-wrote left (Ended ending) is worked = wrote-all ending worked.octets is worked.meets
-  ended-wrote left ReadFault is worked = absurd is
-  ended-wrote left WriteFault is worked = absurd is
-  ended-wrote left TooLong is worked = absurd is
-  ended-wrote left Memory is worked = absurd is
+  ended-wrote left end is worked = absurd is
 
 pub all-written : AllIsWritten
 all-written command input written left last outcome ran ended =

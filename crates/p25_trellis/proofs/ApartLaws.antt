@@ -1,11 +1,9 @@
 -- How far paths differ, and what lies so near to one that no other is as near. By induction on the symbols: two states ask for no more bits than a step
 -- differs in and the states after it ask for.
-use Rattle.std.proofs.Common.{◌≡◌, ◌≢◌, ℕ, zero, suc, ◌+◌, ◌*◌, ◌<◌, ◌≤◌, inl, inr, Bool, false, eqb, List, [], ◌∷◌, ◌++◌, length, take, refl, ap, ap₂, sym, subst, ◌∙◌, arith}
+use Rattle.std.proofs.Common.{◌≡◌, ◌≢◌, ℕ, zero, suc, ◌+◌, ◌*◌, ◌<◌, ◌≤◌, inl, inr, Bool, false, eqb, List, [], ◌∷◌, length, refl, ap, ap₂, sym, subst, ◌∙◌, arith}
 use Rattle.std.proofs.lemmas.Bool.{cases_Bool, eqb-true, eq-eqb}
 use Rattle.p25_bits.specs.Distance.{distance_of}
-use Rattle.p25_bits.proofs.DistanceLaws.{distance_of-same, distance_of-sym, distance_of-triangle}
-use Rattle.std.proofs.lemmas.List.{take_all}
-use Rattle.p25_bits.specs.Bits.{part}
+use Rattle.p25_bits.proofs.DistanceLaws.{distance_of-sym, distance_of-triangle}
 use Rattle.p25_trellis.specs.Interleave.{interleaved}
 use Rattle.p25_trellis.specs.Tables.{nibble_distance}
 use Rattle.p25_trellis.specs.Trellis.{IsPath, IsBlock, Carries, IsFirstLeastReading, IsNearReading, nibbles_from, sent_bits, distance_from}
@@ -132,13 +130,3 @@ IsNearReading-from states width apart point received octets distance far long re
 -- a block has 196 bits
 pub length-block : (states width : ℕ) (point : ℕ → ℕ → ℕ) (octets : List ℕ) (block : List Bool) → IsBlock states width point octets block → length block ≡ 196
 length-block states width point octets block is = ap length is.sent ∙ length-sent_bits states point is.path is.is_path
-
--- a block that is all that was received is at no distance
-pub distance_of-block : (states width : ℕ) (point : ℕ → ℕ → ℕ) (octets : List ℕ) (before received block : List Bool) → before ≡ [] → received ≡ before ++ block
-    → IsBlock states width point octets block → distance_of block (part 0 196 received) ≡ 0
-distance_of-block states width point octets before received block none all is =
-    let long : length block ≡ 196 = length-block states width point octets block is in
-    let short : length block ≤ 196 = omega arith in
-    let same : part 0 196 received ≡ block
-    = ap (λ (bits : List Bool). take 196 bits) (all ∙ ap (λ (bits : List Bool). bits ++ block) none) ∙ take_all 196 block short in
-    ap (distance_of block) same ∙ distance_of-same block

@@ -24,11 +24,10 @@ nibble_distance-le a b = omega (arith, distance_by-le beq (bits_of 4 a) (bits_of
 distance_of-nibbles : (xs ys : List ℕ) → length xs ≡ length ys → distance_of (number_bits 4 xs) (number_bits 4 ys) ≡ weighed nibble_distance xs ys
 unfolding number_bits weighed nibble_distance
 distance_of-nibbles [] [] long = distance_by-nil beq []
-distance_of-nibbles [] (y ∷ ys) long = absurd (omega arith)
-distance_of-nibbles (x ∷ xs) [] long = absurd (omega arith)
 distance_of-nibbles (x ∷ xs) (y ∷ ys) long =
     distance_by-append beq (bits_of 4 x) (number_bits 4 xs) (bits_of 4 y) (number_bits 4 ys) (length-bits_of 4 x ∙ sym (length-bits_of 4 y))
     ∙ ap (λ n. distance_of (bits_of 4 x) (bits_of 4 y) + n) (distance_of-nibbles xs ys (omega arith))
+distance_of-nibbles xs ys long = absurd (omega arith)
 
 -- and so do interleaved ones
 pub distance_of-interleaved : (xs ys : List ℕ) → length xs ≡ length ys → distance_of (number_bits 4 (interleaved xs)) (number_bits 4 (interleaved ys)) ≡ weighed nibble_distance xs ys

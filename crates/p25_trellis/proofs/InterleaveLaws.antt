@@ -16,10 +16,9 @@ use Rattle.p25_trellis.specs.TableLaws.{passed_below, passed_below-at}
 length-each_fourth : {X Y : Type 0} (wait : ℕ) (xs : List X) (ys : List Y) → length xs ≡ length ys → length (each_fourth wait xs) ≡ length (each_fourth wait ys)
 unfolding each_fourth
 length-each_fourth wait [] [] long = refl
-length-each_fourth wait [] (y ∷ ys) long = absurd (omega arith)
-length-each_fourth wait (x ∷ xs) [] long = absurd (omega arith)
 length-each_fourth zero (x ∷ xs) (y ∷ ys) long = ap suc (length-each_fourth 3 xs ys (omega arith))
 length-each_fourth (suc wait) (x ∷ xs) (y ∷ ys) long = length-each_fourth wait xs ys (omega arith)
+length-each_fourth wait xs ys long = absurd (omega arith)
 
 each_fourth-map : {X Y : Type 0} (f : X → Y) (wait : ℕ) (xs : List X) → each_fourth wait (map f xs) ≡ map f (each_fourth wait xs)
 unfolding each_fourth
@@ -56,16 +55,14 @@ weighed-fourths : {X Y : Type 0} (weight : X → Y → ℕ) (xs : List X) (ys : 
     ≡ weighed weight xs ys
 unfolding each_fourth weighed
 weighed-fourths weight [] [] long = refl
-weighed-fourths weight [] (y ∷ ys) long = absurd (omega arith)
-weighed-fourths weight (x ∷ xs) [] long = absurd (omega arith)
 weighed-fourths weight (x ∷ xs) (y ∷ ys) long = omega (arith, weighed-fourths weight xs ys (omega arith))
+weighed-fourths weight xs ys long = absurd (omega arith)
 
 weighed-append : {X Y : Type 0} (weight : X → Y → ℕ) (xs ys : List X) (us vs : List Y) → length xs ≡ length us → weighed weight (xs ++ ys) (us ++ vs) ≡ weighed weight xs us + weighed weight ys vs
 unfolding weighed
 weighed-append weight [] ys [] vs long = omega arith
-weighed-append weight [] ys (u ∷ us) vs long = absurd (omega arith)
-weighed-append weight (x ∷ xs) ys [] vs long = absurd (omega arith)
 weighed-append weight (x ∷ xs) ys (u ∷ us) vs long = omega (arith, weighed-append weight xs ys us vs (omega arith))
+weighed-append weight xs ys us vs long = absurd (omega arith)
 
 -- interleaved lists weigh as much against each other as the lists
 pub weighed-interleaved : {X Y : Type 0} (weight : X → Y → ℕ) (xs : List X) (ys : List Y) → length xs ≡ length ys → weighed weight (interleaved xs) (interleaved ys) ≡ weighed weight xs ys
@@ -86,9 +83,8 @@ weighed-interleaved weight xs ys long =
 -- the distance of two lists is such a sum
 distance_by-weighed : {X : Type 0} (same : X → X → Bool) (xs ys : List X) → distance_by same xs ys ≡ weighed (λ x y. cond (same x y) 0 1) xs ys
 unfolding distance_by weighed
-distance_by-weighed same [] ys = refl
-distance_by-weighed same (x ∷ xs) [] = refl
 distance_by-weighed same (x ∷ xs) (y ∷ ys) = ap (λ n. cond (same x y) 0 1 + n) (distance_by-weighed same xs ys)
+distance_by-weighed same xs ys = refl
 
 -- two interleaved lists differ in as many places as the lists
 distance_by-interleaved : {X : Type 0} (same : X → X → Bool) (xs ys : List X) → length xs ≡ length ys → distance_by same (interleaved xs) (interleaved ys) ≡ distance_by same xs ys

@@ -5,19 +5,11 @@ use Rattle.p25_trellis.specs.declared.rate.TheConstants.{NIBBLES, HALF_POINTS, T
 use Rattle.p25_trellis.specs.Tables.{point_nibbles, half_rows, three_quarter_rows, point_in, half_point, three_quarter_point}
 use Rattle.p25_trellis.specs.TableLaws.{passed_below, passed_below-at}
 
-half_points_test : passed_below 16 (λ i. ltb (get_or HALF_POINTS i 0) 16) ≡ true
-unfolding passed_below
-half_points_test = refl
-
--- each entry of the table of half rate is the number of a point
-pub half_points-lt : (i : ℕ) → i < 16 → get_or HALF_POINTS i 0 < 16
-half_points-lt i inside = ltb-true (get_or HALF_POINTS i 0) 16 (passed_below-at 16 (λ k. ltb (get_or HALF_POINTS k 0) 16) half_points_test i inside)
-
 three_quarter_points_test : passed_below 64 (λ i. ltb (get_or THREE_QUARTER_POINTS i 0) 16) ≡ true
 unfolding passed_below
 three_quarter_points_test = refl
 
--- and each of that of three-quarter rate
+-- each entry of the table of three-quarter rate is the number of a point
 pub three_quarter_points-lt : (i : ℕ) → i < 64 → get_or THREE_QUARTER_POINTS i 0 < 16
 three_quarter_points-lt i inside = ltb-true (get_or THREE_QUARTER_POINTS i 0) 16 (passed_below-at 64 (λ k. ltb (get_or THREE_QUARTER_POINTS k 0) 16) three_quarter_points_test i inside)
 

@@ -1,7 +1,7 @@
 -- The tables of the search have what the points say: each entry is compared, and the comparison computes.
 use Rattle.std.proofs.Common.{◌≡◌, ℕ, ◌+◌, ◌*◌, ◌<◌, ◌≤◌, inl, inr, Bool, true, false, eqb, ltb, ◌||◌, not, List, length, take, drop, get_or, refl, ap, ap₂, sym, ◌∙◌, arith, ◌-◌}
 use Rattle.std.proofs.Math.Path.{subst₂}
-use Rattle.std.proofs.lemmas.Bool.{eqb-true, ltb-true, cases_lt}
+use Rattle.std.proofs.lemmas.Bool.{eqb-true, ltb-true, cases_lt, lt-ltb}
 use Rattle.std.proofs.lemmas.List.{get_or_past}
 use borrow.Rule.Slice.PartMut.{mid_of}
 use Rattle.p25_bits.specs.Bits.{bits_of, part}
@@ -24,10 +24,7 @@ sends-from_test : (states : ℕ) (point : ℕ → ℕ → ℕ) (symbols : List �
     → get_or symbols (8 * nibble + state) 0 < states → point state (get_or symbols (8 * nibble + state) 0) ≡ nibble
 unfolding sending_test
 sends-from_test states point symbols passed state nibble row small is =
-    eqb-true _ _ (second _ _ (passed_below-at states _ (passed_below-at 16 _ passed nibble small) state row) (ltb-is _ _ is))
-  where
-    ltb-is : (a b : ℕ) → a < b → ltb a b ≡ true
-    ltb-is a b less = grind (arith, less)
+    eqb-true _ _ (second _ _ (passed_below-at states _ (passed_below-at 16 _ passed nibble small) state row) (lt-ltb _ _ is))
 
 -- every entry is the distance that its place asks for
 unfoldable distances_test : ℕ → ℕ → (ℕ → ℕ → ℕ) → List ℕ → Bool

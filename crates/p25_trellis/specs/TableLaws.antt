@@ -1,7 +1,7 @@
 -- The laws of the tables of points, from tests over the whole table that compute.
 use Rattle.std.specs.Prelude.{◌≡◌, ◌≢◌, ℕ, zero, suc, ◌+◌, ◌*◌, ◌^◌, ◌/◌, ◌<◌, ◌≤◌, Bool, true, false, if◌then◌else◌, ◌==◌, nat_le, nat_lt, ◌&&◌, ◌||◌, ◌∷◌, replicate, refl}
 use Rattle.std.proofs.Common.{inl, inr, sym, subst, arith}
-use Rattle.std.proofs.lemmas.Bool.{cases_Bool, leb-true, ltb-true, eqb-true}
+use Rattle.std.proofs.lemmas.Bool.{cases_Bool, leb-true, ltb-true, eqb-true, and_parts}
 use Rattle.std.proofs.lemmas.List.Elements.{All-cons, All-replicate}
 use Rattle.p25_bits.specs.Bits.{bits_of}
 use Rattle.p25_bits.specs.Distance.{distance_by, distance_of}
@@ -40,17 +40,13 @@ unfoldable pub passed_below : ℕ → (ℕ → Bool) → Bool
 passed_below zero test = true
 passed_below (suc n) test = test n && passed_below n test
 
-both : (a b : Bool) → (a && b) ≡ true → (a ≡ true) × (b ≡ true)
-both true b h = (refl, h)
-both false b h = absurd (cc)
-
 -- what a test over the numbers below n tells of one of them
 pub passed_below-at : (n : ℕ) (test : ℕ → Bool) → passed_below n test ≡ true → (k : ℕ) → k < n → test k ≡ true
 unfolding passed_below
 passed_below-at zero test passed k below = absurd (omega arith)
 passed_below-at (suc n) test passed k below = elim (cases_Bool (k == n)) [
-  | inl same ↦ let here = (both (test n) (passed_below n test) passed).0 in subst (λ (i : ℕ). test i ≡ true) (sym (eqb-true k n same)) here
-  | inr other ↦ passed_below-at n test (both (test n) (passed_below n test) passed).1 k (smaller other)
+  | inl same ↦ let here = (and_parts (test n) (passed_below n test) passed).0 in subst (λ (i : ℕ). test i ≡ true) (sym (eqb-true k n same)) here
+  | inr other ↦ passed_below-at n test (and_parts (test n) (passed_below n test) passed).1 k (smaller other)
 ]
   where
     smaller : (k == n) ≡ false → k < n

@@ -1,12 +1,9 @@
 -- What fronts as numbers are as bits: a number of two fields, and the weight of an exclusive or as a distance.
-use Rattle.std.proofs.Common.{◌≡◌, ℕ, ◌+◌, ◌*◌, ◌/◌, ◌^◌, ◌<◌, ◌≤◌, Bool, List, length, take, drop, bit_xor, ap, ap₂, sym, ◌∙◌, arith, length-drop, mod-eq_of_lt}
-use Rattle.std.specs.Int.RustNames.{count_ones}
-use Rattle.std.proofs.lemmas.List.{length-take-le, take_at, drop-drop}
-use Rattle.std.proofs.lemmas.Nat.{xor_shr}
-use Rattle.p25_bits.proofs.DistanceLaws.{ones-xor}
+use Rattle.std.proofs.Common.{◌≡◌, ℕ, ◌+◌, ◌*◌, ◌^◌, ◌≤◌, Bool, List, length, take, drop, ap, ap₂, sym, ◌∙◌, arith, length-drop}
+use Rattle.std.proofs.lemmas.List.{length-take-le, drop-drop}
 use Rattle.p25_bits.specs.Bits.{bits_of, field_of, part}
 use Rattle.p25_bits.specs.Distance.{distance_of}
-use Rattle.p25_bits.proofs.BitsLaws.{bits_of-add, length-bits_of, field_of-bits_of, bits_of-field_of, field_of-append}
+use Rattle.p25_bits.proofs.BitsLaws.{bits_of-field_of, field_of-append}
 use Rattle.p25_status.specs.Sync.{sync_bits}
 use Rattle.p25_bch_nid.specs.NidWord.{nid_word}
 use Rattle.p25_unit_front.specs.Front.{identifier_bits, front_fixes_of}
@@ -30,25 +27,6 @@ identifier_number bits at before behind there first second =
 -- the bits of that number are the identifier's
 pub identifier_bits-of : (rest : List Bool) (number : ℕ) → 114 ≤ length rest → number ≡ field_of (identifier_bits rest) → bits_of 64 number ≡ identifier_bits rest
 identifier_bits-of rest number long is = ap₂ bits_of (sym (length-identifier_bits rest long)) is ∙ bits_of-field_of (identifier_bits rest)
-
--- the first 63 of 64 bits
-first_63 : (number : ℕ) → take 63 (bits_of 64 number) ≡ bits_of 63 (number / 2)
-first_63 number =
-    ap (take 63) (bits_of-add 63 1 number) ∙ take_at (bits_of 63 (number / 2 ^ 1)) (bits_of 1 number) 63 (length-bits_of 63 (number / 2 ^ 1))
-
-number_63 : (number : ℕ) → number < 2 ^ 64 → field_of (take 63 (bits_of 64 number)) ≡ number / 2
-number_63 number below =
-    let small : number / 2 < 2 ^ 63 = omega arith in
-    ap field_of (first_63 number) ∙ field_of-bits_of 63 (number / 2) ∙ mod-eq_of_lt small
-
-pub length_63 : (number : ℕ) → length (take 63 (bits_of 64 number)) ≡ 63
-length_63 number = ap length (first_63 number) ∙ length-bits_of 63 (number / 2)
-
--- the weight of the exclusive or without the last bit is the distance of the first 63 bits
-pub weight-distance : (a b : ℕ) → a < 2 ^ 64 → b < 2 ^ 64 → count_ones (bit_xor a b / 2) ≡ distance_of (take 63 (bits_of 64 a)) (take 63 (bits_of 64 b))
-weight-distance a b first second =
-    ap count_ones (xor_shr a b 1 ∙ ap₂ bit_xor (sym (number_63 a first)) (sym (number_63 b second)))
-    ∙ ones-xor (take 63 (bits_of 64 a)) (take 63 (bits_of 64 b)) (length_63 a ∙ sym (length_63 b))
 
 -- the bits of a window's number are the window
 pub window_bits : (bits : List Bool) (at window : ℕ) → at + 48 ≤ length bits → window ≡ field_of (part at 48 bits) → bits_of 48 window ≡ take 48 (drop at bits)

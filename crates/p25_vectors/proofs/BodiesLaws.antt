@@ -19,7 +19,7 @@ use Rattle.p25_units.specs.declared.unit.Body.TheVariants.{Voice, Packet}
 use Rattle.p25_vectors.specs.Draws.{state_after, octets_drawn}
 use Rattle.p25_vectors.specs.Bodies.{link_of, sync_of, voice_frame_of, voice_drawn, head_of, blocks_drawn, block_of, slots_drawn, body_next}
 use Rattle.p25_vectors.specs.declared.kind.Kind.{Kind}
-use Rattle.p25_vectors.specs.declared.kind.Kind.TheVariants.{End, Header, EndLink, Link1, Link2, Confirmed, Plain, Response}
+use Rattle.p25_vectors.specs.declared.kind.Kind.TheVariants.{Link1, Link2, Confirmed, Plain, Response}
 use Rattle.p25_vectors.proofs.DrawsLaws.{state_after-add}
 
 -- Lists of drawn things.
@@ -70,11 +70,8 @@ ldu2-drawn state first second last sync low voice a b c d e f = (cc, cc)
 
 pub head_of-blocks : (first second blocks ninth : ℕ) (llid : List ℕ) → length llid ≡ 3 → blocks < 128 → head_blocks (head_of first second llid blocks ninth) ≡ blocks
 unfolding head_blocks
-head_of-blocks first second blocks ninth [] long few = absurd (omega arith)
-head_of-blocks first second blocks ninth (a ∷ []) long few = absurd (omega arith)
-head_of-blocks first second blocks ninth (a ∷ b ∷ []) long few = absurd (omega arith)
 head_of-blocks first second blocks ninth (a ∷ b ∷ c ∷ []) long few = omega arith
-head_of-blocks first second blocks ninth (a ∷ b ∷ c ∷ d ∷ llid) long few = absurd (omega arith)
+head_of-blocks first second blocks ninth llid long few = absurd (omega arith)
 
 pub head_of-format : (first second blocks ninth : ℕ) (llid : List ℕ) → head_format (head_of first second llid blocks ninth) ≡ first % 32
 unfolding head_format
@@ -138,11 +135,5 @@ slots-good count state = record { at = good }
 
 pub body_next-whole : (kind : Kind) (state : ℕ) → IsWholeBody (body_next kind state).0
 unfolding body_next IsWholeBody IsWholePacket
-body_next-whole End state = tt
-body_next-whole Header state = tt
-body_next-whole EndLink state = tt
-body_next-whole Link1 state = tt
-body_next-whole Link2 state = tt
 body_next-whole Confirmed state = slots-good (blocks_drawn state) (state_after 3 (state_after 1 state))
-body_next-whole Plain state = tt
-body_next-whole Response state = tt
+body_next-whole kind state = tt

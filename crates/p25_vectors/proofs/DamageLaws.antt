@@ -12,16 +12,14 @@ use Rattle.p25_vectors.specs.Damage.{inverted, damaged}
 -- One bit inverted.
 
 drop-flipped : (from : ℕ) (bits : List Bool) (place : ℕ) → place < from → drop from (flipped bits place) ≡ drop from bits
-drop-flipped from [] place h = refl
 drop-flipped zero (bit ∷ bits) place h = absurd (omega arith)
-drop-flipped (suc from) (bit ∷ bits) zero h = refl
 drop-flipped (suc from) (bit ∷ bits) (suc place) h = drop-flipped from bits place (omega arith)
+drop-flipped from bits place h = refl
 
 take-flipped : (until : ℕ) (bits : List Bool) (place : ℕ) → until ≤ place → take until (flipped bits place) ≡ take until bits
-take-flipped zero bits place h = refl
-take-flipped (suc until) [] place h = refl
 take-flipped (suc until) (bit ∷ bits) zero h = absurd (omega arith)
 take-flipped (suc until) (bit ∷ bits) (suc place) h = ap (λ xs. bit ∷ xs) (take-flipped until bits place (omega arith))
+take-flipped until bits place h = refl
 
 -- Some bits inverted.
 
@@ -125,26 +123,19 @@ AreApart-rising from ((at, size) ∷ words) test =
 -- damage keeps the number of bits
 pub length-damaged : (words : List (ℕ × ℕ)) (counts : List ℕ) (bits : List Bool) → length (damaged words counts bits) ≡ length bits
 unfolding damaged
-length-damaged [] counts bits = refl
-length-damaged (word ∷ words) [] bits = refl
 length-damaged (word ∷ words) (count ∷ counts) bits = length-damaged words counts (inverted word.0 count bits) ∙ length-inverted word.0 count bits
+length-damaged words counts bits = refl
 
 pub damaged-append : (words more : List (ℕ × ℕ)) (counts others : List ℕ) (bits : List Bool) → length counts ≡ length words
     → damaged (words ++ more) (counts ++ others) bits ≡ damaged more others (damaged words counts bits)
 unfolding damaged
 damaged-append [] more [] others bits e = refl
-damaged-append [] more (count ∷ counts) others bits e = absurd (omega arith)
-damaged-append (word ∷ words) more [] others bits e = absurd (omega arith)
 damaged-append (word ∷ words) more (count ∷ counts) others bits e = damaged-append words more counts others (inverted word.0 count bits) (omega arith)
+damaged-append words more counts others bits e = absurd (omega arith)
 
 pub damaged-none : (counts : List ℕ) (bits : List Bool) → damaged [] counts bits ≡ bits
 unfolding damaged
 damaged-none counts bits = refl
-
-pub damaged-cons : (word : ℕ × ℕ) (words : List (ℕ × ℕ)) (count : ℕ) (counts : List ℕ) (bits : List Bool)
-    → damaged (word ∷ words) (count ∷ counts) bits ≡ damaged words counts (inverted word.0 count bits)
-unfolding damaged
-damaged-cons word words count counts bits = refl
 
 pub damaged-one : (word : ℕ × ℕ) (count : ℕ) (bits : List Bool) → damaged (word ∷ []) (count ∷ []) bits ≡ inverted word.0 count bits
 unfolding damaged
@@ -155,8 +146,6 @@ pub part-damaged : (words : List (ℕ × ℕ)) (counts : List ℕ) (bits : List 
     → ((k : ℕ) → k < length words → ((get_or words k no_word).0 + (get_or words k no_word).1 ≤ from) ⊎ (from + size ≤ (get_or words k no_word).0))
     → part from size (damaged words counts bits) ≡ part from size bits
 unfolding damaged AreCounts
-part-damaged [] counts bits from size fit outside = refl
-part-damaged (word ∷ words) [] bits from size fit outside = refl
 part-damaged (word ∷ words) (count ∷ counts) bits from size fit outside =
     part-damaged words counts (inverted word.0 count bits) from size fit.1 (λ k h. outside (suc k) (omega arith))
     ∙ part-inverted word.0 count from size bits (first (outside 0 (omega arith)))
@@ -164,6 +153,7 @@ part-damaged (word ∷ words) (count ∷ counts) bits from size fit outside =
     first : (word.0 + word.1 ≤ from) ⊎ (from + size ≤ word.0) → (word.0 + count ≤ from) ⊎ (from + size ≤ word.0)
     first (inl behind) = inl (omega (arith, behind, fit.0))
     first (inr before) = inr before
+part-damaged words counts bits from size fit outside = refl
 
 -- and each word differs in no more bits than are inverted of it
 pub distance-damaged : (from : ℕ) (words : List (ℕ × ℕ)) (counts : List ℕ) (bits : List Bool) (i : ℕ) → AreApart from words → AreCounts words counts → i < length words
@@ -193,13 +183,11 @@ distance-damaged from (word ∷ words) (count ∷ counts) bits (suc i) apart fit
 pub AreCounts-append : (words more : List (ℕ × ℕ)) (counts others : List ℕ) → AreCounts words counts → AreCounts more others → AreCounts (words ++ more) (counts ++ others)
 unfolding AreCounts
 AreCounts-append [] more [] others first second = second
-AreCounts-append [] more (count ∷ counts) others first second = absurd first
-AreCounts-append (word ∷ words) more [] others first second = absurd first
 AreCounts-append (word ∷ words) more (count ∷ counts) others first second = (first.0, AreCounts-append words more counts others first.1 second)
+AreCounts-append words more counts others first second = absurd first
 
 pub AreCounts-from : (words : List (ℕ × ℕ)) (counts : List ℕ) → length counts ≡ length words → ((i : ℕ) → i < length words → get_or counts i 0 ≤ (get_or words i no_word).1) → AreCounts words counts
 unfolding AreCounts
 AreCounts-from [] [] e each = tt
-AreCounts-from [] (count ∷ counts) e each = absurd (omega arith)
-AreCounts-from (word ∷ words) [] e each = absurd (omega arith)
 AreCounts-from (word ∷ words) (count ∷ counts) e each = (each 0 (omega arith), AreCounts-from words counts (omega arith) (λ i h. each (suc i) (omega arith)))
+AreCounts-from words counts e each = absurd (omega arith)

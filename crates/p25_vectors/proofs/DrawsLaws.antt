@@ -1,7 +1,7 @@
 -- Draws after draws: counts of draws add up.
-use Rattle.std.proofs.Common.{◌≡◌, ℕ, zero, suc, ◌+◌, ◌%◌, ◌/◌, [], ◌∷◌, ◌++◌, length, refl, ap, sym, ◌∙◌, arith}
+use Rattle.std.proofs.Common.{◌≡◌, ℕ, zero, suc, ◌+◌, ◌%◌, [], ◌∷◌, ◌++◌, refl, ap, sym, ◌∙◌, arith}
 use Rattle.p25_bits.specs.Numbers.{each_below}
-use Rattle.p25_bits.proofs.NumbersLaws.{length-each_below, each_below-more, each_below-zero}
+use Rattle.p25_bits.proofs.NumbersLaws.{each_below-more, each_below-zero}
 use Rattle.p25_vectors.specs.Draws.{state_behind, state_after, draw, octets_drawn}
 
 pub state_after-none : (state : ℕ) → state_after 0 state ≡ state
@@ -20,25 +20,7 @@ pub draw-after : (first state : ℕ) → draw 0 (state_after first state) ≡ dr
 unfolding draw state_after
 draw-after first state = refl
 
-pub draw-add : (first more state : ℕ) → draw more (state_after first state) ≡ draw (first + more) state
-unfolding draw
-draw-add first more state =
-    let e : first + suc more ≡ suc (first + more) = omega arith in
-    ap (λ s. s / 65536) (state_after-add first (suc more) state ∙ ap (λ n. state_after n state) e)
-
--- one draw
-pub draw-one : (state next : ℕ) → next ≡ state_after 1 state → next / 65536 ≡ draw 0 state
-unfolding draw state_after
-draw-one state next is = ap (λ s. s / 65536) is
-
-pub state_after-one : (state : ℕ) → state_after 1 state ≡ state_behind state
-unfolding state_after
-state_after-one state = refl
-
 -- octets drawn
-pub length-octets_drawn : (count state : ℕ) → length (octets_drawn count state) ≡ count
-unfolding octets_drawn
-length-octets_drawn count state = length-each_below count (λ k. draw k state % 256)
 
 pub octets_drawn-none : (state : ℕ) → octets_drawn 0 state ≡ []
 unfolding octets_drawn

@@ -1,6 +1,6 @@
 -- Damaged sample units lie within radius of their frames and read as them: what is damaged lies in words that are read by their codes,
 -- so the voice frames and the status symbols come as they were sent.
-use Rattle.std.proofs.Common.{◌≡◌, ℕ, zero, suc, ◌+◌, ◌*◌, ◌/◌, ◌%◌, ◌<◌, ◌≤◌, ◌⊎◌, inl, inr, ◌&&◌, ◌||◌, Bool, true, nat_le, List, [], ◌∷◌, ◌++◌, length, take, drop, map, replicate, sum, Ok, refl, ap, ap₂, sym, subst, ◌∙◌, arith, length-drop}
+use Rattle.std.proofs.Common.{◌≡◌, ℕ, zero, suc, ◌+◌, ◌*◌, ◌/◌, ◌%◌, ◌<◌, ◌≤◌, ◌⊎◌, inl, inr, ◌&&◌, ◌||◌, Bool, true, nat_le, List, [], ◌∷◌, ◌++◌, length, take, drop, map, replicate, sum, Ok, refl, ap, ap₂, sym, subst, ◌∙◌, arith, length-drop, get_or}
 use Rattle.std.specs.List.{list_all}
 use Rattle.std.proofs.lemmas.Bool.{and_parts, or_cases, leb-true}
 use Rattle.std.proofs.lemmas.List.{length-replicate, length-take-le, take_at, drop_at, take-take, append-nil}
@@ -17,7 +17,7 @@ use Rattle.p25_unit_front.specs.Front.{front_of, identifier_bits}
 use Rattle.p25_unit_front.proofs.FrontLaws.{front_of-bare_of}
 use Rattle.p25_voice_units.specs.declared.voice.VoiceFrame.{VoiceFrame}
 use Rattle.p25_voice_units.specs.declared.unit.VoiceUnit.{VoiceUnit}
-use Rattle.p25_voice_units.specs.declared.unit.VoiceUnit.TheVariants.{Header, Link1, Link2, End, EndLink}
+use Rattle.p25_voice_units.specs.declared.unit.VoiceUnit.TheVariants.{Link1, Link2}
 use Rattle.p25_voice_units.specs.FieldLayouts.{word_places}
 use Rattle.p25_voice_units.specs.Fixes.{wide, voice_looked, link_looked}
 use Rattle.p25_voice_units.specs.Images.{voice_image_of}
@@ -51,7 +51,6 @@ use Rattle.p25_vectors.specs.declared.kind.Kind.{Kind}
 use Rattle.p25_vectors.proofs.BodiesLaws.{body_next-whole}
 use Rattle.p25_vectors.proofs.DamageLaws.{no_word, AreCounts, length-damaged, part-damaged}
 use Rattle.p25_vectors.proofs.WithinLaws.{IsNearAt, voice-within, packet-within, words-fit, damaged-near, sync-near, identifier-near, body-near}
-use Rattle.std.proofs.Common.{get_or}
 
 -- Voice frames.
 
@@ -128,7 +127,6 @@ link-same voice state sent is long =
 received-same : (nac : ℕ) (body : Body) (state : ℕ) → IsSendableBody body
     → received_body body (damaged (damaged_words body) (damage_counts body state) (body_image_of nac body)) ≡ body
 unfolding IsSendableBody voice_looked
-received-same nac (Voice (Header word)) state sendable = refl
 received-same nac (Voice (Link1 link low voice)) state sendable =
     let unit = Link1 link low voice in
     let sent = voice_image_of nac unit in
@@ -139,9 +137,7 @@ received-same nac (Voice (Link2 sync low voice)) state sendable =
     let sent = voice_image_of nac unit in
     let same = link-same unit state sent refl (long-link nac unit sendable (link_long unit (inr refl))) in
     ap (λ (v : List VoiceFrame). Voice (Link2 sync low v)) same ∙ ap Voice (received_itself nac unit sent sendable (IsVoiceImage-same nac unit sendable))
-received-same nac (Voice End) state sendable = refl
-received-same nac (Voice (EndLink link)) state sendable = refl
-received-same nac (Packet packet) state sendable = refl
+received-same nac body state sendable = refl
 
 body-within : (nac : ℕ) (body : Body) (state : ℕ) (received : List Bool) → IsSendableBody body → length received ≡ length (body_image_of nac body)
     → IsNearAt (body_looked body) (body_counts body state) (body_image_of nac body) received → IsBodyWithin body (body_image_of nac body) received

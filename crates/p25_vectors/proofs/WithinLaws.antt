@@ -58,10 +58,9 @@ IsNearAt-first words more counts others sent received e is = record { near = nea
 IsNearAt-second : (words more : List (ℕ × ℕ)) (counts others : List ℕ) (sent received : List Bool) → length counts ≡ length words
     → IsNearAt (words ++ more) (counts ++ others) sent received → IsNearAt more others sent received
 IsNearAt-second [] more [] others sent received e is = is
-IsNearAt-second [] more (count ∷ counts) others sent received e is = absurd (omega arith)
-IsNearAt-second (word ∷ words) more [] others sent received e is = absurd (omega arith)
 IsNearAt-second (word ∷ words) more (count ∷ counts) others sent received e is =
     IsNearAt-second words more counts others sent received (omega arith) (record { near = λ i h. is.near (suc i) (omega arith) })
+IsNearAt-second words more counts others sent received e is = absurd (omega arith)
 
 IsNearAt-tail : (word : ℕ × ℕ) (words : List (ℕ × ℕ)) (count : ℕ) (counts : List ℕ) (sent received : List Bool)
     → IsNearAt (word ∷ words) (count ∷ counts) sent received → IsNearAt words counts sent received
@@ -228,13 +227,12 @@ blocks-apart n = record { behind = behind; apart = apart }
 body-apart : (body : Body) → AreApart 111 (body_looked body)
 unfolding voice_looked link_looked packet_looked wide word_places places_from low_places rising
 body-apart (Voice (Header word)) = AreApart-rising 111 (wide 18 (word_places 18 hdu_rows)) refl
-body-apart (Voice (Link1 link low voice)) = AreApart-rising 111 link_looked refl
-body-apart (Voice (Link2 sync low voice)) = AreApart-rising 111 link_looked refl
 body-apart (Voice End) = AreApart-none 111
 body-apart (Voice (EndLink link)) = AreApart-rising 111 (wide 24 (word_places 24 tdulc_rows)) refl
 body-apart (Packet packet) =
     let n = head_blocks (packet_head packet) in
     AreApart-cons 111 112 196 (each_below n (λ j. (308 + 196 * j, 196))) (omega arith) (blocks-apart n)
+body-apart body = AreApart-rising 111 link_looked refl
 
 words-apart : (body : Body) → AreApart 0 (damaged_words body)
 unfolding damaged_words

@@ -17,12 +17,11 @@ use Rattle.p25_word_calls.proofs.AnswerSteps.{IsChange, change_answer, change_wo
 -- symbols with the same numbers are the same
 pub same_from_numbers : (xs ys : List Sym) → map number xs ≡ map number ys → xs ≡ ys
 same_from_numbers [] [] same = refl
-same_from_numbers [] (y ∷ ys) same = cc
-same_from_numbers (x ∷ xs) [] same = cc
 same_from_numbers (x ∷ xs) (y ∷ ys) same =
     let first : number x ≡ number y = cc in
     let rest : map number xs ≡ map number ys = cc in
     ap₂ (λ (s : Sym) (ss : List Sym). s ∷ ss) (same_symbol x y first) (same_from_numbers xs ys rest)
+same_from_numbers xs ys same = cc
 
 -- octets that name symbols are below 64
 pub below_from_named : (symbols : List Sym) (octets : List ℕ) → map number symbols ≡ octets → All (λ octet. octet < 64) octets

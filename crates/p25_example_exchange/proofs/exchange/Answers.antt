@@ -1,7 +1,7 @@
-use Rattle.std.proofs.Common.{◌≡◌, ℕ, List, [], ◌∷◌, ap, sym, subst, ◌∙◌}
-use Rattle.p25_stations.specs.declared.step.Event.TheVariants.{Send, ToReceiver, ToSender}
+use Rattle.std.proofs.Common.{◌≡◌, ℕ, List, ◌∷◌, ap, sym, subst, ◌∙◌}
+use Rattle.p25_stations.specs.declared.step.Event.TheVariants.{ToReceiver, ToSender}
 use Rattle.p25_stations.specs.declared.step.Step.{Step}
-use Rattle.p25_stations.specs.WorldState.{WorldState, first_world}
+use Rattle.p25_stations.specs.WorldState.{WorldState}
 use Rattle.p25_stations.specs.Steps.{world_step}
 use Rattle.p25_stations.specs.Runs.{steps_of, world_run}
 use Rattle.p25_example_exchange.specs.Exchanges.{events_of}

@@ -1,4 +1,4 @@
-use Rattle.std.proofs.Common.{◌≡◌, ◌+◌, ◌-◌, ◌*◌, ◌≤◌, List, length, take, drop, ap, ◌∙◌, arith, length-append, length-take, length-drop}
+use Rattle.std.proofs.Common.{◌+◌, ◌-◌, ◌≤◌, length, take, drop, ap, ◌∙◌, arith, length-append, length-take, length-drop}
 use Rattle.p25_bits.specs.Bits.{octet_bits}
 use Rattle.p25_bits.proofs.BitsLaws.{length-octet_bits}
 use Rattle.p25_stream.specs.Scan.{Scan}

@@ -35,7 +35,6 @@ returns-clause-word c =
     let small : nid.duid < 16 = omega (arith, nid.duid_fits) in
     IsEncoding-from_sent nid.nac nid.duid _ small (sent_of c)
 
--- and it is read as that
 pub returns-clause-read : goal.returns-clause-read
 returns-clause-read c =
     let nid = c.args.nid.now in

@@ -1,4 +1,4 @@
-use Rattle.std.proofs.Common.{◌≡◌, ◌+◌, ℕ, List, [], ◌++◌, refl, ◌∙◌, arith}
+use Rattle.std.proofs.Common.{◌≡◌, List, arith}
 use Rattle.p25_duplex.specs.declared.side.Side.{Side}
 use Rattle.p25_duplex.specs.declared.side.Side.TheVariants.{A, B}
 use Rattle.p25_duplex.specs.declared.event.DuplexEvent.{DuplexEvent}
@@ -21,11 +21,9 @@ from-first-acknowledged : (side : Side) (events : List DuplexEvent) → (station
 from-first-acknowledged A events = omega (arith, run-acknowledged A events first_duplex)
 from-first-acknowledged B events = omega (arith, run-acknowledged B events first_duplex)
 
-pub returns-clause-delivered : goal.returns-clause-delivered
-returns-clause-delivered c events side = from-first-heard (other_side side) events
-
-pub returns-clause-sent : goal.returns-clause-sent
-returns-clause-sent c events side = from-first-sent side events
-
-pub returns-clause-acknowledged : goal.returns-clause-acknowledged
-returns-clause-acknowledged c events side = from-first-acknowledged side events
+pub returns : goal.returns
+returns c = record {
+  delivered = λ events side. from-first-heard (other_side side) events;
+  sent = λ events side. from-first-sent side events;
+  acknowledged = λ events side. from-first-acknowledged side events;
+}

@@ -1,14 +1,9 @@
-use Rattle.std.proofs.Common.{◌≡◌, ℕ, ◌+◌, ◌-◌, List, ◌++◌, length, take, drop, arith, ap, sym, subst, ◌∙◌, length-drop}
+use Rattle.std.proofs.Common.{◌-◌, arith, sym, subst, length-drop}
 use Rattle.std.proofs.lemmas.List.{take_rest}
-use Rattle.std.proofs.Math.Seq.{take-add}
 use Rattle.std.proofs.KnownBytes.{Appends-trans}
 use Rattle.std.specs.Io.KnownBytes.{Appends}
+use Rattle.p25_io.proofs.StreamsSteps.{take-done_next}
 use Rattle.p25_io.proofs.write_sink.write_whole.Goals as goal
-
--- the octets that are done and the next ones, of those that are left
-take-done_next : (piece : List ℕ) (done count : ℕ) → take (done + count) piece ≡ take done piece ++ take count (take (length piece - done) (drop done piece))
-take-done_next piece done count =
-    take-add done count piece ∙ ap (λ rest. take done piece ++ take count rest) (sym (take_rest piece done))
 
 pub loop-done-preserved : goal.loop-done-preserved
 loop-done-preserved g c =

@@ -52,24 +52,16 @@ loop-filled-preserved c =
           c.hear.ensures.quiet open_group ∙ inv.same c.loop-filled-test.true;
     }
 
-pub returns-clause-list : goal.returns-clause-list
+pub returns : goal.returns
 unfolding filled
-returns-clause-list c =
-    let levels = c.args.levels.now in
-    let all : c.loop-filled._filled ≡ (4 - length levels % 4) % 4 = omega (arith, c.len.ensures) in
-    c.loop-filled.invariant.list ∙ ap (λ n. levels ++ replicate n (pos 32)) all
-
-pub returns-clause-full : goal.returns-clause-full
-returns-clause-full c = omega (arith, c.loop-filled.invariant.len, c.len.ensures)
-
-pub returns-clause-few : goal.returns-clause-few
-returns-clause-few c = omega (arith, c.loop-filled.invariant.len, c.len.ensures)
-
-pub returns-clause-holding : goal.returns-clause-holding
-returns-clause-holding c = c.loop-filled.invariant.holding
-
-pub returns-clause-place : goal.returns-clause-place
-returns-clause-place c = c.loop-filled.invariant.place
-
-pub returns-clause-going : goal.returns-clause-going
-returns-clause-going c = c.loop-filled.invariant.going
+returns c = record {
+  list =
+      let levels = c.args.levels.now in
+      let all : c.loop-filled._filled ≡ (4 - length levels % 4) % 4 = omega (arith, c.len.ensures) in
+      c.loop-filled.invariant.list ∙ ap (λ n. levels ++ replicate n (pos 32)) all;
+  full = omega (arith, c.loop-filled.invariant.len, c.len.ensures);
+  few = omega (arith, c.loop-filled.invariant.len, c.len.ensures);
+  holding = c.loop-filled.invariant.holding;
+  place = c.loop-filled.invariant.place;
+  going = c.loop-filled.invariant.going;
+}

@@ -42,8 +42,5 @@ whole c =
     c.key_of-key.ensures (omega arith) c.fill_front.ensures c.degree_bound.result c.multiply_by_erasures-2.new.polynomial c.loop-i.evaluator c.loop-i.i (omega arith) (omega arith)
     c.degree_bound.ensures.some c.degree_bound.ensures.short c.degree_bound.ensures.least c.multiply_by_erasures-2.ensures c.loop-i.invariant
 
-pub returns-clause-locator : goal.returns-clause-locator
-returns-clause-locator c = (whole c).0
-
-pub returns-clause-most : goal.returns-clause-most
-returns-clause-most c = omega (arith, (whole c).1, c.count_erasures-erasures.ensures.count, c.requires.erasures)
+pub returns : goal.returns
+returns c = record { locator = (whole c).0; most = omega (arith, (whole c).1, c.count_erasures-erasures.ensures.count, c.requires.erasures) }

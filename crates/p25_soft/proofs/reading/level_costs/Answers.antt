@@ -25,15 +25,13 @@ loop-entry-preserved c =
           c.point_cost.ensures.low;
     }
 
-pub returns-clause-costs : goal.returns-clause-costs
-returns-clause-costs c =
-    IsPointTable-from c.args.levels.now c.sent_places-places.result c.loop-entry.costs c.sent_places-places.ensures.len c.sent_places-places.ensures.in_order
-    (λ k below. let there : k < c.loop-entry.entry = omega arith in (c.loop-entry.invariant.so_far k there).0)
-
-pub returns-clause-low : goal.returns-clause-low
-returns-clause-low c =
-    All-from_get_or (λ (cost : ℕ). cost ≤ 2 ^ 24) c.loop-entry.costs 0
-    (λ k inside. let there : k < c.loop-entry.entry = omega (arith, c.loop-entry.invariant.long) in (c.loop-entry.invariant.so_far k there).1)
-
-pub returns-clause-len : goal.returns-clause-len
-returns-clause-len c = c.loop-entry.invariant.long
+pub returns : goal.returns
+returns c = record {
+  costs =
+      IsPointTable-from c.args.levels.now c.sent_places-places.result c.loop-entry.costs c.sent_places-places.ensures.len c.sent_places-places.ensures.in_order
+      (λ k below. let there : k < c.loop-entry.entry = omega arith in (c.loop-entry.invariant.so_far k there).0);
+  low =
+      All-from_get_or (λ (cost : ℕ). cost ≤ 2 ^ 24) c.loop-entry.costs 0
+      (λ k inside. let there : k < c.loop-entry.entry = omega (arith, c.loop-entry.invariant.long) in (c.loop-entry.invariant.so_far k there).1);
+  len = c.loop-entry.invariant.long;
+}

@@ -1,5 +1,4 @@
-use Rattle.std.proofs.Common.{◌≡◌, List, Bool, subst, sym, ap, ◌∙◌}
-use Rattle.p25_bits.specs.Bits.{part}
+use Rattle.std.proofs.Common.{subst, sym, ap, ◌∙◌}
 use Rattle.p25_bits.proofs.PartLaws.{part_whole}
 use Rattle.p25_units.specs.Items.{unit_item_of}
 use Rattle.p25_units.specs.declared.item.Item.{Item}

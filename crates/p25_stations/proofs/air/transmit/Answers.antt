@@ -6,11 +6,11 @@ use Rattle.p25_packet_blocks.specs.Heads.{head_blocks}
 use Rattle.p25_packet_blocks.specs.Whole.{packet_head}
 use Rattle.p25_packet_blocks.specs.Lengths.{packet_parts}
 use Rattle.p25_stations.specs.Air.{station_status, transmission_of}
-use Rattle.p25_delivery.proofs.HeadLaws.{blocks-few}
+use Rattle.p25_packet_blocks.proofs.HeadLaws.{head_blocks-lt}
 use Rattle.p25_stations.proofs.air.transmit.Goals as goal
 
 pub filled-statuses-requires : goal.filled-statuses-requires
-filled-statuses-requires c = omega (arith, blocks-few (packet_head c.args.packet.now), c.packet_image.ensures.len, c.len.ensures.value)
+filled-statuses-requires c = omega (arith, head_blocks-lt (packet_head c.args.packet.now), c.packet_image.ensures.len, c.len.ensures.value)
 
 pub returns-clause-bits : goal.returns-clause-bits
 unfolding transmission_of

@@ -1,4 +1,4 @@
-use Rattle.std.proofs.Common.{◌≡◌, List, ◌++◌, ap, sym, subst, ◌∙◌}
+use Rattle.std.proofs.Common.{List, ◌++◌, ap, sym, subst, ◌∙◌}
 use Rattle.p25_io.specs.Events.{Event}
 use Rattle.p25_tool.specs.CallRuns.{IsCallRun}
 use Rattle.p25_tool.specs.Words.{command_of}

@@ -1,5 +1,5 @@
 use Rattle.std.proofs.Common.{◌≡◌, ◌≤◌, ℕ, List, [], ◌∷◌, length, ap, subst, ◌∙◌}
-use Rattle.p25_io.specs.Events.{Event, Wrote, WriteFailed}
+use Rattle.p25_io.specs.Events.{Wrote, WriteFailed}
 use Rattle.p25_tool.specs.Outputs.{sample_line}
 use Rattle.p25_tool.proofs.SamplingLaws.{sample-failed, sample-wrote}
 use Rattle.p25_tool.proofs.sampling.run_sample.Goals as goal

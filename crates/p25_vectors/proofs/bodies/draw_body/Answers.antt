@@ -5,13 +5,9 @@ use Rattle.p25_vectors.specs.Bodies.{body_next}
 use Rattle.p25_vectors.proofs.BodiesLaws.{ldu1-drawn, ldu2-drawn}
 use Rattle.p25_vectors.proofs.bodies.draw_body.Goals as goal
 
-pub returns-in-End-clause-body : goal.returns-in-End-clause-body
+pub returns-in-End : goal.returns-in-End
 unfolding body_next
-returns-in-End-clause-body c = sym (ap (λ k. (body_next k c.args.draws.now).0) c.in-End.is)
-
-pub returns-in-End-clause-state : goal.returns-in-End-clause-state
-unfolding body_next
-returns-in-End-clause-state c = sym (ap (λ k. (body_next k c.args.draws.now).1) c.in-End.is)
+returns-in-End c = record { body = sym (ap (λ k. (body_next k c.args.draws.now).0) c.in-End.is); state = sym (ap (λ k. (body_next k c.args.draws.now).1) c.in-End.is) }
 
 pub returns-in-Header-clause-body : goal.returns-in-Header-clause-body
 unfolding body_next

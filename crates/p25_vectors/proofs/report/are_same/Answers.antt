@@ -1,5 +1,4 @@
-use Rattle.std.proofs.Common.{◌≡◌, List, length, Bool, ap, sym, ◌∙◌, arith}
-use Rattle.std.proofs.Common.{true, Result, Ok, nat_eq}
+use Rattle.std.proofs.Common.{◌≡◌, List, length, Bool, ap, sym, ◌∙◌, arith, true, Result, Ok, nat_eq}
 use Rattle.p25_status.specs.declared.fields.Field.{Field}
 use Rattle.std.proofs.lemmas.Bool.Decides.{nat_tests}
 use Rattle.p25_bits.specs.Distance.{distance_of}

@@ -5,7 +5,7 @@ use Rattle.p25_packet_blocks.specs.Sendable.{IsSendable}
 use Rattle.p25_delivery.specs.Halves.{Sending, Outgoing}
 use Rattle.p25_delivery.specs.SenderRules.{timed_out}
 use Rattle.p25_messages.specs.declared.answers.Resend.{Resend}
-use Rattle.p25_messages.specs.declared.answers.Resend.TheVariants.{Sent, Idle, Down}
+use Rattle.p25_messages.specs.declared.answers.Resend.TheVariants.{Sent}
 use Rattle.p25_messages.specs.declared.step_kind.StepKind.{StepKind}
 use Rattle.p25_delivery.specs.SoundHalves.{outgoing_of, IsOutgoing}
 use Rattle.p25_delivery.specs.HalfRules.{after_timeout}
@@ -17,8 +17,7 @@ use Rattle.p25_delivery.proofs.outbound.Outbound.time_out.Goals.{in-Sent, in-Idl
 keeps : (o : Outgoing) (x : Sending × Resend) → KeepsOutgoing (after_timeout o x) → IsOutgoing (record o { sender = x.0 })
 unfolding after_timeout
 keeps o (s, Sent number tries packet) kept = kept.0
-keeps o (s, Idle) kept = kept.0
-keeps o (s, Down) kept = kept.0
+keeps o x kept = kept.0
 
 pub invariant_of-self : goal.invariant_of-self
 invariant_of-self c =

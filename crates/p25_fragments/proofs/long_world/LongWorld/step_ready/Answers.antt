@@ -1,4 +1,4 @@
-use Rattle.std.proofs.Common.{◌≡◌, Bool, ◌||◌, ap, ◌∙◌}
+use Rattle.std.proofs.Common.{Bool, ◌||◌, ap, ◌∙◌}
 use Rattle.p25_fragments.proofs.LongHistoryLaws.{history-next}
 use Rattle.p25_fragments.proofs.long_world.LongWorld.step_ready.Goals as goal
 

@@ -1,5 +1,4 @@
 use Rattle.p25_golay.proofs.Golay18Steps.{wrong_inside, wrong_outside, wrong_nowhere}
-use Rattle.std.proofs.Common.{◌≤◌, ◌^◌, arith}
 use Rattle.p25_golay.proofs.golay18.Golay18CheckedCode.wrong_bits.Goals as goal
 
 pub returns-in_err-wrong : goal.returns-in_err-wrong

@@ -1,4 +1,4 @@
-use Rattle.std.proofs.Common.{◌∙◌, ap, ap₂, arith}
+use Rattle.std.proofs.Common.{◌∙◌, ap₂, arith}
 use Rattle.p25_gf64.specs.Gf64.{gf64}
 use Rattle.p25_poly.proofs.side.Side.reduce.Goals as goal
 

@@ -1,31 +1,17 @@
-use Rattle.std.proofs.Common.{◌≡◌, ◌+◌, ◌^◌, ◌<◌, [], false, length, sym, subst, arith}
-use Rattle.p25_stream.specs.Scan.{Scan, given}
+use Rattle.std.proofs.Common.{◌+◌, ◌^◌, ◌<◌, length, sym, subst, arith}
+use Rattle.p25_stream.specs.Scan.{Scan}
 use Rattle.p25_stream.proofs.ScanLaws.{drained-open, drained-few}
 use Rattle.p25_stream.proofs.scanner.Scanner.push.Goals as goal
 
 pub put_field-requires-clause-room : goal.put_field-requires-clause-room
-put_field-requires-clause-room c =
-    let inside = c.self.inside in
-    let scan : Scan = record { place = inside.place; held = inside.held; finished = inside.finished } in
-    let drained = subst (λ (s : Scan). given s ≡ []) (sym c.self.view_is) c.requires.drained in
-    let going = subst (λ (s : Scan). s.finished ≡ false) (sym c.self.view_is) c.requires.going in
-    omega (arith, drained-few inside.beginning scan drained going c.self.invariant.0)
+put_field-requires-clause-room c = omega (arith, drained-few c.self.inside.beginning _ _ c.self.view_is c.requires.drained c.requires.going c.self.invariant.0)
 
 pub settle-requires-clause-unsettled : goal.settle-requires-clause-unsettled
-settle-requires-clause-unsettled c =
-    let inside = c.self.inside in
-    let scan : Scan = record { place = inside.place; held = inside.held; finished = inside.finished } in
-    let drained = subst (λ (s : Scan). given s ≡ []) (sym c.self.view_is) c.requires.drained in
-    let going = subst (λ (s : Scan). s.finished ≡ false) (sym c.self.view_is) c.requires.going in
-    drained-open inside.beginning scan drained going c.self.invariant.0
+settle-requires-clause-unsettled c = drained-open c.self.inside.beginning _ _ c.self.view_is c.requires.drained c.requires.going c.self.invariant.0
 
 pub invariant_of-self : goal.invariant_of-self
 invariant_of-self c =
-    let inside = c.self.inside in
-    let scan : Scan = record { place = inside.place; held = inside.held; finished = inside.finished } in
-    let drained = subst (λ (s : Scan). given s ≡ []) (sym c.self.view_is) c.requires.drained in
-    let going = subst (λ (s : Scan). s.finished ≡ false) (sym c.self.view_is) c.requires.going in
-    let few = drained-few inside.beginning scan drained going c.self.invariant.0 in (
+    let few = drained-few c.self.inside.beginning _ _ c.self.view_is c.requires.drained c.requires.going c.self.invariant.0 in (
       c.settle.ensures,
       omega (arith, few, c.put_field.ensures.len),
       omega (arith, subst (λ (s : Scan). s.place + length s.held < 2 ^ 60) (sym c.self.view_is) c.requires.few, c.put_field.ensures.len),
