@@ -2,6 +2,8 @@ pub mod KindLaws
 pub mod ToldLaws
 pub mod FrontSteps
 pub mod StepLaws
+pub mod LookLaws
+pub mod LookSteps
 pub mod ChainLaws
 pub mod ChainSteps
 pub mod FollowingLaws
