@@ -28,3 +28,4 @@ pub mod RelaySteps
 pub mod BehindLaws
 pub mod RelayedLaws
 pub mod RelayedPlacesLaws
+pub mod RelayedUnitsLaws

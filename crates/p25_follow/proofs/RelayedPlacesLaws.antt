@@ -28,7 +28,7 @@ module _ (nac : ℕ) (status : Status) (nac_fits : nac < 4096) where
   unfolding relayed_by
   by-nil bits = refl
 
-  by-more : (item : Item) (items : List Item) (bits : List Bool)
+  pub by-more : (item : Item) (items : List Item) (bits : List Bool)
       → relayed_by nac status (item ∷ items) bits ≡ relayed nac status item (take (covered item) bits) ++ relayed_by nac status items (drop (covered item) bits)
   unfolding relayed_by
   by-more item items bits = refl
