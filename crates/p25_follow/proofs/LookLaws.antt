@@ -1,6 +1,6 @@
 -- What a look at a front tells, with whether its identifier reads, is what the front tells. An identifier that reads is that of a kind that may come only where the nearest of them is within 11 bits.
-use Rattle.std.proofs.Common.{◌≡◌, ℕ, ◌<◌, ◌≤◌, Bool, true, false, cond, ◌&&◌, ◌||◌, inl, inr, List, [], ◌∷◌, length, take, Option, Some, None, refl, sym, ap, ap₂, subst, ◌∙◌, arith}
-use Rattle.std.specs.Prelude.{nat_eq, nat_le, nat_lt}
+use Rattle.std.proofs.Common.{◌≡◌, ℕ, ◌<◌, ◌≤◌, Bool, true, false, ◌&&◌, ◌||◌, inl, inr, List, [], ◌∷◌, length, take, Option, Some, None, refl, sym, ap, ap₂, subst, ◌∙◌, arith}
+use Rattle.std.specs.Prelude.{nat_eq, nat_lt}
 use Rattle.std.specs.Option.{is_some}
 use Rattle.std.specs.List.{list_any}
 use Rattle.std.proofs.lemmas.Bool.{and_from, cases_Bool, cases_lt, cond-false, cond-true, eq-eqb, eqb-true, le-leb, le-ltb, lt-leb, lt-ltb, or_right}
@@ -9,7 +9,6 @@ use Rattle.p25_bch_nid.proofs.NidWordLaws.{nid_reading_of-near}
 use Rattle.p25_unit_front.specs.Front.{identifier_bits, identifier_of}
 use Rattle.p25_unit_front.proofs.FrontLaws.{identifier_of-near, identifier_of-take}
 use Rattle.p25_follow.specs.declared.told.Look.{Look}
-use Rattle.p25_follow.specs.declared.told.Told.{Told}
 use Rattle.p25_follow.specs.declared.told.Told.TheVariants.{Expected, Other, Nothing}
 use Rattle.p25_follow.specs.Expected.{expected_after, is_expected}
 use Rattle.p25_follow.specs.Looks.{is_read, told_by_look}

@@ -1,14 +1,14 @@
 -- A step, and what is sure, by a look: where a unit fits the look the identifier tells, and where nothing is told the links do.
-use Rattle.std.proofs.Common.{◌≡◌, ℕ, zero, suc, ◌+◌, ◌-◌, ◌<◌, ◌≤◌, Bool, true, false, cond, ◌&&◌, ◌||◌, inl, inr, List, [], length, drop, Option, Some, None, refl, sym, ap, ap₂, subst, ◌∙◌, arith}
+use Rattle.std.proofs.Common.{◌≡◌, ℕ, zero, suc, ◌-◌, ◌<◌, ◌≤◌, Bool, true, false, cond, ◌&&◌, ◌||◌, List, [], length, drop, Option, Some, None, refl, sym, ap, ap₂, ◌∙◌, arith}
 use Rattle.std.specs.Prelude.{nat_le, nat_lt}
 use Rattle.std.specs.Option.{is_some, option_or}
 use Rattle.std.proofs.lemmas.Bool.{le-leb, lt-leb, lt-ltb}
 use Rattle.p25_follow.specs.declared.told.Look.{Look}
 use Rattle.p25_follow.specs.declared.told.Told.{Told}
 use Rattle.p25_follow.specs.declared.told.Told.TheVariants.{Expected, Other, Nothing}
-use Rattle.p25_follow.specs.Expected.{kind_length, next_link}
+use Rattle.p25_follow.specs.Expected.{next_link}
 use Rattle.p25_follow.specs.Looks.{is_read, told_by_look}
-use Rattle.p25_follow.specs.Steps.{fits_by, fits_of, is_sure, step_of, true_of}
+use Rattle.p25_follow.specs.Steps.{fits_by, fits_of, is_end, is_sure, step_of, true_of}
 use Rattle.p25_follow.specs.Told.{is_nothing, told_of}
 use Rattle.p25_follow.proofs.StepLaws.{and_left-true, is_sure-suc, is_sure-zero}
 
@@ -56,6 +56,12 @@ and-true : (a : Bool) → (a && true) ≡ a
 and-true true = refl
 and-true false = refl
 
+-- where no bits are left the end decides
+pub sure-end : (links : ℕ) (before : ℕ × ℕ) (end : Option (ℕ × ℕ)) → is_sure links before [] end ≡ is_end before end
+unfolding is_sure
+sure-end zero before end = refl
+sure-end (suc links) before end = refl
+
 -- ---- at a place where a look was taken
 
 module _ (before : ℕ × ℕ) (bits : List Bool) (end : Option (ℕ × ℕ)) (look : Look) (some : 0 < length bits) (is : told_of before bits ≡ told_by_look look (is_read bits)) where
@@ -85,15 +91,16 @@ module _ (before : ℕ × ℕ) (bits : List Bool) (end : Option (ℕ × ℕ)) (l
       ∙ or-false (is_some (fits_of before bits))
 
   -- a unit that fits, unless its identifier reads as another
-  pub step-fit : (answer : Option ℕ) → is_some (fits_by bits look.told) ≡ true → answer ≡ fits_by bits (told_by_look look (is_read bits)) → answer ≡ step_of before bits end
-  step-fit answer test told =
+  pub step-fit : (told : Told) (answer : Option ℕ) → is_some (fits_by bits look.told) ≡ true → told ≡ told_by_look look (is_read bits) → answer ≡ fits_by bits told → answer ≡ step_of before bits end
+  step-fit told answer test is_told is_answer =
       let fit = some-from_test (fits_by bits look.told) test in
-      told ∙ sym fits-by ∙ sym (step-something (fit-something bits look.told fit.0 fit.1))
+      is_answer ∙ ap (fits_by bits) is_told ∙ sym fits-by ∙ sym (step-something (fit-something bits look.told fit.0 fit.1))
 
-  pub sure-fit : (links : ℕ) (answer : Option ℕ) → is_some (fits_by bits look.told) ≡ true → answer ≡ fits_by bits (told_by_look look (is_read bits)) → is_some answer ≡ is_sure links before bits end
-  sure-fit links answer test told =
+  pub sure-fit : (links : ℕ) (told : Told) (answer : Option ℕ) → is_some (fits_by bits look.told) ≡ true → told ≡ told_by_look look (is_read bits) → answer ≡ fits_by bits told
+      → is_some answer ≡ is_sure links before bits end
+  sure-fit links told answer test is_told is_answer =
       let fit = some-from_test (fits_by bits look.told) test in
-      ap is_some (told ∙ sym fits-by) ∙ sym (sure-something links (fit-something bits look.told fit.0 fit.1))
+      ap is_some (is_answer ∙ ap (fits_by bits) is_told ∙ sym fits-by) ∙ sym (sure-something links (fit-something bits look.told fit.0 fit.1))
 
   -- a unit that does not fit
   pub step-unfit : is_some (fits_by bits look.told) ≡ false → is_nothing look.told ≡ false → None ≡ step_of before bits end

@@ -33,6 +33,8 @@ fn put_with_front(name: &Nid, bits: &BitBuf, at: usize, count: usize, out: &mut 
     ensures list { out.new ≡ out.old ++ with_front (name_of name.now) (take count (drop at bits.now)) }
     ensures len { length out.new ≡ length out.old + count }
 {
+    // The number of bits held bounds every place below.
+    let _ = bits.len();
     let identifier = nid_bits(name);
     out.put_field(SYNC, 48);
     out.put_field(identifier >> AFTER_STATUS, 22);

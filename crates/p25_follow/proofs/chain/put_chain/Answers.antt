@@ -1,4 +1,4 @@
-use Rattle.std.proofs.Common.{◌≡◌, ℕ, Bool, List, Option, Some, None, true, false, ◌++◌, ◌||◌, length, take, drop, ap, sym, subst, ◌∙◌, refl, arith, length-drop}
+use Rattle.std.proofs.Common.{◌≡◌, ℕ, ◌-◌, Bool, List, Option, Some, None, true, false, ◌++◌, ◌||◌, length, take, drop, ap, sym, subst, ◌∙◌, arith, length-drop}
 use Rattle.std.specs.Prelude.{IfSome, nat_le}
 use Rattle.std.proofs.Math.Seq.{take-length}
 use Rattle.p25_bch_nid.specs.declared.nid.Nid.{Nid}

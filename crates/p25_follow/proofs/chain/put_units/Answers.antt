@@ -1,5 +1,5 @@
-use Rattle.std.proofs.Common.{◌≡◌, ℕ, ◌+◌, ◌-◌, ◌≤◌, Bool, List, Option, Some, None, true, false, ◌++◌, ◌||◌, length, take, drop, ap, ap₂, sym, subst, ◌∙◌, refl, arith, length-drop}
-use Rattle.std.specs.Prelude.{IfSome, nat_le}
+use Rattle.std.proofs.Common.{◌≡◌, ℕ, ◌+◌, ◌-◌, Bool, List, Option, Some, None, true, false, ◌++◌, ◌||◌, length, drop, ap, ap₂, sym, subst, ◌∙◌, refl, arith, length-drop}
+use Rattle.std.specs.Prelude.{nat_le}
 use Rattle.std.proofs.lemmas.List.{drop-drop}
 use Rattle.p25_bch_nid.specs.declared.nid.Nid.{Nid}
 use Rattle.p25_follow.specs.Chains.{chain_by}
@@ -27,9 +27,8 @@ pub returns-then-not-can_step-clause-waits : goal.returns-then-not-can_step-clau
 returns-then-not-can_step-clause-waits c =
     let rest = drop c.loop-before.at c.args.bits.now in
     let whole = c.args.whole in
-    subst (λ (o : Option Nid). IfSome o (λ _. (whole || nat_le 6912 (length rest)) ≡ false)) (sym c.in-Some.is)
-    (can-step whole c.can_step.result false (c.len.result - c.loop-before.at) rest c.can_step.ensures c.if-not-can_step.true
-    (omega (arith, c.len.ensures.value, length-drop c.loop-before.at c.args.bits.now)))
+    can-step whole c.can_step.result false (c.len.result - c.loop-before.at) rest c.can_step.ensures c.if-not-can_step.true
+    (omega (arith, c.len.ensures.value, length-drop c.loop-before.at c.args.bits.now))
 
 pub with_kind-next-requires : goal.with_kind-next-requires
 with_kind-next-requires c =
