@@ -1,5 +1,5 @@
 -- What a look at a front tells, with whether its identifier reads, is what the front tells. An identifier that reads is that of a kind that may come only where the nearest of them is within 11 bits.
-use Rattle.std.proofs.Common.{◌≡◌, ℕ, ◌<◌, ◌≤◌, Bool, true, false, ◌&&◌, ◌||◌, inl, inr, List, [], ◌∷◌, length, take, Option, Some, None, refl, sym, ap, ap₂, subst, ◌∙◌, arith}
+use Rattle.std.proofs.Common.{◌≡◌, ℕ, ◌<◌, ◌≤◌, Bool, true, false, cond, ◌&&◌, ◌||◌, inl, inr, List, [], ◌∷◌, length, take, Option, Some, None, refl, sym, ap, ap₂, subst, ◌∙◌, arith}
 use Rattle.std.specs.Prelude.{nat_eq, nat_lt}
 use Rattle.std.specs.Option.{is_some}
 use Rattle.std.specs.List.{list_any}
@@ -9,6 +9,7 @@ use Rattle.p25_bch_nid.proofs.NidWordLaws.{nid_reading_of-near}
 use Rattle.p25_unit_front.specs.Front.{identifier_bits, identifier_of}
 use Rattle.p25_unit_front.proofs.FrontLaws.{identifier_of-near, identifier_of-take}
 use Rattle.p25_follow.specs.declared.told.Look.{Look}
+use Rattle.p25_follow.specs.declared.told.Near.{Near}
 use Rattle.p25_follow.specs.declared.told.Told.TheVariants.{Expected, Other, Nothing}
 use Rattle.p25_follow.specs.Expected.{expected_after, is_expected}
 use Rattle.p25_follow.specs.Looks.{is_read, told_by_look}
@@ -124,6 +125,17 @@ name-near : (name : ℕ × ℕ) (bits : List Bool) → identifier_of bits ≡ So
 unfolding identifier_of name_errors_of
 name-near name bits is = nid_reading_of-near (identifier_bits (take 114 bits)) name (identifier_of-take 114 bits (omega arith) ∙ is)
 
+-- the nearer one of two that are known
+pub nearer-known : (nac : ℕ) (bits : List Bool) (first next near : Near) → first.wrong ≡ name_errors_of (nac, first.kind) bits → next.wrong ≡ name_errors_of (nac, next.kind) bits
+    → near ≡ cond (nat_lt next.wrong first.wrong) next first → (near.kind ≡ nearer_kind nac bits first.kind next.kind) × (near.wrong ≡ name_errors_of (nac, near.kind) bits)
+unfolding nearer_kind
+nearer-known nac bits first next near is_first is_next is =
+    (ap (λ (n : Near). n.kind) is
+    ∙ elim (nat_lt next.wrong first.wrong) as (λ (b : Bool). (cond b next first).kind ≡ cond b next.kind first.kind) [ true ↦ refl | false ↦ refl ]
+    ∙ ap₂ (λ (a b : ℕ). cond (nat_lt a b) next.kind first.kind) is_next is_first,
+    subst (λ (n : Near). n.wrong ≡ name_errors_of (nac, n.kind) bits) (sym is)
+    (elim (nat_lt next.wrong first.wrong) as (λ (b : Bool). (cond b next first).wrong ≡ name_errors_of (nac, (cond b next first).kind) bits) [ true ↦ is_next | false ↦ is_first ]))
+
 any-first : (kind : ℕ) (kinds : List ℕ) → list_any (λ next. nat_eq next kind) (kind ∷ kinds) ≡ true
 any-first kind kinds = ap (λ (b : Bool). b || list_any (λ next. nat_eq next kind) kinds) (eq-eqb kind kind refl)
 
@@ -132,9 +144,12 @@ module _ (before : ℕ × ℕ) (bits : List Bool) (look : Look) (first kind : �
     (nearest : kind ≡ nearest_kind before.0 (take 114 bits) first (0xF ∷ 0x3 ∷ [])) where
   least : Each (λ (other : ℕ). name_errors_of (before.0, kind) (take 114 bits) ≤ name_errors_of (before.0, other) (take 114 bits)) (expected_after before.1)
   least =
-      subst (λ (k : ℕ). Each (λ (other : ℕ). name_errors_of (before.0, k) (take 114 bits) ≤ name_errors_of (before.0, other) (take 114 bits)) (expected_after before.1)) (sym nearest)
-      (subst (Each (λ (other : ℕ). name_errors_of (before.0, nearest_kind before.0 (take 114 bits) first (0xF ∷ 0x3 ∷ [])) (take 114 bits) ≤ name_errors_of (before.0, other) (take 114 bits))) (sym list)
-      (nearest-first before.0 (take 114 bits) first (0xF ∷ 0x3 ∷ []), nearest-each before.0 (take 114 bits) first (0xF ∷ 0x3 ∷ [])))
+      let front = take 114 bits in
+      let kinds = 0xF ∷ 0x3 ∷ [] in
+      let all = nearest_kind before.0 front first kinds in
+      subst (λ (k : ℕ). Each (λ (other : ℕ). name_errors_of (before.0, k) front ≤ name_errors_of (before.0, other) front) (expected_after before.1)) (sym nearest)
+      (subst (Each (λ (other : ℕ). name_errors_of (before.0, all) front ≤ name_errors_of (before.0, other) front)) (sym list)
+      (nearest-first before.0 front first kinds, nearest-each before.0 front first kinds))
 
   -- the nearest is not so near that it would read
   pub look-far : 11 < name_errors_of (before.0, kind) (take 114 bits) → look.told ≡ told_near before.0 (take 114 bits) kind → look.clear ≡ false

@@ -87,7 +87,9 @@ module _ (before : ℕ × ℕ) (bits : List Bool) (end : Option (ℕ × ℕ)) (l
   sure-something zero told = is_sure-zero before bits end some
   sure-something (suc links) told =
       is_sure-suc links before bits end some
-      ∙ ap (λ (b : Bool). is_some (fits_of before bits) || (b && nat_le 1728 (length bits) && true_of (λ kind. is_sure links (before.0, kind) (drop 1728 bits) end) (next_link before.1))) (something told)
+      ∙ ap
+      (λ (b : Bool). is_some (fits_of before bits) || (b && nat_le 1728 (length bits) && true_of (λ kind. is_sure links (before.0, kind) (drop 1728 bits) end) (next_link before.1)))
+      (something told)
       ∙ or-false (is_some (fits_of before bits))
 
   -- a unit that fits, unless its identifier reads as another
@@ -153,8 +155,8 @@ module _ (before : ℕ × ℕ) (bits : List Bool) (end : Option (ℕ × ℕ)) (l
       sure-not links (unfit (none-from_test (fits_by bits look.told) test))
       (after-is links kind next later link same (is_later ∙ ap (λ (n : ℕ). is_sure n next (drop 1728 bits) end) less) ∙ ends)
 
-  pub sure-after : (links kind : ℕ) (next : ℕ × ℕ) (later : Bool) (told : Told) (answer : Bool) → 0 < links → is_some (fits_by bits look.told) ≡ false → 1728 ≤ length bits → next_link before.1 ≡ Some kind
-      → next ≡ (before.0, kind) → later ≡ is_sure (links - 1) next (drop 1728 bits) end → later ≡ true → told ≡ told_by_look look (is_read bits) → answer ≡ is_nothing told
+  pub sure-after : (links kind : ℕ) (next : ℕ × ℕ) (later : Bool) (told : Told) (answer : Bool) → 0 < links → is_some (fits_by bits look.told) ≡ false → 1728 ≤ length bits
+      → next_link before.1 ≡ Some kind → next ≡ (before.0, kind) → later ≡ is_sure (links - 1) next (drop 1728 bits) end → later ≡ true → told ≡ told_by_look look (is_read bits) → answer ≡ is_nothing told
       → answer ≡ is_sure links before bits end
   sure-after zero kind next later told answer more test long link same is_later goes is_told is_answer = absurd (omega arith)
   sure-after (suc links) kind next later told answer more test long link same is_later goes is_told is_answer =

@@ -1,11 +1,11 @@
 //! What the front of bits after a unit tells of the unit there. Its identifier is read last, since that takes longest.
 
-ghost use Rattle.std.specs.Prelude.{◌≡◌, ◌+◌, ◌≤◌, ◌∷◌, [], drop, if◌then◌else◌, length, nat_le, ◌&&◌};
+ghost use Rattle.std.specs.Prelude.{◌≡◌, ◌+◌, ◌≤◌, ◌∷◌, [], drop, if◌then◌else◌, length, nat_le, nat_lt, ◌&&◌};
 ghost use Rattle.p25_bits.specs.Bits.{part};
 ghost use Rattle.p25_follow.specs.declared.told.Told.TheVariants.{Expected, Nothing};
 ghost use Rattle.p25_follow.specs.Expected.{expected_after, name_of};
 ghost use Rattle.p25_follow.specs.Looks.{is_read, told_by_look};
-ghost use Rattle.p25_follow.specs.Told.{name_errors_of, nearer_kind, nearest_kind, sync_errors_of, told_of};
+ghost use Rattle.p25_follow.specs.Told.{name_errors_of, nearest_kind, sync_errors_of, told_of};
 
 use crate::expected::first_expected;
 use p25_bch_nid::{Nid, TDU, TDULC};
@@ -86,14 +86,9 @@ fn nearness(before: &Nid, bits: &BitBuf, at: usize, sync: u32, kind: u8) -> Near
     }
 }
 
-// Of two kinds of one network the nearer one: the second only where fewer bits differ from it.
-#[tactic(auto, unfolding(crate::specs::Told::nearer_kind))]
-fn nearer(before: &Nid, bits: &BitBuf, at: usize, first: Near, next: Near) -> Near
-    requires there { at + 114 ≤ length bits.now }
-    requires first { first.wrong ≡ name_errors_of (before.now.nac, first.kind) (part at 114 bits.now) }
-    requires next { next.wrong ≡ name_errors_of (before.now.nac, next.kind) (part at 114 bits.now) }
-    ensures kind { result.kind ≡ nearer_kind before.now.nac (part at 114 bits.now) first.kind next.kind }
-    ensures wrong { result.wrong ≡ name_errors_of (before.now.nac, result.kind) (part at 114 bits.now) }
+// The nearer one of two kinds: the second only where fewer bits differ from it.
+fn nearer(first: Near, next: Near) -> Near
+    ensures { result ≡ (if nat_lt next.wrong first.wrong then next else first) }
 {
     if next.wrong < first.wrong {
         next
@@ -103,7 +98,6 @@ fn nearer(before: &Nid, bits: &BitBuf, at: usize, first: Near, next: Near) -> Ne
 }
 
 // The nearest of the kinds that may come after a unit with a name, the first of which is given.
-#[tactic(auto, unfolding(crate::specs::Told::nearest_kind))]
 fn nearest(before: &Nid, bits: &BitBuf, at: usize, sync: u32, kind: u8) -> Near
     requires there { at + 114 ≤ length bits.now }
     requires sync { sync ≡ sync_errors_of (part at 114 bits.now) }
@@ -114,8 +108,7 @@ fn nearest(before: &Nid, bits: &BitBuf, at: usize, sync: u32, kind: u8) -> Near
     let first = nearness(before, bits, at, sync, kind);
     let second = nearness(before, bits, at, sync, TDULC);
     let third = nearness(before, bits, at, sync, TDU);
-    let nearer_one = nearer(before, bits, at, first, second);
-    nearer(before, bits, at, nearer_one, third)
+    nearer(nearer(first, second), third)
 }
 
 // What a kind tells that the bits are near, where so many of its sync are wrong.
