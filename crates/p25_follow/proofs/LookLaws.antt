@@ -129,12 +129,13 @@ name-near name bits is = nid_reading_of-near (identifier_bits (take 114 bits)) n
 pub nearer-known : (nac : ℕ) (bits : List Bool) (first next near : Near) → first.wrong ≡ name_errors_of (nac, first.kind) bits → next.wrong ≡ name_errors_of (nac, next.kind) bits
     → near ≡ cond (nat_lt next.wrong first.wrong) next first → (near.kind ≡ nearer_kind nac bits first.kind next.kind) × (near.wrong ≡ name_errors_of (nac, near.kind) bits)
 unfolding nearer_kind
-nearer-known nac bits first next near is_first is_next is =
-    (ap (λ (n : Near). n.kind) is
-    ∙ elim (nat_lt next.wrong first.wrong) as (λ (b : Bool). (cond b next first).kind ≡ cond b next.kind first.kind) [ true ↦ refl | false ↦ refl ]
-    ∙ ap₂ (λ (a b : ℕ). cond (nat_lt a b) next.kind first.kind) is_next is_first,
-    subst (λ (n : Near). n.wrong ≡ name_errors_of (nac, n.kind) bits) (sym is)
-    (elim (nat_lt next.wrong first.wrong) as (λ (b : Bool). (cond b next first).wrong ≡ name_errors_of (nac, (cond b next first).kind) bits) [ true ↦ is_next | false ↦ is_first ]))
+nearer-known nac bits first next near is_first is_next is = (
+  ap (λ (n : Near). n.kind) is
+      ∙ elim (nat_lt next.wrong first.wrong) as (λ (b : Bool). (cond b next first).kind ≡ cond b next.kind first.kind) [ true ↦ refl | false ↦ refl ]
+      ∙ ap₂ (λ (a b : ℕ). cond (nat_lt a b) next.kind first.kind) is_next is_first,
+  subst (λ (n : Near). n.wrong ≡ name_errors_of (nac, n.kind) bits) (sym is)
+      (elim (nat_lt next.wrong first.wrong) as (λ (b : Bool). (cond b next first).wrong ≡ name_errors_of (nac, (cond b next first).kind) bits) [ true ↦ is_next | false ↦ is_first ]),
+)
 
 any-first : (kind : ℕ) (kinds : List ℕ) → list_any (λ next. nat_eq next kind) (kind ∷ kinds) ≡ true
 any-first kind kinds = ap (λ (b : Bool). b || list_any (λ next. nat_eq next kind) kinds) (eq-eqb kind kind refl)
