@@ -1,16 +1,12 @@
 -- Items of a scan have as many bits as their kinds need: by the cases of a first item, and for those that come later by where they begin.
-use Rattle.std.proofs.Common.{◌≡◌, ℕ, ◌+◌, ◌*◌, ◌%◌, ◌<◌, ◌≤◌, Bool, true, List, [], ◌∷◌, ◌++◌, length, take, Option, Some, None, Result, Ok, Err, refl, ap, sym, subst, arith, length-take}
+use Rattle.std.proofs.Common.{◌≡◌, ℕ, ◌%◌, ◌≤◌, Bool, List, length, take, Option, Some, None, Result, Ok, Err, sym, subst, arith, length-take}
 use Rattle.p25_status.specs.declared.fields.Field.{Field}
 use Rattle.p25_unit_front.specs.Front.{identifier_of}
 use Rattle.p25_units.specs.Items.{identified_item, item_from, unit_item_of}
-use Rattle.p25_units.specs.Needs.{need_of}
 use Rattle.p25_units.specs.Readings.{reading_from}
 use Rattle.p25_units.specs.declared.frame.Frame.{Frame}
-use Rattle.p25_units.specs.declared.item.Item.{Item}
-use Rattle.p25_units.specs.declared.item.Item.TheVariants.{Whole, Broken, NoUnit, Gap, Cut}
-use Rattle.p25_units.specs.declared.needs.Need.TheVariants.{Length}
 use Rattle.p25_units.proofs.NeedsLaws.{need_of-there}
-use Rattle.p25_stream.specs.Items.{first_item, items_by}
+use Rattle.p25_stream.specs.Items.{first_item}
 use Rattle.p25_stream.proofs.ItemLaws.{item-among}
 use Rattle.p25_stream.proofs.ItemsLaws.{first_item-cases}
 use Rattle.p25_follow.specs.RelayLaws.{ItemsFit}

@@ -7,6 +7,7 @@ use Rattle.p25_units.specs.declared.item.Item.{Item}
 use Rattle.p25_follow.specs.Chains.{chain_by, settled_of}
 use Rattle.p25_follow.specs.Followed.{is_rest, unit_name}
 use Rattle.p25_follow.specs.Following.{Follow, behind_item, follow, left_of, written_before, written_end}
+use Rattle.p25_follow.proofs.ChainLaws.{chain_by-none, left_of-none}
 
 -- bits appended to others, all of them
 pub appended-all : (before bits now : List Bool) (count : ℕ) → count ≡ length bits → now ≡ before ++ part 0 count bits → now ≡ before ++ bits
@@ -28,6 +29,17 @@ module _ (kept : Follow) (item : Item) (raw : List Bool) (before : Option (ℕ �
       ∙ ap (λ (xs : List Bool). left_of before xs) is_held
       ∙ ap (λ (k : Follow). left_of k.before (k.stretch ++ raw)) is_kept
       ∙ sym (cond-true (is_rest item) (left_of kept.before (kept.stretch ++ raw)) (follow (unit_name item) []) rest)
+
+  -- where no unit was before, the item's bits are written as they are, and nothing is kept
+  pub none-out : (cleared out : List Bool) → before ≡ None → stretch ≡ [] → is_rest item ≡ true → cleared ≡ [] → out ≡ cleared ++ raw → out ≡ written_before kept item raw
+  none-out cleared out none empty rest is_cleared is =
+      rest-out raw cleared out rest (sym (ap (λ (xs : List Bool). xs ++ raw) empty)) is_cleared
+      (is ∙ ap (λ (xs : List Bool). cleared ++ xs) (sym (ap (λ (o : Option (ℕ × ℕ)). chain_by false o raw None) none ∙ chain_by-none false raw None)))
+
+  pub none-behind : before ≡ None → stretch ≡ [] → is_rest item ≡ true → kept ≡ behind_item kept item raw
+  none-behind none empty rest =
+      rest-behind raw kept rest (sym (ap (λ (xs : List Bool). xs ++ raw) empty))
+      (sym is_kept ∙ ap₂ follow none empty ∙ sym (ap (λ (o : Option (ℕ × ℕ)). left_of o raw) none ∙ left_of-none raw))
 
   pub unit-out : (name : Option (ℕ × ℕ)) (cleared out : List Bool) → is_rest item ≡ false → name ≡ unit_name item → cleared ≡ []
       → out ≡ cleared ++ chain_by true before stretch name → out ≡ written_before kept item raw

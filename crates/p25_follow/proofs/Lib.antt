@@ -2,6 +2,8 @@ pub mod KindLaws
 pub mod ToldLaws
 pub mod FrontSteps
 pub mod StepLaws
+pub mod LookLaws
+pub mod LookSteps
 pub mod ChainLaws
 pub mod ChainSteps
 pub mod FollowingLaws
@@ -26,3 +28,4 @@ pub mod RelaySteps
 pub mod BehindLaws
 pub mod RelayedLaws
 pub mod RelayedPlacesLaws
+pub mod RelayedUnitsLaws

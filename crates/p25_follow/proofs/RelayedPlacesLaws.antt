@@ -1,6 +1,6 @@
 -- What is forwarded of a recording: each item in its place, by induction on the items before it; and a place with a sync is the place of an item, or lies within a unit
 -- that begins before it, by induction on the bits before the place.
-use Rattle.std.proofs.Common.{◌≡◌, ℕ, zero, suc, ◌+◌, ◌-◌, ◌<◌, ◌≤◌, ◌⊎◌, inl, inr, Bool, true, false, List, [], ◌∷◌, ◌++◌, length, take, drop, Some, None, refl, sym, ap, ap₂, subst, ◌∙◌, arith, append_assoc, append-nil, length-append, length-drop}
+use Rattle.std.proofs.Common.{◌≡◌, ℕ, zero, suc, ◌+◌, ◌<◌, ◌≤◌, ◌⊎◌, inl, inr, Bool, true, false, List, [], ◌∷◌, ◌++◌, length, take, drop, Some, None, refl, sym, ap, ap₂, subst, ◌∙◌, arith, append_assoc, append-nil, length-append, length-drop}
 use Rattle.std.proofs.lemmas.Bool.{cases_lt}
 use Rattle.std.proofs.lemmas.List.{drop-append-le, drop-drop, drop_all}
 use Rattle.p25_bits.specs.Bits.{part}
@@ -28,7 +28,7 @@ module _ (nac : ℕ) (status : Status) (nac_fits : nac < 4096) where
   unfolding relayed_by
   by-nil bits = refl
 
-  by-more : (item : Item) (items : List Item) (bits : List Bool)
+  pub by-more : (item : Item) (items : List Item) (bits : List Bool)
       → relayed_by nac status (item ∷ items) bits ≡ relayed nac status item (take (covered item) bits) ++ relayed_by nac status items (drop (covered item) bits)
   unfolding relayed_by
   by-more item items bits = refl

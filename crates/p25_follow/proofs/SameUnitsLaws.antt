@@ -130,7 +130,7 @@ places-of at bits =
     let first : place ≡ 0 = omega arith in
     ap (λ (p : ℕ). is_rest (first_item 0 (drop p bits))) first ∙ ap is_rest (first_item-synced 0 bits (NoLength field) yes' need))
 
-stretch-from : (at : ℕ) (bits : List Bool) (stretch after : List Item) → items_of at bits ≡ stretch ++ after → all_rest stretch ≡ true → IsStretch at bits (bits_in stretch) after
+pub stretch-from : (at : ℕ) (bits : List Bool) (stretch after : List Item) → items_of at bits ≡ stretch ++ after → all_rest stretch ≡ true → IsStretch at bits (bits_in stretch) after
 unfolding bits_in all_rest
 stretch-from at bits [] after is all = record {
   there = omega arith;
@@ -178,7 +178,7 @@ unit-at at bits unit =
     ]
 
 -- what begins after it, where something does, is no part of it
-ends-before : (at count : ℕ) (bits : List Bool) (after : List Item) → count ≤ length bits → items_of (at + count) (drop count bits) ≡ after → begins_rest after ≡ false → Ends count bits
+pub ends-before : (at count : ℕ) (bits : List Bool) (after : List Item) → count ≤ length bits → items_of (at + count) (drop count bits) ≡ after → begins_rest after ≡ false → Ends count bits
 ends-before at count bits [] there is no' = inl (none-left count (at + count) bits there is)
 ends-before at count bits (item ∷ items) there is no' =
     let parts = items_by-first true (at + count) (drop count bits) item items is in

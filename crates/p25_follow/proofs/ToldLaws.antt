@@ -52,7 +52,7 @@ errors-parts name bits long =
 abbrev pair : ℕ → ℕ → ℕ × ℕ
 pair n k = (n, k)
 
-and_both : (a b : Bool) → (a && b) ≡ true → (a ≡ true) × (b ≡ true)
+pub and_both : (a b : Bool) → (a && b) ≡ true → (a ≡ true) × (b ≡ true)
 and_both true b is = (refl, is)
 and_both false b is = absurd (cc)
 
@@ -61,7 +61,7 @@ unfolding nearer_kind
 nearer-all P nac bits kind next first second =
     elim (nat_lt (name_errors_of (nac, next) bits) (name_errors_of (nac, kind) bits)) as (λ b. P (cond b next kind)) [ true ↦ second | false ↦ first ]
 
-nearest-all : (P : ℕ → Type 0) (nac : ℕ) (bits : List Bool) (kind : ℕ) (kinds : List ℕ) → P kind → Each P kinds → P (nearest_kind nac bits kind kinds)
+pub nearest-all : (P : ℕ → Type 0) (nac : ℕ) (bits : List Bool) (kind : ℕ) (kinds : List ℕ) → P kind → Each P kinds → P (nearest_kind nac bits kind kinds)
 unfolding nearest_kind
 nearest-all P nac bits kind [] first all = first
 nearest-all P nac bits kind (next ∷ kinds) first all =

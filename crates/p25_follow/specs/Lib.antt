@@ -1,5 +1,6 @@
 pub mod Expected
 pub mod Told
+pub mod Looks
 pub mod Steps
 pub mod Chains
 pub mod Followed

@@ -1,5 +1,5 @@
 -- What is true of a recording that is forwarded in place.
-use Rattle.std.specs.Prelude.{◌≡◌, ℕ, ◌+◌, ◌<◌, ◌⊎◌, Bool, true, false, List, [], ◌∷◌, ◌++◌, length, take, drop, map, Some}
+use Rattle.std.specs.Prelude.{◌≡◌, ℕ, ◌+◌, ◌<◌, ◌⊎◌, Bool, true, List, ◌∷◌, ◌++◌, length, take, drop, map, Some}
 use Rattle.p25_bits.specs.Bits.{part}
 use Rattle.p25_status.specs.declared.symbols.Status.{Status}
 use Rattle.p25_units.specs.Items.{covered}
@@ -8,7 +8,7 @@ use Rattle.p25_stream.specs.Arrivals.{IsHidden}
 use Rattle.p25_stream.specs.Items.{first_item, items_by, items_of}
 use Rattle.p25_follow.specs.Followed.{is_rest, unit_name}
 use Rattle.p25_follow.specs.Relayed.{IsAmong, IsFitItem, relay_of, relayed, relayed_item}
-use Rattle.p25_follow.specs.StretchLaws.{bits_in}
+use Rattle.p25_follow.specs.StretchLaws.{bits_in, units_among}
 
 -- each item that a scan finds has as many bits as its kind needs
 abbrev pub ItemsFit : Type 0
@@ -43,3 +43,16 @@ RelayKeepsUnits =
     (nac : ℕ) (status : Status) (bits : List Bool) (before : List Item) (unit : Item) (after : List Item) (name : ℕ × ℕ)
     → nac < 4096 → items_of 0 bits ≡ before ++ unit ∷ after → unit_name unit ≡ Some name
     → IsHidden (bits_in before) (items_of 0 (relay_of nac status bits)) ⊎ IsAmong (relayed_item nac status unit) (items_of 0 (relay_of nac status bits))
+
+-- nothing begins in what is forwarded of a stretch: at none of its places does the scan find a unit there, whole, broken or cut
+abbrev pub NothingBeginsInStretches : ℕ → Status → List Bool → Type 0
+NothingBeginsInStretches nac status bits =
+    (before : List Item) (item : Item) (after : List Item) (place : ℕ)
+    → items_of 0 bits ≡ before ++ item ∷ after → is_rest item ≡ true → place < covered item
+    → is_rest (first_item (bits_in before + place) (drop (bits_in before + place) (relay_of nac status bits))) ≡ true
+
+-- where that is so, the units of what is forwarded are those of the recording, one by one, and a unit that is cut is as it was
+abbrev pub RelaySameUnits : Type 0
+RelaySameUnits =
+    (nac : ℕ) (status : Status) (bits : List Bool) → nac < 4096 → NothingBeginsInStretches nac status bits
+    → units_among (items_of 0 (relay_of nac status bits)) ≡ map (relayed_item nac status) (units_among (items_of 0 bits))

@@ -1,6 +1,6 @@
 //! The units that lie end to end from a place on, with their fronts written.
 
-ghost use Rattle.std.specs.Prelude.{◌≡◌, ◌||◌, nat_le, ◌+◌, ◌≤◌, ◌<◌, ◌++◌, [], false, true, length, take};
+ghost use Rattle.std.specs.Prelude.{◌≡◌, ◌||◌, nat_le, ◌+◌, ◌≤◌, ◌<◌, ◌++◌, IfSome, [], drop, false, true, length, take};
 ghost use Rattle.p25_follow.specs.Chains.{chain_by, with_front};
 ghost use Rattle.p25_follow.specs.Expected.{name_of, names_of};
 ghost use Rattle.p25_follow.specs.Following.{follow, left_of};
@@ -8,9 +8,9 @@ ghost use Rattle.p25_follow.specs.Following.{follow, left_of};
 use crate::expected::kind_length;
 use crate::steps::step;
 use crate::told::with_kind;
-use p25_bch_nid::Nid;
+use p25_bch_nid::{Nid, nid_bits};
 use p25_bits::BitBuf;
-use p25_unit_front::put_front;
+use p25_status::SYNC;
 
 /// How many bits a step looks at, at most: those of four logical link units.
 pub const STEP_REACH: usize = 6912;
@@ -22,20 +22,25 @@ const BEHIND_STATUS: usize = 72;
 
 const FRONT_END: usize = 114;
 
-// Appends the first bits of some, so many, with the front of a name written.
-fn put_with_front(name: &Nid, bits: &BitBuf, count: usize, out: &mut BitBuf)
+// With how many bits an identifier goes on after the status symbol.
+const AFTER_STATUS: u32 = 42;
+
+// Appends bits from a place on, so many, with the front of a name written.
+fn put_with_front(name: &Nid, bits: &BitBuf, at: usize, count: usize, out: &mut BitBuf)
     requires some { 114 ≤ count }
-    requires there { count ≤ length bits.now }
+    requires there { at + count ≤ length bits.now }
     requires room { length out.old + count ≤ 25928 }
-    ensures list { out.new ≡ out.old ++ with_front (name_of name.now) (take count bits.now) }
+    ensures list { out.new ≡ out.old ++ with_front (name_of name.now) (take count (drop at bits.now)) }
     ensures len { length out.new ≡ length out.old + count }
 {
-    let mut front = BitBuf::new();
-    put_front(name, &mut front);
-    out.append(&front, 0, BEFORE_STATUS);
-    out.append(bits, BEFORE_STATUS, BEHIND_STATUS - BEFORE_STATUS);
-    out.append(&front, BEFORE_STATUS, FRONT_END - BEHIND_STATUS);
-    out.append(bits, FRONT_END, count - FRONT_END);
+    // The number of bits held bounds every place below.
+    let _ = bits.len();
+    let identifier = nid_bits(name);
+    out.put_field(SYNC, 48);
+    out.put_field(identifier >> AFTER_STATUS, 22);
+    out.append(bits, at + BEFORE_STATUS, BEHIND_STATUS - BEFORE_STATUS);
+    out.put_field(identifier % (1 << AFTER_STATUS), AFTER_STATUS);
+    out.append(bits, at + FRONT_END, count - FRONT_END);
 }
 
 // Whether a step can be made over so many bits: they are whole, or all that it looks at is there.
@@ -43,6 +48,60 @@ fn can_step(whole: bool, count: usize) -> bool
     ensures { result ≡ (whole || nat_le 6912 count) }
 {
     whole || count >= STEP_REACH
+}
+
+// Where the units end that are written, and the name of the last one: none where no unit is known there.
+#[derive(Clone, Copy)]
+struct Reached {
+    before: Option<Nid>,
+    at: usize,
+}
+
+// Appends the units that bits begin with, end to end, after a unit with a name or after none: as many as are known. Where more bits may
+// come, it stops where a step can not be made.
+fn put_units(
+    whole: bool,
+    before: Option<Nid>,
+    bits: &BitBuf,
+    end: &Option<Nid>,
+    out: &mut BitBuf,
+) -> Reached
+    requires { length out.old + length bits.now ≤ 25928 }
+    ensures there { result.at ≤ length bits.now }
+    ensures list { out.new ++ chain_by whole (names_of result.before) (drop result.at bits.now) (names_of end.now)
+        ≡ out.old ++ chain_by whole (names_of before) bits.now (names_of end.now) }
+    ensures left { whole ≡ false → left_of (names_of result.before) (drop result.at bits.now) ≡ left_of (names_of before) bits.now }
+    ensures waits { IfSome result.before (λ _. (whole || nat_le 6912 (length (drop result.at bits.now))) ≡ false) }
+    ensures len { length out.new ≡ length out.old + result.at }
+{
+    let mut before = before;
+    let mut at = 0;
+    while let Some(name) = before {
+        if !can_step(whole, bits.len() - at) {
+            return Reached { before, at };
+        }
+        match step(&name, bits, at, end) {
+            Some(kind) => {
+                let next = with_kind(&name, kind);
+                let count = kind_length(kind);
+                put_with_front(&next, bits, at, count, out);
+                at += count;
+                before = Some(next);
+            }
+            None => before = None,
+        }
+    }
+    Reached { before: None, at }
+}
+
+// Takes the first bits away, so many.
+fn drop_written(count: usize, bits: &mut BitBuf)
+    requires { count ≤ length bits.old }
+    ensures { bits.new ≡ drop count bits.old }
+{
+    if count != 0 {
+        bits.drop_front(count);
+    }
 }
 
 /// Appends what is written of bits after a unit with a name, or after none: where they are whole all, which reach to an end, the name
@@ -60,23 +119,16 @@ pub fn put_chain(
     ensures left { whole ≡ false → follow (names_of result) bits.new ≡ left_of (names_of before) bits.old }
     ensures none { whole ≡ true → bits.new ≡ [] }
 {
-    let mut before = before;
-    while let Some(name) = before {
-        if !can_step(whole, bits.len()) {
-            return before;
+    let reached = put_units(whole, before, bits, end, out);
+    match reached.before {
+        Some(name) => {
+            drop_written(reached.at, bits);
+            Some(name)
         }
-        match step(&name, bits, end) {
-            Some(kind) => {
-                let next = with_kind(&name, kind);
-                let count = kind_length(kind);
-                put_with_front(&next, bits, count, out);
-                bits.drop_front(count);
-                before = Some(next);
-            }
-            None => before = None,
+        None => {
+            out.append(bits, reached.at, bits.len() - reached.at);
+            bits.clear();
+            None
         }
     }
-    out.append(bits, 0, bits.len());
-    bits.clear();
-    None
 }

@@ -65,6 +65,11 @@ impl Follower {
     {
         out.clear();
         if is_rest(item) {
+            // Nothing is kept of a stretch that no unit is before.
+            if self.before.is_none() {
+                out.append(raw, 0, raw.len());
+                return;
+            }
             self.stretch.append(raw, 0, raw.len());
             self.before = put_chain(false, self.before, &mut self.stretch, &None, out);
         } else {

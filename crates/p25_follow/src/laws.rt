@@ -2,7 +2,7 @@
 
 ghost use Rattle.p25_follow.specs.FollowLaws.{ChainsUnfold, FollowerWrites, FrontAlone, LengthIsKept, NameStays, NearIsWritten, NoStretchNoChange, SettledStays, StepIsThere, StepLooksAtFew, WrittenIsFound};
 ghost use Rattle.p25_follow.specs.RecordingLaws.{CompleteInStretches, FrontBitsAlone, NeverWorse, RepairBefore, SecondChangesNothing, StretchByStretch};
-ghost use Rattle.p25_follow.specs.RelayLaws.{ItemsFit, RelayKeepsLength, RelayKeepsUnits, RelayedIsFound, RelaysInPlace};
+ghost use Rattle.p25_follow.specs.RelayLaws.{ItemsFit, RelayKeepsLength, RelayKeepsUnits, RelaySameUnits, RelayedIsFound, RelaysInPlace};
 ghost use Rattle.p25_follow.specs.StretchLaws.{PlaceLooksAtFew, SameUnitsAfter};
 
 /// **Theorem.** What is written of a recording, over all bits.
@@ -62,10 +62,12 @@ pub fn follow_laws()
 ///   where it was whole with its words and no fixes, and where it was broken with the same failing fields.
 /// - `units`: each unit is found again in what is forwarded of the recording, at its place, unless a unit that begins before it there
 ///   covers its first bit.
+/// - `same`: where no unit begins in what is forwarded of a stretch, the units of what is forwarded are those of the recording, one by one.
 pub fn relay_laws()
     ensures fits { ItemsFit }
     ensures length { RelayKeepsLength }
     ensures places { RelaysInPlace }
     ensures found { RelayedIsFound }
     ensures units { RelayKeepsUnits }
+    ensures same { RelaySameUnits }
 {}

@@ -3,9 +3,10 @@
 ghost use Rattle.std.specs.Prelude.{◌≡◌, ◌≤◌, drop, length};
 ghost use Rattle.p25_follow.specs.Expected.{name_of, names_of};
 ghost use Rattle.p25_follow.specs.Steps.{fits_by, is_end, is_sure, step_of};
+ghost use Rattle.p25_follow.specs.Told.{is_nothing};
 
 use crate::expected::{is_expected, kind_length, next_link};
-use crate::told::{Told, told_at, with_kind};
+use crate::told::{Told, look_at, told_at, with_kind};
 use p25_bch_nid::Nid;
 use p25_bits::BitBuf;
 
@@ -46,8 +47,19 @@ fn is_end(before: &Nid, end: &Option<Nid>) -> bool
     }
 }
 
-// Whether it is sure that units lie end to end from a place on, over at most so many logical link units of which nothing is told.
-#[tactic(auto, unfolding(crate::specs::Steps::is_sure, crate::specs::Steps::fits_of))]
+// Whether nothing is told.
+fn is_nothing(told: Told) -> bool
+    ensures { result ≡ is_nothing told }
+{
+    match told {
+        Told::Nothing => true,
+        Told::Expected(_) => false,
+        Told::Other => false,
+    }
+}
+
+// Whether it is sure that units lie end to end from a place on, over at most so many logical link units of which nothing is told. What
+// takes longest is asked last: whether an identifier reads.
 fn is_sure(links: u32, before: &Nid, bits: &BitBuf, at: usize, end: &Option<Nid>) -> bool
     requires { at ≤ length bits.now }
     ensures { result ≡ is_sure links (name_of before.now) (drop at bits.now) (names_of end.now) }
@@ -55,48 +67,47 @@ fn is_sure(links: u32, before: &Nid, bits: &BitBuf, at: usize, end: &Option<Nid>
     if bits.len() <= at {
         return is_end(before, end);
     }
-    let here = told_at(before, bits, at);
-    if if_fits(here, bits, at).is_some() {
-        return true;
+    let look = look_at(before, bits, at);
+    if if_fits(look.told, bits, at).is_some() {
+        return if_fits(told_at(look, bits, at), bits, at).is_some();
     }
-    match here {
-        Told::Nothing => {
-            if links == 0 || bits.len() - at < LINK_LENGTH {
+    if !is_nothing(look.told) {
+        return false;
+    }
+    if links == 0 || bits.len() - at < LINK_LENGTH {
+        return false;
+    }
+    match next_link(before.duid) {
+        None => false,
+        Some(kind) => {
+            let next = with_kind(before, kind);
+            if !is_sure(links - 1, &next, bits, at + LINK_LENGTH, end) {
                 return false;
             }
-            match next_link(before.duid) {
-                None => false,
-                Some(kind) => is_sure(
-                    links - 1,
-                    &with_kind(before, kind),
-                    bits,
-                    at + LINK_LENGTH,
-                    end,
-                ),
-            }
+            is_nothing(told_at(look, bits, at))
         }
-        _ => false,
     }
 }
 
-/// Answers the kind of the unit that bits begin with, which lie after a unit with a name and before the end of their stretch: the
-/// name of the unit there, or none. `None` comes exactly where no such unit is known. Its bits are there.
-#[tactic(auto, unfolding(crate::specs::Steps::step_of, crate::specs::Steps::fits_of))]
-pub fn step(before: &Nid, bits: &BitBuf, end: &Option<Nid>) -> Option<u8>
-    ensures value { result ≡ step_of (name_of before.now) bits.now (names_of end.now) }
+/// Answers the kind of the unit that the bits from place `at` on begin with, which lie after a unit with a name and before the end of
+/// their stretch: the name of the unit there, or none. `None` comes exactly where no such unit is known. Its bits are there.
+pub fn step(before: &Nid, bits: &BitBuf, at: usize, end: &Option<Nid>) -> Option<u8>
+    requires { at ≤ length bits.now }
+    ensures value { result ≡ step_of (name_of before.now) (drop at bits.now) (names_of end.now) }
 {
-    let here = told_at(before, bits, 0);
-    match if_fits(here, bits, 0) {
-        Some(kind) => Some(kind),
-        None => match here {
-            Told::Nothing => {
-                if !bits.is_empty() && is_sure(LINKS_MOST, before, bits, 0, end) {
-                    next_link(before.duid)
-                } else {
-                    None
-                }
-            }
-            _ => None,
-        },
+    if bits.len() <= at {
+        return None;
+    }
+    let look = look_at(before, bits, at);
+    if if_fits(look.told, bits, at).is_some() {
+        return if_fits(told_at(look, bits, at), bits, at);
+    }
+    if !is_nothing(look.told) {
+        return None;
+    }
+    if is_sure(LINKS_MOST, before, bits, at, end) {
+        next_link(before.duid)
+    } else {
+        None
     }
 }

@@ -1,11 +1,13 @@
-//! What the front of bits after a unit tells of the unit there.
+//! What the front of bits after a unit tells of the unit there. Its identifier is read last, since that takes longest.
 
-ghost use Rattle.std.specs.Prelude.{◌≡◌, ◌+◌, ◌≤◌, drop, length};
+ghost use Rattle.std.specs.Prelude.{◌≡◌, ◌+◌, ◌≤◌, ◌∷◌, [], drop, if◌then◌else◌, length, nat_le, nat_lt, ◌&&◌};
 ghost use Rattle.p25_bits.specs.Bits.{part};
+ghost use Rattle.p25_follow.specs.declared.told.Told.TheVariants.{Expected, Nothing};
 ghost use Rattle.p25_follow.specs.Expected.{expected_after, name_of};
-ghost use Rattle.p25_follow.specs.Told.{name_errors_of, nearer_kind, sync_errors_of, told_name, told_near, told_nearest, told_of};
+ghost use Rattle.p25_follow.specs.Looks.{is_read, told_by_look};
+ghost use Rattle.p25_follow.specs.Told.{name_errors_of, nearest_kind, sync_errors_of, told_of};
 
-use crate::expected::{first_expected, is_expected};
+use crate::expected::first_expected;
 use p25_bch_nid::{Nid, TDU, TDULC};
 use p25_bits::BitBuf;
 use p25_status::{SYNC_LENGTH, sync_distance};
@@ -22,11 +24,23 @@ pub enum Told {
     Nothing,
 }
 
+/// What a look at a front tells, before its identifier is read.
+#[derive(Clone, Copy, Debug, PartialEq, Eq)]
+pub struct Look {
+    /// What is told where no identifier reads.
+    pub told: Told,
+    /// Whether that is told where one reads too.
+    pub clear: bool,
+}
+
 /// In how many of the first 63 bits of its identifier a unit that is expected may be wrong. That number is this project's choice.
 pub const IDENTIFIER_SLACK: u32 = 16;
 
 /// In how many of the 48 bits of its sync and these 63 it may be wrong. That number is this project's choice.
 pub const FRONT_SLACK: u32 = 30;
+
+// In how many of these 63 it may be wrong for the code to read it.
+const IDENTIFIER_RADIUS: u32 = 11;
 
 // How many bits as sent the front of a unit has, with its status symbol.
 const SENT_FRONT: usize = 114;
@@ -40,58 +54,143 @@ fn sync_errors(bits: &BitBuf, at: usize) -> u32
     sync_distance(bits.field(at, SYNC_LENGTH as u32))
 }
 
-// In how many of its first 63 bits the identifier of the unit whose sent bits begin at a place differs from that of a name.
-fn name_errors(bits: &BitBuf, at: usize, name: &Nid) -> u32
-    requires { at + 114 ≤ length bits.now }
+// In how many of its first 63 bits the identifier of the unit whose sent bits begin at a place differs from that of a name. So many bits
+// of its sync are wrong.
+fn name_errors(bits: &BitBuf, at: usize, sync: u32, name: &Nid) -> u32
+    requires there { at + 114 ≤ length bits.now }
+    requires sync { sync ≡ sync_errors_of (part at 114 bits.now) }
     ensures value { result ≡ name_errors_of (name_of name.now) (part at 114 bits.now) }
     ensures most { result ≤ 111 }
 {
-    front_fixes(bits, at, name) - sync_errors(bits, at)
+    front_fixes(bits, at, name) - sync
 }
 
-// Of two names of one network the nearer one: the second only where fewer bits differ from it.
-#[tactic(auto, unfolding(crate::specs::Told::nearer_kind))]
-fn nearer(bits: &BitBuf, at: usize, name: Nid, next: Nid) -> Nid
+// A kind that may come, and in how many of its first 63 bits the identifier differs from that of such a unit.
+#[derive(Clone, Copy)]
+struct Near {
+    kind: u8,
+    wrong: u32,
+}
+
+// How near a unit of a kind is, after one with a name.
+fn nearness(before: &Nid, bits: &BitBuf, at: usize, sync: u32, kind: u8) -> Near
     requires there { at + 114 ≤ length bits.now }
-    requires network { name.nac ≡ next.nac }
-    ensures kind { result.duid ≡ nearer_kind name.nac (part at 114 bits.now) name.duid next.duid }
-    ensures network { result.nac ≡ name.nac }
+    requires sync { sync ≡ sync_errors_of (part at 114 bits.now) }
+    requires kind { kind ≤ 15 }
+    ensures kind { result.kind ≡ kind }
+    ensures wrong { result.wrong ≡ name_errors_of (before.now.nac, result.kind) (part at 114 bits.now) }
 {
-    if name_errors(bits, at, &next) < name_errors(bits, at, &name) {
-        next
-    } else {
-        name
+    Near {
+        kind,
+        wrong: name_errors(bits, at, sync, &with_kind(before, kind)),
     }
 }
 
-// What a name tells that the bits from a place on are near.
-#[tactic(auto, unfolding(crate::specs::Told::told_near))]
-fn told_near(bits: &BitBuf, at: usize, name: &Nid) -> Told
-    requires { at + 114 ≤ length bits.now }
-    ensures { result ≡ told_near name.now.nac (part at 114 bits.now) name.now.duid }
+// The nearer one of two kinds: the second only where fewer bits differ from it.
+fn nearer(first: Near, next: Near) -> Near
+    ensures { result ≡ (if nat_lt next.wrong first.wrong then next else first) }
 {
-    let identifier = name_errors(bits, at, name);
-    if identifier <= IDENTIFIER_SLACK && sync_errors(bits, at) + identifier <= FRONT_SLACK {
-        Told::Expected(name.duid)
+    if next.wrong < first.wrong {
+        next
+    } else {
+        first
+    }
+}
+
+// The nearest of the kinds that may come after a unit with a name, the first of which is given.
+fn nearest(before: &Nid, bits: &BitBuf, at: usize, sync: u32, kind: u8) -> Near
+    requires there { at + 114 ≤ length bits.now }
+    requires sync { sync ≡ sync_errors_of (part at 114 bits.now) }
+    requires kind { kind ≤ 15 }
+    ensures kind { result.kind ≡ nearest_kind before.now.nac (part at 114 bits.now) kind (0xF ∷ 0x3 ∷ []) }
+    ensures wrong { result.wrong ≡ name_errors_of (before.now.nac, result.kind) (part at 114 bits.now) }
+{
+    let first = nearness(before, bits, at, sync, kind);
+    let second = nearness(before, bits, at, sync, TDULC);
+    let third = nearness(before, bits, at, sync, TDU);
+    nearer(nearer(first, second), third)
+}
+
+// What a kind tells that the bits are near, where so many of its sync are wrong.
+fn told_near(sync: u32, near: Near) -> Told
+    requires { sync ≤ 48 }
+    ensures { result ≡ (if nat_le near.wrong 16 && nat_le (sync + near.wrong) 30 then Expected near.kind else Nothing) }
+{
+    if near.wrong <= IDENTIFIER_SLACK && sync + near.wrong <= FRONT_SLACK {
+        Told::Expected(near.kind)
     } else {
         Told::Nothing
     }
 }
 
-// What the bits from a place on tell, whose identifier does not read.
-#[tactic(auto, unfolding(crate::specs::Told::told_nearest, crate::specs::Told::nearest_kind))]
-fn told_nearest(before: &Nid, bits: &BitBuf, at: usize) -> Told
-    requires { at + 114 ≤ length bits.now }
-    ensures { result ≡ told_nearest before.now.nac (part at 114 bits.now) (expected_after before.now.duid) }
+// A look at the bits from a place on, after a unit with a name, where some kinds may come, the first of which is given.
+fn look_among(before: &Nid, bits: &BitBuf, at: usize, kind: u8) -> Look
+    requires there { at + 114 ≤ length bits.now }
+    requires list { expected_after before.now.duid ≡ kind ∷ 0xF ∷ 0x3 ∷ [] }
+    requires kind { kind ≤ 15 }
+    ensures { told_of (name_of before.now) (drop at bits.now) ≡ told_by_look result (is_read (drop at bits.now)) }
 {
-    match first_expected(before.duid) {
-        None => Told::Nothing,
-        Some(kind) => {
-            let first = with_kind(before, kind);
-            let second = nearer(bits, at, first, with_kind(before, TDULC));
-            let third = nearer(bits, at, second, with_kind(before, TDU));
-            told_near(bits, at, &third)
+    let sync = sync_errors(bits, at);
+    let found = nearest(before, bits, at, sync, kind);
+    if found.wrong <= IDENTIFIER_RADIUS {
+        Look {
+            told: Told::Expected(found.kind),
+            clear: true,
         }
+    } else {
+        Look {
+            told: told_near(sync, found),
+            clear: false,
+        }
+    }
+}
+
+/// Answers what a look at the bits from place `at` on tells of a unit there, after a unit with a name.
+pub fn look_at(before: &Nid, bits: &BitBuf, at: usize) -> Look
+    requires { at ≤ length bits.now }
+    ensures { told_of (name_of before.now) (drop at bits.now) ≡ told_by_look result (is_read (drop at bits.now)) }
+{
+    if bits.len() - at < SENT_FRONT {
+        return Look {
+            told: Told::Nothing,
+            clear: true,
+        };
+    }
+    match first_expected(before.duid) {
+        None => Look {
+            told: Told::Nothing,
+            clear: false,
+        },
+        Some(kind) => look_among(before, bits, at, kind),
+    }
+}
+
+/// Answers what the bits from place `at` on tell at which a look was taken. Their identifier is read only where the look leaves it open.
+pub fn told_at(look: Look, bits: &BitBuf, at: usize) -> Told
+    requires { at ≤ length bits.now }
+    ensures { result ≡ told_by_look look (is_read (drop at bits.now)) }
+{
+    if look.clear {
+        return look.told;
+    }
+    if is_read(bits, at) {
+        Told::Other
+    } else {
+        look.told
+    }
+}
+
+// Whether the identifier reads of the unit whose sent bits begin at a place.
+fn is_read(bits: &BitBuf, at: usize) -> bool
+    requires { at ≤ length bits.now }
+    ensures { result ≡ is_read (drop at bits.now) }
+{
+    if bits.len() - at < SENT_FRONT {
+        return false;
+    }
+    match read_identifier(bits, at) {
+        Some(_) => true,
+        None => false,
     }
 }
 
@@ -104,31 +203,5 @@ pub fn with_kind(name: &Nid, kind: u8) -> Nid
     Nid {
         nac: name.nac,
         duid: kind,
-    }
-}
-
-// What an identifier tells that reads.
-#[tactic(auto, unfolding(crate::specs::Told::told_name))]
-fn told_name(before: &Nid, name: &Nid) -> Told
-    ensures { result ≡ told_name (name_of before.now) (name_of name.now) }
-{
-    if before.nac == name.nac && is_expected(before.duid, name.duid) {
-        Told::Expected(name.duid)
-    } else {
-        Told::Other
-    }
-}
-
-/// Answers what the bits from place `at` on tell of a unit there, after a unit with a name.
-pub fn told_at(before: &Nid, bits: &BitBuf, at: usize) -> Told
-    requires { at ≤ length bits.now }
-    ensures { result ≡ told_of (name_of before.now) (drop at bits.now) }
-{
-    if bits.len() - at < SENT_FRONT {
-        return Told::Nothing;
-    }
-    match read_identifier(bits, at) {
-        Some(name) => told_name(before, &name),
-        None => told_nearest(before, bits, at),
     }
 }

@@ -7,11 +7,11 @@ overflow_sub-result c =
     let bits = c.args.bits.now in
     let at = c.args.at in
     let name = c.args.name.now in
-    omega (arith, c.front_fixes.ensures.value, c.sync_errors.ensures.value, errors-parts (name.nac, name.duid) (drop at bits) (omega (arith, length-drop at bits)))
+    omega (arith, c.front_fixes.ensures.value, c.requires.sync, errors-parts (name.nac, name.duid) (drop at bits) (omega (arith, length-drop at bits)))
 
 pub returns-clause-value : goal.returns-clause-value
 returns-clause-value c =
     let bits = c.args.bits.now in
     let at = c.args.at in
     let name = c.args.name.now in
-    omega (arith, c.front_fixes.ensures.value, c.sync_errors.ensures.value, errors-parts (name.nac, name.duid) (drop at bits) (omega (arith, length-drop at bits)))
+    omega (arith, c.front_fixes.ensures.value, c.requires.sync, errors-parts (name.nac, name.duid) (drop at bits) (omega (arith, length-drop at bits)))
