@@ -167,7 +167,7 @@ enum {
 void p25_stream_begin(p25_stream *stream);
 
 /* Takes octets, from the first on, as many as there is room for, and answers how many. Room is P25_STREAM_OCTETS less the octets from that
-   with bit `from` on; once p25_stream_next has answered P25_NONE, these are at most P25_NEEDED, so there is room for 4,927 or more.
+   with bit `from` on; once p25_stream_next has answered P25_NONE, these are fewer than P25_NEEDED, so there is room for 4,928 or more.
    Or answers P25_OUTSIDE, P25_ENDED or P25_DIBITS_WAIT, the first that applies, and takes none; the stream stays then. */
 int32_t p25_stream_push(p25_stream *stream, const uint8_t *octets, size_t n);
 

@@ -1,25 +1,26 @@
 -- What a series of calls tells, by induction on the calls: each item is the first of those of the whole recording from its place on.
-use Rattle.std.proofs.Common.{◌≡◌, ℕ, ◌+◌, ◌-◌, ◌*◌, ◌<◌, ◌≤◌, Bool, true, List, [], ◌∷◌, ◌++◌, length, take, drop, Option, Some, None, refl, ap, ap₂, sym, subst, ◌∙◌, arith, append-nil}
+use Rattle.std.proofs.Common.{◌≡◌, ℕ, ◌+◌, ◌-◌, ◌*◌, ◌<◌, ◌≤◌, pos, Bool, true, List, [], ◌∷◌, ◌++◌, length, map, take, drop, Option, Some, None, refl, ap, ap₂, sym, subst, ◌∙◌, arith, append-nil}
 use Rattle.std.specs.Cmp.{first_so, second_so}
 use Rattle.std.specs.List.{sum_by}
 use Rattle.std.proofs.lemmas.Bool.{leb-true}
-use Rattle.std.proofs.lemmas.List.{drop-append-le, drop-drop}
+use Rattle.std.proofs.lemmas.List.{drop-append-le, drop-drop, map-append}
 use Rattle.std.proofs.lemmas.List.Sums.{sum_by-cons}
 use Rattle.p25_bits.specs.Bits.{octet_bits}
 use Rattle.p25_bits.proofs.BitsLaws.{length-octet_bits, octet_bits-append, octet_bits-nil}
 use Rattle.p25_bits.proofs.PartLaws.{drop_behind}
 use Rattle.p25_stream.specs.Items.{items_by}
 use Rattle.p25_stream.specs.Scan.{Gave, Scan}
-use Rattle.p25_stream.proofs.ItemsLaws.{covered-first_item, items_by-first}
+use Rattle.p25_stream.proofs.ItemsLaws.{covered-first_item, items_by-first, place_of-first_item}
 use Rattle.p25_stream.proofs.ScanLaws.{gave-items}
-use Rattle.p25_units.specs.Items.{covered}
+use Rattle.p25_units.specs.Items.{covered, place_of}
 use Rattle.p25_units.specs.declared.item.Item.{Item}
-use Rattle.p25_c.specs.Calls.{AreTold, BeginsWith, CallsTellAll, CallsTellTheFirst, Given, IsPiece}
-use Rattle.p25_c.specs.Items.{is_inside, items_asked}
+use Rattle.p25_c.specs.Calls.{AreSet, AreTold, BeginsWith, CallsTellAll, CallsTellTheFirst, Given, IsPiece, SetsAreItems}
+use Rattle.p25_c.specs.Items.{is_inside, item_answer, item_left, items_asked, parts_of}
+use Rattle.p25_c.specs.declared.items.ItemParts.{ItemParts}
 use Rattle.p25_c.proofs.ItemsLaws.{items_asked-some}
 
 -- a place that may be asked for is one of the bits of the octets, or their end
-inside-bounds : (begin from count : ℕ) → is_inside begin from count ≡ true → (begin ≤ from) × (from ≤ begin + 8 * count)
+pub inside-bounds : (begin from count : ℕ) → is_inside begin from count ≡ true → (begin ≤ from) × (from ≤ begin + 8 * count)
 inside-bounds begin from count yes' =
     let before = first_so _ _ yes' in
     (leb-true begin from (second_so _ _ (first_so _ _ before)), leb-true from (begin + 8 * count) (second_so _ _ before))
@@ -111,3 +112,37 @@ calls-all recording pieces items last told is ended asked =
     ∙ ap (λ (n : ℕ). items ++ items_by true n (drop n (octet_bits recording))) same
     ∙ ap (λ (xs : List Item). items ++ xs) (none-left recording total last is ended asked)
     ∙ append-nil items
+
+-- ---- numbers that were set
+
+-- the item whose numbers a call set: it is what is asked for begins with, at the place
+set-item : (ended : Bool) (begin from : ℕ) (octets : List ℕ) (asked : Option (List Item)) (parts : ItemParts) → items_asked ended begin from octets ≡ asked
+    → item_answer asked ≡ pos 1 → ((before : ItemParts) → item_left asked before ≡ parts)
+    → (item : Item) × BeginsWith asked item × (parts_of item ≡ parts) × (place_of item ≡ from)
+set-item ended begin from octets None parts is answer left = absurd (cc answer)
+set-item ended begin from octets (Some []) parts is answer left = absurd (cc answer)
+set-item ended begin from octets (Some (item ∷ items)) parts is answer left =
+    let bits = drop (from - begin) (octet_bits octets) in
+    let told = items_asked-some ended begin from octets (item ∷ items) is in
+    let first = items_by-first ended from bits item items told.1 in
+    (item, refl, left (parts_of item), ap place_of first.1 ∙ place_of-first_item from bits)
+
+-- so the items were told whose numbers were set
+set-told : (recording : List ℕ) (from : ℕ) (givens : List Given) (sets : List ItemParts) → AreSet recording from givens sets
+    → (items : List Item) × AreTold recording from givens items × (map parts_of items ≡ sets)
+set-told recording from [] [] are = ([], tt, refl)
+set-told recording from [] (parts ∷ more) are = absurd are
+set-told recording from (piece ∷ pieces) [] are = absurd are
+set-told recording from (piece ∷ pieces) (parts ∷ more) are =
+    let found = set-item piece.ended piece.begin from piece.octets (items_asked piece.ended piece.begin from piece.octets) parts refl are.1 are.2 in
+    let item = found.0 in
+    let next : parts.place + parts.bits ≡ from + covered item
+    = omega (arith, ap (λ (p : ItemParts). p.place) found.2, ap (λ (p : ItemParts). p.bits) found.2, found.3) in
+    let later = set-told recording (from + covered item) pieces more (subst (λ (n : ℕ). AreSet recording n pieces more) next are.3) in
+    (item ∷ later.0, (are.0, found.1, later.1), ap₂ (λ (p : ItemParts) (ps : List ItemParts). p ∷ ps) found.2 later.2)
+
+pub sets-items : SetsAreItems
+sets-items recording pieces sets are =
+    let told = set-told recording 0 pieces sets are in
+    let first = calls-first recording pieces told.0 told.1 in
+    (map parts_of first.0, ap (λ (xs : List Item). map parts_of xs) first.1 ∙ map-append parts_of told.0 first.0 ∙ ap (λ (ps : List ItemParts). ps ++ map parts_of first.0) told.2)

@@ -4,7 +4,9 @@ pub mod CallsLaws
 pub mod ManySteps
 pub mod PlacesSteps
 pub mod StreamsSteps
+pub mod StreamCallsLaws
 pub mod DibitsSteps
 pub mod PacketsLaws
 pub mod ValueLaws
+pub mod BoundsLaws
 pub mod VoiceCallsLaws

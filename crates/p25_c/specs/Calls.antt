@@ -1,11 +1,12 @@
 -- What a series of calls tells: the items of a recording, one after the other, however its octets are cut.
-use Rattle.std.specs.Prelude.{◌≡◌, ℕ, ◌+◌, ◌*◌, Bool, true, List, [], ◌∷◌, ◌++◌, length, Option, Some, None}
+use Rattle.std.specs.Prelude.{◌≡◌, ℕ, ◌+◌, ◌*◌, pos, Bool, true, List, [], ◌∷◌, ◌++◌, length, map, Option, Some, None}
 use Rattle.std.specs.List.{sum_by}
 use Rattle.p25_bits.specs.Bits.{octet_bits}
 use Rattle.p25_stream.specs.Items.{items_of}
 use Rattle.p25_units.specs.Items.{covered}
 use Rattle.p25_units.specs.declared.item.Item.{Item}
-use Rattle.p25_c.specs.Items.{items_asked}
+use Rattle.p25_c.specs.Items.{item_answer, item_left, items_asked, parts_of}
+use Rattle.p25_c.specs.declared.items.ItemParts.{ItemParts}
 
 -- what a call is given: octets, the bit at which the first of them stands, and whether none come after them
 pub record Given : Type 0 where
@@ -48,3 +49,22 @@ CallsTellAll =
     (recording : List ℕ) (givens : List Given) (items : List Item) (last : Given) → AreTold recording 0 givens items
     → IsPiece recording last → last.ended ≡ true → items_asked true last.begin (sum_by covered items) last.octets ≡ Some []
     → items_of 0 (octet_bits recording) ≡ items
+
+-- calls of p25_next_item that are given pieces of a recording answer 1, and set numbers: the first asks for a place, each other for the
+-- bit at which, by the numbers that the one before it set, its item ends
+abbrev pub AreSet : List ℕ → ℕ → List Given → List ItemParts → Type 0
+AreSet recording from [] [] = Unit {0}
+AreSet recording from [] (parts ∷ more) = ⊥
+AreSet recording from (given ∷ givens) [] = ⊥
+AreSet recording from (given ∷ givens) (parts ∷ more) =
+    let asked = items_asked given.ended given.begin from given.octets in
+    IsPiece recording given
+    × (item_answer asked ≡ pos 1)
+    × ((before : ItemParts) → item_left asked before ≡ parts)
+    × AreSet recording (parts.place + parts.bits) givens more
+
+-- the numbers that calls set from the first place on are those of the first items of the recording, whatever pieces they are given
+abbrev pub SetsAreItems : Type 0
+SetsAreItems =
+    (recording : List ℕ) (givens : List Given) (parts : List ItemParts) → AreSet recording 0 givens parts
+    → (rest : List ItemParts) × (map parts_of (items_of 0 (octet_bits recording)) ≡ parts ++ rest)

@@ -6,9 +6,11 @@ pub mod Version
 pub mod Many
 pub mod Places
 pub mod Streams
+pub mod StreamCalls
 pub mod Marks
 pub mod Values
 pub mod Fields
 pub mod VoiceCalls
 pub mod Packets
 pub mod ValueLaws
+pub mod BoundsLaws

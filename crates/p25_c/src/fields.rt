@@ -1,6 +1,6 @@
 //! The fields of a unit without a text, and voice units built from them.
 
-ghost use Rattle.std.specs.Prelude.{◌≡◌, ◌<◌, ◌≤◌, Err, length, true};
+ghost use Rattle.std.specs.Prelude.{◌≡◌, ℕ, ◌<◌, ◌≤◌, pos, Err, length, true};
 ghost use Rattle.p25_c.specs.Building.{wrong_nac, wrong_status};
 ghost use Rattle.p25_c.specs.Fields.{body_fields, fields_answer, fields_built, fields_left, frame_octets, frames_held, item_unit, no_fields, unit_answer, unit_left, voice_fields, voice_held};
 ghost use Rattle.p25_c.specs.Items.{items_asked};
@@ -192,8 +192,8 @@ fn put_frames(frames: &[VoiceFrame], octets: &mut [[u8; 18]])
     }
 }
 
-/// Writes the octets of the voice unit of `fields` into `octets`, with one status symbol everywhere, and answers how many. The octets
-/// of `octets` after them stay. `duid` says which unit it is and so which fields are looked at: those that `p25_unit_fields` sets
+/// Writes the octets of the voice unit of `fields` into `octets`, with one status symbol everywhere, and answers how many, 18 to
+/// 216. The octets of `octets` after them stay. `duid` says which unit it is and so which fields are looked at: those that `p25_unit_fields` sets
 /// of such a unit; whether they are there, as `has_lc`, is not looked at.
 ///
 /// Where it does not, all of `octets` stays, and it answers the first of these that applies: -4, `nac` is above 4095; -5, `status`
@@ -204,6 +204,7 @@ pub extern "C" fn p25_build_fields(fields: &FieldParts, status: u8, octets: &mut
     ensures strange_symbol { fields.now.nac < 4096 → 4 ≤ status → IsWriting (Err wrong_status) octets.old octets.new result }
     ensures built { fields.now.nac < 4096 → (symbol : Symbol) → status_number symbol ≡ status
         → IsWriting (fields_built symbol fields.now) octets.old octets.new result }
+    ensures count { (count : ℕ) → result ≡ pos count → (18 ≤ count) × (count ≤ 216) }
 {
     if fields.nac > 4_095 {
         return WRONG_NAC;
@@ -217,7 +218,8 @@ pub extern "C" fn p25_build_fields(fields: &FieldParts, status: u8, octets: &mut
 // Writes the octets of the voice unit of fields.
 fn build_voice(fields: &FieldParts, status: Status, octets: &mut [u8]) -> i32
     requires { fields.now.nac < 4096 }
-    ensures { IsWriting (fields_built status fields.now) octets.old octets.new result }
+    ensures value { IsWriting (fields_built status fields.now) octets.old octets.new result }
+    ensures count { (count : ℕ) → result ≡ pos count → (18 ≤ count) × (count ≤ 216) }
 {
     match voice_held(fields) {
         Some(voice) => write_whole(Unit::new(fields.nac, Body::Voice(voice)), status, octets),

@@ -1,6 +1,6 @@
 //! The items of a recording, one a call.
 
-ghost use Rattle.std.specs.Prelude.{◌≡◌, [], ◌∷◌, false, true, List, Some, length};
+ghost use Rattle.std.specs.Prelude.{◌≡◌, ◌≤◌, [], ◌∷◌, false, true, pos, List, Some, length};
 ghost use Rattle.p25_c.specs.Items.{duid_told, fixes_told, is_inside, item_answer, item_left, item_text_left, items_asked, kind_number, nac_told, parts_of};
 ghost use Rattle.p25_c.specs.Rooms.{text_left};
 ghost use Rattle.p25_text.specs.ItemTexts.{item_text_of};
@@ -26,7 +26,7 @@ const PLACE_MOST: u64 = 1 << 59;
 /// What is told of an item in numbers. `kind` is 1 of a whole unit, 2 of a broken one, 3 of a sync without a unit, 4 of a gap
 /// and 5 of what is cut off. It covers `bits` bits from bit `place` of the recording on. `fixes` is the number of wrong bits of a
 /// whole unit, `nac` and `duid` are those of a unit, whole or broken; of all others they are 0. `text_length` is the number of
-/// octets of its text.
+/// octets of its text, at most 8,191.
 #[derive(Clone, Copy)]
 #[repr(C)]
 pub struct ItemParts {
@@ -59,6 +59,7 @@ pub extern "C" fn p25_next_item(
     ensures answer { result ≡ item_answer (items_asked ended begin from octets.now) }
     ensures item { item.new ≡ item_left (items_asked ended begin from octets.now) item.old }
     ensures text { text.new ≡ item_text_left (items_asked ended begin from octets.now) text.old }
+    ensures short { result ≡ pos 1 → item.new.text_length ≤ 8191 }
 {
     if !is_inside(begin, from, octets.len()) {
         return OUTSIDE;
@@ -108,6 +109,7 @@ pub(crate) fn tell_item(found: &Item, item: &mut ItemParts, text: &mut [u8])
     requires { IsSoundItem found.now }
     ensures item { item.new ≡ parts_of found.now }
     ensures text { text.new ≡ text_left (item_text_of found.now) text.old }
+    ensures short { item.new.text_length ≤ 8191 }
 {
     let mut line = Line::new();
     item_text(found, &mut line);

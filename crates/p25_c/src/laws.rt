@@ -1,6 +1,8 @@
-//! What a series of calls comes to.
+//! What a series of calls comes to, what values say, and the numbers by which a caller makes room.
 
-ghost use Rattle.p25_c.specs.Calls.{CallsTellAll, CallsTellTheFirst};
+ghost use Rattle.p25_c.specs.BoundsLaws.{BridgedAreUnits, BuiltAreUnits, CutsAreShort, EnoughDecide, ItemsAreBounded, RepairedAreUnits, StreamsHaveRoom};
+ghost use Rattle.p25_c.specs.Calls.{CallsTellAll, CallsTellTheFirst, SetsAreItems};
+ghost use Rattle.p25_c.specs.StreamCalls.{StreamsTellAll, StreamsTellTheFirst};
 ghost use Rattle.p25_c.specs.ValueLaws.{CallsAreTold, FieldsComeBack, UnitsAreTold};
 
 /// **Theorem.** Calls that ask for place 0 and then for the place at which the item before ends tell the items of the recording in
@@ -8,9 +10,40 @@ ghost use Rattle.p25_c.specs.ValueLaws.{CallsAreTold, FieldsComeBack, UnitsAreTo
 ///
 /// - `first`: what they tell are the first items of the whole recording.
 /// - `all`: once a call that is given the end of the recording tells none, they were all.
+/// - `numbers`: where each call asks for `place + bits` of the numbers that the one before set, the numbers are those of the first items of
+///   the recording.
 pub(crate) fn series_laws()
     ensures first { CallsTellTheFirst }
     ensures all { CallsTellAll }
+    ensures numbers { SetsAreItems }
+{}
+
+/// **Theorem.** Calls on a stream tell the items of all that is pushed, however it is cut and whenever items are asked for.
+///
+/// - `first`: what they tell are the first items of what was pushed, whatever is pushed then.
+/// - `all`: where the stream has ended, with no dibit that waits, and tells none, they were all.
+pub(crate) fn stream_laws()
+    ensures first { StreamsTellTheFirst }
+    ensures all { StreamsTellAll }
+{}
+
+/// **Theorem.** The numbers by which a caller makes room are enough.
+///
+/// - `needed`: 3,241 octets, from the one on that holds the bit asked for, always decide an item; so a caller who gives octets until so
+///   many are there is told one.
+/// - `stream`: a stream that tells no item has room for 4,928 octets.
+/// - `parts`: an item that is told covers 1 to 25,920 bits, its network access code (NAC) is below 4,096 and its data unit identifier
+///   (DUID) below 16.
+/// - `built`, `repaired`, `bridged`: the octets of a unit are 18 to 3,240.
+/// - `cut`: the octets of an item are at most 3,240.
+pub(crate) fn bounds_laws()
+    ensures needed { EnoughDecide }
+    ensures stream { StreamsHaveRoom }
+    ensures parts { ItemsAreBounded }
+    ensures built { BuiltAreUnits }
+    ensures repaired { RepairedAreUnits }
+    ensures bridged { BridgedAreUnits }
+    ensures cut { CutsAreShort }
 {}
 
 /// **Theorem.** Values in place of text say what is read, and what a caller answers to them are the calls.

@@ -1,6 +1,6 @@
 //! Packets (PDU) built from numbers and octets.
 
-ghost use Rattle.std.specs.Prelude.{◌≡◌, ◌-◌, ◌*◌, ◌<◌, ◌≤◌, Err, IfSome, slice_index, take, true};
+ghost use Rattle.std.specs.Prelude.{◌≡◌, ℕ, ◌-◌, ◌*◌, ◌<◌, ◌≤◌, pos, Err, IfSome, slice_index, take, true};
 ghost use Rattle.p25_c.specs.Building.{wrong_nac, wrong_status};
 ghost use Rattle.p25_c.specs.Packets.{confirmed_of, is_sendable_at, packet_built, packet_held, slot_held, slots_held};
 ghost use Rattle.p25_c.specs.Rooms.{IsWriting};
@@ -24,7 +24,7 @@ use p25_units::{Body, Unit};
 // What is given is no packet that can be sent.
 const WRONG_PACKET: i32 = -9;
 
-/// Writes the octets of the unit of a packet (PDU) into `octets`, with one status symbol everywhere, and answers how many. The octets of
+/// Writes the octets of the unit of a packet (PDU) into `octets`, with one status symbol everywhere, and answers how many, 45 to 3,240. The octets of
 /// `octets` after them stay. Of `packet` the members `nac`, `head` and `octets` are looked at, and of a confirmed packet `good` and
 /// `serials` too: what else its header says is read from `head`.
 ///
@@ -37,6 +37,7 @@ pub extern "C" fn p25_build_packet(packet: &PacketParts, status: u8, octets: &mu
     ensures strange_symbol { packet.now.nac < 4096 → 4 ≤ status → IsWriting (Err wrong_status) octets.old octets.new result }
     ensures built { packet.now.nac < 4096 → (symbol : Symbol) → status_number symbol ≡ status
         → IsWriting (packet_built symbol packet.now) octets.old octets.new result }
+    ensures count { (count : ℕ) → result ≡ pos count → (45 ≤ count) × (count ≤ 3240) }
 {
     if packet.nac > 4_095 {
         return WRONG_NAC;
@@ -50,7 +51,8 @@ pub extern "C" fn p25_build_packet(packet: &PacketParts, status: u8, octets: &mu
 // Writes the octets of the unit of a packet.
 fn build_packet(packet: &PacketParts, status: Status, octets: &mut [u8]) -> i32
     requires { packet.now.nac < 4096 }
-    ensures { IsWriting (packet_built status packet.now) octets.old octets.new result }
+    ensures value { IsWriting (packet_built status packet.now) octets.old octets.new result }
+    ensures count { (count : ℕ) → result ≡ pos count → (45 ≤ count) × (count ≤ 3240) }
 {
     match packet_held(packet) {
         Some(held) => write_whole(Unit::new(packet.nac, Body::Packet(held)), status, octets),

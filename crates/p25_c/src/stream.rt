@@ -2,7 +2,7 @@
 //!
 //! A stream is its numbers, and nothing else is kept: a call takes any, and refuses one whose numbers fit no stream.
 
-ghost use Rattle.std.specs.Prelude.{◌≡◌, ◌-◌, ◌≤◌, ◌==◌, true, min, length, if◌then◌else◌};
+ghost use Rattle.std.specs.Prelude.{◌≡◌, ◌-◌, ◌≤◌, ◌==◌, true, min, pos, length, if◌then◌else◌};
 ghost use Rattle.p25_c.specs.Items.{item_answer, item_text_left, parts_of};
 ghost use Rattle.p25_c.specs.Many.{numbers_of};
 ghost use Rattle.p25_c.specs.Rooms.{text_left};
@@ -106,6 +106,7 @@ pub extern "C" fn p25_stream_next(stream: &mut Stream, item: &mut ItemParts, tex
     ensures item { item.new ≡ item_told (length text.old) (stream_asked stream.old) item.old }
     ensures text { text.new ≡ item_text_left (stream_asked stream.old) text.old }
     ensures stream { stream.new ≡ stream_moved (stream_asked stream.old) stream.old }
+    ensures short { result ≡ pos 1 → item.new.text_length ≤ 8191 }
 {
     if !is_stream(stream) {
         return OUTSIDE;
@@ -189,6 +190,7 @@ fn tell(found: &Item, item: &mut ItemParts, text: &mut [u8])
     requires { IsSoundItem found.now }
     ensures item { item.new ≡ (if length text.old == 0 then numbers_of found.now else parts_of found.now) }
     ensures text { text.new ≡ text_left (item_text_of found.now) text.old }
+    ensures short { item.new.text_length ≤ 8191 }
 {
     if text.is_empty() {
         *item = item_numbers(found);

@@ -4,33 +4,61 @@
 //! answers what happened. Nothing is sent by itself: that a transmission comes to the other station is an event too.
 #![tactic(auto)]
 
-ghost use Rattle.std.specs.Prelude.{◌≡◌, ◌<◌, [], ◌∷◌, OnOk, IfOk};
+ghost use Rattle.std.specs.Prelude.{◌≡◌, ◌<◌, [], ◌∷◌, Some, OnOk, IfOk, codes};
+ghost use Rattle.std.specs.Io.KnownBytes.{Appends};
 ghost use Rattle.p25_stations.specs.Runs.{steps_of, world_run};
 ghost use Rattle.p25_stations.specs.WorldState.{first_world};
-ghost use Rattle.p25_example_exchange.specs.Exchanges.{events_of};
+ghost use Rattle.p25_example_exchange.specs.Exchanges.{counts_text, events_of, exchange_text, steps_text, told_text};
 
 use p25_stations::{Event, Flips, Message, Step, StepKind, World};
-use std::alloc::AllocError;
+use std::alloc::{AllocError, Global};
+use std::io::Write;
 use std::{fmt, io};
 
 #[cfg(test)]
 mod tests;
 
 fn main(rt: HostRuntime) -> io::Result<()> {
-    let mut world = World::new(rt.alloc());
+    let mut output = rt.stdout();
+    print_exchange(rt.alloc(), &mut output)
+}
+
+// Prints the steps of one message, and the counts after them: exactly these lines, where the writer tells what it holds.
+fn print_exchange<W: Write>(alloc: Global, output: &mut W) -> io::Result<()>
+    ensures { OnOk result (Appends (W.contents output.old) (W.contents output.new) (exchange_text (events_of (codes "meet at the gate") 400))) }
+{
+    let mut world = World::new(alloc);
     let Some(message) = Message::new(b"meet at the gate") else {
         // The contract of `new` says that so few octets are a message, so the check proves that no call comes here.
         unreachable!();
     };
     let steps = exchange(&mut world, message, 400)?;
-    for step in &steps {
-        let kind = Told(&step.kind);
-        println!(rt; "{kind}")?;
+    print_steps(&steps, output)?;
+    print_counts(&world, output)
+}
+
+// Prints a line for each step.
+fn print_steps<W: Write>(steps: &[Step], output: &mut W) -> io::Result<()>
+    ensures { OnOk result (Appends (W.contents output.old) (W.contents output.new) (steps_text steps.now)) }
+{
+    for i in 0..steps.len() {
+        let kind = Told(&steps[i].kind);
+        writeln!(output, "{kind}")?;
     }
+    Ok(())
+}
+
+// Prints how many messages were sent, delivered and acknowledged.
+fn print_counts<W: Write>(world: &World, output: &mut W) -> io::Result<()>
+    ensures { OnOk result (Appends (W.contents output.old) (W.contents output.new) (counts_text world.now.state)) }
+{
     let sent = world.sent().len();
     let delivered = world.delivered().len();
     let acknowledged = world.acknowledged();
-    println!(rt; "sent {sent}, delivered {delivered}, acknowledged {acknowledged}")
+    writeln!(
+        output,
+        "sent {sent}, delivered {delivered}, acknowledged {acknowledged}"
+    )
 }
 
 // Offers a message to the sender of a new world, has its transmission come to the receiver with the bit at one place
@@ -63,6 +91,8 @@ fn one_place(place: u16) -> Flips
 struct Told<'a>(&'a StepKind);
 
 impl fmt::Display for Told<'_> {
+    ghost output = { λ told. Some (told_text told.0.now) };
+
     fn fmt<W: fmt::Write>(&self, f: &mut fmt::Formatter<W>) -> fmt::Result {
         match self.0 {
             StepKind::Taken { number, blocks } => {
@@ -73,7 +103,7 @@ impl fmt::Display for Told<'_> {
                 write!(f, "delivered: packet {number}, octets {count}")
             }
             StepKind::Acknowledged { number } => write!(f, "acknowledged: packet {number}"),
-            StepKind::Lost { field, .. } => write!(f, "lost: {field:?}"),
+            StepKind::Lost { .. } => write!(f, "lost"),
             _ => write!(f, "something else"),
         }
     }

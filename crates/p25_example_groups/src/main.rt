@@ -4,14 +4,17 @@
 //! more. At the end of the input call `finish`, and take items once more: the end decides what no octet decided.
 #![tactic(auto)]
 
-ghost use Rattle.std.specs.Prelude.{◌≡◌, ◌+◌, ◌*◌, ◌^◌, ◌<◌, ◌≤◌, ◌++◌, Some, [], true, false, length, OnOk, codes, decimal};
+ghost use Rattle.std.specs.Prelude.{◌≡◌, ◌+◌, ◌-◌, ◌*◌, ◌^◌, ◌<◌, ◌≤◌, Some, [], true, false, length, IfSome, OnOk};
+ghost use Rattle.std.specs.Io.KnownBytes.{Appends};
+ghost use Rattle.p25_bits.specs.Bits.{octet_bits};
 ghost use Rattle.p25_stream.specs.Scan.{given};
+ghost use Rattle.p25_example_groups.specs.Printed.{HasPrinted, lines_left, lines_of, talk_line};
 ghost use Rattle.p25_example_groups.specs.Talks.{talk_of, talk_text};
 
 use p25_link::LinkKind;
 use p25_stream::{Item, Scanner};
 use p25_units::{Body, VoiceUnit};
-use std::io::Read;
+use std::io::{Read, Write};
 use std::{fmt, io};
 
 #[cfg(test)]
@@ -35,50 +38,77 @@ impl fmt::Display for Talk {
 
 fn main(rt: HostRuntime) -> io::Result<()> {
     let mut input = rt.stdin();
+    let mut output = rt.stdout();
+    print_groups(&mut input, &mut output)
+}
+
+// Prints the line of each talk of a recording, as it comes: of fewer octets than there are reads, where the reader tells what is left and
+// the writer what it holds, exactly those lines.
+fn print_groups<R: Read, W: Write>(input: &mut R, output: &mut W) -> io::Result<()>
+    ensures { OnOk result (IfSome (R.remaining input.old) (λ octets. length octets < 2 ^ 32 - 1
+        → Appends (W.contents output.old) (W.contents output.new) (lines_of octets))) }
+{
     let mut scanner = Scanner::new();
     let mut octets = [0; 4_096];
     // A scanner takes up to 2^60 bits: so many reads give fewer than 2^47.
     for _ in 0..u32::MAX {
         let count = input.read(&mut octets)?;
         if count == 0 {
-            break;
+            return print_last(&mut scanner, output);
         }
-        scan(&rt, &octets[..count], &mut scanner)?;
+        scan(&octets[..count], &mut scanner, output)?;
     }
-    scanner.finish();
-    print_talks(&rt, &mut scanner)
+    print_last(&mut scanner, output)
 }
 
 // Pushes octets, a few at a time, and prints what each few decide. A scanner takes octets only while it has no item to give,
 // which is what `drained` says.
-fn scan(rt: &impl Print, octets: &[u8], scanner: &mut Scanner) -> io::Result<()>
+fn scan<W: Write>(octets: &[u8], scanner: &mut Scanner, output: &mut W) -> io::Result<()>
     requires drained { given scanner.old ≡ [] }
     requires going { scanner.old.finished ≡ false }
     requires few { scanner.old.place + length scanner.old.held + 8 * length octets.now < 2 ^ 60 }
     ensures drained { OnOk result (given scanner.new ≡ []) }
     ensures going { OnOk result (scanner.new.finished ≡ false) }
     ensures bits { OnOk result (scanner.new.place + length scanner.new.held ≡ scanner.old.place + length scanner.old.held + 8 * length octets.now) }
+    ensures printed { OnOk result (HasPrinted (octet_bits octets.now) (W.contents output.old) scanner.old (W.contents output.new) scanner.new) }
 {
     let mut taken = 0;
     while taken < octets.len() {
         taken += scanner.push_some(&octets[taken..]);
-        print_talks(rt, scanner)?;
+        print_talks(scanner, output)?;
     }
     Ok(())
 }
 
 // Prints a line for each talk among the items that the scanner can give, until it can give no more.
-fn print_talks(rt: &impl Print, scanner: &mut Scanner) -> io::Result<()>
+fn print_talks<W: Write>(scanner: &mut Scanner, output: &mut W) -> io::Result<()>
     ensures drained { OnOk result (given scanner.new ≡ []) }
     ensures same { scanner.new.finished ≡ scanner.old.finished }
     ensures bits { scanner.new.place + length scanner.new.held ≡ scanner.old.place + length scanner.old.held }
+    ensures printed { OnOk result (HasPrinted [] (W.contents output.old) scanner.old (W.contents output.new) scanner.new) }
 {
     while let Some(item) = scanner.next_item() {
-        if let Some(talk) = read_talk(&item) {
-            println!(rt; "{talk}")?;
-        }
+        print_talk(read_talk(&item), output)?;
     }
     Ok(())
+}
+
+// Prints the line of a talk, where there is one.
+fn print_talk<W: Write>(talk: Option<Talk>, output: &mut W) -> io::Result<()>
+    ensures { OnOk result (Appends (W.contents output.old) (W.contents output.new) (talk_line talk)) }
+{
+    match talk {
+        Some(talk) => writeln!(output, "{talk}"),
+        None => Ok(()),
+    }
+}
+
+// Says that no octet comes after those so far, and prints what that decides: the end decides what no octet decided.
+fn print_last<W: Write>(scanner: &mut Scanner, output: &mut W) -> io::Result<()>
+    ensures { OnOk result (Appends (W.contents output.old) (W.contents output.new) (lines_left scanner.old [])) }
+{
+    scanner.finish();
+    print_talks(scanner, output)
 }
 
 // Who speaks to which group, where the item is a whole LDU1 whose link control (LC) says it.

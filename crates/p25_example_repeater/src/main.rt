@@ -5,10 +5,13 @@
 //! replaced by the image of its frame under the other code. No item changes its length, so each stays where it was.
 #![tactic(auto)]
 
-ghost use Rattle.std.specs.Prelude.{◌≡◌, ◌+◌, ◌*◌, ◌^◌, ◌<◌, ◌≤◌, [], false, length, OnOk};
+ghost use Rattle.std.specs.Prelude.{◌≡◌, ◌+◌, ◌-◌, ◌*◌, ◌^◌, ◌<◌, ◌≤◌, ◌++◌, [], false, length, IfSome, OnOk};
+ghost use Rattle.std.specs.Io.KnownBytes.{Appends};
+ghost use Rattle.p25_bits.specs.Bits.{octet_bits};
 ghost use Rattle.p25_stream.specs.Scan.{given};
 ghost use Rattle.p25_units.specs.Items.{IsSoundItem};
 ghost use Rattle.p25_example_repeater.specs.Repeated.{network, repeated};
+ghost use Rattle.p25_example_repeater.specs.Written.{AreWritten, HasRepeated, bits_due, recording_repeated};
 
 use p25_bits::BitBuf;
 use p25_stream::{Item, Scanner};
@@ -28,6 +31,15 @@ const PIECE: usize = 4_096;
 fn main(rt: HostRuntime) -> io::Result<()> {
     let mut input = rt.stdin();
     let mut output = rt.stdout();
+    repeat_recording(&mut input, &mut output)
+}
+
+// Writes a recording again, item by item as it comes: of fewer octets than there are reads, where the reader tells what is left and the
+// writer what it holds, exactly the octets of its bits that are sent again.
+fn repeat_recording<R: Read, W: Write>(input: &mut R, output: &mut W) -> io::Result<()>
+    ensures { OnOk result (IfSome (R.remaining input.old) (λ octets. length octets < 2 ^ 32 - 1
+        → Appends (W.contents output.old) (W.contents output.new) (recording_repeated octets))) }
+{
     let mut scanner = Scanner::new();
     let mut page = BitBuf::new();
     let mut octets = [0; 4_096];
@@ -35,20 +47,19 @@ fn main(rt: HostRuntime) -> io::Result<()> {
     for _ in 0..u32::MAX {
         let count = input.read(&mut octets)?;
         if count == 0 {
-            break;
+            return write_last(&mut scanner, &mut page, output);
         }
-        scan(&octets[..count], &mut scanner, &mut page, &mut output)?;
+        scan(&octets[..count], &mut scanner, &mut page, output)?;
     }
-    scanner.finish();
-    write_items(&mut scanner, &mut page, &mut output)
+    write_last(&mut scanner, &mut page, output)
 }
 
 // Pushes octets, a few at a time, and writes what each few decide.
-fn scan(
+fn scan<W: Write>(
     octets: &[u8],
     scanner: &mut Scanner,
     page: &mut BitBuf,
-    output: &mut impl Write,
+    output: &mut W,
 ) -> io::Result<()>
     requires drained { given scanner.old ≡ [] }
     requires going { scanner.old.finished ≡ false }
@@ -58,6 +69,8 @@ fn scan(
     ensures going { OnOk result (scanner.new.finished ≡ false) }
     ensures bits { OnOk result (scanner.new.place + length scanner.new.held ≡ scanner.old.place + length scanner.old.held + 8 * length octets.now) }
     ensures left { OnOk result (length page.new < 8) }
+    ensures repeated { OnOk result (HasRepeated (octet_bits octets.now) (W.contents output.old) page.old scanner.old
+        (W.contents output.new) page.new scanner.new) }
 {
     let mut taken = 0;
     while taken < octets.len() {
@@ -67,13 +80,23 @@ fn scan(
     Ok(())
 }
 
+// Says that no octet comes after those so far, and writes what that decides. Bits that fill no octet stay on the page.
+fn write_last<W: Write>(scanner: &mut Scanner, page: &mut BitBuf, output: &mut W) -> io::Result<()>
+    requires { length page.old < 8 }
+    ensures { OnOk result (AreWritten (W.contents output.old) (page.old ++ bits_due scanner.old []) (W.contents output.new) page.new) }
+{
+    scanner.finish();
+    write_items(scanner, page, output)
+}
+
 // Writes the bits of each item that the scanner can give, until it can give no more. Fewer than eight bits stay on the page.
-fn write_items(scanner: &mut Scanner, page: &mut BitBuf, output: &mut impl Write) -> io::Result<()>
+fn write_items<W: Write>(scanner: &mut Scanner, page: &mut BitBuf, output: &mut W) -> io::Result<()>
     requires { length page.old < 8 }
     ensures drained { OnOk result (given scanner.new ≡ []) }
     ensures same { scanner.new.finished ≡ scanner.old.finished }
     ensures bits { scanner.new.place + length scanner.new.held ≡ scanner.old.place + length scanner.old.held }
     ensures left { OnOk result (length page.new < 8) }
+    ensures repeated { OnOk result (HasRepeated [] (W.contents output.old) page.old scanner.old (W.contents output.new) page.new scanner.new) }
 {
     let mut raw = BitBuf::new();
     while let Some(item) = scanner.next(&mut raw) {
@@ -94,9 +117,10 @@ fn repeat(item: &Item, raw: &mut BitBuf)
 }
 
 // Writes bits after those of the page, in whole octets. Fewer than eight bits stay on the page.
-fn write_bits(bits: &BitBuf, page: &mut BitBuf, output: &mut impl Write) -> io::Result<()>
+fn write_bits<W: Write>(bits: &BitBuf, page: &mut BitBuf, output: &mut W) -> io::Result<()>
     requires { length page.old < 8 }
-    ensures { OnOk result (length page.new < 8) }
+    ensures left { OnOk result (length page.new < 8) }
+    ensures written { OnOk result (AreWritten (W.contents output.old) (page.old ++ bits.now) (W.contents output.new) page.new) }
 {
     let mut at = 0;
     while at < bits.len() {
@@ -109,9 +133,10 @@ fn write_bits(bits: &BitBuf, page: &mut BitBuf, output: &mut impl Write) -> io::
 }
 
 // Writes the whole octets of the page.
-fn write_octets(page: &mut BitBuf, output: &mut impl Write) -> io::Result<()>
+fn write_octets<W: Write>(page: &mut BitBuf, output: &mut W) -> io::Result<()>
     requires { length page.old < 4104 }
-    ensures { OnOk result (length page.new < 8) }
+    ensures left { OnOk result (length page.new < 8) }
+    ensures written { OnOk result (AreWritten (W.contents output.old) page.old (W.contents output.new) page.new) }
 {
     let mut octets = [0; 513];
     let count = page.len() / 8;

@@ -15,6 +15,7 @@ use Rattle.p25_stations.specs.WorldState.{first_world}
 use Rattle.p25_stations.specs.declared.step.Event.{Event}
 use Rattle.p25_stations.proofs.CleanLaws.{run-orderly}
 use Rattle.p25_stations.proofs.FalsePassLaws.{clean-from_none}
+use Rattle.p25_stations.proofs.StepListsLaws.{run-acknowledged, run-delivered, run-sent}
 use Rattle.p25_script.specs.Script.{event_of}
 use Rattle.p25_script.proofs.ScriptLaws.{IsEvent-IsScripted, IsLineOf-event_of}
 use Rattle.p25_fragments.specs.LongState.{first_long}
@@ -22,14 +23,18 @@ use Rattle.p25_fragments.specs.LongRuns.{IsCleanLongRun, IsLongEvent, long_run, 
 use Rattle.p25_fragments.specs.declared.long_step.LongEvent.{LongEvent}
 use Rattle.p25_fragments.specs.declared.long_step.LongEvent.TheVariants.{Long, Inner}
 use Rattle.p25_fragments.proofs.LongHistoryLaws.{long-clean}
+use Rattle.p25_fragments.proofs.LongListsLaws.{run-finished, run-taken, run-whole}
 use Rattle.p25_fragments.proofs.LongRunLaws.{long-orderly, long-unrefused}
 use Rattle.p25_fragment_script.specs.LongScript.{IsLongScripted, long_event_of}
 use Rattle.p25_fragment_script.specs.LongTexts.{long_step_text_of}
 use Rattle.p25_fragment_script.proofs.LongScriptLaws.{IsLineOf-long_event_of}
 use Rattle.p25_duplex.specs.declared.event.DuplexEvent.{DuplexEvent}
+use Rattle.p25_duplex.specs.declared.side.Side.{Side}
+use Rattle.p25_duplex.specs.declared.side.Side.TheVariants.{A, B}
 use Rattle.p25_duplex.specs.DuplexSteps.{first_duplex}
 use Rattle.p25_duplex.specs.DuplexRuns.{IsCleanDuplex, IsDuplexEvent, duplex_run, duplex_steps}
 use Rattle.p25_duplex.proofs.CountLaws.{clean-from_none as duplex-clean}
+use Rattle.p25_duplex.proofs.DuplexListsLaws.{run-acknowledged as duplex-acknowledged, run-heard, run-sent as duplex-sent}
 use Rattle.p25_duplex.proofs.RunLaws.{run-orderly as duplex-orderly}
 use Rattle.p25_duplex_script.specs.DuplexLines.{duplex_event_of}
 use Rattle.p25_duplex_script.proofs.DuplexLineLaws.{read-event}
@@ -49,7 +54,7 @@ use Rattle.p25_tool.specs.declared.outcome.Outcome.TheVariants.{Done, Memory, To
 use Rattle.p25_tool.specs.Outcomes.{ending_outcome, filter_outcome}
 use Rattle.p25_tool.specs.Outputs.{CanWantMemory, closing_line, command_future, duplex_closing_lines, duplex_step_line, ending_by, long_closing_line, output_by, step_line}
 use Rattle.p25_tool.specs.Runs.{answer_of, ending_or}
-use Rattle.p25_tool.specs.Scripts.{HasDuplexRun, HasLongRun, HasRun, IsDuplexScriptOf, IsLongScriptOf, IsOrderlyLongRun, IsRunOf, IsScript, IsScriptOf}
+use Rattle.p25_tool.specs.Scripts.{HasDuplexRun, HasLongRun, HasRun, IsDuplexScriptOf, IsLongScriptOf, IsOrderlyLongRun, IsRunOf, IsScript, IsScriptOf, TellsLists, TellsListsOf, TellsLongLists}
 
 -- how a line is read
 abbrev Reading : Type 0 → Type 0
@@ -148,13 +153,14 @@ module _ {E S : Type 0} (read : Reading E) (steps : List E → List S) (line : S
   script-ended outcome (inl same) = inl (same ∙ answer-done)
   script-ended outcome (inr wanting) = inr wanting.0
 
-  run-of : (passes : List E → ℕ) (IsClean IsOrderlyRun : List E → Type 0) → (passes events ≡ 0 → IsClean events) → (IsClean events → IsOrderlyRun events) → (end : FilterEnd) (outcome : Outcome) → outcome ≡ filter_outcome end
+  run-of : (passes : List E → ℕ) (IsClean IsOrderlyRun Tells : List E → Type 0) → (passes events ≡ 0 → IsClean events) → (IsClean events → IsOrderlyRun events) → Tells events → (end : FilterEnd) (outcome : Outcome) → outcome ≡ filter_outcome end
       → Filtered told left first last (command_future command) end → (outcome ≡ answer_of command input) ⊎ ((outcome ≡ Memory) × CanWantMemory command)
-      → IsRunOf (λ all. flat_map line (steps all) ++ closing all) passes IsClean IsOrderlyRun first last events outcome
+      → IsRunOf (λ all. flat_map line (steps all) ++ closing all) passes IsClean IsOrderlyRun Tells first last events outcome
   unfolding text
-  run-of passes IsClean IsOrderlyRun counted orderly end outcome same worked complete = record {
+  run-of passes IsClean IsOrderlyRun Tells counted orderly tells end outcome same worked complete = record {
     ended = script-ended outcome complete;
     wrote = λ done. wrote-done end worked (sym same ∙ done);
+    told = tells;
     orderly = orderly;
     counted = counted;
   }
@@ -164,11 +170,19 @@ module _ {E S : Type 0} (read : Reading E) (steps : List E → List S) (line : S
 is_event : (line : List ℕ) (event : Event) → event_of line ≡ Ok event → IsEvent event
 is_event line event same = IsEvent-IsScripted event (IsLineOf-event_of line event same).fits
 
+tells-lists : (events : List Event) → TellsLists events
+tells-lists events = record {
+  delivered = run-delivered events first_world;
+  sent = run-sent events first_world;
+  acknowledged = omega (arith, run-acknowledged events first_world);
+}
+
 pub script-run : (told left first last : Option (List ℕ)) (input : List ℕ) (events : List Event) → IsScriptOf input events → told ≡ Some input → (end : FilterEnd) (outcome : Outcome) → outcome ≡ filter_outcome end
     → Filtered told left first last (command_future Stations) end → (outcome ≡ answer_of Stations input) ⊎ ((outcome ≡ Memory) × CanWantMemory Stations) → HasRun first last events outcome
 script-run told left first last input events script is_told =
     run-of event_of (steps_of first_world) step_line (λ all. closing_line (world_run first_world all)) Stations refl told left first last input events script is_told
-    (λ all. (world_run first_world all).false_passes) IsCleanRun _ (clean-from_none events) (run-orderly events (each-read event_of IsEvent is_event (lines_in true [] input) events script.lines))
+    (λ all. (world_run first_world all).false_passes) IsCleanRun _ TellsLists (clean-from_none events) (run-orderly events (each-read event_of IsEvent is_event (lines_in true [] input) events script.lines))
+    (tells-lists events)
 
 -- Scripts of long messages.
 
@@ -180,21 +194,42 @@ is-long_event line event same = by_event event (IsLineOf-long_event_of line even
     by_event (Long message) fits = fits.short
     by_event (Inner event) fits = fits.no_offer
 
+tells-long_lists : (events : List LongEvent) → TellsLongLists events
+tells-long_lists events = record {
+  whole = run-whole events first_long;
+  taken = run-taken events first_long;
+  acknowledged = omega (arith, run-finished events first_long);
+}
+
 pub long-script-run : (told left first last : Option (List ℕ)) (input : List ℕ) (events : List LongEvent) → IsLongScriptOf input events → told ≡ Some input → (end : FilterEnd) (outcome : Outcome) → outcome ≡ filter_outcome end
     → Filtered told left first last (command_future Fragments) end → (outcome ≡ answer_of Fragments input) ⊎ ((outcome ≡ Memory) × CanWantMemory Fragments) → HasLongRun first last events outcome
 long-script-run told left first last input events script is_told =
     let fit = each-read long_event_of IsLongEvent is-long_event (lines_in true [] input) events script.lines in
     run-of long_event_of (long_steps_of first_long) long_step_text_of (λ all. long_closing_line (long_run first_long all)) Fragments refl told left first last input events script is_told
-    (λ all. (long_run first_long all).inner.false_passes) IsCleanLongRun IsOrderlyLongRun (long-clean events) (λ clean. (long-unrefused events fit clean, long-orderly events fit clean))
+    (λ all. (long_run first_long all).inner.false_passes) IsCleanLongRun IsOrderlyLongRun TellsLongLists (long-clean events) (λ clean. (long-unrefused events fit clean, long-orderly events fit clean))
+    (tells-long_lists events)
 
 -- Scripts of both stations.
 
 is-duplex_event : (line : List ℕ) (event : DuplexEvent) → duplex_event_of line ≡ Ok event → IsDuplexEvent event
 is-duplex_event line event same = read-event line (Ok event) (sym same)
 
+tells-lists_of : (events : List DuplexEvent) (side : Side) → TellsListsOf events side
+tells-lists_of events A = record {
+  delivered = run-heard B events first_duplex;
+  sent = duplex-sent A events first_duplex;
+  acknowledged = omega (arith, duplex-acknowledged A events first_duplex);
+}
+tells-lists_of events B = record {
+  delivered = run-heard A events first_duplex;
+  sent = duplex-sent B events first_duplex;
+  acknowledged = omega (arith, duplex-acknowledged B events first_duplex);
+}
+
 pub duplex-script-run : (told left first last : Option (List ℕ)) (input : List ℕ) (events : List DuplexEvent) → IsDuplexScriptOf input events → told ≡ Some input → (end : FilterEnd) (outcome : Outcome) → outcome ≡ filter_outcome end
     → Filtered told left first last (command_future Duplex) end → (outcome ≡ answer_of Duplex input) ⊎ ((outcome ≡ Memory) × CanWantMemory Duplex) → HasDuplexRun first last events outcome
 duplex-script-run told left first last input events script is_told =
     let fit = each-read duplex_event_of IsDuplexEvent is-duplex_event (lines_in true [] input) events script.lines in
     run-of duplex_event_of (duplex_steps first_duplex) duplex_step_line (λ all. duplex_closing_lines (duplex_run first_duplex all)) Duplex refl told left first last input events script is_told
-    (λ all. (duplex_run first_duplex all).false_passes) IsCleanDuplex _ (duplex-clean events) (λ clean side. duplex-orderly events side fit clean)
+    (λ all. (duplex_run first_duplex all).false_passes) IsCleanDuplex _ (λ all. (side : Side) → TellsListsOf all side) (duplex-clean events) (λ clean side. duplex-orderly events side fit clean)
+    (λ side. tells-lists_of events side)

@@ -5,19 +5,19 @@ use Rattle.p25_io.specs.Octets.{Appended}
 use Rattle.p25_line.specs.declared.fault.LineFault.{LineFault}
 use Rattle.p25_delivery.specs.Orderly.{AreOrderly}
 use Rattle.p25_delivery.specs.Delivery.{sessions_of}
-use Rattle.p25_stations.specs.Runs.{IsCleanRun, steps_of, world_run}
+use Rattle.p25_stations.specs.Runs.{IsCleanRun, acknowledged_in, delivered_in, sent_in, steps_of, world_run}
 use Rattle.p25_stations.specs.WorldState.{first_world}
 use Rattle.p25_stations.specs.declared.step.Event.{Event}
 use Rattle.p25_script.specs.Script.{event_of}
 use Rattle.p25_fragments.specs.LongState.{first_long}
-use Rattle.p25_fragments.specs.LongRuns.{AreUnrefused, IsCleanLongRun, long_run, long_sessions_of, long_steps_of}
+use Rattle.p25_fragments.specs.LongRuns.{AreUnrefused, IsCleanLongRun, finished_in, long_run, long_sessions_of, long_steps_of, taken_in, whole_in}
 use Rattle.p25_fragments.specs.declared.long_step.LongEvent.{LongEvent}
 use Rattle.p25_fragment_script.specs.LongScript.{long_event_of}
 use Rattle.p25_fragment_script.specs.LongTexts.{long_step_text_of}
 use Rattle.p25_duplex.specs.declared.side.Side.{Side}
 use Rattle.p25_duplex.specs.declared.event.DuplexEvent.{DuplexEvent}
-use Rattle.p25_duplex.specs.DuplexSteps.{first_duplex, delivery_at}
-use Rattle.p25_duplex.specs.DuplexRuns.{IsCleanDuplex, duplex_run, duplex_steps}
+use Rattle.p25_duplex.specs.DuplexSteps.{first_duplex, delivery_at, other_side}
+use Rattle.p25_duplex.specs.DuplexRuns.{IsCleanDuplex, duplex_run, duplex_steps, side_acknowledged_in, side_heard_in, side_sent_in}
 use Rattle.p25_duplex_script.specs.DuplexLines.{duplex_event_of}
 use Rattle.p25_filter.specs.Lines.{lines_in}
 use Rattle.p25_filter.specs.Runs.{input_most}
@@ -31,11 +31,12 @@ pub record IsScript {E : Type 0} (read : List ℕ → Result E LineFault) (input
   pub lines : map read (lines_in true [] input) ≡ map (λ event. Ok event) events
 
 -- a script was run to its end and all lines that tell of it were written, or memory was wanting; where the run is clean it is orderly, and
--- where the number of false passes that its closing line tells is 0 it is clean
-pub record IsRunOf {E : Type 0} (text : List E → List ℕ) (passes : List E → ℕ) (IsClean IsOrderlyRun : List E → Type 0) (first last : Option (List ℕ))
-    (events : List E) (outcome : Outcome) : Type 0 where
+-- where the number of false passes that its closing line tells is 0 it is clean; its steps tell its lists
+pub record IsRunOf {E : Type 0} (text : List E → List ℕ) (passes : List E → ℕ) (IsClean IsOrderlyRun TellsLists : List E → Type 0)
+    (first last : Option (List ℕ)) (events : List E) (outcome : Outcome) : Type 0 where
   pub ended : (outcome ≡ Done) ⊎ (outcome ≡ Memory)
   pub wrote : outcome ≡ Done → Appended first (text events) last
+  pub told : TellsLists events
   pub orderly : IsClean events → IsOrderlyRun events
   pub counted : passes events ≡ 0 → IsClean events
 
@@ -48,10 +49,17 @@ IsScriptOf input events = IsScript event_of input events
 abbrev pub script_text : List Event → List ℕ
 script_text events = flat_map step_line (steps_of first_world events) ++ closing_line (world_run first_world events)
 
+-- the steps of a run tell its lists: the messages of the Delivered steps, in order, are those delivered, the messages of the events whose
+-- step is Taken are those sent, and there are as many Acknowledged steps as messages acknowledged
+pub record TellsLists (events : List Event) : Type 0 where
+  pub delivered : (world_run first_world events).delivery.inbound.received ≡ delivered_in (steps_of first_world events)
+  pub sent : (world_run first_world events).delivery.outbound.sent ≡ sent_in events (steps_of first_world events)
+  pub acknowledged : (world_run first_world events).delivery.outbound.acknowledged ≡ acknowledged_in (steps_of first_world events)
+
 abbrev pub HasRun : Option (List ℕ) → Option (List ℕ) → List Event → Outcome → Type 0
 HasRun first last events outcome =
     IsRunOf script_text (λ events. (world_run first_world events).false_passes) IsCleanRun
-    (λ events. AreOrderly (sessions_of (world_run first_world events).delivery)) first last events outcome
+    (λ events. AreOrderly (sessions_of (world_run first_world events).delivery)) TellsLists first last events outcome
 
 -- `fragments`: where no step of the inner world is a false pass, no part is refused and each session is orderly: the long messages
 -- whole are the first of those taken, those acknowledged are whole, and one at most is whole that was not acknowledged
@@ -64,9 +72,17 @@ long_script_text events = flat_map long_step_text_of (long_steps_of first_long e
 abbrev pub IsOrderlyLongRun : List LongEvent → Type 0
 IsOrderlyLongRun events = AreUnrefused (long_steps_of first_long events) × AreOrderly (long_sessions_of (long_run first_long events))
 
+-- the messages of the Whole steps, in order, are those that came whole, the long messages of the events whose step is Started are those
+-- taken, and there are as many Finished steps as long messages acknowledged
+pub record TellsLongLists (events : List LongEvent) : Type 0 where
+  pub whole : (long_run first_long events).whole ≡ whole_in (long_steps_of first_long events)
+  pub taken : (long_run first_long events).taken ≡ taken_in events (long_steps_of first_long events)
+  pub acknowledged : (long_run first_long events).acknowledged ≡ finished_in (long_steps_of first_long events)
+
 abbrev pub HasLongRun : Option (List ℕ) → Option (List ℕ) → List LongEvent → Outcome → Type 0
 HasLongRun first last events outcome =
-    IsRunOf long_script_text (λ events. (long_run first_long events).inner.false_passes) IsCleanLongRun IsOrderlyLongRun first last events outcome
+    IsRunOf long_script_text (λ events. (long_run first_long events).inner.false_passes) IsCleanLongRun IsOrderlyLongRun TellsLongLists
+    first last events outcome
 
 -- `duplex`: where no step is a false pass, each session of each side's messages is orderly
 abbrev pub IsDuplexScriptOf : List ℕ → List DuplexEvent → Type 0
@@ -75,7 +91,16 @@ IsDuplexScriptOf input events = IsScript duplex_event_of input events
 abbrev pub duplex_script_text : List DuplexEvent → List ℕ
 duplex_script_text events = flat_map duplex_step_line (duplex_steps first_duplex events) ++ duplex_closing_lines (duplex_run first_duplex events)
 
+-- of a side, the messages of the Delivered steps at the other one, in order, are those delivered, the messages of its events whose step is
+-- Taken are those sent, and there are as many Acknowledged steps of it as messages acknowledged
+pub record TellsListsOf (events : List DuplexEvent) (side : Side) : Type 0 where
+  pub delivered : (delivery_at side (duplex_run first_duplex events)).inbound.received ≡ side_heard_in (other_side side) (duplex_steps first_duplex events)
+  pub sent : (delivery_at side (duplex_run first_duplex events)).outbound.sent ≡ side_sent_in side events (duplex_steps first_duplex events)
+  pub acknowledged : (delivery_at side (duplex_run first_duplex events)).outbound.acknowledged
+      ≡ side_acknowledged_in side (duplex_steps first_duplex events)
+
 abbrev pub HasDuplexRun : Option (List ℕ) → Option (List ℕ) → List DuplexEvent → Outcome → Type 0
 HasDuplexRun first last events outcome =
     IsRunOf duplex_script_text (λ events. (duplex_run first_duplex events).false_passes) IsCleanDuplex
-    (λ events. (side : Side) → AreOrderly (sessions_of (delivery_at side (duplex_run first_duplex events)))) first last events outcome
+    (λ events. (side : Side) → AreOrderly (sessions_of (delivery_at side (duplex_run first_duplex events))))
+    (λ events. (side : Side) → TellsListsOf events side) first last events outcome

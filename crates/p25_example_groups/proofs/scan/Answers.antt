@@ -1,8 +1,18 @@
-use Rattle.std.proofs.Common.{◌+◌, ◌-◌, ◌≤◌, length, take, drop, ap, ◌∙◌, arith, length-append, length-take, length-drop}
+use Rattle.std.proofs.Common.{◌+◌, ◌-◌, ◌≤◌, [], length, take, drop, ap, refl, subst, ◌∙◌, arith, length-append, length-take, length-drop}
 use Rattle.p25_bits.specs.Bits.{octet_bits}
 use Rattle.p25_bits.proofs.BitsLaws.{length-octet_bits}
 use Rattle.p25_stream.specs.Scan.{Scan}
+use Rattle.p25_example_groups.proofs.PrintedLaws.{printed-begun, printed-next}
 use Rattle.p25_example_groups.proofs.scan.Goals as goal
+
+pub loop-taken-init : goal.loop-taken-init
+loop-taken-init g c = record {
+  there = omega arith;
+  drained = c.requires.drained;
+  going = c.requires.going;
+  bits = omega arith;
+  printed = printed-begun c.args.octets.now _ _;
+}
 
 pub loop-taken-preserved : goal.loop-taken-preserved
 loop-taken-preserved g c =
@@ -28,4 +38,5 @@ loop-taken-preserved g c =
         c.print_talks.ensures.bits,
         c.loop-taken.invariant.bits,
       );
+      printed = printed-next octets taken count _ _ _ _ c.loop-taken.scanner _ _ c.loop-taken.invariant.going c.loop-taken.invariant.printed same c.in_ok-print_talks.ensures.printed;
     }

@@ -2,7 +2,18 @@ use Rattle.std.proofs.Common.{◌+◌, ◌-◌, ◌≤◌, length, take, drop, a
 use Rattle.p25_bits.specs.Bits.{octet_bits}
 use Rattle.p25_bits.proofs.BitsLaws.{length-octet_bits}
 use Rattle.p25_stream.specs.Scan.{Scan}
+use Rattle.p25_example_repeater.proofs.WrittenLaws.{repeated-begun, repeated-next}
 use Rattle.p25_example_repeater.proofs.scan.Goals as goal
+
+pub loop-taken-init : goal.loop-taken-init
+loop-taken-init g c = record {
+  there = omega arith;
+  drained = c.requires.drained;
+  going = c.requires.going;
+  left = c.requires.left;
+  bits = omega arith;
+  repeated = repeated-begun c.args.octets.now _ c.args.page.now _ c.requires.left;
+}
 
 pub loop-taken-preserved : goal.loop-taken-preserved
 loop-taken-preserved g c =
@@ -29,4 +40,5 @@ loop-taken-preserved g c =
         c.write_items.ensures.bits,
         c.loop-taken.invariant.bits,
       );
+      repeated = repeated-next octets taken count _ _ _ _ _ _ _ c.loop-taken.scanner _ _ c.loop-taken.invariant.going c.loop-taken.invariant.repeated same c.in_ok-write_items.ensures.repeated;
     }

@@ -1,0 +1,13 @@
+use Rattle.p25_c.proofs.BoundsLaws.{bridged-units, built-units, cuts-short, enough-decide, items-bounded, repaired-units, streams-room}
+use Rattle.p25_c.proofs.laws.bounds_laws.Goals as goal
+
+pub returns : goal.returns
+returns c = record {
+  needed = enough-decide;
+  stream = streams-room;
+  parts = items-bounded;
+  built = built-units;
+  repaired = repaired-units;
+  bridged = bridged-units;
+  cut = cuts-short;
+}

@@ -1,0 +1,35 @@
+-- What is written of a recording.
+use Rattle.std.specs.Prelude.{◌≡◌, ℕ, ◌*◌, ◌/◌, Bool, true, List, [], ◌∷◌, ◌++◌, length, take, drop, Option}
+use Rattle.std.specs.Io.KnownBytes.{Appends}
+use Rattle.p25_bits.specs.Bits.{octet_bits}
+use Rattle.p25_stream.specs.Items.{items_of}
+use Rattle.p25_stream.specs.Scan.{Scan}
+use Rattle.p25_units.specs.Items.{covered}
+use Rattle.p25_units.specs.Units.{whole_octets}
+use Rattle.p25_units.specs.declared.item.Item.{Item}
+use Rattle.p25_example_repeater.specs.Repeated.{repeated}
+
+-- what is sent again of items that lie end to end over some bits
+unfoldable pub repeated_by : List Item → List Bool → List Bool
+repeated_by [] bits = []
+repeated_by (item ∷ items) bits = repeated item (take (covered item) bits) ++ repeated_by items (drop (covered item) bits)
+
+-- a recording, sent again: the octets that these bits fill
+abbrev pub recording_repeated : List ℕ → List ℕ
+recording_repeated octets = whole_octets (repeated_by (items_of 0 (octet_bits octets)) (octet_bits octets))
+
+-- bits were written: the octets that they fill stand behind what a writer held, and the bits that fill none are left
+pub record AreWritten (before : Option (List ℕ)) (bits : List Bool) (now : Option (List ℕ)) (left : List Bool) : Type 0 where
+  pub octets : Appends before now (whole_octets bits)
+  pub rest : left ≡ drop (8 * (length bits / 8)) bits
+
+-- the bits that are still sent again of what a scanner holds, where these bits come yet and then no more
+abbrev pub bits_due : Scan → List Bool → List Bool
+bits_due scan more = repeated_by (items_of scan.place (scan.held ++ more)) (scan.held ++ more)
+
+-- since a writer held `before` and a page `kept`, bits came to a scanner, and some of the bits that are sent again were written; the others
+-- are due
+pub record HasRepeated (bits : List Bool) (before : Option (List ℕ)) (kept : List Bool) (scan : Scan) (now : Option (List ℕ)) (left : List Bool) (next : Scan) : Type 0 where
+  pub done : List Bool
+  pub written : AreWritten before (kept ++ done) now left
+  pub due : (more : List Bool) → (next.finished ≡ true → more ≡ []) → bits_due scan (bits ++ more) ≡ done ++ bits_due next more
