@@ -9,7 +9,7 @@ ghost use Rattle.p25_bch_nid.specs.Bch63.{IsBch63};
 ghost use Rattle.p25_bch_nid.specs.NidReading.{IsNidReading, identifier_of_word, nid_reading_of};
 ghost use Rattle.p25_bch_nid.specs.NidWord.{nid_word};
 
-use crate::duid::{HDU, LDU1, LDU2, PDU, TDU, TDULC};
+use crate::{HDU, LDU1, LDU2, PDU, TDU, TDULC};
 
 /// **Theorem.** The words of the code, which are zero at α^1 to α^22, are the lists of 63 bits that are divisible by the generator.
 pub fn two_forms()

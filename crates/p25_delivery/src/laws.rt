@@ -10,6 +10,9 @@ ghost use Rattle.p25_delivery.specs.Orderly.{IsCleanRun, AreCounted, AreOrderly,
 ghost use Rattle.p25_delivery.specs.Halves.{Sending, IsSending, Receiving, Nothing};
 ghost use Rattle.p25_delivery.specs.AtOnce.{DeliversAtOnce, OpensAtOnce};
 ghost use Rattle.p25_delivery.specs.Facts.{DeliveryFacts};
+ghost use Rattle.p25_delivery.specs.SentPackets.{station_llid};
+
+use crate::{LLID, NAC};
 
 /// **Theorem.** Its clauses say that the octets of a message's blocks are read back as that message, of whatever
 /// length it is, and that this is so in whatever order its blocks come, in one packet or in several.
@@ -59,4 +62,10 @@ pub fn undamaged_packets_do()
         DeliversAtOnce (delivery_run first_delivery events).outbound.sender (delivery_run first_delivery events).inbound.receiver message }
     ensures opened { (sender : Sending) (receiver : Receiving) →
         IsSending sender → sender.down ≡ true → OpensAtOnce sender receiver }
+{}
+
+/// **Theorem.** The network access code (NAC) and the logical link identifier (LLID) that both stations use.
+pub fn numbers()
+    ensures nac { NAC ≡ 0x293 }
+    ensures llid { LLID ≡ station_llid }
 {}

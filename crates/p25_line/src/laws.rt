@@ -2,7 +2,7 @@
 
 ghost use Rattle.std.specs.Prelude.{◌≡◌};
 
-use super::line::LINE_MOST;
+use crate::LINE_MOST;
 
 /// **Theorem.** The most octets of a line are 8,192.
 pub fn numbers()

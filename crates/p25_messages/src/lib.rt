@@ -15,6 +15,7 @@
 
 mod answers;
 mod flips;
+pub mod laws;
 mod long_message;
 mod message;
 mod message_list;

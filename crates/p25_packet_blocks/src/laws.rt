@@ -11,8 +11,7 @@ ghost use Rattle.p25_packet_blocks.specs.Reading.{packet_reading_of};
 ghost use Rattle.p25_packet_blocks.specs.Within.{AreBlocksWithin, IsPacketWithin, IsSending, sent_unit};
 ghost use Rattle.p25_packet_blocks.specs.UnitReading.{packet_unit_of};
 
-use crate::head::{CONFIRMED_FORMAT, PLAIN_FORMAT, RESPONSE_FORMAT};
-use crate::read::{BLOCK_LENGTH, BLOCKS_AT, HEADER_AT};
+use crate::{BLOCK_LENGTH, BLOCKS_AT, CONFIRMED_FORMAT, HEADER_AT, PLAIN_FORMAT, RESPONSE_FORMAT};
 use p25_trellis::laws::{half_rate_near, three_quarter_rate_near};
 
 /// **Theorem.** Bits are the image of a packet that can be sent exactly where they stand as `IsPacketImage` says. So each such packet has

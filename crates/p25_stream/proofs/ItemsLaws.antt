@@ -12,7 +12,7 @@ use Rattle.p25_units.specs.declared.needs.Need.{Need}
 use Rattle.p25_units.specs.declared.needs.Need.TheVariants.{NoSync, More, Length, NoLength}
 use Rattle.p25_units.specs.declared.item.Item.{Item}
 use Rattle.p25_units.specs.declared.item.Item.TheVariants.{NoUnit, Gap, Cut}
-use Rattle.p25_units.proofs.NeedsLaws.{need_of-there, need_of-seen, need_of-stays}
+use Rattle.p25_units.proofs.NeedsLaws.{need_of-few, need_of-there, need_of-seen, need_of-stays}
 use Rattle.p25_units.proofs.ItemsLaws.{covered-unit_item_of, place_of-unit_item_of, IsSoundItem-unit_item_of, unit_item_of-no_gap}
 use Rattle.p25_stream.specs.Items.{sync_place, synced_item, gap_of, first_item, gap_known, is_decided, items_in, items_by, decided_of}
 use Rattle.p25_stream.proofs.SyncPlaceLaws.{sync_place-le, sync_place-unsynced, sync_place-append, sync_place-append_far}
@@ -183,6 +183,20 @@ first_item-append at bits more decided =
             first_item-synced at (bits ++ more) need still stays ∙ synced-append at bits more need refl known ∙ sym (first_item-synced at bits need yes' refl),
             is_decided-synced (bits ++ more) need still stays ∙ known,
           )
+    ]
+
+-- a need is known where the bits of the longest unit are there, and so is a gap
+need-known : (bits : List Bool) (need : Need) → need_of bits ≡ need → 25920 ≤ length bits → is_known need ≡ true
+need-known bits NoSync is long = refl
+need-known bits (More count) is long = let few = need_of-few bits count is in absurd (omega (arith, few.0, few.1, long))
+need-known bits (Length count) is long = refl
+need-known bits (NoLength field) is long = refl
+
+pub enough-decide : (bits : List Bool) → 25920 ≤ length bits → is_decided bits ≡ true
+enough-decide bits long =
+    elim (cases_Bool (has_sync bits)) [
+      | inr no' ↦ is_decided-gap bits no' ∙ le-leb (min (gap_of bits + 48) (4096 + 47)) (length bits) (omega (arith, long))
+      | inl yes' ↦ is_decided-synced bits (need_of bits) yes' refl ∙ need-known bits (need_of bits) refl long
     ]
 
 -- no bits decide nothing

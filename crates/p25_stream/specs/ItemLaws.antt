@@ -63,6 +63,10 @@ FirstStays =
     (at : ℕ) (bits more : List Bool)
     → is_decided bits ≡ true → (first_item at (bits ++ more) ≡ first_item at bits) × (is_decided (bits ++ more) ≡ true)
 
+-- 25,920 bits, as many as the longest unit has, decide a first item, whatever they are; so what that is hangs on no more bits
+abbrev pub EnoughDecide : Type 0
+EnoughDecide = (bits : List Bool) → 25920 ≤ length bits → is_decided bits ≡ true
+
 -- the items that some bits decide stay the first ones, whatever bits come later, and whether the stream has ended or not
 abbrev pub DecidedStay : Type 0
 DecidedStay = (ended : Bool) (at : ℕ) (bits more : List Bool) → (rest : List Item) × (items_by ended at (bits ++ more) ≡ decided_of at bits ++ rest)

@@ -19,7 +19,7 @@ const SHORTEST: usize = 144;
 /// Sets `item` to the first item of the bits of some octets from bit `at` on, and answers true. `place` is where that bit
 /// stands in the stream, and `ended` says that no octets come after these. False comes exactly where there is no item: where
 /// the bits decide none, or where there are none; then `item` stays as it is. It looks at
-/// 3,241 octets at most, from the one that holds bit `at` on.
+/// 3,241 octets at most, from the one that holds bit `at` on: so many always decide an item (`item_laws`, clause `enough`).
 pub fn find_item(octets: &[u8], at: usize, place: u64, ended: bool, item: &mut Item) -> bool
     ensures first { result ≡ true → IsFirst ended place (drop at (octet_bits octets.now)) item.new }
     ensures none { result ≡ false → (items_by ended place (drop at (octet_bits octets.now)) ≡ []) × (item.new ≡ item.old) }

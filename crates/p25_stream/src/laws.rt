@@ -1,7 +1,7 @@
 //! The laws of a stream's items.
 
 ghost use Rattle.p25_stream.specs.Arrivals.{UnitIsFound, UnitsAreWhole};
-ghost use Rattle.p25_stream.specs.ItemLaws.{DecidedStay, FirstStays, GapsAreFull, GaveItems, ImageIsWhole, ItemsAreSound, ItemsCoverAll, ItemsLieEndToEnd, ItemsUnfold, NearIsWhole, SentTerminatorIsRead, SyncPlaceIsLeast, TerminatorIsRead, TerminatorIsThere, WholeIsRead};
+ghost use Rattle.p25_stream.specs.ItemLaws.{DecidedStay, EnoughDecide, FirstStays, GapsAreFull, GaveItems, ImageIsWhole, ItemsAreSound, ItemsCoverAll, ItemsLieEndToEnd, ItemsUnfold, NearIsWhole, SentTerminatorIsRead, SyncPlaceIsLeast, TerminatorIsRead, TerminatorIsThere, WholeIsRead};
 
 /// **Theorem.** The laws of the items of a stream, over all bits.
 ///
@@ -11,6 +11,7 @@ ghost use Rattle.p25_stream.specs.ItemLaws.{DecidedStay, FirstStays, GapsAreFull
 /// - `gaps`: a gap has 4,096 bits at most, and exactly that many where another gap follows.
 /// - `sound`: each item is sound.
 /// - `first_stays`, `decided_stay`: what some bits decide stays and begins the items, whatever bits come later.
+/// - `enough`: 25,920 bits always decide a first item.
 /// - `near`: a unit with few wrong bits at a place where an item begins is that item, whole and as received.
 /// - `whole`: an item is a whole unit only where the bits that it covers read as its frame, as received: those of its front lie
 ///   within radius, and what it carries is what its code words and blocks read as.
@@ -28,6 +29,7 @@ pub fn item_laws()
     ensures sound { ItemsAreSound }
     ensures first_stays { FirstStays }
     ensures decided_stay { DecidedStay }
+    ensures enough { EnoughDecide }
     ensures near { NearIsWhole }
     ensures whole { WholeIsRead }
     ensures undamaged { ImageIsWhole }

@@ -1,7 +1,8 @@
 -- The tables of the search have what the points say: each entry is compared, and the comparison computes.
-use Rattle.std.proofs.Common.{◌≡◌, ℕ, ◌+◌, ◌*◌, ◌<◌, ◌≤◌, inl, inr, Bool, true, false, eqb, ltb, ◌||◌, not, List, length, take, drop, get_or, refl, ap, ap₂, sym, ◌∙◌, arith, ◌-◌}
+use Rattle.std.proofs.Common.{◌≡◌, ◌≢◌, ℕ, ◌+◌, ◌*◌, ◌<◌, ◌≤◌, inl, inr, Bool, true, false, eqb, ltb, ◌||◌, ◌&&◌, not, List, length, take, drop, get_or, refl, ap, ap₂, sym, ◌∙◌, arith, ◌-◌}
+use Rattle.std.specs.Cmp.{first_so, second_so}
 use Rattle.std.proofs.Math.Path.{subst₂}
-use Rattle.std.proofs.lemmas.Bool.{eqb-true, ltb-true, cases_lt, lt-ltb}
+use Rattle.std.proofs.lemmas.Bool.{eq-eqb, eqb-true, le-ltb, ltb-true, cases_lt, lt-ltb}
 use Rattle.std.proofs.lemmas.List.{get_or_past}
 use borrow.Rule.Slice.PartMut.{mid_of}
 use Rattle.p25_bits.specs.Bits.{bits_of, part}
@@ -25,6 +26,31 @@ sends-from_test : (states : ℕ) (point : ℕ → ℕ → ℕ) (symbols : List �
 unfolding sending_test
 sends-from_test states point symbols passed state nibble row small is =
     eqb-true _ _ (second _ _ (passed_below-at states _ (passed_below-at 16 _ passed nibble small) state row) (lt-ltb _ _ is))
+
+-- every other entry is 8, and no symbol sends the nibble of its place
+unfoldable none_test : ℕ → (ℕ → ℕ → ℕ) → List ℕ → Bool
+none_test states point symbols =
+    passed_below 16 (
+    λ nibble. passed_below states (
+    λ state. ltb (get_or symbols (8 * nibble + state) 0) states
+    || (eqb (get_or symbols (8 * nibble + state) 0) 8 && passed_below states (λ symbol. not (eqb (point state symbol) nibble)))))
+
+other : (a b : Bool) → (a || b) ≡ true → a ≡ false → b ≡ true
+other true b h is = absurd (cc)
+other false b h is = h
+
+none-from_test : (states : ℕ) (point : ℕ → ℕ → ℕ) (symbols : List ℕ) → none_test states point symbols ≡ true → (state nibble : ℕ) → state < states → nibble < 16
+    → states ≤ get_or symbols (8 * nibble + state) 0
+    → (get_or symbols (8 * nibble + state) 0 ≡ 8) × ((symbol : ℕ) → symbol < states → point state symbol ≢ nibble)
+unfolding none_test
+none-from_test states point symbols passed state nibble row small past =
+    let entry = get_or symbols (8 * nibble + state) 0 in
+    let both = other (ltb entry states) _ (passed_below-at states _ (passed_below-at 16 _ passed nibble small) state row) (le-ltb entry states past) in (
+      eqb-true entry 8 (first_so _ _ both),
+      λ symbol inside same.
+          let differs = passed_below-at states (λ (s : ℕ). not (eqb (point state s) nibble)) (second_so _ _ both) symbol inside in
+          let two : false ≡ true = sym (ap not (eq-eqb (point state symbol) nibble same)) ∙ differs in absurd (cc two),
+    )
 
 -- every entry is the distance that its place asks for
 unfoldable distances_test : ℕ → ℕ → (ℕ → ℕ → ℕ) → List ℕ → Bool
@@ -60,6 +86,14 @@ three_quarter_sending_test : sending_test 8 three_quarter_point THREE_QUARTER_SY
 unfolding sending_test passed_below three_quarter_point point_in three_quarter_rows point_nibbles
 three_quarter_sending_test = refl
 
+half_none_test : none_test 4 half_point HALF_SYMBOLS ≡ true
+unfolding none_test passed_below half_point point_in half_rows point_nibbles
+half_none_test = refl
+
+three_quarter_none_test : none_test 8 three_quarter_point THREE_QUARTER_SYMBOLS ≡ true
+unfolding none_test passed_below three_quarter_point point_in three_quarter_rows point_nibbles
+three_quarter_none_test = refl
+
 half_distances_test : distances_test 4 32 half_point HALF_DISTANCES ≡ true
 unfolding distances_test passed_below half_point point_in half_rows point_nibbles nibble_distance bits_of distance_by
 half_distances_test = refl
@@ -88,6 +122,21 @@ pub three_quarter_sends : (state nibble row column : ℕ) → row ≡ nibble →
 three_quarter_sends state nibble row column is same low small below =
     subst₂ (λ (n s : ℕ). get_or THREE_QUARTER_SYMBOLS (8 * n + s) 0 < 8 → three_quarter_point state (get_or THREE_QUARTER_SYMBOLS (8 * n + s) 0) ≡ nibble) (sym is) (sym same)
     (sends-from_test 8 three_quarter_point THREE_QUARTER_SYMBOLS three_quarter_sending_test state nibble low small) below
+
+-- and where the place has none, none does
+pub half_sends_none : (state nibble row column : ℕ) → row ≡ nibble → column ≡ state → state < 4 → nibble < 16 → 4 ≤ get_or HALF_SYMBOLS (8 * row + column) 0
+    → (get_or HALF_SYMBOLS (8 * row + column) 0 ≡ 8) × ((symbol : ℕ) → symbol < 4 → half_point state symbol ≢ nibble)
+half_sends_none state nibble row column is same low small past =
+    subst₂ (λ (n s : ℕ). 4 ≤ get_or HALF_SYMBOLS (8 * n + s) 0 → (get_or HALF_SYMBOLS (8 * n + s) 0 ≡ 8) × ((symbol : ℕ) → symbol < 4 → half_point state symbol ≢ nibble)) (sym is) (sym same)
+    (none-from_test 4 half_point HALF_SYMBOLS half_none_test state nibble low small) past
+
+pub three_quarter_sends_none : (state nibble row column : ℕ) → row ≡ nibble → column ≡ state → state < 8 → nibble < 16 → 8 ≤ get_or THREE_QUARTER_SYMBOLS (8 * row + column) 0
+    → (get_or THREE_QUARTER_SYMBOLS (8 * row + column) 0 ≡ 8) × ((symbol : ℕ) → symbol < 8 → three_quarter_point state symbol ≢ nibble)
+three_quarter_sends_none state nibble row column is same low small past =
+    subst₂
+    (λ (n s : ℕ). 8 ≤ get_or THREE_QUARTER_SYMBOLS (8 * n + s) 0 → (get_or THREE_QUARTER_SYMBOLS (8 * n + s) 0 ≡ 8) × ((symbol : ℕ) → symbol < 8 → three_quarter_point state symbol ≢ nibble))
+    (sym is) (sym same)
+    (none-from_test 8 three_quarter_point THREE_QUARTER_SYMBOLS three_quarter_none_test state nibble low small) past
 
 -- eight entries, as they are read
 eight_read : (at : ℕ) (xs : List ℕ) → mid_of at (at + 8 - at) xs ≡ part at 8 xs

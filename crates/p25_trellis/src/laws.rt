@@ -8,8 +8,8 @@ ghost use Rattle.p25_trellis.specs.Nearest.{nearest_octets, nearest_distance, bl
 ghost use Rattle.p25_trellis.specs.Tables.{half_point, three_quarter_point, point_nibbles, half_rows, three_quarter_rows};
 ghost use Rattle.p25_trellis.specs.Trellis.{IsBlock, IsFirstLeastReading, SomeApart, ArePathsApart, distance_from};
 
-use super::least::BLOCK_COSTS;
 use super::rate::{HALF_POINTS, Half, NIBBLES, Rate, THREE_QUARTER_POINTS, ThreeQuarter};
+use crate::BLOCK_COSTS;
 
 /// The sent bits of two different paths of a rate differ in at least `APART` places, and those of some two in no more.
 pub fn paths_apart<R: Rate>()

@@ -1,6 +1,6 @@
 //! The two rates: their tables of points, and the nibbles of the points.
 
-ghost use Rattle.std.specs.Prelude.{◌≡◌, ℕ, ◌<◌, ◌≤◌, length, slice_index};
+ghost use Rattle.std.specs.Prelude.{◌≡◌, ◌≢◌, ℕ, ◌<◌, ◌≤◌, length, slice_index};
 ghost use Rattle.p25_trellis.specs.Tables.{nibble_distance};
 ghost use Rattle.p25_trellis.specs.TableLaws.{IsRate};
 
@@ -42,11 +42,12 @@ pub trait Rate {
         ensures value { result ≡ point_of state symbol }
         ensures nibble { result < 16 };
 
-    /// Answers a symbol that sends a nibble from a state, or 8 where none does.
+    /// Answers the symbol that sends a nibble from a state, or 8 where none does.
     fn symbol_sending(state: u8, nibble: u8) -> u8
         requires row { state < STATES }
         requires nibble { nibble < 16 }
-        ensures { result < STATES → point_of state result ≡ nibble };
+        ensures sends { result < STATES → point_of state result ≡ nibble }
+        ensures none { STATES ≤ result → (result ≡ 8) × ((symbol : ℕ) → symbol < STATES → point_of state symbol ≢ nibble) };
 
     /// Answers in how many bits the points of a symbol differ from a nibble, the point of each state at its place. There are
     /// eight places; those after the last state mean nothing.

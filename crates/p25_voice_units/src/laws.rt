@@ -12,8 +12,10 @@ ghost use Rattle.p25_voice_units.specs.Sendable.{IsSendableVoice};
 ghost use Rattle.p25_voice_units.specs.Readings.{voice_reading_of, frame_places, low_places};
 ghost use Rattle.p25_voice_units.specs.WithinRadius.{IsVoiceWithin, IsVoiceWithinByWords, received_voice};
 
-use super::layout::{HDU_ROWS, LDU_ROWS, TDU_ROWS, TDULC_ROWS};
-use super::places::{FRAMES, HDU_WORDS, LDU_WORDS, LOW_WORDS, TDULC_WORDS};
+use super::places::FRAMES;
+use crate::{
+    HDU_ROWS, HDU_WORDS, LDU_ROWS, LDU_WORDS, LOW_WORDS, TDU_ROWS, TDULC_ROWS, TDULC_WORDS,
+};
 
 /// **Theorem.** The laws of the bits of voice units.
 ///

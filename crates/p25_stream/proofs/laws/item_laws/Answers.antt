@@ -1,5 +1,5 @@
 use Rattle.p25_stream.proofs.SyncPlaceLaws.{sync_place-le, has_sync-before, has_sync-at_place}
-use Rattle.p25_stream.proofs.ItemsLaws.{items_by-nil, items_by-more, items_by-none, items_by-stay, first_item-append}
+use Rattle.p25_stream.proofs.ItemsLaws.{items_by-nil, items_by-more, items_by-none, items_by-stay, first_item-append, enough-decide}
 use Rattle.p25_stream.proofs.ItemLaws.{covered-items_of, gaps_short, gaps_full, item-covers, item-sound, near-whole, whole-within, image-whole}
 use Rattle.p25_stream.proofs.ScanLaws.{gave-items}
 use Rattle.p25_stream.proofs.TerminatorLaws.{terminator-read, terminator-there, terminator-sent}
@@ -15,6 +15,7 @@ returns c = record {
   sound = item-sound;
   first_stays = first_item-append;
   decided_stay = items_by-stay;
+  enough = enough-decide;
   near = near-whole;
   whole = whole-within;
   undamaged = image-whole;
