@@ -3,6 +3,7 @@ pub mod ItemsLaws
 pub mod CallsLaws
 pub mod ManySteps
 pub mod PlacesSteps
+pub mod RelaysSteps
 pub mod StreamsSteps
 pub mod DibitsSteps
 pub mod PacketsLaws

@@ -5,6 +5,9 @@ pub mod Building
 pub mod Version
 pub mod Many
 pub mod Places
+pub mod Levels
+pub mod Relays
+pub mod Followers
 pub mod Streams
 pub mod Marks
 pub mod Values
