@@ -356,7 +356,7 @@ def _cut(octets: bytes, place: int, bits: int) -> bytes:
     return (number << -bits % 8).to_bytes((bits + 7) // 8, "big")
 
 
-def _put(octets: bytearray, place: int, unit: bytes, bits: int) -> None:
+def put_bits(octets: bytearray, place: int, unit: bytes, bits: int) -> None:
     """Puts so many bits of a unit into octets at a place."""
     first, last = place // 8, (place + bits + 7) // 8
     after = 8 * last - place - bits
@@ -371,7 +371,7 @@ def repair(octets: "Octets") -> bytes:
     repaired = bytearray(given)
     for item in items(given):
         if item.kind_id == Kind.UNIT:
-            _put(repaired, item.place, repair_unit(item.octets), item.bits)
+            put_bits(repaired, item.place, repair_unit(item.octets), item.bits)
     return bytes(repaired)
 
 
