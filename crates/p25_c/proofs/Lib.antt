@@ -8,4 +8,5 @@ pub mod StreamsSteps
 pub mod DibitsSteps
 pub mod PacketsLaws
 pub mod ValueLaws
+pub mod FollowerLaws
 pub mod VoiceCallsLaws

@@ -15,3 +15,4 @@ pub mod Fields
 pub mod VoiceCalls
 pub mod Packets
 pub mod ValueLaws
+pub mod FollowerLaws
