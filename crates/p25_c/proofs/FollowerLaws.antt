@@ -3,13 +3,13 @@ use Rattle.std.proofs.Common.{◌≡◌, ℕ, ◌+◌, ◌-◌, ◌*◌, ◌/◌
 use Rattle.std.specs.Cmp.{first_so, second_so}
 use Rattle.std.proofs.lemmas.Bool.{cond-true, le-leb, leb-true}
 use Rattle.std.proofs.lemmas.List.{length-replicate, take_all, take_at}
-use Rattle.p25_bits.specs.Bits.{bits_of, octet_bits, part}
+use Rattle.p25_bits.specs.Bits.{bits_of, field_of, octet_bits, part}
 use Rattle.p25_bits.specs.Numbers.{number_bits, octets_from}
 use Rattle.p25_bits.proofs.BitsLaws.{bits_of-field_of, bits_of-zero, length-bits_of, length-octet_bits, octet_bits-append}
 use Rattle.p25_bits.proofs.NumbersLaws.{length-numbers_from, number_bits-numbers_from, number_bits-octets}
 use Rattle.p25_bits.proofs.PartLaws.{drop_behind, part_left}
 use Rattle.p25_follow.specs.Followed.{follow_of, followed_by}
-use Rattle.p25_follow.specs.Following.{IsFollow, behind_item, fresh_follow, written_before, written_item}
+use Rattle.p25_follow.specs.Following.{IsFollow, behind_item, follow, fresh_follow, written_before, written_item}
 use Rattle.p25_follow.proofs.FollowingLaws.{IsFollow-behind}
 use Rattle.p25_recording_filters.specs.Commands.{FollowedParts, followed_reporting}
 use Rattle.p25_recording_filters.specs.Reports.{reported}
@@ -51,13 +51,13 @@ stretch-back stretch few =
     ∙ ap (take (length stretch)) (octet_bits-append octets rest ∙ ap (λ (zs : List Bool). zs ++ octet_bits rest) bits ∙ append_assoc stretch zeros (octet_bits rest))
     ∙ take_at stretch (zeros ++ octet_bits rest) (length stretch) refl
 
+abbrev made : Option (ℕ × ℕ) → List Bool → List Bool → FollowedParts
+made before stretch kept = record { follower = follow before stretch; kept = kept }
+
 told-back : (reached : ℕ) (parts : FollowedParts) → length parts.follower.stretch < 6912 → parts_held (follower_told reached parts) ≡ parts
 told-back reached parts few =
-    let name = name-back parts.follower.before in
-    let stretch = stretch-back parts.follower.stretch few in
-    let kept = bits_of-field_of parts.kept in
-    ap₂ (λ (before : Option (ℕ × ℕ)) (bits : List Bool). record { follower = record { before = before; stretch = bits }; kept = bits_of (length parts.kept) _ }) name stretch
-    ∙ ap (λ (bits : List Bool). record { follower = parts.follower; kept = bits }) kept
+    ap₂ (λ (before : Option (ℕ × ℕ)) (stretch : List Bool). made before stretch (bits_of (length parts.kept) (field_of parts.kept))) (name-back parts.follower.before) (stretch-back parts.follower.stretch few)
+    ∙ ap (made parts.follower.before parts.follower.stretch) (bits_of-field_of parts.kept)
 
 -- ---- items by their numbers
 
