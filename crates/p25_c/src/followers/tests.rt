@@ -42,15 +42,30 @@ const GAP: ItemParts = ItemParts {
 fn lost_terminator(rt: HostRuntime) {
     let mut follower = fresh();
     let mut room = [9; 60];
-    assert_eq!(rt; p25_follower_take(&mut follower, &RECORDING, 0, &GAP, &mut room), -1);
-    assert_eq!(rt; p25_follower_take(&mut follower, &RECORDING, 0, &UNIT, &mut room[..53]), -2);
-    assert_eq!(rt; p25_follower_take(&mut follower, &RECORDING, 0, &UNIT, &mut room), 54);
-    assert!(rt; room[..54] == RECORDING[..54] && room[54] == 9);
-    assert_eq!(rt; p25_follower_take(&mut follower, &RECORDING[..71], 0, &GAP, &mut room), -1);
-    assert_eq!(rt; p25_follower_take(&mut follower, &RECORDING, 0, &GAP, &mut []), 0);
+    assert_eq!(rt;
+        p25_follower_take(&mut follower, &RECORDING, 0, &GAP, &mut room),
+        -1
+    );
+    assert_eq!(rt;
+        p25_follower_take(&mut follower, &RECORDING, 0, &UNIT, &mut room[..53]),
+        -2
+    );
+    assert_eq!(rt;
+        p25_follower_take(&mut follower, &RECORDING, 0, &UNIT, &mut room),
+        54
+    );
+    assert!(rt; &room[..54] == &RECORDING[..54] && room[54] == 9);
+    assert_eq!(rt;
+        p25_follower_take(&mut follower, &RECORDING[..71], 0, &GAP, &mut room),
+        -1
+    );
+    assert_eq!(rt;
+        p25_follower_take(&mut follower, &RECORDING, 0, &GAP, &mut []),
+        0
+    );
     assert_eq!(rt; p25_follower_finish(&mut follower, &mut room[..17]), -2);
     assert_eq!(rt; p25_follower_finish(&mut follower, &mut room), 18);
-    assert!(rt; room[..18] == TERMINATOR);
+    assert!(rt; &room[..18] == TERMINATOR.as_slice());
     assert_eq!(rt; p25_follower_finish(&mut follower, &mut room), 0);
 }
 

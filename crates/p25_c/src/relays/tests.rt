@@ -12,7 +12,7 @@ const RECORDING: [u8; 19] = [
 fn items_forwarded(rt: HostRuntime) {
     let mut room = [9; 20];
     assert_eq!(rt; p25_relay_at(&RECORDING, 0, 0, 0, 1, &mut room), 18);
-    assert!(rt; room[..18] == RECORDING[..18] && room[18] == 9);
+    assert!(rt; &room[..18] == &RECORDING[..18] && room[18] == 9);
     assert_eq!(rt; p25_relay_at(&RECORDING, 0, 144, 0x293, 3, &mut room), 1);
     assert!(rt; room[0] == 0x5A && room[1] == RECORDING[1]);
 }
@@ -28,7 +28,10 @@ fn refusals(rt: HostRuntime) {
         (0, 0, 0, 17, -2),
     ] {
         let mut room = [9; 20];
-        assert_eq!(rt; p25_relay_at(&RECORDING, 0, from, nac, status, &mut room[..count]), answer);
+        assert_eq!(rt;
+            p25_relay_at(&RECORDING, 0, from, nac, status, &mut room[..count]),
+            answer
+        );
         assert!(rt; room == [9; 20]);
     }
 }
