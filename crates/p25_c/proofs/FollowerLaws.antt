@@ -1,5 +1,5 @@
 -- What a follower writes of a recording, by induction on its items: what is kept as numbers and octets says what was kept.
-use Rattle.std.proofs.Common.{◌≡◌, ℕ, ◌+◌, ◌-◌, ◌*◌, ◌/◌, ◌%◌, ◌<◌, ◌≤◌, Bool, true, List, [], ◌∷◌, ◌++◌, length, take, drop, replicate, Option, Some, None, Ok, refl, ap, ap₂, sym, subst, ◌∙◌, arith, append_assoc, length-append}
+use Rattle.std.proofs.Common.{◌≡◌, ℕ, ◌+◌, ◌-◌, ◌*◌, ◌/◌, ◌%◌, ◌<◌, ◌≤◌, Bool, true, if◌then◌else◌, List, [], ◌∷◌, ◌++◌, length, take, drop, replicate, Option, Some, None, Ok, refl, ap, ap₂, sym, subst, ◌∙◌, arith, append_assoc, length-append}
 use Rattle.std.specs.Cmp.{first_so, second_so}
 use Rattle.std.proofs.lemmas.Bool.{cond-true, le-leb, leb-true}
 use Rattle.std.proofs.lemmas.List.{length-replicate, take_all, take_at}
@@ -40,14 +40,17 @@ stretch-back stretch few =
     let zeros = bits_of ((8 - length stretch % 8) % 8) 0 in
     let all = stretch ++ zeros in
     let n = length all / 8 in
-    let octets = octets_from n all in
-    let rest = drop (length octets) (replicate 864 0) in
+    let octets : List ℕ = octets_from n all in
+    let nothing : ℕ = 0 in
+    let room : List ℕ = replicate 864 nothing in
+    let rest = drop (length octets) room in
     let long : length all ≡ length stretch + (8 - length stretch % 8) % 8 = length-append stretch zeros ∙ ap (λ (k : ℕ). length stretch + k) (length-bits_of ((8 - length stretch % 8) % 8) 0) in
     let whole : 8 * n ≡ length all = omega (arith, long) in
     let count : length octets ≡ n = length-numbers_from 8 n all in
-    let fits : length octets ≤ length (replicate 864 0) = omega (arith, count, long, few, length-replicate 864 0) in
+    let size : length room ≡ 864 = length-replicate 864 nothing in
+    let fits : length octets ≤ length room = omega (arith, count, long, few, size) in
     let bits : octet_bits octets ≡ all = sym (number_bits-octets octets) ∙ number_bits-numbers_from 8 n all (omega (arith, whole)) ∙ take_all (8 * n) all (omega (arith, whole)) in
-    ap (λ (xs : List ℕ). take (length stretch) (octet_bits xs)) (cond-true _ (written octets (replicate 864 0)) (replicate 864 0) (le-leb (length octets) (length (replicate 864 0)) fits))
+    ap (λ (xs : List ℕ). take (length stretch) (octet_bits xs)) (cond-true _ (written octets room) room (le-leb (length octets) (length room) fits))
     ∙ ap (take (length stretch)) (octet_bits-append octets rest ∙ ap (λ (zs : List Bool). zs ++ octet_bits rest) bits ∙ append_assoc stretch zeros (octet_bits rest))
     ∙ take_at stretch (zeros ++ octet_bits rest) (length stretch) refl
 

@@ -4,6 +4,7 @@ pub mod CallsLaws
 pub mod ManySteps
 pub mod PlacesSteps
 pub mod RelaysSteps
+pub mod FollowersSteps
 pub mod StreamsSteps
 pub mod DibitsSteps
 pub mod PacketsLaws

@@ -1,7 +1,7 @@
 -- Items that are asked for: where they lie, and how many bits they cover.
-use Rattle.std.proofs.Common.{◌≡◌, ℕ, ◌+◌, ◌-◌, ◌*◌, ◌^◌, ◌≤◌, Bool, true, List, [], length, drop, subst, sym, arith, length-drop}
+use Rattle.std.proofs.Common.{◌≡◌, ℕ, ℤ, pos, ◌+◌, ◌-◌, ◌*◌, ◌^◌, ◌≤◌, Bool, true, List, [], length, drop, Option, Some, None, Ok, refl, subst, sym, arith, length-drop}
 use Rattle.std.specs.Cmp.{first_so, second_so}
-use Rattle.std.proofs.lemmas.Bool.{leb-true}
+use Rattle.std.proofs.lemmas.Bool.{cond-true, le-leb, leb-true}
 use Rattle.p25_bits.specs.Bits.{octet_bits}
 use Rattle.p25_bits.proofs.BitsLaws.{length-octet_bits}
 use Rattle.p25_units.proofs.ItemsLaws.{covered-unit_item_of}
@@ -13,7 +13,11 @@ use Rattle.p25_follow.specs.Relayed.{IsFitItem}
 use Rattle.p25_stream.proofs.ItemsLaws.{first_item-cases, items_by-first}
 use Rattle.p25_stream.specs.Finding.{IsFirst}
 use Rattle.p25_stream.specs.Items.{first_item}
+use Rattle.p25_status.specs.declared.symbols.Status.{Status}
 use Rattle.p25_c.specs.Items.{is_inside}
+use Rattle.p25_c.specs.Places.{outside}
+use Rattle.p25_c.specs.Relays.{asked_relayed}
+use Rattle.p25_c.specs.Rooms.{IsWriting, no_room, written}
 
 -- what the numbers of a place say
 pub record IsPlaced (begin from count : ℕ) : Type 0 where
@@ -58,3 +62,19 @@ found-at begin from octets item yes' first =
       there = omega (arith, first.there, length-drop (from - begin) (octet_bits octets), length-octet_bits octets, placed.order, placed.there);
       near = omega (arith, placed.near);
     }
+
+-- nothing is written of what may not be asked for, and no octet where no item is left
+pub relay-outside : (nac : ℕ) (status : Status) (asked : Option (List Item)) (bits : List Bool) (room : List ℕ) → asked ≡ None
+    → IsWriting (asked_relayed nac status asked bits) room room outside
+relay-outside nac status asked bits room none =
+    subst (λ (a : Option (List Item)). IsWriting (asked_relayed nac status a bits) room room outside) (sym none) (record { answer_is = refl; left_is = refl })
+
+pub relay-none : (nac : ℕ) (status : Status) (asked : Option (List Item)) (bits : List Bool) (room : List ℕ) → asked ≡ Some []
+    → IsWriting (asked_relayed nac status asked bits) room room (pos 0)
+relay-none nac status asked bits room none =
+    let fits = le-leb 0 (length room) (omega arith) in
+    let nothing : IsWriting (Ok []) room room (pos 0) = record {
+      answer_is = sym (cond-true _ (pos 0) no_room fits);
+      left_is = sym (cond-true _ (written [] room) room fits);
+    } in
+    subst (λ (a : Option (List Item)). IsWriting (asked_relayed nac status a bits) room room (pos 0)) (sym none) nothing
