@@ -47,7 +47,7 @@ def in_pieces(octets, size):
     stream, found = p25.Stream(), []
     for place in range(0, len(octets), size):
         found += stream.feed(octets[place : place + size])
-        assert len(stream._held) < 3241 + size, len(stream._held)
+        assert stream._size <= max(65536, 4 * (3241 + size)), stream._size
     return found + list(stream.finish())
 
 
