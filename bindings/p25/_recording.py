@@ -273,8 +273,6 @@ class Stream:
 
     def _make(self) -> bool:
         """Makes the next items, and answers whether there are any."""
-        if not (self._fed and self._end):
-            return False
         made = self._next(self._view, self._end, self._address, self._begin, self._from, self._ended)
         self._fed = len(made) == _AT_ONCE
         if not made:
@@ -285,7 +283,7 @@ class Stream:
 
     def _items(self) -> Iterator[Item]:
         made = self._made
-        while made or self._make():
+        while made or (self._fed and self._make()):
             yield made.popleft()
 
     def read(self, file: BinaryIO, size: int = 65536) -> Iterator[Item]:
