@@ -184,6 +184,68 @@ int32_t p25_stream_next(p25_stream *stream, p25_item *item, char *text, size_t r
 /* Says that no more comes: what is held is then told to its end. Dibits that fill no octet are left out. */
 void p25_stream_end(p25_stream *stream);
 
+/* Units found by rhythm, and items forwarded in place ---------------------------------------------------------------------- */
+
+/* What is kept between the items of a recording. p25_follower_begin sets it, and a program reads it alone. */
+typedef struct p25_follower {
+    uint64_t reached;    /* the bit at which the next item begins */
+    uint16_t nac;        /* of the last unit the network access code (NAC) */
+    uint16_t stretch;    /* how many bits after it are not settled yet, fewer than 6,912 */
+    uint8_t duid;        /* its data unit identifier (DUID) */
+    uint8_t has_unit;    /* whether there is one */
+    uint8_t waits;       /* how many bits wait until they fill an octet, at most 7 */
+    uint8_t waiting;     /* these bits as a number */
+    uint8_t octets[864]; /* the bits that are not settled */
+} p25_follower;
+
+/* Room that is always enough for what the two calls below write. */
+enum { P25_FOLLOW_ROOM = 4104 };
+
+/* Sets *follower to one that no item was taken by. */
+void p25_follower_begin(p25_follower *follower);
+
+/* Takes an item and writes what `p25 follow` writes then: the recording, with the fronts (sync and identifier) of the units written that
+   lie end to end after others and whose sync is not found. Each item of a recording is taken in its turn, gaps too, the first at place 0, and
+   octets with all its bits are given, the first of which stands at bit `begin`, as to p25_item_octets. After a unit fewer than 6,912 bits
+   are kept back until it is settled whether a unit begins there. So what comes out is as long as what was taken, once
+   p25_follower_finish has written the rest: a stream of it gives the items with those that were found.
+
+   Answers how many octets it wrote, at most P25_FOLLOW_ROOM; or the first of these that applies, and then *follower and `into` stay:
+   P25_OUTSIDE, where the item does not begin where the one before it ended, its numbers are those of no item, the octets lack a bit of it,
+   or *follower is none that these calls set; or P25_NO_ROOM. */
+int32_t p25_follower_take(p25_follower *follower, const uint8_t *octets, size_t n, uint64_t begin, const p25_item *item, uint8_t *into,
+                          size_t room);
+
+/* Ends a recording: writes what was kept back, and sets *follower to one that no item was taken by. Answers how many octets it wrote, at
+   most 864; or P25_OUTSIDE, where *follower is none that these calls set, or P25_NO_ROOM, and then *follower and `into` stay. */
+int32_t p25_follower_finish(p25_follower *follower, uint8_t *into, size_t room);
+
+/* Writes what `p25 relay` writes in place of the item that begins at bit `from` of a recording, of which octets are given as to
+   p25_next_item: of a whole unit what p25_bridge_at writes; of a broken one its bits, with sync and identifier under the network access
+   code (NAC) nac, 0 to 4095, and the status symbol, 0 to 3, everywhere; of all else its bits as they are. It is as many bits as the item
+   covers; after the last one the octet is filled by 0. Answers how many octets it wrote, at most 3,240, and 0 where no item is left; or,
+   in this order, P25_WRONG_NAC, P25_WRONG_STATUS, P25_OUTSIDE or P25_NO_ROOM, and then writes nothing. */
+int32_t p25_relay_at(const uint8_t *octets, size_t n, uint64_t begin, uint64_t from, uint16_t nac, uint8_t status, uint8_t *into,
+                     size_t room);
+
+/* Levels ------------------------------------------------------------------------------------------------------------------ */
+
+/* A level stands for two bits: 96 for 01, 32 for 00, -32 for 10, and -96 for 11, and those between for the nearest of these. */
+
+/* Answers the dibit that a level is nearest to: 1 from 64 up, 0 from 0 to 63, 2 from -64 to -1, and 3 below. p25_stream_push_dibits
+   takes it. */
+uint8_t p25_level_dibit(int8_t level);
+
+/* Answers the level that stands for a dibit, of which the two lowest bits are looked at. */
+int8_t p25_dibit_level(uint8_t dibit);
+
+/* Writes the octets of n levels, four in each, and 0 where the last lacks bits. Where they are those of one unit, no more and no fewer, and
+   blocks of a packet (PDU) fail in it, these are the blocks that lie nearest to the levels, as `p25 soft` reads them: give it the levels of a
+   broken unit that begins at an even bit. Whether their checks agree then is not looked at: p25_packet_read of what was written tells.
+   Answers how many octets it wrote, at most 3,240; or, in this order, P25_OUTSIDE, where there are more than 12,960 levels, or P25_NO_ROOM,
+   and then writes nothing. */
+int32_t p25_soften(const int8_t *levels, size_t n, uint8_t *into, size_t room);
+
 /* Values of units ---------------------------------------------------------------------------------------------------------- */
 
 /* What a unit carries as numbers and octets, without its text. Each struct is of fixed size and holds no pointer. Of a member that says
@@ -347,6 +409,34 @@ int32_t p25_packet_read(const uint8_t *octets, size_t n, uint64_t begin, uint64_
    P25_WRONG_PACKET, for a format that is none of the three and for a confirmed block that is not good or has a serial number above
    127; P25_NO_ROOM. */
 int32_t p25_build_packet(const p25_packet *packet, uint8_t status, uint8_t *octets, size_t room);
+
+/* Names of answers --------------------------------------------------------------------------------------------------------- */
+
+/* Answers the word of an answer below 0 of the calls above: "outside", "room", "unit" and so on, as the errors of the Python package have
+   it; "" where there is none. A program prints it: fprintf(stderr, "%s\n", p25_answer_name(answer)). It stands in this header alone. */
+static inline const char *p25_answer_name(int32_t answer) {
+    switch (answer) {
+        case P25_OUTSIDE: return "outside";
+        case P25_NO_ROOM: return "room";
+        case P25_NO_UNIT: return "unit";
+        case P25_WRONG_NAC: return "nac";
+        case P25_WRONG_STATUS: return "status";
+        case P25_ENDED: return "finished";
+        case P25_DIBITS_WAIT: return "dibits";
+        case P25_WRONG_DUID: return "duid";
+        case P25_WRONG_PACKET: return "packet";
+        case P25_LINE_LONG: return "long";
+        case P25_LINE_FORM: return "form";
+        case P25_LINE_KIND: return "kind";
+        case P25_LINE_KEY: return "key";
+        case P25_LINE_VALUE: return "value";
+        case P25_PACKET_HEADER: return "header";
+        case P25_PACKET_CUT: return "cut";
+        case P25_PACKET_FORMAT: return "format";
+        case P25_PACKET_CRC: return "crc";
+        default: return "";
+    }
+}
 
 /* Code words ---------------------------------------------------------------------------------------------------------------- */
 

@@ -1,7 +1,8 @@
 /* Measures how much stack the calls take: each runs in a thread whose stack is painted before, and the paint that is left is counted.
 
    usage: stack FILE           FILE is a recording; prints the octets that the items of it take, its units repaired and bridged, a stream, a unit
-                               built of a line of 127 blocks, the words and blocks, and fields, calls, packets and units of values. A thread
+                               built of a line of 127 blocks, the words and blocks, fields, calls, packets and units of values, and what follow, relay
+                               and soft take. A thread
                                of its own takes some of each */
 #include "p25.h"
 
@@ -144,6 +145,22 @@ static void *values_built(void *unused) {
     return unused;
 }
 
+/* The recording followed and forwarded, and the levels of the longest unit. */
+static void *follows(void *unused) {
+    static p25_follower follower;
+    static uint8_t room[P25_FOLLOW_ROOM];
+    static int8_t levels[12960];
+    memset(&item, 0, sizeof item);
+    p25_follower_begin(&follower);
+    while (p25_next_item(octets, n, 0, item.place + item.bits, true, &item, text, 0) == P25_ITEM) {
+        p25_follower_take(&follower, octets, n, 0, &item, room, sizeof room);
+        p25_relay_at(octets, n, 0, item.place, 0x293, 0, unit, sizeof unit);
+    }
+    p25_follower_finish(&follower, room, sizeof room);
+    p25_soften(levels, 12960, unit, sizeof unit);
+    return unused;
+}
+
 /* Answers how many octets of a painted stack a function took. */
 static size_t taken(void *(*call)(void *)) {
     void *stack;
@@ -173,8 +190,8 @@ int main(int count, char **argument) {
     n = fread(octets, 1, sizeof octets, file);
     fclose(file);
     printf("a thread %zu, items %zu, repaired %zu, bridged %zu, by a stream %zu, by place %zu, built %zu, words %zu, fields and calls %zu, "
-           "packets %zu, built of values %zu\n",
+           "packets %zu, built of values %zu, followed %zu\n",
            taken(nothing), taken(items), taken(repairs), taken(bridges), taken(streams), taken(places), taken(builds), taken(words),
-           taken(values), taken(packets), taken(values_built));
+           taken(values), taken(packets), taken(values_built), taken(follows));
     return 0;
 }

@@ -47,7 +47,7 @@ def in_pieces(octets, size):
     stream, found = p25.Stream(), []
     for place in range(0, len(octets), size):
         found += stream.feed(octets[place : place + size])
-        assert len(stream._held) < 3241 + size, len(stream._held)
+        assert stream._size <= max(65536, 4 * (3241 + size)), stream._size
     return found + list(stream.finish())
 
 
@@ -249,10 +249,30 @@ def try_values(path, units, calls):
     raised("serial", p25.build_packet, 1, b"\x16" + bytes(5) + b"\x01" + bytes(3), bytes(16), [128])
 
 
+def try_follows(recording, levels, followed, relayed, softened):
+    octets, given = read(recording), read(levels)
+    assert p25.follow(octets) == read(followed)
+    assert p25.relay(octets, 0x123, 2) == read(relayed)
+    assert p25.soft(given) == read(softened) == p25.soft([it - 256 * (it > 127) for it in given])
+    assert p25.hard_octets(given)[: len(octets)] == p25.hard_octets(bytearray(given))[: len(octets)]
+    follower, stream = p25.Follower(), p25.Stream()
+    # What is written as the items come is read as it comes: the same items as of all of it.
+    found = [it for item in p25.items(octets) for it in stream.feed(follower.take(item))]
+    found += [*stream.feed(follower.finish()), *stream.finish()]
+    assert found == list(p25.items(read(followed)))
+    whole = list(p25.items(octets))
+    if len(whole) > 1:
+        raised("place", p25.Follower().take, whole[1])
+    raised("nac", p25.relay, octets, 4096, 0)
+    raised("status", p25.relay, octets, 0, 4)
+    raised("letters", p25.soft, [128])
+    raised("length", p25.soften, bytes(12961))
+
+
 def try_layout():
     """Prints what `values layout` prints."""
     values = p25._values
-    for it in (values._Link, values._Fields, values._Call, values._Caller, values._Packet):
+    for it in (values._Link, values._Fields, values._Call, values._Caller, values._Packet, p25._signals._Follower):
         print(ctypes.sizeof(it), *(getattr(it, part[0]).offset for part in it._fields_))
 
 
@@ -341,6 +361,7 @@ CALLS = {
     "types": try_types,
     "values": try_values,
     "layout": try_layout,
+    "follows": try_follows,
 }
 
 if __name__ == "__main__":

@@ -309,6 +309,9 @@ static void layout(void) {
     AT(p25_packet, blocks), AT(p25_packet, pad), AT(p25_packet, syn), AT(p25_packet, number), AT(p25_packet, response_class);
     AT(p25_packet, response_type), AT(p25_packet, response_status), AT(p25_packet, bad), AT(p25_packet, good), AT(p25_packet, serials);
     AT(p25_packet, octets);
+    printf("\n%zu", sizeof(p25_follower));
+    AT(p25_follower, reached), AT(p25_follower, nac), AT(p25_follower, stretch), AT(p25_follower, duid), AT(p25_follower, has_unit);
+    AT(p25_follower, waits), AT(p25_follower, waiting), AT(p25_follower, octets);
     printf("\n");
 #undef AT
 }

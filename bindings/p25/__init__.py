@@ -33,6 +33,7 @@ from ._recording import (
     repair,
     repair_unit,
 )
+from ._signals import Follower, follow, hard_octets, relay, soft, soften
 from ._values import (
     Call,
     CallEnd,
@@ -89,6 +90,7 @@ __all__ = [
     "Duid",
     "Error",
     "Fields",
+    "Follower",
     "Item",
     "Kind",
     "LinkControl",
@@ -106,12 +108,17 @@ __all__ = [
     "crc9",
     "crc16",
     "crc32",
+    "follow",
+    "hard_octets",
     "items",
     "main",
     "read_link",
     "read_nid",
+    "relay",
     "repair",
     "repair_unit",
+    "soft",
+    "soften",
     "version",
     "write_nid",
 ]

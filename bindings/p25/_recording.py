@@ -185,6 +185,8 @@ def _text_of(octets: bytes, place: int) -> str:
 # The numbers of an item as p25_items writes them, and how many items one call is asked for.
 _ROW = struct.Struct("=QIIIHBB")
 _AT_ONCE = 1024
+# The octets for which a stream has room at first.
+_ROOM_FIRST = 65536
 _ONE: Any = ctypes.c_char.from_buffer
 _address_of = ctypes.addressof
 
@@ -196,10 +198,10 @@ class _Reader:
         self._rows = ctypes.create_string_buffer(_AT_ONCE * _ROW.size)
         self._numbers = memoryview(self._rows)
 
-    def next(self, octets: "Union[bytes, bytearray, memoryview]", address: Optional[int], begin: int, place: int, ended: bool) -> List[Item]:
-        """Answers the next items from a place on of octets at an address, the first of which stands at `begin`: at most 1,024, and none where
-        none is decided. Each has its octets copied."""
-        told = _many_items(address, len(octets), begin, place, ended, self._rows, _AT_ONCE)
+    def next(self, octets: "Union[bytes, memoryview]", length: int, address: int, begin: int, place: int, ended: bool) -> List[Item]:
+        """Answers the next items from a place on of so many octets at an address, the first of which stands at `begin`: at most 1,024, and none
+        where none is decided. Each has its octets copied."""
+        told = _many_items(address, length, begin, place, ended, self._rows, _AT_ONCE)
         if told < 0:
             raise ValueError("outside")
         new, kinds, duids, made = Item.__new__, _KIND, _DUID, []
@@ -212,7 +214,7 @@ class _Reader:
             else:
                 # Further octets decide these, so the text is taken while they are there. It is short.
                 item.nac = item.duid = None
-                item._text = _text_at(address, len(octets), begin, at, ended)
+                item._text = _text_at(address, length, begin, at, ended)
             made.append(item)
         return made
 
@@ -228,22 +230,40 @@ class Stream:
     """
 
     def __init__(self) -> None:
-        # Items that are made and not taken, and octets from a bit on, a multiple of 8; the next item to be made begins at `from`, and
-        # there may be one where `fed` is true.
+        # Items that are made and not taken; there may be more where `fed` is true.
         self._made: Deque[Item] = deque()
-        self._fed = False
-        self._held, self._begin, self._from, self._ended = bytearray(), 0, 0, False
+        self._fed = self._ended = False
+        # Octets from a bit on, a multiple of 8, up to `end` of the room; the next item to be made begins at `from`.
+        self._begin = self._from = self._end = 0
         self._next = _Reader().next
+        self._set_room(_ROOM_FIRST)
+
+    def _set_room(self, size: int) -> None:
+        # Room that stays where it is: its address is asked for once.
+        room = bytearray(size)
+        self._view, self._size, self._first = memoryview(room), size, _ONE(room)
+        self._address = _address_of(self._first)
+
+    def _make_room(self, count: int) -> None:
+        """Lets go what no item needs any more, and takes larger room where so many octets do not fit."""
+        past = (self._from - self._begin) >> 3
+        held = bytes(self._view[past : self._end])
+        self._begin, self._end = self._begin + (past << 3), len(held)
+        if len(held) + count > self._size:
+            self._set_room(2 * (len(held) + count))
+        self._view[: len(held)] = held
 
     def feed(self, octets: "Octets") -> Iterator[Item]:
         """Takes octets, of any number, and answers an iterator over the items that are decided. Error(finished) after `finish`."""
         if self._ended:
             raise Error(Cause.FINISHED)
-        past = (self._from - self._begin) >> 3
-        del self._held[:past]
-        self._begin += past << 3
-        self._held += octets if isinstance(octets, (bytes, bytearray)) else octets_of(octets)
-        self._fed = True
+        given = octets if isinstance(octets, (bytes, bytearray)) else octets_of(octets)
+        end = self._end + len(given)
+        if end > self._size:
+            self._make_room(len(given))
+            end = self._end + len(given)
+        self._view[self._end : end] = given
+        self._end, self._fed = end, True
         return self._items()
 
     def finish(self) -> Iterator[Item]:
@@ -253,11 +273,7 @@ class Stream:
 
     def _make(self) -> bool:
         """Makes the next items, and answers whether there are any."""
-        held = self._held
-        if not (self._fed and held):
-            return False
-        # Between two calls the octets may move, so their address is asked for anew.
-        made = self._next(held, _address_of(_ONE(held)), self._begin, self._from, self._ended)
+        made = self._next(self._view, self._end, self._address, self._begin, self._from, self._ended)
         self._fed = len(made) == _AT_ONCE
         if not made:
             return False
@@ -267,7 +283,7 @@ class Stream:
 
     def _items(self) -> Iterator[Item]:
         made = self._made
-        while made or self._make():
+        while made or (self._fed and self._make()):
             yield made.popleft()
 
     def read(self, file: BinaryIO, size: int = 65536) -> Iterator[Item]:
@@ -296,7 +312,7 @@ class Stream:
 
     def __repr__(self) -> str:
         place = self._made[0].place if self._made else self._from
-        return f"<p25.Stream at bit {place}, {len(self._held)} octets held{', finished' if self._ended else ''}>"
+        return f"<p25.Stream at bit {place}, {self._end - (self._from - self._begin) // 8} octets held{', finished' if self._ended else ''}>"
 
 
 def items(octets: "Octets") -> Iterator[Item]:
@@ -307,7 +323,7 @@ def items(octets: "Octets") -> Iterator[Item]:
     view, following, place = View(given), _Reader().next, 0
     source = given if isinstance(given, bytes) else memoryview(given).cast("B")
     while True:
-        made = following(source, view.address, 0, place, True)
+        made = following(source, view.length, view.address, 0, place, True)
         if not made:
             return
         place = made[-1].place + made[-1].bits
@@ -356,7 +372,7 @@ def _cut(octets: bytes, place: int, bits: int) -> bytes:
     return (number << -bits % 8).to_bytes((bits + 7) // 8, "big")
 
 
-def _put(octets: bytearray, place: int, unit: bytes, bits: int) -> None:
+def put_bits(octets: bytearray, place: int, unit: bytes, bits: int) -> None:
     """Puts so many bits of a unit into octets at a place."""
     first, last = place // 8, (place + bits + 7) // 8
     after = 8 * last - place - bits
@@ -371,7 +387,7 @@ def repair(octets: "Octets") -> bytes:
     repaired = bytearray(given)
     for item in items(given):
         if item.kind_id == Kind.UNIT:
-            _put(repaired, item.place, repair_unit(item.octets), item.bits)
+            put_bits(repaired, item.place, repair_unit(item.octets), item.bits)
     return bytes(repaired)
 
 

@@ -335,11 +335,16 @@ def build_packet(nac: int, head: "Octets", data: "Octets" = b"", serials: "Optio
     return _written(_build_packet, given, status)
 
 
+def item_struct(item: Item) -> _Item:
+    """Answers the numbers of an item as the library takes them."""
+    return _Item(item.place, item.bits, item.fixes, 0, item.nac or 0, item.duid or 0, item.kind_id)
+
+
 class Caller:
     """Groups the items of a recording into calls: `take` each in its turn, gaps too, and at the end `finish`."""
 
     def __init__(self) -> None:
-        self._state, self._call, self._item = _Caller(), _Call(), _Item()
+        self._state, self._call = _Caller(), _Call()
         self._none = _Fields()
         _caller_begin(ctypes.byref(self._state))
 
@@ -351,9 +356,7 @@ class Caller:
     def take(self, item: Item) -> Optional[Call]:
         """Takes the next item and answers the call that ends, or None: it ends with this item, its terminator, or with the unit before, where
         there is a break after that one. Error(place) where the item does not begin where the one before it ended, the first at bit 0."""
-        told = self._item
-        told.place, told.bits, told.kind = item.place, item.bits, item.kind_id
-        told.nac, told.duid = item.nac or 0, item.duid or 0
+        told = item_struct(item)
         fields = _told_fields(item._octets, item.place) if item.kind_id == Kind.UNIT else None
         answer = _caller_take(ctypes.byref(self._state), ctypes.byref(told), ctypes.byref(fields or self._none), ctypes.byref(self._call))
         return self._answered(answer)

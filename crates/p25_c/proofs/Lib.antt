@@ -3,10 +3,13 @@ pub mod ItemsLaws
 pub mod CallsLaws
 pub mod ManySteps
 pub mod PlacesSteps
+pub mod RelaysSteps
+pub mod FollowersSteps
 pub mod StreamsSteps
 pub mod StreamCallsLaws
 pub mod DibitsSteps
 pub mod PacketsLaws
 pub mod ValueLaws
 pub mod BoundsLaws
+pub mod FollowerLaws
 pub mod VoiceCallsLaws

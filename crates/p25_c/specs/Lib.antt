@@ -5,6 +5,9 @@ pub mod Building
 pub mod Version
 pub mod Many
 pub mod Places
+pub mod Levels
+pub mod Relays
+pub mod Followers
 pub mod Streams
 pub mod StreamCalls
 pub mod Marks
@@ -14,3 +17,4 @@ pub mod VoiceCalls
 pub mod Packets
 pub mod ValueLaws
 pub mod BoundsLaws
+pub mod FollowerLaws

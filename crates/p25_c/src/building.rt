@@ -85,7 +85,7 @@ pub(crate) fn write_bits(bits: &BitBuf, room: &mut [u8]) -> i32
 }
 
 // The number of octets that were written.
-fn written(count: usize) -> i32
+pub(crate) fn written(count: usize) -> i32
     requires { count ≤ 8192 }
     ensures { result ≡ pos count }
 {

@@ -3,6 +3,7 @@
 ghost use Rattle.p25_c.specs.BoundsLaws.{BridgedAreUnits, BuiltAreUnits, CutsAreShort, EnoughDecide, ItemsAreBounded, RepairedAreUnits, StreamsHaveRoom};
 ghost use Rattle.p25_c.specs.Calls.{CallsTellAll, CallsTellTheFirst, SetsAreItems};
 ghost use Rattle.p25_c.specs.StreamCalls.{StreamsTellAll, StreamsTellTheFirst};
+ghost use Rattle.p25_c.specs.FollowerLaws.{FollowersFollow, ItemsAreCut};
 ghost use Rattle.p25_c.specs.ValueLaws.{CallsAreTold, FieldsComeBack, UnitsAreTold};
 
 /// **Theorem.** Calls that ask for place 0 and then for the place at which the item before ends tell the items of the recording in
@@ -55,4 +56,14 @@ pub(crate) fn value_laws()
     ensures units { UnitsAreTold }
     ensures fields { FieldsComeBack }
     ensures calls { CallsAreTold }
+{}
+
+/// **Theorem.** What a follower writes of a recording, in whatever pieces its octets come.
+///
+/// - `follows`: what a follower that has begun writes of the items of a recording, which it takes in turn by their numbers, and at the end,
+///   are the octets of the recording followed.
+/// - `cut`: the bits that it looks at of an item are the same in every piece of the recording that has them.
+pub(crate) fn follower_laws()
+    ensures follows { FollowersFollow }
+    ensures cut { ItemsAreCut }
 {}

@@ -7,7 +7,8 @@ ghost use Rattle.p25_c.specs.Many.{many_answer, many_left, numbers_of};
 ghost use Rattle.p25_stream.specs.Items.{items_by};
 
 use crate::items::{ItemParts, OUTSIDE, blank, fixes, identifier, is_inside, kind};
-use p25_stream::find_item;
+use p25_bits::BitBuf;
+use p25_stream::find_item_in;
 use p25_units::Item;
 
 // The most items that one call tells.
@@ -43,9 +44,12 @@ fn tell_items(octets: &[u8], begin: u64, from: u64, ended: bool, items: &mut [It
 {
     let room = items.len().min(ITEMS_MOST);
     let mut found = blank();
+    let mut held = BitBuf::new();
+    let mut bare = BitBuf::new();
     let mut place = from;
     for i in 0..room {
-        if !find_item(octets, (place - begin) as usize, place, ended, &mut found) {
+        let at = (place - begin) as usize;
+        if !find_item_in(octets, at, place, ended, &mut held, &mut bare, &mut found) {
             return told(i);
         }
         items[i] = item_numbers(&found);

@@ -49,7 +49,7 @@ pub extern "C" fn p25_item_octets(
 }
 
 // Whether so many bits from a place on are among those of the octets, and an item may cover so many.
-fn has_item(octets: &[u8], begin: u64, place: u64, bits: u32) -> bool
+pub(crate) fn has_item(octets: &[u8], begin: u64, place: u64, bits: u32) -> bool
     ensures { result ≡ has_item begin place bits (length octets.now) }
 {
     if bits > ITEM_BITS || !is_inside(begin, place, octets.len()) {
@@ -59,7 +59,7 @@ fn has_item(octets: &[u8], begin: u64, place: u64, bits: u32) -> bool
 }
 
 // Sets `bits` to so many bits of octets from a bit on.
-fn cut(octets: &[u8], at: usize, count: usize, bits: &mut BitBuf)
+pub(crate) fn cut(octets: &[u8], at: usize, count: usize, bits: &mut BitBuf)
     requires there { at + count ≤ 8 * length octets.now }
     requires few { count ≤ 25920 }
     requires near { at ≤ 2 ^ 59 }
@@ -76,8 +76,7 @@ fn cut(octets: &[u8], at: usize, count: usize, bits: &mut BitBuf)
 }
 
 // Appends zeros where bits fill no octet.
-fn fill(bits: &mut BitBuf)
-    requires { length bits.old ≤ 25920 }
+pub(crate) fn fill(bits: &mut BitBuf)
     ensures { bits.new ≡ filled bits.old }
 {
     let missing = (8 - bits.len() % 8) % 8;

@@ -4,7 +4,7 @@ ghost use Rattle.std.specs.Prelude.{◌≡◌, ◌+◌, ◌≤◌, ◌<◌, [], 
 ghost use Rattle.p25_units.specs.Items.{IsSoundItem};
 ghost use Rattle.p25_follow.specs.Expected.{names_of};
 ghost use Rattle.p25_follow.specs.Followed.{is_rest, unit_name};
-ghost use Rattle.p25_follow.specs.Following.{behind_item, fresh_follow, written_before, written_end};
+ghost use Rattle.p25_follow.specs.Following.{IsFollow, behind_item, follow, fresh_follow, written_before, written_end};
 
 use crate::chain::put_chain;
 use p25_bch_nid::Nid;
@@ -49,6 +49,30 @@ impl Follower {
             before: None,
             stretch: BitBuf::new(),
         }
+    }
+
+    /// Answers a follower by what is kept: the name of the unit before, and the bits of the stretch after it, fewer than 6,912 and none
+    /// where no unit was before them. So what is kept between the items can be held in another form.
+    pub fn of(before: Option<Nid>, stretch: BitBuf) -> Follower
+        requires { IsFollow (follow (names_of before) stretch) }
+        ensures { result ≡ follow (names_of before) stretch }
+    {
+        Follower { before, stretch }
+    }
+
+    /// Answers the name of the unit before what is kept, or none.
+    pub fn before(&self) -> Option<Nid>
+        ensures { names_of result ≡ self.now.before }
+    {
+        self.before
+    }
+
+    /// Answers the bits that are kept, fewer than 6,912.
+    pub fn stretch(&self) -> &BitBuf
+        ensures bits { result.now ≡ self.now.stretch }
+        ensures few { length result.now < 6912 }
+    {
+        &self.stretch
     }
 
     /// Takes an item and the bits that it covers. Sets `out` to the bits that are to be written before the item's own: where a unit

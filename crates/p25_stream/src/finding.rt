@@ -25,20 +25,39 @@ pub fn find_item(octets: &[u8], at: usize, place: u64, ended: bool, item: &mut I
     ensures none { result ≡ false → (items_by ended place (drop at (octet_bits octets.now)) ≡ []) × (item.new ≡ item.old) }
     ensures sound { result ≡ true → IsSoundItem item.new }
 {
+    // Both are made here, side by side, so that each is set once.
+    let mut held = BitBuf::new();
+    let mut room = BitBuf::new();
+    find_item_in(octets, at, place, ended, &mut held, &mut room, item)
+}
+
+/// Does what `find_item` does, in two lists of the caller: so no room is cleared where many items are found one after the other. What
+/// `held` and `room` hold before and after the call means nothing.
+pub fn find_item_in(
+    octets: &[u8],
+    at: usize,
+    place: u64,
+    ended: bool,
+    held: &mut BitBuf,
+    room: &mut BitBuf,
+    item: &mut Item,
+) -> bool
+    ensures first { result ≡ true → IsFirst ended place (drop at (octet_bits octets.now)) item.new }
+    ensures none { result ≡ false → (items_by ended place (drop at (octet_bits octets.now)) ≡ []) × (item.new ≡ item.old) }
+    ensures sound { result ≡ true → IsSoundItem item.new }
+{
     let first = at / 8;
     if first >= octets.len() {
         return false;
     }
-    // Both are made here, side by side, so that each is set once.
-    let mut held = BitBuf::new();
-    let mut room = BitBuf::new();
+    held.clear();
     held.put_field(u64::from(octets[first]), 8);
     held.drop_front(at % 8);
-    let beginning = fill(&octets[first + 1..], &mut held);
+    let beginning = fill(&octets[first + 1..], held);
     if !ended && !beginning.is_settled() {
         return false;
     }
-    set_item(beginning, &held, place, &mut room, item);
+    set_item(beginning, held, place, room, item);
     true
 }
 

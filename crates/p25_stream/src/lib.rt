@@ -35,7 +35,7 @@ mod scanner;
 #[cfg(test)]
 mod tests;
 
-pub use finding::find_item;
+pub use finding::{find_item, find_item_in};
 pub use p25_units::Item;
 pub use repeats::{bridge_item, repair_item, repair_item_in};
 pub use scanner::Scanner;

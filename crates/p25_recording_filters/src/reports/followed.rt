@@ -1,4 +1,4 @@
-ghost use Rattle.std.specs.Prelude.{◌≡◌, []};
+ghost use Rattle.std.specs.Prelude.{◌≡◌, ◌<◌, [], length};
 ghost use Rattle.p25_follow.specs.Following.{fresh_follow};
 
 use super::changed::{put_after, put_behind};
@@ -41,6 +41,33 @@ impl Followed {
             room: BitBuf::new(),
             kept: BitBuf::new(),
         }
+    }
+
+    /// Answers a report by its follower and the bits, at most seven, that fill no octet.
+    pub fn of(follower: Follower, kept: BitBuf) -> Followed
+        requires { length kept < 8 }
+        ensures { result ≡ record { follower = follower; kept = kept } }
+    {
+        Followed {
+            follower,
+            room: BitBuf::new(),
+            kept,
+        }
+    }
+
+    /// Answers its follower.
+    pub fn follower(&self) -> &Follower
+        ensures { result.now ≡ self.now.follower }
+    {
+        &self.follower
+    }
+
+    /// Answers the bits that fill no octet, at most seven.
+    pub fn kept(&self) -> &BitBuf
+        ensures bits { result.now ≡ self.now.kept }
+        ensures few { length result.now < 8 }
+    {
+        &self.kept
     }
 }
 

@@ -11,24 +11,24 @@ use Rattle.p25_c.proofs.ManySteps.{left-next, left-none, left-some, told-more}
 use Rattle.p25_c.proofs.many.tell_items.Goals as goal
 use mir.Val.{SFits}
 
-pub returns-then-not-find_item-clause-answer : goal.returns-then-not-find_item-clause-answer
-returns-then-not-find_item-clause-answer c =
+pub returns-then-not-find_item_in-clause-answer : goal.returns-then-not-find_item_in-clause-answer
+returns-then-not-find_item_in-clause-answer c =
     let items = items_by c.args.ended c.args.from (drop (c.args.from - c.args.begin) (octet_bits c.args.octets.now)) in
     let i = c.loop-i.i in
     let room = min (length c.args.items.now) 2147483647 in
     let fits : SFits w32 c.told.result = search rules in
-    let left : drop i items ≡ [] = c.loop-i.invariant.left ∙ (c.find_item.ensures.none c.if-not-find_item.true).0 in
+    let left : drop i items ≡ [] = c.loop-i.invariant.left ∙ (c.find_item_in.ensures.none c.if-not-find_item_in.true).0 in
     let same = left-none items i room left c.loop-i.invariant.some (omega (arith, c.loop-i-test.true)) in
     to_z-of_z w32 c.told.result fits
     ∙ c.told.ensures
     ∙ sym (ap (λ (told : List Item). pos (length told)) same ∙ ap pos (length-take-le i items c.loop-i.invariant.some))
 
-pub returns-then-not-find_item-clause-items : goal.returns-then-not-find_item-clause-items
-returns-then-not-find_item-clause-items c =
+pub returns-then-not-find_item_in-clause-items : goal.returns-then-not-find_item_in-clause-items
+returns-then-not-find_item_in-clause-items c =
     let items = items_by c.args.ended c.args.from (drop (c.args.from - c.args.begin) (octet_bits c.args.octets.now)) in
     let i = c.loop-i.i in
     let room = min (length c.args.items.now) 2147483647 in
-    let left : drop i items ≡ [] = c.loop-i.invariant.left ∙ (c.find_item.ensures.none c.if-not-find_item.true).0 in
+    let left : drop i items ≡ [] = c.loop-i.invariant.left ∙ (c.find_item_in.ensures.none c.if-not-find_item_in.true).0 in
     c.loop-i.invariant.told
     ∙ ap (λ (told : List Item). put_first (map numbers_of told) c.args.items.now) (sym (left-none items i room left c.loop-i.invariant.some (omega (arith, c.loop-i-test.true))))
 
@@ -38,9 +38,9 @@ loop-i-preserved c =
     let items = items_by c.args.ended c.args.from (drop (c.args.from - c.args.begin) bits) in
     let i = c.loop-i.i in
     let place = c.loop-i.place in
-    let item = c.find_item.new.item in
+    let item = c.find_item_in.new.item in
     let rest = items_by c.args.ended (place + covered item) (drop (covered item) (drop (place - c.args.begin) bits)) in
-    let first = c.find_item.ensures.first c.if-not-find_item.false in
+    let first = c.find_item_in.ensures.first c.if-not-find_item_in.false in
     let count = c.covered-place.ensures.value in
     let after = c.loop-i.invariant.after in
     let left : drop i items ≡ item ∷ rest = c.loop-i.invariant.left ∙ first.items in

@@ -5,8 +5,8 @@ use Rattle.p25_stream.specs.Beginnings.{is_settled}
 use Rattle.p25_stream.specs.Finding.{IsFirst}
 use Rattle.p25_stream.specs.Items.{first_item, items_by}
 use Rattle.p25_stream.proofs.FindingLaws.{bits-at, first-found, held-some, none-at_end, none-found}
-use Rattle.p25_stream.proofs.finding.find_item.Goals as goal
-use Rattle.p25_stream.proofs.finding.find_item.Goals.{else-not-ended-via-then-not-ended+else-not-is_settled, else-not-ended-via-else-not-ended}
+use Rattle.p25_stream.proofs.finding.find_item_in.Goals as goal
+use Rattle.p25_stream.proofs.finding.find_item_in.Goals.{else-not-ended-via-then-not-ended+else-not-is_settled, else-not-ended-via-else-not-ended}
 
 pub returns-then-first-octets-clause-none : goal.returns-then-first-octets-clause-none
 returns-then-first-octets-clause-none c = λ _. (none-at_end c.args.ended c.args.place c.args.at c.args.octets.now (omega (arith, c.if-first-octets.true)), refl)
@@ -16,7 +16,7 @@ returns-then-not-is_settled-clause-none c = λ _.
     let octets = c.args.octets.now in
     let before = c.drop_front.new.self in
     let rest = octet_bits (take (length octets - (c.args.at / 8 + 1)) (drop (c.args.at / 8 + 1) octets)) in
-    let begins = c.drop_front.ensures.list ∙ ap (drop (c.args.at % 8)) (c.put_field.ensures.list ∙ ap₂ (λ (xs : List Bool) (n : ℕ). xs ++ bits_of 8 n) c.new-held.ensures c.from.ensures) in
+    let begins = c.drop_front.ensures.list ∙ ap (drop (c.args.at % 8)) (c.put_field.ensures.list ∙ ap₂ (λ (xs : List Bool) (n : ℕ). xs ++ bits_of 8 n) c.clear.ensures c.from.ensures) in
     let whole : drop c.args.at (octet_bits octets) ≡ before ++ rest = bits-at octets c.args.at before (omega (arith, c.if-first-octets.false)) begins in (
       ap (items_by c.args.ended c.args.place) whole
           ∙ none-found c.args.ended c.args.place before rest c.fill-beginning.new.held c.fill-beginning.result c.fill-beginning.ensures c.if-not-ended.true
@@ -30,7 +30,7 @@ returns-clause-first c = λ _.
     let before = c.drop_front.new.self in
     let rest = octet_bits (take (length octets - (c.args.at / 8 + 1)) (drop (c.args.at / 8 + 1) octets)) in
     let held = c.fill-beginning.new.held in
-    let begins = c.drop_front.ensures.list ∙ ap (drop (c.args.at % 8)) (c.put_field.ensures.list ∙ ap₂ (λ (xs : List Bool) (n : ℕ). xs ++ bits_of 8 n) c.new-held.ensures c.from.ensures) in
+    let begins = c.drop_front.ensures.list ∙ ap (drop (c.args.at % 8)) (c.put_field.ensures.list ∙ ap₂ (λ (xs : List Bool) (n : ℕ). xs ++ bits_of 8 n) c.clear.ensures c.from.ensures) in
     let whole : drop c.args.at (octet_bits octets) ≡ before ++ rest = bits-at octets c.args.at before (omega (arith, c.if-first-octets.false)) begins in
     let some : 0 < length before = omega (arith, c.drop_front.ensures.len, c.put_field.ensures.len) in
     let goes : (c.args.ended || is_settled c.fill-beginning.result) ≡ true

@@ -1,0 +1,15 @@
+use Rattle.std.proofs.Common.{◌≡◌, ℤ, rules, subst, sym, to_z, of_z, w32, ◌∙◌}
+use Rattle.std.proofs.lemmas.Int.{to_z-of_z}
+use Rattle.p25_c.specs.Relays.{relayed_at}
+use Rattle.p25_c.specs.Rooms.{IsWriting}
+use Rattle.p25_status.specs.Status.{same_status}
+use Rattle.p25_status.specs.declared.symbols.Status.{Status}
+use Rattle.p25_c.proofs.relays.p25_relay_at.Goals as goal
+use mir.Val.{SFits}
+
+pub returns-clause-relayed : goal.returns-clause-relayed
+returns-clause-relayed c = λ few symbol number.
+    let fits : SFits w32 c.relay_at.result = search rules in
+    let same : c.in-Some.symbol ≡ symbol = same_status c.in-Some.symbol symbol (c.in-Some.ensures.number ∙ sym number) in
+    subst (λ (s : Status). IsWriting (relayed_at c.args.nac s c.args.begin c.args.from c.args.octets.now) c.args.into.now c.relay_at.new.into (to_z w32 (of_z w32 c.relay_at.result))) same
+    (subst (λ (z : ℤ). IsWriting (relayed_at c.args.nac c.in-Some.symbol c.args.begin c.args.from c.args.octets.now) c.args.into.now c.relay_at.new.into z) (sym (to_z-of_z w32 c.relay_at.result fits)) c.relay_at.ensures)

@@ -1,0 +1,56 @@
+use Rattle.std.proofs.Common.{◌≡◌, ◌-◌, ◌∙◌, [], ℤ, List, Bool, true, Option, Ok, drop, rules, subst, sym, ap, to_z, of_z, w32}
+use Rattle.std.proofs.lemmas.Int.{to_z-of_z}
+use Rattle.p25_bits.specs.Bits.{octet_bits, part}
+use Rattle.p25_units.specs.Items.{covered}
+use Rattle.p25_units.specs.Units.{whole_octets}
+use Rattle.p25_units.specs.declared.item.Item.{Item}
+use Rattle.p25_follow.specs.Relayed.{relayed}
+use Rattle.p25_c.specs.Places.{filled}
+use Rattle.p25_c.specs.Relays.{asked_relayed}
+use Rattle.p25_c.specs.Rooms.{IsWriting}
+use Rattle.p25_c.proofs.ItemsLaws.{items_asked-inside, items_asked-outside}
+use Rattle.p25_c.proofs.RelaysSteps.{found-at, relay-none, relay-outside}
+use Rattle.p25_c.proofs.relays.relay_at.Goals as goal
+use mir.Val.{SFits}
+
+pub returns-then-not-is_inside : goal.returns-then-not-is_inside
+returns-then-not-is_inside c =
+    relay-outside c.args.nac c.args.status _ (drop (c.args.from - c.args.begin) (octet_bits c.args.octets.now)) c.args.into.now
+    (items_asked-outside true c.args.begin c.args.from c.args.octets.now (sym c.is_inside.ensures ∙ c.if-not-is_inside.true))
+
+pub returns-then-not-find_item : goal.returns-then-not-find_item
+returns-then-not-find_item c =
+    relay-none c.args.nac c.args.status _ (drop (c.args.from - c.args.begin) (octet_bits c.args.octets.now)) c.args.into.now
+    (items_asked-inside true c.args.begin c.args.from c.args.octets.now [] (sym c.is_inside.ensures ∙ c.if-not-is_inside.false) (c.find_item.ensures.none c.if-not-find_item.true).0)
+
+pub relay_found-requires-clause-fits : goal.relay_found-requires-clause-fits
+relay_found-requires-clause-fits c =
+    (found-at c.args.begin c.args.from c.args.octets.now c.find_item.new.item (sym c.is_inside.ensures ∙ c.if-not-is_inside.false) (c.find_item.ensures.first c.if-not-find_item.false)).fits
+
+pub relay_found-requires-clause-there : goal.relay_found-requires-clause-there
+relay_found-requires-clause-there c =
+    (found-at c.args.begin c.args.from c.args.octets.now c.find_item.new.item (sym c.is_inside.ensures ∙ c.if-not-is_inside.false) (c.find_item.ensures.first c.if-not-find_item.false)).there
+
+pub relay_found-requires-clause-few : goal.relay_found-requires-clause-few
+relay_found-requires-clause-few c =
+    (found-at c.args.begin c.args.from c.args.octets.now c.find_item.new.item (sym c.is_inside.ensures ∙ c.if-not-is_inside.false) (c.find_item.ensures.first c.if-not-find_item.false)).few
+
+pub relay_found-requires-clause-near : goal.relay_found-requires-clause-near
+relay_found-requires-clause-near c =
+    (found-at c.args.begin c.args.from c.args.octets.now c.find_item.new.item (sym c.is_inside.ensures ∙ c.if-not-is_inside.false) (c.find_item.ensures.first c.if-not-find_item.false)).near
+
+pub returns : goal.returns
+returns c =
+    let bits = drop (c.args.from - c.args.begin) (octet_bits c.args.octets.now) in
+    let item = c.find_item.new.item in
+    let first = c.find_item.ensures.first c.if-not-find_item.false in
+    let inside = sym c.is_inside.ensures ∙ c.if-not-is_inside.false in
+    let fits : SFits w32 c.write_bits.result = search rules in
+    let left = c.write_bits.new.room in
+    let asked = items_asked-inside true c.args.begin c.args.from c.args.octets.now _ inside first.items in
+    let sent : c.fill.new.bits ≡ filled (relayed c.args.nac c.args.status item (part (c.args.from - c.args.begin) (covered item) (octet_bits c.args.octets.now)))
+    = c.fill.ensures ∙ ap filled c.relay_found.ensures in
+    subst (λ (some : Option (List Item)). IsWriting (asked_relayed c.args.nac c.args.status some bits) c.args.into.now left (to_z w32 (of_z w32 c.write_bits.result))) (sym asked)
+    (subst (λ (z : ℤ). IsWriting (Ok (whole_octets (filled (relayed c.args.nac c.args.status item (part (c.args.from - c.args.begin) (covered item) (octet_bits c.args.octets.now)))))) c.args.into.now left z)
+    (sym (to_z-of_z w32 c.write_bits.result fits))
+    (subst (λ (zs : List Bool). IsWriting (Ok (whole_octets zs)) c.args.into.now left c.write_bits.result) sent c.write_bits.ensures))

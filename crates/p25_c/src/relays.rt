@@ -1,0 +1,87 @@
+//! Items forwarded in place, under another network access code (NAC) and with one status symbol everywhere.
+
+ghost use Rattle.std.specs.Prelude.{◌≡◌, ◌+◌, ◌*◌, ◌^◌, ◌<◌, ◌≤◌, Err, length};
+ghost use Rattle.p25_bits.specs.Bits.{octet_bits, part};
+ghost use Rattle.p25_c.specs.Building.{wrong_nac, wrong_status};
+ghost use Rattle.p25_c.specs.Relays.{relayed_at};
+ghost use Rattle.p25_c.specs.Rooms.{IsWriting};
+ghost use Rattle.p25_follow.specs.Relayed.{IsFitItem, relayed};
+ghost use Rattle.p25_status.specs.Status.{status_number};
+ghost use Rattle.p25_status.specs.declared.symbols.Status.{Status as Symbol};
+ghost use Rattle.p25_units.specs.Items.{IsSoundItem, covered};
+
+use crate::building::{WRONG_NAC, WRONG_STATUS, write_bits};
+use crate::items::{OUTSIDE, blank, is_inside};
+use crate::repeats::{cut, fill};
+use p25_bits::BitBuf;
+use p25_follow::relay_item;
+use p25_status::Status;
+use p25_stream::find_item;
+use p25_units::Item;
+
+/// Writes what is forwarded in place of the item that begins at bit `from` of a recording, as the command `relay` writes it: of a whole unit
+/// what `p25_bridge_at` writes; of a broken one its bits, with the sync, the network identifier (NID) and the status symbols replaced;
+/// and all other bits as they are. It is as many bits as the item covers, as octets: the bits after the last are 0. Of the recording
+/// the octets from bit `begin` on are given. Answers how many octets it wrote, at most 3,240, and 0 where no item is left; the octets
+/// of `into` after them stay.
+///
+/// Where it does not, all of `into` stays, and it answers the first of these that applies: -4, `nac` is above 4095; -5, `status` is
+/// above 3; -1, where `p25_next_item` answers it; -2, there are more octets than `into` has.
+#[unsafe(no_mangle)]
+pub extern "C" fn p25_relay_at(
+    octets: &[u8],
+    begin: u64,
+    from: u64,
+    nac: u16,
+    status: u8,
+    into: &mut [u8],
+) -> i32
+    ensures strange_code { 4096 ≤ nac → IsWriting (Err wrong_nac) into.old into.new result }
+    ensures strange_symbol { nac < 4096 → 4 ≤ status → IsWriting (Err wrong_status) into.old into.new result }
+    ensures relayed { nac < 4096 → (symbol : Symbol) → status_number symbol ≡ status
+        → IsWriting (relayed_at nac symbol begin from octets.now) into.old into.new result }
+{
+    if nac > 4_095 {
+        return WRONG_NAC;
+    }
+    let Some(symbol) = Status::new(status) else {
+        return WRONG_STATUS;
+    };
+    relay_at(octets, begin, from, nac, symbol, into)
+}
+
+// Writes what is forwarded in place of the item at a place.
+fn relay_at(octets: &[u8], begin: u64, from: u64, nac: u16, status: Status, into: &mut [u8]) -> i32
+    requires { nac < 4096 }
+    ensures { IsWriting (relayed_at nac status begin from octets.now) into.old into.new result }
+{
+    if !is_inside(begin, from, octets.len()) {
+        return OUTSIDE;
+    }
+    let at = (from - begin) as usize;
+    let mut found = blank();
+    if !find_item(octets, at, from, true, &mut found) {
+        return 0;
+    }
+    let mut bits = BitBuf::new();
+    relay_found(octets, at, &found, nac, status, &mut bits);
+    fill(&mut bits);
+    write_bits(&bits, into)
+}
+
+// Sets `bits` to what is forwarded in place of the item that was found at a bit.
+fn relay_found(octets: &[u8], at: usize, found: &Item, nac: u16, status: Status, bits: &mut BitBuf)
+    requires sound { IsSoundItem found.now }
+    requires fits { IsFitItem found.now }
+    requires there { at + covered found.now ≤ 8 * length octets.now }
+    requires few { covered found.now ≤ 25920 }
+    requires near { at ≤ 2 ^ 59 }
+    requires nac { nac < 4096 }
+    ensures { bits.new ≡ relayed nac status found.now (part at (covered found.now) (octet_bits octets.now)) }
+{
+    cut(octets, at, found.covered() as usize, bits);
+    relay_item(found, nac, status, bits);
+}
+
+#[cfg(test)]
+mod tests;
