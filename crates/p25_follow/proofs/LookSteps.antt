@@ -156,7 +156,8 @@ module _ (before : ℕ × ℕ) (bits : List Bool) (end : Option (ℕ × ℕ)) (l
       (after-is links kind next later link same (is_later ∙ ap (λ (n : ℕ). is_sure n next (drop 1728 bits) end) less) ∙ ends)
 
   pub sure-after : (links kind : ℕ) (next : ℕ × ℕ) (later : Bool) (told : Told) (answer : Bool) → 0 < links → is_some (fits_by bits look.told) ≡ false → 1728 ≤ length bits
-      → next_link before.1 ≡ Some kind → next ≡ (before.0, kind) → later ≡ is_sure (links - 1) next (drop 1728 bits) end → later ≡ true → told ≡ told_by_look look (is_read bits) → answer ≡ is_nothing told
+      → next_link before.1 ≡ Some kind → next ≡ (before.0, kind) → later ≡ is_sure (links - 1) next (drop 1728 bits) end → later ≡ true → told ≡ told_by_look look (is_read bits)
+      → answer ≡ is_nothing told
       → answer ≡ is_sure links before bits end
   sure-after zero kind next later told answer more test long link same is_later goes is_told is_answer = absurd (omega arith)
   sure-after (suc links) kind next later told answer more test long link same is_later goes is_told is_answer =

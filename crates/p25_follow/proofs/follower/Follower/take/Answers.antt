@@ -17,7 +17,8 @@ returns-else-is_none-clause-out c =
     let stretch = c.self.inside.stretch in
     rest-out c.args.self.now c.args.item.now raw (names_of c.self.inside.before) stretch c.self.view_is
     c.append-then-is_rest.new.self c.clear.new.self c.put_chain-self-inside.new.out (sym c.is_rest.ensures ∙ c.if-is_rest.true)
-    (appended-all stretch raw c.append-then-is_rest.new.self c.len-then-is_rest.result c.len-then-is_rest.ensures.value c.append-then-is_rest.ensures.list) c.clear.ensures c.put_chain-self-inside.ensures.list
+    (appended-all stretch raw c.append-then-is_rest.new.self c.len-then-is_rest.result c.len-then-is_rest.ensures.value c.append-then-is_rest.ensures.list) c.clear.ensures
+    c.put_chain-self-inside.ensures.list
 
 pub returns-else-is_none-clause-behind : goal.returns-else-is_none-clause-behind
 returns-else-is_none-clause-behind c =
