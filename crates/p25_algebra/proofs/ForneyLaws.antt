@@ -5,12 +5,9 @@ use Rattle.std.proofs.Common.{◌≡◌, ◌≢◌, ℕ, zero, suc, ◌+◌, ◌
 use Rattle.p25_gf64.specs.Field.{Field, power}
 use Rattle.p25_gf64.proofs.FieldLaws.{add_comm, add_zero, zero_add, add_twice, same_from_sum, mul_comm, mul_assoc, mul_left_comm, mul_one, one_mul, mul_add, mul_zero, zero_mul, mul_inverse, mul_cancel, other_zero}
 use Rattle.p25_gf64.proofs.PowerLaws.{power-zero, power-suc, power-add, power_of_mul, power_of_one, power_ne_zero}
-use Rattle.p25_algebra.specs.Sums.{sum_below, power_sum, AreApart}
-use Rattle.p25_algebra.specs.Series.{value_at, product_at, shifted, IsShort, rest_at, slope_at}
-use Rattle.p25_algebra.proofs.SumLaws.{sum-none, sum-suc, sum_same, sum-mul, sum_exchange, sum_of_one}
-use Rattle.p25_algebra.proofs.ProductLaws.{product_same_left, product-add_left, product-mul_left, product-shifted}
-use Rattle.p25_algebra.proofs.ProductValueLaws.{value_longer}
-use Rattle.p25_algebra.proofs.QuotientLaws.{shifted-first, shifted-next, short_rest, factored, value-factored}
+use Rattle.p25_algebra.specs.{Sums.{sum_below, power_sum, AreApart}, Series.{value_at, product_at, shifted, IsShort, rest_at, slope_at}}
+use Rattle.p25_algebra.proofs.{SumLaws.{sum-none, sum-suc, sum_same, sum-mul, sum_exchange, sum_of_one}, ProductLaws.{product_same_left, product-add_left, product-mul_left, product-shifted}}
+use Rattle.p25_algebra.proofs.{ProductValueLaws.{value_longer}, QuotientLaws.{shifted-first, shifted-next, short_rest, factored, value-factored}}
 
 module _ {F : Type 0} (K : Field F) where
   open K use {zero as 𝟘, one as 𝟙, add as ◌⊕◌, mul as ◌⊗◌, inverse}

@@ -2,14 +2,9 @@
 -- so these vanish.
 use Rattle.std.proofs.Common.{◌≡◌, ◌≢◌, ℕ, suc, ◌+◌, ◌-◌, ◌*◌, ◌<◌, ◌≤◌, sym, ap, ap₂, ◌∙◌, arith}
 use Rattle.p25_gf64.specs.Field.{Field, power}
-use Rattle.p25_gf64.proofs.FieldLaws.{mul_comm, mul_assoc, mul_left_comm, zero_mul, mul_inverse, mul_ne_zero, other_zero}
-use Rattle.p25_gf64.proofs.PowerLaws.{power-add, power_ne_zero}
-use Rattle.p25_algebra.specs.Sums.{power_sum, nonzeros, AreApart}
-use Rattle.p25_algebra.specs.Series.{value_at, product_at, IsShort}
-use Rattle.p25_algebra.proofs.SumLaws.{sum_same}
-use Rattle.p25_algebra.proofs.VanishingLaws.{nonzeros_mono, vanishing}
-use Rattle.p25_algebra.proofs.ProductValueLaws.{value_longer}
-use Rattle.p25_algebra.proofs.ForneyLaws.{product_sums}
+use Rattle.p25_gf64.proofs.{FieldLaws.{mul_comm, mul_assoc, mul_left_comm, zero_mul, mul_inverse, mul_ne_zero, other_zero}, PowerLaws.{power-add, power_ne_zero}}
+use Rattle.p25_algebra.specs.{Sums.{power_sum, nonzeros, AreApart}, Series.{value_at, product_at, IsShort}}
+use Rattle.p25_algebra.proofs.{SumLaws.{sum_same}, VanishingLaws.{nonzeros_mono, vanishing}, ProductValueLaws.{value_longer}, ForneyLaws.{product_sums}}
 
 module _ {F : Type 0} (K : Field F) where
   open K use {zero as 𝟘, one as 𝟙, add as ◌⊕◌, mul as ◌⊗◌, inverse}

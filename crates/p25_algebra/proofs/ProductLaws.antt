@@ -1,11 +1,9 @@
 -- Products of polynomials by their coefficients: a product is the sum of the second factor's multiples by the first factor's terms, and degrees add, since
 -- the leading coefficient is a product of two that are not zero.
-use Rattle.std.proofs.Common.{◌≡◌, ◌≢◌, ◌⊎◌, ℕ, zero, suc, ◌+◌, ◌-◌, ◌<◌, ◌≤◌, cond, eqb, refl, sym, ap, ap₂, ◌∙◌, inl, inr, arith}
-use Rattle.std.proofs.lemmas.Bool.{cases_eq, cases_lt, lt-ltb, le-ltb, eq-eqb, ne_eqb}
+use Rattle.std.proofs.{Common.{◌≡◌, ◌≢◌, ◌⊎◌, ℕ, zero, suc, ◌+◌, ◌-◌, ◌<◌, ◌≤◌, cond, eqb, refl, sym, ap, ap₂, ◌∙◌, inl, inr, arith}, lemmas.Bool.{cases_eq, cases_lt, lt-ltb, le-ltb, eq-eqb, ne_eqb}}
 use Rattle.p25_gf64.specs.Field.{Field}
 use Rattle.p25_gf64.proofs.FieldLaws.{mul_assoc, add_assoc, add_zero, add_self, add_twice, same_from_sum, mul_comm, mul_one, mul_add, mul_zero, zero_mul, mul_ne_zero}
-use Rattle.p25_algebra.specs.Sums.{sum_below}
-use Rattle.p25_algebra.specs.Series.{product_at, IsZero, IsShort, IsDegree, shifted}
+use Rattle.p25_algebra.specs.{Sums.{sum_below}, Series.{product_at, IsZero, IsShort, IsDegree, shifted}}
 use Rattle.p25_algebra.proofs.SumLaws.{sum-mul, sum_first, sum_same, sum_of_zeros, sum-add, sum_longer, sum_of_one, sum_reverse}
 
 module _ {F : Type 0} (K : Field F) where

@@ -1,14 +1,9 @@
 -- Values of sums and products of polynomials.
-use Rattle.std.proofs.Common.{◌≡◌, ℕ, zero, suc, ◌+◌, ◌-◌, ◌≤◌, sym, ap, ap₂, ◌∙◌, inl, inr, arith}
-use Rattle.std.proofs.lemmas.Bool.{cases_lt}
+use Rattle.std.proofs.{Common.{◌≡◌, ℕ, zero, suc, ◌+◌, ◌-◌, ◌≤◌, sym, ap, ap₂, ◌∙◌, inl, inr, arith}, lemmas.Bool.{cases_lt}}
 use Rattle.p25_gf64.specs.Field.{Field, power}
-use Rattle.p25_gf64.proofs.FieldLaws.{zero_add, mul_comm, mul_assoc, one_mul, add_mul, zero_mul}
-use Rattle.p25_gf64.proofs.PowerLaws.{power-zero, power-suc}
-use Rattle.p25_algebra.specs.Sums.{sum_below}
-use Rattle.p25_algebra.specs.Series.{value_at, product_at, shifted, IsShort}
-use Rattle.p25_algebra.proofs.SumLaws.{sum_same, sum-add, sum-mul, sum_longer, sum_exchange}
-use Rattle.p25_algebra.proofs.ValueLaws.{value_first, value_same}
-use Rattle.p25_algebra.proofs.ProductLaws.{shifted_below, shifted_from, product_by_rows}
+use Rattle.p25_gf64.proofs.{FieldLaws.{zero_add, mul_comm, mul_assoc, one_mul, add_mul, zero_mul}, PowerLaws.{power-zero, power-suc}}
+use Rattle.p25_algebra.specs.{Sums.{sum_below}, Series.{value_at, product_at, shifted, IsShort}}
+use Rattle.p25_algebra.proofs.{SumLaws.{sum_same, sum-add, sum-mul, sum_longer, sum_exchange}, ValueLaws.{value_first, value_same}, ProductLaws.{shifted_below, shifted_from, product_by_rows}}
 
 module _ {F : Type 0} (K : Field F) where
   open K use {zero as 𝟘, one as 𝟙, add as ◌⊕◌, mul as ◌⊗◌}

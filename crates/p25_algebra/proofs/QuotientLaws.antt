@@ -1,13 +1,11 @@
 -- The quotient of a polynomial by x + z, by Horner's rule at z: what it is where z is a zero, that there is no other, and what it
 -- becomes where the polynomial is multiplied by 1 + y x.
-use Rattle.std.proofs.Common.{◌≡◌, ℕ, zero, suc, ◌+◌, ◌-◌, ◌<◌, ◌≤◌, refl, sym, ap, ap₂, ◌∙◌, inl, inr, arith}
-use Rattle.std.proofs.lemmas.Bool.{cases_lt}
+use Rattle.std.proofs.{Common.{◌≡◌, ℕ, zero, suc, ◌+◌, ◌-◌, ◌<◌, ◌≤◌, refl, sym, ap, ap₂, ◌∙◌, inl, inr, arith}, lemmas.Bool.{cases_lt}}
 use Rattle.p25_gf64.specs.Field.{Field}
 use Rattle.p25_gf64.proofs.FieldLaws.{add_comm, add_assoc, add_left_comm, add_zero, add_twice, same_from_sum, mul_comm, mul_assoc, mul_left_comm, one_mul, mul_add, add_mul, mul_zero}
 use Rattle.p25_gf64.proofs.PowerLaws.{power-one}
 use Rattle.p25_algebra.specs.Series.{value_at, product_at, shifted, IsShort, times_linear, rest_at, slope_at}
-use Rattle.p25_algebra.proofs.ValueLaws.{value-none, value_first, value_same}
-use Rattle.p25_algebra.proofs.ProductLaws.{shifted_below, shifted_from, product_comm, product-add_left, product-mul_left, product-shifted}
+use Rattle.p25_algebra.proofs.{ValueLaws.{value-none, value_first, value_same}, ProductLaws.{shifted_below, shifted_from, product_comm, product-add_left, product-mul_left, product-shifted}}
 use Rattle.p25_algebra.proofs.ProductValueLaws.{value-add, value-mul, value_longer, value-shifted}
 
 module _ {F : Type 0} (K : Field F) where

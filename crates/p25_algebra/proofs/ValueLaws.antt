@@ -3,8 +3,7 @@ use Rattle.std.proofs.Common.{◌≡◌, ◌≢◌, ℕ, zero, suc, ◌<◌, ◌
 use Rattle.p25_gf64.specs.Field.{Field, power}
 use Rattle.p25_gf64.proofs.FieldLaws.{add_comm, add_assoc, add_left_comm, add_zero, zero_add, add_twice, same_from_sum, mul_comm, mul_assoc, mul_left_comm, mul_one, mul_add, add_mul, mul_zero, zero_mul, other_zero}
 use Rattle.p25_gf64.proofs.PowerLaws.{power-zero, power-suc}
-use Rattle.p25_algebra.specs.Sums.{AreApart}
-use Rattle.p25_algebra.specs.Series.{value_at}
+use Rattle.p25_algebra.specs.{Sums.{AreApart}, Series.{value_at}}
 use Rattle.p25_algebra.proofs.SumLaws.{sum-none, sum_same, sum_of_zeros, sum-mul, sum_first}
 
 module _ {F : Type 0} (K : Field F) where

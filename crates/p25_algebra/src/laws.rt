@@ -1,12 +1,8 @@
 //! Polynomials by their coefficients, and power sums over different elements.
 
 ghost use Rattle.std.specs.Prelude.{◌≡◌, ℕ, suc, ◌+◌, ◌<◌, ◌≤◌, ◌≢◌, ◌*◌};
-ghost use Rattle.p25_gf64.specs.declared.symbol.Sym.{Sym};
-ghost use Rattle.p25_gf64.specs.Gf64.{gf64};
-ghost use Rattle.p25_algebra.specs.Sums.{AreApart, power_sum, nonzeros};
-ghost use Rattle.p25_algebra.specs.Series.{value_at, product_at, IsShort, IsDegree, times_linear, slope_at};
-ghost use Rattle.p25_gf64.specs.Field.{power};
-ghost use Rattle.p25_gf64.specs.Symbol.{alpha};
+ghost use Rattle.p25_gf64.specs.{declared.symbol.Sym.{Sym}, Gf64.{gf64}, Field.{power}, Symbol.{alpha}};
+ghost use Rattle.p25_algebra.specs.{Sums.{AreApart, power_sum, nonzeros}, Series.{value_at, product_at, IsShort, IsDegree, times_linear, slope_at}};
 
 /// A polynomial of `length` coefficients that has as many different zeros is zero.
 pub fn few_zeros()

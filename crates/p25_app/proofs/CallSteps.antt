@@ -1,10 +1,7 @@
 -- The end of a line, by whether there is a line; and what was told, by whether the write failed.
-use Rattle.std.proofs.Common.{false, ◌==◌, ◌≡◌, ℕ, ◌<◌, List, [], ◌∷◌, ◌++◌, length, Option, Result, Ok, Err, refl, sym, subst, arith}
+use Rattle.std.proofs.{Common.{false, ◌==◌, ◌≡◌, ℕ, ◌<◌, List, [], ◌∷◌, ◌++◌, length, Option, Result, Ok, Err, refl, sym, subst, arith}, lemmas.List.{take_all}}
 use Rattle.std.specs.Prelude.{OnOk, OnErr}
-use Rattle.std.proofs.lemmas.List.{take_all}
-use Rattle.p25_io.specs.Faults.{HasCause}
-use Rattle.p25_io.specs.Octets.{Appended, AppendedBeginning}
-use Rattle.p25_io.specs.declared.failed.Failed.{Failed}
+use Rattle.p25_io.specs.{Faults.{HasCause}, Octets.{Appended, AppendedBeginning}, declared.failed.Failed.{Failed}}
 use Rattle.p25_app.specs.Calls.{IsTold, with_end}
 
 -- a line gets its LF

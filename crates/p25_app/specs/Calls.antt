@@ -1,21 +1,10 @@
 -- One call of the program: the words among its arguments, the run of these words, the line of its outcome and its status.
-use Rattle.std.specs.Prelude.{◌≡◌, ℕ, List, [], ◌∷◌, ◌++◌, codes, drop, map, string_bytes, Option, Some, None, Result, Ok, Err}
-use Rattle.std.specs.List.{fold}
-use Rattle.std.specs.Vec.Iter.{into_iter_items}
-use Rattle.std.specs.declared.vec.IntoIter.{IntoIter}
-use Rattle.std.specs.declared.string.String.{String}
-use Rattle.std.specs.declared.io.Error.{Error}
-use Rattle.std.specs.declared.io.ErrorKind.{ErrorKind}
-use Rattle.std.specs.declared.io.ErrorKind.TheVariants.{OutOfMemory}
-use Rattle.std.specs.IoError.{error_kind}
-use Rattle.p25_io.specs.Events.{Event}
-use Rattle.p25_io.specs.Faults.{Rose}
-use Rattle.p25_io.specs.Octets.{Appended, AppendedBeginning}
-use Rattle.p25_tool.specs.declared.outcome.Outcome.{Outcome}
-use Rattle.p25_tool.specs.declared.outcome.Outcome.TheVariants.{Memory}
-use Rattle.p25_tool.specs.CallRuns.{IsCallRun}
-use Rattle.p25_tool.specs.Outcomes.{line_of, status_of}
-use Rattle.p25_tool.specs.Words.{added, command_of}
+use Rattle.std.specs.{Prelude.{◌≡◌, ℕ, List, [], ◌∷◌, ◌++◌, codes, drop, map, string_bytes, Option, Some, None, Result, Ok, Err}, List.{fold}}
+use Rattle.std.specs.{Vec.Iter.{into_iter_items}, declared.vec.IntoIter.{IntoIter}, declared.string.String.{String}, declared.io.Error.{Error}}
+use Rattle.std.specs.{declared.io.ErrorKind.{ErrorKind}, declared.io.ErrorKind.TheVariants.{OutOfMemory}, IoError.{error_kind}}
+use Rattle.p25_io.specs.{Events.{Event}, Faults.{Rose}, Octets.{Appended, AppendedBeginning}}
+use Rattle.p25_tool.specs.{declared.outcome.Outcome.{Outcome}, declared.outcome.Outcome.TheVariants.{Memory}, CallRuns.{IsCallRun}}
+use Rattle.p25_tool.specs.{Outcomes.{line_of, status_of}, Words.{added, command_of}}
 
 -- the words of a call: its arguments one after another, but for the first, which is the program's own name
 abbrev pub call_words : List (List ℕ) → List (List ℕ)

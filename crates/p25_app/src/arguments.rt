@@ -1,8 +1,6 @@
 //! The words of a call among its arguments.
 
-ghost use Rattle.std.specs.Prelude.{◌≡◌, [], ◌∷◌, codes, drop, map, string_bytes};
-ghost use Rattle.std.specs.List.{fold};
-ghost use Rattle.std.specs.Vec.Iter.{into_iter_items};
+ghost use Rattle.std.specs.{Prelude.{◌≡◌, [], ◌∷◌, codes, drop, map, string_bytes}, List.{fold}, Vec.Iter.{into_iter_items}};
 ghost use Rattle.p25_tool.specs.Words.{added};
 ghost use Rattle.p25_app.specs.Calls.{words_given};
 

@@ -1,8 +1,7 @@
 //! One call of the program.
 
 ghost use Rattle.std.specs.Prelude.{◌≡◌, List, []};
-ghost use Rattle.p25_io.specs.Events.{Event};
-ghost use Rattle.p25_io.specs.Streams.{StreamsGo, events_on};
+ghost use Rattle.p25_io.specs.{Events.{Event}, Streams.{StreamsGo, events_on}};
 ghost use Rattle.p25_app.specs.Calls.{IsOneCall, IsRunOf, words_given};
 
 mod ended;

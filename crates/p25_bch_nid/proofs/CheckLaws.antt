@@ -1,16 +1,12 @@
 -- The table of remainders is right at each place: an entry is made from its four bits by doubling, a remainder at each step, and
 -- the checker computes all of them. A word's remainder is the sum of those of its four-bit parts.
 use Rattle.std.proofs.Common.{◌≡◌, ℕ, zero, suc, ◌+◌, ◌*◌, ◌/◌, ◌%◌, ◌^◌, ◌<◌, ◌==◌, inl, inr, Bool, true, cond, nat_lt, slice_index_or, bit_xor, refl, ap, ap₂, sym, ◌∙◌, subst, arith}
+use Rattle.std.proofs.{Math.Nat.{mul_assoc, mul_comm, pow-suc}, lemmas.Bool.{cases_Bool, eqb-true, ltb-true, ltb-false}}
 use Rattle.std.specs.Int.Bits.{xor_zero_r}
-use Rattle.std.proofs.Math.Nat.{mul_assoc, mul_comm, pow-suc}
-use Rattle.std.proofs.lemmas.Bool.{cases_Bool, eqb-true, ltb-true, ltb-false}
 use Rattle.p25_bits.specs.Divisible.{IsDivisible, IsRemainder}
-use Rattle.p25_bits.proofs.DivisibleLaws.{IsRemainder-lower, IsRemainder-unique, remainder_kept, remainder_reduced, remainder_from_divisible, xor_apart}
-use Rattle.p25_bits.proofs.DivisionLaws.{IsRemainder-sum}
+use Rattle.p25_bits.proofs.{DivisibleLaws.{IsRemainder-lower, IsRemainder-unique, remainder_kept, remainder_reduced, remainder_from_divisible, xor_apart}, DivisionLaws.{IsRemainder-sum}}
 use Rattle.p25_gf64.specs.ProductLaws.{all_below, all_below_at}
-use Rattle.p25_bch_nid.specs.Bch63FormLaws.{generator_degree}
-use Rattle.p25_bch_nid.specs.Nid.{generator}
-use Rattle.p25_bch_nid.specs.declared.checks.TheConstants.{REMAINDERS}
+use Rattle.p25_bch_nid.specs.{Bch63FormLaws.{generator_degree}, Nid.{generator}, declared.checks.TheConstants.{REMAINDERS}}
 
 -- the remainder of a polynomial times x, by that of the polynomial
 times_x : ℕ → ℕ

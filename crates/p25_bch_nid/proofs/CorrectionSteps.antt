@@ -1,40 +1,21 @@
 -- Inverting the bits of the places that are wrong makes the word that was sent: the symbols of two bits add to zero exactly where the
 -- bits are the same.
 use Rattle.std.proofs.Common.{◌≡◌, ◌≢◌, ◌↔◌, ℕ, zero, suc, ◌+◌, ◌-◌, ◌%◌, ◌^◌, ◌<◌, eqb, bit_xor, ◌≤◌, Bool, true, false, cond, not, IsTrue, List, ◌∷◌, Option, length, get_or, refl, ap, ap₂, sym, ◌∙◌, subst, arith, lit<}
-use Rattle.std.specs.Bool.{beq}
-use Rattle.std.specs.Int.{bit_at}
-use Rattle.std.specs.Int.RustNames.{count_ones}
-use Rattle.std.proofs.Math.Nat.{mod-eq_of_lt}
+use Rattle.std.proofs.{Math.Nat.{mod-eq_of_lt}, lemmas.Nat.Bits.{bit_at_xor, bit_at-lt}, lemmas.Bool.{false≢true}, lemmas.List.{ext_get_or, length-map}}
+use Rattle.std.specs.{Bool.{beq}, Int.{bit_at}, Int.RustNames.{count_ones}, Int.Bits.{xor_zero_r}}
 use Rattle.p25_code.specs.Readings.{IsReadAs}
 use Rattle.p25_code.proofs.ReadingLaws.{one_reading}
-use Rattle.p25_bch_nid.specs.Bch63Laws.{bch63_is_code}
-use Rattle.p25_bch_nid.specs.Bch63Readings.{bch63_reading_of, bch63_reads_as}
-use Rattle.std.specs.Int.Bits.{xor_zero_r}
-use Rattle.std.proofs.lemmas.Nat.Bits.{bit_at_xor, bit_at-lt}
-use Rattle.std.proofs.lemmas.Bool.{false≢true}
-use Rattle.std.proofs.lemmas.List.{ext_get_or, length-map}
-use Rattle.p25_bits.specs.Bits.{bits_of, field_of}
-use Rattle.p25_bits.specs.Distance.{distance_of}
-use Rattle.p25_bits.proofs.BitsLaws.{bits_of-field_of, field_of-lt, get_or-bits_of, length-bits_of, field_of-bits_of}
-use Rattle.p25_bits.proofs.DistanceLaws.{ones-xor}
-use Rattle.p25_gf64.specs.Field.{power}
-use Rattle.p25_gf64.specs.Symbol.{alpha}
-use Rattle.p25_bits.specs.Divisible.{IsDivisible, IsRemainder}
-use Rattle.p25_bits.proofs.DivisibleLaws.{divisible_from_remainder}
-use Rattle.p25_gf64.specs.declared.symbol.Sym.{Sym}
-use Rattle.p25_gf64.specs.Gf64.{gf64}
+use Rattle.p25_bch_nid.specs.{Bch63Laws.{bch63_is_code}, Bch63Readings.{bch63_reading_of, bch63_reads_as}, Nid.{generator}, BitValueLaws.{bit_coefficient, bit_value}}
+use Rattle.p25_bch_nid.specs.{RemainderValueLaws.{number_value-suc}, Bch63.{IsBch63, symbols_of}, Bch63SymbolLaws.{distance_of_symbols, IsCode-63_41, IsWord-symbols_of}}
+use Rattle.p25_bch_nid.specs.Bch63FormLaws.{value_of-symbols, to_divisible, from_divisible}
+use Rattle.p25_bits.specs.{Bits.{bits_of, field_of}, Distance.{distance_of}, Divisible.{IsDivisible, IsRemainder}}
+use Rattle.p25_bits.proofs.{BitsLaws.{bits_of-field_of, field_of-lt, get_or-bits_of, length-bits_of, field_of-bits_of}, DistanceLaws.{ones-xor}, DivisibleLaws.{divisible_from_remainder}}
+use Rattle.p25_gf64.specs.{Field.{power}, Symbol.{alpha}, declared.symbol.Sym.{Sym}, Gf64.{gf64}}
 use Rattle.p25_gf64.proofs.FieldLaws.{add_self, add_zero, zero_add}
 use Rattle.p25_algebra.specs.Series.{coefficient}
-use Rattle.p25_reed_solomon.specs.Words.{value_of}
-use Rattle.p25_reed_solomon.specs.Errors.{AreErrors}
+use Rattle.p25_reed_solomon.specs.{Words.{value_of}, Errors.{AreErrors}}
 use Rattle.p25_reed_solomon.proofs.WrongLaws.{difference_errors}
-use Rattle.p25_bch_nid.specs.Nid.{generator}
-use Rattle.p25_bch_nid.specs.BitValueLaws.{bit_coefficient, bit_value}
-use Rattle.p25_bch_nid.specs.RemainderValueLaws.{number_value-suc}
 use Rattle.p25_bch_nid.proofs.SyndromesSteps.{value}
-use Rattle.p25_bch_nid.specs.Bch63.{IsBch63, symbols_of}
-use Rattle.p25_bch_nid.specs.Bch63SymbolLaws.{distance_of_symbols, IsCode-63_41, IsWord-symbols_of}
-use Rattle.p25_bch_nid.specs.Bch63FormLaws.{value_of-symbols, to_divisible, from_divisible}
 
 -- the generator divides a word's number exactly where the remainder is zero
 word_from_remainder : (word : List Bool) → length word ≡ 63 → IsRemainder generator 47 (field_of word) 0 → IsBch63 word

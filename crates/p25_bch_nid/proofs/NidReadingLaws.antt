@@ -1,15 +1,11 @@
 -- The laws of the reading of identifiers. They follow from those of the code: at most one word lies within the radius, and one word
 -- begins with a NAC and a DUID.
-use Rattle.std.proofs.Common.{◌≡◌, ℕ, ◌≤◌, Bool, List, length, take, Option, Some, None, option_map, ap, sym, ◌∙◌, refl, arith}
+use Rattle.std.proofs.{Common.{◌≡◌, ℕ, ◌≤◌, Bool, List, length, take, Option, Some, None, option_map, ap, sym, ◌∙◌, refl, arith}, lemmas.List.{length-take-le}}
 use Rattle.std.specs.Bool.{beq}
-use Rattle.std.proofs.lemmas.List.{length-take-le}
 use Rattle.p25_bits.specs.Distance.{distance_of}
 use Rattle.p25_code.specs.Readings.{IsReadAs}
 use Rattle.p25_code.proofs.ReadingLaws.{read_as_sent}
-use Rattle.p25_bch_nid.specs.Bch63.{IsBch63}
-use Rattle.p25_bch_nid.specs.Bch63Laws.{bch63_is_code}
-use Rattle.p25_bch_nid.specs.Bch63Readings.{bch63_reading_of, bch63_reads_as}
-use Rattle.p25_bch_nid.specs.NidReading.{identifier_of_word, nid_reading_of, IsNidReading}
+use Rattle.p25_bch_nid.specs.{Bch63.{IsBch63}, Bch63Laws.{bch63_is_code}, Bch63Readings.{bch63_reading_of, bch63_reads_as}, NidReading.{identifier_of_word, nid_reading_of, IsNidReading}}
 
 -- the reading of a word's bits is that of the identifier in it
 as_nid : (bits : List Bool) (answer : Option (List Bool)) → IsReadAs beq IsBch63 11 (take 63 bits) answer → IsNidReading bits (option_map identifier_of_word answer)

@@ -1,11 +1,10 @@
 -- Identifiers as the bits that are sent.
 use Rattle.std.proofs.Common.{◌≡◌, ℕ, ◌+◌, ◌*◌, ◌/◌, ◌%◌, ◌^◌, ◌<◌, Bool, true, false, cond, eqb, ◌||◌, bit_xor, ap, sym, ◌∙◌, subst, arith, lit<}
-use Rattle.std.specs.Int.Bits.{xor_self}
 use Rattle.std.proofs.lemmas.Nat.{shr_high, shr_split, shr-shr, xor_shr, mod_below, pow_pos, div-mul-add, mod-mul-add, div-add-mod'}
+use Rattle.std.specs.Int.Bits.{xor_self}
 use Rattle.p25_bits.specs.Divisible.{IsDivisible}
 use Rattle.p25_bits.proofs.DivisibleLaws.{xor_apart, same_from_xor, IsDivisible-lower, IsDivisible-sum}
-use Rattle.p25_bch_nid.specs.Bch63FormLaws.{generator_degree}
-use Rattle.p25_bch_nid.specs.Nid.{generator, parity_of, IsSent}
+use Rattle.p25_bch_nid.specs.{Bch63FormLaws.{generator_degree}, Nid.{generator, parity_of, IsSent}}
 
 cond-lt_two : (b : Bool) → cond b 1 0 < 2
 cond-lt_two true = lit< tt

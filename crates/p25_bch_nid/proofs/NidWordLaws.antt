@@ -1,17 +1,11 @@
 -- The 64 bits that an identifier is sent as: a word of the code and P. A word is the one that begins with the NAC and the DUID in it,
 -- so what is sent is read as the identifier, and what was read lies within the radius of what is sent for it.
 use Rattle.std.proofs.Common.{◌≡◌, ℕ, ◌≤◌, ◌<◌, ◌^◌, ◌++◌, Bool, eqb, List, [], ◌∷◌, length, take, drop, Some, ap, ap₂, sym, subst, ◌∙◌, arith, length-append, length-drop, mod-eq_of_lt}
-use Rattle.std.proofs.Math.Seq.{take-add}
-use Rattle.std.proofs.lemmas.List.{length-take-le, take_at, drop_at, take-take, drop-take}
-use Rattle.p25_bits.specs.Bits.{bits_of, field_of, part}
-use Rattle.p25_bits.specs.Distance.{distance_of}
-use Rattle.p25_bits.proofs.BitsLaws.{length-bits_of, field_of-bits_of, bits_of-field_of}
-use Rattle.p25_bits.proofs.DistanceLaws.{distance_of-same}
+use Rattle.std.proofs.{Math.Seq.{take-add}, lemmas.List.{length-take-le, take_at, drop_at, take-take, drop-take}}
+use Rattle.p25_bits.specs.{Bits.{bits_of, field_of, part}, Distance.{distance_of}}
+use Rattle.p25_bits.proofs.{BitsLaws.{length-bits_of, field_of-bits_of, bits_of-field_of}, DistanceLaws.{distance_of-same}}
 use Rattle.p25_code.specs.Words.{IsEncoding}
-use Rattle.p25_bch_nid.specs.Bch63.{IsBch63}
-use Rattle.p25_bch_nid.specs.Bch63Laws.{encoded, IsEncoding-encoded, one_word}
-use Rattle.p25_bch_nid.specs.Nid.{parity_of}
-use Rattle.p25_bch_nid.specs.NidReading.{identifier_of_word, nid_reading_of, IsNidFound, IsNidReading}
+use Rattle.p25_bch_nid.specs.{Bch63.{IsBch63}, Bch63Laws.{encoded, IsEncoding-encoded, one_word}, Nid.{parity_of}, NidReading.{identifier_of_word, nid_reading_of, IsNidFound, IsNidReading}}
 use Rattle.p25_bch_nid.specs.NidWord.{nid_word}
 use Rattle.p25_bch_nid.proofs.NidReadingLaws.{IsNidReading-nid_reading_of, nid_reading_of-word}
 

@@ -1,20 +1,13 @@
 -- What each way through the reader of identifiers answers: the number of a word has its NAC and DUID in its highest bits, and a word
 -- is read as the code reads it.
 use Rattle.std.proofs.Common.{◌≡◌, ℕ, ◌/◌, ◌%◌, ◌^◌, ◌<◌, ◌≤◌, Bool, List, length, take, drop, bit_xor, Option, Some, option_map, ap, ap₂, sym, ◌∙◌, subst, arith, mod-eq_of_lt}
-use Rattle.std.specs.Bool.{beq}
-use Rattle.std.specs.Int.RustNames.{count_ones}
 use Rattle.std.proofs.lemmas.List.{take_at, drop_at, drop-take}
-use Rattle.p25_bits.specs.Bits.{bits_of, field_of, part}
-use Rattle.p25_bits.specs.Distance.{distance_of}
-use Rattle.p25_bits.proofs.BitsLaws.{bits_of-add, length-bits_of, field_of-bits_of}
-use Rattle.p25_bits.proofs.DistanceLaws.{distance_of-bits_of}
+use Rattle.std.specs.{Bool.{beq}, Int.RustNames.{count_ones}}
+use Rattle.p25_bits.specs.{Bits.{bits_of, field_of, part}, Distance.{distance_of}}
+use Rattle.p25_bits.proofs.{BitsLaws.{bits_of-add, length-bits_of, field_of-bits_of}, DistanceLaws.{distance_of-bits_of}}
 use Rattle.p25_code.specs.Readings.{IsReadAs}
-use Rattle.p25_bch_nid.specs.Bch63.{IsBch63}
-use Rattle.p25_bch_nid.specs.Bch63Readings.{bch63_reading_of, bch63_reads_as}
-use Rattle.p25_bch_nid.specs.NidReading.{identifier_of_word, nid_reading_of, IsNidReading}
-use Rattle.p25_bch_nid.specs.NidWord.{nid_word}
-use Rattle.p25_bch_nid.proofs.NidReadingLaws.{IsNidReading-nid_reading_of, nid_reading_of-word}
-use Rattle.p25_bch_nid.proofs.NidWordLaws.{identifier_of_word-sent}
+use Rattle.p25_bch_nid.specs.{Bch63.{IsBch63}, Bch63Readings.{bch63_reading_of, bch63_reads_as}, NidReading.{identifier_of_word, nid_reading_of, IsNidReading}, NidWord.{nid_word}}
+use Rattle.p25_bch_nid.proofs.{NidReadingLaws.{IsNidReading-nid_reading_of, nid_reading_of-word}, NidWordLaws.{identifier_of_word-sent}}
 
 -- without the last of 64 bits
 pub first_bits : (bits : ℕ) → take 63 (bits_of 64 bits) ≡ bits_of 63 (bits / 2 ^ 1)

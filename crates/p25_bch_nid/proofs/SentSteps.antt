@@ -1,21 +1,12 @@
 -- What the writer of identifiers answers: its number is the one that is sent, and its bits are the word of the code and P.
-use Rattle.std.proofs.Common.{◌≡◌, ℕ, ◌+◌, ◌*◌, ◌/◌, ◌%◌, ◌^◌, ◌<◌, ◌≤◌, ◌++◌, Bool, List, length, take, bit_xor, Some, ap, ap₂, sym, ◌∙◌, subst, arith, mod-eq_of_lt}
-use Rattle.std.proofs.lemmas.List.{take_at}
+use Rattle.std.proofs.{Common.{◌≡◌, ℕ, ◌+◌, ◌*◌, ◌/◌, ◌%◌, ◌^◌, ◌<◌, ◌≤◌, ◌++◌, Bool, List, length, take, bit_xor, Some, ap, ap₂, sym, ◌∙◌, subst, arith, mod-eq_of_lt}, lemmas.List.{take_at}}
 use Rattle.std.proofs.lemmas.Nat.{shr-shr, xor_shr, div-mul-add, mod-mul-add}
 use Rattle.std.specs.Int.RustNames.{count_ones}
-use Rattle.p25_bits.specs.Bits.{bits_of, field_of}
-use Rattle.p25_bits.specs.Distance.{distance_of}
-use Rattle.p25_bits.specs.Divisible.{IsDivisible}
-use Rattle.p25_bits.proofs.BitsLaws.{bits_of-add, length-bits_of, field_of-bits_of, same_from_field_of}
-use Rattle.p25_bits.proofs.DistanceLaws.{distance_of-same, distance_of-bits_of}
+use Rattle.p25_bits.specs.{Bits.{bits_of, field_of}, Distance.{distance_of}, Divisible.{IsDivisible}}
+use Rattle.p25_bits.proofs.{BitsLaws.{bits_of-add, length-bits_of, field_of-bits_of, same_from_field_of}, DistanceLaws.{distance_of-same, distance_of-bits_of}}
 use Rattle.p25_code.specs.Words.{IsEncoding}
-use Rattle.p25_bch_nid.specs.Nid.{generator, IsSent}
-use Rattle.p25_bch_nid.specs.Bch63.{IsBch63}
-use Rattle.p25_bch_nid.specs.Bch63FormLaws.{from_divisible}
-use Rattle.p25_bch_nid.specs.NidReading.{nid_reading_of}
-use Rattle.p25_bch_nid.proofs.NidReadingLaws.{nid_reading_of-word}
-use Rattle.p25_bch_nid.proofs.NidWordLaws.{identifier_of_word-encoding}
-use Rattle.p25_bch_nid.proofs.ReadingLaws.{first_bits}
+use Rattle.p25_bch_nid.specs.{Nid.{generator, IsSent}, Bch63.{IsBch63}, Bch63FormLaws.{from_divisible}, NidReading.{nid_reading_of}}
+use Rattle.p25_bch_nid.proofs.{NidReadingLaws.{nid_reading_of-word}, NidWordLaws.{identifier_of_word-encoding}, ReadingLaws.{first_bits}}
 
 -- the bits of a NAC and a DUID in one number
 nid_digits : (nac duid : ℕ) → duid < 16 → bits_of 16 (16 * nac + duid) ≡ bits_of 12 nac ++ bits_of 4 duid

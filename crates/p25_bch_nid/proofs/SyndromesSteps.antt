@@ -1,24 +1,13 @@
 -- The table of values is right at each place: the checker computes each entry. A word's values are the sums of those of its
 -- four-bit parts, octet by octet.
-use Rattle.std.proofs.Common.{◌≡◌, ℕ, zero, suc, ◌+◌, ◌-◌, ◌*◌, ◌/◌, ◌%◌, ◌^◌, ◌<◌, ◌≤◌, ◌==◌, [], length, true, bit_xor, get_or, refl, ap, ap₂, sym, ◌∙◌, arith}
-use Rattle.std.proofs.lemmas.Bool.{eqb-true}
-use Rattle.std.proofs.lemmas.Nat.{xor_shr, xor_mod, xor_comm, pow_pos, mod-pow-add}
-use Rattle.std.proofs.Math.Nat.{pow-suc, mod-lt}
+use Rattle.std.proofs.{Common.{◌≡◌, ℕ, zero, suc, ◌+◌, ◌-◌, ◌*◌, ◌/◌, ◌%◌, ◌^◌, ◌<◌, ◌≤◌, ◌==◌, [], length, true, bit_xor, get_or, refl, ap, ap₂, sym, ◌∙◌, arith}, lemmas.Bool.{eqb-true}}
+use Rattle.std.proofs.{lemmas.Nat.{xor_shr, xor_mod, xor_comm, pow_pos, mod-pow-add}, Math.Nat.{pow-suc, mod-lt}}
 use Rattle.p25_bits.specs.Bits.{bits_of}
-use Rattle.p25_bits.proofs.BitsLaws.{length-bits_of, bits_of-joined}
-use Rattle.p25_bits.proofs.DivisibleLaws.{xor_apart}
-use Rattle.p25_gf64.specs.Field.{power}
-use Rattle.p25_gf64.specs.Product.{product, product_by, product_power, times_x}
-use Rattle.p25_gf64.specs.ProductLaws.{all_below, all_below_at}
-use Rattle.p25_gf64.specs.Symbol.{number, alpha}
-use Rattle.p25_gf64.specs.Gf64.{gf64}
-use Rattle.p25_gf64.specs.declared.symbol.Sym.{Sym}
-use Rattle.p25_gf64.proofs.FieldLaws.{add_zero, zero_add, zero_mul}
-use Rattle.p25_gf64.proofs.SymbolLaws.{number_zero, number_alpha, number-add, number-mul, number-power}
-use Rattle.p25_bch_nid.specs.BitValueLaws.{bit_value, bit_value-append}
-use Rattle.p25_bch_nid.specs.RemainderValueLaws.{number_value, number_value-suc, number_value-zero, number_value-xor}
-use Rattle.p25_bch_nid.specs.Bch63FormLaws.{horner, horner-value}
-use Rattle.p25_bch_nid.specs.declared.syndromes.TheConstants.{VALUES}
+use Rattle.p25_bits.proofs.{BitsLaws.{length-bits_of, bits_of-joined}, DivisibleLaws.{xor_apart}}
+use Rattle.p25_gf64.specs.{Field.{power}, Product.{product, product_by, product_power, times_x}, ProductLaws.{all_below, all_below_at}, Symbol.{number, alpha}, Gf64.{gf64}, declared.symbol.Sym.{Sym}}
+use Rattle.p25_gf64.proofs.{FieldLaws.{add_zero, zero_add, zero_mul}, SymbolLaws.{number_zero, number_alpha, number-add, number-mul, number-power}}
+use Rattle.p25_bch_nid.specs.{BitValueLaws.{bit_value, bit_value-append}, RemainderValueLaws.{number_value, number_value-suc, number_value-zero, number_value-xor}}
+use Rattle.p25_bch_nid.specs.{Bch63FormLaws.{horner, horner-value}, declared.syndromes.TheConstants.{VALUES}}
 
 -- the value of a word of 64 bits at a power of α
 abbrev pub value : ℕ → ℕ → Sym

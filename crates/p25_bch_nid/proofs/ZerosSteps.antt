@@ -1,20 +1,12 @@
 -- The table of planes is right at each place: the checker computes each bit. The value of a polynomial at a point is the sum over
 -- its coefficients, bit by bit, and each coefficient is the sum of its high and its low three bits.
 use Rattle.std.proofs.Common.{◌≡◌, ℕ, suc, ◌+◌, ◌-◌, ◌*◌, ◌/◌, ◌%◌, ◌^◌, ◌<◌, ◌==◌, ◌↔◌, Bool, IsTrue, eqb, List, [], ◌∷◌, true, bit_xor, w64, get_or, refl, ap, ap₂, sym, ◌∙◌, subst, arith}
-use Rattle.std.specs.Int.{bit_at, bit_not}
-use Rattle.std.specs.Int.Bits.{bit_or}
-use Rattle.std.proofs.lemmas.Bool.{eqb-true, eq-eqb}
-use Rattle.std.proofs.lemmas.Nat.{pow_pos}
-use Rattle.std.proofs.lemmas.Nat.Bits.{bit_at_xor, bit_at_or, bit_at_not, bit_at-lt, bit_at-zero, bit_at_cat_low, same_from_bits_below}
+use Rattle.std.proofs.{lemmas.Bool.{eqb-true, eq-eqb}, lemmas.Nat.{pow_pos}, lemmas.Nat.Bits.{bit_at_xor, bit_at_or, bit_at_not, bit_at-lt, bit_at-zero, bit_at_cat_low, same_from_bits_below}}
+use Rattle.std.specs.{Int.{bit_at, bit_not}, Int.Bits.{bit_or}}
 use Rattle.p25_bits.proofs.DivisibleLaws.{xor_apart}
-use Rattle.p25_gf64.specs.declared.symbol.Sym.{Sym}
-use Rattle.p25_gf64.specs.Field.{power}
-use Rattle.p25_gf64.specs.Product.{product, product_by, product_power, times_x}
-use Rattle.p25_gf64.specs.ProductLaws.{all_below, all_below_at, product-xor}
-use Rattle.p25_gf64.specs.Symbol.{number, alpha}
+use Rattle.p25_gf64.specs.{declared.symbol.Sym.{Sym}, Field.{power}, Product.{product, product_by, product_power, times_x}, ProductLaws.{all_below, all_below_at, product-xor}, Symbol.{number, alpha}}
 use Rattle.p25_gf64.specs.Gf64.{gf64}
-use Rattle.p25_gf64.proofs.FieldLaws.{mul_comm, inverse_from_one}
-use Rattle.p25_gf64.proofs.PowerLaws.{power-add, power-mul, power-mod}
+use Rattle.p25_gf64.proofs.{FieldLaws.{mul_comm, inverse_from_one}, PowerLaws.{power-add, power-mul, power-mod}}
 use Rattle.p25_gf64.proofs.SymbolLaws.{number_zero, number_alpha, number-add, number-mul, number-power, zero_from_number, alpha_to_63}
 use Rattle.p25_algebra.specs.Series.{coefficient, value_at}
 use Rattle.p25_algebra.proofs.SumLaws.{sum-none, sum-suc}

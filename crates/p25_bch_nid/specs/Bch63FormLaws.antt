@@ -1,30 +1,23 @@
 -- The two forms of the set: zero at α^1 to α^22, and divisible by the generator.
 use Rattle.std.specs.Prelude.{◌≡◌, ℕ, zero, suc, ◌+◌, ◌-◌, ◌*◌, ◌%◌, ◌^◌, ◌<◌, ◌≤◌, ◌==◌, ◌||◌, ◌&&◌, nat_le, nat_lt, not, Bool, true, false, List, [], ◌∷◌, length, slice_index, bit_xor, refl}
-use Rattle.std.proofs.Common.{ap, ap₂, sym, subst, ◌∙◌, inl, inr, arith, lit≤, lit<}
-use Rattle.std.proofs.Math.Nat.{mod-eq_of_lt}
+use Rattle.std.proofs.{Common.{ap, ap₂, sym, subst, ◌∙◌, inl, inr, arith, lit≤, lit<}, Math.Nat.{mod-eq_of_lt}}
 use Rattle.std.proofs.lemmas.Bool.{and_parts, or_cases, eqb-true, eq-eqb, leb-true, ltb-true, not-true, both_ways}
-use Rattle.p25_bits.specs.Bits.{digit_of, bits_of, field_of}
-use Rattle.p25_bits.specs.Divisible.{IsDivisible, HasDegree}
+use Rattle.p25_bits.specs.{Bits.{digit_of, bits_of, field_of}, Divisible.{IsDivisible, HasDegree}}
 use Rattle.p25_bits.proofs.BitsLaws.{length-bits_of, field_of-bits_of}
 use Rattle.p25_code.specs.Binary.{syndrome_of}
 use Rattle.p25_code.proofs.RemainderLaws.{remainders, IsRemainder-word, remainders-divisible, divisible-remainders}
-use Rattle.p25_gf64.specs.Field.{power}
-use Rattle.p25_gf64.specs.Product.{product, product_by, product_power, times_x}
-use Rattle.p25_gf64.specs.ProductLaws.{all_below, all_below_at, all_pairs_below, all_pairs_below_at}
-use Rattle.p25_gf64.specs.Symbol.{number, alpha}
-use Rattle.p25_gf64.specs.Gf64.{gf64}
+use Rattle.p25_gf64.specs.{Field.{power}, Product.{product, product_by, product_power, times_x}}
+use Rattle.p25_gf64.specs.{ProductLaws.{all_below, all_below_at, all_pairs_below, all_pairs_below_at}, Symbol.{number, alpha}, Gf64.{gf64}}
 use Rattle.p25_gf64.specs.declared.symbol.Sym.{Sym}
 use Rattle.p25_gf64.proofs.FieldLaws.{add_zero, zero_add, add_assoc, mul_assoc, mul_left_comm, add_mul, mul_one, zero_mul}
 use Rattle.p25_gf64.proofs.PowerLaws.{power-zero, power-suc, power-add, power-mul, power-mod}
 use Rattle.p25_gf64.proofs.SymbolLaws.{number_zero, number_one, number_alpha, number-add, number-mul, number-power, zero_from_number, alpha_to_63, alpha_exponents}
-use Rattle.p25_algebra.specs.Sums.{AreApart}
-use Rattle.p25_algebra.specs.Series.{coefficient}
+use Rattle.p25_algebra.specs.{Sums.{AreApart}, Series.{coefficient}}
 use Rattle.p25_algebra.proofs.SumLaws.{sum_same}
 use Rattle.p25_bch_nid.specs.Nid.{generator}
 use Rattle.p25_bch_nid.specs.BitValueLaws.{bit_coefficient, bit_value, bit_value-nil, bit_value-cons, bit_value-square, bit_value-places, no_coefficient}
-use Rattle.p25_bch_nid.specs.RemainderValueLaws.{number_value, number_value-zero, word_value}
+use Rattle.p25_bch_nid.specs.{RemainderValueLaws.{number_value, number_value-zero, word_value}, Bch63.{IsBch63, symbols_of}}
 use Rattle.p25_reed_solomon.specs.Words.{value_of}
-use Rattle.p25_bch_nid.specs.Bch63.{IsBch63, symbols_of}
 
 -- the generator has degree 47
 pub generator_degree : HasDegree generator 47

@@ -1,23 +1,15 @@
 -- The laws of the code (63,16): its words by their information, and how far they lie apart.
-use Rattle.std.specs.Prelude.{◌≡◌, ◌≢◌, ℕ, ◌+◌, ◌*◌, ◌^◌, ◌<◌, ◌≤◌, Bool, List, ◌++◌, length, take, drop, bit_xor}
-use Rattle.std.proofs.Common.{ap, ap₂, sym, subst, ◌∙◌, arith, lit≤, lit<, take-append-drop, length-drop, length-append}
-use Rattle.std.specs.Int.Bits.{xor_self}
-use Rattle.std.proofs.Math.Nat.{mod-eq_of_lt}
-use Rattle.std.proofs.Math.Seq.{take-append_seam}
-use Rattle.std.proofs.lemmas.Nat.{xor_lt, xor_block}
-use Rattle.p25_bits.specs.Bits.{bits_of, field_of}
-use Rattle.p25_bits.specs.Distance.{distance_of}
-use Rattle.p25_bits.specs.Divisible.{IsDivisible, IsRemainder}
+use Rattle.std.specs.{Prelude.{◌≡◌, ◌≢◌, ℕ, ◌+◌, ◌*◌, ◌^◌, ◌<◌, ◌≤◌, Bool, List, ◌++◌, length, take, drop, bit_xor}, Int.Bits.{xor_self}, Bool.{beq}}
+use Rattle.std.specs.Cmp.{bool_eq_equiv}
+use Rattle.std.proofs.{Common.{ap, ap₂, sym, subst, ◌∙◌, arith, lit≤, lit<, take-append-drop, length-drop, length-append}, Math.Nat.{mod-eq_of_lt}}
+use Rattle.std.proofs.{Math.Seq.{take-append_seam}, lemmas.Nat.{xor_lt, xor_block}}
+use Rattle.p25_bits.specs.{Bits.{bits_of, field_of}, Distance.{distance_of}, Divisible.{IsDivisible, IsRemainder}}
 use Rattle.p25_bits.proofs.BitsLaws.{length-bits_of, field_of-append, field_of-bits_of, field_of-lt, same_from_field_of}
 use Rattle.p25_bits.proofs.DivisibleLaws.{xor_apart, same_from_xor, some_remainder, IsDivisible-lower, IsDivisible-sum}
-use Rattle.std.specs.Bool.{beq}
-use Rattle.std.specs.Cmp.{bool_eq_equiv}
-use Rattle.p25_code.specs.Words.{IsEncoding}
-use Rattle.p25_code.specs.Letters.{same_bit}
+use Rattle.p25_code.specs.{Words.{IsEncoding}, Letters.{same_bit}}
 use Rattle.p25_code.proofs.ReadingLaws.{IsBlockCode}
 use Rattle.p25_reed_solomon.specs.WordLaws.{words_apart}
-use Rattle.p25_bch_nid.specs.Nid.{generator}
-use Rattle.p25_bch_nid.specs.Bch63.{IsBch63, symbols_of}
+use Rattle.p25_bch_nid.specs.{Nid.{generator}, Bch63.{IsBch63, symbols_of}}
 use Rattle.p25_bch_nid.specs.Bch63SymbolLaws.{bits_in, bits_in-symbols_of, distance_of_symbols, IsCode-63_41, IsWord-symbols_of}
 use Rattle.p25_bch_nid.specs.Bch63FormLaws.{generator_degree, to_divisible, from_divisible}
 

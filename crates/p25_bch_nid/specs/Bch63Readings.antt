@@ -1,12 +1,9 @@
 -- The reading of the BCH code (63,16) as a function.
-use Rattle.std.specs.Prelude.{Bool, List, Option}
-use Rattle.std.specs.Bool.{beq}
+use Rattle.std.specs.{Prelude.{Bool, List, Option}, Bool.{beq}}
 use Rattle.p25_code.specs.Readings.{Tested, bits_searched, reading_of, IsReadAs, IsReadAs-reading_of}
 use Rattle.std.proofs.Common.{inl, inr}
 use Rattle.p25_reed_solomon.specs.RsReadings.{IsWord-tested}
-use Rattle.p25_bch_nid.specs.Bch63.{IsBch63, symbols_of}
-use Rattle.p25_bch_nid.specs.Bch63Laws.{bch63_is_code}
-use Rattle.p25_bch_nid.specs.Bch63SymbolLaws.{IsWord-symbols_of, IsBch63-from_symbols}
+use Rattle.p25_bch_nid.specs.{Bch63.{IsBch63, symbols_of}, Bch63Laws.{bch63_is_code}, Bch63SymbolLaws.{IsWord-symbols_of, IsBch63-from_symbols}}
 
 -- whether a list of bits is a word can be tested, as its symbols are
 IsBch63-tested : Tested IsBch63

@@ -1,18 +1,11 @@
 -- Symbols that are bits: words of bits as words of the Reed-Solomon code (63,41).
-use Rattle.std.specs.Prelude.{◌≡◌, ◌+◌, ◌==◌, if◌then◌else◌, Bool, true, false, List, [], ◌∷◌, map, refl}
-use Rattle.std.proofs.Common.{ap, ap₂, sym, ◌∙◌, lit≤, lit<}
-use Rattle.std.specs.Bool.{beq}
-use Rattle.std.proofs.lemmas.Bool.{false_from_ne_true}
-use Rattle.std.proofs.lemmas.List.{length-map}
+use Rattle.std.specs.{Prelude.{◌≡◌, ◌+◌, ◌==◌, if◌then◌else◌, Bool, true, false, List, [], ◌∷◌, map, refl}, Bool.{beq}}
+use Rattle.std.proofs.{Common.{ap, ap₂, sym, ◌∙◌, lit≤, lit<}, lemmas.Bool.{false_from_ne_true}, lemmas.List.{length-map}}
 use Rattle.p25_bits.specs.Distance.{distance_by, distance_of}
-use Rattle.p25_gf64.specs.declared.symbol.Sym.{Sym}
-use Rattle.p25_gf64.specs.Symbol.{number}
-use Rattle.p25_gf64.specs.Gf64.{gf64}
+use Rattle.p25_gf64.specs.{declared.symbol.Sym.{Sym}, Symbol.{number}, Gf64.{gf64}}
 use Rattle.p25_gf64.proofs.SymbolLaws.{number_zero, number_one, same_from_eq}
-use Rattle.p25_bch_nid.specs.BitValueLaws.{bit_coefficient}
-use Rattle.p25_reed_solomon.specs.Words.{IsCode, IsWord, same_symbols}
-use Rattle.p25_reed_solomon.specs.DistanceLaws.{same_symbols-same}
-use Rattle.p25_bch_nid.specs.Bch63.{IsBch63, symbols_of}
+use Rattle.p25_bch_nid.specs.{BitValueLaws.{bit_coefficient}, Bch63.{IsBch63, symbols_of}}
+use Rattle.p25_reed_solomon.specs.{Words.{IsCode, IsWord, same_symbols}, DistanceLaws.{same_symbols-same}}
 
 -- symbols as bits: 1 is 1, and every other is 0
 abbrev pub bits_in : List Sym → List Bool

@@ -7,10 +7,8 @@ use Rattle.p25_code.proofs.WeightLaws.{sum_of_words, length-sum_of_words}
 use Rattle.p25_gf64.specs.Field.{Field, power}
 use Rattle.p25_gf64.proofs.FieldLaws.{add_assoc, add_zero, zero_add, add_self, add_twice, add_swap, mul_comm, mul_assoc, mul_left_comm, mul_one, mul_add, add_mul, zero_mul}
 use Rattle.p25_gf64.proofs.PowerLaws.{power-add, power_of_mul}
-use Rattle.p25_algebra.specs.Sums.{sum_below, AreApart}
-use Rattle.p25_algebra.specs.Series.{coefficient, value_at}
-use Rattle.p25_algebra.proofs.SumLaws.{sum-none, sum_first, sum_same, sum_reverse}
-use Rattle.p25_algebra.proofs.ValueLaws.{few_zeros}
+use Rattle.p25_algebra.specs.{Sums.{sum_below, AreApart}, Series.{coefficient, value_at}}
+use Rattle.p25_algebra.proofs.{SumLaws.{sum-none, sum_first, sum_same, sum_reverse}, ValueLaws.{few_zeros}}
 
 -- a bit as a coefficient
 abbrev pub bit_coefficient : {F : Type 0} → Field F → Bool → F

@@ -1,11 +1,8 @@
 -- The reading of a network identifier (NID) to radius 11, as a function of its 64 bits, and what it is.
-use Rattle.std.specs.Prelude.{◌≡◌, ℕ, ◌≤◌, Bool, List, take, Option, Some, None, option_map}
-use Rattle.std.specs.Bool.{beq}
-use Rattle.p25_bits.specs.Bits.{field_of, part}
-use Rattle.p25_bits.specs.Distance.{distance_of}
+use Rattle.std.specs.{Prelude.{◌≡◌, ℕ, ◌≤◌, Bool, List, take, Option, Some, None, option_map}, Bool.{beq}}
+use Rattle.p25_bits.specs.{Bits.{field_of, part}, Distance.{distance_of}}
 use Rattle.p25_code.specs.Words.{NoneWithin}
-use Rattle.p25_bch_nid.specs.Bch63.{IsBch63}
-use Rattle.p25_bch_nid.specs.Bch63Readings.{bch63_reading_of}
+use Rattle.p25_bch_nid.specs.{Bch63.{IsBch63}, Bch63Readings.{bch63_reading_of}}
 
 -- the NAC and the DUID with which a word begins
 abbrev pub identifier_of_word : List Bool → ℕ × ℕ

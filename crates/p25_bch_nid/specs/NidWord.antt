@@ -1,13 +1,10 @@
 -- The 64 bits that a network identifier (NID) is sent as, as a list.
 use Rattle.std.specs.Prelude.{◌≡◌, ℕ, ◌/◌, ◌^◌, Bool, true, false, ◌==◌, ◌||◌, if◌then◌else◌, List, [], ◌∷◌, ◌++◌, length, take, refl}
-use Rattle.std.proofs.Common.{ap, ap₂, sym, ◌∙◌, arith, length-append}
-use Rattle.std.proofs.lemmas.List.{take_at}
+use Rattle.std.proofs.{Common.{ap, ap₂, sym, ◌∙◌, arith, length-append}, lemmas.List.{take_at}}
 use Rattle.p25_bits.specs.Bits.{bits_of, digit_of}
 use Rattle.p25_bits.proofs.BitsLaws.{length-bits_of, bits_of-add, field_of-bits_of, field_of-one, same_from_field_of}
 use Rattle.p25_code.specs.Words.{IsEncoding}
-use Rattle.p25_bch_nid.specs.Nid.{parity_of, IsSent}
-use Rattle.p25_bch_nid.specs.Bch63.{IsBch63}
-use Rattle.p25_bch_nid.specs.Bch63Laws.{encoded, IsEncoding-encoded, one_word}
+use Rattle.p25_bch_nid.specs.{Nid.{parity_of, IsSent}, Bch63.{IsBch63}, Bch63Laws.{encoded, IsEncoding-encoded, one_word}}
 
 -- the 64 bits of a network identifier (NID): the word of the code that begins with NAC and DUID, and P
 unfoldable pub nid_word : ℕ → ℕ → List Bool

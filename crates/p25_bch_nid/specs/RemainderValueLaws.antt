@@ -1,19 +1,14 @@
 -- At a zero of the generator a polynomial has the value of its remainder.
 use Rattle.std.specs.Prelude.{◌≡◌, ℕ, zero, suc, ◌+◌, ◌*◌, ◌/◌, ◌%◌, ◌^◌, ◌<◌, Bool, true, false, if◌then◌else◌, ◌==◌, List, [], ◌∷◌, length, bit_xor, refl}
-use Rattle.std.proofs.Common.{ap, ap₂, sym, subst, ◌∙◌, inl, inr, arith}
-use Rattle.std.proofs.lemmas.Bool.{cases_lt, cond_below, cond_above}
-use Rattle.std.proofs.lemmas.Nat.{div-mul-add, mod-mul-add, pow_pos}
-use Rattle.std.proofs.lemmas.Nat.Bits.{bit_at_above, bit_at_lowest}
 use Rattle.std.specs.Int.{bit_at}
-use Rattle.p25_bits.specs.Bits.{digit_of, bits_of}
-use Rattle.p25_bits.specs.Divisible.{HasDegree}
+use Rattle.std.proofs.{Common.{ap, ap₂, sym, subst, ◌∙◌, inl, inr, arith}, lemmas.Bool.{cases_lt, cond_below, cond_above}}
+use Rattle.std.proofs.{lemmas.Nat.{div-mul-add, mod-mul-add, pow_pos}, lemmas.Nat.Bits.{bit_at_above, bit_at_lowest}}
+use Rattle.p25_bits.specs.{Bits.{digit_of, bits_of}, Divisible.{HasDegree}}
 use Rattle.p25_bits.proofs.BitsLaws.{bits_of-suc, bits_of-zero, bits_of-add, length-bits_of}
 use Rattle.p25_code.specs.Binary.{syndrome_of}
-use Rattle.p25_code.proofs.ParityLaws.{bits_of-xor}
-use Rattle.p25_code.proofs.RemainderLaws.{power_remainder, remainders, IsRemainder-power}
+use Rattle.p25_code.proofs.{ParityLaws.{bits_of-xor}, RemainderLaws.{power_remainder, remainders, IsRemainder-power}}
 use Rattle.p25_gf64.specs.Field.{Field, power}
-use Rattle.p25_gf64.proofs.FieldLaws.{add_zero, zero_add, mul_comm, mul_one, one_mul, mul_zero, zero_mul}
-use Rattle.p25_gf64.proofs.PowerLaws.{power-zero, power-one, power-suc}
+use Rattle.p25_gf64.proofs.{FieldLaws.{add_zero, zero_add, mul_comm, mul_one, one_mul, mul_zero, zero_mul}, PowerLaws.{power-zero, power-one, power-suc}}
 use Rattle.p25_bch_nid.specs.BitValueLaws.{bit_coefficient, bit_value, bit_value-append, bit_value-sum, bit_value-nil, bit_value-cons}
 
 module _ {F : Type 0} (K : Field F) (x : F) where

@@ -1,10 +1,8 @@
 //! Words of bits corrected, as numbers. The errors of bits are bits, so they are known once the wrong places are.
 
 ghost use Rattle.std.specs.Prelude.{◌≡◌, ◌≤◌, ◌<◌, ◌^◌, Bool, List, IfSome, option_map};
-ghost use Rattle.p25_bits.specs.Bits.{bits_of};
-ghost use Rattle.p25_bits.specs.Distance.{distance_of};
-ghost use Rattle.p25_bch_nid.specs.Bch63.{IsBch63};
-ghost use Rattle.p25_bch_nid.specs.Bch63Readings.{bch63_reading_of};
+ghost use Rattle.p25_bits.specs.{Bits.{bits_of}, Distance.{distance_of}};
+ghost use Rattle.p25_bch_nid.specs.{Bch63.{IsBch63}, Bch63Readings.{bch63_reading_of}};
 
 use crate::checks::is_clean;
 use crate::syndromes::syndromes_of;

@@ -1,13 +1,8 @@
 //! The laws of the code and of the reading of network identifiers (NID), for those who prove what they read.
 
 ghost use Rattle.std.specs.Prelude.{◌≡◌, ◌↔◌, ℕ, ◌^◌, ◌<◌, ◌≤◌, Bool, List, Option, Some, length, take};
-ghost use Rattle.p25_bits.specs.Bits.{field_of};
-ghost use Rattle.p25_bits.specs.Distance.{distance_of};
-ghost use Rattle.p25_bits.specs.Divisible.{IsDivisible};
-ghost use Rattle.p25_bch_nid.specs.Nid.{generator};
-ghost use Rattle.p25_bch_nid.specs.Bch63.{IsBch63};
-ghost use Rattle.p25_bch_nid.specs.NidReading.{IsNidReading, identifier_of_word, nid_reading_of};
-ghost use Rattle.p25_bch_nid.specs.NidWord.{nid_word};
+ghost use Rattle.p25_bits.specs.{Bits.{field_of}, Distance.{distance_of}, Divisible.{IsDivisible}};
+ghost use Rattle.p25_bch_nid.specs.{Nid.{generator}, Bch63.{IsBch63}, NidReading.{IsNidReading, identifier_of_word, nid_reading_of}, NidWord.{nid_word}};
 
 use crate::{HDU, LDU1, LDU2, PDU, TDU, TDULC};
 

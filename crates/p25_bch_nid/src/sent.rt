@@ -1,13 +1,9 @@
 //! Network identifiers (NID) as the 64 bits that are sent.
 
 ghost use Rattle.std.specs.Prelude.{◌≡◌, ℕ, ◌≤◌, ◌++◌, Some, take};
-ghost use Rattle.p25_bits.specs.Bits.{bits_of};
-ghost use Rattle.p25_bits.specs.Distance.{distance_of};
+ghost use Rattle.p25_bits.specs.{Bits.{bits_of}, Distance.{distance_of}};
 ghost use Rattle.p25_code.specs.Words.{IsEncoding};
-ghost use Rattle.p25_bch_nid.specs.Bch63.{IsBch63};
-ghost use Rattle.p25_bch_nid.specs.Nid.{IsSent, parity_of};
-ghost use Rattle.p25_bch_nid.specs.NidReading.{nid_reading_of};
-ghost use Rattle.p25_bch_nid.specs.NidWord.{nid_word};
+ghost use Rattle.p25_bch_nid.specs.{Bch63.{IsBch63}, Nid.{IsSent, parity_of}, NidReading.{nid_reading_of}, NidWord.{nid_word}};
 
 use crate::checks::check_bits;
 use crate::duid::{LDU1, LDU2};

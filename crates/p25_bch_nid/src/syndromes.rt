@@ -1,9 +1,7 @@
 //! The syndromes of a word of bits, by a table.
 
 ghost use Rattle.std.specs.Prelude.{◌≡◌, ℕ, ◌+◌, ◌*◌, ◌/◌, ◌%◌, ◌^◌, ◌<◌, length};
-ghost use Rattle.p25_gf64.specs.Field.{power};
-ghost use Rattle.p25_gf64.specs.Symbol.{alpha, number};
-ghost use Rattle.p25_gf64.specs.Gf64.{gf64};
+ghost use Rattle.p25_gf64.specs.{Field.{power}, Symbol.{alpha, number}, Gf64.{gf64}};
 ghost use Rattle.p25_algebra.specs.Series.{coefficient};
 ghost use Rattle.p25_bch_nid.specs.RemainderValueLaws.{number_value};
 

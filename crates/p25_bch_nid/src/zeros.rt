@@ -1,10 +1,7 @@
 //! The zeros of a locator at all 63 places at once, by a table.
 
-ghost use Rattle.std.specs.Prelude.{◌≡◌, ◌↔◌, ℕ, ◌-◌, ◌^◌, ◌<◌, ◌==◌, IsTrue, length};
-ghost use Rattle.std.specs.Int.{bit_at};
-ghost use Rattle.p25_gf64.specs.Field.{power};
-ghost use Rattle.p25_gf64.specs.Symbol.{alpha, number};
-ghost use Rattle.p25_gf64.specs.Gf64.{gf64};
+ghost use Rattle.std.specs.{Prelude.{◌≡◌, ◌↔◌, ℕ, ◌-◌, ◌^◌, ◌<◌, ◌==◌, IsTrue, length}, Int.{bit_at}};
+ghost use Rattle.p25_gf64.specs.{Field.{power}, Symbol.{alpha, number}, Gf64.{gf64}};
 ghost use Rattle.p25_algebra.specs.Series.{coefficient, value_at};
 ghost use Rattle.p25_reed_solomon.specs.Errors.{point_of};
 

@@ -1,21 +1,13 @@
 -- What the calls of `BitBuf` need: the bits held are the first ones of its words. Each call on words says what the first bits are after it, so that a
 -- list is cut to its length at the end, and a bit at a place is one of its word's.
 use Rattle.std.proofs.Common.{◌≡◌, ℕ, zero, suc, ◌+◌, ◌-◌, ◌*◌, ◌/◌, ◌%◌, ◌^◌, ◌<◌, ◌≤◌, ◌≢◌, inl, inr, Bool, true, false, not, eqb, List, [], ◌∷◌, ◌++◌, length, take, drop, get_or, set, slice_get, Some, refl, ap, ap₂, sym, subst, ◌∙◌, arith, bit_and, bit_xor, mod-eq_of_lt, append_assoc, length-take, length-drop}
-use Rattle.std.specs.Int.{bit_at}
-use Rattle.std.specs.Bool.{beq}
-use Rattle.std.specs.Int.RustNames.{count_ones}
-use Rattle.std.proofs.Math.Seq.{take-add, take-append-add}
-use Rattle.std.proofs.lemmas.Bool.{cases_lt}
-use Rattle.std.proofs.lemmas.Nat.{shl_whole, shl-shr, shr_below, one_shl}
+use Rattle.std.proofs.{Math.Seq.{take-add, take-append-add}, lemmas.Bool.{cases_lt}, lemmas.Nat.{shl_whole, shl-shr, shr_below, one_shl}}
 use Rattle.std.proofs.lemmas.Nat.Bits.{bit_at_xor, bit_at-pow_same, bit_at-pow_other, bit_at-lt, shr_and_one}
 use Rattle.std.proofs.lemmas.List.{take-take, drop-take, length-take-le, take-append-drop, take_all, take-set, drop-set, get_or-drop, get_or-take, get_or_append_left}
 use Rattle.std.proofs.lemmas.Option.{slice_get-get_or}
-use Rattle.p25_bits.specs.Bits.{digit_of, bits_of, field_of, part, flipped}
-use Rattle.p25_bits.specs.Distance.{distance_of}
-use Rattle.p25_bits.specs.Numbers.{number_bits}
-use Rattle.p25_bits.proofs.PartLaws.{part-take, take-part}
-use Rattle.p25_bits.proofs.DistanceLaws.{distance_by-append, ones-xor}
-use Rattle.p25_bits.proofs.BitsLaws.{length-bits_of, bits_of-field_of, field_of-bits_of, take-bits_of, get_or-bits_of}
+use Rattle.std.specs.{Int.{bit_at}, Bool.{beq}, Int.RustNames.{count_ones}}
+use Rattle.p25_bits.specs.{Bits.{digit_of, bits_of, field_of, part, flipped}, Distance.{distance_of}, Numbers.{number_bits}}
+use Rattle.p25_bits.proofs.{PartLaws.{part-take, take-part}, DistanceLaws.{distance_by-append, ones-xor}, BitsLaws.{length-bits_of, bits_of-field_of, field_of-bits_of, take-bits_of, get_or-bits_of}}
 use Rattle.p25_bits.proofs.NumbersLaws.{bits_of-field, number_bits-append, number_bits-cons, length-number_bits, drop-number_bits, number_bits-drop_more}
 
 -- as many bits are held as the length says

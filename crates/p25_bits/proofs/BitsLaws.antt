@@ -1,11 +1,8 @@
 -- Numbers and the bits that write them. By induction on the bits or on the width: the first bit is the highest.
 use Rattle.std.proofs.Common.{◌≡◌, ℕ, zero, suc, ◌+◌, ◌-◌, ◌*◌, ◌/◌, ◌%◌, ◌^◌, ◌<◌, ◌≤◌, Bool, true, false, eqb, List, [], ◌∷◌, ◌++◌, length, take, drop, refl, ap, ap₂, sym, ◌∙◌, arith, length-append, get_or, add-one, bit_and}
+use Rattle.std.proofs.{Math.Nat.{pow-suc, add-mul, mul_comm, mul_assoc, mod-one}, lemmas.Nat.{mod-pow-add, shr_high, shr-shr, shr_split, div-mul-add}}
+use Rattle.std.proofs.{lemmas.Nat.Bits.{bit_at-lt, bit_at_cat_low, shr_and_one}, lemmas.List.{drop_more, take_at, drop_at}, lemmas.List.Concat.{flat_map-append}}
 use Rattle.std.specs.Int.{bit_at}
-use Rattle.std.proofs.Math.Nat.{pow-suc, add-mul, mul_comm, mul_assoc, mod-one}
-use Rattle.std.proofs.lemmas.Nat.{mod-pow-add, shr_high, shr-shr, shr_split, div-mul-add}
-use Rattle.std.proofs.lemmas.Nat.Bits.{bit_at-lt, bit_at_cat_low, shr_and_one}
-use Rattle.std.proofs.lemmas.List.{drop_more, take_at, drop_at}
-use Rattle.std.proofs.lemmas.List.Concat.{flat_map-append}
 use Rattle.p25_bits.specs.Bits.{digit_of, bits_of, field_after, field_of, octet_bits, flipped}
 
 -- as many bits as were asked for

@@ -1,14 +1,9 @@
 -- Laws of the distance of two lists, for any test that calls letters equal exactly where they are one letter, and of the distance of bits as the
 -- weight of an exclusive or. By induction on both lists.
 use Rattle.std.proofs.Common.{◌≡◌, ℕ, zero, suc, ◌+◌, ◌*◌, ◌^◌, ◌<◌, ◌≤◌, inl, inr, Bool, true, false, cond, not, List, [], ◌∷◌, ◌++◌, length, take, drop, refl, ap, ap₂, sym, ◌∙◌, subst, arith, bit_xor, mod-eq_of_lt, nat_eq, length-drop}
-use Rattle.std.specs.Bool.{beq}
-use Rattle.std.specs.Cmp.{booleans_Decides, unsigned_Decides, both_ways}
-use Rattle.std.specs.Cmp.Lexicographic.{pointwise, pointwise_decides}
-use Rattle.std.proofs.lemmas.Bool.{cases_Bool, cond-true, cond-false}
-use Rattle.std.specs.Int.RustNames.{count_ones}
-use Rattle.std.proofs.lemmas.Nat.{ones_cat, xor_block, xor_lt}
-use Rattle.p25_bits.specs.Bits.{digit_of, bits_of, field_of, part, flipped}
-use Rattle.p25_bits.specs.Distance.{distance_by, distance_of}
+use Rattle.std.proofs.{lemmas.Bool.{cases_Bool, cond-true, cond-false}, lemmas.Nat.{ones_cat, xor_block, xor_lt}}
+use Rattle.std.specs.{Bool.{beq}, Cmp.{booleans_Decides, unsigned_Decides, both_ways}, Cmp.Lexicographic.{pointwise, pointwise_decides}, Int.RustNames.{count_ones}}
+use Rattle.p25_bits.specs.{Bits.{digit_of, bits_of, field_of, part, flipped}, Distance.{distance_by, distance_of}}
 use Rattle.p25_bits.proofs.BitsLaws.{length-bits_of, field_of-cons, field_of-lt, field_of-nil, field_of-bits_of}
 
 -- a list is at no distance from itself

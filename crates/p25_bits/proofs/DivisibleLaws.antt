@@ -1,14 +1,11 @@
 -- Laws of multiples and remainders of polynomials over GF(2). Multiples add up as their quotients do, and the only multiple of lower degree is 0, so there
 -- is one remainder. It is made a coefficient at a time, and falls below the generator's degree where it reaches it.
 use Rattle.std.proofs.Common.{zero, suc, ◌≡◌, ℕ, suc, ◌+◌, ◌-◌, ◌*◌, ◌/◌, ◌%◌, ◌^◌, ◌<◌, ◌≤◌, inl, inr, Bool, true, false, not, cond, List, [], ◌∷◌, bit_xor, bit_and, eqb, refl, ap, ap₂, sym, ◌∙◌, subst, arith, add-one, mod-eq_of_lt}
-use Rattle.std.specs.Int.Bits.{xor_assoc, xor_self, xor_zero_l, xor_zero_r}
-use Rattle.std.proofs.Math.Nat.{pow-suc}
-use Rattle.std.proofs.lemmas.Bool.{cases_lt}
-use Rattle.std.proofs.lemmas.Nat.{xor_comm, xor_lt, xor_block, xor_shr, shr_high, le-div, pow_pos, shr_split, shr-shr, shr_below, div_below}
+use Rattle.std.proofs.{Math.Nat.{pow-suc}, lemmas.Bool.{cases_lt}, lemmas.Nat.{xor_comm, xor_lt, xor_block, xor_shr, shr_high, le-div, pow_pos, shr_split, shr-shr, shr_below, div_below}}
 use Rattle.std.proofs.lemmas.Nat.Bits.{shr_and_one}
-use Rattle.p25_bits.specs.Bits.{digit_of, bits_of, field_after}
+use Rattle.std.specs.Int.Bits.{xor_assoc, xor_self, xor_zero_l, xor_zero_r}
+use Rattle.p25_bits.specs.{Bits.{digit_of, bits_of, field_after}, Divisible.{multiple_of, IsDivisible, HasDegree, IsRemainder}}
 use Rattle.p25_bits.proofs.BitsLaws.{digit_of-bit_at, digit_of-le, field_of-after, field_of-bits_of}
-use Rattle.p25_bits.specs.Divisible.{multiple_of, IsDivisible, HasDegree, IsRemainder}
 
 -- of four, the two in the middle change places
 pub xor_middle : (a b c d : ℕ) → bit_xor (bit_xor a b) (bit_xor c d) ≡ bit_xor (bit_xor a c) (bit_xor b d)

@@ -1,10 +1,8 @@
 -- Laws of remainders by which polynomials are divided many coefficients at a time: the remainder of a sum, of a polynomial
 -- times a power of x, and of one with more coefficients after it.
 use Rattle.std.proofs.Common.{◌≡◌, ℕ, zero, suc, ◌+◌, ◌*◌, ◌/◌, ◌^◌, ◌<◌, inl, inr, Bool, true, false, cond, ltb, List, [], ◌∷◌, bit_xor, refl, ap, ap₂, sym, ◌∙◌, subst, arith}
+use Rattle.std.proofs.{Math.Nat.{mul_assoc, mul_comm, pow-suc}, lemmas.Bool.{cases_lt, cond_below, cond_above}, lemmas.Nat.{xor_lt, xor_block, xor_shr, shl-shr, pow_pos, shr_below}}
 use Rattle.std.specs.Int.Bits.{xor_assoc, xor_self, xor_zero_l}
-use Rattle.std.proofs.Math.Nat.{mul_assoc, mul_comm, pow-suc}
-use Rattle.std.proofs.lemmas.Bool.{cases_lt, cond_below, cond_above}
-use Rattle.std.proofs.lemmas.Nat.{xor_lt, xor_block, xor_shr, shl-shr, pow_pos, shr_below}
 use Rattle.p25_bits.specs.Divisible.{multiple_of, IsDivisible, HasDegree, IsRemainder}
 use Rattle.p25_bits.proofs.DivisibleLaws.{IsDivisible-doubled, IsDivisible-sum, IsRemainder-lower, remainder_kept, remainder_reduced, xor_apart, xor_middle}
 

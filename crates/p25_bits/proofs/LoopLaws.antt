@@ -1,11 +1,8 @@
 -- What the loops that write bits of numbers and read numbers from bits need at each step: one more element of the list so far.
 use Rattle.std.proofs.Common.{◌≡◌, ℕ, ◌+◌, ◌-◌, ◌*◌, ◌/◌, ◌^◌, ◌<◌, ◌≤◌, Bool, List, [], ◌∷◌, ◌++◌, length, take, drop, set, eqb, bit_and, ap, ap₂, sym, ◌∙◌, append_assoc, append-nil}
 use Rattle.std.proofs.lemmas.List.{take_more_set, take_all}
-use Rattle.p25_bits.specs.Bits.{bits_of, field_of, part}
-use Rattle.p25_bits.specs.Numbers.{numbers_from}
-use Rattle.p25_bits.proofs.BitsLaws.{bits_of-first, bits_of-zero}
-use Rattle.p25_bits.proofs.PartLaws.{part-drop}
-use Rattle.p25_bits.proofs.NumbersLaws.{numbers_from-more}
+use Rattle.p25_bits.specs.{Bits.{bits_of, field_of, part}, Numbers.{numbers_from}}
+use Rattle.p25_bits.proofs.{BitsLaws.{bits_of-first, bits_of-zero}, PartLaws.{part-drop}, NumbersLaws.{numbers_from-more}}
 
 -- one more bit is there, and one less is left
 pub put_more : (number width : ℕ) (bits : List Bool) (i : ℕ) → i < length bits → i < width → take i bits ++ bits_of (width - i) number ≡ bits_of width number

@@ -1,17 +1,11 @@
 -- Numbers as bits and back, and lists made place by place. Each law is by induction on the list or on the count.
 use Rattle.std.proofs.Common.{◌≡◌, ℕ, zero, suc, ◌+◌, ◌-◌, ◌*◌, ◌^◌, ◌<◌, ◌≤◌, inl, inr, Bool, List, [], ◌∷◌, ◌++◌, length, take, drop, get_or, refl, ap, ap₂, sym, ◌∙◌, arith, length-append, length-drop, append-nil, add-one, All}
-use Rattle.std.specs.List.{flat_map}
-use Rattle.std.proofs.Math.Nat.{mul-suc, mod-eq_of_lt, mul-le-mul_left}
-use Rattle.std.proofs.Math.Pow.{pow_mono}
-use Rattle.std.proofs.Math.Seq.{take-add}
-use Rattle.std.proofs.lemmas.Bool.{cases_lt}
+use Rattle.std.proofs.{Math.Nat.{mul-suc, mod-eq_of_lt, mul-le-mul_left}, Math.Pow.{pow_mono}, Math.Seq.{take-add}, lemmas.Bool.{cases_lt}}
 use Rattle.std.proofs.lemmas.List.{flat_map_more, take_more, drop-drop, drop-append-le, take-append-le, take_at, drop_at, get_or_append_left, get_or-append_right, length-take, length-take-le, drop_more, take_all, take-append-drop}
-use Rattle.std.proofs.lemmas.List.Elements.{All-nil, All-cons, All-head, All-tail, All-append}
-use Rattle.std.proofs.lemmas.List.Concat.{flat_map-append}
-use Rattle.p25_bits.specs.Bits.{bits_of, field_of, octet_bits, part}
-use Rattle.p25_bits.specs.Numbers.{number_bits, numbers_from, each_below, joined_below}
-use Rattle.p25_bits.proofs.PartLaws.{length-part, part_add, part_left, part_last, part-drop}
-use Rattle.p25_bits.proofs.BitsLaws.{length-bits_of, bits_of-field_of, field_of-bits_of, field_of-lt}
+use Rattle.std.proofs.{lemmas.List.Elements.{All-nil, All-cons, All-head, All-tail, All-append}, lemmas.List.Concat.{flat_map-append}}
+use Rattle.std.specs.List.{flat_map}
+use Rattle.p25_bits.specs.{Bits.{bits_of, field_of, octet_bits, part}, Numbers.{number_bits, numbers_from, each_below, joined_below}}
+use Rattle.p25_bits.proofs.{PartLaws.{length-part, part_add, part_left, part_last, part-drop}, BitsLaws.{length-bits_of, bits_of-field_of, field_of-bits_of, field_of-lt}}
 
 -- The bits of numbers.
 

@@ -1,9 +1,7 @@
 -- Numbers that octets write in base 256: by their bits, which they share with the octets. By induction on the octets.
 use Rattle.std.proofs.Common.{◌≡◌, ℕ, zero, suc, ◌+◌, ◌*◌, ◌^◌, ◌<◌, List, [], ◌∷◌, length, refl, ap, ap₂, sym, ◌∙◌, arith, pow-add, All}
-use Rattle.std.proofs.Math.Nat.{mul_comm, mul_assoc, add-mul, pow-suc, mod-eq_of_lt}
-use Rattle.std.proofs.lemmas.List.Elements.{All-head, All-tail}
-use Rattle.p25_bits.specs.Bits.{bits_of, field_of, octet_bits}
-use Rattle.p25_bits.specs.Numbers.{number_after, octets_number}
+use Rattle.std.proofs.{Math.Nat.{mul_comm, mul_assoc, add-mul, pow-suc, mod-eq_of_lt}, lemmas.List.Elements.{All-head, All-tail}}
+use Rattle.p25_bits.specs.{Bits.{bits_of, field_of, octet_bits}, Numbers.{number_after, octets_number}}
 use Rattle.p25_bits.proofs.BitsLaws.{field_of-bits_of, field_of-append, field_of-nil, length-octet_bits, octet_bits-cons, octet_bits-nil}
 
 pub octets_number-nil : octets_number [] ≡ 0

@@ -1,7 +1,6 @@
 -- Parts of lists: of joined lists, parts of parts, and parts that touch. Each follows from the laws of `take` and `drop` in std.
 use Rattle.std.proofs.Common.{◌≡◌, ℕ, zero, suc, ◌+◌, ◌-◌, ◌<◌, ◌≤◌, List, [], ◌∷◌, ◌++◌, length, take, drop, get_or, slice_get, refl, ap, sym, ◌∙◌, arith, length-drop}
-use Rattle.std.proofs.Math.Seq.{take-add, drop-append-add, get_or-take}
-use Rattle.std.proofs.lemmas.List.{take-take, drop-take, drop-drop, take-append-le, drop-append-le, length-take-le, take_at, get_or-drop, take_all}
+use Rattle.std.proofs.{Math.Seq.{take-add, drop-append-add, get_or-take}, lemmas.List.{take-take, drop-take, drop-drop, take-append-le, drop-append-le, length-take-le, take_at, get_or-drop, take_all}}
 use Rattle.p25_bits.specs.Bits.{part}
 
 -- what the second of two lists has from a place on

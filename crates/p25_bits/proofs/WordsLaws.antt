@@ -1,19 +1,12 @@
 -- What the calls on words need: the shifts of one word as parts of its bits, by the laws of `bits_of` at the sum that each shift is, and a list
 -- of words by its words before, at and after a place.
 use Rattle.std.proofs.Common.{◌≡◌, ℕ, ◌+◌, ◌-◌, ◌*◌, ◌/◌, ◌%◌, ◌^◌, ◌<◌, ◌≤◌, Bool, List, ◌++◌, length, take, drop, get_or, set, ap, ap₂, sym, subst, ◌∙◌, arith, bit_and, bit_or, bit_xor, append_assoc, length-append, length-drop, pow-add}
-use Rattle.std.proofs.Math.Nat.{mul_assoc, add-mul}
-use Rattle.std.proofs.Math.Seq.{take-add, take-append-add}
-use Rattle.std.proofs.lemmas.Nat.{or_shifted, shl_below, shr_below, shr-shr, shr_split, shl-shr, mod_low, mul-mod_first, mod_below, pow_pos}
-use Rattle.std.proofs.lemmas.Nat.Bits.{ones_shl, and_high_mask}
-use Rattle.std.proofs.lemmas.List.{drop-append-le, take-append-le, take_all, take-set, drop-set-lt, get_or-set_same, length-set, take-append-drop, length-take-le}
-use Rattle.std.proofs.lemmas.Grind.{drop_more_same}
-use Rattle.std.specs.Int.RustNames.{count_ones}
-use Rattle.std.specs.Bool.{beq}
-use Rattle.p25_bits.specs.Bits.{bits_of, part}
-use Rattle.p25_bits.specs.Distance.{distance_of}
-use Rattle.p25_bits.specs.Numbers.{number_bits}
-use Rattle.p25_bits.proofs.DistanceLaws.{distance_by-append, distance_of-bits_of}
-use Rattle.p25_bits.proofs.PartLaws.{part-drop, part_left, part_add}
+use Rattle.std.proofs.{Math.Nat.{mul_assoc, add-mul}, Math.Seq.{take-add, take-append-add}}
+use Rattle.std.proofs.{lemmas.Nat.{or_shifted, shl_below, shr_below, shr-shr, shr_split, shl-shr, mod_low, mul-mod_first, mod_below, pow_pos}, lemmas.Nat.Bits.{ones_shl, and_high_mask}}
+use Rattle.std.proofs.{lemmas.List.{drop-append-le, take-append-le, take_all, take-set, drop-set-lt, get_or-set_same, length-set, take-append-drop, length-take-le}, lemmas.Grind.{drop_more_same}}
+use Rattle.std.specs.{Int.RustNames.{count_ones}, Bool.{beq}}
+use Rattle.p25_bits.specs.{Bits.{bits_of, part}, Distance.{distance_of}, Numbers.{number_bits}}
+use Rattle.p25_bits.proofs.{DistanceLaws.{distance_by-append, distance_of-bits_of}, PartLaws.{part-drop, part_left, part_add}}
 use Rattle.p25_bits.proofs.BitsLaws.{length-bits_of, bits_of-joined, bits_of-mod, take-bits_of, drop-bits_of}
 use Rattle.p25_bits.proofs.NumbersLaws.{length-number_bits, take-number_bits, drop-number_bits, number_bits-drop_more}
 

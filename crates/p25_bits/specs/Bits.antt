@@ -1,7 +1,5 @@
 -- Bits and the numbers that they write. The first bit of a list is the highest.
-use Rattle.std.specs.Prelude.{ℕ, zero, suc, ◌+◌, ◌*◌, Bool, true, false, not, ◌==◌, List, [], ◌∷◌, take, drop}
-use Rattle.std.specs.Int.{bit_at}
-use Rattle.std.specs.List.{flat_map}
+use Rattle.std.specs.{Prelude.{ℕ, zero, suc, ◌+◌, ◌*◌, Bool, true, false, not, ◌==◌, List, [], ◌∷◌, take, drop}, Int.{bit_at}, List.{flat_map}}
 
 -- a bit as a number: 1 for true, 0 for false
 abbrev pub digit_of : Bool → ℕ

@@ -1,6 +1,5 @@
 -- The number of places in which two lists differ (the Hamming distance of coding theory).
-use Rattle.std.specs.Prelude.{ℕ, ◌+◌, Bool, if◌then◌else◌, List, [], ◌∷◌}
-use Rattle.std.specs.Bool.{beq}
+use Rattle.std.specs.{Prelude.{ℕ, ◌+◌, Bool, if◌then◌else◌, List, [], ◌∷◌}, Bool.{beq}}
 
 -- how many of the places that both lists have hold letters that a test calls different
 unfoldable pub distance_by : {X : Type 0} → (X → X → Bool) → List X → List X → ℕ

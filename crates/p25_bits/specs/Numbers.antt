@@ -1,6 +1,5 @@
 -- Lists of numbers: those that bits write, so many bits each, numbers in base 256, and lists made place by place.
-use Rattle.std.specs.Prelude.{ℕ, zero, suc, ◌+◌, ◌*◌, Bool, List, [], ◌∷◌, ◌++◌, take, drop, slice_index}
-use Rattle.std.specs.List.{flat_map}
+use Rattle.std.specs.{Prelude.{ℕ, zero, suc, ◌+◌, ◌*◌, Bool, List, [], ◌∷◌, ◌++◌, take, drop, slice_index}, List.{flat_map}}
 use Rattle.p25_bits.specs.Bits.{bits_of, field_of}
 
 -- the bits of numbers, `width` bits each

@@ -2,8 +2,7 @@
 //! whose coefficient of x^i is the number's bit i.
 
 ghost use Rattle.std.specs.Prelude.{◌≡◌, ℕ, ◌+◌, ◌*◌, ◌^◌, ◌<◌, ◌≤◌};
-ghost use Rattle.p25_bits.specs.Bits.{digit_of};
-ghost use Rattle.p25_bits.specs.Divisible.{HasDegree, IsRemainder};
+ghost use Rattle.p25_bits.specs.{Bits.{digit_of}, Divisible.{HasDegree, IsRemainder}};
 
 /// Answers the remainder after one more coefficient: where `remainder` is that of some polynomial P by the generator,
 /// the answer is that of x·P plus `bit`. `degree` is the generator's, at most 62.

@@ -2,8 +2,7 @@
 //! a list of bits.
 
 ghost use Rattle.std.specs.Prelude.{◌≡◌, ◌+◌, ◌*◌, ◌^◌, ◌<◌, ◌≤◌, ◌++◌, All, length, drop};
-ghost use Rattle.p25_bits.specs.Bits.{bits_of, field_of};
-ghost use Rattle.p25_bits.specs.Numbers.{number_bits, numbers_from, pair_at, triple_at};
+ghost use Rattle.p25_bits.specs.{Bits.{bits_of, field_of}, Numbers.{number_bits, numbers_from, pair_at, triple_at}};
 
 use super::bit_buf::BitBuf;
 

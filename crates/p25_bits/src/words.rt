@@ -2,9 +2,7 @@
 //! stands on words stands here, so that `BitBuf` speaks of lists of bits alone.
 
 ghost use Rattle.std.specs.Prelude.{◌≡◌, ◌+◌, ◌-◌, ◌*◌, ◌/◌, ◌<◌, ◌≤◌, ◌++◌, length, take, drop};
-ghost use Rattle.p25_bits.specs.Bits.{bits_of, part};
-ghost use Rattle.p25_bits.specs.Distance.{distance_of};
-ghost use Rattle.p25_bits.specs.Numbers.{number_bits};
+ghost use Rattle.p25_bits.specs.{Bits.{bits_of, part}, Distance.{distance_of}, Numbers.{number_bits}};
 
 // Answers the 64 bits from place `at` on.
 pub(crate) fn window(words: &[u64], at: usize) -> u64

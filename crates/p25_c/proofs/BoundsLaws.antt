@@ -1,54 +1,29 @@
 -- The numbers by which a caller makes room: by the cases of a first item, and by the blocks of 72 bits that a frame has.
 use Rattle.std.proofs.Common.{◌≡◌, ℕ, ◌+◌, ◌-◌, ◌*◌, ◌/◌, ◌%◌, ◌<◌, ◌≤◌, inl, inr, Bool, true, false, ◌||◌, cond, min, List, [], ◌∷◌, length, take, drop, replicate, Option, Some, None, Result, Ok, Err, ℤ, pos, nat_le, refl, ap, sym, subst, ◌∙◌, arith, length-append, length-drop, length-take}
-use Rattle.std.specs.Prelude.{IfOk}
-use Rattle.std.specs.Cmp.{first_so}
-use Rattle.std.proofs.lemmas.Bool.{cases_Bool, cases_lt, cond-false, cond-true, le-leb, leb-true}
-use Rattle.std.proofs.lemmas.List.{length-replicate}
+use Rattle.std.proofs.{lemmas.Bool.{cases_Bool, cases_lt, cond-false, cond-true, le-leb, leb-true}, lemmas.List.{length-replicate}}
+use Rattle.std.specs.{Prelude.{IfOk}, Cmp.{first_so}}
 use Rattle.p25_bits.specs.Bits.{bits_of, octet_bits, part}
-use Rattle.p25_bits.proofs.BitsLaws.{length-bits_of, length-octet_bits}
-use Rattle.p25_bits.proofs.NumbersLaws.{length-numbers_from}
+use Rattle.p25_bits.proofs.{BitsLaws.{length-bits_of, length-octet_bits}, NumbersLaws.{length-numbers_from}}
 use Rattle.p25_line.specs.declared.fault.LineFault.{LineFault}
-use Rattle.p25_packet_blocks.specs.Heads.{head_blocks}
-use Rattle.p25_packet_blocks.specs.Lengths.{packet_sent_length}
-use Rattle.p25_packet_blocks.specs.Whole.{packet_head}
-use Rattle.p25_packet_blocks.specs.declared.packet.Packet.{Packet as BlockPacket}
+use Rattle.p25_packet_blocks.specs.{Heads.{head_blocks}, Lengths.{packet_sent_length}, Whole.{packet_head}, declared.packet.Packet.{Packet as BlockPacket}}
 use Rattle.p25_packet_blocks.proofs.HeadLaws.{head_blocks-lt}
-use Rattle.p25_status.specs.Sync.{has_sync}
-use Rattle.p25_status.specs.declared.symbols.Status.{Status}
+use Rattle.p25_status.specs.{Sync.{has_sync}, declared.symbols.Status.{Status}}
 use Rattle.p25_text.specs.Grammar.{read_line_of}
 use Rattle.p25_text.proofs.GrammarLaws.{text_of-read_line}
-use Rattle.p25_units.specs.Items.{covered, IsSoundItem, unit_item_of}
-use Rattle.p25_units.specs.Needs.{is_known, need_of}
-use Rattle.p25_units.specs.UnitParts.{UnitParts}
-use Rattle.p25_units.specs.Units.{IsSendableUnit, IsSoundFrame, body_length, filled_frame, frame_length_of, image_of, whole_octets}
-use Rattle.p25_units.specs.declared.frame.Frame.{Frame}
-use Rattle.p25_units.specs.declared.item.Item.{Item}
-use Rattle.p25_units.specs.declared.item.Item.TheVariants.{Whole, Broken, NoUnit, Gap, Cut}
-use Rattle.p25_units.specs.declared.needs.Need.{Need}
-use Rattle.p25_units.specs.declared.needs.Need.TheVariants.{NoSync, More, Length, NoLength}
-use Rattle.p25_units.proofs.ItemsLaws.{covered-unit_item_of}
-use Rattle.p25_units.proofs.NeedsLaws.{need_of-few, need_of-there}
-use Rattle.p25_units.proofs.ReadingsLaws.{IsWholeBody-sendable}
+use Rattle.p25_units.specs.{Items.{covered, IsSoundItem, unit_item_of}, Needs.{is_known, need_of}, UnitParts.{UnitParts}}
+use Rattle.p25_units.specs.{Units.{IsSendableUnit, IsSoundFrame, body_length, filled_frame, frame_length_of, image_of, whole_octets}, declared.frame.Frame.{Frame}, declared.item.Item.{Item}}
+use Rattle.p25_units.specs.{declared.item.Item.TheVariants.{Whole, Broken, NoUnit, Gap, Cut}, declared.needs.Need.{Need}, declared.needs.Need.TheVariants.{NoSync, More, Length, NoLength}}
 use Rattle.p25_units.specs.declared.unit.Body.TheVariants.{Voice, Packet}
+use Rattle.p25_units.proofs.{ItemsLaws.{covered-unit_item_of}, NeedsLaws.{need_of-few, need_of-there}, ReadingsLaws.{IsWholeBody-sendable}}
 use Rattle.p25_units.proofs.UnitsLaws.{IsSoundFrame-frame_as, blocks-sound, body_duid-lt, body_length-known, length-image_of-blocks, sent_length-packet}
-use Rattle.p25_voice_units.specs.Lengths.{voice_duid}
-use Rattle.p25_voice_units.specs.declared.unit.VoiceUnit.{VoiceUnit}
+use Rattle.p25_voice_units.specs.{Lengths.{voice_duid}, declared.unit.VoiceUnit.{VoiceUnit}}
 use Rattle.p25_voice_units.proofs.LengthsLaws.{voice_lengths}
-use Rattle.p25_stream.specs.Items.{first_item, gap_of, is_decided, items_by}
-use Rattle.p25_stream.specs.Repeats.{bridged, bridged_frame, repaired}
-use Rattle.p25_stream.proofs.ItemLaws.{whole-within}
-use Rattle.p25_stream.proofs.ItemsLaws.{IsSoundItem-first_item, covered-first_item, first_item-cases, is_decided-gap, is_decided-synced, items_by-first, items_by-more}
+use Rattle.p25_stream.specs.{Items.{first_item, gap_of, is_decided, items_by}, Repeats.{bridged, bridged_frame, repaired}}
+use Rattle.p25_stream.proofs.{ItemLaws.{whole-within}, ItemsLaws.{IsSoundItem-first_item, covered-first_item, first_item-cases, is_decided-gap, is_decided-synced, items_by-first, items_by-more}}
 use Rattle.p25_c.specs.BoundsLaws.{AreUnitOctets, BridgedAreUnits, BuiltAreUnits, CutsAreShort, EnoughDecide, IsBoundedItem, ItemsAreBounded, RepairedAreUnits, StreamsHaveRoom, octets_there}
-use Rattle.p25_c.specs.Building.{first_changed, unit_built}
-use Rattle.p25_c.specs.Items.{is_inside, items_asked}
-use Rattle.p25_c.specs.Places.{asked_changed, filled, has_item, outside}
-use Rattle.p25_c.specs.Rooms.{IsWriting, no_room}
-use Rattle.p25_c.specs.Streams.{has_ended, is_stream, octets_held, stream_asked}
-use Rattle.p25_c.specs.declared.stream.Stream.{Stream}
-use Rattle.p25_c.proofs.CallsLaws.{inside-bounds}
-use Rattle.p25_c.proofs.ItemsLaws.{items_asked-inside, items_asked-some}
-use Rattle.p25_c.proofs.StreamCallsLaws.{stream-asked}
-use Rattle.p25_c.proofs.StreamsSteps.{fits-of}
+use Rattle.p25_c.specs.{Building.{first_changed, unit_built}, Items.{is_inside, items_asked}, Places.{asked_changed, filled, has_item, outside}, Rooms.{IsWriting, no_room}}
+use Rattle.p25_c.specs.{Streams.{has_ended, is_stream, octets_held, stream_asked}, declared.stream.Stream.{Stream}}
+use Rattle.p25_c.proofs.{CallsLaws.{inside-bounds}, ItemsLaws.{items_asked-inside, items_asked-some}, StreamCallsLaws.{stream-asked}, StreamsSteps.{fits-of}}
 
 -- ---- what decides an item
 

@@ -1,21 +1,13 @@
 -- What a series of calls tells, by induction on the calls: each item is the first of those of the whole recording from its place on.
 use Rattle.std.proofs.Common.{◌≡◌, ℕ, ◌+◌, ◌-◌, ◌*◌, ◌<◌, ◌≤◌, pos, Bool, true, List, [], ◌∷◌, ◌++◌, length, map, take, drop, Option, Some, None, refl, ap, ap₂, sym, subst, ◌∙◌, arith, append-nil}
-use Rattle.std.specs.Cmp.{first_so, second_so}
-use Rattle.std.specs.List.{sum_by}
-use Rattle.std.proofs.lemmas.Bool.{leb-true}
-use Rattle.std.proofs.lemmas.List.{drop-append-le, drop-drop, map-append}
-use Rattle.std.proofs.lemmas.List.Sums.{sum_by-cons}
+use Rattle.std.proofs.{lemmas.Bool.{leb-true}, lemmas.List.{drop-append-le, drop-drop, map-append}, lemmas.List.Sums.{sum_by-cons}}
+use Rattle.std.specs.{Cmp.{first_so, second_so}, List.{sum_by}}
 use Rattle.p25_bits.specs.Bits.{octet_bits}
-use Rattle.p25_bits.proofs.BitsLaws.{length-octet_bits, octet_bits-append, octet_bits-nil}
-use Rattle.p25_bits.proofs.PartLaws.{drop_behind}
-use Rattle.p25_stream.specs.Items.{items_by}
-use Rattle.p25_stream.specs.Scan.{Gave, Scan}
-use Rattle.p25_stream.proofs.ItemsLaws.{covered-first_item, items_by-first, place_of-first_item}
-use Rattle.p25_stream.proofs.ScanLaws.{gave-items}
-use Rattle.p25_units.specs.Items.{covered, place_of}
-use Rattle.p25_units.specs.declared.item.Item.{Item}
-use Rattle.p25_c.specs.Calls.{AreSet, AreTold, BeginsWith, CallsTellAll, CallsTellTheFirst, Given, IsPiece, SetsAreItems}
-use Rattle.p25_c.specs.Items.{is_inside, item_answer, item_left, items_asked, parts_of}
+use Rattle.p25_bits.proofs.{BitsLaws.{length-octet_bits, octet_bits-append, octet_bits-nil}, PartLaws.{drop_behind}}
+use Rattle.p25_stream.specs.{Items.{items_by}, Scan.{Gave, Scan}}
+use Rattle.p25_stream.proofs.{ItemsLaws.{covered-first_item, items_by-first, place_of-first_item}, ScanLaws.{gave-items}}
+use Rattle.p25_units.specs.{Items.{covered, place_of}, declared.item.Item.{Item}}
+use Rattle.p25_c.specs.{Calls.{AreSet, AreTold, BeginsWith, CallsTellAll, CallsTellTheFirst, Given, IsPiece, SetsAreItems}, Items.{is_inside, item_answer, item_left, items_asked, parts_of}}
 use Rattle.p25_c.specs.declared.items.ItemParts.{ItemParts}
 use Rattle.p25_c.proofs.ItemsLaws.{items_asked-some}
 

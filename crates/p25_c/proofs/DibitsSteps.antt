@@ -1,13 +1,9 @@
 -- One more dibit of a stream.
 use Rattle.std.proofs.Common.{◌≡◌, ℕ, ◌+◌, ◌-◌, ◌*◌, ◌%◌, ◌^◌, ◌<◌, ◌≤◌, Bool, List, [], ◌∷◌, ◌++◌, length, take, drop, get_or, slice_set, ap, sym, ◌∙◌, arith, append-nil, append_assoc, length-append}
-use Rattle.std.proofs.lemmas.List.{drop-append-le, length-take-le, take_more_set}
-use Rattle.std.proofs.lemmas.Nat.{pow-add}
-use Rattle.p25_bits.specs.Bits.{bits_of, octet_bits}
-use Rattle.p25_bits.specs.Numbers.{number_bits}
-use Rattle.p25_bits.proofs.BitsLaws.{bits_of-joined, bits_of-mod, bits_of-zero, length-octet_bits, octet_bits-append, octet_bits-cons, octet_bits-nil}
-use Rattle.p25_bits.proofs.NumbersLaws.{number_bits_more}
-use Rattle.p25_c.specs.Streams.{HasTaken, bits_left}
-use Rattle.p25_c.specs.declared.stream.Stream.{Stream}
+use Rattle.std.proofs.{lemmas.List.{drop-append-le, length-take-le, take_more_set}, lemmas.Nat.{pow-add}}
+use Rattle.p25_bits.specs.{Bits.{bits_of, octet_bits}, Numbers.{number_bits}}
+use Rattle.p25_bits.proofs.{BitsLaws.{bits_of-joined, bits_of-mod, bits_of-zero, length-octet_bits, octet_bits-append, octet_bits-cons, octet_bits-nil}, NumbersLaws.{number_bits_more}}
+use Rattle.p25_c.specs.{Streams.{HasTaken, bits_left}, declared.stream.Stream.{Stream}}
 
 -- the bits of dibits, and of one more
 pub dibit-joined : (n waiting dibit : ℕ) → bits_of (n + 2) (4 * waiting + dibit % 4) ≡ bits_of n waiting ++ bits_of 2 dibit

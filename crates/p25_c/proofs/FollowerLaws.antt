@@ -1,32 +1,19 @@
 -- What a follower writes of a recording, by induction on its items: what is kept as numbers and octets says what was kept.
 use Rattle.std.proofs.Common.{◌≡◌, ℕ, ◌+◌, ◌-◌, ◌*◌, ◌/◌, ◌%◌, ◌<◌, ◌≤◌, Bool, true, if◌then◌else◌, List, [], ◌∷◌, ◌++◌, length, take, drop, replicate, Option, Some, None, Ok, refl, ap, ap₂, sym, subst, ◌∙◌, arith, append_assoc, length-append}
+use Rattle.std.proofs.{lemmas.Bool.{cond-true, le-leb, leb-true}, lemmas.List.{length-replicate, take_all, take_at}}
 use Rattle.std.specs.Cmp.{first_so, second_so}
-use Rattle.std.proofs.lemmas.Bool.{cond-true, le-leb, leb-true}
-use Rattle.std.proofs.lemmas.List.{length-replicate, take_all, take_at}
-use Rattle.p25_bits.specs.Bits.{bits_of, field_of, octet_bits, part}
-use Rattle.p25_bits.specs.Numbers.{number_bits, octets_from}
+use Rattle.p25_bits.specs.{Bits.{bits_of, field_of, octet_bits, part}, Numbers.{number_bits, octets_from}}
 use Rattle.p25_bits.proofs.BitsLaws.{bits_of-field_of, bits_of-zero, length-bits_of, length-octet_bits, octet_bits-append}
-use Rattle.p25_bits.proofs.NumbersLaws.{length-numbers_from, number_bits-numbers_from, number_bits-octets}
-use Rattle.p25_bits.proofs.PartLaws.{drop_behind, part_left}
-use Rattle.p25_follow.specs.Followed.{follow_of, followed_by}
-use Rattle.p25_follow.specs.Following.{IsFollow, behind_item, follow, fresh_follow, written_before, written_item}
+use Rattle.p25_bits.proofs.{NumbersLaws.{length-numbers_from, number_bits-numbers_from, number_bits-octets}, PartLaws.{drop_behind, part_left}}
+use Rattle.p25_follow.specs.{Followed.{follow_of, followed_by}, Following.{IsFollow, behind_item, follow, fresh_follow, written_before, written_item}}
 use Rattle.p25_follow.proofs.FollowingLaws.{IsFollow-behind}
-use Rattle.p25_recording_filters.specs.Commands.{FollowedParts, followed_reporting}
-use Rattle.p25_recording_filters.specs.Reports.{reported}
+use Rattle.p25_recording_filters.specs.{Commands.{FollowedParts, followed_reporting}, Reports.{reported}}
 use Rattle.p25_recording_filters.proofs.ReportsLaws.{reported-cons, reported-followed, reported-nil}
 use Rattle.p25_stream.specs.Items.{items_of}
-use Rattle.p25_units.specs.Items.{covered, place_of}
-use Rattle.p25_units.specs.Units.{whole_octets}
-use Rattle.p25_units.specs.declared.item.Item.{Item}
-use Rattle.p25_units.specs.declared.item.Item.TheVariants.{Whole, Broken, NoUnit, Gap, Cut}
-use Rattle.p25_c.specs.Calls.{Given, IsPiece}
-use Rattle.p25_c.specs.FollowerLaws.{FollowersFollow, ItemsAreCut, followed_series}
-use Rattle.p25_c.specs.Followers.{follower_told, fresh_follower, has_name, item_held, name_duid, name_nac, parts_held}
-use Rattle.p25_c.specs.Items.{is_inside, parts_of}
-use Rattle.p25_c.specs.Places.{filled, has_item}
-use Rattle.p25_c.specs.Rooms.{write_left, written}
-use Rattle.p25_c.specs.Values.{is_set}
-use Rattle.p25_c.specs.declared.followers.FollowerState.{FollowerState}
+use Rattle.p25_units.specs.{Items.{covered, place_of}, Units.{whole_octets}, declared.item.Item.{Item}, declared.item.Item.TheVariants.{Whole, Broken, NoUnit, Gap, Cut}}
+use Rattle.p25_c.specs.{Calls.{Given, IsPiece}, FollowerLaws.{FollowersFollow, ItemsAreCut, followed_series}}
+use Rattle.p25_c.specs.{Followers.{follower_told, fresh_follower, has_name, item_held, name_duid, name_nac, parts_held}, Items.{is_inside, parts_of}, Places.{filled, has_item}}
+use Rattle.p25_c.specs.{Rooms.{write_left, written}, Values.{is_set}, declared.followers.FollowerState.{FollowerState}}
 use Rattle.p25_c.proofs.RelaysSteps.{placed-of}
 
 -- ---- what is kept comes back

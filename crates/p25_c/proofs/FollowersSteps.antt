@@ -1,10 +1,7 @@
 -- An item that a follower may take: where it lies.
-use Rattle.std.proofs.Common.{◌≡◌, ℕ, ◌+◌, ◌-◌, ◌*◌, ◌^◌, ◌≤◌, Bool, true, List, length, arith}
+use Rattle.std.proofs.{Common.{◌≡◌, ℕ, ◌+◌, ◌-◌, ◌*◌, ◌^◌, ◌≤◌, Bool, true, List, length, arith}, lemmas.Bool.{leb-true}}
 use Rattle.std.specs.Cmp.{first_so, second_so}
-use Rattle.std.proofs.lemmas.Bool.{leb-true}
-use Rattle.p25_c.specs.Followers.{is_item_told, may_follow}
-use Rattle.p25_c.specs.declared.followers.FollowerState.{FollowerState}
-use Rattle.p25_c.specs.declared.items.ItemParts.{ItemParts}
+use Rattle.p25_c.specs.{Followers.{is_item_told, may_follow}, declared.followers.FollowerState.{FollowerState}, declared.items.ItemParts.{ItemParts}}
 use Rattle.p25_c.proofs.RelaysSteps.{placed-of}
 
 pub record CanFollow (item : ItemParts) (begin count : ℕ) : Type 0 where

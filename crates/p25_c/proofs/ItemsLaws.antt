@@ -1,6 +1,5 @@
 -- The items that are asked for, by whether they may be.
-use Rattle.std.proofs.Common.{◌≡◌, ℕ, ◌-◌, Bool, true, false, cond, List, length, drop, Some, None, ap}
-use Rattle.std.proofs.lemmas.Option.{cond_some}
+use Rattle.std.proofs.{Common.{◌≡◌, ℕ, ◌-◌, Bool, true, false, cond, List, length, drop, Some, None, ap}, lemmas.Option.{cond_some}}
 use Rattle.p25_bits.specs.Bits.{octet_bits}
 use Rattle.p25_stream.specs.Items.{items_by}
 use Rattle.p25_units.specs.declared.item.Item.{Item}

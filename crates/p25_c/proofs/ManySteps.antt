@@ -1,7 +1,6 @@
 -- A list that a loop goes through, and room that it fills by what it finds.
 use Rattle.std.proofs.Common.{◌≡◌, ℕ, suc, ◌+◌, ◌<◌, ◌≤◌, List, [], ◌∷◌, ◌++◌, length, take, drop, map, get_or, slice_set, ap, sym, ◌∙◌, arith, append_assoc, add-one, length-append, length-drop}
-use Rattle.std.proofs.Math.Seq.{drop-cons, set-append_seam}
-use Rattle.std.proofs.lemmas.List.{length-map, length-take-le, map-append, take_all, take_more}
+use Rattle.std.proofs.{Math.Seq.{drop-cons, set-append_seam}, lemmas.List.{length-map, length-take-le, map-append, take_all, take_more}}
 use Rattle.p25_c.specs.Many.{put_first}
 
 -- what is left of a list begins with an element

@@ -1,17 +1,10 @@
 -- Packets as numbers and octets: the bits that are taken, and the blocks that are held.
 use Rattle.std.proofs.Common.{◌≡◌, ◌≢◌, ℕ, zero, suc, ◌+◌, ◌-◌, ◌*◌, ◌/◌, ◌%◌, ◌<◌, ◌≤◌, Bool, true, false, cond, List, [], ◌∷◌, ◌++◌, length, take, drop, min, Option, Some, None, refl, sym, ap, subst, ◌∙◌, arith, add-one, inl, inr, length-append}
-use Rattle.std.specs.Prelude.{slice_index_or}
-use Rattle.std.specs.Option.{option_map}
-use Rattle.std.proofs.lemmas.Bool.{cases_lt, cond-false, cond-true}
-use Rattle.std.proofs.lemmas.List.{drop_min, get_or_append_left, take_min}
-use Rattle.std.proofs.Math.Seq.{get_or-append_seam}
+use Rattle.std.proofs.{lemmas.Bool.{cases_lt, cond-false, cond-true}, lemmas.List.{drop_min, get_or_append_left, take_min}, Math.Seq.{get_or-append_seam}}
+use Rattle.std.specs.{Prelude.{slice_index_or}, Option.{option_map}}
 use Rattle.p25_bits.specs.Bits.{octet_bits}
-use Rattle.p25_packet_blocks.specs.Whole.{AreGood}
-use Rattle.p25_packet_blocks.specs.declared.block.Block.{Block}
-use Rattle.p25_packet_blocks.specs.declared.block.Slot.{Slot}
-use Rattle.p25_packet_blocks.specs.declared.block.Slot.TheVariants.{Good, Bad}
-use Rattle.p25_c.specs.Packets.{is_sendable_at, slot_held, slots_held, unit_bits}
-use Rattle.p25_c.specs.declared.packets.PacketParts.{PacketParts}
+use Rattle.p25_packet_blocks.specs.{Whole.{AreGood}, declared.block.Block.{Block}, declared.block.Slot.{Slot}, declared.block.Slot.TheVariants.{Good, Bad}}
+use Rattle.p25_c.specs.{Packets.{is_sendable_at, slot_held, slots_held, unit_bits}, declared.packets.PacketParts.{PacketParts}}
 
 -- the bits that are taken
 pub bits-taken : (bit : ℕ) (octets there : List ℕ) (held left : List Bool) → there ≡ drop (min (bit / 8) (length octets)) octets

@@ -1,12 +1,9 @@
 -- The bits of octets from any bit on.
 use Rattle.std.proofs.Common.{◌≡◌, ℕ, ℤ, ◌+◌, ◌-◌, ◌*◌, ◌/◌, ◌%◌, ◌≤◌, Bool, List, length, take, drop, Option, None, refl, ap, subst, sym, ◌∙◌, arith, length-drop}
-use Rattle.p25_bits.specs.Bits.{octet_bits, part}
-use Rattle.p25_bits.specs.Numbers.{number_bits}
+use Rattle.p25_bits.specs.{Bits.{octet_bits, part}, Numbers.{number_bits}}
 use Rattle.p25_units.specs.declared.item.Item.{Item}
-use Rattle.p25_c.specs.Places.{asked_changed, outside}
-use Rattle.p25_c.specs.Rooms.{IsWriting}
-use Rattle.p25_bits.proofs.NumbersLaws.{drop-number_bits, number_bits-octets, take-number_bits}
-use Rattle.p25_bits.proofs.PartLaws.{part-drop, part-take}
+use Rattle.p25_c.specs.{Places.{asked_changed, outside}, Rooms.{IsWriting}}
+use Rattle.p25_bits.proofs.{NumbersLaws.{drop-number_bits, number_bits-octets, take-number_bits}, PartLaws.{part-drop, part-take}}
 
 -- so many bits from a bit on, of the octets from the one with that bit on
 pub cut-bits : (octets : List ℕ) (at count last : ℕ) → at + count ≤ 8 * last → at / 8 ≤ last → last ≤ length octets

@@ -1,23 +1,17 @@
 -- Items that are asked for: where they lie, and how many bits they cover.
 use Rattle.std.proofs.Common.{◌≡◌, ℕ, ℤ, pos, ◌+◌, ◌-◌, ◌*◌, ◌^◌, ◌≤◌, Bool, true, List, [], length, drop, Option, Some, None, Ok, refl, subst, sym, arith, length-drop}
-use Rattle.std.specs.Cmp.{first_so, second_so}
 use Rattle.std.proofs.lemmas.Bool.{cond-true, le-leb, leb-true}
+use Rattle.std.specs.Cmp.{first_so, second_so}
 use Rattle.p25_bits.specs.Bits.{octet_bits}
 use Rattle.p25_bits.proofs.BitsLaws.{length-octet_bits}
-use Rattle.p25_units.proofs.ItemsLaws.{covered-unit_item_of}
-use Rattle.p25_units.proofs.NeedsLaws.{need_of-few, need_of-there}
-use Rattle.p25_units.specs.Items.{covered}
-use Rattle.p25_units.specs.declared.item.Item.{Item}
+use Rattle.p25_units.proofs.{ItemsLaws.{covered-unit_item_of}, NeedsLaws.{need_of-few, need_of-there}}
+use Rattle.p25_units.specs.{Items.{covered}, declared.item.Item.{Item}}
 use Rattle.p25_follow.proofs.FitLaws.{fit-first}
 use Rattle.p25_follow.specs.Relayed.{IsFitItem}
 use Rattle.p25_stream.proofs.ItemsLaws.{first_item-cases, items_by-first}
-use Rattle.p25_stream.specs.Finding.{IsFirst}
-use Rattle.p25_stream.specs.Items.{first_item}
+use Rattle.p25_stream.specs.{Finding.{IsFirst}, Items.{first_item}}
 use Rattle.p25_status.specs.declared.symbols.Status.{Status}
-use Rattle.p25_c.specs.Items.{is_inside}
-use Rattle.p25_c.specs.Places.{outside}
-use Rattle.p25_c.specs.Relays.{asked_relayed}
-use Rattle.p25_c.specs.Rooms.{IsWriting, no_room, written}
+use Rattle.p25_c.specs.{Items.{is_inside}, Places.{outside}, Relays.{asked_relayed}, Rooms.{IsWriting, no_room, written}}
 
 -- what the numbers of a place say
 pub record IsPlaced (begin from count : ℕ) : Type 0 where

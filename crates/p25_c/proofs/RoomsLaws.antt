@@ -1,7 +1,6 @@
 -- Room into which a text is written, with a zero after it, and room that is too little.
 use Rattle.std.proofs.Common.{pos, Ok, ◌≡◌, ℕ, suc, ◌<◌, List, [], ◌∷◌, ◌++◌, length, drop, get_or, slice_set, ap, sym, ◌∙◌, arith, append_assoc, length-append}
-use Rattle.std.proofs.Math.Seq.{drop-cons, set-append_seam}
-use Rattle.std.proofs.lemmas.Bool.{cond-false, cond_below, lt-leb}
+use Rattle.std.proofs.{Math.Seq.{drop-cons, set-append_seam}, lemmas.Bool.{cond-false, cond_below, lt-leb}}
 use Rattle.p25_c.specs.Rooms.{IsWriting, no_room, text_left, written}
 
 pub text_left-room : (text room front : List ℕ) → front ≡ text → length text < length room → slice_set (front ++ drop (length text) room) (length text) 0 ≡ text_left text room

@@ -1,23 +1,15 @@
 -- What a series of calls on a stream tells, by induction on the calls: the bits that are left have the items that were not told.
 use Rattle.std.proofs.Common.{◌≡◌, ℕ, ◌+◌, ◌-◌, ◌*◌, ◌<◌, ◌≤◌, inl, inr, Bool, true, false, List, [], ◌∷◌, ◌++◌, length, take, drop, Option, Some, None, refl, ap, ap₂, sym, subst, ◌∙◌, arith, append_assoc, append-nil}
+use Rattle.std.proofs.{lemmas.Bool.{cases_Bool, cond-false, cond-true}, lemmas.List.{drop-append-le, drop-drop}, lemmas.List.Concat.{flat_map-append}}
 use Rattle.std.specs.List.{flat_map}
-use Rattle.std.proofs.lemmas.Bool.{cases_Bool, cond-false, cond-true}
-use Rattle.std.proofs.lemmas.List.{drop-append-le, drop-drop}
-use Rattle.std.proofs.lemmas.List.Concat.{flat_map-append}
 use Rattle.p25_bits.specs.Bits.{bits_of, octet_bits}
 use Rattle.p25_bits.proofs.BitsLaws.{bits_of-zero, length-octet_bits, octet_bits-nil}
-use Rattle.p25_stream.specs.Items.{items_by, items_of}
-use Rattle.p25_stream.specs.Scan.{Gave, Scan}
-use Rattle.p25_stream.proofs.ItemsLaws.{covered-first_item, items_by-first}
-use Rattle.p25_stream.proofs.ScanLaws.{gave-items}
-use Rattle.p25_units.specs.Items.{covered}
-use Rattle.p25_units.specs.declared.item.Item.{Item}
-use Rattle.p25_c.specs.Items.{items_asked}
-use Rattle.p25_c.specs.StreamCalls.{AreCalls, Leads, StreamCall, StreamsTellAll, StreamsTellTheFirst, Told, Took, bits_in, bits_taken, items_in_call, items_told}
-use Rattle.p25_c.specs.Streams.{bits_left, fresh_stream, has_ended, is_stream, octets_held, stream_asked, stream_moved}
-use Rattle.p25_c.specs.declared.stream.Stream.{Stream}
-use Rattle.p25_c.proofs.CallsLaws.{inside-bounds}
-use Rattle.p25_c.proofs.ItemsLaws.{items_asked-some}
+use Rattle.p25_stream.specs.{Items.{items_by, items_of}, Scan.{Gave, Scan}}
+use Rattle.p25_stream.proofs.{ItemsLaws.{covered-first_item, items_by-first}, ScanLaws.{gave-items}}
+use Rattle.p25_units.specs.{Items.{covered}, declared.item.Item.{Item}}
+use Rattle.p25_c.specs.{Items.{items_asked}, StreamCalls.{AreCalls, Leads, StreamCall, StreamsTellAll, StreamsTellTheFirst, Told, Took, bits_in, bits_taken, items_in_call, items_told}}
+use Rattle.p25_c.specs.{Streams.{bits_left, fresh_stream, has_ended, is_stream, octets_held, stream_asked, stream_moved}, declared.stream.Stream.{Stream}}
+use Rattle.p25_c.proofs.{CallsLaws.{inside-bounds}, ItemsLaws.{items_asked-some}}
 
 -- the numbers fit a stream where items may be asked for
 pub stream-asked : (stream : Stream) (items : List Item) → stream_asked stream ≡ Some items

@@ -1,13 +1,10 @@
 -- Streams: what their numbers say, and the bits that are left.
 use Rattle.std.proofs.Common.{◌≡◌, ℕ, suc, min, subst, ◌+◌, ◌-◌, ◌*◌, ◌/◌, ◌%◌, ◌^◌, ◌<◌, ◌≤◌, Bool, true, List, ◌++◌, length, take, drop, ap, ap₂, sym, ◌∙◌, arith, append-nil, append_assoc, length-append, length-drop}
+use Rattle.std.proofs.{lemmas.Bool.{and_from, eq-eqb, eqb-true, le-leb, leb-true}, lemmas.List.{drop-append-le, length-take, length-take-le, take_at, take_min}}
 use Rattle.std.specs.Cmp.{first_so, second_so}
-use Rattle.std.proofs.lemmas.Bool.{and_from, eq-eqb, eqb-true, le-leb, leb-true}
-use Rattle.std.proofs.lemmas.List.{drop-append-le, length-take, length-take-le, take_at, take_min}
 use Rattle.p25_bits.specs.Bits.{bits_of, octet_bits}
-use Rattle.p25_bits.proofs.BitsLaws.{bits_of-zero, length-octet_bits, octet_bits-append}
-use Rattle.p25_bits.proofs.PartLaws.{drop_behind, part_add}
-use Rattle.p25_c.specs.Streams.{HasSameBits, HasTaken, bits_left, is_stream, stream_room}
-use Rattle.p25_c.specs.declared.stream.Stream.{Stream}
+use Rattle.p25_bits.proofs.{BitsLaws.{bits_of-zero, length-octet_bits, octet_bits-append}, PartLaws.{drop_behind, part_add}}
+use Rattle.p25_c.specs.{Streams.{HasSameBits, HasTaken, bits_left, is_stream, stream_room}, declared.stream.Stream.{Stream}}
 
 -- what the numbers of a stream say
 pub record Fits (stream : Stream) : Type 0 where

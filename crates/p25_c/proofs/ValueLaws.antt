@@ -1,33 +1,17 @@
 -- The laws of values: by the kinds of items and units, and of calls by induction on the items.
 use Rattle.std.proofs.Common.{◌≡◌, ℕ, suc, ◌+◌, ◌-◌, ◌<◌, ◌≤◌, ◌^◌, Bool, true, false, cond, ◌&&◌, List, [], ◌∷◌, ◌++◌, length, map, Option, Some, None, refl, sym, ap, ap₂, subst, ◌∙◌, arith}
-use Rattle.std.specs.Prelude.{All, IfSome, nat_le, option_to_list}
-use Rattle.std.specs.Cmp.Derive.{both_true}
-use Rattle.std.proofs.lemmas.List.Elements.{All-head, All-tail}
-use Rattle.std.proofs.lemmas.Bool.{cond-true, eq-eqb, le-leb, lt-ltb}
-use Rattle.p25_calls.specs.CallLaws.{LieFrom}
-use Rattle.p25_calls.specs.Calls.{calls_of}
-use Rattle.p25_calls.specs.Seen.{algid_in, broken_unit, link_in, unit_of, whole_unit}
-use Rattle.p25_calls.specs.Taking.{CallerParts, IsPending, answer_to, answers_by, behind_item, linked_pending, open_call, pending_run, run_with, unit_answer, unit_pending}
-use Rattle.p25_calls.specs.declared.call.Call.{Call}
+use Rattle.std.proofs.{lemmas.List.Elements.{All-head, All-tail}, lemmas.Bool.{cond-true, eq-eqb, le-leb, lt-ltb}}
+use Rattle.std.specs.{Prelude.{All, IfSome, nat_le, option_to_list}, Cmp.Derive.{both_true}}
+use Rattle.p25_calls.specs.{CallLaws.{LieFrom}, Calls.{calls_of}, Seen.{algid_in, broken_unit, link_in, unit_of, whole_unit}}
+use Rattle.p25_calls.specs.{Taking.{CallerParts, IsPending, answer_to, answers_by, behind_item, linked_pending, open_call, pending_run, run_with, unit_answer, unit_pending}, declared.call.Call.{Call}}
 use Rattle.p25_calls.specs.declared.seen.UnitSeen.{UnitSeen}
-use Rattle.p25_calls.proofs.CallerSteps.{pending-kept, unit-ends}
-use Rattle.p25_calls.proofs.TakingLaws.{answers-are-calls}
-use Rattle.p25_units.specs.Items.{covered, place_of}
-use Rattle.p25_units.specs.declared.frame.Frame.{Frame}
-use Rattle.p25_units.specs.declared.item.Item.{Item}
-use Rattle.p25_units.specs.declared.item.Item.TheVariants.{Whole, Broken, NoUnit, Gap, Cut}
-use Rattle.p25_units.specs.declared.unit.Body.{Body}
-use Rattle.p25_units.specs.declared.unit.Body.TheVariants.{Voice, Packet}
-use Rattle.p25_voice_units.specs.declared.unit.VoiceUnit.{VoiceUnit}
-use Rattle.p25_voice_units.specs.declared.unit.VoiceUnit.TheVariants.{Header, Link1, Link2, End, EndLink}
-use Rattle.p25_voice_units.specs.declared.voice.VoiceFrame.{VoiceFrame}
+use Rattle.p25_calls.proofs.{CallerSteps.{pending-kept, unit-ends}, TakingLaws.{answers-are-calls}}
+use Rattle.p25_units.specs.{Items.{covered, place_of}, declared.frame.Frame.{Frame}, declared.item.Item.{Item}, declared.item.Item.TheVariants.{Whole, Broken, NoUnit, Gap, Cut}}
+use Rattle.p25_units.specs.{declared.unit.Body.{Body}, declared.unit.Body.TheVariants.{Voice, Packet}, Units.{body_duid, frame_length_of}}
+use Rattle.p25_voice_units.specs.{declared.unit.VoiceUnit.{VoiceUnit}, declared.unit.VoiceUnit.TheVariants.{Header, Link1, Link2, End, EndLink}, declared.voice.VoiceFrame.{VoiceFrame}}
 use Rattle.p25_text.specs.ItemTexts.{item_text_of}
-use Rattle.p25_units.specs.Units.{body_duid, frame_length_of}
-use Rattle.p25_c.specs.Fields.{body_fields, frame_octets, frames_held}
-use Rattle.p25_c.specs.Items.{parts_of}
-use Rattle.p25_c.specs.ValueLaws.{CallsAreTold, FieldsComeBack, UnitsAreTold, fields_with, told, told_by}
-use Rattle.p25_c.specs.VoiceCalls.{call_asked, caller_left, is_kept, last_asked, may_take, pending_held, state_told, unit_told}
-use Rattle.p25_c.specs.declared.calls.CallerState.{CallerState}
+use Rattle.p25_c.specs.{Fields.{body_fields, frame_octets, frames_held}, Items.{parts_of}, ValueLaws.{CallsAreTold, FieldsComeBack, UnitsAreTold, fields_with, told, told_by}}
+use Rattle.p25_c.specs.{VoiceCalls.{call_asked, caller_left, is_kept, last_asked, may_take, pending_held, state_told, unit_told}, declared.calls.CallerState.{CallerState}}
 use Rattle.p25_c.specs.declared.fields.FieldParts.{FieldParts}
 use Rattle.p25_c.proofs.VoiceCallsLaws.{pending-back}
 

@@ -1,16 +1,10 @@
 -- What a caller keeps, as numbers and octets: it comes back as it was, and what it answers to items in their order are their calls.
 use Rattle.std.proofs.Common.{◌≡◌, ℕ, ◌+◌, ◌-◌, ◌<◌, ◌≤◌, ◌^◌, Bool, true, false, cond, ◌&&◌, List, [], ◌∷◌, ◌++◌, length, Option, Some, None, refl, sym, ap, ap₂, subst, ◌∙◌, arith}
-use Rattle.std.specs.Prelude.{IfSome, nat_le, option_to_list}
-use Rattle.std.specs.Cmp.{first_so, second_so}
 use Rattle.std.proofs.lemmas.Bool.{eq-eqb, eqb-true, le-leb, leb-true, lt-ltb, ltb-true}
+use Rattle.std.specs.{Prelude.{IfSome, nat_le, option_to_list}, Cmp.{first_so, second_so}}
 use Rattle.p25_link.specs.declared.link_control.LinkControl.{LinkControl}
-use Rattle.p25_calls.specs.declared.call.Call.{Call}
-use Rattle.p25_calls.specs.declared.call.CallEnd.{CallEnd}
-use Rattle.p25_calls.specs.declared.call.CallEnd.TheVariants.{Tdu, Tdulc, Open}
-use Rattle.p25_calls.specs.Taking.{IsPending}
-use Rattle.p25_c.specs.declared.calls.CallParts.{CallParts}
-use Rattle.p25_c.specs.declared.calls.CallerState.{CallerState}
-use Rattle.p25_c.specs.declared.items.ItemParts.{ItemParts}
+use Rattle.p25_calls.specs.{declared.call.Call.{Call}, declared.call.CallEnd.{CallEnd}, declared.call.CallEnd.TheVariants.{Tdu, Tdulc, Open}, Taking.{IsPending}}
+use Rattle.p25_c.specs.{declared.calls.CallParts.{CallParts}, declared.calls.CallerState.{CallerState}, declared.items.ItemParts.{ItemParts}}
 use Rattle.p25_c.specs.VoiceCalls.{call_held, call_told, end_held, end_number, has_link, has_number, is_kept, link_held, link_octets, may_take, number_held, number_or_zero, pending_held, state_told}
 use Rattle.p25_c.specs.Values.{flag, is_set}
 

@@ -1,13 +1,9 @@
 -- The numbers by which a caller makes room: how many octets always decide an item, how many a unit has, and what the parts of an item are below.
 use Rattle.std.specs.Prelude.{◌≡◌, ℕ, ◌-◌, ◌/◌, ◌<◌, ◌≤◌, Bool, true, List, [], ◌∷◌, length, Some, IfOk}
 use Rattle.p25_status.specs.declared.symbols.Status.{Status}
-use Rattle.p25_units.specs.Items.{covered}
-use Rattle.p25_units.specs.declared.item.Item.{Item}
-use Rattle.p25_c.specs.Building.{built, unit_bridged, unit_repaired}
-use Rattle.p25_c.specs.Items.{duid_told, is_inside, items_asked, nac_told}
-use Rattle.p25_c.specs.Places.{bridged_at, item_cut, repaired_at}
-use Rattle.p25_c.specs.Streams.{stream_asked, stream_room}
-use Rattle.p25_c.specs.declared.stream.Stream.{Stream}
+use Rattle.p25_units.specs.{Items.{covered}, declared.item.Item.{Item}}
+use Rattle.p25_c.specs.{Building.{built, unit_bridged, unit_repaired}, Items.{duid_told, is_inside, items_asked, nac_told}}
+use Rattle.p25_c.specs.{Places.{bridged_at, item_cut, repaired_at}, Streams.{stream_asked, stream_room}, declared.stream.Stream.{Stream}}
 
 -- ---- what decides an item
 

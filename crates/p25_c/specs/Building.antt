@@ -1,16 +1,11 @@
 -- The octets of units: built from lines, repaired, and under another network access code (NAC).
 use Rattle.std.specs.Prelude.{ℕ, ℤ, negsuc, Bool, if◌then◌else◌, List, [], ◌∷◌, take, Result, Ok, Err}
 use Rattle.p25_bits.specs.Bits.{octet_bits}
-use Rattle.p25_line.specs.declared.fault.LineFault.{LineFault}
-use Rattle.p25_line.specs.declared.fault.LineFault.TheVariants.{Long, Form, Kind, Key, Value}
+use Rattle.p25_line.specs.{declared.fault.LineFault.{LineFault}, declared.fault.LineFault.TheVariants.{Long, Form, Kind, Key, Value}}
 use Rattle.p25_status.specs.declared.symbols.Status.{Status}
-use Rattle.p25_stream.specs.Items.{items_of}
-use Rattle.p25_stream.specs.Repeats.{bridged, is_whole_item, repaired}
+use Rattle.p25_stream.specs.{Items.{items_of}, Repeats.{bridged, is_whole_item, repaired}}
 use Rattle.p25_text.specs.Grammar.{read_line_of}
-use Rattle.p25_units.specs.Items.{covered}
-use Rattle.p25_units.specs.UnitParts.{UnitParts}
-use Rattle.p25_units.specs.Units.{image_octets, whole_octets}
-use Rattle.p25_units.specs.declared.item.Item.{Item}
+use Rattle.p25_units.specs.{Items.{covered}, UnitParts.{UnitParts}, Units.{image_octets, whole_octets}, declared.item.Item.{Item}}
 
 -- -3: no whole unit begins there; -4: a network access code (NAC) has 12 bits; -5: a status symbol is 0 to 3
 abbrev pub no_unit : ℤ

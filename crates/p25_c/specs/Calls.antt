@@ -1,12 +1,9 @@
 -- What a series of calls tells: the items of a recording, one after the other, however its octets are cut.
-use Rattle.std.specs.Prelude.{◌≡◌, ℕ, ◌+◌, ◌*◌, pos, Bool, true, List, [], ◌∷◌, ◌++◌, length, map, Option, Some, None}
-use Rattle.std.specs.List.{sum_by}
+use Rattle.std.specs.{Prelude.{◌≡◌, ℕ, ◌+◌, ◌*◌, pos, Bool, true, List, [], ◌∷◌, ◌++◌, length, map, Option, Some, None}, List.{sum_by}}
 use Rattle.p25_bits.specs.Bits.{octet_bits}
 use Rattle.p25_stream.specs.Items.{items_of}
-use Rattle.p25_units.specs.Items.{covered}
-use Rattle.p25_units.specs.declared.item.Item.{Item}
-use Rattle.p25_c.specs.Items.{item_answer, item_left, items_asked, parts_of}
-use Rattle.p25_c.specs.declared.items.ItemParts.{ItemParts}
+use Rattle.p25_units.specs.{Items.{covered}, declared.item.Item.{Item}}
+use Rattle.p25_c.specs.{Items.{item_answer, item_left, items_asked, parts_of}, declared.items.ItemParts.{ItemParts}}
 
 -- what a call is given: octets, the bit at which the first of them stands, and whether none come after them
 pub record Given : Type 0 where

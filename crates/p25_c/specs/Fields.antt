@@ -1,22 +1,14 @@
 -- The fields of a unit as numbers and octets, without a text, and the unit that such fields are of.
 use Rattle.std.specs.Prelude.{ℕ, ℤ, pos, negsuc, ◌==◌, Bool, true, if◌then◌else◌, List, [], ◌∷◌, drop, map, replicate, Option, Some, None, Result, Ok, Err}
 use Rattle.p25_bch_nid.specs.Duids.{duid_hdu, duid_ldu1, duid_ldu2, duid_pdu, duid_tdu, duid_tdulc}
-use Rattle.p25_link.specs.declared.link_control.LinkKind.{LinkKind}
-use Rattle.p25_link.specs.declared.link_control.LinkKind.TheVariants.{Group, Individual, Other}
+use Rattle.p25_link.specs.{declared.link_control.LinkKind.{LinkKind}, declared.link_control.LinkKind.TheVariants.{Group, Individual, Other}}
 use Rattle.p25_status.specs.declared.symbols.Status.{Status}
-use Rattle.p25_units.specs.UnitParts.{UnitParts}
-use Rattle.p25_units.specs.Units.{image_octets}
-use Rattle.p25_units.specs.declared.item.Item.{Item}
-use Rattle.p25_units.specs.declared.item.Item.TheVariants.{Whole, Broken, NoUnit, Gap, Cut}
-use Rattle.p25_units.specs.declared.unit.Body.{Body}
+use Rattle.p25_units.specs.{UnitParts.{UnitParts}, Units.{image_octets}, declared.item.Item.{Item}}
+use Rattle.p25_units.specs.{declared.item.Item.TheVariants.{Whole, Broken, NoUnit, Gap, Cut}, declared.unit.Body.{Body}}
 use Rattle.p25_units.specs.declared.unit.Body.TheVariants.{Voice, Packet}
-use Rattle.p25_voice_units.specs.declared.unit.VoiceUnit.{VoiceUnit}
-use Rattle.p25_voice_units.specs.declared.unit.VoiceUnit.TheVariants.{Header, Link1, Link2, End, EndLink}
+use Rattle.p25_voice_units.specs.{declared.unit.VoiceUnit.{VoiceUnit}, declared.unit.VoiceUnit.TheVariants.{Header, Link1, Link2, End, EndLink}}
 use Rattle.p25_voice_units.specs.declared.voice.VoiceFrame.{VoiceFrame}
-use Rattle.p25_c.specs.Building.{no_unit}
-use Rattle.p25_c.specs.Values.{flag}
-use Rattle.p25_c.specs.declared.fields.FieldParts.{FieldParts}
-use Rattle.p25_c.specs.declared.links.LinkParts.{LinkParts}
+use Rattle.p25_c.specs.{Building.{no_unit}, Values.{flag}, declared.fields.FieldParts.{FieldParts}, declared.links.LinkParts.{LinkParts}}
 
 -- ---- link control
 

@@ -4,13 +4,8 @@ use Rattle.p25_bits.specs.Bits.{octet_bits, part}
 use Rattle.p25_follow.specs.Followed.{follow_of}
 use Rattle.p25_recording_filters.specs.Commands.{followed_reporting}
 use Rattle.p25_stream.specs.Items.{items_of}
-use Rattle.p25_units.specs.Items.{covered, place_of}
-use Rattle.p25_units.specs.Units.{whole_octets}
-use Rattle.p25_units.specs.declared.item.Item.{Item}
-use Rattle.p25_c.specs.Calls.{Given, IsPiece}
-use Rattle.p25_c.specs.Followers.{follower_told, fresh_follower, item_held, item_raw, parts_held}
-use Rattle.p25_c.specs.Items.{parts_of}
-use Rattle.p25_c.specs.Places.{has_item}
+use Rattle.p25_units.specs.{Items.{covered, place_of}, Units.{whole_octets}, declared.item.Item.{Item}}
+use Rattle.p25_c.specs.{Calls.{Given, IsPiece}, Followers.{follower_told, fresh_follower, item_held, item_raw, parts_held}, Items.{parts_of}, Places.{has_item}}
 use Rattle.p25_c.specs.declared.followers.FollowerState.{FollowerState}
 
 -- what a follower writes of items that it takes by their numbers, which lie end to end over some bits, and at the end

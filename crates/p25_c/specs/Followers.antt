@@ -3,13 +3,8 @@ use Rattle.std.specs.Prelude.{ℕ, ℤ, ◌+◌, ◌-◌, ◌*◌, ◌/◌, ◌%
 use Rattle.p25_bits.specs.Bits.{bits_of, field_of, octet_bits, part}
 use Rattle.p25_follow.specs.Following.{Follow, follow}
 use Rattle.p25_recording_filters.specs.Commands.{FollowedParts, followed_reporting}
-use Rattle.p25_units.specs.Units.{whole_octets}
-use Rattle.p25_units.specs.declared.item.Item.{Item}
-use Rattle.p25_units.specs.declared.item.Item.TheVariants.{Broken, Gap, Cut}
-use Rattle.p25_c.specs.Places.{filled, has_item, outside}
-use Rattle.p25_c.specs.Rooms.{write_left}
-use Rattle.p25_c.specs.Values.{is_set}
-use Rattle.p25_c.specs.declared.followers.FollowerState.{FollowerState}
+use Rattle.p25_units.specs.{Units.{whole_octets}, declared.item.Item.{Item}, declared.item.Item.TheVariants.{Broken, Gap, Cut}}
+use Rattle.p25_c.specs.{Places.{filled, has_item, outside}, Rooms.{write_left}, Values.{is_set}, declared.followers.FollowerState.{FollowerState}}
 use Rattle.p25_c.specs.declared.items.ItemParts.{ItemParts}
 
 -- ---- what is kept

@@ -3,12 +3,9 @@ use Rattle.std.specs.Prelude.{ℕ, ℤ, pos, negsuc, ◌+◌, ◌-◌, ◌*◌, 
 use Rattle.p25_bits.specs.Bits.{octet_bits}
 use Rattle.p25_stream.specs.Items.{items_by}
 use Rattle.p25_text.specs.ItemTexts.{item_text_of}
-use Rattle.p25_units.specs.Items.{covered, place_of}
-use Rattle.p25_units.specs.Units.{body_duid}
-use Rattle.p25_units.specs.declared.item.Item.{Item}
+use Rattle.p25_units.specs.{Items.{covered, place_of}, Units.{body_duid}, declared.item.Item.{Item}}
 use Rattle.p25_units.specs.declared.item.Item.TheVariants.{Whole, Broken, NoUnit, Gap, Cut}
-use Rattle.p25_c.specs.Rooms.{text_left}
-use Rattle.p25_c.specs.declared.items.ItemParts.{ItemParts}
+use Rattle.p25_c.specs.{Rooms.{text_left}, declared.items.ItemParts.{ItemParts}}
 
 -- an item may be asked for at a place, where so many octets of the recording stand from bit `begin` on, a multiple of 8: at one of
 -- their bits or at their end

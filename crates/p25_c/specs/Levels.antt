@@ -1,11 +1,7 @@
 -- Units read from levels.
 use Rattle.std.specs.Prelude.{ℕ, ℤ, ◌==◌, nat_le, Bool, if◌then◌else◌, List, length, Result, Ok, Err}
-use Rattle.p25_soft.specs.Levels.{hard_bits}
-use Rattle.p25_soft.specs.Softened.{softened}
-use Rattle.p25_units.specs.Items.{unit_item_of}
-use Rattle.p25_units.specs.Needs.{need_of}
-use Rattle.p25_units.specs.Units.{whole_octets}
-use Rattle.p25_units.specs.declared.needs.Need.{Need}
+use Rattle.p25_soft.specs.{Levels.{hard_bits}, Softened.{softened}}
+use Rattle.p25_units.specs.{Items.{unit_item_of}, Needs.{need_of}, Units.{whole_octets}, declared.needs.Need.{Need}}
 use Rattle.p25_units.specs.declared.needs.Need.TheVariants.{NoSync, More, Length, NoLength}
 use Rattle.p25_c.specs.Places.{filled, outside}
 

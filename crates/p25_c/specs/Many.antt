@@ -1,8 +1,7 @@
 -- Many items of a recording, by their numbers alone.
 use Rattle.std.specs.Prelude.{ℕ, ℤ, pos, negsuc, min, List, ◌++◌, length, take, drop, map, Option, Some, None}
 use Rattle.p25_units.specs.declared.item.Item.{Item}
-use Rattle.p25_c.specs.Items.{parts_of}
-use Rattle.p25_c.specs.declared.items.ItemParts.{ItemParts}
+use Rattle.p25_c.specs.{Items.{parts_of}, declared.items.ItemParts.{ItemParts}}
 
 -- the numbers of an item whose text is not made
 abbrev pub numbers_of : Item → ItemParts

@@ -1,27 +1,15 @@
 -- Packets (PDU) as numbers and octets, and the packet that such numbers are of.
 use Rattle.std.specs.Prelude.{ℕ, zero, suc, ℤ, pos, negsuc, ◌-◌, ◌*◌, ◌/◌, ◌%◌, ◌==◌, ◌&&◌, ◌||◌, nat_le, nat_lt, Bool, true, false, if◌then◌else◌, List, [], ◌∷◌, ◌++◌, drop, length, map, replicate, slice_index, take, count_by, Option, Some, None, Result, Ok, Err}
-use Rattle.std.specs.List.{flat_map}
-use Rattle.std.specs.Option.{option_map}
+use Rattle.std.specs.{List.{flat_map}, Option.{option_map}}
 use Rattle.p25_bits.specs.Bits.{octet_bits, part}
 use Rattle.p25_packet_blocks.specs.Heads.{confirmed_format, head_blocks, head_format, head_is_full, head_llid, head_number, head_pad, head_syn, plain_format, response_class, response_format, response_kind, response_status}
-use Rattle.p25_packet_blocks.specs.Reading.{confirmed_by_parts, plain_by_parts}
-use Rattle.p25_packet_blocks.specs.UnitReading.{packet_unit_of}
-use Rattle.p25_packet_blocks.specs.declared.block.Slot.{Slot}
-use Rattle.p25_packet_blocks.specs.declared.block.Slot.TheVariants.{Good, Bad}
-use Rattle.p25_packet_blocks.specs.declared.head.PacketHead.{PacketHead}
-use Rattle.p25_packet_blocks.specs.declared.packet.Packet.{Packet}
+use Rattle.p25_packet_blocks.specs.{Reading.{confirmed_by_parts, plain_by_parts}, UnitReading.{packet_unit_of}, declared.block.Slot.{Slot}}
+use Rattle.p25_packet_blocks.specs.{declared.block.Slot.TheVariants.{Good, Bad}, declared.head.PacketHead.{PacketHead}, declared.packet.Packet.{Packet}}
 use Rattle.p25_packet_blocks.specs.declared.packet.Packet.TheVariants.{Confirmed, Plain}
-use Rattle.p25_status.specs.declared.fields.Field.{Field}
-use Rattle.p25_status.specs.declared.fields.Field.TheVariants.{Format, Length, PacketCrc, PacketHeader, Sync}
+use Rattle.p25_status.specs.{declared.fields.Field.{Field}, declared.fields.Field.TheVariants.{Format, Length, PacketCrc, PacketHeader, Sync}}
 use Rattle.p25_status.specs.declared.symbols.Status.{Status}
-use Rattle.p25_units.specs.UnitParts.{UnitParts}
-use Rattle.p25_units.specs.Units.{image_octets}
-use Rattle.p25_units.specs.declared.unit.Body.TheVariants.{Packet as packet_body}
-use Rattle.p25_c.specs.Building.{no_unit}
-use Rattle.p25_c.specs.Items.{is_inside}
-use Rattle.p25_c.specs.Rooms.{written}
-use Rattle.p25_c.specs.Values.{flag, is_set}
-use Rattle.p25_c.specs.declared.packets.PacketParts.{PacketParts}
+use Rattle.p25_units.specs.{UnitParts.{UnitParts}, Units.{image_octets}, declared.unit.Body.TheVariants.{Packet as packet_body}}
+use Rattle.p25_c.specs.{Building.{no_unit}, Items.{is_inside}, Rooms.{written}, Values.{flag, is_set}, declared.packets.PacketParts.{PacketParts}}
 
 -- ---- a packet that is read
 

@@ -3,10 +3,8 @@ use Rattle.std.specs.Prelude.{ℕ, ℤ, negsuc, ◌+◌, ◌-◌, ◌*◌, ◌%�
 use Rattle.p25_bits.specs.Bits.{bits_of, octet_bits, part}
 use Rattle.p25_status.specs.declared.symbols.Status.{Status}
 use Rattle.p25_stream.specs.Repeats.{bridged, repaired}
-use Rattle.p25_units.specs.Units.{whole_octets}
-use Rattle.p25_units.specs.declared.item.Item.{Item}
-use Rattle.p25_c.specs.Building.{first_changed}
-use Rattle.p25_c.specs.Items.{is_inside, items_asked}
+use Rattle.p25_units.specs.{Units.{whole_octets}, declared.item.Item.{Item}}
+use Rattle.p25_c.specs.{Building.{first_changed}, Items.{is_inside, items_asked}}
 
 -- -1: what is asked for is not among these octets
 abbrev pub outside : ℤ

@@ -3,11 +3,8 @@ use Rattle.std.specs.Prelude.{ℕ, ℤ, ◌-◌, Bool, true, List, [], ◌∷◌
 use Rattle.p25_bits.specs.Bits.{octet_bits}
 use Rattle.p25_follow.specs.Relayed.{relayed}
 use Rattle.p25_status.specs.declared.symbols.Status.{Status}
-use Rattle.p25_units.specs.Items.{covered}
-use Rattle.p25_units.specs.Units.{whole_octets}
-use Rattle.p25_units.specs.declared.item.Item.{Item}
-use Rattle.p25_c.specs.Items.{items_asked}
-use Rattle.p25_c.specs.Places.{filled, outside}
+use Rattle.p25_units.specs.{Items.{covered}, Units.{whole_octets}, declared.item.Item.{Item}}
+use Rattle.p25_c.specs.{Items.{items_asked}, Places.{filled, outside}}
 
 -- the octets of what is forwarded in place of the first of some items, which lie end to end over some bits; none where there is no item
 abbrev pub first_relayed : ℕ → Status → List Item → List Bool → List ℕ

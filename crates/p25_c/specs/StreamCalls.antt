@@ -1,10 +1,8 @@
 -- What a series of calls on a stream tells: the items of all that was pushed, however it was cut.
-use Rattle.std.specs.Prelude.{◌≡◌, ℕ, true, false, Bool, List, [], ◌∷◌, ◌++◌, Option, Some}
-use Rattle.std.specs.List.{flat_map}
+use Rattle.std.specs.{Prelude.{◌≡◌, ℕ, true, false, Bool, List, [], ◌∷◌, ◌++◌, Option, Some}, List.{flat_map}}
 use Rattle.p25_stream.specs.Items.{items_of}
 use Rattle.p25_units.specs.declared.item.Item.{Item}
-use Rattle.p25_c.specs.Streams.{HasTaken, fresh_stream, has_ended, stream_asked, stream_moved}
-use Rattle.p25_c.specs.declared.stream.Stream.{Stream}
+use Rattle.p25_c.specs.{Streams.{HasTaken, fresh_stream, has_ended, stream_asked, stream_moved}, declared.stream.Stream.{Stream}}
 
 -- a call on a stream: it took some bits, those of octets or of dibits, or it told an item
 pub data StreamCall : Type 0 where

@@ -1,13 +1,8 @@
 -- Streams: recordings that come piece by piece.
 use Rattle.std.specs.Prelude.{◌≡◌, ◌≢◌, ℕ, ℤ, pos, negsuc, ◌+◌, ◌-◌, ◌*◌, ◌/◌, ◌^◌, ◌==◌, ◌&&◌, not, min, nat_le, nat_lt, Bool, true, false, if◌then◌else◌, List, [], ◌∷◌, ◌++◌, length, take, drop, replicate, Option, Some, None}
-use Rattle.p25_bits.specs.Bits.{bits_of, octet_bits}
-use Rattle.p25_bits.specs.Numbers.{number_bits}
-use Rattle.p25_units.specs.Items.{covered}
-use Rattle.p25_units.specs.declared.item.Item.{Item}
-use Rattle.p25_c.specs.Items.{is_inside, items_asked, parts_of}
-use Rattle.p25_c.specs.Many.{numbers_of}
-use Rattle.p25_c.specs.declared.items.ItemParts.{ItemParts}
-use Rattle.p25_c.specs.declared.stream.Stream.{Stream}
+use Rattle.p25_bits.specs.{Bits.{bits_of, octet_bits}, Numbers.{number_bits}}
+use Rattle.p25_units.specs.{Items.{covered}, declared.item.Item.{Item}}
+use Rattle.p25_c.specs.{Items.{is_inside, items_asked, parts_of}, Many.{numbers_of}, declared.items.ItemParts.{ItemParts}, declared.stream.Stream.{Stream}}
 
 -- a stream that begins: it holds nothing
 abbrev pub fresh_stream : Stream

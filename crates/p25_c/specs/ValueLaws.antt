@@ -1,16 +1,10 @@
 -- What makes values believable: they say what the items of a recording say, and what a caller answers to them are its calls.
 use Rattle.std.specs.Prelude.{◌≡◌, ℕ, ◌+◌, ◌<◌, ◌^◌, List, [], ◌∷◌, ◌++◌, length, All, Option, Some, None, option_to_list}
-use Rattle.p25_calls.specs.CallLaws.{LieFrom}
-use Rattle.p25_calls.specs.Calls.{calls_of}
-use Rattle.p25_calls.specs.Seen.{unit_of}
-use Rattle.p25_calls.specs.declared.call.Call.{Call}
-use Rattle.p25_units.specs.Items.{place_of}
-use Rattle.p25_units.specs.declared.item.Item.{Item}
+use Rattle.p25_calls.specs.{CallLaws.{LieFrom}, Calls.{calls_of}, Seen.{unit_of}, declared.call.Call.{Call}}
+use Rattle.p25_units.specs.{Items.{place_of}, declared.item.Item.{Item}}
 use Rattle.p25_voice_units.specs.declared.unit.VoiceUnit.{VoiceUnit}
-use Rattle.p25_c.specs.Fields.{item_unit, no_fields, unit_left, voice_fields, voice_held}
-use Rattle.p25_c.specs.Items.{parts_of}
-use Rattle.p25_c.specs.VoiceCalls.{call_asked, caller_left, last_asked, pending_held, state_told, unit_told}
-use Rattle.p25_c.specs.declared.calls.CallerState.{CallerState}
+use Rattle.p25_c.specs.{Fields.{item_unit, no_fields, unit_left, voice_fields, voice_held}, Items.{parts_of}}
+use Rattle.p25_c.specs.{VoiceCalls.{call_asked, caller_left, last_asked, pending_held, state_told, unit_told}, declared.calls.CallerState.{CallerState}}
 use Rattle.p25_c.specs.declared.fields.FieldParts.{FieldParts}
 
 -- the fields that a caller is given with an item: those of a whole unit, and any of another item

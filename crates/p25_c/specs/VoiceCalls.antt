@@ -1,17 +1,10 @@
 -- Calls told as numbers and octets, and what a caller keeps between items.
 use Rattle.std.specs.Prelude.{ℕ, ℤ, pos, negsuc, ◌+◌, ◌-◌, ◌^◌, ◌==◌, ◌&&◌, nat_le, nat_lt, Bool, true, false, if◌then◌else◌, List, replicate, Option, Some, None}
-use Rattle.p25_calls.specs.Seen.{broken_unit}
-use Rattle.p25_calls.specs.Taking.{linked_pending, unit_answer, unit_pending}
-use Rattle.p25_calls.specs.declared.call.Call.{Call}
-use Rattle.p25_calls.specs.declared.call.CallEnd.{CallEnd}
-use Rattle.p25_calls.specs.declared.call.CallEnd.TheVariants.{Tdu, Tdulc, Open}
-use Rattle.p25_calls.specs.declared.seen.UnitSeen.{UnitSeen}
+use Rattle.p25_calls.specs.{Seen.{broken_unit}, Taking.{linked_pending, unit_answer, unit_pending}, declared.call.Call.{Call}, declared.call.CallEnd.{CallEnd}}
+use Rattle.p25_calls.specs.{declared.call.CallEnd.TheVariants.{Tdu, Tdulc, Open}, declared.seen.UnitSeen.{UnitSeen}}
 use Rattle.p25_link.specs.declared.link_control.LinkControl.{LinkControl}
-use Rattle.p25_c.specs.Values.{flag, is_set}
-use Rattle.p25_c.specs.declared.calls.CallParts.{CallParts}
-use Rattle.p25_c.specs.declared.calls.CallerState.{CallerState}
-use Rattle.p25_c.specs.declared.fields.FieldParts.{FieldParts}
-use Rattle.p25_c.specs.declared.items.ItemParts.{ItemParts}
+use Rattle.p25_c.specs.{Values.{flag, is_set}, declared.calls.CallParts.{CallParts}, declared.calls.CallerState.{CallerState}}
+use Rattle.p25_c.specs.{declared.fields.FieldParts.{FieldParts}, declared.items.ItemParts.{ItemParts}}
 
 -- ---- a call as numbers and octets, and back
 

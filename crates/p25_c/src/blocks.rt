@@ -6,8 +6,7 @@
 ghost use Rattle.std.specs.Prelude.{◌≡◌, ◌++◌};
 ghost use Rattle.p25_bits.specs.Bits.{bits_of, octet_bits};
 ghost use Rattle.p25_trellis.specs.Nearest.{half_block, half_octets, nearest_distance, three_quarter_block, three_quarter_octets};
-ghost use Rattle.p25_trellis.specs.Tables.{half_point, three_quarter_point};
-ghost use Rattle.p25_trellis.specs.Trellis.{IsFirstLeastReading};
+ghost use Rattle.p25_trellis.specs.{Tables.{half_point, three_quarter_point}, Trellis.{IsFirstLeastReading}};
 ghost use Rattle.p25_soft.specs.SoftPaths.{soft_cost, soft_octets};
 ghost use Rattle.p25_word_calls.specs.Blocks.{block_bits};
 

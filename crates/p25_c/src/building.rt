@@ -1,10 +1,8 @@
 //! Octets of units: built from lines, repaired, and under another network access code (NAC).
 
 ghost use Rattle.std.specs.Prelude.{◌≡◌, ◌<◌, ◌≤◌, pos, Ok, Err};
-ghost use Rattle.p25_c.specs.Building.{built, fault_answer, unit_bridged, unit_repaired, wrong_nac, wrong_status};
-ghost use Rattle.p25_c.specs.Rooms.{IsWriting};
-ghost use Rattle.p25_status.specs.Status.{status_number};
-ghost use Rattle.p25_status.specs.declared.symbols.Status.{Status as Symbol};
+ghost use Rattle.p25_c.specs.{Building.{built, fault_answer, unit_bridged, unit_repaired, wrong_nac, wrong_status}, Rooms.{IsWriting}};
+ghost use Rattle.p25_status.specs.{Status.{status_number}, declared.symbols.Status.{Status as Symbol}};
 ghost use Rattle.p25_stream.specs.Repeats.{is_whole_item};
 ghost use Rattle.p25_units.specs.Units.{IsSendableBody, image_octets, whole_octets};
 

@@ -1,8 +1,7 @@
 //! Calls, as the items of a recording come: what is kept between them stands with the caller of these functions.
 
 ghost use Rattle.std.specs.Prelude.{◌≡◌, ◌+◌, ◌^◌, ◌<◌, None, Option, Some, IfSome};
-ghost use Rattle.p25_calls.specs.Seen.{unit_end};
-ghost use Rattle.p25_calls.specs.Taking.{linked_pending};
+ghost use Rattle.p25_calls.specs.{Seen.{unit_end}, Taking.{linked_pending}};
 ghost use Rattle.p25_c.specs.VoiceCalls.{call_answer, call_asked, call_held, call_left, call_told, caller_left, end_held, end_number, finished_left, has_link, is_kept, last_asked, link_held, link_octets, may_take, no_call, number_held, pending_held, state_told, unit_told};
 
 use crate::fields::FieldParts;

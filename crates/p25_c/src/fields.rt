@@ -3,10 +3,8 @@
 ghost use Rattle.std.specs.Prelude.{◌≡◌, ℕ, ◌<◌, ◌≤◌, pos, Err, length, true};
 ghost use Rattle.p25_c.specs.Building.{wrong_nac, wrong_status};
 ghost use Rattle.p25_c.specs.Fields.{body_fields, fields_answer, fields_built, fields_left, frame_octets, frames_held, item_unit, no_fields, unit_answer, unit_left, voice_fields, voice_held};
-ghost use Rattle.p25_c.specs.Items.{items_asked};
-ghost use Rattle.p25_c.specs.Rooms.{IsWriting};
-ghost use Rattle.p25_status.specs.Status.{status_number};
-ghost use Rattle.p25_status.specs.declared.symbols.Status.{Status as Symbol};
+ghost use Rattle.p25_c.specs.{Items.{items_asked}, Rooms.{IsWriting}};
+ghost use Rattle.p25_status.specs.{Status.{status_number}, declared.symbols.Status.{Status as Symbol}};
 
 use crate::building::{NO_UNIT, WRONG_NAC, WRONG_STATUS};
 use crate::items::{OUTSIDE, blank, find_at, is_inside};

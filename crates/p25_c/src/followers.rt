@@ -2,12 +2,9 @@
 
 ghost use Rattle.std.specs.Prelude.{◌≡◌, ◌<◌, ◌≤◌, Ok, true, length, replicate};
 ghost use Rattle.p25_c.specs.Followers.{ended_left, followed_octets, follower_left, follower_told, fresh_follower, has_name, is_follower, is_item_told, is_unit_told, item_held, last_octets, may_follow, name_duid, name_held, name_nac, parts_held};
-ghost use Rattle.p25_c.specs.Places.{filled};
-ghost use Rattle.p25_c.specs.Rooms.{IsWriting, write_left};
-ghost use Rattle.p25_follow.specs.Expected.{names_of};
-ghost use Rattle.p25_follow.specs.Relayed.{IsFitItem};
-ghost use Rattle.p25_units.specs.Items.{IsSoundItem, covered, place_of};
-ghost use Rattle.p25_units.specs.Units.{whole_octets};
+ghost use Rattle.p25_c.specs.{Places.{filled}, Rooms.{IsWriting, write_left}};
+ghost use Rattle.p25_follow.specs.{Expected.{names_of}, Relayed.{IsFitItem}};
+ghost use Rattle.p25_units.specs.{Items.{IsSoundItem, covered, place_of}, Units.{whole_octets}};
 
 use crate::building::{write_bits, written};
 use crate::items::{ItemParts, OUTSIDE};

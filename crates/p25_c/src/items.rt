@@ -4,8 +4,7 @@ ghost use Rattle.std.specs.Prelude.{◌≡◌, ◌≤◌, [], ◌∷◌, false, 
 ghost use Rattle.p25_c.specs.Items.{duid_told, fixes_told, is_inside, item_answer, item_left, item_text_left, items_asked, kind_number, nac_told, parts_of};
 ghost use Rattle.p25_c.specs.Rooms.{text_left};
 ghost use Rattle.p25_text.specs.ItemTexts.{item_text_of};
-ghost use Rattle.p25_units.specs.Items.{IsSoundItem};
-ghost use Rattle.p25_units.specs.declared.item.Item.{Item as item_type};
+ghost use Rattle.p25_units.specs.{Items.{IsSoundItem}, declared.item.Item.{Item as item_type}};
 
 use crate::room::write_text;
 use p25_line::Line;

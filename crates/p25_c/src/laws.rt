@@ -1,10 +1,8 @@
 //! What a series of calls comes to, what values say, and the numbers by which a caller makes room.
 
 ghost use Rattle.p25_c.specs.BoundsLaws.{BridgedAreUnits, BuiltAreUnits, CutsAreShort, EnoughDecide, ItemsAreBounded, RepairedAreUnits, StreamsHaveRoom};
-ghost use Rattle.p25_c.specs.Calls.{CallsTellAll, CallsTellTheFirst, SetsAreItems};
-ghost use Rattle.p25_c.specs.StreamCalls.{StreamsTellAll, StreamsTellTheFirst};
-ghost use Rattle.p25_c.specs.FollowerLaws.{FollowersFollow, ItemsAreCut};
-ghost use Rattle.p25_c.specs.ValueLaws.{CallsAreTold, FieldsComeBack, UnitsAreTold};
+ghost use Rattle.p25_c.specs.{Calls.{CallsTellAll, CallsTellTheFirst, SetsAreItems}, StreamCalls.{StreamsTellAll, StreamsTellTheFirst}};
+ghost use Rattle.p25_c.specs.{FollowerLaws.{FollowersFollow, ItemsAreCut}, ValueLaws.{CallsAreTold, FieldsComeBack, UnitsAreTold}};
 
 /// **Theorem.** Calls that ask for place 0 and then for the place at which the item before ends tell the items of the recording in
 /// order, whatever pieces of it they are given.

@@ -3,8 +3,7 @@
 //! There is a level for every two bits, a number from -128 to 127: 96 stands for 01, 32 for 00, -32 for 10 and -96 for 11.
 
 ghost use Rattle.std.specs.Prelude.{◌≡◌, ◌*◌, ◌%◌, ◌≤◌, length};
-ghost use Rattle.p25_c.specs.Levels.{octets_softened, softened_by};
-ghost use Rattle.p25_c.specs.Rooms.{IsWriting};
+ghost use Rattle.p25_c.specs.{Levels.{octets_softened, softened_by}, Rooms.{IsWriting}};
 ghost use Rattle.p25_soft.specs.Levels.{hard_bits, hard_dibit, nominal_level};
 ghost use Rattle.p25_units.specs.Needs.{need_of};
 

@@ -2,8 +2,7 @@
 
 ghost use Rattle.std.specs.Prelude.{◌≡◌, ◌-◌, ◌≤◌, pos, Some, true, length, drop};
 ghost use Rattle.p25_bits.specs.Bits.{octet_bits};
-ghost use Rattle.p25_c.specs.Items.{is_inside, items_asked};
-ghost use Rattle.p25_c.specs.Many.{many_answer, many_left, numbers_of};
+ghost use Rattle.p25_c.specs.{Items.{is_inside, items_asked}, Many.{many_answer, many_left, numbers_of}};
 ghost use Rattle.p25_stream.specs.Items.{items_by};
 
 use crate::items::{ItemParts, OUTSIDE, blank, fixes, identifier, is_inside, kind};

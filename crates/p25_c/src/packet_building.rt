@@ -1,15 +1,11 @@
 //! Packets (PDU) built from numbers and octets.
 
 ghost use Rattle.std.specs.Prelude.{◌≡◌, ℕ, ◌-◌, ◌*◌, ◌<◌, ◌≤◌, pos, Err, IfSome, slice_index, take, true};
-ghost use Rattle.p25_c.specs.Building.{wrong_nac, wrong_status};
-ghost use Rattle.p25_c.specs.Packets.{confirmed_of, is_sendable_at, packet_built, packet_held, slot_held, slots_held};
+ghost use Rattle.p25_c.specs.{Building.{wrong_nac, wrong_status}, Packets.{confirmed_of, is_sendable_at, packet_built, packet_held, slot_held, slots_held}};
 ghost use Rattle.p25_c.specs.Rooms.{IsWriting};
-ghost use Rattle.p25_packet_blocks.specs.Heads.{confirmed_format, head_blocks, head_format};
-ghost use Rattle.p25_packet_blocks.specs.Kinds.{IsPlainFormat};
-ghost use Rattle.p25_packet_blocks.specs.Reading.{plain_by_parts};
+ghost use Rattle.p25_packet_blocks.specs.{Heads.{confirmed_format, head_blocks, head_format}, Kinds.{IsPlainFormat}, Reading.{plain_by_parts}};
 ghost use Rattle.p25_packet_blocks.specs.Whole.{IsWholePacket};
-ghost use Rattle.p25_status.specs.Status.{status_number};
-ghost use Rattle.p25_status.specs.declared.symbols.Status.{Status as Symbol};
+ghost use Rattle.p25_status.specs.{Status.{status_number}, declared.symbols.Status.{Status as Symbol}};
 
 use crate::building::{WRONG_NAC, WRONG_STATUS};
 use crate::packets::PacketParts;

@@ -1,7 +1,6 @@
 //! Packets (PDU) as numbers and octets.
 
-ghost use Rattle.std.specs.Prelude.{◌≡◌, ◌*◌, ◌≤◌, count_by, length, map};
-ghost use Rattle.std.specs.List.{flat_map};
+ghost use Rattle.std.specs.{Prelude.{◌≡◌, ◌*◌, ◌≤◌, count_by, length, map}, List.{flat_map}};
 ghost use Rattle.p25_c.specs.Packets.{bits_packet, head_told, is_bad, no_packet, packet_answer, packet_asked, packet_bad, packet_fault, packet_left, packet_told, slot_good, slot_octets, slot_serial, slots_told, unit_bits, with_flags, with_lengths, with_response};
 ghost use Rattle.p25_bits.specs.Bits.{octet_bits};
 

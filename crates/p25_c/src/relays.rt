@@ -2,12 +2,9 @@
 
 ghost use Rattle.std.specs.Prelude.{◌≡◌, ◌+◌, ◌*◌, ◌^◌, ◌<◌, ◌≤◌, Err, length};
 ghost use Rattle.p25_bits.specs.Bits.{octet_bits, part};
-ghost use Rattle.p25_c.specs.Building.{wrong_nac, wrong_status};
-ghost use Rattle.p25_c.specs.Relays.{relayed_at};
-ghost use Rattle.p25_c.specs.Rooms.{IsWriting};
+ghost use Rattle.p25_c.specs.{Building.{wrong_nac, wrong_status}, Relays.{relayed_at}, Rooms.{IsWriting}};
 ghost use Rattle.p25_follow.specs.Relayed.{IsFitItem, relayed};
-ghost use Rattle.p25_status.specs.Status.{status_number};
-ghost use Rattle.p25_status.specs.declared.symbols.Status.{Status as Symbol};
+ghost use Rattle.p25_status.specs.{Status.{status_number}, declared.symbols.Status.{Status as Symbol}};
 ghost use Rattle.p25_units.specs.Items.{IsSoundItem, covered};
 
 use crate::building::{WRONG_NAC, WRONG_STATUS, write_bits};

@@ -2,12 +2,9 @@
 
 ghost use Rattle.std.specs.Prelude.{◌≡◌, ◌+◌, ◌-◌, ◌*◌, ◌^◌, ◌<◌, ◌≤◌, Err, Ok, true, length};
 ghost use Rattle.p25_bits.specs.Bits.{octet_bits, part};
-ghost use Rattle.p25_c.specs.Building.{wrong_nac, wrong_status};
-ghost use Rattle.p25_c.specs.Items.{is_inside};
-ghost use Rattle.p25_c.specs.Places.{bridged_at, filled, has_item, item_cut, repaired_at};
+ghost use Rattle.p25_c.specs.{Building.{wrong_nac, wrong_status}, Items.{is_inside}, Places.{bridged_at, filled, has_item, item_cut, repaired_at}};
 ghost use Rattle.p25_c.specs.Rooms.{IsWriting};
-ghost use Rattle.p25_status.specs.Status.{status_number};
-ghost use Rattle.p25_status.specs.declared.symbols.Status.{Status as Symbol};
+ghost use Rattle.p25_status.specs.{Status.{status_number}, declared.symbols.Status.{Status as Symbol}};
 
 use crate::building::{NO_UNIT, WRONG_NAC, WRONG_STATUS, is_whole, write_bits};
 use crate::items::{ItemParts, OUTSIDE, blank, find_at, is_inside};

@@ -3,9 +3,7 @@
 //! A stream is its numbers, and nothing else is kept: a call takes any, and refuses one whose numbers fit no stream.
 
 ghost use Rattle.std.specs.Prelude.{◌≡◌, ◌-◌, ◌≤◌, ◌==◌, true, min, pos, length, if◌then◌else◌};
-ghost use Rattle.p25_c.specs.Items.{item_answer, item_text_left, parts_of};
-ghost use Rattle.p25_c.specs.Many.{numbers_of};
-ghost use Rattle.p25_c.specs.Rooms.{text_left};
+ghost use Rattle.p25_c.specs.{Items.{item_answer, item_text_left, parts_of}, Many.{numbers_of}, Rooms.{text_left}};
 ghost use Rattle.p25_c.specs.Streams.{HasSameBits, IsAppended, IsDibitsPushed, IsPushed, fresh_stream, is_stream, item_told, stream_asked, stream_moved, stream_room};
 ghost use Rattle.p25_text.specs.ItemTexts.{item_text_of};
 ghost use Rattle.p25_units.specs.Items.{IsSoundItem};

@@ -1,11 +1,8 @@
 -- What each item is answered by, from what all items are: the answers to joined items are taken apart at the join, by induction on the first ones.
 use Rattle.std.proofs.Common.{◌≡◌, ℕ, ◌+◌, true, false, List, [], ◌∷◌, ◌++◌, refl, sym, ap, ap₂, ◌∙◌, append_assoc, append-nil}
 use Rattle.std.specs.Prelude.{option_to_list}
-use Rattle.p25_units.specs.Items.{covered}
-use Rattle.p25_units.specs.declared.item.Item.{Item}
-use Rattle.p25_calls.specs.declared.call.Call.{Call}
-use Rattle.p25_calls.specs.CallLaws.{EachIsClosed, LastIsOpen, LieFrom}
-use Rattle.p25_calls.specs.Taking.{CallerParts, answer_to, answers_by, behind_item, behind_items, fresh_caller, open_call}
+use Rattle.p25_units.specs.{Items.{covered}, declared.item.Item.{Item}}
+use Rattle.p25_calls.specs.{declared.call.Call.{Call}, CallLaws.{EachIsClosed, LastIsOpen, LieFrom}, Taking.{CallerParts, answer_to, answers_by, behind_item, behind_items, fresh_caller, open_call}}
 use Rattle.p25_calls.proofs.TakingLaws.{answers-are-calls}
 
 lie-front : (at : ℕ) (items more : List Item) → LieFrom at (items ++ more) → LieFrom at items

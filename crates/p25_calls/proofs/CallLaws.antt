@@ -1,14 +1,8 @@
 -- Runs as calls: a run with one unit more, and which runs are calls. Counts and first ones of joined lists are taken apart at the join.
-use Rattle.std.proofs.Common.{◌≡◌, ℕ, ◌+◌, Bool, true, false, cond, ◌&&◌, ◌||◌, List, [], ◌∷◌, ◌++◌, map, Option, Some, None, refl, sym, ap, ◌∙◌, arith}
-use Rattle.std.specs.Prelude.{count_by, filter, nat_lt, option_to_list}
-use Rattle.std.specs.List.{list_all, list_any}
-use Rattle.std.specs.Option.{option_or}
-use Rattle.std.proofs.lemmas.Bool.{cond-false, lt-ltb}
+use Rattle.std.proofs.{Common.{◌≡◌, ℕ, ◌+◌, Bool, true, false, cond, ◌&&◌, ◌||◌, List, [], ◌∷◌, ◌++◌, map, Option, Some, None, refl, sym, ap, ◌∙◌, arith}, lemmas.Bool.{cond-false, lt-ltb}}
 use Rattle.std.proofs.lemmas.List.Sums.{fold-append, sum_by_from}
-use Rattle.p25_calls.specs.declared.seen.UnitSeen.{UnitSeen}
-use Rattle.p25_calls.specs.Seen.{is_link_unit, is_voice}
-use Rattle.p25_calls.specs.Runs.{Run, run_from, units_in}
-use Rattle.p25_calls.specs.Calls.{call_of, calls_among, first_had, is_call}
+use Rattle.std.specs.{Prelude.{count_by, filter, nat_lt, option_to_list}, List.{list_all, list_any}, Option.{option_or}}
+use Rattle.p25_calls.specs.{declared.seen.UnitSeen.{UnitSeen}, Seen.{is_link_unit, is_voice}, Runs.{Run, run_from, units_in}, Calls.{call_of, calls_among, first_had, is_call}}
 use Rattle.p25_calls.specs.Taking.{extended, if_linked}
 use Rattle.p25_calls.proofs.RunsLaws.{last_of-append}
 

@@ -1,15 +1,9 @@
 -- What a caller keeps: the run that is open ends where the last item does at the latest, has no more units than there were items, and a network access code of 12 bits. By the cases of a
 -- run that is open and a unit that joins it.
 use Rattle.std.proofs.Common.{◌≡◌, ℕ, ◌+◌, ◌<◌, ◌≤◌, Bool, true, false, cond, not, ◌&&◌, Option, Some, None, sym, ap, subst, arith}
-use Rattle.std.specs.Prelude.{IfSome, nat_lt}
-use Rattle.std.specs.Option.{option_or}
-use Rattle.p25_units.specs.Items.{covered, place_of}
-use Rattle.p25_units.specs.declared.item.Item.{Item}
-use Rattle.p25_units.specs.declared.item.Item.TheVariants.{Whole, Broken}
-use Rattle.p25_calls.specs.declared.call.Call.{Call}
-use Rattle.p25_calls.specs.declared.seen.UnitSeen.{UnitSeen}
-use Rattle.p25_calls.specs.Seen.{is_link_unit, is_terminator, is_voice, unit_end, unit_of, whole_unit, broken_unit}
-use Rattle.p25_calls.specs.Calls.{call_of}
+use Rattle.std.specs.{Prelude.{IfSome, nat_lt}, Option.{option_or}}
+use Rattle.p25_units.specs.{Items.{covered, place_of}, declared.item.Item.{Item}, declared.item.Item.TheVariants.{Whole, Broken}}
+use Rattle.p25_calls.specs.{declared.call.Call.{Call}, declared.seen.UnitSeen.{UnitSeen}, Seen.{is_link_unit, is_terminator, is_voice, unit_end, unit_of, whole_unit, broken_unit}, Calls.{call_of}}
 use Rattle.p25_calls.specs.Taking.{IsPending, broken_off, call_of_one, ended_call, extended, goes_on, if_linked, pending_run, run_with, terminated}
 use Rattle.p25_calls.proofs.LastRunLaws.{alone-end, alone-nac}
 

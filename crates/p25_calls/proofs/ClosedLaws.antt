@@ -1,12 +1,8 @@
 -- A closed run stays a run, whatever units come later. By induction on the units: a unit put before runs, and before those with more units after, makes the same runs up to the last.
-use Rattle.std.proofs.Common.{◌≡◌, Bool, true, false, List, [], ◌∷◌, ◌++◌, refl, sym, ap, ap₂, subst, ◌∙◌}
-use Rattle.std.proofs.lemmas.Bool.{cond-true, cond-false}
-use Rattle.p25_calls.specs.declared.seen.UnitSeen.{UnitSeen}
-use Rattle.p25_calls.specs.Seen.{is_break, is_terminator}
-use Rattle.p25_calls.specs.Runs.{Run, closed_runs, last_of, last_unit, run_from, runs_of, units_in, with_unit}
+use Rattle.std.proofs.{Common.{◌≡◌, Bool, true, false, List, [], ◌∷◌, ◌++◌, refl, sym, ap, ap₂, subst, ◌∙◌}, lemmas.Bool.{cond-true, cond-false}}
+use Rattle.p25_calls.specs.{declared.seen.UnitSeen.{UnitSeen}, Seen.{is_break, is_terminator}, Runs.{Run, closed_runs, last_of, last_unit, run_from, runs_of, units_in, with_unit}}
 use Rattle.p25_calls.specs.CallLaws.{ClosedStay}
-use Rattle.p25_calls.proofs.RunsLaws.{runs_of-begins, runs_of-run, with_unit-break, with_unit-joins}
-use Rattle.p25_calls.proofs.EndedLaws.{cut-terminator}
+use Rattle.p25_calls.proofs.{RunsLaws.{runs_of-begins, runs_of-run, with_unit-break, with_unit-joins}, EndedLaws.{cut-terminator}}
 
 -- some runs begin with the closed ones of others
 record Stay (runs all : List Run) : Type 0 where

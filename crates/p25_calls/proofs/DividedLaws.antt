@@ -1,8 +1,6 @@
 -- The runs of some units are the units, divided where there is a break. Each law by induction on the units, with what it says of all runs as a recursion on them.
 use Rattle.std.proofs.Common.{◌≡◌, Bool, true, false, cond, List, [], ◌∷◌, ◌++◌, flat_map, refl, ap, subst, ◌∙◌}
-use Rattle.p25_calls.specs.declared.seen.UnitSeen.{UnitSeen}
-use Rattle.p25_calls.specs.Seen.{is_break}
-use Rattle.p25_calls.specs.Runs.{Run, last_of, last_unit, run_from, runs_of, units_in, with_unit}
+use Rattle.p25_calls.specs.{declared.seen.UnitSeen.{UnitSeen}, Seen.{is_break}, Runs.{Run, last_of, last_unit, run_from, runs_of, units_in, with_unit}}
 use Rattle.p25_calls.specs.CallLaws.{RunsJoin, NoBreakInside, BreakBetween}
 use Rattle.p25_calls.proofs.RunsLaws.{IsUnbroken}
 

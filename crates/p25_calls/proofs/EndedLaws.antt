@@ -1,17 +1,10 @@
 -- What a unit ends and leaves: a run that a terminator closes, a packet that is a run by itself and no call, and a run that stays open. By whether there is a break after the unit.
 use Rattle.std.proofs.Common.{◌≡◌, ℕ, ◌+◌, Bool, true, false, cond, not, ◌&&◌, ◌||◌, List, [], ◌∷◌, ◌++◌, Option, Some, None, refl, sym, ap, ap₂, subst, ◌∙◌, inl, inr, ◌⊎◌, arith}
-use Rattle.std.specs.Prelude.{nat_eq, nat_lt, option_to_list}
-use Rattle.std.specs.Option.{option_or}
 use Rattle.std.proofs.lemmas.Bool.{cond-true, cond-false, eqb-true, or_cases, not-false}
-use Rattle.p25_calls.specs.declared.call.Call.{Call}
-use Rattle.p25_calls.specs.declared.seen.UnitSeen.{UnitSeen}
-use Rattle.p25_calls.specs.Seen.{is_break, is_header, is_link_unit, is_terminator, is_voice, unit_end}
-use Rattle.p25_calls.specs.Runs.{Run, closed_runs, last_unit, runs_by, runs_of, units_in}
-use Rattle.p25_calls.specs.Calls.{calls_among, is_call}
-use Rattle.p25_calls.specs.Taking.{broken_off, ended_call, if_linked, pending_run, run_with}
-use Rattle.p25_calls.proofs.RunsLaws.{IsCutBefore, IsUnbroken, runs_of-run}
-use Rattle.p25_calls.proofs.CallLaws.{calls_among-none, calls_among-voice}
-use Rattle.p25_calls.proofs.LastRunLaws.{Holds, LastRun, last-run, none, pending_units, some}
+use Rattle.std.specs.{Prelude.{nat_eq, nat_lt, option_to_list}, Option.{option_or}}
+use Rattle.p25_calls.specs.{declared.call.Call.{Call}, declared.seen.UnitSeen.{UnitSeen}, Seen.{is_break, is_header, is_link_unit, is_terminator, is_voice, unit_end}}
+use Rattle.p25_calls.specs.{Runs.{Run, closed_runs, last_unit, runs_by, runs_of, units_in}, Calls.{calls_among, is_call}, Taking.{broken_off, ended_call, if_linked, pending_run, run_with}}
+use Rattle.p25_calls.proofs.{RunsLaws.{IsCutBefore, IsUnbroken, runs_of-run}, CallLaws.{calls_among-none, calls_among-voice}, LastRunLaws.{Holds, LastRun, last-run, none, pending_units, some}}
 
 -- ---- kinds of units
 

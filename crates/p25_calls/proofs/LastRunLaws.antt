@@ -1,19 +1,12 @@
 -- The run that a unit is the last of, in the three cases of a unit that joins, that begins after a break, and that begins where no run is open: with a break before it exactly where it
 -- does not join, the calls up to it are the one that it broke off and those of that run.
 use Rattle.std.proofs.Common.{◌≡◌, ℕ, ◌+◌, ◌-◌, ◌≤◌, Bool, true, false, cond, not, ◌&&◌, ◌||◌, List, [], ◌∷◌, ◌++◌, Option, Some, None, refl, sym, ap, ap₂, ◌∙◌, inl, inr, ◌⊎◌, arith, append_assoc}
-use Rattle.std.specs.Prelude.{nat_eq, nat_le, nat_lt, option_to_list}
-use Rattle.std.specs.List.{list_all, list_any}
-use Rattle.std.proofs.lemmas.Bool.{and_from, and_parts, cond-true, cond-false, eqb-true, true≢false}
-use Rattle.std.proofs.lemmas.Bool.Decides.{nat_tests}
-use Rattle.std.proofs.lemmas.List.Folds.{list_all-append}
-use Rattle.p25_calls.specs.declared.call.Call.{Call}
-use Rattle.p25_calls.specs.declared.seen.UnitSeen.{UnitSeen}
-use Rattle.p25_calls.specs.Seen.{is_break, is_header, is_link_unit, is_terminator, is_voice, unit_end}
-use Rattle.p25_calls.specs.Runs.{Run, closed_runs, last_of, last_unit, run_from, runs_by, units_in}
-use Rattle.p25_calls.specs.Calls.{call_of, calls_among, is_call}
+use Rattle.std.proofs.{lemmas.Bool.{and_from, and_parts, cond-true, cond-false, eqb-true, true≢false}, lemmas.Bool.Decides.{nat_tests}, lemmas.List.Folds.{list_all-append}}
+use Rattle.std.specs.{Prelude.{nat_eq, nat_le, nat_lt, option_to_list}, List.{list_all, list_any}}
+use Rattle.p25_calls.specs.{declared.call.Call.{Call}, declared.seen.UnitSeen.{UnitSeen}, Seen.{is_break, is_header, is_link_unit, is_terminator, is_voice, unit_end}}
+use Rattle.p25_calls.specs.{Runs.{Run, closed_runs, last_of, last_unit, run_from, runs_by, units_in}, Calls.{call_of, calls_among, is_call}}
 use Rattle.p25_calls.specs.Taking.{broken_off, call_of_one, extended, goes_on, if_linked, run_with}
-use Rattle.p25_calls.proofs.RunsLaws.{IsUnbroken, last_of-append, runs_of-begins, runs_of-run, unbroken-append}
-use Rattle.p25_calls.proofs.CallLaws.{call_of-grown, calls_among-voice, grown}
+use Rattle.p25_calls.proofs.{RunsLaws.{IsUnbroken, last_of-append, runs_of-begins, runs_of-run, unbroken-append}, CallLaws.{call_of-grown, calls_among-voice, grown}}
 
 -- ---- whether a unit joins
 

@@ -1,9 +1,7 @@
 -- Items lie end to end where each begins where those before it end. By induction on the items.
-use Rattle.std.proofs.Common.{◌≡◌, ℕ, ◌+◌, List, [], ◌∷◌, ◌++◌, refl, ap, ◌∙◌, arith}
+use Rattle.std.proofs.{Common.{◌≡◌, ℕ, ◌+◌, List, [], ◌∷◌, ◌++◌, refl, ap, ◌∙◌, arith}, lemmas.List.Sums.{sum_by_from}}
 use Rattle.std.specs.List.{sum_by}
-use Rattle.std.proofs.lemmas.List.Sums.{sum_by_from}
-use Rattle.p25_units.specs.Items.{covered, place_of}
-use Rattle.p25_units.specs.declared.item.Item.{Item}
+use Rattle.p25_units.specs.{Items.{covered, place_of}, declared.item.Item.{Item}}
 use Rattle.p25_calls.specs.CallLaws.{LieFrom}
 
 sum-none : (at : ℕ) → at + 0 ≡ at

@@ -1,9 +1,6 @@
 -- Runs of units: how they begin, and that units divide where there is a break. By induction on the units, and by the two cases of a break.
-use Rattle.std.proofs.Common.{◌≡◌, Bool, true, false, cond, List, [], ◌∷◌, ◌++◌, refl, sym, ap, ◌∙◌}
-use Rattle.std.proofs.lemmas.Bool.{cond-true, cond-false}
-use Rattle.p25_calls.specs.declared.seen.UnitSeen.{UnitSeen}
-use Rattle.p25_calls.specs.Seen.{is_break}
-use Rattle.p25_calls.specs.Runs.{Run, last_of, last_unit, run_from, runs_of, units_in, with_unit}
+use Rattle.std.proofs.{Common.{◌≡◌, Bool, true, false, cond, List, [], ◌∷◌, ◌++◌, refl, sym, ap, ◌∙◌}, lemmas.Bool.{cond-true, cond-false}}
+use Rattle.p25_calls.specs.{declared.seen.UnitSeen.{UnitSeen}, Seen.{is_break}, Runs.{Run, last_of, last_unit, run_from, runs_of, units_in, with_unit}}
 
 -- the first of some runs begins with a unit
 pub record Begins (unit : UnitSeen) (runs : List Run) : Type 0 where

@@ -1,22 +1,12 @@
 -- What a caller answers are the calls: it holds the run that a further unit may still join. By induction on the items, with what each unit ends and leaves.
-use Rattle.std.proofs.Common.{◌≡◌, ℕ, ◌+◌, ◌≤◌, Bool, true, false, cond, List, [], ◌∷◌, ◌++◌, Option, Some, None, refl, sym, ap, subst, ◌∙◌, arith, append-nil}
-use Rattle.std.specs.Prelude.{option_to_list}
-use Rattle.std.specs.List.{cons_option}
-use Rattle.std.proofs.lemmas.Bool.{cond-false}
-use Rattle.p25_units.specs.Items.{covered, place_of}
-use Rattle.p25_units.specs.declared.item.Item.{Item}
-use Rattle.p25_units.specs.declared.item.Item.TheVariants.{Whole, Broken}
-use Rattle.p25_calls.specs.declared.call.Call.{Call}
-use Rattle.p25_calls.specs.declared.seen.UnitSeen.{UnitSeen}
-use Rattle.p25_calls.specs.Seen.{is_terminator, unit_end, unit_of, units_of}
-use Rattle.p25_calls.specs.Runs.{Run, closed_runs, last_unit, runs_by, runs_of, units_in}
-use Rattle.p25_calls.specs.Calls.{call_of, calls_among, calls_by}
+use Rattle.std.proofs.{Common.{◌≡◌, ℕ, ◌+◌, ◌≤◌, Bool, true, false, cond, List, [], ◌∷◌, ◌++◌, Option, Some, None, refl, sym, ap, subst, ◌∙◌, arith, append-nil}, lemmas.Bool.{cond-false}}
+use Rattle.std.specs.{Prelude.{option_to_list}, List.{cons_option}}
+use Rattle.p25_units.specs.{Items.{covered, place_of}, declared.item.Item.{Item}, declared.item.Item.TheVariants.{Whole, Broken}}
+use Rattle.p25_calls.specs.{declared.call.Call.{Call}, declared.seen.UnitSeen.{UnitSeen}, Seen.{is_terminator, unit_end, unit_of, units_of}}
+use Rattle.p25_calls.specs.{Runs.{Run, closed_runs, last_unit, runs_by, runs_of, units_in}, Calls.{call_of, calls_among, calls_by}}
 use Rattle.p25_calls.specs.Taking.{CallerParts, answer_to, answers_by, behind_item, ended_call, if_linked, open_call, pending_run, run_with, unit_answer, unit_pending}
 use Rattle.p25_calls.specs.CallLaws.{AnswersAreCalls, LieFrom}
-use Rattle.p25_calls.proofs.RunsLaws.{runs_of-unbroken}
-use Rattle.p25_calls.proofs.CallLaws.{calls_among-voice}
-use Rattle.p25_calls.proofs.LastRunLaws.{Holds, Pends, none, pending_units, some}
-use Rattle.p25_calls.proofs.EndedLaws.{stepped}
+use Rattle.p25_calls.proofs.{RunsLaws.{runs_of-unbroken}, CallLaws.{calls_among-voice}, LastRunLaws.{Holds, Pends, none, pending_units, some}, EndedLaws.{stepped}}
 
 -- ---- all items
 

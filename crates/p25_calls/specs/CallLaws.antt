@@ -1,11 +1,7 @@
 -- What makes the definition of calls believable, and what a caller answers: laws over all units and items.
 use Rattle.std.specs.Prelude.{◌≡◌, ℕ, ◌+◌, Bool, true, false, List, [], ◌∷◌, ◌++◌, flat_map, option_to_list}
-use Rattle.p25_units.specs.Items.{covered, place_of}
-use Rattle.p25_units.specs.declared.item.Item.{Item}
-use Rattle.p25_calls.specs.declared.seen.UnitSeen.{UnitSeen}
-use Rattle.p25_calls.specs.Seen.{is_break}
-use Rattle.p25_calls.specs.Runs.{Run, closed_runs, last_unit, runs_of, units_in}
-use Rattle.p25_calls.specs.Calls.{calls_by}
+use Rattle.p25_units.specs.{Items.{covered, place_of}, declared.item.Item.{Item}}
+use Rattle.p25_calls.specs.{declared.seen.UnitSeen.{UnitSeen}, Seen.{is_break}, Runs.{Run, closed_runs, last_unit, runs_of, units_in}, Calls.{calls_by}}
 use Rattle.p25_calls.specs.Taking.{answer_to, answers_by, behind_items, fresh_caller, open_call}
 
 -- the runs of some units are these units, in order

@@ -3,9 +3,7 @@ use Rattle.std.specs.Prelude.{ℕ, Bool, true, false, List, [], ◌∷◌, ◌++
 use Rattle.hex.specs.Hex.{encode_lower}
 use Rattle.p25_line.specs.Values.{three_digits}
 use Rattle.p25_link.specs.declared.link_control.LinkControl.{LinkControl}
-use Rattle.p25_calls.specs.declared.call.Call.{Call}
-use Rattle.p25_calls.specs.declared.call.CallEnd.{CallEnd}
-use Rattle.p25_calls.specs.declared.call.CallEnd.TheVariants.{Tdu, Tdulc, Open}
+use Rattle.p25_calls.specs.{declared.call.Call.{Call}, declared.call.CallEnd.{CallEnd}, declared.call.CallEnd.TheVariants.{Tdu, Tdulc, Open}}
 
 -- how a call was entered: late, or with its header (HDU)
 abbrev pub entry_word : Bool → List ℕ

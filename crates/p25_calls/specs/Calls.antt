@@ -1,14 +1,10 @@
 -- The calls of a list of items.
-use Rattle.std.specs.Prelude.{◌-◌, Bool, true, not, ◌&&◌, if◌then◌else◌, ◌==◌, List, [], ◌∷◌, map, filter, count_by, Option, None}
-use Rattle.std.specs.List.{list_all, list_any}
+use Rattle.std.specs.{Prelude.{◌-◌, Bool, true, not, ◌&&◌, if◌then◌else◌, ◌==◌, List, [], ◌∷◌, map, filter, count_by, Option, None}, List.{list_all, list_any}}
 use Rattle.std.specs.Option.{option_or}
 use Rattle.p25_bch_nid.specs.Duids.{duid_tdu, duid_tdulc}
 use Rattle.p25_units.specs.declared.item.Item.{Item}
-use Rattle.p25_calls.specs.declared.call.Call.{Call}
-use Rattle.p25_calls.specs.declared.call.CallEnd.{CallEnd}
-use Rattle.p25_calls.specs.declared.call.CallEnd.TheVariants.{Tdu, Tdulc, Open}
-use Rattle.p25_calls.specs.declared.seen.UnitSeen.{UnitSeen}
-use Rattle.p25_calls.specs.Seen.{is_header, is_link_unit, is_voice, unit_end, units_of}
+use Rattle.p25_calls.specs.{declared.call.Call.{Call}, declared.call.CallEnd.{CallEnd}, declared.call.CallEnd.TheVariants.{Tdu, Tdulc, Open}}
+use Rattle.p25_calls.specs.{declared.seen.UnitSeen.{UnitSeen}, Seen.{is_header, is_link_unit, is_voice, unit_end, units_of}}
 use Rattle.p25_calls.specs.Runs.{Run, last_unit, runs_by, units_in}
 
 -- how a call ends by its last unit: with a terminator without or with link control (TDU or TDULC), or with none

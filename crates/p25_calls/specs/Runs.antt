@@ -1,7 +1,6 @@
 -- Units divided into runs at the breaks between neighbours.
 use Rattle.std.specs.Prelude.{Bool, if◌then◌else◌, List, [], ◌∷◌}
-use Rattle.p25_calls.specs.declared.seen.UnitSeen.{UnitSeen}
-use Rattle.p25_calls.specs.Seen.{is_break, is_terminator}
+use Rattle.p25_calls.specs.{declared.seen.UnitSeen.{UnitSeen}, Seen.{is_break, is_terminator}}
 
 -- units that follow one another, one at least
 pub record Run : Type 0 where

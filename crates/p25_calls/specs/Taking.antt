@@ -1,13 +1,9 @@
 -- What a caller holds, and what it answers to an item.
 use Rattle.std.specs.Prelude.{ℕ, ◌+◌, ◌-◌, ◌<◌, ◌≤◌, Bool, not, ◌&&◌, if◌then◌else◌, ◌==◌, nat_le, nat_lt, List, [], ◌∷◌, ◌++◌, Option, Some, None, IfSome, option_to_list}
 use Rattle.std.specs.Option.{option_or}
-use Rattle.p25_units.specs.Items.{covered, place_of}
-use Rattle.p25_units.specs.declared.item.Item.{Item}
-use Rattle.p25_calls.specs.declared.call.Call.{Call}
-use Rattle.p25_calls.specs.declared.seen.UnitSeen.{UnitSeen}
-use Rattle.p25_calls.specs.Seen.{is_header, is_link_unit, is_terminator, is_voice, unit_end, unit_of}
-use Rattle.p25_calls.specs.Runs.{run_from}
-use Rattle.p25_calls.specs.Calls.{call_of, end_of}
+use Rattle.p25_units.specs.{Items.{covered, place_of}, declared.item.Item.{Item}}
+use Rattle.p25_calls.specs.{declared.call.Call.{Call}, declared.seen.UnitSeen.{UnitSeen}}
+use Rattle.p25_calls.specs.{Seen.{is_header, is_link_unit, is_terminator, is_voice, unit_end, unit_of}, Runs.{run_from}, Calls.{call_of, end_of}}
 
 -- what a grouper of calls knows: the bit after the last item that it took, how many items it took, and the call that the next unit may
 -- still join, or none

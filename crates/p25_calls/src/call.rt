@@ -1,9 +1,7 @@
 //! A call, and how it grows with its units.
 
 ghost use Rattle.std.specs.Prelude.{◌≡◌, ◌+◌, ◌^◌, ◌<◌, ◌≤◌};
-ghost use Rattle.p25_calls.specs.Calls.{end_of};
-ghost use Rattle.p25_calls.specs.Seen.{unit_end};
-ghost use Rattle.p25_calls.specs.Taking.{call_of_one, extended, goes_on, if_linked};
+ghost use Rattle.p25_calls.specs.{Calls.{end_of}, Seen.{unit_end}, Taking.{call_of_one, extended, goes_on, if_linked}};
 
 use crate::seen::UnitSeen;
 use p25_link::LinkControl;

@@ -1,8 +1,7 @@
 //! The run that a unit is the last of, and the calls that it ends.
 
 ghost use Rattle.std.specs.Prelude.{◌≡◌, ◌+◌, ◌-◌, ◌^◌, ◌<◌, ◌≤◌, IfSome};
-ghost use Rattle.p25_calls.specs.Seen.{unit_end};
-ghost use Rattle.p25_calls.specs.Taking.{IsPending, broken_off, pending_run, run_with, terminated, unit_answer, unit_pending};
+ghost use Rattle.p25_calls.specs.{Seen.{unit_end}, Taking.{IsPending, broken_off, pending_run, run_with, terminated, unit_answer, unit_pending}};
 
 use crate::call::Call;
 use crate::seen::UnitSeen;

@@ -1,25 +1,14 @@
 -- The words that a check matrix lets pass, where its last columns are check columns: they are the systematic words, and a
 -- computed test of all information gives their least distance.
 use Rattle.std.proofs.Common.{◌≡◌, ◌≢◌, ◌⊎◌, ℕ, ◌+◌, ◌*◌, ◌^◌, ◌<◌, ◌≤◌, inl, inr, Bool, true, false, cond, eqb, ltb, leb, List, ◌∷◌, ◌++◌, length, take, drop, bit_xor, ap, ap₂, sym, ◌∙◌, subst, arith, length-append, take-append-drop, length-drop}
-use Rattle.std.specs.Bool.{beq}
-use Rattle.std.specs.Cmp.{bool_eq_equiv}
-use Rattle.std.specs.Int.Bits.{xor_self}
-use Rattle.std.proofs.Math.Nat.{mod-eq_of_lt}
-use Rattle.std.proofs.Math.Seq.{take-append_seam, drop-append_seam}
-use Rattle.std.proofs.lemmas.List.{length-take-le}
-use Rattle.std.proofs.lemmas.Bool.{cases_eq, and_parts, or_cases, eqb-true, leb-true, ltb-true}
+use Rattle.std.proofs.{Math.Nat.{mod-eq_of_lt}, Math.Seq.{take-append_seam, drop-append_seam}, lemmas.List.{length-take-le}, lemmas.Bool.{cases_eq, and_parts, or_cases, eqb-true, leb-true, ltb-true}}
 use Rattle.std.proofs.lemmas.Nat.{xor_lt, pow_pos}
-use Rattle.p25_bits.specs.Bits.{bits_of, field_of}
-use Rattle.p25_bits.specs.Distance.{distance_of}
-use Rattle.p25_bits.proofs.BitsLaws.{length-bits_of, field_of-bits_of, bits_of-field_of}
-use Rattle.p25_bits.proofs.DivisibleLaws.{same_from_xor}
-use Rattle.p25_bits.proofs.DistanceLaws.{same_from_distance_of}
-use Rattle.p25_code.specs.Words.{IsEncoding}
-use Rattle.p25_code.specs.Readings.{Tested}
-use Rattle.p25_code.specs.Letters.{same_bit}
-use Rattle.p25_code.specs.Binary.{syndrome_of, IsChecked, check_columns, rows_fit, systematic, weight_of}
-use Rattle.p25_code.proofs.WeightLaws.{all_bits-each, sum_of_words, length-sum_of_words, weight_of-append, weight_of-bits_of, weight_of-sum_of_words, syndrome_of-zeros, syndrome_of-sum_of_words}
+use Rattle.std.specs.{Bool.{beq}, Cmp.{bool_eq_equiv}, Int.Bits.{xor_self}}
+use Rattle.p25_bits.specs.{Bits.{bits_of, field_of}, Distance.{distance_of}}
+use Rattle.p25_bits.proofs.{BitsLaws.{length-bits_of, field_of-bits_of, bits_of-field_of}, DivisibleLaws.{same_from_xor}, DistanceLaws.{same_from_distance_of}}
+use Rattle.p25_code.specs.{Words.{IsEncoding}, Readings.{Tested}, Letters.{same_bit}, Binary.{syndrome_of, IsChecked, check_columns, rows_fit, systematic, weight_of}}
 use Rattle.p25_code.specs.CodeLaws.{IsBlockCode, IsSystematic, is_heavy, all_bits}
+use Rattle.p25_code.proofs.WeightLaws.{all_bits-each, sum_of_words, length-sum_of_words, weight_of-append, weight_of-bits_of, weight_of-sum_of_words, syndrome_of-zeros, syndrome_of-sum_of_words}
 use Rattle.p25_code.proofs.SyndromeLaws.{syndrome_of-append, syndrome_of-check_columns, length-check_columns, change_of-is}
 
 -- whether a word passes can be tested

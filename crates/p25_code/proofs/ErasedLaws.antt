@@ -3,12 +3,8 @@
 use Rattle.std.proofs.Common.{◌≡◌, ℕ, suc, ◌+◌, ◌*◌, ◌<◌, ◌≤◌, Bool, true, false, cond, List, [], ◌∷◌, length, map, Option, Some, None, All, ap, ap₂, sym, ◌∙◌, subst, refl, arith}
 use Rattle.p25_bits.specs.Distance.{distance_by}
 use Rattle.p25_bits.proofs.DistanceLaws.{cond-le}
-use Rattle.p25_code.specs.declared.code.Reading.{Reading}
-use Rattle.p25_code.specs.declared.code.Reading.TheVariants.{Found, Beyond}
-use Rattle.p25_code.specs.Words.{IsReading}
-use Rattle.p25_code.specs.Readings.{word_read}
-use Rattle.p25_code.specs.Erasures.{without_erased, erasures_in, letter_distance, kept_distance, erased_cost, IsErasedReading}
-use Rattle.p25_code.specs.ErasedReadings.{IsErasedReadAs, IsWithinCost}
+use Rattle.p25_code.specs.{declared.code.Reading.{Reading}, declared.code.Reading.TheVariants.{Found, Beyond}, Words.{IsReading}, Readings.{word_read}}
+use Rattle.p25_code.specs.{Erasures.{without_erased, erasures_in, letter_distance, kept_distance, erased_cost, IsErasedReading}, ErasedReadings.{IsErasedReadAs, IsWithinCost}}
 use Rattle.p25_code.proofs.ReadingLaws.{IsBlockCode, near_words}
 
 -- a list with erasures is as long as what was received

@@ -1,27 +1,12 @@
 -- Words that are read as numbers: by the wrong bits of what was received, and what a reader of bits makes of them.
 use Rattle.std.proofs.Common.{◌≡◌, ℕ, ◌^◌, ◌<◌, ◌≤◌, Bool, List, length, Option, Some, None, bit_xor, refl, ap, ap₂, sym, ◌∙◌, subst, arith, mod-eq_of_lt, ◌++◌, ◌/◌, ◌%◌, bit_or, ◌+◌, ◌*◌}
-use Rattle.std.proofs.Math.Nat.{mul_comm}
-use Rattle.std.specs.Bool.{beq}
-use Rattle.std.specs.Int.Bits.{xor_self, xor_zero_r}
-use Rattle.std.specs.Int.RustNames.{count_ones}
-use Rattle.std.specs.Option.{MatchOption, option_map}
-use Rattle.std.proofs.lemmas.Nat.{mod_below, shr_below, pow-add, mul-add-lt, or_shifted, shl_whole, xor_lt, pow_pos, ones_le_self, zero_from_ones}
-use Rattle.p25_bits.specs.Bits.{bits_of, field_of}
-use Rattle.p25_bits.specs.Distance.{distance_by, distance_of}
-use Rattle.p25_bits.proofs.BitsLaws.{length-bits_of, bits_of-joined, bits_of-field_of, field_of-bits_of, field_of-lt}
-use Rattle.p25_bits.proofs.DistanceLaws.{distance_of-bits_of}
-use Rattle.p25_bits.proofs.DivisibleLaws.{same_from_xor}
-use Rattle.p25_code.specs.declared.code.Reading.{Reading}
-use Rattle.p25_code.specs.declared.code.Reading.TheVariants.{Found, Beyond}
-use Rattle.p25_code.specs.Words.{IsEncoding, IsReading}
-use Rattle.p25_code.specs.Readings.{IsReadAs}
-use Rattle.p25_code.specs.Binary.{syndrome_of, IsChecked, check_columns, systematic}
-use Rattle.p25_code.specs.WrongBits.{number_sum, AreWrong, NoneWrong}
-use Rattle.p25_code.specs.CodeLaws.{IsCheckedCode}
-use Rattle.p25_code.proofs.ReadingLaws.{one_reading}
-use Rattle.p25_code.proofs.ParityLaws.{number_sum-xor, number_sum-zero}
-use Rattle.p25_code.proofs.BinaryLaws.{encodes}
-use Rattle.p25_code.proofs.WrongLaws.{twice, length-columns, number_sum-lt, number_sum-parts}
+use Rattle.std.proofs.{Math.Nat.{mul_comm}, lemmas.Nat.{mod_below, shr_below, pow-add, mul-add-lt, or_shifted, shl_whole, xor_lt, pow_pos, ones_le_self, zero_from_ones}}
+use Rattle.std.specs.{Bool.{beq}, Int.Bits.{xor_self, xor_zero_r}, Int.RustNames.{count_ones}, Option.{MatchOption, option_map}}
+use Rattle.p25_bits.specs.{Bits.{bits_of, field_of}, Distance.{distance_by, distance_of}}
+use Rattle.p25_bits.proofs.{BitsLaws.{length-bits_of, bits_of-joined, bits_of-field_of, field_of-bits_of, field_of-lt}, DistanceLaws.{distance_of-bits_of}, DivisibleLaws.{same_from_xor}}
+use Rattle.p25_code.specs.{declared.code.Reading.{Reading}, declared.code.Reading.TheVariants.{Found, Beyond}, Words.{IsEncoding, IsReading}, Readings.{IsReadAs}}
+use Rattle.p25_code.specs.{Binary.{syndrome_of, IsChecked, check_columns, systematic}, WrongBits.{number_sum, AreWrong, NoneWrong}, CodeLaws.{IsCheckedCode}}
+use Rattle.p25_code.proofs.{ReadingLaws.{one_reading}, ParityLaws.{number_sum-xor, number_sum-zero}, BinaryLaws.{encodes}, WrongLaws.{twice, length-columns, number_sum-lt, number_sum-parts}}
 
 module _ (columns : List ℕ) (radius received sum : ℕ) (fits : received < 2 ^ length columns) (sums : number_sum columns received ≡ sum) where
   -- what was received without its wrong bits is a word that passes, within the radius

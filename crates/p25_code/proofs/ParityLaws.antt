@@ -1,15 +1,11 @@
 -- Checks that are sums of other checks, and a parity beside other checks.
 use Rattle.std.proofs.Common.{◌≡◌, ℕ, zero, suc, ◌+◌, ◌*◌, ◌%◌, ◌<◌, Bool, true, false, cond, eqb, List, [], ◌∷◌, length, map, bit_xor, refl, ap, ap₂, sym, ◌∙◌, arith}
-use Rattle.std.specs.Int.{bit_at}
-use Rattle.std.specs.Int.Bits.{xor_zero_l}
 use Rattle.std.proofs.lemmas.Nat.Bits.{bit_at_xor, bit_at-lt}
+use Rattle.std.specs.{Int.{bit_at}, Int.Bits.{xor_zero_l}}
 use Rattle.p25_bits.specs.Bits.{digit_of, bits_of}
-use Rattle.p25_bits.proofs.BitsLaws.{bits_of-suc, bits_of-zero, length-bits_of, digit_of-le}
-use Rattle.p25_bits.proofs.DivisibleLaws.{xor_doubled}
-use Rattle.p25_code.specs.Binary.{syndrome_of, weight_of}
-use Rattle.p25_code.specs.WrongBits.{number_sum}
-use Rattle.p25_code.proofs.SyndromeLaws.{change_of-is}
-use Rattle.p25_code.proofs.WeightLaws.{sum_of_words, syndrome_of-sum_of_words, syndrome_of-zeros, weight_of-bits_of}
+use Rattle.p25_bits.proofs.{BitsLaws.{bits_of-suc, bits_of-zero, length-bits_of, digit_of-le}, DivisibleLaws.{xor_doubled}}
+use Rattle.p25_code.specs.{Binary.{syndrome_of, weight_of}, WrongBits.{number_sum}}
+use Rattle.p25_code.proofs.{SyndromeLaws.{change_of-is}, WeightLaws.{sum_of_words, syndrome_of-sum_of_words, syndrome_of-zeros, weight_of-bits_of}}
 
 -- the sum of two bits
 sum_of_bits : (a b : ℕ) → a < 2 → b < 2 → (xs ys : List Bool) → eqb ((a + b) % 2) 1 ∷ sum_of_words xs ys ≡ sum_of_words (eqb a 1 ∷ xs) (eqb b 1 ∷ ys)

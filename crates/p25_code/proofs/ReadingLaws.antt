@@ -1,13 +1,9 @@
 -- What follows from the laws of a block code: a reading leaves the word within the radius and no other.
-use Rattle.std.proofs.Common.{◌≡◌, ◌≢◌, ℕ, ◌+◌, ◌<◌, ◌≤◌, inl, inr, Bool, true, List, length, Option, Some, None, ap, sym, ◌∙◌, subst, refl, arith}
-use Rattle.std.proofs.lemmas.Bool.{cases_eq}
+use Rattle.std.proofs.{Common.{◌≡◌, ◌≢◌, ℕ, ◌+◌, ◌<◌, ◌≤◌, inl, inr, Bool, true, List, length, Option, Some, None, ap, sym, ◌∙◌, subst, refl, arith}, lemmas.Bool.{cases_eq}}
 use Rattle.p25_bits.specs.Distance.{distance_by}
 use Rattle.p25_bits.proofs.DistanceLaws.{distance_by-same, distance_by-sym, distance_by-triangle, same_from_distance_by}
 pub use Rattle.p25_code.specs.CodeLaws.{IsBlockCode}
-use Rattle.p25_code.specs.Words.{IsFound, IsReading}
-use Rattle.p25_code.specs.Readings.{IsNear, IsReadAs, word_read}
-use Rattle.p25_code.specs.declared.code.Reading.{Reading}
-use Rattle.p25_code.specs.declared.code.Reading.TheVariants.{Found, Beyond}
+use Rattle.p25_code.specs.{Words.{IsFound, IsReading}, Readings.{IsNear, IsReadAs, word_read}, declared.code.Reading.{Reading}, declared.code.Reading.TheVariants.{Found, Beyond}}
 
 module _ {L : Type 0} {same : L → L → Bool} {IsWord : List L → Type 0} {n k radius apart : ℕ} (code : IsBlockCode same IsWord n k radius apart) where
   -- a distance does not depend on the direction

@@ -1,12 +1,8 @@
 -- Columns that are remainders of powers by a generator: a word passes exactly where its polynomial is divisible.
-use Rattle.std.proofs.Common.{◌≡◌, ℕ, zero, suc, ◌+◌, ◌*◌, ◌^◌, ◌<◌, ◌≤◌, inl, inr, Bool, true, false, cond, ltb, List, [], ◌∷◌, length, bit_xor, ap, sym, ◌∙◌, subst, arith}
-use Rattle.std.proofs.Math.Nat.{pow-suc}
-use Rattle.std.proofs.lemmas.Bool.{cases_lt, cond_below, cond_above}
-use Rattle.std.proofs.lemmas.Nat.{pow_pos}
-use Rattle.p25_bits.specs.Bits.{field_of}
-use Rattle.p25_bits.specs.Divisible.{IsDivisible, HasDegree, IsRemainder}
-use Rattle.p25_bits.proofs.BitsLaws.{field_of-nil, field_of-cons, field_of-lt}
-use Rattle.p25_bits.proofs.DivisionLaws.{IsRemainder-sum}
+use Rattle.std.proofs.{Common.{◌≡◌, ℕ, zero, suc, ◌+◌, ◌*◌, ◌^◌, ◌<◌, ◌≤◌, inl, inr, Bool, true, false, cond, ltb, List, [], ◌∷◌, length, bit_xor, ap, sym, ◌∙◌, subst, arith}, Math.Nat.{pow-suc}}
+use Rattle.std.proofs.{lemmas.Bool.{cases_lt, cond_below, cond_above}, lemmas.Nat.{pow_pos}}
+use Rattle.p25_bits.specs.{Bits.{field_of}, Divisible.{IsDivisible, HasDegree, IsRemainder}}
+use Rattle.p25_bits.proofs.{BitsLaws.{field_of-nil, field_of-cons, field_of-lt}, DivisionLaws.{IsRemainder-sum}}
 use Rattle.p25_bits.proofs.DivisibleLaws.{IsRemainder-unique, IsRemainder-lower, divisible_from_remainder, remainder_from_divisible, remainder_kept, remainder_reduced}
 use Rattle.p25_code.specs.Binary.{syndrome_of}
 use Rattle.p25_code.proofs.SyndromeLaws.{above}

@@ -1,11 +1,8 @@
 -- Laws of syndromes: sums of columns at the places where a word is 1. By induction on the columns and the bits.
-use Rattle.std.proofs.Common.{◌≡◌, ℕ, zero, suc, ◌+◌, ◌*◌, ◌^◌, ◌<◌, Bool, true, false, cond, List, [], ◌∷◌, ◌++◌, length, bit_xor, refl, ap, ap₂, sym, ◌∙◌, arith}
-use Rattle.std.specs.Bool.{beq}
-use Rattle.std.specs.Int.Bits.{xor_assoc, xor_self, xor_zero_l, xor_zero_r}
-use Rattle.std.proofs.lemmas.Nat.{xor_block, pow_pos}
+use Rattle.std.proofs.{Common.{◌≡◌, ℕ, zero, suc, ◌+◌, ◌*◌, ◌^◌, ◌<◌, Bool, true, false, cond, List, [], ◌∷◌, ◌++◌, length, bit_xor, refl, ap, ap₂, sym, ◌∙◌, arith}, lemmas.Nat.{xor_block, pow_pos}}
+use Rattle.std.specs.{Bool.{beq}, Int.Bits.{xor_assoc, xor_self, xor_zero_l, xor_zero_r}}
 use Rattle.p25_bits.specs.Bits.{digit_of, field_of}
-use Rattle.p25_bits.proofs.BitsLaws.{field_of-nil, field_of-cons, field_of-lt}
-use Rattle.p25_bits.proofs.DivisibleLaws.{xor_middle}
+use Rattle.p25_bits.proofs.{BitsLaws.{field_of-nil, field_of-cons, field_of-lt}, DivisibleLaws.{xor_middle}}
 use Rattle.p25_code.specs.Binary.{syndrome_of, check_columns, change_of}
 
 -- two runs, one after the other: their sums add up

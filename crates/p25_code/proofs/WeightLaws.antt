@@ -1,13 +1,10 @@
 -- Weights of words, sums of words, and a test of all lists of so many bits.
-use Rattle.std.proofs.Common.{◌≡◌, ℕ, zero, suc, ◌+◌, Bool, true, false, not, eqb, List, [], ◌∷◌, ◌++◌, length, bit_xor, refl, ap, ap₂, ◌∙◌, arith}
-use Rattle.std.specs.Int.Bits.{xor_zero_l}
-use Rattle.std.proofs.lemmas.Bool.{and_parts}
+use Rattle.std.proofs.{Common.{◌≡◌, ℕ, zero, suc, ◌+◌, Bool, true, false, not, eqb, List, [], ◌∷◌, ◌++◌, length, bit_xor, refl, ap, ap₂, ◌∙◌, arith}, lemmas.Bool.{and_parts}}
 use Rattle.std.proofs.lemmas.Nat.Bits.{bit_at-zero}
-use Rattle.p25_bits.specs.Bits.{digit_of, bits_of}
-use Rattle.p25_bits.specs.Distance.{distance_by, distance_of}
+use Rattle.std.specs.Int.Bits.{xor_zero_l}
+use Rattle.p25_bits.specs.{Bits.{digit_of, bits_of}, Distance.{distance_by, distance_of}}
 use Rattle.p25_bits.proofs.BitsLaws.{bits_of-suc, bits_of-zero}
-use Rattle.p25_code.specs.Binary.{syndrome_of, weight_of, change_of}
-use Rattle.p25_code.specs.CodeLaws.{all_bits}
+use Rattle.p25_code.specs.{Binary.{syndrome_of, weight_of, change_of}, CodeLaws.{all_bits}}
 
 -- what a true test says of each of them
 pub all_bits-each : (bits : List Bool) (test : List Bool → Bool) → all_bits (length bits) test ≡ true → test bits ≡ true

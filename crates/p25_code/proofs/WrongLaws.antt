@@ -1,22 +1,15 @@
 -- Which bits are wrong, by their sum: those of a word are those of its information and of its check bits, at most one wrong bit of
 -- information is one row or none, and where two lists of rows undo each other the two halves of a word may change places.
 use Rattle.std.proofs.Common.{◌≡◌, ◌⊎◌, ℕ, zero, suc, ◌+◌, ◌-◌, ◌*◌, ◌/◌, ◌%◌, ◌^◌, ◌<◌, ◌≤◌, inl, inr, true, cond, eqb, ltb, List, [], ◌∷◌, ◌++◌, length, map, get_or, Option, Some, None, bit_or, bit_xor, refl, ap, ap₂, sym, ◌∙◌, subst, arith, length-append, mod-eq_of_lt}
-use Rattle.std.specs.Int.{bit_at}
-use Rattle.std.specs.Option.{MatchOption}
-use Rattle.std.specs.Int.Bits.{xor_assoc, xor_self, xor_zero_l, xor_zero_r}
-use Rattle.std.specs.Int.RustNames.{count_ones}
-use Rattle.std.proofs.Math.Nat.{pow-suc, mul_comm}
-use Rattle.std.proofs.lemmas.Bool.{cases_lt, and_parts, ltb-true}
+use Rattle.std.proofs.{Math.Nat.{pow-suc, mul_comm}, lemmas.Bool.{cases_lt, and_parts, ltb-true}}
 use Rattle.std.proofs.lemmas.Nat.{xor_comm, ones_cat, zero_from_ones, pow_pos, pow-add, pow_below, shr_high, mod_low, shr_split, shr_below, mod_below, mul-add-lt, one_shl, or_shifted, shl_whole}
 use Rattle.std.proofs.lemmas.Nat.Bits.{bit_at-pow_same, bit_at-pow_other}
+use Rattle.std.specs.{Int.{bit_at}, Option.{MatchOption}, Int.Bits.{xor_assoc, xor_self, xor_zero_l, xor_zero_r}, Int.RustNames.{count_ones}}
 use Rattle.p25_bits.specs.Bits.{bits_of}
 use Rattle.p25_bits.proofs.BitsLaws.{length-bits_of, bits_of-add, bits_of-above, bits_of-mod, bits_of-suc, field_of-bits_of}
-use Rattle.p25_code.specs.Binary.{syndrome_of, check_columns, rows_fit}
-use Rattle.p25_code.specs.WrongBits.{number_sum, AreWrong, NoneWrong, NoneByRows, AreInverse}
-use Rattle.p25_code.proofs.SyndromeLaws.{syndrome_of-append, syndrome_of-check_columns, length-check_columns}
-use Rattle.p25_code.proofs.BinaryLaws.{syndrome_of-lt}
-use Rattle.p25_code.proofs.ParityLaws.{number_sum-xor, number_sum-zero, syndrome_of-mixed}
-use Rattle.p25_code.proofs.WeightLaws.{weight_of-bits_of, syndrome_of-zeros}
+use Rattle.p25_code.specs.{Binary.{syndrome_of, check_columns, rows_fit}, WrongBits.{number_sum, AreWrong, NoneWrong, NoneByRows, AreInverse}}
+use Rattle.p25_code.proofs.{SyndromeLaws.{syndrome_of-append, syndrome_of-check_columns, length-check_columns}, BinaryLaws.{syndrome_of-lt}}
+use Rattle.p25_code.proofs.{ParityLaws.{number_sum-xor, number_sum-zero, syndrome_of-mixed}, WeightLaws.{weight_of-bits_of, syndrome_of-zeros}}
 
 -- a column for each row and each check
 pub length-columns : (rows : List ℕ) (checks : ℕ) → length (rows ++ check_columns checks) ≡ length rows + checks

@@ -1,7 +1,5 @@
 -- Binary codes by the columns of a check matrix. A column is a number whose bits are the checks that its place takes part in.
-use Rattle.std.specs.Prelude.{◌≡◌, ℕ, zero, suc, ◌+◌, ◌^◌, Bool, if◌then◌else◌, nat_lt, List, [], ◌∷◌, ◌++◌, length, bit_xor}
-use Rattle.std.specs.Bool.{beq}
-use Rattle.std.specs.List.{list_all}
+use Rattle.std.specs.{Prelude.{◌≡◌, ℕ, zero, suc, ◌+◌, ◌^◌, Bool, if◌then◌else◌, nat_lt, List, [], ◌∷◌, ◌++◌, length, bit_xor}, Bool.{beq}, List.{list_all}}
 use Rattle.p25_bits.specs.Bits.{digit_of, bits_of}
 
 -- the syndrome of a word: the sum over GF(2) of the columns at whose places the word is 1

@@ -1,7 +1,6 @@
 -- Readings of lists with erasures as functions: the word of the set within the cost, or none where no word costs so little.
 use Rattle.std.specs.Prelude.{◌≡◌, ℕ, ◌≤◌, Bool, List, length, Option, Some, None}
-use Rattle.p25_code.specs.Erasures.{erased_cost, NoneWithinCost}
-use Rattle.p25_code.specs.Readings.{Tested, Searched, IsWordWithin, word_within, IsWordWithin-word_within}
+use Rattle.p25_code.specs.{Erasures.{erased_cost, NoneWithinCost}, Readings.{Tested, Searched, IsWordWithin, word_within, IsWordWithin-word_within}}
 
 -- a word of the set is within the cost
 pub record IsWithinCost {L : Type 0} (same : L → L → Bool) (IsWord : List L → Type 0) (most : ℕ) (list : List (Option L)) (word : List L) : Type 0 where

@@ -2,8 +2,7 @@
 -- a wrong letter costs two and an erasure one.
 use Rattle.std.specs.Prelude.{◌≡◌, ℕ, ◌+◌, ◌*◌, ◌<◌, ◌≤◌, Bool, if◌then◌else◌, List, [], ◌∷◌, Option, Some, None}
 use Rattle.p25_bits.specs.Distance.{distance_by}
-use Rattle.p25_code.specs.declared.code.Reading.{Reading}
-use Rattle.p25_code.specs.declared.code.Reading.TheVariants.{Found, Beyond}
+use Rattle.p25_code.specs.{declared.code.Reading.{Reading}, declared.code.Reading.TheVariants.{Found, Beyond}}
 
 -- letters with an erasure wherever one is erased
 unfoldable pub without_erased : {L : Type 0} → List L → List Bool → List (Option L)

@@ -1,6 +1,5 @@
 -- Bits as letters of words.
-use Rattle.std.specs.Prelude.{◌≡◌, Bool, true, false, IsTrue, refl}
-use Rattle.std.specs.Bool.{beq}
+use Rattle.std.specs.{Prelude.{◌≡◌, Bool, true, false, IsTrue, refl}, Bool.{beq}}
 
 -- bits that compare equal are the same bit
 pub same_bit : (x y : Bool) → IsTrue (beq x y) → x ≡ y

@@ -1,11 +1,8 @@
 -- Readings as functions: of what was received, the word of the set within the radius, or none where no word is that near.
 use Rattle.std.specs.Prelude.{◌≡◌, ◌⊎◌, ℕ, zero, suc, ◌<◌, ◌≤◌, Bool, true, false, List, [], ◌∷◌, length, Option, Some, None, refl}
-use Rattle.std.proofs.Common.{ap, subst, inl, inr, arith}
-use Rattle.std.proofs.lemmas.Bool.{cases_lt}
+use Rattle.std.proofs.{Common.{ap, subst, inl, inr, arith}, lemmas.Bool.{cases_lt}}
 use Rattle.p25_bits.specs.Distance.{distance_by}
-use Rattle.p25_code.specs.declared.code.Reading.{Reading}
-use Rattle.p25_code.specs.declared.code.Reading.TheVariants.{Found, Beyond}
-use Rattle.p25_code.specs.Words.{NoneWithin}
+use Rattle.p25_code.specs.{declared.code.Reading.{Reading}, declared.code.Reading.TheVariants.{Found, Beyond}, Words.{NoneWithin}}
 
 -- a condition that can be tested
 abbrev pub Tested : {X : Type 0} → (X → Type 0) → Type 0

@@ -1,8 +1,7 @@
 -- Block codes: what an encoding and a reading are, for any set of words and any test that calls letters equal.
 use Rattle.std.specs.Prelude.{◌≡◌, ℕ, ◌<◌, ◌≤◌, Bool, List, take}
 use Rattle.p25_bits.specs.Distance.{distance_by}
-use Rattle.p25_code.specs.declared.code.Reading.{Reading}
-use Rattle.p25_code.specs.declared.code.Reading.TheVariants.{Found, Beyond}
+use Rattle.p25_code.specs.{declared.code.Reading.{Reading}, declared.code.Reading.TheVariants.{Found, Beyond}}
 
 -- a word of the set that begins with the information
 pub record IsEncoding {L : Type 0} (IsWord : List L → Type 0) (k : ℕ) (info word : List L) : Type 0 where

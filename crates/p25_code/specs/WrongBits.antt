@@ -1,6 +1,5 @@
 -- Which bits of a word are wrong, as a number of as many bits as the word has: its first bit is the highest.
-use Rattle.std.specs.Prelude.{◌≡◌, ℕ, ◌/◌, ◌^◌, ◌<◌, ◌≤◌, List, length}
-use Rattle.std.specs.Int.RustNames.{count_ones}
+use Rattle.std.specs.{Prelude.{◌≡◌, ℕ, ◌/◌, ◌^◌, ◌<◌, ◌≤◌, List, length}, Int.RustNames.{count_ones}}
 use Rattle.p25_bits.specs.Bits.{bits_of}
 use Rattle.p25_code.specs.Binary.{syndrome_of}
 

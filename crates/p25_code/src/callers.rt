@@ -2,9 +2,7 @@
 
 ghost use Rattle.std.specs.Prelude.{◌≡◌, ◌*◌, ◌-◌, ◌≤◌, List, false, length, All};
 ghost use Rattle.p25_bits.specs.Distance.{distance_by};
-ghost use Rattle.p25_code.specs.Words.{IsReading};
-ghost use Rattle.p25_code.specs.Readings.{word_read};
-ghost use Rattle.p25_code.specs.Erasures.{without_erased, erased_cost, IsErasedReading};
+ghost use Rattle.p25_code.specs.{Words.{IsReading}, Readings.{word_read}, Erasures.{without_erased, erased_cost, IsErasedReading}};
 
 use crate::code::{BlockCode, ErasedCode, Reading};
 

@@ -10,9 +10,7 @@ use p25_bits::{number_of, put_number};
 /// the rows at whose places the information is 1. A type that says which check bits those are, and which bits are wrong where others
 /// were received, is a `BlockCode` and a `NumberCode`.
 pub trait CheckedCode {
-    ghost use Rattle.p25_code.specs.Binary.{check_columns};
-    ghost use Rattle.p25_code.specs.CodeLaws.{IsCheckedCode};
-    ghost use Rattle.p25_code.specs.WrongBits.{number_sum, AreWrong, NoneWrong};
+    ghost use Rattle.p25_code.specs.{Binary.{check_columns}, CodeLaws.{IsCheckedCode}, WrongBits.{number_sum, AreWrong, NoneWrong}};
 
     /// The number of bits of a word.
     const LENGTH: usize;

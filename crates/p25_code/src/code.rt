@@ -17,8 +17,7 @@ pub enum Reading {
 ///
 /// Contracts see the set itself as `IsWord`, so an instance is proved against its set and not against its method.
 pub trait BlockCode {
-    ghost use Rattle.p25_code.specs.Words.{IsEncoding, IsReading};
-    ghost use Rattle.p25_code.specs.Readings.{IsReadAs};
+    ghost use Rattle.p25_code.specs.{Words.{IsEncoding, IsReading}, Readings.{IsReadAs}};
 
     /// The number of letters of a word.
     const N: usize;
@@ -94,8 +93,7 @@ pub trait BlockCode {
 ///
 /// Contracts see the received letters and what is erased as one list with erasures.
 pub trait ErasedCode: BlockCode {
-    ghost use Rattle.p25_code.specs.Erasures.{without_erased, IsErasedReading};
-    ghost use Rattle.p25_code.specs.ErasedReadings.{IsErasedReadAs};
+    ghost use Rattle.p25_code.specs.{Erasures.{without_erased, IsErasedReading}, ErasedReadings.{IsErasedReadAs}};
 
     // The reading of a list with erasures as a function: the word of the code within the cost N - K, or none.
     ghost erased_reading_is: { List (Option Self.Letter) → Option (List Self.Letter) };

@@ -1,8 +1,7 @@
 //! Binary codes whose words are numbers too.
 
 ghost use Rattle.std.specs.Prelude.{◌≡◌, ◌^◌, ◌<◌, ◌≤◌, length, IfSome, MatchOption};
-ghost use Rattle.p25_bits.specs.Bits.{bits_of, field_of};
-ghost use Rattle.p25_bits.specs.Distance.{distance_of};
+ghost use Rattle.p25_bits.specs.{Bits.{bits_of, field_of}, Distance.{distance_of}};
 
 use crate::code::{BlockCode, Reading};
 use p25_bits::put_number;

@@ -7,8 +7,7 @@
 //! bit highest, with a 1 for each wrong bit.
 
 ghost use Rattle.std.specs.Prelude.{◌≡◌, ℕ, ◌+◌, ◌^◌, ◌<◌, ◌≤◌, ◌++◌, true, length, MatchOption};
-ghost use Rattle.p25_code.specs.Binary.{check_columns, rows_fit};
-ghost use Rattle.p25_code.specs.WrongBits.{number_sum, AreInverse, AreWrong, NoneByRows, NoneWrong};
+ghost use Rattle.p25_code.specs.{Binary.{check_columns, rows_fit}, WrongBits.{number_sum, AreInverse, AreWrong, NoneByRows, NoneWrong}};
 
 /// Answers at most `radius` wrong bits that make the syndrome `sum`, of which at most one is a bit of information. There is
 /// a row for each bit of information; `checks` is how many check bits there are. None comes exactly where no such bits make

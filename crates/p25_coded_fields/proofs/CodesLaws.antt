@@ -1,27 +1,16 @@
 -- The readings of a layout whose outer code is a Reed-Solomon code are those of its codes: a word near to what was received is the
 -- one that is read, by the laws of block codes and of lists with erasures. And what a reader of a field leaves is the field's reading.
 use Rattle.std.proofs.Common.{◌≡◌, ℕ, ◌+◌, ◌-◌, ◌*◌, ◌≤◌, Bool, true, nat_le, List, [], ◌∷◌, length, take, Option, Some, None, All, option_map, refl, subst, ap, sym, ◌∙◌, arith}
-use Rattle.std.specs.Bool.{beq}
-use Rattle.std.specs.List.{list_all}
-use Rattle.std.proofs.lemmas.Bool.{leb-true, and_parts}
-use Rattle.std.proofs.lemmas.Cmp.{on_equiv, nat_eq_equiv}
-use Rattle.std.proofs.lemmas.List.{length-take-le}
-use Rattle.std.proofs.lemmas.List.Elements.{All-nil, All-cons}
-use Rattle.p25_code.specs.declared.code.Reading.{Reading}
-use Rattle.p25_code.specs.declared.code.Reading.TheVariants.{Found, Beyond}
-use Rattle.p25_code.specs.Readings.{IsReadAs, word_read}
-use Rattle.p25_code.specs.Erasures.{erased_cost}
+use Rattle.std.proofs.{lemmas.Bool.{leb-true, and_parts}, lemmas.Cmp.{on_equiv, nat_eq_equiv}, lemmas.List.{length-take-le}, lemmas.List.Elements.{All-nil, All-cons}}
+use Rattle.std.specs.{Bool.{beq}, List.{list_all}}
+use Rattle.p25_code.specs.{declared.code.Reading.{Reading}, declared.code.Reading.TheVariants.{Found, Beyond}, Readings.{IsReadAs, word_read}, Erasures.{erased_cost}}
 use Rattle.p25_code.specs.ErasedReadings.{IsErasedReadAs, IsWithinCost}
-use Rattle.p25_code.proofs.ReadingLaws.{IsBlockCode, read_as_sent}
-use Rattle.p25_code.proofs.ErasedLaws.{erased_read_as_sent}
-use Rattle.p25_gf64.specs.declared.symbol.Sym.{Sym}
-use Rattle.p25_gf64.specs.Symbol.{number}
+use Rattle.p25_code.proofs.{ReadingLaws.{IsBlockCode, read_as_sent}, ErasedLaws.{erased_read_as_sent}}
+use Rattle.p25_gf64.specs.{declared.symbol.Sym.{Sym}, Symbol.{number}}
 use Rattle.p25_gf64.proofs.SymbolLaws.{same_from_eq}
-use Rattle.p25_reed_solomon.specs.Words.{IsCode, IsWord, radius_of, same_symbols}
-use Rattle.p25_reed_solomon.specs.WordLaws.{begins_of, length_of_word_of, one_word_of, within_of, words_apart}
+use Rattle.p25_reed_solomon.specs.{Words.{IsCode, IsWord, radius_of, same_symbols}, WordLaws.{begins_of, length_of_word_of, one_word_of, within_of, words_apart}}
 use Rattle.p25_reed_solomon.specs.RsReadings.{erasures_within_of, rs_erased_reading_of, rs_erased_reads_as}
-use Rattle.p25_coded_fields.specs.Layouts.{Layout, field_layout, received_in, sent_in, outer_word_of, field_reading_of}
-use Rattle.p25_coded_fields.specs.Within.{HasCodes, HasField, IsFieldNear}
+use Rattle.p25_coded_fields.specs.{Layouts.{Layout, field_layout, received_in, sent_in, outer_word_of, field_reading_of}, Within.{HasCodes, HasField, IsFieldNear}}
 use Rattle.p25_coded_fields.proofs.WithinLaws.{field_reading_of-none, field_reading_of-some}
 
 -- a Reed-Solomon code is a block code

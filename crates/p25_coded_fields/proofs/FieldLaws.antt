@@ -1,21 +1,15 @@
 -- A field is there where the inner words of its symbols stand at its places: joined over the places, the symbols that the words begin
 -- with are the groups of symbols joined, and these are all of them. The bits of a field that was written have them a step apart.
-use Rattle.std.proofs.Common.{◌≡◌, ℕ, zero, suc, ◌+◌, ◌*◌, ◌<◌, ◌≤◌, Bool, List, [], ◌∷◌, ◌++◌, length, take, get_or, All, refl, ap, ap₂, sym, ◌∙◌, subst, arith}
+use Rattle.std.proofs.{Common.{◌≡◌, ℕ, zero, suc, ◌+◌, ◌*◌, ◌<◌, ◌≤◌, Bool, List, [], ◌∷◌, ◌++◌, length, take, get_or, All, refl, ap, ap₂, sym, ◌∙◌, subst, arith}, Math.Nat.{mul-suc}}
+use Rattle.std.proofs.{lemmas.List.{append-nil, take_all, take_more}, lemmas.List.Concat.{flat_map-append}}
 use Rattle.std.specs.List.{flat_map}
-use Rattle.std.proofs.Math.Nat.{mul-suc}
-use Rattle.std.proofs.lemmas.List.{append-nil, take_all, take_more}
-use Rattle.std.proofs.lemmas.List.Concat.{flat_map-append}
-use Rattle.p25_bits.specs.Bits.{part}
-use Rattle.p25_bits.specs.Numbers.{joined_below}
-use Rattle.p25_bits.proofs.PartLaws.{length-part}
-use Rattle.p25_bits.proofs.NumbersLaws.{joined_below-zero, joined_below-suc, joined_below-same, joined_below-parts, length-joined_below, part-joined_below}
+use Rattle.p25_bits.specs.{Bits.{part}, Numbers.{joined_below}}
+use Rattle.p25_bits.proofs.{PartLaws.{length-part}, NumbersLaws.{joined_below-zero, joined_below-suc, joined_below-same, joined_below-parts, length-joined_below, part-joined_below}}
 use Rattle.p25_code.specs.Words.{IsEncoding}
 use Rattle.p25_gf64.specs.declared.symbol.Sym.{Sym}
 use Rattle.p25_link.specs.Symbols.{symbols_in, symbol_bits}
 use Rattle.p25_link.proofs.SymbolsLaws.{length-symbol_bits, length-symbols_in, symbol_bits-symbols_in, symbols_in-symbol_bits}
-use Rattle.p25_coded_fields.specs.Layouts.{Layout, places_from, sent_in, field_bits}
-use Rattle.p25_coded_fields.specs.Written.{Encodes}
-use Rattle.p25_coded_fields.specs.Within.{HasField}
+use Rattle.p25_coded_fields.specs.{Layouts.{Layout, places_from, sent_in, field_bits}, Written.{Encodes}, Within.{HasField}}
 use Rattle.p25_coded_fields.proofs.SymbolsLaws.{room_at, symbols_in-take}
 
 -- places a step apart

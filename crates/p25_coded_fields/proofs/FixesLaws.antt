@@ -1,23 +1,15 @@
 -- Fixes place by place: one inner word more is one run of bits more in both lists, and their distances add up.
 use Rattle.std.proofs.Common.{◌≡◌, ℕ, ◌+◌, ◌*◌, ◌<◌, ◌≤◌, ◌^◌, Bool, List, [], ◌∷◌, ◌++◌, length, take, get_or, Option, Some, None, IfSome, All, refl, ap, ap₂, sym, subst, ◌∙◌, arith, zero-add, length-append}
-use Rattle.std.specs.Bool.{beq}
-use Rattle.std.specs.List.{flat_map}
-use Rattle.std.proofs.Math.Nat.{mul-le-mul_left, mul_comm}
-use Rattle.std.proofs.lemmas.List.{append-nil, length-take-le, take_all, take_more}
-use Rattle.std.proofs.lemmas.List.Concat.{flat_map-append}
-use Rattle.std.proofs.lemmas.Slice.{take-put_mid}
+use Rattle.std.proofs.{Math.Nat.{mul-le-mul_left, mul_comm}, lemmas.List.{append-nil, length-take-le, take_all, take_more}, lemmas.List.Concat.{flat_map-append}, lemmas.Slice.{take-put_mid}}
+use Rattle.std.specs.{Bool.{beq}, List.{flat_map}}
 use borrow.Rule.Slice.PartMut.{put_mid}
-use Rattle.p25_bits.specs.Bits.{part}
-use Rattle.p25_bits.specs.Distance.{distance_of}
-use Rattle.p25_bits.proofs.DistanceLaws.{distance_by-append, distance_of-same}
-use Rattle.p25_bits.proofs.NumbersLaws.{joined_below-zero, joined_below-more, joined_below-same}
+use Rattle.p25_bits.specs.{Bits.{part}, Distance.{distance_of}}
+use Rattle.p25_bits.proofs.{DistanceLaws.{distance_by-append, distance_of-same}, NumbersLaws.{joined_below-zero, joined_below-more, joined_below-same}}
 use Rattle.p25_bits.proofs.PartLaws.{length-part, part_add, part_left, part_last}
 use Rattle.p25_gf64.specs.declared.symbol.Sym.{Sym}
 use Rattle.p25_link.specs.Symbols.{symbol_bits}
 use Rattle.p25_link.proofs.SymbolsLaws.{length-symbol_bits}
-use Rattle.p25_coded_fields.specs.Layouts.{field_bits}
-use Rattle.p25_coded_fields.specs.Written.{Encodes}
-use Rattle.p25_coded_fields.specs.Fixes.{inner_bits, field_fixes_of, AreCounted, IsInnerCount}
+use Rattle.p25_coded_fields.specs.{Layouts.{field_bits}, Written.{Encodes}, Fixes.{inner_bits, field_fixes_of, AreCounted, IsInnerCount}}
 use Rattle.p25_coded_fields.proofs.SymbolsLaws.{one_more, room_at}
 
 -- no inner word

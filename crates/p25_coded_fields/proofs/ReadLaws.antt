@@ -1,21 +1,11 @@
 -- The reader of fields: what one inner word gives, by whether it is read, and one more inner word in the loop.
 use Rattle.std.proofs.Common.{◌≡◌, ℕ, zero, suc, ◌+◌, ◌-◌, ◌*◌, ◌/◌, ◌^◌, ◌<◌, ◌≤◌, Bool, true, false, cond, List, [], ◌∷◌, ◌++◌, length, take, map, replicate, get_or, bit_xor, Option, Some, None, option_map, refl, subst, ap, ap₂, sym, ◌∙◌, arith}
-use Rattle.std.specs.List.{flat_map}
-use Rattle.std.specs.Int.RustNames.{count_ones}
-use Rattle.std.proofs.lemmas.List.{append-nil, length-take-le, take_all, take_more}
-use Rattle.std.proofs.lemmas.List.Concat.{flat_map-append}
-use Rattle.std.proofs.lemmas.List.Elements.{All-replicate}
-use Rattle.std.proofs.lemmas.Slice.{take-put_mid}
+use Rattle.std.proofs.{lemmas.List.{append-nil, length-take-le, take_all, take_more}, lemmas.List.Concat.{flat_map-append}, lemmas.List.Elements.{All-replicate}, lemmas.Slice.{take-put_mid}}
+use Rattle.std.specs.{List.{flat_map}, Int.RustNames.{count_ones}}
 use borrow.Rule.Slice.PartMut.{put_mid}
-use Rattle.p25_bits.specs.Bits.{bits_of, field_of, part}
-use Rattle.p25_bits.specs.Distance.{distance_of}
-use Rattle.p25_bits.proofs.BitsLaws.{length-bits_of, take-bits_of}
-use Rattle.p25_bits.proofs.DistanceLaws.{distance_of-bits_of, same_from_distance_by}
-use Rattle.p25_bits.proofs.NumbersLaws.{bits_of-field}
-use Rattle.p25_code.specs.Readings.{IsReadAs}
-use Rattle.p25_code.specs.Words.{IsEncoding}
-use Rattle.p25_code.specs.declared.code.Reading.TheVariants.{Found}
-use Rattle.p25_code.specs.Erasures.{without_erased, IsErasedReading}
+use Rattle.p25_bits.specs.{Bits.{bits_of, field_of, part}, Distance.{distance_of}}
+use Rattle.p25_bits.proofs.{BitsLaws.{length-bits_of, take-bits_of}, DistanceLaws.{distance_of-bits_of, same_from_distance_by}, NumbersLaws.{bits_of-field}}
+use Rattle.p25_code.specs.{Readings.{IsReadAs}, Words.{IsEncoding}, declared.code.Reading.TheVariants.{Found}, Erasures.{without_erased, IsErasedReading}}
 use Rattle.p25_code.proofs.ErasedLaws.{without_erased-none}
 use Rattle.p25_gf64.specs.declared.symbol.Sym.{Sym}
 use Rattle.p25_link.specs.Symbols.{symbols_in, symbol_bits}

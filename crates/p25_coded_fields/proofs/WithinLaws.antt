@@ -2,26 +2,18 @@
 -- code reads the word that was sent. What the older measure allows, with inner words that have more wrong bits than the radius
 -- counted as lost, costs no more: place by place, an inner word within the radius costs nothing, and a lost one two for each symbol.
 use Rattle.std.proofs.Common.{◌≡◌, ℕ, suc, ◌+◌, ◌*◌, ◌≤◌, inl, inr, Bool, true, false, cond, nat_le, List, [], ◌∷◌, ◌++◌, length, take, map, Option, Some, None, option_map, All, sum_by, refl, ap, sym, ◌∙◌, arith, length-append}
+use Rattle.std.proofs.{lemmas.Bool.{cases_lt, cond-true, cond-false, le-leb, lt-leb, eq-eqb}, lemmas.List.{length-map, length-replicate}, lemmas.List.Sums.{sum_by-cons}}
 use Rattle.std.specs.List.{flat_map}
-use Rattle.std.proofs.lemmas.Bool.{cases_lt, cond-true, cond-false, le-leb, lt-leb}
-use Rattle.std.proofs.lemmas.List.{length-map, length-replicate}
-use Rattle.std.proofs.lemmas.List.Sums.{sum_by-cons}
-use Rattle.std.proofs.lemmas.Bool.{eq-eqb}
-use Rattle.p25_bits.specs.Bits.{part}
-use Rattle.p25_bits.specs.Distance.{distance_of}
-use Rattle.p25_bits.proofs.DistanceLaws.{distance_by-same, distance_of-same}
-use Rattle.p25_bits.proofs.PartLaws.{length-part}
+use Rattle.p25_bits.specs.{Bits.{part}, Distance.{distance_of}}
+use Rattle.p25_bits.proofs.{DistanceLaws.{distance_by-same, distance_of-same}, PartLaws.{length-part}}
 use Rattle.p25_code.specs.Erasures.{erasures_in, erasure_weight, letter_distance, kept_distance, erased_cost}
 use Rattle.p25_code.proofs.ErasedLaws.{erased_cost-letters}
-use Rattle.p25_gf64.specs.declared.symbol.Sym.{Sym}
-use Rattle.p25_gf64.specs.Symbol.{number}
+use Rattle.p25_gf64.specs.{declared.symbol.Sym.{Sym}, Symbol.{number}}
 use Rattle.p25_reed_solomon.specs.Words.{same_symbols}
 use Rattle.p25_link.specs.Symbols.{symbols_in}
 use Rattle.p25_link.proofs.SymbolsLaws.{length-symbols_in}
-use Rattle.p25_coded_fields.specs.Layouts.{Layout, symbols_or_erasures, received_in, outer_word_of, field_reading_of, sent_in}
-use Rattle.p25_coded_fields.specs.Within.{HasField, IsFieldNear, lost_symbols, HasCodes}
-use Rattle.p25_coded_fields.proofs.ReadLaws.{symbols_or_erasures-some, symbols_or_erasures-none}
-use Rattle.p25_coded_fields.proofs.SymbolsLaws.{one_more}
+use Rattle.p25_coded_fields.specs.{Layouts.{Layout, symbols_or_erasures, received_in, outer_word_of, field_reading_of, sent_in}, Within.{HasField, IsFieldNear, lost_symbols, HasCodes}}
+use Rattle.p25_coded_fields.proofs.{ReadLaws.{symbols_or_erasures-some, symbols_or_erasures-none}, SymbolsLaws.{one_more}}
 
 -- an inner word gives as many symbols or erasures as it carries
 pub length-symbols_or_erasures : (each : ℕ) (word : Option (List Bool)) → length (symbols_or_erasures each word) ≡ each

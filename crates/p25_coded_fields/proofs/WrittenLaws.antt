@@ -1,17 +1,13 @@
 -- What a writer of fields appends, word by word: the words written stay, the next one stands after them; and for a function that
 -- encodes, all of them are its values, since no other word has the same information.
-use Rattle.std.proofs.Common.{◌≡◌, ℕ, ◌+◌, ◌-◌, ◌*◌, ◌<◌, ◌≤◌, inl, inr, Bool, List, ◌++◌, length, take, drop, ap, ap₂, sym, ◌∙◌, subst, arith, length-append}
-use Rattle.std.proofs.Math.Nat.{mul-le-mul_left}
-use Rattle.std.proofs.lemmas.Bool.{cases_lt}
-use Rattle.std.proofs.lemmas.List.{take-append-drop, take-append-le}
+use Rattle.std.proofs.{Common.{◌≡◌, ℕ, ◌+◌, ◌-◌, ◌*◌, ◌<◌, ◌≤◌, inl, inr, Bool, List, ◌++◌, length, take, drop, ap, ap₂, sym, ◌∙◌, subst, arith, length-append}, Math.Nat.{mul-le-mul_left}}
+use Rattle.std.proofs.{lemmas.Bool.{cases_lt}, lemmas.List.{take-append-drop, take-append-le}}
 use Rattle.p25_bits.specs.Bits.{part}
-use Rattle.p25_bits.proofs.PartLaws.{length-part, part_left, part_last, drop-is_part}
-use Rattle.p25_bits.proofs.NumbersLaws.{joined_below-same, joined_below-parts}
+use Rattle.p25_bits.proofs.{PartLaws.{length-part, part_left, part_last, drop-is_part}, NumbersLaws.{joined_below-same, joined_below-parts}}
 use Rattle.p25_code.specs.Words.{IsEncoding}
 use Rattle.p25_gf64.specs.declared.symbol.Sym.{Sym}
 use Rattle.p25_link.specs.Symbols.{symbol_bits}
-use Rattle.p25_coded_fields.specs.Layouts.{field_bits}
-use Rattle.p25_coded_fields.specs.Written.{Encodes, IsPut, IsWritten}
+use Rattle.p25_coded_fields.specs.{Layouts.{field_bits}, Written.{Encodes, IsPut, IsWritten}}
 use Rattle.p25_link.proofs.SymbolsLaws.{length-symbol_bits}
 use Rattle.p25_coded_fields.proofs.SymbolsLaws.{one_more, room_at}
 

@@ -1,13 +1,10 @@
 -- In how many bits a field was received otherwise than it is sent.
-use Rattle.std.specs.Prelude.{◌≡◌, ℕ, ◌*◌, ◌<◌, ◌≤◌, Bool, List, length, take}
-use Rattle.std.specs.List.{flat_map}
-use Rattle.p25_bits.specs.Bits.{part}
-use Rattle.p25_bits.specs.Distance.{distance_of}
+use Rattle.std.specs.{Prelude.{◌≡◌, ℕ, ◌*◌, ◌<◌, ◌≤◌, Bool, List, length, take}, List.{flat_map}}
+use Rattle.p25_bits.specs.{Bits.{part}, Distance.{distance_of}}
 use Rattle.p25_code.specs.Words.{IsEncoding}
 use Rattle.p25_gf64.specs.declared.symbol.Sym.{Sym}
 use Rattle.p25_link.specs.Symbols.{symbol_bits}
-use Rattle.p25_coded_fields.specs.Layouts.{field_bits}
-use Rattle.p25_coded_fields.specs.Written.{Encodes}
+use Rattle.p25_coded_fields.specs.{Layouts.{field_bits}, Written.{Encodes}}
 
 -- the inner words of a field as they were received, one after the other
 unfoldable pub inner_bits : ℕ → List ℕ → List Bool → List Bool

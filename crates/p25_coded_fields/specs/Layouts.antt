@@ -1,8 +1,6 @@
 -- Fields of units: each is an outer word of symbols, carried by inner words of bits at places of the unit.
-use Rattle.std.specs.Prelude.{ℕ, zero, suc, ◌+◌, ◌*◌, Bool, List, [], ◌∷◌, take, map, replicate, Option, Some, None, option_map}
-use Rattle.std.specs.List.{flat_map}
-use Rattle.p25_bits.specs.Bits.{part}
-use Rattle.p25_bits.specs.Numbers.{joined_below}
+use Rattle.std.specs.{Prelude.{ℕ, zero, suc, ◌+◌, ◌*◌, Bool, List, [], ◌∷◌, take, map, replicate, Option, Some, None, option_map}, List.{flat_map}}
+use Rattle.p25_bits.specs.{Bits.{part}, Numbers.{joined_below}}
 use Rattle.p25_gf64.specs.declared.symbol.Sym.{Sym}
 use Rattle.p25_link.specs.Symbols.{symbols_in, symbol_bits}
 

@@ -1,8 +1,7 @@
 -- The damage of a field that its codes undo: twice the wrong symbols, and the erasures, are at most the check symbols of the outer
 -- code together.
 use Rattle.std.specs.Prelude.{◌≡◌, ℕ, ◌*◌, ◌≤◌, if◌then◌else◌, nat_le, Bool, List, length, take, Option, Some, All, sum_by}
-use Rattle.p25_bits.specs.Bits.{part}
-use Rattle.p25_bits.specs.Distance.{distance_of}
+use Rattle.p25_bits.specs.{Bits.{part}, Distance.{distance_of}}
 use Rattle.p25_code.specs.Erasures.{erased_cost}
 use Rattle.p25_gf64.specs.declared.symbol.Sym.{Sym}
 use Rattle.p25_reed_solomon.specs.Words.{same_symbols}

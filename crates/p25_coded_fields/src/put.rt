@@ -1,8 +1,7 @@
 //! Fields written.
 
 ghost use Rattle.std.specs.Prelude.{◌≡◌, ◌+◌, ◌*◌, ◌/◌, ◌≤◌, List, Bool, ◌++◌, length};
-ghost use Rattle.p25_coded_fields.specs.Layouts.{field_bits};
-ghost use Rattle.p25_coded_fields.specs.Written.{Encodes, IsPut, IsWritten};
+ghost use Rattle.p25_coded_fields.specs.{Layouts.{field_bits}, Written.{Encodes, IsPut, IsWritten}};
 
 use p25_bits::BitBuf;
 use p25_code::NumberCode;

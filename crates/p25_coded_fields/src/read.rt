@@ -2,11 +2,8 @@
 
 ghost use Rattle.std.specs.Prelude.{◌≡◌, ℕ, ◌+◌, ◌*◌, ◌/◌, ◌<◌, ◌≤◌, All, Bool, List, IfSome, length, replicate};
 ghost use Rattle.p25_bits.specs.Bits.{part};
-ghost use Rattle.p25_code.specs.Erasures.{without_erased};
-ghost use Rattle.p25_code.specs.Readings.{word_read};
-ghost use Rattle.p25_coded_fields.specs.Fixes.{field_fixes_of, IsInnerCount};
-ghost use Rattle.p25_coded_fields.specs.Layouts.{field_layout, symbols_or_erasures, outer_word_of};
-ghost use Rattle.p25_coded_fields.specs.Written.{Encodes};
+ghost use Rattle.p25_code.specs.{Erasures.{without_erased}, Readings.{word_read}};
+ghost use Rattle.p25_coded_fields.specs.{Fixes.{field_fixes_of, IsInnerCount}, Layouts.{field_layout, symbols_or_erasures, outer_word_of}, Written.{Encodes}};
 
 use crate::fixes::{field_fixes, total_known};
 use p25_bits::BitBuf;

@@ -1,10 +1,7 @@
 -- Laws of the packet checks: a message has one check alone, since it has one remainder, and a check has no more bits than its width.
-use Rattle.std.proofs.Common.{subst, ◌≡◌, ℕ, ◌-◌, ◌*◌, ◌%◌, ◌^◌, ◌<◌, ◌≤◌, Bool, List, ap, sym, ◌∙◌, arith, lit<}
-use Rattle.std.proofs.Math.Nat.{mod-eq_of_lt, lt_of_le_of_lt}
-use Rattle.std.proofs.Math.Pow.{pow_mono}
+use Rattle.std.proofs.{Common.{subst, ◌≡◌, ℕ, ◌-◌, ◌*◌, ◌%◌, ◌^◌, ◌<◌, ◌≤◌, Bool, List, ap, sym, ◌∙◌, arith, lit<}, Math.Nat.{mod-eq_of_lt, lt_of_le_of_lt}, Math.Pow.{pow_mono}}
 use Rattle.std.proofs.lemmas.Nat.{xor_lt, pow_pos}
-use Rattle.p25_bits.specs.Bits.{octet_bits}
-use Rattle.p25_bits.specs.Divisible.{HasDegree}
+use Rattle.p25_bits.specs.{Bits.{octet_bits}, Divisible.{HasDegree}}
 use Rattle.p25_bits.proofs.DivisibleLaws.{IsRemainder-unique}
 use Rattle.p25_crc.specs.Checks.{inverted, block_divisor, header_divisor, packet_divisor, block_message, IsCheck, IsCrc9, IsCrc16, IsCrc32}
 use Rattle.p25_crc.specs.Values.{block_degree, header_degree, packet_degree, crc9_of, crc16_of, crc32_of, IsCrc9-crc9_of, IsCrc16-crc16_of, IsCrc32-crc32_of}

@@ -1,13 +1,9 @@
 -- How the number of a message grows with each octet that a register takes in, and what check the register gives in the end.
 use Rattle.std.proofs.Common.{◌≡◌, ℕ, ◌+◌, ◌-◌, ◌*◌, ◌/◌, ◌^◌, ◌<◌, ◌≤◌, Bool, List, [], ◌∷◌, ◌++◌, length, take, drop, get_or, bit_xor, refl, ap, ap₂, sym, ◌∙◌, subst, arith, append_assoc, take-append-drop, length-drop}
+use Rattle.std.proofs.{lemmas.List.{take_all, take_more, append-nil}, Math.Nat.{mod-eq_of_lt, mul_assoc}, lemmas.Nat.{pow_pos, pow-add}}
 use Rattle.std.specs.Int.{w32, from_be_bytes}
-use Rattle.std.proofs.lemmas.List.{take_all, take_more, append-nil}
-use Rattle.std.proofs.Math.Nat.{mod-eq_of_lt, mul_assoc}
-use Rattle.std.proofs.lemmas.Nat.{pow_pos, pow-add}
-use Rattle.p25_bits.specs.Bits.{bits_of, field_of, octet_bits}
-use Rattle.p25_bits.specs.Divisible.{IsRemainder}
-use Rattle.p25_bits.proofs.BitsLaws.{field_of-nil, field_of-append, field_of-bits_of, length-bits_of, octet_bits-append, octet_bits-cons, octet_bits-nil}
-use Rattle.p25_bits.proofs.DivisibleLaws.{IsRemainder-lower}
+use Rattle.p25_bits.specs.{Bits.{bits_of, field_of, octet_bits}, Divisible.{IsRemainder}}
+use Rattle.p25_bits.proofs.{BitsLaws.{field_of-nil, field_of-append, field_of-bits_of, length-bits_of, octet_bits-append, octet_bits-cons, octet_bits-nil}, DivisibleLaws.{IsRemainder-lower}}
 use Rattle.p25_bits.proofs.DivisionLaws.{IsRemainder-without_power}
 use Rattle.p25_crc.specs.Checks.{IsCheck}
 

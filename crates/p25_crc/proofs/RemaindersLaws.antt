@@ -1,17 +1,11 @@
 -- The tables of the checks hold the remainders: the checker computes each entry by doubling. So a register takes in the bits of
 -- an octet, or of a word of four.
-use Rattle.std.proofs.Common.{◌≡◌, ℕ, ◌+◌, ◌*◌, ◌/◌, ◌%◌, ◌^◌, ◌<◌, List, [], bit_xor, get_or, refl, ap, sym, ◌∙◌, subst, arith, lit<, lit≤}
+use Rattle.std.proofs.{Common.{◌≡◌, ℕ, ◌+◌, ◌*◌, ◌/◌, ◌%◌, ◌^◌, ◌<◌, List, [], bit_xor, get_or, refl, ap, sym, ◌∙◌, subst, arith, lit<, lit≤}, lemmas.Nat.{xor_comm, xor_lt}}
 use Rattle.std.specs.Int.Bits.{xor_assoc}
-use Rattle.std.proofs.lemmas.Nat.{xor_comm, xor_lt}
-use Rattle.p25_bits.specs.Divisible.{HasDegree, IsRemainder}
-use Rattle.p25_bits.specs.Numbers.{each_below}
-use Rattle.p25_bits.proofs.NumbersLaws.{get_or-each_below}
-use Rattle.p25_bits.proofs.DivisibleLaws.{IsRemainder-lower, xor_apart}
+use Rattle.p25_bits.specs.{Divisible.{HasDegree, IsRemainder}, Numbers.{each_below}}
+use Rattle.p25_bits.proofs.{NumbersLaws.{get_or-each_below}, DivisibleLaws.{IsRemainder-lower, xor_apart}}
 use Rattle.p25_bits.proofs.DivisionLaws.{times_x, times_power, xor_times_power, IsRemainder-sum, IsRemainder-more, IsRemainder-times_power}
-use Rattle.p25_crc.specs.Checks.{block_divisor, header_divisor, packet_divisor}
-use Rattle.p25_crc.specs.Remainders.{AreRemainders}
-use Rattle.p25_crc.specs.Values.{packet_degree}
-use Rattle.p25_crc.specs.declared.remainders.TheConstants.{BLOCK, HEADER, PACKET}
+use Rattle.p25_crc.specs.{Checks.{block_divisor, header_divisor, packet_divisor}, Remainders.{AreRemainders}, Values.{packet_degree}, declared.remainders.TheConstants.{BLOCK, HEADER, PACKET}}
 
 -- the tables as the checker makes them
 unfoldable computed : ℕ → List (List ℕ)

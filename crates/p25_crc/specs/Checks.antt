@@ -1,7 +1,6 @@
 -- The three packet checks: inverted remainders of a message, taken as a polynomial over GF(2).
 use Rattle.std.specs.Prelude.{◌≡◌, ℕ, ◌+◌, ◌-◌, ◌*◌, ◌^◌, Bool, List, ◌++◌, bit_xor}
-use Rattle.p25_bits.specs.Bits.{bits_of, field_of, octet_bits}
-use Rattle.p25_bits.specs.Divisible.{IsRemainder}
+use Rattle.p25_bits.specs.{Bits.{bits_of, field_of, octet_bits}, Divisible.{IsRemainder}}
 
 -- a number of `width` bits with all of them inverted
 abbrev pub inverted : ℕ → ℕ → ℕ

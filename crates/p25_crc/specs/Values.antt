@@ -2,8 +2,7 @@
 -- known of a function here is that it gives the check.
 use Rattle.std.specs.Prelude.{ℕ, ◌*◌, ◌^◌, Bool, List, refl}
 use Rattle.std.proofs.Common.{lit<, lit≤}
-use Rattle.p25_bits.specs.Bits.{field_of, octet_bits}
-use Rattle.p25_bits.specs.Divisible.{HasDegree}
+use Rattle.p25_bits.specs.{Bits.{field_of, octet_bits}, Divisible.{HasDegree}}
 use Rattle.p25_bits.proofs.DivisibleLaws.{some_remainder}
 use Rattle.p25_crc.specs.Checks.{inverted, block_divisor, header_divisor, packet_divisor, block_message, IsCheck, IsCrc9, IsCrc16, IsCrc32}
 

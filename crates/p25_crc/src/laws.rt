@@ -1,8 +1,7 @@
 //! What the three checks are as functions. The body is empty: the function states what is proved.
 
 ghost use Rattle.std.specs.Prelude.{◌≡◌, ℕ, List};
-ghost use Rattle.p25_crc.specs.Checks.{IsCrc9, IsCrc16, IsCrc32};
-ghost use Rattle.p25_crc.specs.Values.{crc9_of, crc16_of, crc32_of};
+ghost use Rattle.p25_crc.specs.{Checks.{IsCrc9, IsCrc16, IsCrc32}, Values.{crc9_of, crc16_of, crc32_of}};
 
 /// `crc9_of`, `crc16_of` and `crc32_of` give the check of a message, and no other number is its check.
 pub fn check_laws()

@@ -19,8 +19,7 @@
 #![tactic(auto)]
 
 ghost use Rattle.std.specs.Prelude.{◌≡◌, ℕ, ◌^◌, ◌<◌};
-ghost use Rattle.p25_crc.specs.Checks.{IsCrc9, IsCrc16, IsCrc32};
-ghost use Rattle.p25_crc.specs.Values.{crc9_of, crc16_of, crc32_of};
+ghost use Rattle.p25_crc.specs.{Checks.{IsCrc9, IsCrc16, IsCrc32}, Values.{crc9_of, crc16_of, crc32_of}};
 
 pub mod laws;
 mod register;

@@ -2,10 +2,8 @@
 //! what was shifted in.
 
 ghost use Rattle.std.specs.Prelude.{◌≡◌, ℕ, ◌+◌, ◌-◌, ◌*◌, ◌^◌, ◌<◌, ◌≤◌, Bool, List, ◌++◌, length};
-ghost use Rattle.p25_bits.specs.Bits.{field_of, octet_bits};
-ghost use Rattle.p25_bits.specs.Divisible.{IsRemainder};
-ghost use Rattle.p25_crc.specs.Checks.{IsCheck};
-ghost use Rattle.p25_crc.specs.Remainders.{AreRemainders};
+ghost use Rattle.p25_bits.specs.{Bits.{field_of, octet_bits}, Divisible.{IsRemainder}};
+ghost use Rattle.p25_crc.specs.{Checks.{IsCheck}, Remainders.{AreRemainders}};
 
 use crate::remainders::Remainders;
 

@@ -1,11 +1,7 @@
 -- Whether flags miss a block, from the first flag that is false. By the laws of a search in a list.
-use Rattle.std.proofs.Common.{◌≡◌, ℕ, ◌+◌, ◌<◌, ◌≤◌, Bool, true, false, ◌&&◌, ◌||◌, List, length, take, get_or, Some, ap, ap₂, sym, ◌∙◌, arith}
-use Rattle.std.specs.Prelude.{slice_get, nat_le, not}
-use Rattle.std.specs.List.{list_any}
-use Rattle.std.proofs.lemmas.List.{get_or-take, length-take-le}
-use Rattle.std.proofs.lemmas.List.Folds.{list_any_at, list_any_more}
-use Rattle.std.proofs.lemmas.Option.{slice_get_within, get_or_from_slice_get}
-use Rattle.std.proofs.lemmas.Bool.{and_from, le-leb}
+use Rattle.std.proofs.{Common.{◌≡◌, ℕ, ◌+◌, ◌<◌, ◌≤◌, Bool, true, false, ◌&&◌, ◌||◌, List, length, take, get_or, Some, ap, ap₂, sym, ◌∙◌, arith}, lemmas.List.{get_or-take, length-take-le}}
+use Rattle.std.proofs.{lemmas.List.Folds.{list_any_at, list_any_more}, lemmas.Option.{slice_get_within, get_or_from_slice_get}, lemmas.Bool.{and_from, le-leb}}
+use Rattle.std.specs.{Prelude.{slice_get, nat_le, not}, List.{list_any}}
 
 pub misses_here : (flags : List Bool) (n i : ℕ) (flag : Bool) → n ≤ length flags → i < n → slice_get flags i ≡ Some flag → flag ≡ false → true ≡ nat_le n (length flags) && list_any not (take n flags)
 misses_here flags n i flag h below e f =

@@ -1,32 +1,18 @@
 -- Packets that are heard as they were sent: the whole packet of a message delivers it, and an ACK is heard. By the rules.
 use Rattle.std.proofs.Common.{◌≡◌, ℕ, zero, suc, ◌+◌, ◌%◌, ◌<◌, ◌≤◌, ◌⊎◌, inl, inr, true, false, eqb, List, [], ◌∷◌, ◌++◌, length, map, Option, Some, None, refl, ap, ap₂, sym, ◌∙◌, subst, arith}
-use Rattle.std.proofs.lemmas.List.{map-append}
-use Rattle.std.proofs.lemmas.Bool.{cases_lt, cond-true, cond-false, and_from, eq-eqb, ne_eqb}
+use Rattle.std.proofs.{lemmas.List.{map-append}, lemmas.Bool.{cases_lt, cond-true, cond-false, and_from, eq-eqb, ne_eqb}}
 use Rattle.p25_bits.specs.Numbers.{each_below}
 use Rattle.p25_bits.proofs.NumbersLaws.{each_below-suc}
-use Rattle.p25_packet_blocks.specs.Heads.{head_is_full, head_blocks, head_number, response_class, response_kind, response_status, response_head, confirmed_head, opening_head}
-use Rattle.p25_packet_blocks.specs.Parts.{BlockParts}
-use Rattle.p25_packet_blocks.specs.ConfirmedParts.{ConfirmedParts}
-use Rattle.p25_packet_blocks.specs.declared.block.Slot.{Slot}
-use Rattle.p25_packet_blocks.specs.declared.block.Slot.TheVariants.{Good, Bad}
-use Rattle.p25_delivery.specs.MessageBlocks.{block_count, pad_count, message_block, message_blocks}
-use Rattle.p25_delivery.specs.Places.{put_slots, all_octets, HoldsSerial, CarriesMessage, unpadded_option, read_back}
-use Rattle.p25_delivery.specs.SentPackets.{good_slot, message_packet, opening_packet, short_response, ack_packet}
-use Rattle.p25_delivery.specs.Halves.{Sending, IsNumbered, IsSending, Keeping, Receiving}
-use Rattle.p25_delivery.specs.Asked.{is_response, is_ack, asked_of}
-use Rattle.p25_delivery.specs.SenderRules.{sending_after, answered, response_heard, sender_heard, opening_number, reopened}
-use Rattle.p25_delivery.specs.ReceiverRules.{empty_places, keeping_full, keeping_for, finished, completed, filled, data_heard, receiver_heard}
-use Rattle.p25_delivery.specs.declared.sender.Outstanding.{Outstanding}
-use Rattle.p25_delivery.specs.declared.sender.Outstanding.TheVariants.{Nothing, Message, Opening}
-use Rattle.p25_messages.specs.declared.answers.SenderHeard.TheVariants.{Acknowledged, Opened as SenderOpened}
-use Rattle.p25_messages.specs.declared.answers.Heard.TheVariants.{Delivered, Opened}
-use Rattle.p25_delivery.proofs.CarriedLaws.{slots-read_back}
-use Rattle.p25_delivery.specs.Delivery.{Delivery, Session}
-use Rattle.p25_delivery.specs.AtOnce.{DeliversAtOnce, OpensAtOnce}
-use Rattle.p25_delivery.proofs.HeadLaws.{response_head-status, response_head-class, response_head-kind, response_head-format, response_head-llid, confirmed_head-full}
-use Rattle.p25_delivery.proofs.SentLaws.{counts-small, all-blocks, whole-carries}
-use Rattle.p25_delivery.proofs.ReceiverLaws.{data-is_heard, opening-is_heard}
-use Rattle.p25_delivery.proofs.SenderLaws.{offer-quiet}
+use Rattle.p25_packet_blocks.specs.{Heads.{head_is_full, head_blocks, head_number, response_class, response_kind, response_status, response_head, confirmed_head, opening_head}, Parts.{BlockParts}}
+use Rattle.p25_packet_blocks.specs.{ConfirmedParts.{ConfirmedParts}, declared.block.Slot.{Slot}, declared.block.Slot.TheVariants.{Good, Bad}}
+use Rattle.p25_delivery.specs.{MessageBlocks.{block_count, pad_count, message_block, message_blocks}, Places.{put_slots, all_octets, HoldsSerial, CarriesMessage, unpadded_option, read_back}}
+use Rattle.p25_delivery.specs.{SentPackets.{good_slot, message_packet, opening_packet, short_response, ack_packet}, Halves.{Sending, IsNumbered, IsSending, Keeping, Receiving}}
+use Rattle.p25_delivery.specs.{Asked.{is_response, is_ack, asked_of}, SenderRules.{sending_after, answered, response_heard, sender_heard, opening_number, reopened}}
+use Rattle.p25_delivery.specs.{ReceiverRules.{empty_places, keeping_full, keeping_for, finished, completed, filled, data_heard, receiver_heard}, declared.sender.Outstanding.{Outstanding}}
+use Rattle.p25_delivery.specs.{declared.sender.Outstanding.TheVariants.{Nothing, Message, Opening}, Delivery.{Delivery, Session}, AtOnce.{DeliversAtOnce, OpensAtOnce}}
+use Rattle.p25_messages.specs.{declared.answers.SenderHeard.TheVariants.{Acknowledged, Opened as SenderOpened}, declared.answers.Heard.TheVariants.{Delivered, Opened}}
+use Rattle.p25_delivery.proofs.{CarriedLaws.{slots-read_back}, HeadLaws.{response_head-status, response_head-class, response_head-kind, response_head-format, response_head-llid, confirmed_head-full}}
+use Rattle.p25_delivery.proofs.{SentLaws.{counts-small, all-blocks, whole-carries}, ReceiverLaws.{data-is_heard, opening-is_heard}, SenderLaws.{offer-quiet}}
 use Rattle.p25_delivery.proofs.PhaseLaws.{IsQuiet, IsDelivering, quiet, busy, opening}
 
 -- an ACK is one, of its status alone

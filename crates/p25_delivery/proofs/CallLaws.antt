@@ -1,22 +1,13 @@
 -- An offer, a timeout and a reopening keep a delivery in a phase: each phase in turn, by what the sender answers there.
-use Rattle.std.proofs.Common.{◌≡◌, ℕ, ◌+◌, ◌%◌, ◌<◌, ◌≤◌, ◌⊎◌, inl, inr, Bool, true, false, List, [], ◌∷◌, ◌++◌, length, Option, Some, refl, ap, sym, ◌∙◌, subst, arith}
+use Rattle.std.proofs.{Common.{◌≡◌, ℕ, ◌+◌, ◌%◌, ◌<◌, ◌≤◌, ◌⊎◌, inl, inr, Bool, true, false, List, [], ◌∷◌, ◌++◌, length, Option, Some, refl, ap, sym, ◌∙◌, subst, arith}, lemmas.Option.{IfSome_then}}
 use Rattle.std.specs.Prelude.{IfSome}
-use Rattle.std.proofs.lemmas.Option.{IfSome_then}
 use Rattle.p25_packet_blocks.specs.declared.packet.Packet.{Packet}
-use Rattle.p25_delivery.specs.Places.{held_flags}
-use Rattle.p25_delivery.specs.SentPackets.{message_packet, ack_packet, retry_packet, opening_packet}
-use Rattle.p25_delivery.specs.Halves.{Sending, Keeping, Receiving}
-use Rattle.p25_delivery.specs.SenderRules.{offered, timed_out, opening_number, reopened, is_opening}
-use Rattle.p25_delivery.specs.declared.sender.Outstanding.{Outstanding}
-use Rattle.p25_delivery.specs.declared.sender.Outstanding.TheVariants.{Message, Opening}
-use Rattle.p25_messages.specs.declared.answers.Offer.{Offer}
-use Rattle.p25_messages.specs.declared.answers.Offer.TheVariants.{Busy, Down as OfferDown}
-use Rattle.p25_messages.specs.declared.answers.Resend.{Resend}
-use Rattle.p25_messages.specs.declared.answers.Resend.TheVariants.{Sent, Idle, Down as ResendDown}
-use Rattle.p25_messages.specs.declared.answers.Reopen.{Reopen}
-use Rattle.p25_delivery.specs.HalfRules.{after_offer, after_timeout, after_reopening}
-use Rattle.p25_delivery.specs.Delivery.{Delivery, Session, present_session, first_number, newest_after, with_outbound}
-use Rattle.p25_delivery.specs.Facts.{IsDataOf, KeepsOf}
+use Rattle.p25_delivery.specs.{Places.{held_flags}, SentPackets.{message_packet, ack_packet, retry_packet, opening_packet}, Halves.{Sending, Keeping, Receiving}}
+use Rattle.p25_delivery.specs.{SenderRules.{offered, timed_out, opening_number, reopened, is_opening}, declared.sender.Outstanding.{Outstanding}}
+use Rattle.p25_delivery.specs.{declared.sender.Outstanding.TheVariants.{Message, Opening}, HalfRules.{after_offer, after_timeout, after_reopening}}
+use Rattle.p25_delivery.specs.{Delivery.{Delivery, Session, present_session, first_number, newest_after, with_outbound}, Facts.{IsDataOf, KeepsOf}}
+use Rattle.p25_messages.specs.{declared.answers.Offer.{Offer}, declared.answers.Offer.TheVariants.{Busy, Down as OfferDown}, declared.answers.Resend.{Resend}}
+use Rattle.p25_messages.specs.{declared.answers.Resend.TheVariants.{Sent, Idle, Down as ResendDown}, declared.answers.Reopen.{Reopen}}
 use Rattle.p25_delivery.proofs.SenderLaws.{IsSame, Resends, offer-quiet, offer-message, offer-opening, timeout-message, timeout-opening, timeout-quiet, reopen-cases, reopen-up}
 use Rattle.p25_delivery.proofs.SessionLaws.{with_sent, one_sent, IsMarked, marked, present-sent, present-marked, number-marked}
 use Rattle.p25_delivery.proofs.PhaseLaws.{IsQuiet, IsWaitingAnswer, IsWaiting, IsArrived, IsBusy, IsOpeningAnswer, IsOpening, IsDeliveringNow, quiet, busy, opening}

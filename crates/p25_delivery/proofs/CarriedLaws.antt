@@ -1,22 +1,17 @@
 -- A message is read back of its blocks, in whatever order they come. By recursion on the slots: a block that is put stays,
 -- as only the same block can come to its place again.
 use Rattle.std.proofs.Common.{◌≡◌, ℕ, zero, suc, ◌+◌, ◌-◌, ◌*◌, ◌<◌, ◌≤◌, inl, inr, Bool, true, false, cond, List, [], ◌∷◌, ◌++◌, length, take, drop, get_or, set, replicate, Option, Some, None, refl, ap, sym, ◌∙◌, arith, length-append, zero-add}
-use Rattle.std.specs.Prelude.{nat_lt, nat_le, eqb}
 use Rattle.std.proofs.lemmas.List.{get_or-set_same, get_or-set_other, ext_get_or, take_at, drop_at, length-replicate, take-append-le, append-nil}
 use Rattle.std.proofs.lemmas.Bool.{cases_eq, cond-true, and_from, eq-eqb, le-leb, lt-ltb}
-use Rattle.p25_bits.specs.Bits.{part}
-use Rattle.p25_bits.specs.Numbers.{octets_number, number_after, each_below, joined_below}
+use Rattle.std.specs.Prelude.{nat_lt, nat_le, eqb}
+use Rattle.p25_bits.specs.{Bits.{part}, Numbers.{octets_number, number_after, each_below, joined_below}}
 use Rattle.p25_bits.proofs.NumbersLaws.{each_below-zero, each_below-suc, length-each_below, get_or-each_below, joined_below-zero, joined_below-suc, joined_below-same, joined_below-parts}
 use Rattle.p25_bits.proofs.PartLaws.{part_whole}
 use Rattle.p25_crc.specs.Values.{crc32_of}
-use Rattle.p25_packet_blocks.specs.Image.{four_octets, checked_octets}
-use Rattle.p25_packet_blocks.specs.Parts.{BlockParts}
-use Rattle.p25_packet_blocks.specs.declared.block.Slot.{Slot}
-use Rattle.p25_packet_blocks.specs.declared.block.Slot.TheVariants.{Good, Bad}
+use Rattle.p25_packet_blocks.specs.{Image.{four_octets, checked_octets}, Parts.{BlockParts}, declared.block.Slot.{Slot}, declared.block.Slot.TheVariants.{Good, Bad}}
 use Rattle.p25_delivery.specs.MessageBlocks.{block_count, pad_count, message_octets, message_block, unpadded}
 use Rattle.p25_delivery.specs.Places.{put_block, put_slots, before_octets, all_octets, AreBlocksOf, HoldsSerial, CarriesMessage, unpadded_option, read_back}
-use Rattle.p25_delivery.proofs.PlacesLaws.{length-put_block, length-put_slots, both_octets, all_octets-append}
-use Rattle.p25_delivery.proofs.MessageBlocksLaws.{length-message_octets}
+use Rattle.p25_delivery.proofs.{PlacesLaws.{length-put_block, length-put_slots, both_octets, all_octets-append}, MessageBlocksLaws.{length-message_octets}}
 
 -- the number of the packet CRC's octets
 pub octets_number-four_octets : (n : ℕ) → octets_number (four_octets n) ≡ n

@@ -1,31 +1,19 @@
 -- The counts of sessions in any run: by what is outstanding, each event keeps the numbers sent and acknowledged together.
-use Rattle.std.proofs.Common.{◌≡◌, ℕ, ◌+◌, ◌⊎◌, inl, inr, Bool, true, false, cond, List, [], ◌∷◌, ◌++◌, length, refl, ap, sym, subst, arith, length-append}
-use Rattle.std.proofs.lemmas.List.Elements.{All-push}
+use Rattle.std.proofs.{Common.{◌≡◌, ℕ, ◌+◌, ◌⊎◌, inl, inr, Bool, true, false, cond, List, [], ◌∷◌, ◌++◌, length, refl, ap, sym, subst, arith, length-append}, lemmas.List.Elements.{All-push}}
 use Rattle.p25_packet_blocks.specs.declared.packet.Packet.{Packet}
-use Rattle.p25_delivery.specs.MessageBlocks.{block_count}
-use Rattle.p25_delivery.specs.SentPackets.{message_packet, opening_packet}
-use Rattle.p25_delivery.specs.Halves.{Sending, Receiving}
-use Rattle.p25_delivery.specs.SenderRules.{offered_beside, offered, timed_out_with, timed_out, sender_heard, opening_number, reopened, is_opening}
-use Rattle.p25_delivery.specs.ReceiverRules.{receiver_heard}
-use Rattle.p25_delivery.specs.declared.sender.Outstanding.{Outstanding}
-use Rattle.p25_delivery.specs.declared.sender.Outstanding.TheVariants.{Nothing, Message, Opening}
-use Rattle.p25_messages.specs.declared.answers.Offer.{Offer}
-use Rattle.p25_messages.specs.declared.answers.Offer.TheVariants.{Taken, Down as OfferDown}
-use Rattle.p25_messages.specs.declared.answers.Resend.{Resend}
-use Rattle.p25_messages.specs.declared.answers.Resend.TheVariants.{Sent, Idle, Down as ResendDown}
-use Rattle.p25_messages.specs.declared.answers.SenderHeard.{SenderHeard}
-use Rattle.p25_messages.specs.declared.answers.SenderHeard.TheVariants.{Retry, Repeat, Ignored as SenderIgnored, Down as HeardDown}
-use Rattle.p25_messages.specs.declared.answers.Reopen.{Reopen}
-use Rattle.p25_messages.specs.declared.answers.Heard.{Heard}
-use Rattle.p25_messages.specs.declared.answers.Heard.TheVariants.{Delivered}
+use Rattle.p25_delivery.specs.{MessageBlocks.{block_count}, SentPackets.{message_packet, opening_packet}, Halves.{Sending, Receiving}}
+use Rattle.p25_delivery.specs.{SenderRules.{offered_beside, offered, timed_out_with, timed_out, sender_heard, opening_number, reopened, is_opening}, ReceiverRules.{receiver_heard}}
+use Rattle.p25_delivery.specs.{declared.sender.Outstanding.{Outstanding}, declared.sender.Outstanding.TheVariants.{Nothing, Message, Opening}}
 use Rattle.p25_delivery.specs.HalfRules.{after_offer, after_timeout, after_reopening, after_data, after_answer}
 use Rattle.p25_delivery.specs.Delivery.{Session, Delivery, first_delivery, last_mark, sessions_of, present_session, with_outbound, with_inbound, Happening, Offering, Time_up, Opening_again, Data_heard, Answer_heard, happens, delivery_run}
 use Rattle.p25_delivery.specs.Orderly.{IsCounted, AreCounted}
+use Rattle.p25_messages.specs.{declared.answers.Offer.{Offer}, declared.answers.Offer.TheVariants.{Taken, Down as OfferDown}, declared.answers.Resend.{Resend}}
+use Rattle.p25_messages.specs.{declared.answers.Resend.TheVariants.{Sent, Idle, Down as ResendDown}, declared.answers.SenderHeard.{SenderHeard}}
+use Rattle.p25_messages.specs.{declared.answers.SenderHeard.TheVariants.{Retry, Repeat, Ignored as SenderIgnored, Down as HeardDown}, declared.answers.Reopen.{Reopen}, declared.answers.Heard.{Heard}}
+use Rattle.p25_messages.specs.declared.answers.Heard.TheVariants.{Delivered}
 use Rattle.p25_delivery.proofs.SenderLaws.{IsSame, Resends, resent-of, timeout-of, Stays, HearsAnswer, goes_on, stays, HearsOpening, opens, waits, offer-message, offer-opening, reopen-cases, message-answer, opening-answer, quiet-answer}
-use Rattle.p25_delivery.proofs.SessionLaws.{IsMarked, IsDivided, ended_sessions, sessions-split, present-sent, present-acknowledged, present-marked, first-divided}
-use Rattle.p25_delivery.proofs.EndedLaws.{happens-divided}
-use Rattle.p25_delivery.proofs.CallLaws.{offer-held}
-use Rattle.p25_delivery.proofs.RunLaws.{each-all, run-keeps_all}
+use Rattle.p25_delivery.proofs.{SessionLaws.{IsMarked, IsDivided, ended_sessions, sessions-split, present-sent, present-acknowledged, present-marked, first-divided}, EndedLaws.{happens-divided}}
+use Rattle.p25_delivery.proofs.{CallLaws.{offer-held}, RunLaws.{each-all, run-keeps_all}}
 
 -- the numbers sent and acknowledged, by what is outstanding
 unfoldable CountsBy : Outstanding → ℕ → ℕ → Type 0

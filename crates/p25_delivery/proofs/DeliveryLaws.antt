@@ -1,36 +1,23 @@
 -- A packet that is heard and true to the one sent keeps a delivery in a phase: each phase in turn, by what the station answers
 -- there. And so does every event of a clean run.
 use Rattle.std.proofs.Common.{◌≡◌, ℕ, ◌+◌, ◌%◌, ◌<◌, ◌≤◌, ◌⊎◌, inl, inr, Bool, true, false, List, [], ◌∷◌, length, Option, Some, None, refl, ap, sym, ◌∙◌, subst, arith, length-append}
-use Rattle.std.specs.Prelude.{IfSome}
 use Rattle.std.proofs.lemmas.Option.{IfSome_then, same_Some}
-use Rattle.p25_packet_blocks.specs.declared.packet.Packet.{Packet}
-use Rattle.p25_packet_blocks.specs.declared.packet.Packet.TheVariants.{Confirmed}
-use Rattle.p25_delivery.specs.Places.{held_flags}
-use Rattle.p25_delivery.specs.SentPackets.{ack_packet, retry_packet, opening_packet}
-use Rattle.p25_delivery.specs.Halves.{Sending, Keeping, Receiving, Outgoing}
-use Rattle.p25_delivery.specs.SenderRules.{sending_after, sender_heard, opening_number, is_opening}
-use Rattle.p25_delivery.specs.ReceiverRules.{receiver_heard}
-use Rattle.p25_delivery.specs.declared.sender.Outstanding.TheVariants.{Nothing, Message, Opening}
-use Rattle.p25_messages.specs.declared.answers.SenderHeard.{SenderHeard}
-use Rattle.p25_messages.specs.declared.answers.SenderHeard.TheVariants.{Acknowledged, Retry, Repeat, Ignored as SenderIgnored, Down as HeardDown}
-use Rattle.p25_messages.specs.declared.answers.Reopen.{Reopen}
-use Rattle.p25_messages.specs.declared.answers.Reopen.TheVariants.{Sent as ReopenSent, Up as ReopenUp}
-use Rattle.p25_messages.specs.declared.answers.Heard.{Heard}
-use Rattle.p25_messages.specs.declared.step_kind.StepKind.TheVariants.{Reopened}
-use Rattle.p25_delivery.specs.HalfRules.{after_reopening, after_data, after_answer}
+use Rattle.std.specs.Prelude.{IfSome}
+use Rattle.p25_packet_blocks.specs.{declared.packet.Packet.{Packet}, declared.packet.Packet.TheVariants.{Confirmed}}
+use Rattle.p25_delivery.specs.{Places.{held_flags}, SentPackets.{ack_packet, retry_packet, opening_packet}, Halves.{Sending, Keeping, Receiving, Outgoing}}
+use Rattle.p25_delivery.specs.{SenderRules.{sending_after, sender_heard, opening_number, is_opening}, ReceiverRules.{receiver_heard}}
+use Rattle.p25_delivery.specs.{declared.sender.Outstanding.TheVariants.{Nothing, Message, Opening}, HalfRules.{after_reopening, after_data, after_answer}}
 use Rattle.p25_delivery.specs.Delivery.{Session, Delivery, first_delivery, last_mark, sessions_of, present_session, first_number, newest_after, with_outbound, with_inbound, Happening, Offering, Time_up, Opening_again, Data_heard, Answer_heard, happens, delivery_run}
-use Rattle.p25_delivery.specs.Facts.{IsDataOf, KeepsOf, DeliveryFacts}
-use Rattle.p25_delivery.specs.Orderly.{IsTrueTo, IsHeardOf, IsClean, IsCleanRun, IsOrderly, AreOrderly}
-use Rattle.p25_delivery.specs.AtOnce.{DeliversAtOnce}
-use Rattle.p25_delivery.proofs.SentLaws.{data-heard, opening-packet_heard, ack-heard, retry-heard}
-use Rattle.p25_delivery.proofs.ReceiverLaws.{HearsNext, ignores, keeps, delivers, next-heard, last-heard, opening-is_heard}
+use Rattle.p25_delivery.specs.{Facts.{IsDataOf, KeepsOf, DeliveryFacts}, Orderly.{IsTrueTo, IsHeardOf, IsClean, IsCleanRun, IsOrderly, AreOrderly}, AtOnce.{DeliversAtOnce}}
+use Rattle.p25_messages.specs.{declared.answers.SenderHeard.{SenderHeard}, declared.answers.SenderHeard.TheVariants.{Acknowledged, Retry, Repeat, Ignored as SenderIgnored, Down as HeardDown}}
+use Rattle.p25_messages.specs.{declared.answers.Reopen.{Reopen}, declared.answers.Reopen.TheVariants.{Sent as ReopenSent, Up as ReopenUp}, declared.answers.Heard.{Heard}}
+use Rattle.p25_messages.specs.declared.step_kind.StepKind.TheVariants.{Reopened}
+use Rattle.p25_delivery.proofs.{SentLaws.{data-heard, opening-packet_heard, ack-heard, retry-heard}, ReceiverLaws.{HearsNext, ignores, keeps, delivers, next-heard, last-heard, opening-is_heard}}
 use Rattle.p25_delivery.proofs.SenderLaws.{IsSame, RetriesOf, HearsAnswer, goes_on, stays, HearsOpening, opens, waits, acks, acks-ack, acks-retry, message-answer, opening-answer, quiet-answer, reopen-cases}
 use Rattle.p25_delivery.proofs.SessionLaws.{with_delivered, with_acknowledged, one_delivered, one_acknowledged, IsMarked, first-divided, present-delivered, present-acknowledged}
 use Rattle.p25_delivery.proofs.EndedLaws.{happens-divided}
 use Rattle.p25_delivery.proofs.PhaseLaws.{IsQuietData, IsQuiet, IsWaitingAnswer, IsWaiting, IsArrived, IsBusy, IsOpeningAnswer, IsOpening, IsDelivering, IsDeliveringNow, quiet, busy, opening, IsKept, orderly-delivering, orderly-kept}
-use Rattle.p25_delivery.proofs.FactsLaws.{facts-delivering}
-use Rattle.p25_delivery.proofs.RunLaws.{run-keeps}
-use Rattle.p25_delivery.proofs.AtOnceLaws.{delivers-delivering}
+use Rattle.p25_delivery.proofs.{FactsLaws.{facts-delivering}, RunLaws.{run-keeps}, AtOnceLaws.{delivers-delivering}}
 use Rattle.p25_delivery.proofs.CallLaws.{newest, delivery_of_sender, busy-sender, busy-data, offer-phase, timeout-phase, reopen-phase}
 
 -- a delivery with another receiver, and another newest answer beside it

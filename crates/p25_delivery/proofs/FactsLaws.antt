@@ -1,16 +1,10 @@
 -- The facts of a delivery, from its phase. By arithmetic on the counts.
-use Rattle.std.proofs.Common.{◌≡◌, ℕ, ◌+◌, ◌-◌, ◌%◌, inl, inr, List, [], ◌∷◌, ◌++◌, length, take, Option, None, refl, ap, sym, ◌∙◌, subst, arith, length-append}
-use Rattle.std.specs.Prelude.{IfSome}
-use Rattle.std.proofs.lemmas.List.{take_all, take_at}
+use Rattle.std.proofs.{Common.{◌≡◌, ℕ, ◌+◌, ◌-◌, ◌%◌, inl, inr, List, [], ◌∷◌, ◌++◌, length, take, Option, None, refl, ap, sym, ◌∙◌, subst, arith, length-append}, lemmas.List.{take_all, take_at}}
 use Rattle.std.proofs.lemmas.Option.{IfSome_then}
+use Rattle.std.specs.Prelude.{IfSome}
 use Rattle.p25_packet_blocks.specs.declared.packet.Packet.{Packet}
-use Rattle.p25_delivery.specs.Places.{held_flags}
-use Rattle.p25_delivery.specs.SentPackets.{opening_packet, ack_packet, retry_packet}
-use Rattle.p25_delivery.specs.Halves.{Keeping}
-use Rattle.p25_delivery.specs.declared.sender.Outstanding.{Outstanding}
-use Rattle.p25_delivery.specs.declared.sender.Outstanding.TheVariants.{Nothing, Message}
-use Rattle.p25_delivery.specs.Delivery.{Delivery, Session}
-use Rattle.p25_delivery.specs.Facts.{IsDataOf, KeepsOf, SentBy, IsNewestData, SessionFacts, FactsBy}
+use Rattle.p25_delivery.specs.{Places.{held_flags}, SentPackets.{opening_packet, ack_packet, retry_packet}, Halves.{Keeping}, declared.sender.Outstanding.{Outstanding}}
+use Rattle.p25_delivery.specs.{declared.sender.Outstanding.TheVariants.{Nothing, Message}, Delivery.{Delivery, Session}, Facts.{IsDataOf, KeepsOf, SentBy, IsNewestData, SessionFacts, FactsBy}}
 use Rattle.p25_delivery.proofs.PhaseLaws.{IsQuietData, IsQuiet, IsWaitingAnswer, IsWaiting, IsArrived, IsBusy, IsDelivering, quiet, busy, opening}
 
 -- the first of a list, where all of it, or all but the last, is meant

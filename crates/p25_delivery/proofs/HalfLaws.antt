@@ -2,30 +2,19 @@
 -- sender or the receiver in turn.
 use Rattle.std.proofs.Common.{◌≡◌, ℕ, ◌+◌, ◌<◌, ◌≤◌, inl, inr, true, false, List, [], ◌∷◌, ◌++◌, length, Option, refl, ap, sym, subst, ◌∙◌, arith, length-append}
 use Rattle.std.specs.Prelude.{IfSome}
-use Rattle.p25_packet_blocks.specs.declared.packet.Packet.{Packet}
-use Rattle.p25_packet_blocks.specs.Sendable.{IsSendable}
-use Rattle.p25_delivery.specs.SentPackets.{opening_packet}
-use Rattle.p25_delivery.specs.Halves.{Sending, IsNumbered, IsSending, Receiving, Outgoing, Incoming, first_outgoing, first_incoming}
-use Rattle.p25_delivery.specs.SenderRules.{sending_after, offered, timed_out, sender_heard, opening_number, reopened, is_opening}
-use Rattle.p25_delivery.specs.ReceiverRules.{receiver_heard}
-use Rattle.p25_delivery.specs.declared.outbound.Mark.{Mark}
-use Rattle.p25_delivery.specs.declared.sender.Outstanding.{Outstanding}
-use Rattle.p25_delivery.specs.declared.sender.Outstanding.TheVariants.{Nothing, Message, Opening}
-use Rattle.p25_messages.specs.declared.answers.Offer.{Offer}
-use Rattle.p25_messages.specs.declared.answers.Resend.{Resend}
-use Rattle.p25_messages.specs.declared.answers.Resend.TheVariants.{Sent, Idle as ResendIdle, Down as DownAtTimeout}
+use Rattle.p25_packet_blocks.specs.{declared.packet.Packet.{Packet}, Sendable.{IsSendable}}
+use Rattle.p25_delivery.specs.{SentPackets.{opening_packet}, Halves.{Sending, IsNumbered, IsSending, Receiving, Outgoing, Incoming, first_outgoing, first_incoming}}
+use Rattle.p25_delivery.specs.{SenderRules.{sending_after, offered, timed_out, sender_heard, opening_number, reopened, is_opening}, ReceiverRules.{receiver_heard}, declared.outbound.Mark.{Mark}}
+use Rattle.p25_delivery.specs.{declared.sender.Outstanding.{Outstanding}, declared.sender.Outstanding.TheVariants.{Nothing, Message, Opening}}
+use Rattle.p25_delivery.specs.SoundHalves.{IsMessage, IsMessageIn, IsCountedWith, IsOutgoing, IsReceiving, IsIncoming}
+use Rattle.p25_delivery.specs.{HalfRules.{mark_of, after_offer, after_timeout, after_reopening, after_data, after_answer}, Facts.{IsDataOf}}
+use Rattle.p25_messages.specs.{declared.answers.Offer.{Offer}, declared.answers.Resend.{Resend}, declared.answers.Resend.TheVariants.{Sent, Idle as ResendIdle, Down as DownAtTimeout}}
 use Rattle.p25_messages.specs.declared.answers.SenderHeard.{SenderHeard}
 use Rattle.p25_messages.specs.declared.answers.SenderHeard.TheVariants.{Retry as HeardRetry, Repeat as HeardRepeat, Ignored as SenderIgnored, Down as DownAtAnswer}
-use Rattle.p25_messages.specs.declared.answers.Reopen.{Reopen as ReopenAnswer}
-use Rattle.p25_messages.specs.declared.answers.Heard.{Heard as HeardAnswer}
-use Rattle.p25_messages.specs.declared.answers.Heard.TheVariants.{Ignored as ReceiverIgnored}
+use Rattle.p25_messages.specs.{declared.answers.Reopen.{Reopen as ReopenAnswer}, declared.answers.Heard.{Heard as HeardAnswer}, declared.answers.Heard.TheVariants.{Ignored as ReceiverIgnored}}
 use Rattle.p25_messages.specs.declared.step_kind.StepKind.{StepKind}
-use Rattle.p25_delivery.specs.SoundHalves.{IsMessage, IsMessageIn, IsCountedWith, IsOutgoing, IsReceiving, IsIncoming}
-use Rattle.p25_delivery.specs.HalfRules.{mark_of, after_offer, after_timeout, after_reopening, after_data, after_answer}
-use Rattle.p25_delivery.specs.Facts.{IsDataOf}
 use Rattle.p25_delivery.proofs.SenderLaws.{IsSame, Resends, Stays, HearsAnswer, goes_on, stays, HearsOpening, opens, waits, offer-quiet, offer-message, offer-opening, timeout-message, timeout-opening, timeout-quiet, reopen-cases, reopen-up, message-answer, opening-answer, quiet-answer}
-use Rattle.p25_delivery.proofs.SendableLaws.{message_packet-sendable, blocks_packet-sendable, opening_packet-sendable}
-use Rattle.p25_delivery.proofs.SendingLaws.{after-sending, timeout-sending, heard-sending}
+use Rattle.p25_delivery.proofs.{SendableLaws.{message_packet-sendable, blocks_packet-sendable, opening_packet-sendable}, SendingLaws.{after-sending, timeout-sending, heard-sending}}
 use Rattle.p25_delivery.proofs.ReceivingLaws.{AnswersSendable, receiver-soundly}
 
 -- a call's half is sound, and its packet can be sent

@@ -1,8 +1,7 @@
 -- Steps of loops over lists: one more element taken, and one more flag set. By the laws of take and set.
 use Rattle.std.proofs.Common.{◌≡◌, ℕ, suc, ◌+◌, ◌-◌, ◌<◌, Bool, false, List, [], ◌∷◌, ◌++◌, length, take, replicate, map, set, Some, ap, sym, ◌∙◌, append_assoc, arith}
+use Rattle.std.proofs.{lemmas.List.{take_more, set_at, map-append, length-map, length-take-le, length-set}, lemmas.Option.{slice_get_within, get_or_from_slice_get}}
 use Rattle.std.specs.Prelude.{slice_get}
-use Rattle.std.proofs.lemmas.List.{take_more, set_at, map-append, length-map, length-take-le, length-set}
-use Rattle.std.proofs.lemmas.Option.{slice_get_within, get_or_from_slice_get}
 
 -- one more element of a list
 pub take_get : {X : Type 0} (xs : List X) (j : ℕ) (x : X) → slice_get xs j ≡ Some x → take (j + 1) xs ≡ take j xs ++ x ∷ []

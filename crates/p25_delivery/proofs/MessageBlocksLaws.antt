@@ -1,6 +1,5 @@
 -- The octets of a message and of its blocks. By the laws of lists, and of numbers in base 256.
-use Rattle.std.proofs.Common.{◌≡◌, ℕ, ◌+◌, ◌*◌, List, length, replicate, arith, length-append}
-use Rattle.std.proofs.lemmas.List.{length-replicate}
+use Rattle.std.proofs.{Common.{◌≡◌, ℕ, ◌+◌, ◌*◌, List, length, replicate, arith, length-append}, lemmas.List.{length-replicate}}
 use Rattle.p25_crc.specs.Values.{crc32_of}
 use Rattle.p25_packet_blocks.specs.Image.{four_octets, checked_octets}
 use Rattle.p25_delivery.specs.MessageBlocks.{block_count, pad_count, padded_octets, message_octets}

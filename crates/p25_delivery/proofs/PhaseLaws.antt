@@ -1,19 +1,13 @@
 -- The phases of a session: nothing is outstanding; a message is, and has not arrived or has; the opening packet is. And that the
 -- session is orderly in each. s stands for the present session, and b for the number of its first message.
 use Rattle.std.proofs.Common.{◌≡◌, ℕ, ◌+◌, ◌%◌, ◌<◌, ◌≤◌, ◌⊎◌, inl, inr, Bool, false, List, [], ◌∷◌, ◌++◌, length, Option, Some, None, ap, sym, ◌∙◌, subst, arith, length-append}
+use Rattle.std.proofs.{lemmas.List.{append-nil}, lemmas.List.Elements.{All-push}}
 use Rattle.std.specs.Prelude.{IfSome}
-use Rattle.std.proofs.lemmas.List.{append-nil}
-use Rattle.std.proofs.lemmas.List.Elements.{All-push}
 use Rattle.p25_packet_blocks.specs.declared.packet.Packet.{Packet}
-use Rattle.p25_delivery.specs.Places.{held_flags}
-use Rattle.p25_delivery.specs.SentPackets.{ack_packet, retry_packet, opening_packet}
-use Rattle.p25_delivery.specs.Halves.{Keeping, Receiving}
-use Rattle.p25_delivery.specs.declared.sender.Outstanding.TheVariants.{Nothing, Message, Opening}
-use Rattle.p25_delivery.specs.Delivery.{Delivery, Session, empty_session, sessions_of, present_session, first_number}
-use Rattle.p25_delivery.specs.Orderly.{IsOrderly, AreOrderly}
-use Rattle.p25_delivery.specs.Facts.{IsDataOf, KeepsOf}
-use Rattle.p25_delivery.proofs.SessionLaws.{ended_sessions, sessions-split, IsDivided}
-use Rattle.p25_delivery.proofs.RunLaws.{each-all}
+use Rattle.p25_delivery.specs.{Places.{held_flags}, SentPackets.{ack_packet, retry_packet, opening_packet}, Halves.{Keeping, Receiving}}
+use Rattle.p25_delivery.specs.{declared.sender.Outstanding.TheVariants.{Nothing, Message, Opening}, Delivery.{Delivery, Session, empty_session, sessions_of, present_session, first_number}}
+use Rattle.p25_delivery.specs.{Orderly.{IsOrderly, AreOrderly}, Facts.{IsDataOf, KeepsOf}}
+use Rattle.p25_delivery.proofs.{SessionLaws.{ended_sessions, sessions-split, IsDivided}, RunLaws.{each-all}}
 
 -- the newest packet of data while nothing is outstanding: the opening packet, or one of the last message
 abbrev pub IsQuietData : ℕ → List (List ℕ) → Packet → Type 0

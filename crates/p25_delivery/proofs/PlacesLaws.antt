@@ -1,12 +1,9 @@
 -- Blocks in their places: what slots one after another put there, and the octets of all. By recursion on the slots and on
 -- the places.
-use Rattle.std.proofs.Common.{◌≡◌, ℕ, suc, ◌+◌, Bool, true, false, cond, List, [], ◌∷◌, ◌++◌, length, take, Option, Some, None, refl, ap, sym, ◌∙◌, append_assoc}
-use Rattle.std.proofs.lemmas.List.{append-nil}
-use Rattle.std.specs.Prelude.{slice_get, slice_set, nat_lt}
+use Rattle.std.proofs.{Common.{◌≡◌, ℕ, suc, ◌+◌, Bool, true, false, cond, List, [], ◌∷◌, ◌++◌, length, take, Option, Some, None, refl, ap, sym, ◌∙◌, append_assoc}, lemmas.List.{append-nil}}
 use Rattle.std.proofs.Math.ListN.{length-set}
-use Rattle.p25_packet_blocks.specs.Parts.{BlockParts}
-use Rattle.p25_packet_blocks.specs.declared.block.Slot.{Slot}
-use Rattle.p25_packet_blocks.specs.declared.block.Slot.TheVariants.{Good, Bad}
+use Rattle.std.specs.Prelude.{slice_get, slice_set, nat_lt}
+use Rattle.p25_packet_blocks.specs.{Parts.{BlockParts}, declared.block.Slot.{Slot}, declared.block.Slot.TheVariants.{Good, Bad}}
 use Rattle.p25_delivery.specs.Places.{put_block, put_slots, before_octets, all_octets}
 use Rattle.p25_delivery.proofs.ListLaws.{take_get}
 

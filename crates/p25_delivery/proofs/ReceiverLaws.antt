@@ -1,27 +1,15 @@
 -- What a receiver answers to the packets of a clean delivery. By the rules, each test decided by what the packet carries.
 use Rattle.std.proofs.Common.{◌≡◌, ℕ, ◌+◌, ◌%◌, ◌<◌, ◌⊎◌, inl, inr, Bool, true, false, cond, eqb, ◌&&◌, List, [], ◌∷◌, length, get_or, Option, Some, None, refl, ap, ap₂, sym, ◌∙◌, subst, arith}
+use Rattle.std.proofs.{lemmas.List.{get_or-replicate, length-replicate}, lemmas.Option.{slice_get-get_or}, lemmas.Bool.{cases_eq, cond-true, cond-false, and_from, eq-eqb, ne_eqb}}
 use Rattle.std.specs.Prelude.{slice_get, IfSome}
-use Rattle.std.proofs.lemmas.List.{get_or-replicate, length-replicate}
-use Rattle.std.proofs.lemmas.Option.{slice_get-get_or}
-use Rattle.std.proofs.lemmas.Bool.{cases_eq, cond-true, cond-false, and_from, eq-eqb, ne_eqb}
-use Rattle.p25_packet_blocks.specs.Heads.{head_is_full, head_blocks, head_pad, head_llid, head_syn, head_number, opening_head}
-use Rattle.p25_packet_blocks.specs.Parts.{BlockParts}
-use Rattle.p25_packet_blocks.specs.ConfirmedParts.{ConfirmedParts}
-use Rattle.p25_packet_blocks.specs.declared.block.Slot.{Slot}
-use Rattle.p25_packet_blocks.specs.declared.block.Slot.TheVariants.{Good, Bad}
-use Rattle.p25_packet_blocks.specs.declared.packet.Packet.TheVariants.{Confirmed}
-use Rattle.p25_delivery.specs.MessageBlocks.{block_count, pad_count, message_octets, message_block, unpadded}
-use Rattle.p25_delivery.specs.Places.{put_block, put_slots, all_octets, held_flags, AreBlocksOf}
-use Rattle.p25_delivery.specs.SentPackets.{ack_packet, retry_packet}
-use Rattle.p25_delivery.specs.Halves.{Keeping, Receiving}
-use Rattle.p25_delivery.specs.ReceiverRules.{empty_places, keeping_full, keeping_for, finished, completed, filled, opening_heard, data_heard, receiver_heard}
-use Rattle.p25_messages.specs.declared.answers.Heard.{Heard}
-use Rattle.p25_messages.specs.declared.answers.Heard.TheVariants.{Delivered, Opened, Again, Kept, Ignored}
-use Rattle.p25_delivery.proofs.PlacesLaws.{length-put_block, length-put_slots, all_octets-empty}
-use Rattle.p25_delivery.proofs.CarriedLaws.{put_block-here, put_block-other, places-of_message, message-read_back}
-use Rattle.p25_delivery.specs.Facts.{KeepsOf}
-use Rattle.p25_delivery.proofs.HeadLaws.{opening_head-llid, opening_head-syn, opening_head-number, opening_head-blocks}
-use Rattle.p25_delivery.proofs.SentLaws.{CarriesData}
+use Rattle.p25_packet_blocks.specs.{Heads.{head_is_full, head_blocks, head_pad, head_llid, head_syn, head_number, opening_head}, Parts.{BlockParts}, ConfirmedParts.{ConfirmedParts}}
+use Rattle.p25_packet_blocks.specs.{declared.block.Slot.{Slot}, declared.block.Slot.TheVariants.{Good, Bad}, declared.packet.Packet.TheVariants.{Confirmed}}
+use Rattle.p25_delivery.specs.{MessageBlocks.{block_count, pad_count, message_octets, message_block, unpadded}, Places.{put_block, put_slots, all_octets, held_flags, AreBlocksOf}}
+use Rattle.p25_delivery.specs.{SentPackets.{ack_packet, retry_packet}, Halves.{Keeping, Receiving}}
+use Rattle.p25_delivery.specs.{ReceiverRules.{empty_places, keeping_full, keeping_for, finished, completed, filled, opening_heard, data_heard, receiver_heard}, Facts.{KeepsOf}}
+use Rattle.p25_messages.specs.{declared.answers.Heard.{Heard}, declared.answers.Heard.TheVariants.{Delivered, Opened, Again, Kept, Ignored}}
+use Rattle.p25_delivery.proofs.{PlacesLaws.{length-put_block, length-put_slots, all_octets-empty}, CarriedLaws.{put_block-here, put_block-other, places-of_message, message-read_back}}
+use Rattle.p25_delivery.proofs.{HeadLaws.{opening_head-llid, opening_head-syn, opening_head-number, opening_head-blocks}, SentLaws.{CarriesData}}
 
 -- empty places hold nothing
 empty-keeps : (message : List ℕ) → KeepsOf message (empty_places (block_count (length message)) (pad_count (length message)))

@@ -1,13 +1,7 @@
 -- What a receiver does once the blocks of a packet are in their places. By the definitions.
 use Rattle.std.proofs.Common.{◌≡◌, ℕ, List, Option, Some, None, refl, ap, sym, ◌∙◌}
-use Rattle.p25_packet_blocks.specs.Parts.{BlockParts}
-use Rattle.p25_packet_blocks.specs.Heads.{head_number}
-use Rattle.p25_packet_blocks.specs.ConfirmedParts.{ConfirmedParts}
-use Rattle.p25_packet_blocks.specs.declared.block.Slot.{Slot}
-use Rattle.p25_delivery.specs.MessageBlocks.{unpadded}
-use Rattle.p25_delivery.specs.Places.{put_slots, all_octets}
-use Rattle.p25_delivery.specs.Halves.{Keeping, Receiving}
-use Rattle.p25_delivery.specs.ReceiverRules.{finished, completed, filled}
+use Rattle.p25_packet_blocks.specs.{Parts.{BlockParts}, Heads.{head_number}, ConfirmedParts.{ConfirmedParts}, declared.block.Slot.{Slot}}
+use Rattle.p25_delivery.specs.{MessageBlocks.{unpadded}, Places.{put_slots, all_octets}, Halves.{Keeping, Receiving}, ReceiverRules.{finished, completed, filled}}
 use Rattle.p25_messages.specs.declared.answers.Heard.{Heard}
 
 -- of what was kept before, a message that is finished leaves V(R) alone

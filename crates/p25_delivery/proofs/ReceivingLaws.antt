@@ -1,27 +1,15 @@
 -- What a receiver keeps and answers, whatever it hears: V(R) has three bits, at most 127 blocks are kept, and its answer can be
 -- sent. By the rules, each test taken both ways.
 use Rattle.std.proofs.Common.{◌≡◌, ℕ, ◌+◌, ◌-◌, ◌%◌, ◌<◌, ◌≤◌, ◌⊎◌, inl, inr, Bool, true, false, cond, eqb, ◌&&◌, List, ◌++◌, length, map, replicate, Option, Some, None, ap₂, sym, subst, ◌∙◌, arith, length-append}
+use Rattle.std.proofs.{lemmas.List.{length-map, length-replicate}, lemmas.Bool.{cases_lt, cond-true, cond-false, le-leb, leb-true, false_from_ne_true}}
 use Rattle.std.specs.Prelude.{nat_le, is_some, IfSome}
-use Rattle.std.proofs.lemmas.List.{length-map, length-replicate}
-use Rattle.std.proofs.lemmas.Bool.{cases_lt, cond-true, cond-false, le-leb, leb-true, false_from_ne_true}
-use Rattle.p25_packet_blocks.specs.declared.head.PacketHead.{PacketHead}
-use Rattle.p25_packet_blocks.specs.declared.packet.Packet.{Packet}
-use Rattle.p25_packet_blocks.specs.declared.packet.Packet.TheVariants.{Confirmed, Plain}
-use Rattle.p25_packet_blocks.specs.Heads.{head_is_full, head_blocks, head_pad, head_llid, head_syn, head_number}
-use Rattle.p25_packet_blocks.specs.Parts.{BlockParts}
-use Rattle.p25_packet_blocks.specs.ConfirmedParts.{ConfirmedParts}
-use Rattle.p25_packet_blocks.specs.Sendable.{IsSendable}
-use Rattle.p25_delivery.specs.MessageBlocks.{unpadded}
-use Rattle.p25_delivery.specs.Places.{put_slots, all_octets, flag_count, held_flags}
-use Rattle.p25_delivery.specs.SentPackets.{station_llid, ack_packet, order_nack_packet}
-use Rattle.p25_delivery.specs.Halves.{Keeping, Receiving}
-use Rattle.p25_delivery.specs.ReceiverRules.{empty_places, keeping_full, keeping_for, finished, completed, filled, opening_heard, data_heard, receiver_heard}
-use Rattle.p25_messages.specs.declared.answers.Heard.{Heard}
-use Rattle.p25_messages.specs.declared.answers.Heard.TheVariants.{Delivered, Opened, Again, Kept, RefusedCrc, RefusedOrder, Ignored}
-use Rattle.p25_delivery.proofs.PlacesLaws.{length-put_slots}
-use Rattle.p25_delivery.specs.SoundHalves.{IsReceiving}
+use Rattle.p25_packet_blocks.specs.{declared.head.PacketHead.{PacketHead}, declared.packet.Packet.{Packet}, declared.packet.Packet.TheVariants.{Confirmed, Plain}}
+use Rattle.p25_packet_blocks.specs.{Heads.{head_is_full, head_blocks, head_pad, head_llid, head_syn, head_number}, Parts.{BlockParts}, ConfirmedParts.{ConfirmedParts}, Sendable.{IsSendable}}
+use Rattle.p25_delivery.specs.{MessageBlocks.{unpadded}, Places.{put_slots, all_octets, flag_count, held_flags}, SentPackets.{station_llid, ack_packet, order_nack_packet}, Halves.{Keeping, Receiving}}
+use Rattle.p25_delivery.specs.{ReceiverRules.{empty_places, keeping_full, keeping_for, finished, completed, filled, opening_heard, data_heard, receiver_heard}, SoundHalves.{IsReceiving}}
+use Rattle.p25_messages.specs.{declared.answers.Heard.{Heard}, declared.answers.Heard.TheVariants.{Delivered, Opened, Again, Kept, RefusedCrc, RefusedOrder, Ignored}}
+use Rattle.p25_delivery.proofs.{PlacesLaws.{length-put_slots}, SendableLaws.{short_response-sendable, retry_packet-sendable}}
 use Rattle.p25_packet_blocks.proofs.HeadLaws.{head_blocks-lt}
-use Rattle.p25_delivery.proofs.SendableLaws.{short_response-sendable, retry_packet-sendable}
 
 -- the answer, where there is one, can be sent
 abbrev pub AnswersSendable : Heard → Type 0

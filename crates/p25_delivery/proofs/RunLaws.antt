@@ -1,7 +1,6 @@
 -- Runs of a machine, and what holds of each entry of a list. One entry after the other.
-use Rattle.std.proofs.Common.{◌≡◌, List, [], ◌∷◌, ◌++◌, refl, ap}
+use Rattle.std.proofs.{Common.{◌≡◌, List, [], ◌∷◌, ◌++◌, refl, ap}, lemmas.List.Elements.{All-head, All-tail}}
 use Rattle.std.specs.Prelude.{All}
-use Rattle.std.proofs.lemmas.List.Elements.{All-head, All-tail}
 use Rattle.p25_delivery.specs.Runs.{run_by, steps_by, MeetAt, EachIs}
 
 -- what each step keeps whose event meets a condition, a run of such events keeps

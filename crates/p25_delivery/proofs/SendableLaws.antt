@@ -1,27 +1,19 @@
 -- The packets that stations send can be sent: their headers have ten octets, and each slot holds a block. By the laws of lists
 -- by their places.
 use Rattle.std.proofs.Common.{◌≡◌, ℕ, zero, suc, ◌+◌, ◌-◌, ◌*◌, ◌/◌, ◌%◌, ◌<◌, ◌≤◌, ◌⊎◌, inl, inr, Bool, true, false, cond, eqb, List, [], ◌∷◌, ◌++◌, length, map, get_or, drop, replicate, refl, ap, sym, ◌∙◌, arith, length-append}
-use Rattle.std.specs.Prelude.{All, nat_le, slice_index_or}
-use Rattle.std.proofs.lemmas.List.{length-map}
-use Rattle.std.proofs.lemmas.Bool.{cond-true, cond-false, le-leb, leb-true, false_from_ne_true}
+use Rattle.std.proofs.{lemmas.List.{length-map}, lemmas.Bool.{cond-true, cond-false, le-leb, leb-true, false_from_ne_true}}
 use Rattle.std.proofs.lemmas.List.Elements.{All-nil, All-cons, All-append, All-replicate, All-get_or, All-map, All-take, All-drop}
+use Rattle.std.specs.Prelude.{All, nat_le, slice_index_or}
 use Rattle.p25_bits.specs.Numbers.{each_below, joined_below, octets_from}
-use Rattle.p25_bits.proofs.PartLaws.{length-part}
-use Rattle.p25_bits.proofs.NumbersLaws.{length-each_below, All-each_below, joined_below-zero, joined_below-suc, All-joined_below, All-numbers_from}
-use Rattle.p25_packet_blocks.specs.declared.block.Slot.{Slot}
-use Rattle.p25_packet_blocks.specs.declared.block.Slot.TheVariants.{Good, Bad}
-use Rattle.p25_packet_blocks.specs.declared.packet.Packet.TheVariants.{Confirmed, Plain}
-use Rattle.p25_packet_blocks.specs.Heads.{head_format, head_blocks, confirmed_head, response_head, opening_head}
-use Rattle.p25_packet_blocks.specs.Parts.{BlockParts}
-use Rattle.p25_packet_blocks.specs.FlagOctets.{flag_octets}
+use Rattle.p25_bits.proofs.{PartLaws.{length-part}, NumbersLaws.{length-each_below, All-each_below, joined_below-zero, joined_below-suc, All-joined_below, All-numbers_from}}
+use Rattle.p25_packet_blocks.specs.{declared.block.Slot.{Slot}, declared.block.Slot.TheVariants.{Good, Bad}, declared.packet.Packet.TheVariants.{Confirmed, Plain}}
+use Rattle.p25_packet_blocks.specs.{Heads.{head_format, head_blocks, confirmed_head, response_head, opening_head}, Parts.{BlockParts}, FlagOctets.{flag_octets}}
 use Rattle.p25_packet_blocks.specs.Sendable.{AreOctets, IsHead, IsDataBlock, AreDataBlocks, IsSendable}
 use Rattle.p25_packet_blocks.proofs.ImageLaws.{AreOctets-checked_octets}
 use Rattle.p25_delivery.specs.MessageBlocks.{block_count, pad_count, message_octets, message_block, message_blocks}
-use Rattle.p25_delivery.specs.SentPackets.{good_slot, message_packet, wanted_slots, blocks_packet, opening_packet, short_response, retry_packet}
-use Rattle.p25_delivery.proofs.MessageBlocksLaws.{length-message_octets}
-use Rattle.p25_delivery.proofs.SentPacketsLaws.{wanted_slot, length-flag_octets}
+use Rattle.p25_delivery.specs.{SentPackets.{good_slot, message_packet, wanted_slots, blocks_packet, opening_packet, short_response, retry_packet}, SoundHalves.{IsMessage}}
+use Rattle.p25_delivery.proofs.{MessageBlocksLaws.{length-message_octets}, SentPacketsLaws.{wanted_slot, length-flag_octets}}
 use Rattle.p25_delivery.proofs.HeadLaws.{confirmed_head-blocks, opening_head-blocks, response_head-format}
-use Rattle.p25_delivery.specs.SoundHalves.{IsMessage}
 
 -- Headers.
 

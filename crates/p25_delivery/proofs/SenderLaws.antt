@@ -1,31 +1,18 @@
 -- What a sender answers, by what is outstanding. By the rules, each test taken both ways.
 use Rattle.std.proofs.Common.{◌≡◌, ℕ, ◌+◌, ◌<◌, ◌⊎◌, inl, inr, Bool, true, false, cond, ◌&&◌, List, length, take, Option, Some, None, refl, ap, sym, ◌∙◌, subst, arith}
-use Rattle.std.specs.Prelude.{nat_le, not}
-use Rattle.std.specs.List.{list_any}
 use Rattle.std.proofs.lemmas.Bool.{cond-true, cond-false, and_parts, eqb-true}
-use Rattle.p25_packet_blocks.specs.Heads.{response_class}
-use Rattle.p25_packet_blocks.specs.Parts.{PlainParts}
-use Rattle.p25_packet_blocks.specs.FlagOctets.{flags_of_octets}
-use Rattle.p25_packet_blocks.specs.declared.packet.Packet.{Packet}
-use Rattle.p25_packet_blocks.specs.declared.packet.Packet.TheVariants.{Confirmed, Plain}
-use Rattle.p25_delivery.specs.MessageBlocks.{block_count}
-use Rattle.p25_delivery.specs.SentPackets.{message_packet, blocks_packet, opening_packet, short_response, ack_packet, retry_packet}
-use Rattle.p25_delivery.specs.Halves.{Sending}
+use Rattle.std.specs.{Prelude.{nat_le, not}, List.{list_any}}
+use Rattle.p25_packet_blocks.specs.{Heads.{response_class}, Parts.{PlainParts}, FlagOctets.{flags_of_octets}, declared.packet.Packet.{Packet}, declared.packet.Packet.TheVariants.{Confirmed, Plain}}
+use Rattle.p25_delivery.specs.{MessageBlocks.{block_count}, SentPackets.{message_packet, blocks_packet, opening_packet, short_response, ack_packet, retry_packet}, Halves.{Sending}}
 use Rattle.p25_delivery.specs.Asked.{is_response, is_ack, is_retry, is_crc_nack, wanted_flags, asked_by_flags, asked_of}
 use Rattle.p25_delivery.specs.SenderRules.{sending_after, tried, fallen, may_send, offered_beside, offered, resent, timed_out_with, timed_out, repeated, retried, answered, response_heard, sender_heard, opening_number, reopened}
-use Rattle.p25_delivery.specs.declared.asked.Asked.{Asked}
-use Rattle.p25_delivery.specs.declared.asked.Asked.TheVariants.{Nothing as NothingAsked, NextMessage, WholeMessage, Blocks}
-use Rattle.p25_delivery.specs.declared.sender.Outstanding.{Outstanding}
-use Rattle.p25_delivery.specs.declared.sender.Outstanding.TheVariants.{Nothing, Message, Opening}
-use Rattle.p25_messages.specs.declared.answers.Offer.TheVariants.{Taken, Busy, Down as OfferDown}
-use Rattle.p25_messages.specs.declared.answers.Resend.{Resend}
-use Rattle.p25_messages.specs.declared.answers.Resend.TheVariants.{Sent, Idle, Down as ResendDown}
-use Rattle.p25_messages.specs.declared.answers.SenderHeard.{SenderHeard}
-use Rattle.p25_messages.specs.declared.answers.SenderHeard.TheVariants.{Acknowledged, Opened, Retry, Repeat, Ignored, Down as HeardDown}
-use Rattle.p25_messages.specs.declared.answers.Reopen.{Reopen}
+use Rattle.p25_delivery.specs.{declared.asked.Asked.{Asked}, declared.asked.Asked.TheVariants.{Nothing as NothingAsked, NextMessage, WholeMessage, Blocks}, declared.sender.Outstanding.{Outstanding}}
+use Rattle.p25_delivery.specs.{declared.sender.Outstanding.TheVariants.{Nothing, Message, Opening}, Facts.{IsDataOf}}
+use Rattle.p25_messages.specs.{declared.answers.Offer.TheVariants.{Taken, Busy, Down as OfferDown}, declared.answers.Resend.{Resend}}
+use Rattle.p25_messages.specs.{declared.answers.Resend.TheVariants.{Sent, Idle, Down as ResendDown}, declared.answers.SenderHeard.{SenderHeard}}
+use Rattle.p25_messages.specs.{declared.answers.SenderHeard.TheVariants.{Acknowledged, Opened, Retry, Repeat, Ignored, Down as HeardDown}, declared.answers.Reopen.{Reopen}}
 use Rattle.p25_messages.specs.declared.answers.Reopen.TheVariants.{Sent as ReopenSent, Up}
 use Rattle.p25_delivery.proofs.HeadLaws.{response_head-status, response_head-class}
-use Rattle.p25_delivery.specs.Facts.{IsDataOf}
 
 -- two senders have one number, and one message or packet outstanding
 pub record IsSame (s t : Sending) : Type 0 where

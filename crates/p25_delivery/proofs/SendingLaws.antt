@@ -1,21 +1,11 @@
 -- A sender keeps what every sender keeps, whatever it hears. By the rules, each test taken both ways.
-use Rattle.std.proofs.Common.{◌≡◌, ℕ, ◌+◌, ◌<◌, Bool, true, false, cond, List, length, refl, arith}
-use Rattle.std.proofs.lemmas.Bool.Decides.{nat_tests}
-use Rattle.p25_packet_blocks.specs.Parts.{PlainParts}
-use Rattle.p25_packet_blocks.specs.declared.packet.Packet.{Packet}
-use Rattle.p25_packet_blocks.specs.declared.packet.Packet.TheVariants.{Confirmed, Plain}
-use Rattle.p25_delivery.specs.MessageBlocks.{block_count}
-use Rattle.p25_delivery.specs.SentPackets.{message_packet, blocks_packet, opening_packet}
-use Rattle.p25_delivery.specs.Halves.{Sending, IsNumbered, IsSending}
-use Rattle.p25_delivery.specs.Asked.{is_response, is_ack, asked_of}
+use Rattle.std.proofs.{Common.{◌≡◌, ℕ, ◌+◌, ◌<◌, Bool, true, false, cond, List, length, refl, arith}, lemmas.Bool.Decides.{nat_tests}}
+use Rattle.p25_packet_blocks.specs.{Parts.{PlainParts}, declared.packet.Packet.{Packet}, declared.packet.Packet.TheVariants.{Confirmed, Plain}}
+use Rattle.p25_delivery.specs.{MessageBlocks.{block_count}, SentPackets.{message_packet, blocks_packet, opening_packet}, Halves.{Sending, IsNumbered, IsSending}, Asked.{is_response, is_ack, asked_of}}
 use Rattle.p25_delivery.specs.SenderRules.{sending_after, tried, fallen, may_send, resent, timed_out_with, timed_out, repeated, retried, answered, response_heard, sender_heard}
-use Rattle.p25_delivery.specs.declared.asked.Asked.{Asked}
-use Rattle.p25_delivery.specs.declared.asked.Asked.TheVariants.{Nothing as NothingAsked, NextMessage, WholeMessage, Blocks}
-use Rattle.p25_delivery.specs.declared.sender.Outstanding.{Outstanding}
+use Rattle.p25_delivery.specs.{declared.asked.Asked.{Asked}, declared.asked.Asked.TheVariants.{Nothing as NothingAsked, NextMessage, WholeMessage, Blocks}, declared.sender.Outstanding.{Outstanding}}
 use Rattle.p25_delivery.specs.declared.sender.Outstanding.TheVariants.{Nothing, Message, Opening}
-use Rattle.p25_messages.specs.declared.answers.Resend.{Resend}
-use Rattle.p25_messages.specs.declared.answers.Resend.TheVariants.{Sent, Down as ResendDown}
-use Rattle.p25_messages.specs.declared.answers.SenderHeard.{SenderHeard}
+use Rattle.p25_messages.specs.{declared.answers.Resend.{Resend}, declared.answers.Resend.TheVariants.{Sent, Down as ResendDown}, declared.answers.SenderHeard.{SenderHeard}}
 use Rattle.p25_messages.specs.declared.answers.SenderHeard.TheVariants.{Opened, Retry, Repeat, Ignored, Down as HeardDown}
 
 -- after the number of what was outstanding

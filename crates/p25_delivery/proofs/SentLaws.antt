@@ -1,22 +1,14 @@
 -- The packets that carry a message, and those that are true to one. By recursion on their slots.
 use Rattle.std.proofs.Common.{◌≡◌, ℕ, zero, suc, ◌<◌, ◌≤◌, inl, inr, Bool, true, false, cond, List, [], ◌∷◌, ◌++◌, length, map, refl, ap, sym, ◌∙◌, subst, arith, length-append}
+use Rattle.std.proofs.{lemmas.List.{map-append}, lemmas.Bool.{false≢true}}
 use Rattle.std.specs.Prelude.{slice_index_or, nat_le}
-use Rattle.std.proofs.lemmas.List.{map-append}
-use Rattle.std.proofs.lemmas.Bool.{false≢true}
 use Rattle.p25_bits.specs.Numbers.{each_below, joined_below}
 use Rattle.p25_bits.proofs.NumbersLaws.{each_below-zero, each_below-suc, joined_below-zero, joined_below-suc}
-use Rattle.p25_packet_blocks.specs.Heads.{head_is_full, head_blocks, head_pad, head_llid, head_syn, head_number, confirmed_head, response_head, opening_head}
-use Rattle.p25_packet_blocks.specs.FlagOctets.{flag_octets}
-use Rattle.p25_packet_blocks.specs.Parts.{BlockParts, PlainParts}
-use Rattle.p25_packet_blocks.specs.ConfirmedParts.{ConfirmedParts}
-use Rattle.p25_packet_blocks.specs.declared.block.Slot.{Slot}
-use Rattle.p25_packet_blocks.specs.declared.block.Slot.TheVariants.{Good, Bad}
-use Rattle.p25_packet_blocks.specs.declared.packet.Packet.{Packet}
-use Rattle.p25_packet_blocks.specs.declared.packet.Packet.TheVariants.{Confirmed, Plain}
-use Rattle.p25_delivery.specs.MessageBlocks.{block_count, pad_count, message_block, message_blocks}
-use Rattle.p25_delivery.specs.Places.{AreBlocksOf}
-use Rattle.p25_delivery.specs.SentPackets.{good_slot, message_packet, wanted_slots, blocks_packet, opening_packet, short_response, ack_packet, retry_packet}
-use Rattle.p25_delivery.specs.Facts.{IsDataOf}
+use Rattle.p25_packet_blocks.specs.{Heads.{head_is_full, head_blocks, head_pad, head_llid, head_syn, head_number, confirmed_head, response_head, opening_head}, FlagOctets.{flag_octets}}
+use Rattle.p25_packet_blocks.specs.{Parts.{BlockParts, PlainParts}, ConfirmedParts.{ConfirmedParts}, declared.block.Slot.{Slot}, declared.block.Slot.TheVariants.{Good, Bad}}
+use Rattle.p25_packet_blocks.specs.{declared.packet.Packet.{Packet}, declared.packet.Packet.TheVariants.{Confirmed, Plain}}
+use Rattle.p25_delivery.specs.{MessageBlocks.{block_count, pad_count, message_block, message_blocks}, Places.{AreBlocksOf}}
+use Rattle.p25_delivery.specs.{SentPackets.{good_slot, message_packet, wanted_slots, blocks_packet, opening_packet, short_response, ack_packet, retry_packet}, Facts.{IsDataOf}}
 use Rattle.p25_delivery.specs.Orderly.{AreTrueSlots, IsTrueTo}
 use Rattle.p25_delivery.proofs.HeadLaws.{confirmed_head-llid, confirmed_head-syn, confirmed_head-number, confirmed_head-pad, confirmed_head-blocks, confirmed_head-full}
 

@@ -1,16 +1,10 @@
 -- The slots of a message's packets, one more block, and the packets made of them. By the laws of lists by their places.
 use Rattle.std.proofs.Common.{◌≡◌, ℕ, ◌+◌, ◌-◌, ◌*◌, ◌/◌, ◌<◌, ◌≤◌, ◌⊎◌, inl, inr, Bool, true, false, cond, eqb, List, [], ◌∷◌, ◌++◌, length, map, ap, ap₂, sym, ◌∙◌, arith, length-append}
+use Rattle.std.proofs.{lemmas.List.{map-append, append-nil}, lemmas.Option.{get_or_from_slice_get}}
 use Rattle.std.specs.Prelude.{slice_get, slice_index_or, Some}
-use Rattle.std.proofs.lemmas.List.{map-append, append-nil}
-use Rattle.std.proofs.lemmas.Option.{get_or_from_slice_get}
-use Rattle.p25_bits.specs.Bits.{part}
-use Rattle.p25_bits.specs.Numbers.{each_below, joined_below, octets_from}
+use Rattle.p25_bits.specs.{Bits.{part}, Numbers.{each_below, joined_below, octets_from}}
 use Rattle.p25_bits.proofs.NumbersLaws.{each_below-more, joined_below-more, length-numbers_from}
-use Rattle.p25_packet_blocks.specs.Parts.{BlockParts}
-use Rattle.p25_packet_blocks.specs.Heads.{confirmed_head}
-use Rattle.p25_packet_blocks.specs.FlagOctets.{flag_octets}
-use Rattle.p25_packet_blocks.specs.declared.head.PacketHead.{PacketHead}
-use Rattle.p25_packet_blocks.specs.declared.block.Slot.{Slot}
+use Rattle.p25_packet_blocks.specs.{Parts.{BlockParts}, Heads.{confirmed_head}, FlagOctets.{flag_octets}, declared.head.PacketHead.{PacketHead}, declared.block.Slot.{Slot}}
 use Rattle.p25_packet_blocks.specs.declared.packet.Packet.TheVariants.{Confirmed}
 use Rattle.p25_delivery.specs.MessageBlocks.{block_count, pad_count, message_octets, message_block, message_blocks}
 use Rattle.p25_delivery.specs.SentPackets.{station_llid, good_slot, message_packet, wanted_slots, blocks_packet}

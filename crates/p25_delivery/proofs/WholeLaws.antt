@@ -1,29 +1,16 @@
 -- The sessions of a delivery are the whole of its lists: in every run the marks stand in order, and so the parts between them end to end.
-use Rattle.std.proofs.Common.{◌≡◌, ℕ, ◌+◌, ◌-◌, ◌≤◌, Bool, false, List, [], ◌∷◌, ◌++◌, length, ap, ◌∙◌, arith, length-append, append-nil, true}
-use Rattle.std.specs.Prelude.{sum_by}
-use Rattle.std.specs.List.{flat_map}
-use Rattle.std.proofs.lemmas.List.Sums.{sum_by-cons}
+use Rattle.std.proofs.{Common.{◌≡◌, ℕ, ◌+◌, ◌-◌, ◌≤◌, Bool, false, List, [], ◌∷◌, ◌++◌, length, ap, ◌∙◌, arith, length-append, append-nil, true}, lemmas.List.Sums.{sum_by-cons}}
+use Rattle.std.specs.{Prelude.{sum_by}, List.{flat_map}}
 use Rattle.p25_bits.specs.Bits.{part}
 use Rattle.p25_bits.proofs.PartLaws.{part_add, part_whole}
-use Rattle.p25_messages.specs.declared.answers.Offer.{Offer}
-use Rattle.p25_messages.specs.declared.answers.Offer.TheVariants.{Taken}
-use Rattle.p25_messages.specs.declared.answers.Resend.{Resend}
-use Rattle.p25_messages.specs.declared.answers.Resend.TheVariants.{Sent}
-use Rattle.p25_messages.specs.declared.answers.SenderHeard.{SenderHeard}
-use Rattle.p25_messages.specs.declared.answers.SenderHeard.TheVariants.{Acknowledged}
-use Rattle.p25_messages.specs.declared.answers.Reopen.{Reopen}
-use Rattle.p25_messages.specs.declared.answers.Reopen.TheVariants.{Sent as ReopenSent}
-use Rattle.p25_messages.specs.declared.answers.Heard.{Heard}
-use Rattle.p25_messages.specs.declared.answers.Heard.TheVariants.{Delivered}
-use Rattle.p25_delivery.specs.declared.outbound.Mark.{Mark}
-use Rattle.p25_delivery.specs.Halves.{Sending, Receiving}
-use Rattle.p25_delivery.specs.HalfRules.{after_offer, after_timeout, after_reopening, after_data, after_answer}
-use Rattle.p25_delivery.specs.SenderRules.{offered, timed_out, sender_heard, reopened, is_opening}
-use Rattle.p25_delivery.specs.ReceiverRules.{receiver_heard}
+use Rattle.p25_messages.specs.{declared.answers.Offer.{Offer}, declared.answers.Offer.TheVariants.{Taken}, declared.answers.Resend.{Resend}, declared.answers.Resend.TheVariants.{Sent}}
+use Rattle.p25_messages.specs.{declared.answers.SenderHeard.{SenderHeard}, declared.answers.SenderHeard.TheVariants.{Acknowledged}, declared.answers.Reopen.{Reopen}}
+use Rattle.p25_messages.specs.{declared.answers.Reopen.TheVariants.{Sent as ReopenSent}, declared.answers.Heard.{Heard}, declared.answers.Heard.TheVariants.{Delivered}}
+use Rattle.p25_delivery.specs.{declared.outbound.Mark.{Mark}, Halves.{Sending, Receiving}, HalfRules.{after_offer, after_timeout, after_reopening, after_data, after_answer}}
+use Rattle.p25_delivery.specs.{SenderRules.{offered, timed_out, sender_heard, reopened, is_opening}, ReceiverRules.{receiver_heard}}
 use Rattle.p25_delivery.specs.Delivery.{Session, Delivery, first_delivery, first_mark, present_mark, session_between, sessions_from, with_outbound, with_inbound, Happening, Offering, Time_up, Opening_again, Data_heard, Answer_heard, happens, delivery_run}
 use Rattle.p25_delivery.specs.Orderly.{AreWhole}
-use Rattle.p25_delivery.proofs.SessionLaws.{IsWithin, first-within, within-more}
-use Rattle.p25_delivery.proofs.RunLaws.{run-keeps_all}
+use Rattle.p25_delivery.proofs.{SessionLaws.{IsWithin, first-within, within-more}, RunLaws.{run-keeps_all}}
 
 -- each mark lies within the next, and the last within the present
 unfoldable pub AreInOrder : Mark → List Mark → Mark → Type 0

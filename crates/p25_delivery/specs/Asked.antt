@@ -1,8 +1,7 @@
 -- What a response asks of a sender.
 use Rattle.std.specs.Prelude.{ℕ, ◌-◌, ◌&&◌, Bool, false, ◌==◌, nat_le, not, List, ◌++◌, length, take, map, replicate, Option, Some, None, if◌then◌else◌}
 use Rattle.std.specs.List.{list_any}
-use Rattle.p25_packet_blocks.specs.Heads.{head_format, head_llid, response_class, response_kind, response_status}
-use Rattle.p25_packet_blocks.specs.FlagOctets.{flags_of_octets}
+use Rattle.p25_packet_blocks.specs.{Heads.{head_format, head_llid, response_class, response_kind, response_status}, FlagOctets.{flags_of_octets}}
 use Rattle.p25_delivery.specs.SentPackets.{station_llid, PlainParts, PacketHead}
 pub use Rattle.p25_delivery.specs.declared.asked.Asked.{Asked, TheVariants.{Nothing, NextMessage, WholeMessage, Blocks}}
 

@@ -1,8 +1,7 @@
 -- What comes of a message, and of a reopening, where every packet is heard as it was sent.
 use Rattle.std.specs.Prelude.{◌≡◌, ℕ, List, length, None}
 use Rattle.p25_packet_blocks.specs.declared.packet.Packet.{Packet}
-use Rattle.p25_delivery.specs.MessageBlocks.{block_count}
-use Rattle.p25_delivery.specs.Halves.{Sending, Receiving}
+use Rattle.p25_delivery.specs.{MessageBlocks.{block_count}, Halves.{Sending, Receiving}}
 use Rattle.p25_delivery.specs.SenderRules.{sending_after, offered, sender_heard, reopened, Taken, Acknowledged, Opened as SenderOpened, ReopenSent}
 use Rattle.p25_delivery.specs.ReceiverRules.{receiver_heard, Delivered, Opened}
 

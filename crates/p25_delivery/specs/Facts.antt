@@ -1,7 +1,6 @@
 -- The facts that a delivery keeps in a clean run, by what is outstanding. s stands for the present session, and b for the number of its first message.
 use Rattle.std.specs.Prelude.{◌≡◌, ◌≢◌, ℕ, ◌+◌, ◌-◌, ◌%◌, ◌<◌, ◌⊎◌, Bool, List, [], ◌∷◌, ◌++◌, length, take, slice_index_or, None, Some, IfSome}
-use Rattle.p25_delivery.specs.MessageBlocks.{block_count, pad_count, message_block}
-use Rattle.p25_delivery.specs.Places.{held_flags}
+use Rattle.p25_delivery.specs.{MessageBlocks.{block_count, pad_count, message_block}, Places.{held_flags}}
 use Rattle.p25_delivery.specs.SentPackets.{message_packet, blocks_packet, opening_packet, ack_packet, retry_packet, Packet}
 use Rattle.p25_delivery.specs.Halves.{Keeping, Outstanding, Nothing, Message, Opening}
 use Rattle.p25_delivery.specs.Delivery.{Delivery, Session, empty_session, present_session, first_number}

@@ -9,8 +9,8 @@ use Rattle.p25_messages.specs.declared.answers.SenderHeard.{SenderHeard, TheVari
 use Rattle.p25_messages.specs.declared.answers.Reopen.{Reopen as ReopenAnswer, TheVariants.{Sent as ReopenSent, Up as ReopenUp}}
 use Rattle.p25_messages.specs.declared.answers.Heard.{Heard as HeardAnswer, TheVariants.{Delivered as HeardDelivered, Opened as ReceiverOpened, Again as HeardAgain, Kept as HeardKept, RefusedCrc as HeardCrc, RefusedOrder as HeardOrder, Ignored as ReceiverIgnored}}
 use Rattle.p25_messages.specs.declared.step_kind.Way.TheVariants.{Packets, Answers}
-pub use Rattle.p25_messages.specs.declared.step_kind.StepKind.{StepKind}
 use Rattle.p25_messages.specs.declared.step_kind.StepKind.TheVariants.{Taken, Busy, OfferDown, Resent, Idle, TimeoutDown, Reopened, Up, Ignored, Delivered, SynHeard, Again, Kept, RefusedCrc, RefusedOrder, Acknowledged, LinkOpened, Retry, Repeat, AnswerDown}
+pub use Rattle.p25_messages.specs.declared.step_kind.StepKind.{StepKind}
 
 -- a mark of a sending half of whose messages so many were delivered
 abbrev pub mark_of : Outgoing → ℕ → Mark

@@ -1,7 +1,6 @@
 -- A message as the blocks of a confirmed packet (PDU) carry it, and back.
 use Rattle.std.specs.Prelude.{ℕ, ◌+◌, ◌-◌, ◌*◌, ◌/◌, ◌&&◌, ◌==◌, nat_le, List, ◌++◌, length, take, drop, replicate, Option, Some, None, if◌then◌else◌}
-use Rattle.p25_bits.specs.Bits.{part}
-use Rattle.p25_bits.specs.Numbers.{octets_number, each_below}
+use Rattle.p25_bits.specs.{Bits.{part}, Numbers.{octets_number, each_below}}
 use Rattle.p25_crc.specs.Values.{crc32_of}
 use Rattle.p25_packet_blocks.specs.Image.{checked_octets}
 pub use Rattle.p25_packet_blocks.specs.Parts.{BlockParts}

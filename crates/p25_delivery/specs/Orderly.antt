@@ -1,9 +1,7 @@
 -- Runs in which each packet (PDU) that is heard is true to the one that was sent, and what is promised of each session.
 use Rattle.std.specs.Prelude.{◌≡◌, ◌≤◌, ◌⊎◌, List, [], ◌∷◌, length, Option, Some, ℕ, ◌+◌, ◌++◌, flat_map, sum_by}
-use Rattle.p25_packet_blocks.specs.declared.block.Slot.{Slot, TheVariants.{Bad}}
-use Rattle.p25_packet_blocks.specs.declared.packet.Packet.{Packet, TheVariants.{Confirmed, Plain}}
-use Rattle.p25_delivery.specs.Runs.{MeetAt, EachIs}
-use Rattle.p25_delivery.specs.Delivery.{Delivery, Happening, Offering, Data_heard, Answer_heard, happens, Session, sessions_of}
+use Rattle.p25_packet_blocks.specs.{declared.block.Slot.{Slot, TheVariants.{Bad}}, declared.packet.Packet.{Packet, TheVariants.{Confirmed, Plain}}}
+use Rattle.p25_delivery.specs.{Runs.{MeetAt, EachIs}, Delivery.{Delivery, Happening, Offering, Data_heard, Answer_heard, happens, Session, sessions_of}}
 
 -- slot by slot Bad, or the one that was sent
 unfoldable pub AreTrueSlots : List Slot → List Slot → Type 0

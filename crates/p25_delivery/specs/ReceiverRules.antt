@@ -1,9 +1,7 @@
 -- What a receiver does with a packet (PDU): the state that it has then, and its answer.
 use Rattle.std.specs.Prelude.{ℕ, ◌+◌, ◌%◌, ◌&&◌, ◌==◌, List, length, replicate, Option, Some, None, if◌then◌else◌}
-use Rattle.p25_packet_blocks.specs.Heads.{head_is_full, head_blocks, head_pad, head_llid, head_syn, head_number}
-use Rattle.p25_packet_blocks.specs.ConfirmedParts.{ConfirmedParts}
-use Rattle.p25_delivery.specs.MessageBlocks.{unpadded}
-use Rattle.p25_delivery.specs.Places.{put_slots, all_octets, held_flags}
+use Rattle.p25_packet_blocks.specs.{Heads.{head_is_full, head_blocks, head_pad, head_llid, head_syn, head_number}, ConfirmedParts.{ConfirmedParts}}
+use Rattle.p25_delivery.specs.{MessageBlocks.{unpadded}, Places.{put_slots, all_octets, held_flags}}
 use Rattle.p25_delivery.specs.SentPackets.{station_llid, ack_packet, crc_nack_packet, order_nack_packet, retry_packet, PacketHead, Packet, Confirmed, Plain}
 use Rattle.p25_delivery.specs.Halves.{Keeping, Receiving}
 pub use Rattle.p25_messages.specs.declared.answers.Heard.{Heard, TheVariants.{Delivered, Opened, Again, Kept, RefusedCrc, RefusedOrder, Ignored}}

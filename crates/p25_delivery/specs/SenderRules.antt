@@ -1,7 +1,6 @@
 -- What a sender does at each call: the state that it has then, and its answer.
 use Rattle.std.specs.Prelude.{ℕ, ◌+◌, ◌%◌, Bool, true, false, nat_lt, List, length, if◌then◌else◌}
-use Rattle.p25_delivery.specs.MessageBlocks.{block_count}
-use Rattle.p25_delivery.specs.SentPackets.{message_packet, blocks_packet, opening_packet, PlainParts, Packet, Confirmed, Plain}
+use Rattle.p25_delivery.specs.{MessageBlocks.{block_count}, SentPackets.{message_packet, blocks_packet, opening_packet, PlainParts, Packet, Confirmed, Plain}}
 use Rattle.p25_delivery.specs.Halves.{Sending, Outstanding, Nothing, Message, Opening}
 use Rattle.p25_delivery.specs.Asked.{is_response, is_ack, asked_of, Asked, Nothing as NothingAsked, NextMessage, WholeMessage, Blocks}
 pub use Rattle.p25_messages.specs.declared.answers.Offer.{Offer, TheVariants.{Taken, Busy, Down as OfferDown}}

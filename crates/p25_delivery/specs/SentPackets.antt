@@ -3,8 +3,7 @@ use Rattle.std.specs.Prelude.{ℕ, Bool, true, false, nat_le, List, [], ◌∷�
 use Rattle.p25_bits.specs.Numbers.{joined_below}
 pub use Rattle.p25_packet_blocks.specs.Parts.{BlockParts, PlainParts}
 pub use Rattle.p25_packet_blocks.specs.declared.head.PacketHead.{PacketHead}
-use Rattle.p25_packet_blocks.specs.Heads.{confirmed_head, response_head, opening_head}
-use Rattle.p25_packet_blocks.specs.FlagOctets.{flag_octets}
+use Rattle.p25_packet_blocks.specs.{Heads.{confirmed_head, response_head, opening_head}, FlagOctets.{flag_octets}}
 use Rattle.p25_packet_blocks.specs.declared.block.Slot.{Slot, TheVariants.{Good}}
 pub use Rattle.p25_packet_blocks.specs.declared.packet.Packet.{Packet, TheVariants.{Confirmed, Plain}}
 use Rattle.p25_delivery.specs.MessageBlocks.{block_count, pad_count, message_block, message_blocks}

@@ -2,8 +2,7 @@
 use Rattle.std.specs.Prelude.{◌≡◌, ℕ, ◌+◌, ◌-◌, ◌<◌, ◌≤◌, min, false, List, length, vec_len, vec_capacity, IfSome}
 use Rattle.p25_packet_blocks.specs.Sendable.{AreOctets}
 use Rattle.p25_delivery.specs.Halves.{Outstanding, Nothing, Message, Opening, IsSending, Receiving, Outgoing, Incoming}
-use Rattle.p25_delivery.specs.declared.outbound.Outbound.TheInside.{Inside as OutboundInside}
-use Rattle.p25_delivery.specs.declared.inbound.Inbound.TheInside.{Inside as InboundInside}
+use Rattle.p25_delivery.specs.{declared.outbound.Outbound.TheInside.{Inside as OutboundInside}, declared.inbound.Inbound.TheInside.{Inside as InboundInside}}
 
 -- a message of octets, at most 2,028
 pub record IsMessage (message : List ℕ) : Type 0 where

@@ -1,8 +1,6 @@
 ghost use Rattle.std.specs.Prelude.{◌≡◌, ◌+◌, ◌<◌, ◌≤◌, OnOk, OnErr, IfSome};
 ghost use Rattle.p25_packet_blocks.specs.Sendable.{IsSendable};
-ghost use Rattle.p25_delivery.specs.Halves.{first_incoming};
-ghost use Rattle.p25_delivery.specs.ReceiverRules.{receiver_heard};
-ghost use Rattle.p25_delivery.specs.HalfRules.{after_data};
+ghost use Rattle.p25_delivery.specs.{Halves.{first_incoming}, ReceiverRules.{receiver_heard}, HalfRules.{after_data}};
 
 use crate::receiver::Receiver;
 use p25_messages::{Heard, MessageList, StepKind, Way};

@@ -1,7 +1,5 @@
 ghost use Rattle.std.specs.Prelude.{◌≡◌, ◌<◌, ◌≤◌, ◌&&◌, ◌==◌, length, IfSome};
-ghost use Rattle.p25_delivery.specs.Places.{put_slots, put_block, all_octets, held_flags};
-ghost use Rattle.p25_delivery.specs.Halves.{Keeping};
-ghost use Rattle.p25_delivery.specs.ReceiverRules.{empty_places};
+ghost use Rattle.p25_delivery.specs.{Places.{put_slots, put_block, all_octets, held_flags}, Halves.{Keeping}, ReceiverRules.{empty_places}};
 
 use crate::message_octets::MessageOctets;
 use arrayvec::ArrayVec;

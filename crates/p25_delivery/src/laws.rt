@@ -2,15 +2,11 @@
 
 ghost use Rattle.std.specs.Prelude.{◌≡◌, ℕ, ◌+◌, ◌%◌, ◌≤◌, true, List, length, Some};
 ghost use Rattle.p25_packet_blocks.specs.declared.block.Slot.{Slot};
-ghost use Rattle.p25_delivery.specs.MessageBlocks.{block_count, pad_count, message_octets, unpadded};
-ghost use Rattle.p25_delivery.specs.Places.{CarriesMessage, read_back};
+ghost use Rattle.p25_delivery.specs.{MessageBlocks.{block_count, pad_count, message_octets, unpadded}, Places.{CarriesMessage, read_back}};
 ghost use Rattle.p25_delivery.specs.Delivery.{Happening, Opening_again, first_delivery, delivery_run, sessions_of, first_number, happens};
+ghost use Rattle.p25_delivery.specs.{Orderly.{IsCleanRun, AreCounted, AreOrderly, AreWhole}, Halves.{Sending, IsSending, Receiving, Nothing}};
+ghost use Rattle.p25_delivery.specs.{AtOnce.{DeliversAtOnce, OpensAtOnce}, Facts.{DeliveryFacts}, SentPackets.{station_llid}};
 ghost use Rattle.p25_messages.specs.declared.step_kind.StepKind.TheVariants.{Reopened};
-ghost use Rattle.p25_delivery.specs.Orderly.{IsCleanRun, AreCounted, AreOrderly, AreWhole};
-ghost use Rattle.p25_delivery.specs.Halves.{Sending, IsSending, Receiving, Nothing};
-ghost use Rattle.p25_delivery.specs.AtOnce.{DeliversAtOnce, OpensAtOnce};
-ghost use Rattle.p25_delivery.specs.Facts.{DeliveryFacts};
-ghost use Rattle.p25_delivery.specs.SentPackets.{station_llid};
 
 use crate::{LLID, NAC};
 

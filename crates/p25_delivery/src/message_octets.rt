@@ -1,8 +1,6 @@
 ghost use Rattle.std.specs.Prelude.{◌≡◌, ℕ, ◌+◌, ◌-◌, ◌*◌, ◌/◌, ◌%◌, ◌^◌, ◌<◌, ◌≤◌, List, [], ◌∷◌, ◌++◌, length, replicate, IfSome};
-ghost use Rattle.p25_bits.specs.Bits.{part};
-ghost use Rattle.p25_bits.specs.Numbers.{octets_number};
-ghost use Rattle.p25_delivery.specs.MessageBlocks.{block_count, pad_count, padded_octets, message_octets, unpadded};
-ghost use Rattle.p25_delivery.specs.Places.{all_octets};
+ghost use Rattle.p25_bits.specs.{Bits.{part}, Numbers.{octets_number}};
+ghost use Rattle.p25_delivery.specs.{MessageBlocks.{block_count, pad_count, padded_octets, message_octets, unpadded}, Places.{all_octets}};
 ghost use Rattle.p25_packet_blocks.specs.Parts.{BlockParts};
 
 use arrayvec::ArrayVec;

@@ -2,8 +2,7 @@
 
 ghost use Rattle.std.specs.Prelude.{◌≡◌, ◌+◌, ◌<◌, ◌≤◌, length, OnOk, OnErr, IfSome};
 ghost use Rattle.p25_packet_blocks.specs.Sendable.{IsSendable};
-ghost use Rattle.p25_delivery.specs.Halves.{first_outgoing};
-ghost use Rattle.p25_delivery.specs.SenderRules.{offered, timed_out, sender_heard, reopened, is_opening};
+ghost use Rattle.p25_delivery.specs.{Halves.{first_outgoing}, SenderRules.{offered, timed_out, sender_heard, reopened, is_opening}};
 ghost use Rattle.p25_delivery.specs.HalfRules.{after_offer, after_timeout, after_reopening, after_answer};
 
 use crate::sender::Sender;

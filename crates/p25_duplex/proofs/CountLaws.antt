@@ -1,9 +1,7 @@
 -- None is counted exactly where a run is clean, since each step of the duplex world counts its own false pass.
 use Rattle.std.proofs.Common.{◌≡◌, ℕ, Bool, List, refl}
 use Rattle.p25_stations.proofs.CountedLaws.{Counts, none-counted, none-from}
-use Rattle.p25_duplex.specs.declared.event.DuplexEvent.{DuplexEvent}
-use Rattle.p25_duplex.specs.declared.event.DuplexStep.{DuplexStep}
-use Rattle.p25_duplex.specs.DuplexSteps.{DuplexState, first_duplex, duplex_step}
+use Rattle.p25_duplex.specs.{declared.event.DuplexEvent.{DuplexEvent}, declared.event.DuplexStep.{DuplexStep}, DuplexSteps.{DuplexState, first_duplex, duplex_step}}
 use Rattle.p25_duplex.specs.DuplexRuns.{duplex_run, IsCleanDuplex}
 
 abbrev passes-in : DuplexState → ℕ

@@ -1,16 +1,12 @@
 -- Each step of a duplex world makes its history one event longer; and what its history says of it.
 use Rattle.std.proofs.Common.{◌≡◌, ℕ, List, [], ◌∷◌, ◌++◌, refl, sym, ap, subst, ◌∙◌}
 use Rattle.std.specs.Prelude.{Result, Ok, Err, IfOk, OnErr}
-use Rattle.p25_delivery.specs.Delivery.{sessions_of}
-use Rattle.p25_delivery.specs.SoundHalves.{IsMessage}
-use Rattle.p25_delivery.specs.Orderly.{AreOrderly}
-use Rattle.p25_delivery.specs.Runs.{run_by, EachIs}
+use Rattle.p25_delivery.specs.{Delivery.{sessions_of}, SoundHalves.{IsMessage}, Orderly.{AreOrderly}, Runs.{run_by, EachIs}}
 use Rattle.p25_delivery.proofs.RunLaws.{run-append}
 use Rattle.p25_stations.proofs.HistoryLaws.{each-append}
 use Rattle.p25_duplex.specs.declared.event.DuplexEvent.TheVariants.{Send}
 use Rattle.p25_duplex.specs.DuplexRuns.{DuplexEvent, DuplexState, DuplexStep, HasDuplexHistory, HasFacts, IsCleanDuplex, IsDuplexEvent, Side, delivery_after, delivery_at, duplex_step, first_duplex}
-use Rattle.p25_duplex.proofs.CountLaws.{clean-from_none}
-use Rattle.p25_duplex.proofs.RunLaws.{run-facts, run-orderly}
+use Rattle.p25_duplex.proofs.{CountLaws.{clean-from_none}, RunLaws.{run-facts, run-orderly}}
 
 -- the laws speak of an event where they do of the message that it sends
 pub event-kept : (event : DuplexEvent) → ((side : Side) (message : List ℕ) → event ≡ Send side message → IsMessage message) → IsDuplexEvent event

@@ -3,33 +3,16 @@
 use Rattle.std.proofs.Common.{◌≡◌, ℕ, ◌+◌, Bool, true, false, ◌&&◌, cond, List, [], ◌∷◌, ◌++◌, length, Option, Some, None, refl, ap, sym, ◌∙◌, arith, append_assoc, append-nil}
 use Rattle.std.proofs.lemmas.List.Sums.{sum_by-cons}
 use Rattle.p25_packet_blocks.specs.declared.packet.Packet.{Packet}
-use Rattle.p25_delivery.specs.Runs.{run_by, steps_by}
-use Rattle.p25_delivery.specs.Halves.{Sending, Receiving}
-use Rattle.p25_delivery.specs.SenderRules.{offered, timed_out, sender_heard, reopened, is_opening}
-use Rattle.p25_delivery.specs.ReceiverRules.{receiver_heard}
-use Rattle.p25_messages.specs.declared.answers.Offer.{Offer}
-use Rattle.p25_messages.specs.declared.answers.Offer.TheVariants.{Taken as OfferTaken}
-use Rattle.p25_messages.specs.declared.answers.Resend.{Resend}
-use Rattle.p25_messages.specs.declared.answers.Resend.TheVariants.{Sent}
-use Rattle.p25_messages.specs.declared.answers.SenderHeard.{SenderHeard}
-use Rattle.p25_messages.specs.declared.answers.SenderHeard.TheVariants.{Acknowledged as HeardAck}
-use Rattle.p25_messages.specs.declared.answers.Reopen.{Reopen as ReopenAnswer}
-use Rattle.p25_messages.specs.declared.answers.Reopen.TheVariants.{Sent as ReopenSent}
-use Rattle.p25_messages.specs.declared.answers.Heard.{Heard as HeardAnswer}
+use Rattle.p25_delivery.specs.{Runs.{run_by, steps_by}, Halves.{Sending, Receiving}, SenderRules.{offered, timed_out, sender_heard, reopened, is_opening}, ReceiverRules.{receiver_heard}}
+use Rattle.p25_delivery.specs.{HalfRules.{after_offer, after_timeout, after_reopening, after_data, after_answer}, Delivery.{with_outbound, with_inbound, happens}}
+use Rattle.p25_messages.specs.{declared.answers.Offer.{Offer}, declared.answers.Offer.TheVariants.{Taken as OfferTaken}, declared.answers.Resend.{Resend}, declared.answers.Resend.TheVariants.{Sent}}
+use Rattle.p25_messages.specs.{declared.answers.SenderHeard.{SenderHeard}, declared.answers.SenderHeard.TheVariants.{Acknowledged as HeardAck}, declared.answers.Reopen.{Reopen as ReopenAnswer}}
+use Rattle.p25_messages.specs.{declared.answers.Reopen.TheVariants.{Sent as ReopenSent}, declared.answers.Heard.{Heard as HeardAnswer}}
 use Rattle.p25_messages.specs.declared.answers.Heard.TheVariants.{Delivered as HeardDelivered}
-use Rattle.p25_delivery.specs.HalfRules.{after_offer, after_timeout, after_reopening, after_data, after_answer}
-use Rattle.p25_delivery.specs.Delivery.{with_outbound, with_inbound, happens}
-use Rattle.p25_stations.specs.declared.air.Carried.{Carried}
-use Rattle.p25_stations.specs.declared.air.Carried.TheVariants.{Heard}
-use Rattle.p25_stations.specs.Air.{carried_of}
-use Rattle.p25_stations.specs.declared.step.Step.{Step}
-use Rattle.p25_stations.specs.Steps.{Packets, delivery_of, heard_of}
+use Rattle.p25_stations.specs.{declared.air.Carried.{Carried}, declared.air.Carried.TheVariants.{Heard}, Air.{carried_of}, declared.step.Step.{Step}, Steps.{Packets, delivery_of, heard_of}}
 use Rattle.p25_stations.specs.Runs.{delivered_by, is_acknowledged}
-use Rattle.p25_duplex.specs.declared.side.Side.{Side}
-use Rattle.p25_duplex.specs.declared.side.Side.TheVariants.{A, B}
-use Rattle.p25_duplex.specs.declared.event.DuplexEvent.{DuplexEvent}
-use Rattle.p25_duplex.specs.declared.event.DuplexEvent.TheVariants.{Send, Timeout, Reopen, Deliver}
-use Rattle.p25_duplex.specs.declared.event.DuplexStep.{DuplexStep}
+use Rattle.p25_duplex.specs.{declared.side.Side.{Side}, declared.side.Side.TheVariants.{A, B}, declared.event.DuplexEvent.{DuplexEvent}}
+use Rattle.p25_duplex.specs.{declared.event.DuplexEvent.TheVariants.{Send, Timeout, Reopen, Deliver}, declared.event.DuplexStep.{DuplexStep}}
 use Rattle.p25_duplex.specs.DuplexSteps.{DuplexState, StationState, after_receiving, after_sending, after_step, delivered_at, delivery_between, duplex_step, heard_as, is_answer, other_side, side_of, station_at, station_step, station_told}
 use Rattle.p25_duplex.specs.DuplexRuns.{duplex_run, duplex_steps, is_side, offered_by, side_acknowledged_in, side_heard_by, side_heard_in, side_sent_by, side_sent_in}
 

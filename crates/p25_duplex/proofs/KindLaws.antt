@@ -2,16 +2,10 @@
 -- another is of its kind.
 use Rattle.std.proofs.Common.{◌≡◌, ℕ, ◌+◌, ◌%◌, inl, inr, Bool, true, false, List, Option, Some, refl, ap, sym, subst}
 use Rattle.std.specs.Prelude.{IfSome, eqb}
-use Rattle.p25_packet_blocks.specs.declared.packet.Packet.{Packet}
-use Rattle.p25_packet_blocks.specs.declared.packet.Packet.TheVariants.{Confirmed, Plain}
-use Rattle.p25_packet_blocks.specs.declared.head.PacketHead.{PacketHead}
+use Rattle.p25_packet_blocks.specs.{declared.packet.Packet.{Packet}, declared.packet.Packet.TheVariants.{Confirmed, Plain}, declared.head.PacketHead.{PacketHead}}
 use Rattle.p25_packet_blocks.specs.Heads.{head_format, confirmed_head, response_head, opening_head}
-use Rattle.p25_delivery.specs.Places.{held_flags}
-use Rattle.p25_delivery.specs.SentPackets.{message_packet, blocks_packet, opening_packet, short_response, ack_packet, retry_packet}
-use Rattle.p25_delivery.specs.declared.sender.Outstanding.{Outstanding}
-use Rattle.p25_delivery.specs.declared.sender.Outstanding.TheVariants.{Opening}
-use Rattle.p25_delivery.specs.Delivery.{Delivery, Session}
-use Rattle.p25_delivery.specs.Orderly.{IsTrueTo}
+use Rattle.p25_delivery.specs.{Places.{held_flags}, SentPackets.{message_packet, blocks_packet, opening_packet, short_response, ack_packet, retry_packet}, declared.sender.Outstanding.{Outstanding}}
+use Rattle.p25_delivery.specs.{declared.sender.Outstanding.TheVariants.{Opening}, Delivery.{Delivery, Session}, Orderly.{IsTrueTo}}
 use Rattle.p25_delivery.specs.Facts.{IsDataOf, IsNewestData, SessionFacts, FactsBy, DeliveryFacts}
 use Rattle.p25_duplex.specs.DuplexSteps.{is_answer}
 

@@ -2,16 +2,11 @@
 use Rattle.std.proofs.Common.{◌≡◌, false, List, [], ◌∷◌, Option, Some, None, refl, ap, sym, subst}
 use Rattle.std.specs.Prelude.{IfSome}
 use Rattle.p25_packet_blocks.specs.declared.packet.Packet.{Packet}
-use Rattle.p25_delivery.specs.Runs.{run_by, steps_by, EachIs}
-use Rattle.p25_delivery.specs.declared.outbound.Mark.{Mark}
+use Rattle.p25_delivery.specs.{Runs.{run_by, steps_by, EachIs}, declared.outbound.Mark.{Mark}}
 use Rattle.p25_delivery.specs.Delivery.{Delivery, Session, first_delivery, Happening, newest_after, delivery_run, first_mark, session_between, sessions_from, sessions_of}
-use Rattle.p25_delivery.specs.Orderly.{IsCleanRun, AreOrderly}
-use Rattle.p25_delivery.specs.Facts.{DeliveryFacts}
+use Rattle.p25_delivery.specs.{Orderly.{IsCleanRun, AreOrderly}, Facts.{DeliveryFacts}}
 use Rattle.p25_delivery.proofs.DeliveryLaws.{facts-kept, sessions-orderly}
-use Rattle.p25_duplex.specs.declared.side.Side.{Side}
-use Rattle.p25_duplex.specs.declared.side.Side.TheVariants.{A, B}
-use Rattle.p25_duplex.specs.declared.event.DuplexEvent.{DuplexEvent}
-use Rattle.p25_duplex.specs.declared.event.DuplexStep.{DuplexStep}
+use Rattle.p25_duplex.specs.{declared.side.Side.{Side}, declared.side.Side.TheVariants.{A, B}, declared.event.DuplexEvent.{DuplexEvent}, declared.event.DuplexStep.{DuplexStep}}
 use Rattle.p25_duplex.specs.DuplexSteps.{other_side, DuplexState, first_station, first_duplex, station_at, delivery_at, side_of, station_step, after_step, duplex_step}
 use Rattle.p25_duplex.specs.DuplexRuns.{IsDuplexEvent, AreDuplexEvents, duplex_run, duplex_steps, IsCleanDuplex, data_in, answer_in, newest_in, delivery_after}
 use Rattle.p25_duplex.proofs.TwoDeliveriesLaws.{IsRunDelivery, first-run, Newest, IsDeliveryOf, AreDeliveries, followed, AreFollowed, steps}

@@ -3,27 +3,16 @@
 use Rattle.std.proofs.Common.{◌≡◌, ℕ, Bool, true, false, List, [], ◌∷◌, ◌++◌, length, Option, Some, None, refl, ap, sym, ◌∙◌, subst}
 use Rattle.std.specs.Prelude.{if◌then◌else◌}
 use Rattle.p25_packet_blocks.specs.declared.packet.Packet.{Packet}
-use Rattle.p25_delivery.specs.Runs.{run_by, MeetAt}
-use Rattle.p25_delivery.specs.SenderRules.{offered, timed_out, sender_heard, reopened, is_opening}
-use Rattle.p25_delivery.specs.ReceiverRules.{receiver_heard}
-use Rattle.p25_delivery.specs.Halves.{Outgoing, Incoming}
+use Rattle.p25_delivery.specs.{Runs.{run_by, MeetAt}, SenderRules.{offered, timed_out, sender_heard, reopened, is_opening}, ReceiverRules.{receiver_heard}, Halves.{Outgoing, Incoming}}
 use Rattle.p25_delivery.specs.HalfRules.{after_offer, after_timeout, after_reopening, after_data, after_answer}
-use Rattle.p25_messages.specs.declared.step_kind.StepKind.{StepKind}
 use Rattle.p25_delivery.specs.Delivery.{Delivery, first_delivery, Happening, Offering, Time_up, Opening_again, Data_heard, Answer_heard, newest_after, with_outbound, with_inbound, happens, delivery_run}
-use Rattle.p25_delivery.specs.Orderly.{IsTrueTo, IsHeardOf, IsClean, IsCleanRun}
-use Rattle.p25_delivery.specs.Facts.{DeliveryFacts}
-use Rattle.p25_delivery.proofs.DeliveryLaws.{facts-kept}
-use Rattle.p25_delivery.proofs.RunLaws.{run-append, meet-append}
-use Rattle.p25_stations.specs.declared.air.Carried.{Carried}
-use Rattle.p25_stations.specs.declared.air.Carried.TheVariants.{Heard}
-use Rattle.p25_messages.specs.declared.step_kind.Way.TheVariants.{Packets}
-use Rattle.p25_stations.specs.Air.{carried_of}
-use Rattle.p25_stations.specs.Steps.{heard_of, delivery_of}
+use Rattle.p25_delivery.specs.{Orderly.{IsTrueTo, IsHeardOf, IsClean, IsCleanRun}, Facts.{DeliveryFacts}}
+use Rattle.p25_messages.specs.{declared.step_kind.StepKind.{StepKind}, declared.step_kind.Way.TheVariants.{Packets}}
+use Rattle.p25_delivery.proofs.{DeliveryLaws.{facts-kept}, RunLaws.{run-append, meet-append}}
+use Rattle.p25_stations.specs.{declared.air.Carried.{Carried}, declared.air.Carried.TheVariants.{Heard}, Air.{carried_of}, Steps.{heard_of, delivery_of}}
 use Rattle.p25_stations.proofs.AirLaws.{air-true}
-use Rattle.p25_duplex.specs.declared.event.DuplexEvent.{DuplexEvent}
-use Rattle.p25_duplex.specs.declared.event.DuplexEvent.TheVariants.{Send, Timeout, Reopen, Deliver}
-use Rattle.p25_duplex.specs.DuplexSteps.{StationState, is_answer, heard_as, delivered_at, station_step}
-use Rattle.p25_duplex.specs.DuplexRuns.{IsDuplexEvent, data_in, answer_in}
+use Rattle.p25_duplex.specs.{declared.event.DuplexEvent.{DuplexEvent}, declared.event.DuplexEvent.TheVariants.{Send, Timeout, Reopen, Deliver}}
+use Rattle.p25_duplex.specs.{DuplexSteps.{StationState, is_answer, heard_as, delivered_at, station_step}, DuplexRuns.{IsDuplexEvent, data_in, answer_in}}
 use Rattle.p25_duplex.proofs.KindLaws.{IsData, IsAnswer, sent-data, answered-answer, true-kind}
 
 -- Clean runs of a delivery.

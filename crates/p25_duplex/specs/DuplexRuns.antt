@@ -1,9 +1,6 @@
 -- Runs of the duplex world: its state and its steps after a list of events, and the delivery of the messages of a side.
 use Rattle.std.specs.Prelude.{◌≡◌, ℕ, Bool, true, false, ◌&&◌, List, [], ◌∷◌, ◌++◌, count_by, Option, Some, None, if◌then◌else◌}
-use Rattle.p25_delivery.specs.SoundHalves.{IsMessage}
-use Rattle.p25_delivery.specs.Runs.{run_by, steps_by, EachIs}
-use Rattle.p25_delivery.specs.Delivery.{Delivery, newest_after}
-use Rattle.p25_delivery.specs.Facts.{DeliveryFacts}
+use Rattle.p25_delivery.specs.{SoundHalves.{IsMessage}, Runs.{run_by, steps_by, EachIs}, Delivery.{Delivery, newest_after}, Facts.{DeliveryFacts}}
 use Rattle.p25_messages.specs.declared.step_kind.StepKind.{StepKind, TheVariants.{Taken}}
 use Rattle.p25_stations.specs.Runs.{delivered_by, is_acknowledged}
 pub use Rattle.p25_duplex.specs.DuplexSteps.{DuplexState, first_duplex, station_at, delivery_at, Side, A, B, other_side, side_of}

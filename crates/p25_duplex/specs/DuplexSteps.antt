@@ -4,10 +4,8 @@ pub use Rattle.p25_duplex.specs.declared.side.Side.{Side, TheVariants.{A, B}}
 pub use Rattle.p25_packet_blocks.specs.declared.packet.Packet.{Packet}
 use Rattle.p25_delivery.specs.Halves.{Outgoing, Incoming, first_outgoing, first_incoming}
 use Rattle.p25_delivery.specs.Delivery.{Delivery, Offering, Time_up, Opening_again, Data_heard, Answer_heard, happens}
-use Rattle.p25_packet_blocks.specs.Whole.{packet_head}
-use Rattle.p25_packet_blocks.specs.Heads.{head_format}
-use Rattle.p25_stations.specs.declared.step.Step.{Step}
-use Rattle.p25_stations.specs.Steps.{counted_when, Packets, StepKind, delivery_of}
+use Rattle.p25_packet_blocks.specs.{Whole.{packet_head}, Heads.{head_format}}
+use Rattle.p25_stations.specs.{declared.step.Step.{Step}, Steps.{counted_when, Packets, StepKind, delivery_of}}
 pub use Rattle.p25_duplex.specs.declared.event.{DuplexEvent.{DuplexEvent, TheVariants.{Send, Timeout, Reopen, Deliver}}, DuplexStep.{DuplexStep}}
 
 -- the other station

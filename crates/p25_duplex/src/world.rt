@@ -1,6 +1,5 @@
 ghost use Rattle.std.specs.Prelude.{◌≡◌, ◌+◌, length, OnErr, IfOk};
-ghost use Rattle.p25_delivery.specs.Delivery.{sessions_of};
-ghost use Rattle.p25_delivery.specs.Orderly.{AreOrderly};
+ghost use Rattle.p25_delivery.specs.{Delivery.{sessions_of}, Orderly.{AreOrderly}};
 ghost use Rattle.p25_duplex.specs.DuplexRuns.{HasDuplexHistory, HasFacts, IsDuplexEvent, Side as side_type, delivery_at, duplex_step, first_duplex};
 
 use crate::event::{DuplexEvent, DuplexStep};
@@ -20,8 +19,7 @@ pub struct DuplexWorld {
 
 impl Model for DuplexWorld {
     ghost use Rattle.p25_delivery.specs.Halves.{Roomy};
-    ghost use Rattle.p25_duplex.specs.DuplexSteps.{DuplexState};
-    ghost use Rattle.p25_duplex.specs.DuplexRuns.{HasDuplexHistory};
+    ghost use Rattle.p25_duplex.specs.{DuplexSteps.{DuplexState}, DuplexRuns.{HasDuplexHistory}};
 
     ghost Value = { Roomy DuplexState };
 

@@ -5,10 +5,7 @@ use Rattle.p25_line.proofs.AsciiLaws.{ascii-decimal, ascii-joined, is_ascii}
 use Rattle.p25_script.specs.StepTexts.{step_text_of}
 use Rattle.p25_stations.specs.SessionTexts.{sessions_text}
 use Rattle.p25_script.proofs.AsciiStepLaws.{ascii-sessions_text, ascii-step_text_of}
-use Rattle.p25_duplex.specs.DuplexSteps.{DuplexState, delivery_at, side_word}
-use Rattle.p25_duplex.specs.declared.event.DuplexStep.{DuplexStep}
-use Rattle.p25_duplex.specs.declared.side.Side.{Side}
-use Rattle.p25_duplex.specs.declared.side.Side.TheVariants.{A, B}
+use Rattle.p25_duplex.specs.{DuplexSteps.{DuplexState, delivery_at, side_word}, declared.event.DuplexStep.{DuplexStep}, declared.side.Side.{Side}, declared.side.Side.TheVariants.{A, B}}
 use Rattle.p25_duplex.specs.ClosingTexts.{duplex_closing_of}
 use Rattle.p25_duplex_script.specs.DuplexTexts.{duplex_step_text_of}
 

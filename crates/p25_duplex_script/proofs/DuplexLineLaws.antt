@@ -1,26 +1,15 @@
 -- The line of an event is read as that event, and a line that is read is the line of its event. By cases on what each step of the reading found.
 use Rattle.std.proofs.Common.{◌≡◌, ℕ, ◌<◌, ◌≤◌, ◌&&◌, true, List, [], ◌∷◌, length, Option, Some, None, Result, Ok, Err, refl, ap, ap₂, subst, ◌∙◌, arith}
-use Rattle.std.specs.Prelude.{IfOk}
-use Rattle.std.specs.List.{list_all}
-use Rattle.p25_line.specs.LineReadings.{keyed_or_fault, named_or_fault, value_or_fault}
-use Rattle.p25_line.specs.Words.{is_word}
-use Rattle.p25_line.specs.declared.fault.LineFault.{LineFault}
-use Rattle.p25_line.proofs.LineReadLaws.{WordLaws, line_read-facts, line_read-words}
-use Rattle.p25_line.proofs.WordsLaws.{named-word}
-use Rattle.p25_script.specs.declared.names.EventKind.{EventKind}
-use Rattle.p25_script.specs.declared.names.EventKind.TheVariants.{Send as SendLine, Timeout as TimeoutLine, Reopen as ReopenLine, Deliver as DeliverLine}
-use Rattle.p25_script.specs.Script.{event_kinds, event_named, event_word}
-use Rattle.p25_script.specs.Values.{message_in, places_in}
+use Rattle.std.specs.{Prelude.{IfOk}, List.{list_all}}
+use Rattle.p25_line.specs.{LineReadings.{keyed_or_fault, named_or_fault, value_or_fault}, Words.{is_word}, declared.fault.LineFault.{LineFault}}
+use Rattle.p25_line.proofs.{LineReadLaws.{WordLaws, line_read-facts, line_read-words}, WordsLaws.{named-word}}
+use Rattle.p25_script.specs.{declared.names.EventKind.{EventKind}, declared.names.EventKind.TheVariants.{Send as SendLine, Timeout as TimeoutLine, Reopen as ReopenLine, Deliver as DeliverLine}}
+use Rattle.p25_script.specs.{Script.{event_kinds, event_named, event_word}, Values.{message_in, places_in}}
 use Rattle.p25_script.proofs.ValueLaws.{message-message_in, message-word, message_in-text, places-places_in, places-word, places_in-text}
-use Rattle.p25_duplex.specs.declared.side.Side.{Side}
-use Rattle.p25_duplex.specs.declared.side.Side.TheVariants.{A, B}
-use Rattle.p25_duplex.specs.DuplexSteps.{side_word}
-use Rattle.p25_duplex.specs.declared.event.DuplexEvent.{DuplexEvent}
-use Rattle.p25_duplex.specs.declared.event.DuplexEvent.TheVariants.{Send, Timeout, Reopen, Deliver}
-use Rattle.p25_duplex.specs.DuplexRuns.{IsDuplexEvent}
+use Rattle.p25_duplex.specs.{declared.side.Side.{Side}, declared.side.Side.TheVariants.{A, B}, DuplexSteps.{side_word}, declared.event.DuplexEvent.{DuplexEvent}}
+use Rattle.p25_duplex.specs.{declared.event.DuplexEvent.TheVariants.{Send, Timeout, Reopen, Deliver}, DuplexRuns.{IsDuplexEvent}}
 use Rattle.p25_duplex_script.specs.DuplexLines.{IsDuplexScripted, direction_word, duplex_by_words, duplex_event_of, duplex_starts, duplex_text, duplex_words, event_behind, event_of_side, hearer_named, start_named, start_word}
-use Rattle.p25_duplex_script.specs.declared.read.DuplexStart.{DuplexStart}
-use Rattle.p25_duplex_script.specs.declared.read.DuplexStart.TheVariants.{Acts, Delivery}
+use Rattle.p25_duplex_script.specs.{declared.read.DuplexStart.{DuplexStart}, declared.read.DuplexStart.TheVariants.{Acts, Delivery}}
 
 -- ---- the line of an event is read as it
 

@@ -1,15 +1,11 @@
 -- What each answer of the reader of lines shows of the reading of words by the definition. By cases on the number of words.
 use Rattle.std.proofs.Common.{◌≡◌, ℕ, suc, List, [], ◌∷◌, length, drop, slice_get, Option, Some, None, Err, refl, ap, ◌∙◌, arith}
-use Rattle.p25_line.specs.declared.fault.LineFault.TheVariants.{Key, Kind as WrongKind}
-use Rattle.p25_line.specs.LineReadings.{named_or_fault}
+use Rattle.p25_line.specs.{declared.fault.LineFault.TheVariants.{Key, Kind as WrongKind}, LineReadings.{named_or_fault}}
 use Rattle.p25_line.proofs.LineWordsLaws.{first-others, one-other, two-others}
-use Rattle.p25_script.specs.declared.names.EventKind.{EventKind}
-use Rattle.p25_script.specs.Script.{event_named}
+use Rattle.p25_script.specs.{declared.names.EventKind.{EventKind}, Script.{event_named}, declared.names.EventKind.TheVariants.{Send as SendLine}}
 use Rattle.p25_duplex.specs.declared.side.Side.{Side}
-use Rattle.p25_duplex_script.specs.DuplexLines.{duplex_by_words, event_behind, event_of_side, start_named}
-use Rattle.p25_duplex_script.specs.declared.read.DuplexStart.{DuplexStart}
+use Rattle.p25_duplex_script.specs.{DuplexLines.{duplex_by_words, event_behind, event_of_side, start_named}, declared.read.DuplexStart.{DuplexStart}}
 use Rattle.p25_duplex_script.specs.declared.read.DuplexStart.TheVariants.{Acts, Delivery}
-use Rattle.p25_script.specs.declared.names.EventKind.TheVariants.{Send as SendLine}
 
 -- the first word names nothing
 pub wrong-start : (words : List (List ℕ)) (first : List ℕ) → slice_get words 0 ≡ Some first → start_named first ≡ None → duplex_by_words words ≡ Err WrongKind

@@ -1,23 +1,13 @@
 -- Lines of a script of the duplex world: the line of an event, and the event of a line.
-use Rattle.std.specs.Prelude.{ℕ, List, [], ◌∷◌, codes, Option, Some, Result, Ok, Err}
-use Rattle.std.specs.List.{find, join_with_byte}
-use Rattle.std.specs.Str.{bytes_eq}
-use Rattle.p25_line.specs.LineReadings.{keyed_or_fault, line_read, named_or_fault, value_or_fault}
-use Rattle.p25_line.specs.Octets.{octets_text}
-use Rattle.p25_line.specs.declared.fault.LineFault.{LineFault}
+use Rattle.std.specs.{Prelude.{ℕ, List, [], ◌∷◌, codes, Option, Some, Result, Ok, Err}, List.{find, join_with_byte}, Str.{bytes_eq}}
+use Rattle.p25_line.specs.{LineReadings.{keyed_or_fault, line_read, named_or_fault, value_or_fault}, Octets.{octets_text}, declared.fault.LineFault.{LineFault}}
 use Rattle.p25_line.specs.declared.fault.LineFault.TheVariants.{Form, Key}
 use Rattle.p25_delivery.specs.SoundHalves.{IsMessage}
-use Rattle.p25_script.specs.Script.{event_word, event_named}
-use Rattle.p25_script.specs.Values.{ArePlaces, message_in, places_in, places_text}
-use Rattle.p25_script.specs.declared.names.EventKind.{EventKind}
+use Rattle.p25_script.specs.{Script.{event_word, event_named}, Values.{ArePlaces, message_in, places_in, places_text}, declared.names.EventKind.{EventKind}}
 use Rattle.p25_script.specs.declared.names.EventKind.TheVariants.{Send as SendLine, Timeout as TimeoutLine, Reopen as ReopenLine, Deliver as DeliverLine}
-use Rattle.p25_duplex.specs.declared.side.Side.{Side}
-use Rattle.p25_duplex.specs.declared.side.Side.TheVariants.{A, B}
-use Rattle.p25_duplex.specs.DuplexSteps.{side_word}
-use Rattle.p25_duplex.specs.declared.event.DuplexEvent.{DuplexEvent}
-use Rattle.p25_duplex.specs.declared.event.DuplexEvent.TheVariants.{Send, Timeout, Reopen, Deliver}
-use Rattle.p25_duplex_script.specs.declared.read.DuplexStart.{DuplexStart}
-use Rattle.p25_duplex_script.specs.declared.read.DuplexStart.TheVariants.{Acts, Delivery}
+use Rattle.p25_duplex.specs.{declared.side.Side.{Side}, declared.side.Side.TheVariants.{A, B}, DuplexSteps.{side_word}}
+use Rattle.p25_duplex.specs.{declared.event.DuplexEvent.{DuplexEvent}, declared.event.DuplexEvent.TheVariants.{Send, Timeout, Reopen, Deliver}}
+use Rattle.p25_duplex_script.specs.{declared.read.DuplexStart.{DuplexStart}, declared.read.DuplexStart.TheVariants.{Acts, Delivery}}
 
 -- ---- the words of the lines
 

@@ -2,15 +2,11 @@
 use Rattle.std.specs.Prelude.{◌≡◌, ◌≢◌, ℕ, List, [], ◌∷◌, Option, Some, Err}
 use Rattle.p25_line.specs.declared.fault.LineFault.TheVariants.{Long}
 use Rattle.p25_line.proofs.LineReadLaws.{keyed-not_long, named-not_long, value-not_long}
-use Rattle.p25_script.specs.Script.{event_named}
-use Rattle.p25_script.specs.Values.{message_in, places_in}
-use Rattle.p25_script.specs.declared.names.EventKind.{EventKind}
+use Rattle.p25_script.specs.{Script.{event_named}, Values.{message_in, places_in}, declared.names.EventKind.{EventKind}}
 use Rattle.p25_script.specs.declared.names.EventKind.TheVariants.{Send as SendLine, Timeout as TimeoutLine, Reopen as ReopenLine}
-use Rattle.p25_duplex.specs.declared.event.DuplexEvent.TheVariants.{Deliver, Send}
-use Rattle.p25_duplex.specs.declared.side.Side.{Side}
+use Rattle.p25_duplex.specs.{declared.event.DuplexEvent.TheVariants.{Deliver, Send}, declared.side.Side.{Side}}
 use Rattle.p25_duplex_script.specs.DuplexLines.{duplex_by_words, event_behind, event_of_side, hearer_named, start_named}
-use Rattle.p25_duplex_script.specs.declared.read.DuplexStart.{DuplexStart}
-use Rattle.p25_duplex_script.specs.declared.read.DuplexStart.TheVariants.{Acts, Delivery}
+use Rattle.p25_duplex_script.specs.{declared.read.DuplexStart.{DuplexStart}, declared.read.DuplexStart.TheVariants.{Acts, Delivery}}
 
 side-not_long : (side : Side) (kind : Option EventKind) (others : List (List ℕ)) → event_of_side side kind others ≡ Err Long → ⊥
 side-not_long side (Some SendLine) (message ∷ []) e = value-not_long (Send side) (message_in message) e

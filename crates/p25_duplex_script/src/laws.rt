@@ -1,9 +1,7 @@
 //! The texts are ASCII. The body is empty: the function states what is proved.
 
 ghost use Rattle.std.specs.Prelude.{IsAscii};
-ghost use Rattle.p25_duplex.specs.DuplexSteps.{DuplexState};
-ghost use Rattle.p25_duplex.specs.declared.event.DuplexStep.{DuplexStep};
-ghost use Rattle.p25_duplex.specs.declared.side.Side.{Side};
+ghost use Rattle.p25_duplex.specs.{DuplexSteps.{DuplexState}, declared.event.DuplexStep.{DuplexStep}, declared.side.Side.{Side}};
 ghost use Rattle.p25_duplex.specs.ClosingTexts.{duplex_closing_of};
 ghost use Rattle.p25_duplex_script.specs.DuplexTexts.{duplex_step_text_of};
 

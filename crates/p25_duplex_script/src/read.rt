@@ -2,8 +2,7 @@
 
 ghost use Rattle.std.specs.Prelude.{◌≡◌, ◌↔◌, ◌<◌, ◌≤◌, [], ◌∷◌, IfOk, Err, length};
 ghost use Rattle.p25_line.specs.declared.fault.LineFault.TheVariants.{Long};
-ghost use Rattle.p25_duplex.specs.DuplexRuns.{IsDuplexEvent};
-ghost use Rattle.p25_duplex.specs.declared.event.DuplexEvent.{DuplexEvent as event_type};
+ghost use Rattle.p25_duplex.specs.{DuplexRuns.{IsDuplexEvent}, declared.event.DuplexEvent.{DuplexEvent as event_type}};
 ghost use Rattle.p25_duplex_script.specs.DuplexLines.{IsDuplexScripted, direction_word, duplex_by_words, duplex_event_of, duplex_text, event_behind, hearer_named, start_named, start_word};
 
 use p25_duplex::{DuplexEvent, Side};

@@ -1,8 +1,7 @@
 //! Steps of the duplex world as `{}` shows them, and its events as `parse` reads them.
 
 ghost use Rattle.std.specs.Prelude.{◌≡◌, Some, Ok, Err, MatchResult};
-ghost use Rattle.p25_duplex_script.specs.DuplexLines.{duplex_event_of};
-ghost use Rattle.p25_duplex_script.specs.DuplexTexts.{duplex_step_text_of};
+ghost use Rattle.p25_duplex_script.specs.{DuplexLines.{duplex_event_of}, DuplexTexts.{duplex_step_text_of}};
 
 use super::read::read_duplex_event;
 use super::texts::duplex_step_text;

@@ -1,9 +1,7 @@
 -- Lines of steps that are printed one after the other.
-use Rattle.std.proofs.Common.{◌≡◌, ℕ, ◌+◌, ◌<◌, ◌≤◌, List, [], ◌∷◌, ◌++◌, length, take, get_or, Option, ap, sym, subst, ◌∙◌, append-nil}
+use Rattle.std.proofs.{Common.{◌≡◌, ℕ, ◌+◌, ◌<◌, ◌≤◌, List, [], ◌∷◌, ◌++◌, length, take, get_or, Option, ap, sym, subst, ◌∙◌, append-nil}, KnownBytes.{Appends-nil, Appends-trans}}
+use Rattle.std.proofs.{lemmas.List.{take_all, take_more}, lemmas.List.Concat.{flat_map-append}}
 use Rattle.std.specs.Io.KnownBytes.{Appends}
-use Rattle.std.proofs.KnownBytes.{Appends-nil, Appends-trans}
-use Rattle.std.proofs.lemmas.List.{take_all, take_more}
-use Rattle.std.proofs.lemmas.List.Concat.{flat_map-append}
 use Rattle.p25_stations.specs.declared.step.Step.{Step}
 use Rattle.p25_example_exchange.specs.Exchanges.{steps_text, told_text}
 

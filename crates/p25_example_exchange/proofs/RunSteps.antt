@@ -1,11 +1,7 @@
 -- A run step by step: the first event makes a world and a step, and the run goes on from there.
 use Rattle.std.proofs.Common.{◌≡◌, List, [], ◌∷◌, refl, ap, sym}
 use Rattle.p25_delivery.specs.Runs.{run_by, steps_by}
-use Rattle.p25_stations.specs.declared.step.Event.{Event}
-use Rattle.p25_stations.specs.declared.step.Step.{Step}
-use Rattle.p25_stations.specs.WorldState.{WorldState}
-use Rattle.p25_stations.specs.Steps.{world_step}
-use Rattle.p25_stations.specs.Runs.{steps_of, world_run}
+use Rattle.p25_stations.specs.{declared.step.Event.{Event}, declared.step.Step.{Step}, WorldState.{WorldState}, Steps.{world_step}, Runs.{steps_of, world_run}}
 
 pub steps-cons : (w now : WorldState) (event : Event) (step : Step) (events : List Event) → (now, step) ≡ world_step w event → steps_of w (event ∷ events) ≡ step ∷ steps_of now events
 unfolding steps_by

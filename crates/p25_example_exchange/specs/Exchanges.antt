@@ -1,13 +1,8 @@
 -- The events of an exchange, and what is printed of it.
-use Rattle.std.specs.Prelude.{ℕ, List, [], ◌∷◌, ◌++◌, codes, decimal, length}
-use Rattle.std.specs.List.{flat_map}
-use Rattle.p25_messages.specs.declared.step_kind.StepKind.{StepKind}
-use Rattle.p25_messages.specs.declared.step_kind.StepKind.TheVariants.{Taken, Delivered, Acknowledged, Lost}
-use Rattle.p25_stations.specs.Runs.{steps_of, world_run}
-use Rattle.p25_stations.specs.WorldState.{WorldState, first_world}
-use Rattle.p25_stations.specs.declared.step.Event.{Event}
-use Rattle.p25_stations.specs.declared.step.Event.TheVariants.{Send, ToReceiver, ToSender}
-use Rattle.p25_stations.specs.declared.step.Step.{Step}
+use Rattle.std.specs.{Prelude.{ℕ, List, [], ◌∷◌, ◌++◌, codes, decimal, length}, List.{flat_map}}
+use Rattle.p25_messages.specs.{declared.step_kind.StepKind.{StepKind}, declared.step_kind.StepKind.TheVariants.{Taken, Delivered, Acknowledged, Lost}}
+use Rattle.p25_stations.specs.{Runs.{steps_of, world_run}, WorldState.{WorldState, first_world}, declared.step.Event.{Event}}
+use Rattle.p25_stations.specs.{declared.step.Event.TheVariants.{Send, ToReceiver, ToSender}, declared.step.Step.{Step}}
 
 -- a message is offered, comes with the bit at one place inverted, and its answer comes as it was sent
 abbrev pub events_of : List ℕ → ℕ → List Event

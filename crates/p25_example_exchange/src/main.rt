@@ -4,10 +4,8 @@
 //! answers what happened. Nothing is sent by itself: that a transmission comes to the other station is an event too.
 #![tactic(auto)]
 
-ghost use Rattle.std.specs.Prelude.{◌≡◌, ◌<◌, [], ◌∷◌, Some, OnOk, IfOk, codes};
-ghost use Rattle.std.specs.Io.KnownBytes.{Appends};
-ghost use Rattle.p25_stations.specs.Runs.{steps_of, world_run};
-ghost use Rattle.p25_stations.specs.WorldState.{first_world};
+ghost use Rattle.std.specs.{Prelude.{◌≡◌, ◌<◌, [], ◌∷◌, Some, OnOk, IfOk, codes}, Io.KnownBytes.{Appends}};
+ghost use Rattle.p25_stations.specs.{Runs.{steps_of, world_run}, WorldState.{first_world}};
 ghost use Rattle.p25_example_exchange.specs.Exchanges.{counts_text, events_of, exchange_text, steps_text, told_text};
 
 use p25_stations::{Event, Flips, Message, Step, StepKind, World};

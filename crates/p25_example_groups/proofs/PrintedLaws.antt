@@ -1,15 +1,10 @@
 -- Lines that are printed, one after the other, are those of the recording.
 use Rattle.std.proofs.Common.{◌≡◌, ℕ, ◌+◌, ◌-◌, ◌^◌, ◌<◌, ◌≤◌, Bool, true, false, List, [], ◌∷◌, ◌++◌, length, take, drop, Option, Some, None, refl, ap, ap₂, sym, subst, ◌∙◌, arith, append_assoc, append-nil, length-append}
-use Rattle.std.specs.Prelude.{IfSome}
-use Rattle.std.specs.Io.KnownBytes.{Appends, Consumes, IsAtEnd}
-use Rattle.std.specs.List.{flat_map}
-use Rattle.std.proofs.KnownBytes.{Appends-nil, Appends-trans}
-use Rattle.std.proofs.Math.Seq.{take-add}
-use Rattle.std.proofs.lemmas.List.{take_all, take_rest}
+use Rattle.std.proofs.{KnownBytes.{Appends-nil, Appends-trans}, Math.Seq.{take-add}, lemmas.List.{take_all, take_rest}}
+use Rattle.std.specs.{Prelude.{IfSome}, Io.KnownBytes.{Appends, Consumes, IsAtEnd}, List.{flat_map}}
 use Rattle.p25_bits.specs.Bits.{octet_bits}
 use Rattle.p25_bits.proofs.BitsLaws.{octet_bits-append, octet_bits-nil}
-use Rattle.p25_stream.specs.Items.{items_by, items_of}
-use Rattle.p25_stream.specs.Scan.{Gave, Scan, given}
+use Rattle.p25_stream.specs.{Items.{items_by, items_of}, Scan.{Gave, Scan, given}}
 use Rattle.p25_stream.proofs.ScanLaws.{gave-items}
 use Rattle.p25_units.specs.declared.item.Item.{Item}
 use Rattle.p25_example_groups.specs.Printed.{HasPrinted, item_line, lines_left, lines_of}

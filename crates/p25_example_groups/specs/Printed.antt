@@ -1,13 +1,9 @@
 -- What is printed of a recording.
-use Rattle.std.specs.Prelude.{◌≡◌, ℕ, Bool, true, List, [], ◌∷◌, ◌++◌, Option, Some, None}
-use Rattle.std.specs.Io.KnownBytes.{Appends}
-use Rattle.std.specs.List.{flat_map}
+use Rattle.std.specs.{Prelude.{◌≡◌, ℕ, Bool, true, List, [], ◌∷◌, ◌++◌, Option, Some, None}, Io.KnownBytes.{Appends}, List.{flat_map}}
 use Rattle.p25_bits.specs.Bits.{octet_bits}
-use Rattle.p25_stream.specs.Items.{items_of}
-use Rattle.p25_stream.specs.Scan.{Scan}
+use Rattle.p25_stream.specs.{Items.{items_of}, Scan.{Scan}}
 use Rattle.p25_units.specs.declared.item.Item.{Item}
-use Rattle.p25_example_groups.specs.Talks.{talk_of, talk_text}
-use Rattle.p25_example_groups.specs.declared.Talk.{Talk}
+use Rattle.p25_example_groups.specs.{Talks.{talk_of, talk_text}, declared.Talk.{Talk}}
 
 -- the line of a talk, where there is one
 abbrev pub talk_line : Option Talk → List ℕ

@@ -1,13 +1,9 @@
 -- Who speaks to which group.
 use Rattle.std.specs.Prelude.{ℕ, List, ◌++◌, Option, Some, None, codes, decimal}
-use Rattle.p25_link.specs.Kinds.{link_kind_of}
-use Rattle.p25_link.specs.declared.link_control.LinkKind.{LinkKind}
+use Rattle.p25_link.specs.{Kinds.{link_kind_of}, declared.link_control.LinkKind.{LinkKind}}
 use Rattle.p25_link.specs.declared.link_control.LinkKind.TheVariants.{Group, Individual, Other}
-use Rattle.p25_voice_units.specs.declared.unit.VoiceUnit.{VoiceUnit}
-use Rattle.p25_voice_units.specs.declared.unit.VoiceUnit.TheVariants.{Header, Link1, Link2, End, EndLink}
-use Rattle.p25_units.specs.declared.unit.Body.{Body}
-use Rattle.p25_units.specs.declared.unit.Body.TheVariants.{Voice, Packet}
-use Rattle.p25_units.specs.declared.item.Item.{Item}
+use Rattle.p25_voice_units.specs.{declared.unit.VoiceUnit.{VoiceUnit}, declared.unit.VoiceUnit.TheVariants.{Header, Link1, Link2, End, EndLink}}
+use Rattle.p25_units.specs.{declared.unit.Body.{Body}, declared.unit.Body.TheVariants.{Voice, Packet}, declared.item.Item.{Item}}
 use Rattle.p25_units.specs.declared.item.Item.TheVariants.{Whole, Broken, NoUnit, Gap, Cut}
 use Rattle.p25_example_groups.specs.declared.Talk.{Talk}
 

@@ -1,22 +1,13 @@
 -- Bits that are written, one piece after the other, are those of the recording.
 use Rattle.std.proofs.Common.{◌≡◌, ℕ, zero, suc, ◌+◌, ◌-◌, ◌*◌, ◌/◌, ◌%◌, ◌^◌, ◌<◌, ◌≤◌, Bool, true, false, List, [], ◌∷◌, ◌++◌, length, take, drop, Option, Some, None, refl, ap, ap₂, sym, subst, ◌∙◌, arith, append_assoc, append-nil, length-append, length-drop}
-use Rattle.std.specs.Prelude.{IfSome}
-use Rattle.std.specs.Io.KnownBytes.{Appends, Consumes, IsAtEnd}
-use Rattle.std.proofs.KnownBytes.{Appends-nil, Appends-trans}
-use Rattle.std.proofs.Math.Seq.{take-add}
-use Rattle.std.proofs.lemmas.List.{drop-append-le, drop-drop, take-append-le, take_all, take_rest}
-use Rattle.p25_bits.specs.Bits.{octet_bits, part}
-use Rattle.p25_bits.specs.Numbers.{octets_from}
-use Rattle.p25_bits.proofs.BitsLaws.{octet_bits-append, octet_bits-nil}
-use Rattle.p25_bits.proofs.NumbersLaws.{numbers_from-add, numbers_from-append, numbers_from-zero}
-use Rattle.p25_stream.specs.Items.{items_by, items_of}
-use Rattle.p25_stream.specs.Scan.{Gave, Scan, given}
+use Rattle.std.proofs.{KnownBytes.{Appends-nil, Appends-trans}, Math.Seq.{take-add}, lemmas.List.{drop-append-le, drop-drop, take-append-le, take_all, take_rest}}
+use Rattle.std.specs.{Prelude.{IfSome}, Io.KnownBytes.{Appends, Consumes, IsAtEnd}}
+use Rattle.p25_bits.specs.{Bits.{octet_bits, part}, Numbers.{octets_from}}
+use Rattle.p25_bits.proofs.{BitsLaws.{octet_bits-append, octet_bits-nil}, NumbersLaws.{numbers_from-add, numbers_from-append, numbers_from-zero}}
+use Rattle.p25_stream.specs.{Items.{items_by, items_of}, Scan.{Gave, Scan, given}}
 use Rattle.p25_stream.proofs.ScanLaws.{gave-items}
-use Rattle.p25_units.specs.Items.{covered}
-use Rattle.p25_units.specs.Units.{whole_octets}
-use Rattle.p25_units.specs.declared.item.Item.{Item}
-use Rattle.p25_example_repeater.specs.Repeated.{repeated}
-use Rattle.p25_example_repeater.specs.Written.{AreWritten, HasRepeated, bits_due, recording_repeated, repeated_by}
+use Rattle.p25_units.specs.{Items.{covered}, Units.{whole_octets}, declared.item.Item.{Item}}
+use Rattle.p25_example_repeater.specs.{Repeated.{repeated}, Written.{AreWritten, HasRepeated, bits_due, recording_repeated, repeated_by}}
 
 -- ---- octets of bits
 

@@ -1,8 +1,6 @@
 -- What is sent again of an item.
 use Rattle.std.specs.Prelude.{ℕ, Bool, List}
-use Rattle.p25_units.specs.Units.{frame_as, image_of}
-use Rattle.p25_units.specs.declared.item.Item.{Item}
-use Rattle.p25_units.specs.declared.item.Item.TheVariants.{Whole, Broken, NoUnit, Gap, Cut}
+use Rattle.p25_units.specs.{Units.{frame_as, image_of}, declared.item.Item.{Item}, declared.item.Item.TheVariants.{Whole, Broken, NoUnit, Gap, Cut}}
 
 -- the network access code (NAC) under which units are sent again
 abbrev pub network : ℕ

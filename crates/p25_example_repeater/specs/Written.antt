@@ -1,12 +1,8 @@
 -- What is written of a recording.
-use Rattle.std.specs.Prelude.{◌≡◌, ℕ, ◌*◌, ◌/◌, Bool, true, List, [], ◌∷◌, ◌++◌, length, take, drop, Option}
-use Rattle.std.specs.Io.KnownBytes.{Appends}
+use Rattle.std.specs.{Prelude.{◌≡◌, ℕ, ◌*◌, ◌/◌, Bool, true, List, [], ◌∷◌, ◌++◌, length, take, drop, Option}, Io.KnownBytes.{Appends}}
 use Rattle.p25_bits.specs.Bits.{octet_bits}
-use Rattle.p25_stream.specs.Items.{items_of}
-use Rattle.p25_stream.specs.Scan.{Scan}
-use Rattle.p25_units.specs.Items.{covered}
-use Rattle.p25_units.specs.Units.{whole_octets}
-use Rattle.p25_units.specs.declared.item.Item.{Item}
+use Rattle.p25_stream.specs.{Items.{items_of}, Scan.{Scan}}
+use Rattle.p25_units.specs.{Items.{covered}, Units.{whole_octets}, declared.item.Item.{Item}}
 use Rattle.p25_example_repeater.specs.Repeated.{repeated}
 
 -- what is sent again of items that lie end to end over some bits

@@ -3,9 +3,7 @@
 use Rattle.std.proofs.Common.{ℕ, Bool, List, [], ◌++◌, refl, ap, sym, subst, ◌∙◌, append_assoc, append-nil}
 use Rattle.std.specs.Prelude.{Contains}
 use Rattle.p25_io.specs.Events.{Event}
-use Rattle.p25_filter.specs.Futures.{Future, Progress, IsRefused, IsPausing, Moved, IsCutOff, IsEnded, IsPaused}
-use Rattle.p25_filter.specs.Pages.{Gathered}
-use Rattle.p25_filter.specs.Writes.{Begins, CutShort, Written}
+use Rattle.p25_filter.specs.{Futures.{Future, Progress, IsRefused, IsPausing, Moved, IsCutOff, IsEnded, IsPaused}, Pages.{Gathered}, Writes.{Begins, CutShort, Written}}
 use Rattle.p25_filter.proofs.WritesLaws.{CutShort-after, Written-none, Written-trans}
 
 module _ {P : Type 0} (moves : P → List Event → P → Type 0) (stays : (port : P) → moves port [] port)

@@ -2,15 +2,10 @@
 use Rattle.std.proofs.Common.{◌≡◌, ℕ, Bool, true, false, List, [], ◌++◌, Some, Ok, Err, ◌⊎◌, inl, inr, sym, subst, ◌∙◌}
 use Rattle.std.specs.Prelude.{Contains}
 use Rattle.p25_io.specs.Events.{Event}
-use Rattle.p25_filter.specs.declared.ending.Ending.{Ending}
-use Rattle.p25_filter.specs.declared.ending.Stop.{Stop}
-use Rattle.p25_filter.specs.declared.ending.Stop.TheVariants.{Fault, Refused}
-use Rattle.p25_filter.specs.declared.ending.Refusal.{Refusal}
-use Rattle.p25_filter.specs.declared.ending.Refusal.TheVariants.{Ended, Memory}
-use Rattle.p25_filter.specs.Futures.{Future, Progress, IsClosed, IsRefused, IsRefusedBy, IsIdle, NextPiece, Moved, IsCutOff, IsStopped, EndsBy}
+use Rattle.p25_filter.specs.{declared.ending.Ending.{Ending}, declared.ending.Stop.{Stop}, declared.ending.Stop.TheVariants.{Fault, Refused}, declared.ending.Refusal.{Refusal}}
+use Rattle.p25_filter.specs.{declared.ending.Refusal.TheVariants.{Ended, Memory}, Futures.{Future, Progress, IsClosed, IsRefused, IsRefusedBy, IsIdle, NextPiece, Moved, IsCutOff, IsStopped, EndsBy}}
 use Rattle.p25_filter.specs.Writes.{CutShort, Written}
-use Rattle.p25_filter.proofs.FuturesLaws.{IsCutOff-page, IsCutOff-after, IsEnded-page, IsEnded-after, IsPaused-page, IsPaused-after}
-use Rattle.p25_filter.proofs.WritesLaws.{Begins-same}
+use Rattle.p25_filter.proofs.{FuturesLaws.{IsCutOff-page, IsCutOff-after, IsEnded-page, IsEnded-after, IsPaused-page, IsPaused-after}, WritesLaws.{Begins-same}}
 
 -- a piece was given
 pub piece-given : (before now : Future) (is : Bool) (piece : List ℕ) → NextPiece before (Ok is) piece now → is ≡ true → Progress before [] piece now

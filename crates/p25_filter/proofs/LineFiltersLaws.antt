@@ -1,20 +1,12 @@
 -- How the work on lines goes on: octets come, a line is taken, a piece is given, the input ends. A line that is too long is
 -- refused whatever its octets are, so what is kept of it serves as well as all of it: by induction on the octets that come.
 use Rattle.std.proofs.Common.{◌≡◌, ℕ, ◌+◌, ◌<◌, ◌≤◌, ◌-◌, min, Bool, true, false, cond, nat_eq, nat_lt, List, [], ◌∷◌, ◌++◌, length, take, Option, Some, None, Result, Ok, Err, refl, ap, ap₂, sym, subst, ◌∙◌, arith, append_assoc, append-nil, length-append, length-take}
-use Rattle.std.specs.Prelude.{Contains}
-use Rattle.std.specs.List.{concat}
-use Rattle.std.proofs.lemmas.List.{take_all, take_min}
-use Rattle.std.proofs.Math.Seq.{take-append-add}
-use Rattle.std.proofs.lemmas.Bool.Decides.{nat_tests}
-use Rattle.std.proofs.lemmas.Bool.{cond-true, lt-ltb}
+use Rattle.std.proofs.{lemmas.List.{take_all, take_min}, Math.Seq.{take-append-add}, lemmas.Bool.Decides.{nat_tests}, lemmas.Bool.{cond-true, lt-ltb}}
+use Rattle.std.specs.{Prelude.{Contains}, List.{concat}}
 use Rattle.p25_line.specs.declared.fault.LineFault.TheVariants.{Long}
-use Rattle.p25_filter.specs.declared.ending.Ending.{Ending}
-use Rattle.p25_filter.specs.declared.ending.Ending.TheVariants.{BadLine, Done}
-use Rattle.p25_filter.specs.declared.ending.Refusal.{Refusal}
-use Rattle.p25_filter.specs.declared.ending.Refusal.TheVariants.{Ended, Memory}
-use Rattle.p25_filter.specs.declared.line_filter.LinePhase.{LinePhase}
-use Rattle.p25_filter.specs.declared.line_filter.LinePhase.TheVariants.{Reading, Ready, ReadyLast, Closing, Closed}
-use Rattle.p25_filter.specs.Futures.{IsClosed, IsIdle, IsRefusedBy, NextPiece, Progress}
+use Rattle.p25_filter.specs.{declared.ending.Ending.{Ending}, declared.ending.Ending.TheVariants.{BadLine, Done}, declared.ending.Refusal.{Refusal}}
+use Rattle.p25_filter.specs.{declared.ending.Refusal.TheVariants.{Ended, Memory}, declared.line_filter.LinePhase.{LinePhase}}
+use Rattle.p25_filter.specs.{declared.line_filter.LinePhase.TheVariants.{Reading, Ready, ReadyLast, Closing, Closed}, Futures.{IsClosed, IsIdle, IsRefusedBy, NextPiece, Progress}}
 use Rattle.p25_filter.specs.Lines.{closing_by, each_behind, lines_ending, lines_in, read_of, refusal_in, texts_before}
 use Rattle.p25_filter.specs.LineRules.{LineRules, both_pieces, machine_after, texts_of, written_before, written_for}
 use Rattle.p25_filter.specs.LineFilters.{IsLineGiven, IsTextGiven, LineFiltering, closes_with, ends_with, is_ended_phase, line_future, line_filtering, lines_left, pieces_of}

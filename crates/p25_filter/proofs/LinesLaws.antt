@@ -1,13 +1,10 @@
 -- The lines after more octets, texts after one more, and what lines are read as, by what the first is read as: each by one
 -- unfolding, or by induction on the octets or the texts.
 use Rattle.std.proofs.Common.{◌≡◌, ℕ, zero, suc, ◌+◌, ◌<◌, Bool, true, false, not, cond, nat_eq, List, [], ◌∷◌, ◌++◌, length, take, Some, None, Result, Ok, Err, refl, ap, sym, subst, ◌∙◌, arith, append_assoc, append-nil}
-use Rattle.std.specs.Prelude.{Contains}
-use Rattle.std.specs.List.{position_or_len}
-use Rattle.std.proofs.lemmas.Bool.Decides.{nat_tests}
-use Rattle.std.proofs.lemmas.Bool.{cond-false}
+use Rattle.std.proofs.{lemmas.Bool.Decides.{nat_tests}, lemmas.Bool.{cond-false}}
+use Rattle.std.specs.{Prelude.{Contains}, List.{position_or_len}}
 use Rattle.p25_line.specs.declared.fault.LineFault.{LineFault}
-use Rattle.p25_filter.specs.declared.ending.Ending.TheVariants.{BadLine}
-use Rattle.p25_filter.specs.Lines.{each_behind, lines_in, read_of, refusal_in}
+use Rattle.p25_filter.specs.{declared.ending.Ending.TheVariants.{BadLine}, Lines.{each_behind, lines_in, read_of, refusal_in}}
 
 -- how many octets are before the first LF
 abbrev pub octets_before : List ℕ → ℕ

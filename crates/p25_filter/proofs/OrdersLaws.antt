@@ -2,9 +2,7 @@
 -- a fault.
 use Rattle.std.proofs.Common.{◌≡◌, ℕ, false, List, [], ◌∷◌, ◌++◌, take, refl, sym, subst, ◌∙◌}
 use Rattle.p25_io.specs.Events.{Event, Read, ReadFailed, Wrote, WriteFailed}
-use Rattle.p25_filter.specs.declared.ending.FilterEnd.{FilterEnd}
-use Rattle.p25_filter.specs.declared.ending.FilterEnd.TheVariants.{ReadFault, WriteFault, TooLong}
-use Rattle.p25_filter.specs.Futures.{Future}
+use Rattle.p25_filter.specs.{declared.ending.FilterEnd.{FilterEnd}, declared.ending.FilterEnd.TheVariants.{ReadFault, WriteFault, TooLong}, Futures.{Future}}
 use Rattle.p25_filter.specs.Traces.{Broken, EndsAs, Going, IsLive, IsRun, Over, Standing, after_all, at_first, standing_after, standing_at}
 use Rattle.p25_filter.proofs.TracesLaws.{IsLive-parts, after_all-append}
 

@@ -1,21 +1,12 @@
 -- What stands when the work between a source and a sink ends, by the events that they went through: what was taken, what was
 -- written, and what the end says of both.
 use Rattle.std.proofs.Common.{◌≡◌, ℕ, ◌+◌, ◌<◌, ◌≤◌, Bool, true, false, cond, nat_lt, zero, suc, List, [], ◌∷◌, ◌++◌, length, take, Option, Some, None, refl, ap, sym, subst, ◌∙◌, arith, append-nil, length-append}
+use Rattle.std.proofs.{lemmas.List.{take_all, nil_from_length}, lemmas.Bool.Decides.{nat_tests}, Math.Seq.{take-append-add}, lemmas.Bool.{ltb-false}}
 use Rattle.std.specs.Prelude.{Contains, IfSome}
-use Rattle.std.proofs.lemmas.List.{take_all, nil_from_length}
-use Rattle.std.proofs.lemmas.Bool.Decides.{nat_tests}
-use Rattle.std.proofs.Math.Seq.{take-append-add}
-use Rattle.std.proofs.lemmas.Bool.{ltb-false}
-use Rattle.p25_io.specs.Events.{Event, Read, ReadFailed, Wrote, WriteFailed}
-use Rattle.p25_io.specs.Faults.{Rose}
-use Rattle.p25_io.specs.Octets.{Taken, Appended, AppendedBeginning}
-use Rattle.p25_io.specs.Pairs.{SinkGoes, SourceGoes}
+use Rattle.p25_io.specs.{Events.{Event, Read, ReadFailed, Wrote, WriteFailed}, Faults.{Rose}, Octets.{Taken, Appended, AppendedBeginning}, Pairs.{SinkGoes, SourceGoes}}
 use Rattle.p25_io.proofs.OctetsLaws.{Appended-none, Appended-same, Appended-trans, AppendedBeginning-longer, AppendedBeginning-same, Rose-within, Taken-none, Taken-told, Taken-trans}
-use Rattle.p25_filter.specs.declared.ending.Ending.{Ending}
-use Rattle.p25_filter.specs.declared.ending.FilterEnd.{FilterEnd}
-use Rattle.p25_filter.specs.declared.ending.FilterEnd.TheVariants.{Ended, ReadFault, WriteFault, TooLong, Memory}
-use Rattle.p25_filter.specs.Futures.{Future}
-use Rattle.p25_filter.specs.Runs.{Filtered, IsFinal, IsMemory, IsReadFault, IsWriteFault, Meets, all_written, input_most, read_most}
+use Rattle.p25_filter.specs.{declared.ending.Ending.{Ending}, declared.ending.FilterEnd.{FilterEnd}, declared.ending.FilterEnd.TheVariants.{Ended, ReadFault, WriteFault, TooLong, Memory}}
+use Rattle.p25_filter.specs.{Futures.{Future}, Runs.{Filtered, IsFinal, IsMemory, IsReadFault, IsWriteFault, Meets, all_written, input_most, read_most}}
 use Rattle.p25_filter.specs.Traces.{Broken, Going, IsDecided, IsFinalAt, IsLive, IsMemoryAt, IsRun, IsSettled, Over, Phase, Standing, after_all, at_first, standing_after, standing_at}
 use Rattle.p25_filter.specs.Writes.{Begins}
 use Rattle.p25_filter.proofs.TracesLaws.{IsLive-parts, after_all-append}

@@ -1,14 +1,9 @@
 -- The events of a live run on streams that tell what they hold are those of a source and a sink that tell theirs: the octets left and those
 -- written, each with the number of faults so far. So all that holds of these holds of the streams.
 use Rattle.std.proofs.Common.{◌≡◌, ℕ, ◌-◌, ◌^◌, ◌≤◌, ◌++◌, ◌∷◌, List, [], take, Option, Some, None, zero, suc, refl, ap, sym, subst, ◌∙◌, arith, append-nil, append_assoc, ◌⊎◌, inl, inr}
-use Rattle.std.specs.Prelude.{Contains, IfSome}
-use Rattle.std.specs.Io.KnownBytes.{Appends, Consumes, IsAtEnd}
-use Rattle.p25_io.specs.Events.{Event, Read, ReadFailed, Wrote, WriteFailed}
-use Rattle.p25_io.specs.Faults.{Rose, counted}
-use Rattle.p25_io.specs.Pairs.{SinkGoes, SourceGoes}
-use Rattle.p25_io.specs.Streams.{octets_read, octets_written}
-use Rattle.p25_filter.specs.Futures.{Future}
-use Rattle.p25_filter.specs.Traces.{Going, HasReadFault, HasWriteFault, IsLive, Standing, standing_after}
+use Rattle.std.specs.{Prelude.{Contains, IfSome}, Io.KnownBytes.{Appends, Consumes, IsAtEnd}}
+use Rattle.p25_io.specs.{Events.{Event, Read, ReadFailed, Wrote, WriteFailed}, Faults.{Rose, counted}, Pairs.{SinkGoes, SourceGoes}, Streams.{octets_read, octets_written}}
+use Rattle.p25_filter.specs.{Futures.{Future}, Traces.{Going, HasReadFault, HasWriteFault, IsLive, Standing, standing_after}}
 
 -- octets, and a number of faults
 abbrev pub Told : Type 0

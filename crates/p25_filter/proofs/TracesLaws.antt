@@ -1,17 +1,11 @@
 -- Live runs of events: how one goes on, read after read and write after write, and how it ends.
 use Rattle.std.proofs.Common.{◌≡◌, ℕ, ◌+◌, ◌-◌, ◌<◌, ◌≤◌, Bool, false, true, List, [], ◌∷◌, ◌++◌, length, take, drop, min, None, refl, ap, sym, subst, ◌∙◌, arith, append_assoc, append-nil, length-take}
+use Rattle.std.proofs.{lemmas.List.{take-append-drop, nil_from_length}, Math.Seq.{take-add, take-append-add}}
 use Rattle.std.specs.Prelude.{Contains}
-use Rattle.std.proofs.lemmas.List.{take-append-drop, nil_from_length}
-use Rattle.std.proofs.Math.Seq.{take-add, take-append-add}
 use Rattle.p25_io.specs.Events.{Event, Read, ReadFailed, Wrote, WriteFailed}
-use Rattle.p25_filter.specs.declared.ending.FilterEnd.{FilterEnd}
-use Rattle.p25_filter.specs.declared.ending.FilterEnd.TheVariants.{Ended as FilterEnded, ReadFault, WriteFault, TooLong, Memory as FilterMemory}
-use Rattle.p25_filter.specs.declared.ending.Refusal.TheVariants.{Ended, Memory}
-use Rattle.p25_filter.specs.declared.ending.Stop.{Stop}
-use Rattle.p25_filter.specs.declared.ending.Stop.TheVariants.{Fault, Refused}
-use Rattle.p25_filter.specs.Endings.{end_of}
-use Rattle.p25_filter.specs.Futures.{EndsBy, Future, IsIdle, IsStopped, Moved, Progress}
-use Rattle.p25_filter.specs.Runs.{input_most, read_most}
+use Rattle.p25_filter.specs.{declared.ending.FilterEnd.{FilterEnd}, declared.ending.FilterEnd.TheVariants.{Ended as FilterEnded, ReadFault, WriteFault, TooLong, Memory as FilterMemory}}
+use Rattle.p25_filter.specs.{declared.ending.Refusal.TheVariants.{Ended, Memory}, declared.ending.Stop.{Stop}, declared.ending.Stop.TheVariants.{Fault, Refused}, Endings.{end_of}}
+use Rattle.p25_filter.specs.{Futures.{EndsBy, Future, IsIdle, IsStopped, Moved, Progress}, Runs.{input_most, read_most}}
 use Rattle.p25_filter.specs.Traces.{EndsAs, Going, IsDecided, IsLive, IsRun, IsSettled, Over, Broken, Phase, Standing, after_all, at_first, standing_after, standing_at}
 use Rattle.p25_filter.specs.Writes.{AreSome, Begins, CutShort, Written, joined, writes_of}
 use Rattle.p25_filter.proofs.WritesLaws.{Begins-part}

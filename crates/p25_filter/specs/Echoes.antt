@@ -1,9 +1,7 @@
 -- For the tests: the rules of a machine that gives each line back, and refuses an empty line and one that is too long.
 use Rattle.std.specs.Prelude.{◌≡◌, ℕ, ◌<◌, if◌then◌else◌, false, nat_lt, List, [], length, Result, Ok, Err}
-use Rattle.std.proofs.Common.{ap}
-use Rattle.std.proofs.lemmas.Bool.{lt-ltb}
-use Rattle.p25_line.specs.declared.fault.LineFault.{LineFault}
-use Rattle.p25_line.specs.declared.fault.LineFault.TheVariants.{Form, Long}
+use Rattle.std.proofs.{Common.{ap}, lemmas.Bool.{lt-ltb}}
+use Rattle.p25_line.specs.{declared.fault.LineFault.{LineFault}, declared.fault.LineFault.TheVariants.{Form, Long}}
 use Rattle.p25_filter.specs.LineRules.{LineRules}
 
 -- the line itself; an empty line has the fault form, and one of more than 8,192 octets the fault long

@@ -1,12 +1,8 @@
 -- What a command at work still writes, and how it ends, for the octets that may still come.
 use Rattle.std.specs.Prelude.{◌≡◌, ℕ, Bool, true, false, List, [], ◌++◌, Contains, Option, Some, None, Result, Ok, Err}
 use Rattle.p25_io.specs.Events.{Event}
-use Rattle.p25_filter.specs.declared.ending.Ending.{Ending}
-use Rattle.p25_filter.specs.declared.ending.Refusal.{Refusal}
-use Rattle.p25_filter.specs.declared.ending.Refusal.TheVariants.{Ended, Memory}
-use Rattle.p25_filter.specs.declared.ending.Stop.{Stop}
-use Rattle.p25_filter.specs.declared.ending.Stop.TheVariants.{Fault, Refused}
-use Rattle.p25_filter.specs.Writes.{Begins, Written, CutShort}
+use Rattle.p25_filter.specs.{declared.ending.Ending.{Ending}, declared.ending.Refusal.{Refusal}, declared.ending.Refusal.TheVariants.{Ended, Memory}}
+use Rattle.p25_filter.specs.{declared.ending.Stop.{Stop}, declared.ending.Stop.TheVariants.{Fault, Refused}, Writes.{Begins, Written, CutShort}}
 
 -- for each list of octets that may come, the last ones of the input or not: what is written for them, how the call ends by
 -- them, if it does, and the texts after which memory may be wanting

@@ -1,14 +1,10 @@
 -- The work on lines: what it still writes, for any octets that may still come.
 use Rattle.std.specs.Prelude.{◌≡◌, ℕ, ◌+◌, ◌*◌, Bool, true, false, ◌||◌, if◌then◌else◌, List, [], ◌∷◌, ◌++◌, Option, Some, None, Result, Ok, Err}
 use Rattle.p25_line.specs.declared.fault.LineFault.{LineFault}
-use Rattle.p25_filter.specs.declared.ending.Ending.TheVariants.{BadLine}
-use Rattle.p25_filter.specs.declared.ending.Refusal.{Refusal}
-use Rattle.p25_filter.specs.declared.ending.Refusal.TheVariants.{Ended, Memory}
-use Rattle.p25_filter.specs.declared.line_filter.LinePhase.{LinePhase}
-use Rattle.p25_filter.specs.declared.line_filter.LinePhase.TheVariants.{Reading, Ready, ReadyLast, Closing, Closed}
-use Rattle.p25_filter.specs.Futures.{Future}
-use Rattle.p25_filter.specs.Lines.{each_behind, lines_ending, lines_in, read_of, refusal_in}
-use Rattle.p25_filter.specs.LineRules.{LineRules, both_pieces, written_before, written_for}
+use Rattle.p25_filter.specs.{declared.ending.Ending.TheVariants.{BadLine}, declared.ending.Refusal.{Refusal}}
+use Rattle.p25_filter.specs.{declared.ending.Refusal.TheVariants.{Ended, Memory}, declared.line_filter.LinePhase.{LinePhase}}
+use Rattle.p25_filter.specs.{declared.line_filter.LinePhase.TheVariants.{Reading, Ready, ReadyLast, Closing, Closed}, Futures.{Future}}
+use Rattle.p25_filter.specs.{Lines.{each_behind, lines_ending, lines_in, read_of, refusal_in}, LineRules.{LineRules, both_pieces, written_before, written_for}}
 
 -- the machine, the octets kept of the line that has begun or is there, how many lines were taken, the second piece of a text
 -- whose first was given out, and how far the work has come

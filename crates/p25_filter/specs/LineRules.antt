@@ -1,9 +1,7 @@
 -- Machines over lines: what each line is read as, what each event is answered with, and what comes of all lines.
-use Rattle.std.specs.Prelude.{ℕ, Bool, List, [], ◌∷◌, ◌++◌, Option, Some, None, Result}
-use Rattle.std.specs.List.{concat}
+use Rattle.std.specs.{Prelude.{ℕ, Bool, List, [], ◌∷◌, ◌++◌, Option, Some, None, Result}, List.{concat}}
 use Rattle.p25_line.specs.declared.fault.LineFault.{LineFault}
-use Rattle.p25_filter.specs.declared.ending.Ending.{Ending}
-use Rattle.p25_filter.specs.Lines.{closing_by, texts_before}
+use Rattle.p25_filter.specs.{declared.ending.Ending.{Ending}, Lines.{closing_by, texts_before}}
 
 -- a machine over lines: what a line is read as, or its fault; the machine after an event, and the text for it; what is written at
 -- the end of the input; and whether memory may be wanting at an event

@@ -1,9 +1,7 @@
 -- What a live run of events comes to: laws of the order of reads and writes.
 use Rattle.std.specs.Prelude.{◌≡◌, ℕ, false, List, [], ◌∷◌, ◌++◌, None}
 use Rattle.p25_io.specs.Events.{Event, Read, ReadFailed, Wrote, WriteFailed}
-use Rattle.p25_filter.specs.declared.ending.FilterEnd.{FilterEnd}
-use Rattle.p25_filter.specs.declared.ending.FilterEnd.TheVariants.{ReadFault, WriteFault}
-use Rattle.p25_filter.specs.Futures.{Future}
+use Rattle.p25_filter.specs.{declared.ending.FilterEnd.{FilterEnd}, declared.ending.FilterEnd.TheVariants.{ReadFault, WriteFault}, Futures.{Future}}
 use Rattle.p25_filter.specs.Traces.{IsLive, IsRun, after_all, at_first}
 
 -- at each read all that the octets read before decide was written

@@ -1,10 +1,8 @@
 -- What the work on an input leaves, by how it ended.
 use Rattle.std.specs.Prelude.{◌≡◌, ℕ, ◌+◌, ◌<◌, ◌≤◌, Bool, true, false, if◌then◌else◌, nat_lt, Option, Some, None, List, ◌++◌, length, take, Contains, IfSome}
 use Rattle.p25_io.specs.Octets.{Taken, Appended, AppendedBeginning}
-use Rattle.p25_filter.specs.declared.ending.Ending.{Ending}
-use Rattle.p25_filter.specs.declared.ending.FilterEnd.{FilterEnd}
-use Rattle.p25_filter.specs.declared.ending.FilterEnd.TheVariants.{Ended, ReadFault, WriteFault, TooLong, Memory}
-use Rattle.p25_filter.specs.Futures.{Future}
+use Rattle.p25_filter.specs.{declared.ending.Ending.{Ending}, declared.ending.FilterEnd.{FilterEnd}}
+use Rattle.p25_filter.specs.{declared.ending.FilterEnd.TheVariants.{Ended, ReadFault, WriteFault, TooLong, Memory}, Futures.{Future}}
 
 -- the most octets of an input, and of a read
 abbrev pub input_most : ℕ

@@ -1,12 +1,9 @@
 -- The order of reads and writes in the work on an input: which event may come after those before it, and how the work ends.
 use Rattle.std.specs.Prelude.{◌≡◌, ℕ, ◌<◌, ◌≤◌, Bool, true, false, List, [], ◌∷◌, ◌++◌, length, take, Contains, Some, None}
 use Rattle.p25_io.specs.Events.{Event, Read, ReadFailed, Wrote, WriteFailed}
-use Rattle.p25_filter.specs.declared.ending.Ending.{Ending}
-use Rattle.p25_filter.specs.declared.ending.FilterEnd.{FilterEnd}
-use Rattle.p25_filter.specs.declared.ending.FilterEnd.TheVariants.{Ended, ReadFault, WriteFault, TooLong, Memory}
-use Rattle.p25_filter.specs.Futures.{Future}
-use Rattle.p25_filter.specs.Runs.{input_most, read_most}
-use Rattle.p25_filter.specs.Writes.{Begins}
+use Rattle.p25_filter.specs.{declared.ending.Ending.{Ending}, declared.ending.FilterEnd.{FilterEnd}}
+use Rattle.p25_filter.specs.{declared.ending.FilterEnd.TheVariants.{Ended, ReadFault, WriteFault, TooLong, Memory}, Futures.{Future}}
+use Rattle.p25_filter.specs.{Runs.{input_most, read_most}, Writes.{Begins}}
 
 -- more octets may come; or the input has ended; or a read or a write failed
 pub data Phase : Type 0 where

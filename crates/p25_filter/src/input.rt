@@ -2,10 +2,7 @@
 
 ghost use Rattle.std.specs.Prelude.{◌≡◌, ℕ, ◌+◌, ◌*◌, ◌^◌, ◌<◌, ◌≤◌, ◌⊎◌, false, true, List, [], ◌∷◌, length, take, OnOk, IfErr};
 ghost use Rattle.p25_io.specs.Events.{Event};
-ghost use Rattle.p25_filter.specs.Endings.{end_of};
-ghost use Rattle.p25_filter.specs.Futures.{EndsBy, IsIdle, IsStopped, Moved};
-ghost use Rattle.p25_filter.specs.Traces.{IsRun};
-ghost use Rattle.p25_filter.specs.Writes.{Written, CutShort};
+ghost use Rattle.p25_filter.specs.{Endings.{end_of}, Futures.{EndsBy, IsIdle, IsStopped, Moved}, Traces.{IsRun}, Writes.{Written, CutShort}};
 
 use super::ending::{FilterEnd, Refusal, Stop};
 use super::filter::Filter;

@@ -1,7 +1,6 @@
 //! The work of a command on the lines of its input.
 
-ghost use Rattle.std.specs.Prelude.{◌≡◌, ◌+◌, ◌^◌, ◌≤◌, ◌++◌, ◌==◌, true, false, Some, None, length, take};
-ghost use Rattle.std.specs.List.{position_or_len};
+ghost use Rattle.std.specs.{Prelude.{◌≡◌, ◌+◌, ◌^◌, ◌≤◌, ◌++◌, ◌==◌, true, false, Some, None, length, take}, List.{position_or_len}};
 ghost use Rattle.p25_filter.specs.LineFilters.{first_line, lines_ready, IsLineGiven};
 
 use super::ending::{Ending, Refusal};

@@ -1,8 +1,7 @@
 //! Pieces of output gathered on a page, so that many of them are written at once.
 
 ghost use Rattle.std.specs.Prelude.{◌≡◌, [], OnOk, OnErr};
-ghost use Rattle.p25_filter.specs.Pages.{Gathered};
-ghost use Rattle.p25_filter.specs.Writes.{Written, CutShort};
+ghost use Rattle.p25_filter.specs.{Pages.{Gathered}, Writes.{Written, CutShort}};
 
 use p25_io::{Failed, Port};
 use p25_line::{LINE_MOST, Line};

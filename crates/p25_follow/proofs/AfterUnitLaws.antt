@@ -1,37 +1,20 @@
 -- After a unit of fewer than 316 bits nothing is expected, since it is a TDU or a unit that is cut: so the 316 bits from where a unit begins come out as they are. By induction on the items.
 use Rattle.std.proofs.Common.{◌≡◌, ◌≢◌, ℕ, zero, suc, ◌+◌, ◌<◌, ◌≤◌, Bool, true, false, cond, ◌&&◌, inl, inr, List, [], ◌∷◌, ◌++◌, length, take, drop, Option, Some, None, Result, Ok, Err, refl, sym, ap, subst, ◌∙◌, arith, append_assoc, append-nil, length-append, length-drop}
-use Rattle.std.specs.Prelude.{nat_eq, nat_lt}
-use Rattle.std.specs.Option.{option_or}
-use Rattle.std.proofs.lemmas.Bool.{cases_Bool, cases_eq, cases_lt, ne_eqb}
-use Rattle.std.proofs.lemmas.List.{length-take-le, take-append-drop, take-append-le}
+use Rattle.std.proofs.{lemmas.Bool.{cases_Bool, cases_eq, cases_lt, ne_eqb}, lemmas.List.{length-take-le, take-append-drop, take-append-le}}
+use Rattle.std.specs.{Prelude.{nat_eq, nat_lt}, Option.{option_or}}
 use Rattle.p25_status.specs.declared.fields.Field.{Field}
 use Rattle.p25_unit_front.proofs.FrontLaws.{identifier_of-fits, identifier_of-take}
 use Rattle.p25_voice_units.specs.Lengths.{voice_length_of}
-use Rattle.p25_packet_blocks.specs.declared.head.PacketHead.{PacketHead}
-use Rattle.p25_packet_blocks.specs.Heads.{head_blocks}
-use Rattle.p25_packet_blocks.specs.Lengths.{packet_sent_length}
-use Rattle.p25_packet_blocks.specs.UnitReading.{sent_head_of}
-use Rattle.p25_units.specs.Items.{covered, unit_item_of}
-use Rattle.p25_units.specs.Needs.{head_need, kind_need, length_need, voice_need}
-use Rattle.p25_units.specs.Units.{sent_length}
-use Rattle.p25_units.specs.declared.item.Item.{Item}
+use Rattle.p25_packet_blocks.specs.{declared.head.PacketHead.{PacketHead}, Heads.{head_blocks}, Lengths.{packet_sent_length}, UnitReading.{sent_head_of}}
+use Rattle.p25_units.specs.{Items.{covered, unit_item_of}, Needs.{head_need, kind_need, length_need, voice_need}, Units.{sent_length}, declared.item.Item.{Item}}
 use Rattle.p25_units.specs.declared.needs.Need.TheVariants.{Length, More, NoLength}
 use Rattle.p25_units.proofs.ItemsLaws.{covered-unit_item_of}
 use Rattle.p25_units.proofs.NeedsLaws.{IsIdentified-from, head_need-bad, head_need-good, kind_need-packet, kind_need-unpacked, length_need-cases, need_of-there, packet_need-long, packet_need-short, voice_need-none, voice_need-some}
 use Rattle.p25_stream.specs.Items.{first_item, items_of}
 use Rattle.p25_stream.proofs.ItemsLaws.{covered-first_item, first_item-cases, items_by-more, items_by-nil}
-use Rattle.p25_follow.specs.Chains.{chain_by}
-use Rattle.p25_follow.specs.Expected.{expected_after, next_link}
-use Rattle.p25_follow.specs.Followed.{followed_by, is_rest, unit_name}
-use Rattle.p25_follow.specs.Steps.{fits_of, is_sure, step_of}
-use Rattle.p25_follow.specs.Told.{is_nothing, told_of}
-use Rattle.p25_follow.proofs.AlikeLaws.{Agree, agree-append, agree-less}
-use Rattle.p25_follow.proofs.ChainLaws.{chain_by-none, chain_by-stop}
-use Rattle.p25_follow.proofs.FollowingLaws.{followed-end, followed-rest, followed-unit}
-use Rattle.p25_follow.proofs.FoundLaws.{found-unit}
-use Rattle.p25_follow.proofs.KindLaws.{Each}
-use Rattle.p25_follow.proofs.StepLaws.{fits_of-kind}
-use Rattle.p25_follow.proofs.ToldLaws.{told_of-expected}
+use Rattle.p25_follow.specs.{Chains.{chain_by}, Expected.{expected_after, next_link}, Followed.{followed_by, is_rest, unit_name}, Steps.{fits_of, is_sure, step_of}, Told.{is_nothing, told_of}}
+use Rattle.p25_follow.proofs.{AlikeLaws.{Agree, agree-append, agree-less}, ChainLaws.{chain_by-none, chain_by-stop}, FollowingLaws.{followed-end, followed-rest, followed-unit}, FoundLaws.{found-unit}}
+use Rattle.p25_follow.proofs.{KindLaws.{Each}, StepLaws.{fits_of-kind}, ToldLaws.{told_of-expected}}
 
 -- ---- the units of fewer than 316 bits
 

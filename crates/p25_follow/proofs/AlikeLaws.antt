@@ -1,9 +1,7 @@
 -- Bits that are as many, and the same in the first 316, need the same where they begin: so a unit that begins there is the same. By the readings of the sync, the identifier and the header.
 use Rattle.std.proofs.Common.{◌≡◌, ℕ, ◌+◌, ◌≤◌, Bool, true, false, inl, inr, List, ◌++◌, length, take, Option, Some, None, sym, ap, ap₂, ◌∙◌, arith}
+use Rattle.std.proofs.{lemmas.Bool.{cases_Bool, cases_lt, eqb-false, eqb-true}, lemmas.List.{take-take, take_all}, Math.Seq.{take-append-add}}
 use Rattle.std.specs.Prelude.{nat_eq}
-use Rattle.std.proofs.lemmas.Bool.{cases_Bool, cases_lt, eqb-false, eqb-true}
-use Rattle.std.proofs.lemmas.List.{take-take, take_all}
-use Rattle.std.proofs.Math.Seq.{take-append-add}
 use Rattle.p25_status.specs.Sync.{has_sync}
 use Rattle.p25_status.proofs.SyncLaws.{has_sync-take}
 use Rattle.p25_unit_front.specs.Front.{identifier_of}
@@ -11,9 +9,7 @@ use Rattle.p25_unit_front.proofs.FrontLaws.{identifier_of-take}
 use Rattle.p25_voice_units.specs.Lengths.{voice_length_of}
 use Rattle.p25_packet_blocks.specs.UnitReading.{sent_head_of}
 use Rattle.p25_packet_blocks.proofs.UnitLaws.{sent_head_of-take}
-use Rattle.p25_units.specs.Items.{covered, unit_item_of}
-use Rattle.p25_units.specs.Needs.{head_need, identified_need, kind_need, need_of, voice_need}
-use Rattle.p25_units.specs.declared.item.Item.TheVariants.{Cut}
+use Rattle.p25_units.specs.{Items.{covered, unit_item_of}, Needs.{head_need, identified_need, kind_need, need_of, voice_need}, declared.item.Item.TheVariants.{Cut}}
 use Rattle.p25_units.specs.declared.needs.Need.TheVariants.{Length, More}
 use Rattle.p25_units.proofs.ItemsLaws.{covered-unit_item_of}
 use Rattle.p25_units.proofs.NeedsLaws.{identified_need-none, identified_need-some, kind_need-packet, kind_need-unpacked, need_of-synced, packet_need-long, synced_need-long}

@@ -1,31 +1,21 @@
 -- What is read of a unit behind its front is the same whatever front stands there: all that is looked at stands at place 112 or behind it.
 use Rattle.std.proofs.Common.{◌≡◌, ℕ, ◌+◌, ◌*◌, ◌≤◌, Bool, true, ◌&&◌, cond, nat_eq, nat_le, ◌||◌, List, [], ◌∷◌, ◌++◌, map, take, drop, Option, Result, Ok, Err, refl, ap, ap₂, ◌∙◌, arith}
-use Rattle.std.specs.Prelude.{option_map, slice_index}
-use Rattle.std.specs.List.{flat_map}
 use Rattle.std.proofs.lemmas.Bool.Decides.{nat_tests}
-use Rattle.p25_bits.specs.Bits.{field_of, part}
-use Rattle.p25_bits.specs.Numbers.{octets_from}
+use Rattle.std.specs.{Prelude.{option_map, slice_index}, List.{flat_map}}
+use Rattle.p25_bits.specs.{Bits.{field_of, part}, Numbers.{octets_from}}
 use Rattle.p25_bits.proofs.NumbersLaws.{each_below-same, joined_below-same}
 use Rattle.p25_hamming.specs.Lsd16Readings.{lsd16_reading_of}
-use Rattle.p25_link.specs.Words.{header_of_symbols, link_of_symbols, sync_of_symbols}
-use Rattle.p25_link.specs.declared.link_control.LinkControl.{LinkControl}
-use Rattle.p25_link.specs.declared.encryption_sync.EncryptionSync.{EncryptionSync}
+use Rattle.p25_link.specs.{Words.{header_of_symbols, link_of_symbols, sync_of_symbols}, declared.link_control.LinkControl.{LinkControl}, declared.encryption_sync.EncryptionSync.{EncryptionSync}}
 use Rattle.p25_coded_fields.specs.Layouts.{Layout, field_reading_of, outer_word_of, places_from, received_in, symbols_or_erasures}
-use Rattle.p25_status.specs.declared.fields.Field.{Field}
-use Rattle.p25_status.specs.declared.fields.Field.TheVariants.{LinkControl as LinkField, EncryptionSync as SyncField, Format}
+use Rattle.p25_status.specs.{declared.fields.Field.{Field}, declared.fields.Field.TheVariants.{LinkControl as LinkField, EncryptionSync as SyncField, Format}}
 use Rattle.p25_bch_nid.specs.Duids.{duid_hdu, duid_tdu, duid_ldu1, duid_ldu2, duid_tdulc}
-use Rattle.p25_voice_units.specs.declared.unit.VoiceUnit.{VoiceUnit}
-use Rattle.p25_voice_units.specs.declared.unit.VoiceUnit.TheVariants.{End, Link1, Link2}
-use Rattle.p25_voice_units.specs.declared.voice.VoiceFrame.{VoiceFrame}
-use Rattle.p25_voice_units.specs.FieldLayouts.{header_layout, link_layout, sync_layout, tdulc_layout, word_places}
-use Rattle.p25_voice_units.specs.Layouts.{ldu_rows}
+use Rattle.p25_voice_units.specs.{declared.unit.VoiceUnit.{VoiceUnit}, declared.unit.VoiceUnit.TheVariants.{End, Link1, Link2}, declared.voice.VoiceFrame.{VoiceFrame}}
+use Rattle.p25_voice_units.specs.{FieldLayouts.{header_layout, link_layout, sync_layout, tdulc_layout, word_places}, Layouts.{ldu_rows}}
 use Rattle.p25_voice_units.specs.Readings.{frame_in, frame_places, header_from, header_in, ldu1_in, ldu2_in, ldu_from, link_in, low_in, low_places, sync_in, tdulc_from, voice_in, voice_reading_of}
-use Rattle.p25_packet_blocks.specs.declared.head.PacketHead.{PacketHead}
-use Rattle.p25_packet_blocks.specs.declared.packet.Packet.{Packet}
-use Rattle.p25_packet_blocks.specs.declared.block.Slot.{Slot}
+use Rattle.p25_packet_blocks.specs.{declared.head.PacketHead.{PacketHead}, declared.packet.Packet.{Packet}, declared.block.Slot.{Slot}}
 use Rattle.p25_packet_blocks.specs.Heads.{confirmed_format, head_blocks, head_format, plain_format, response_format}
-use Rattle.p25_trellis.specs.Nearest.{half_octets, three_quarter_octets}
 use Rattle.p25_packet_blocks.specs.Reading.{block_bits, confirmed_by_parts, head_from, head_reading_of, octets_read, packet_from, packet_of_head, packet_reading_of, plain_from, slot_from, slots_read}
+use Rattle.p25_trellis.specs.Nearest.{half_octets, three_quarter_octets}
 use Rattle.p25_units.specs.Readings.{body_from, body_reading_of, packet_body_from}
 use Rattle.p25_follow.proofs.StepLaws.{and_left-true, and_right-true}
 

@@ -1,12 +1,8 @@
 -- A chain a step at a time, and what is settled of it: that comes first, and what is left is written after it, whatever bits come. By induction on the bits, which each step makes fewer.
 use Rattle.std.proofs.Common.{◌≡◌, ℕ, zero, suc, ◌<◌, ◌≤◌, Bool, true, false, cond, ◌||◌, inl, inr, List, [], ◌∷◌, ◌++◌, length, take, drop, Option, Some, None, refl, sym, ap, ap₂, ◌∙◌, arith, append_assoc, length-append, length-drop}
+use Rattle.std.proofs.{lemmas.Bool.{cases_lt, cond-false, cond-true, le-leb, lt-leb, or_right}, lemmas.List.{drop-append-le, take-append-le}}
 use Rattle.std.specs.Prelude.{nat_le}
-use Rattle.std.proofs.lemmas.Bool.{cases_lt, cond-false, cond-true, le-leb, lt-leb, or_right}
-use Rattle.std.proofs.lemmas.List.{drop-append-le, take-append-le}
-use Rattle.p25_follow.specs.Chains.{chain_by, chain_in, settled_of, with_front, written_step}
-use Rattle.p25_follow.specs.Expected.{kind_length}
-use Rattle.p25_follow.specs.Following.{Follow, follow, left_in, left_of, left_step}
-use Rattle.p25_follow.specs.Steps.{step_of}
+use Rattle.p25_follow.specs.{Chains.{chain_by, chain_in, settled_of, with_front, written_step}, Expected.{kind_length}, Following.{Follow, follow, left_in, left_of, left_step}, Steps.{step_of}}
 use Rattle.p25_follow.proofs.StepLaws.{step_of-append, step_of-nil, step_of-there}
 
 -- ---- with turns enough for every bit it does not matter how many there are

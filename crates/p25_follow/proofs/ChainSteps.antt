@@ -1,13 +1,9 @@
 -- A chain as it is written step by step: what is written so far and what is still to be written are the same all the time.
 use Rattle.std.proofs.Common.{◌≡◌, ℕ, ◌≤◌, Bool, true, false, ◌||◌, List, [], ◌++◌, length, take, drop, Option, Some, None, sym, ap, ap₂, ◌∙◌, append_assoc, append-nil}
-use Rattle.std.specs.Prelude.{nat_le}
 use Rattle.std.proofs.lemmas.Bool.{cond-false, leb-false, leb-true, or_parts}
-use Rattle.p25_follow.specs.Chains.{chain_by, with_front, written_step}
-use Rattle.p25_follow.specs.Expected.{kind_length}
-use Rattle.p25_follow.specs.Following.{Follow, follow, left_of}
-use Rattle.p25_follow.specs.Steps.{step_of}
-use Rattle.p25_follow.proofs.ChainLaws.{chain_by-none, chain_by-some, chain_by-step, chain_by-stop, left_of-none, left_of-step, left_of-stop, left_of-waits, rest_of}
-use Rattle.p25_follow.proofs.StepLaws.{step_of-end}
+use Rattle.std.specs.Prelude.{nat_le}
+use Rattle.p25_follow.specs.{Chains.{chain_by, with_front, written_step}, Expected.{kind_length}, Following.{Follow, follow, left_of}, Steps.{step_of}}
+use Rattle.p25_follow.proofs.{ChainLaws.{chain_by-none, chain_by-some, chain_by-step, chain_by-stop, left_of-none, left_of-step, left_of-stop, left_of-waits, rest_of}, StepLaws.{step_of-end}}
 
 -- where no step can be made nothing is written, and all is left
 pub chain-waits : (whole : Bool) (name : ℕ × ℕ) (bits out all : List Bool) (end : Option (ℕ × ℕ)) → (whole || nat_le 6912 (length bits)) ≡ false

@@ -4,19 +4,10 @@ use Rattle.std.proofs.lemmas.List.{drop-drop, length-take-le, take_at}
 use Rattle.p25_bits.specs.Bits.{part}
 use Rattle.p25_bits.proofs.PartLaws.{length-part, part-drop, part-part, part_right}
 use Rattle.p25_units.specs.Items.{covered}
-use Rattle.p25_follow.specs.Chains.{chain_by, with_front}
-use Rattle.p25_follow.specs.Expected.{is_expected, kind_length}
-use Rattle.p25_follow.specs.Followed.{follow_of}
-use Rattle.p25_follow.specs.FollowedUnits.{IsWrittenUpTo, end_name}
-use Rattle.p25_follow.specs.RecordingLaws.{CompleteInStretches}
-use Rattle.p25_follow.specs.StretchLaws.{bits_in}
-use Rattle.p25_follow.specs.Told.{name_errors_of}
-use Rattle.p25_follow.proofs.ChainLaws.{chain_by-step}
-use Rattle.p25_follow.proofs.KindLaws.{IsKind, expected-kinds, is_expected-all}
-use Rattle.p25_follow.proofs.LengthLaws.{length-with_front}
-use Rattle.p25_follow.proofs.StepLaws.{step_of-there}
-use Rattle.p25_follow.proofs.StretchesLaws.{bits_in-append, bits_in-fit, bits_in-more, by-stretches}
-use Rattle.p25_follow.proofs.TellsLaws.{step-near}
+use Rattle.p25_follow.specs.{Chains.{chain_by, with_front}, Expected.{is_expected, kind_length}, Followed.{follow_of}, FollowedUnits.{IsWrittenUpTo, end_name}, RecordingLaws.{CompleteInStretches}}
+use Rattle.p25_follow.specs.{StretchLaws.{bits_in}, Told.{name_errors_of}}
+use Rattle.p25_follow.proofs.{ChainLaws.{chain_by-step}, KindLaws.{IsKind, expected-kinds, is_expected-all}, LengthLaws.{length-with_front}, StepLaws.{step_of-there}}
+use Rattle.p25_follow.proofs.{StretchesLaws.{bits_in-append, bits_in-fit, bits_in-more, by-stretches}, TellsLaws.{step-near}}
 
 -- a unit that may come after one with a network access code (NAC) and a kind
 module _ (nac last kind : ℕ) (nac_fits : nac < 4096) (may : is_expected last kind ≡ true) where

@@ -2,15 +2,11 @@
 use Rattle.std.proofs.Common.{◌≡◌, ℕ, ◌%◌, ◌≤◌, Bool, List, length, take, Option, Some, None, Result, Ok, Err, sym, subst, arith, length-take}
 use Rattle.p25_status.specs.declared.fields.Field.{Field}
 use Rattle.p25_unit_front.specs.Front.{identifier_of}
-use Rattle.p25_units.specs.Items.{identified_item, item_from, unit_item_of}
-use Rattle.p25_units.specs.Readings.{reading_from}
-use Rattle.p25_units.specs.declared.frame.Frame.{Frame}
+use Rattle.p25_units.specs.{Items.{identified_item, item_from, unit_item_of}, Readings.{reading_from}, declared.frame.Frame.{Frame}}
 use Rattle.p25_units.proofs.NeedsLaws.{need_of-there}
 use Rattle.p25_stream.specs.Items.{first_item}
-use Rattle.p25_stream.proofs.ItemLaws.{item-among}
-use Rattle.p25_stream.proofs.ItemsLaws.{first_item-cases}
-use Rattle.p25_follow.specs.RelayLaws.{ItemsFit}
-use Rattle.p25_follow.specs.Relayed.{IsFitItem}
+use Rattle.p25_stream.proofs.{ItemLaws.{item-among}, ItemsLaws.{first_item-cases}}
+use Rattle.p25_follow.specs.{RelayLaws.{ItemsFit}, Relayed.{IsFitItem}}
 
 -- an item of whole blocks, whatever is read of them
 fit-from : (place : ℕ) (nid : ℕ × ℕ) (sent : List Bool) (reading : Result Frame (List Field)) → length sent % 72 ≡ 0 → 144 ≤ length sent → length sent ≤ 25920 → IsFitItem (item_from place nid sent reading)

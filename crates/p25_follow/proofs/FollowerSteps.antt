@@ -1,12 +1,8 @@
 -- What a follower does at an item and at the end, by what it keeps.
-use Rattle.std.proofs.Common.{◌≡◌, ℕ, Bool, true, false, List, [], ◌++◌, length, take, Option, None, sym, ap, ap₂, ◌∙◌}
-use Rattle.std.proofs.Math.Seq.{take-length}
-use Rattle.std.proofs.lemmas.Bool.{cond-false, cond-true}
+use Rattle.std.proofs.{Common.{◌≡◌, ℕ, Bool, true, false, List, [], ◌++◌, length, take, Option, None, sym, ap, ap₂, ◌∙◌}, Math.Seq.{take-length}, lemmas.Bool.{cond-false, cond-true}}
 use Rattle.p25_bits.specs.Bits.{part}
 use Rattle.p25_units.specs.declared.item.Item.{Item}
-use Rattle.p25_follow.specs.Chains.{chain_by, settled_of}
-use Rattle.p25_follow.specs.Followed.{is_rest, unit_name}
-use Rattle.p25_follow.specs.Following.{Follow, behind_item, follow, left_of, written_before, written_end}
+use Rattle.p25_follow.specs.{Chains.{chain_by, settled_of}, Followed.{is_rest, unit_name}, Following.{Follow, behind_item, follow, left_of, written_before, written_end}}
 use Rattle.p25_follow.proofs.ChainLaws.{chain_by-none, left_of-none}
 
 -- bits appended to others, all of them

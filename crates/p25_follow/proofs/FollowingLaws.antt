@@ -1,15 +1,10 @@
 -- What a follower writes of items is what follows: what is settled comes first, by induction on the items.
 use Rattle.std.proofs.Common.{◌≡◌, ℕ, zero, suc, ◌<◌, ◌≤◌, Bool, true, false, cond, inl, inr, List, [], ◌∷◌, ◌++◌, length, take, drop, Option, Some, None, refl, sym, ap, ap₂, subst, ◌∙◌, arith, append_assoc, append-nil, length-drop}
 use Rattle.std.proofs.lemmas.Bool.{cases_Bool, cases_lt, cond-false, cond-true}
-use Rattle.p25_units.specs.Items.{covered}
-use Rattle.p25_units.specs.declared.item.Item.{Item}
-use Rattle.p25_follow.specs.Chains.{chain_by, settled_of}
-use Rattle.p25_follow.specs.Followed.{followed_by, is_rest, unit_name}
-use Rattle.p25_follow.specs.Following.{Follow, IsFollow, behind_item, follow, left_of, written_before, written_by, written_end, written_item}
-use Rattle.p25_follow.specs.Expected.{kind_length}
-use Rattle.p25_follow.specs.Steps.{step_of}
-use Rattle.p25_follow.proofs.StepLaws.{step_of-there}
-use Rattle.p25_follow.proofs.ChainLaws.{chain-settles, chain_by-none, chain_by-waits, left_of-none, left_of-step, left_of-stop, left_of-waits}
+use Rattle.p25_units.specs.{Items.{covered}, declared.item.Item.{Item}}
+use Rattle.p25_follow.specs.{Chains.{chain_by, settled_of}, Followed.{followed_by, is_rest, unit_name}}
+use Rattle.p25_follow.specs.{Following.{Follow, IsFollow, behind_item, follow, left_of, written_before, written_by, written_end, written_item}, Expected.{kind_length}, Steps.{step_of}}
+use Rattle.p25_follow.proofs.{StepLaws.{step_of-there}, ChainLaws.{chain-settles, chain_by-none, chain_by-waits, left_of-none, left_of-step, left_of-stop, left_of-waits}}
 
 -- the parts of what follows
 pub followed-end : (ended : Bool) (before : Option (ℕ × ℕ)) (stretch : List Bool) (bits : List Bool) → followed_by ended before stretch [] bits ≡ chain_by ended before stretch None

@@ -1,34 +1,22 @@
 -- Where a front is written a unit begins for the scan, of this name and this length: the bits of its sync and of its identifier stand where the scan reads them.
 use Rattle.std.proofs.Common.{◌≡◌, ℕ, ◌<◌, ◌≤◌, Bool, true, false, List, ◌++◌, length, take, drop, Option, Some, None, Result, Ok, Err, refl, sym, ap, ap₂, subst, ◌∙◌, arith, append_assoc, length-append, length-drop}
-use Rattle.std.specs.Option.{unwrap_or}
 use Rattle.std.proofs.lemmas.List.{drop-drop, drop_at, length-take-le, take-append-drop, take-append-le, take-take, take_at}
-use Rattle.p25_bits.specs.Bits.{part}
-use Rattle.p25_bits.specs.Distance.{distance_of}
-use Rattle.p25_bits.proofs.DistanceLaws.{distance_of-same}
-use Rattle.p25_bits.proofs.PartLaws.{part-take}
+use Rattle.std.specs.Option.{unwrap_or}
+use Rattle.p25_bits.specs.{Bits.{part}, Distance.{distance_of}}
+use Rattle.p25_bits.proofs.{DistanceLaws.{distance_of-same}, PartLaws.{part-take}}
 use Rattle.p25_bch_nid.specs.NidWord.{nid_word}
-use Rattle.p25_status.specs.Sync.{has_sync, sync_bits}
-use Rattle.p25_status.specs.Woven.{bare_of, statuses_of}
-use Rattle.p25_status.specs.declared.fields.Field.{Field}
+use Rattle.p25_status.specs.{Sync.{has_sync, sync_bits}, Woven.{bare_of, statuses_of}, declared.fields.Field.{Field}}
 use Rattle.p25_status.proofs.SyncLaws.{has_sync-append, has_sync-yes}
 use Rattle.p25_unit_front.specs.Front.{identifier_bits, identifier_of, unit_front}
 use Rattle.p25_unit_front.proofs.FrontLaws.{drop-unit_front, identifier_of-append, identifier_of-near, length-unit_front, take-unit_front}
 use Rattle.p25_voice_units.specs.Lengths.{voice_length_of}
-use Rattle.p25_units.specs.Items.{covered, item_from, unit_item_of}
-use Rattle.p25_units.specs.Needs.{need_of}
-use Rattle.p25_units.specs.Readings.{body_reading_of, frame_from}
-use Rattle.p25_units.specs.Units.{sent_length}
-use Rattle.p25_units.specs.declared.item.Item.{Item}
-use Rattle.p25_units.specs.declared.needs.Need.TheVariants.{Length}
-use Rattle.p25_units.specs.declared.unit.Body.{Body}
-use Rattle.p25_units.proofs.ItemsLaws.{covered-unit_item_of, unit_item_of-some}
-use Rattle.p25_units.proofs.NeedsLaws.{identified_need-some, kind_need-voice, length_need-there, need_of-synced, synced_need-read}
+use Rattle.p25_units.specs.{Items.{covered, item_from, unit_item_of}, Needs.{need_of}, Readings.{body_reading_of, frame_from}, Units.{sent_length}, declared.item.Item.{Item}}
+use Rattle.p25_units.specs.{declared.needs.Need.TheVariants.{Length}, declared.unit.Body.{Body}}
+use Rattle.p25_units.proofs.{ItemsLaws.{covered-unit_item_of, unit_item_of-some}, NeedsLaws.{identified_need-some, kind_need-voice, length_need-there, need_of-synced, synced_need-read}}
 use Rattle.p25_units.proofs.ReadingsLaws.{IsBodyOf-reading, reading_from-some}
 use Rattle.p25_stream.specs.Items.{first_item, is_decided}
 use Rattle.p25_stream.proofs.ItemsLaws.{first_item-synced, is_decided-synced}
-use Rattle.p25_follow.specs.Chains.{with_front}
-use Rattle.p25_follow.specs.Expected.{kind_length}
-use Rattle.p25_follow.specs.Followed.{is_rest, unit_name}
+use Rattle.p25_follow.specs.{Chains.{with_front}, Expected.{kind_length}, Followed.{is_rest, unit_name}}
 use Rattle.p25_follow.proofs.LengthLaws.{length-with_front}
 
 -- ---- the bits of a front that is written

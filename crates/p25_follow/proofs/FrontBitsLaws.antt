@@ -1,27 +1,16 @@
 -- What is written differs from the recording in front bits alone, of units whose fronts are written, which lie in stretches. Place by place, by induction on the bits of a stretch and on the items.
 use Rattle.std.proofs.Common.{◌≡◌, ℕ, zero, suc, ◌+◌, ◌-◌, ◌<◌, ◌≤◌, Bool, true, false, inl, inr, ◌⊎◌, List, [], ◌∷◌, ◌++◌, length, take, drop, Option, Some, None, refl, sym, ap, subst, ◌∙◌, arith, append_assoc, append-nil, length-append, length-drop}
-use Rattle.std.proofs.lemmas.Bool.{cases_Bool, cases_lt, cond-false, cond-true}
-use Rattle.std.proofs.lemmas.List.{length-take-le, take-append-drop}
-use Rattle.std.proofs.Math.ListN.{drop_of_length-le}
+use Rattle.std.proofs.{lemmas.Bool.{cases_Bool, cases_lt, cond-false, cond-true}, lemmas.List.{length-take-le, take-append-drop}, Math.ListN.{drop_of_length-le}}
 use Rattle.p25_bits.specs.Bits.{part}
 use Rattle.p25_bits.proofs.PartLaws.{part-drop, part-part, part-take, part_left, part_right}
-use Rattle.p25_units.specs.Items.{covered, place_of, unit_item_of}
-use Rattle.p25_units.specs.declared.item.Item.{Item}
+use Rattle.p25_units.specs.{Items.{covered, place_of, unit_item_of}, declared.item.Item.{Item}}
 use Rattle.p25_units.proofs.ItemsLaws.{place_of-unit_item_of}
 use Rattle.p25_stream.specs.Items.{first_item, items_of}
 use Rattle.p25_stream.proofs.ItemsLaws.{covered-first_item, items_by-more, items_by-nil}
-use Rattle.p25_follow.specs.Chains.{chain_by, with_front}
-use Rattle.p25_follow.specs.Expected.{kind_length}
-use Rattle.p25_follow.specs.Followed.{follow_of, followed_by, is_rest, unit_name}
-use Rattle.p25_follow.specs.FollowedUnits.{IsFrontBit, IsInStretch, fronts_by, written_units}
-use Rattle.p25_follow.specs.RecordingLaws.{FrontBitsAlone}
-use Rattle.p25_follow.specs.Steps.{step_of}
-use Rattle.p25_follow.proofs.ChainLaws.{chain_by-none, chain_by-step, chain_by-stop}
-use Rattle.p25_follow.proofs.FollowingLaws.{followed-end, followed-rest, followed-unit}
-use Rattle.p25_follow.proofs.LengthLaws.{length-chain_of, length-with_front}
-use Rattle.p25_follow.proofs.StepLaws.{step_of-nil, step_of-there}
-use Rattle.p25_follow.proofs.UnchangedLaws.{rest-stays, symbol-stays}
-use Rattle.p25_follow.proofs.WrittenUnitsLaws.{written-step}
+use Rattle.p25_follow.specs.{Chains.{chain_by, with_front}, Expected.{kind_length}, Followed.{follow_of, followed_by, is_rest, unit_name}}
+use Rattle.p25_follow.specs.{FollowedUnits.{IsFrontBit, IsInStretch, fronts_by, written_units}, RecordingLaws.{FrontBitsAlone}, Steps.{step_of}}
+use Rattle.p25_follow.proofs.{ChainLaws.{chain_by-none, chain_by-step, chain_by-stop}, FollowingLaws.{followed-end, followed-rest, followed-unit}, LengthLaws.{length-chain_of, length-with_front}}
+use Rattle.p25_follow.proofs.{StepLaws.{step_of-nil, step_of-there}, UnchangedLaws.{rest-stays, symbol-stays}, WrittenUnitsLaws.{written-step}}
 
 -- ---- the bits of a unit whose front is written
 

@@ -1,10 +1,8 @@
 -- The bits of a front written in pieces.
 use Rattle.std.proofs.Common.{◌≡◌, ℕ, ◌+◌, ◌-◌, ◌/◌, ◌%◌, ◌^◌, ◌≤◌, Bool, List, ◌++◌, length, take, drop, refl, ap, ap₂, sym, ◌∙◌, arith, append_assoc, length-drop}
-use Rattle.std.proofs.Math.Seq.{take-append-add, take-length}
-use Rattle.std.proofs.lemmas.List.{drop-drop, drop-take, drop_at, take_at}
+use Rattle.std.proofs.{Math.Seq.{take-append-add, take-length}, lemmas.List.{drop-drop, drop-take, drop_at, take_at}}
 use Rattle.p25_bits.specs.Bits.{bits_of, part}
-use Rattle.p25_bits.proofs.BitsLaws.{bits_of-add, bits_of-mod, length-bits_of}
-use Rattle.p25_bits.proofs.PartLaws.{part-drop, part-take}
+use Rattle.p25_bits.proofs.{BitsLaws.{bits_of-add, bits_of-mod, length-bits_of}, PartLaws.{part-drop, part-take}}
 use Rattle.p25_bch_nid.specs.NidWord.{nid_word}
 use Rattle.p25_status.specs.Sync.{sync_bits}
 use Rattle.p25_status.proofs.SyncLaws.{length-sync_bits}

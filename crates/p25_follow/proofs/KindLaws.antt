@@ -1,8 +1,6 @@
 -- What is true of the kinds that are expected: each is one of the five kinds of voice units. By cases of the kind before.
-use Rattle.std.proofs.Common.{◌≡◌, ℕ, ◌≤◌, true, false, cond, inl, inr, ◌⊎◌, List, [], ◌∷◌, Some, None, refl, sym, subst, arith, lit≤}
-use Rattle.std.specs.Prelude.{nat_eq}
-use Rattle.std.specs.List.{list_any}
-use Rattle.std.proofs.lemmas.Bool.{eqb-true, or_cases}
+use Rattle.std.proofs.{Common.{◌≡◌, ℕ, ◌≤◌, true, false, cond, inl, inr, ◌⊎◌, List, [], ◌∷◌, Some, None, refl, sym, subst, arith, lit≤}, lemmas.Bool.{eqb-true, or_cases}}
+use Rattle.std.specs.{Prelude.{nat_eq}, List.{list_any}}
 use Rattle.p25_voice_units.specs.Lengths.{voice_length_of}
 use Rattle.p25_follow.specs.Expected.{expected_after, is_expected, kind_length, next_link}
 

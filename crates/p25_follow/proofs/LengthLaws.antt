@@ -1,21 +1,14 @@
 -- As many bits are written as are there. By induction on the bits, step by step and item by item.
 use Rattle.std.proofs.Common.{◌≡◌, ℕ, zero, suc, ◌+◌, ◌≤◌, Bool, true, inl, inr, List, [], ◌∷◌, ◌++◌, length, take, drop, Option, Some, None, refl, ap, ◌∙◌, arith, length-append, length-drop}
-use Rattle.std.proofs.lemmas.Bool.{cases_Bool}
-use Rattle.std.proofs.lemmas.List.{length-take-le}
+use Rattle.std.proofs.{lemmas.Bool.{cases_Bool}, lemmas.List.{length-take-le}}
 use Rattle.p25_bits.specs.Bits.{part}
 use Rattle.p25_unit_front.specs.Front.{unit_front}
 use Rattle.p25_unit_front.proofs.FrontLaws.{length-unit_front}
-use Rattle.p25_units.specs.Items.{covered}
-use Rattle.p25_units.specs.declared.item.Item.{Item}
+use Rattle.p25_units.specs.{Items.{covered}, declared.item.Item.{Item}}
 use Rattle.p25_stream.specs.Items.{first_item, items_of}
 use Rattle.p25_stream.proofs.ItemsLaws.{covered-first_item, items_by-more, items_by-nil}
-use Rattle.p25_follow.specs.Chains.{chain_by, with_front}
-use Rattle.p25_follow.specs.Expected.{kind_length}
-use Rattle.p25_follow.specs.Followed.{follow_of, followed_by, is_rest, unit_name}
-use Rattle.p25_follow.specs.Steps.{step_of}
-use Rattle.p25_follow.proofs.ChainLaws.{chain_by-none, chain_by-step, chain_by-stop}
-use Rattle.p25_follow.proofs.FollowingLaws.{followed-end, followed-rest, followed-unit}
-use Rattle.p25_follow.proofs.StepLaws.{step_of-nil, step_of-there}
+use Rattle.p25_follow.specs.{Chains.{chain_by, with_front}, Expected.{kind_length}, Followed.{follow_of, followed_by, is_rest, unit_name}, Steps.{step_of}}
+use Rattle.p25_follow.proofs.{ChainLaws.{chain_by-none, chain_by-step, chain_by-stop}, FollowingLaws.{followed-end, followed-rest, followed-unit}, StepLaws.{step_of-nil, step_of-there}}
 
 pub length-with_front : (name : ℕ × ℕ) (bits : List Bool) → 114 ≤ length bits → length (with_front name bits) ≡ length bits
 unfolding with_front

@@ -1,21 +1,13 @@
 -- What a look at a front tells, with whether its identifier reads, is what the front tells. An identifier that reads is that of a kind that may come only where the nearest of them is within 11 bits.
 use Rattle.std.proofs.Common.{◌≡◌, ℕ, ◌<◌, ◌≤◌, Bool, true, false, cond, ◌&&◌, ◌||◌, inl, inr, List, [], ◌∷◌, length, take, Option, Some, None, refl, sym, ap, ap₂, subst, ◌∙◌, arith}
-use Rattle.std.specs.Prelude.{nat_eq, nat_lt}
-use Rattle.std.specs.Option.{is_some}
-use Rattle.std.specs.List.{list_any}
-use Rattle.std.proofs.lemmas.Bool.{and_from, cases_Bool, cases_lt, cond-false, cond-true, eq-eqb, eqb-true, le-leb, le-ltb, lt-leb, lt-ltb, or_right}
-use Rattle.std.proofs.lemmas.List.{length-take-le}
+use Rattle.std.proofs.{lemmas.Bool.{and_from, cases_Bool, cases_lt, cond-false, cond-true, eq-eqb, eqb-true, le-leb, le-ltb, lt-leb, lt-ltb, or_right}, lemmas.List.{length-take-le}}
+use Rattle.std.specs.{Prelude.{nat_eq, nat_lt}, Option.{is_some}, List.{list_any}}
 use Rattle.p25_bch_nid.proofs.NidWordLaws.{nid_reading_of-near}
 use Rattle.p25_unit_front.specs.Front.{identifier_bits, identifier_of}
 use Rattle.p25_unit_front.proofs.FrontLaws.{identifier_of-near, identifier_of-take}
-use Rattle.p25_follow.specs.declared.told.Look.{Look}
-use Rattle.p25_follow.specs.declared.told.Near.{Near}
-use Rattle.p25_follow.specs.declared.told.Told.TheVariants.{Expected, Other, Nothing}
-use Rattle.p25_follow.specs.Expected.{expected_after, is_expected}
-use Rattle.p25_follow.specs.Looks.{is_read, told_by_look}
-use Rattle.p25_follow.specs.Told.{name_errors_of, nearer_kind, nearest_kind, told_name, told_near, told_nearest, told_of}
-use Rattle.p25_follow.proofs.KindLaws.{Each, IsKind, expected-kinds, is_expected-all}
-use Rattle.p25_follow.proofs.ToldLaws.{and_both, nearest-all, read-told, unread-told}
+use Rattle.p25_follow.specs.{declared.told.Look.{Look}, declared.told.Near.{Near}, declared.told.Told.TheVariants.{Expected, Other, Nothing}, Expected.{expected_after, is_expected}}
+use Rattle.p25_follow.specs.{Looks.{is_read, told_by_look}, Told.{name_errors_of, nearer_kind, nearest_kind, told_name, told_near, told_nearest, told_of}}
+use Rattle.p25_follow.proofs.{KindLaws.{Each, IsKind, expected-kinds, is_expected-all}, ToldLaws.{and_both, nearest-all, read-told, unread-told}}
 
 -- ---- whether an identifier reads
 

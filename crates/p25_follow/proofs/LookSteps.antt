@@ -1,15 +1,9 @@
 -- A step, and what is sure, by a look: where a unit fits the look the identifier tells, and where nothing is told the links do.
 use Rattle.std.proofs.Common.{◌≡◌, ℕ, zero, suc, ◌-◌, ◌<◌, ◌≤◌, Bool, true, false, cond, ◌&&◌, ◌||◌, List, [], length, drop, Option, Some, None, refl, sym, ap, ap₂, ◌∙◌, arith}
-use Rattle.std.specs.Prelude.{nat_le, nat_lt}
-use Rattle.std.specs.Option.{is_some, option_or}
 use Rattle.std.proofs.lemmas.Bool.{le-leb, lt-leb, lt-ltb}
-use Rattle.p25_follow.specs.declared.told.Look.{Look}
-use Rattle.p25_follow.specs.declared.told.Told.{Told}
-use Rattle.p25_follow.specs.declared.told.Told.TheVariants.{Expected, Other, Nothing}
-use Rattle.p25_follow.specs.Expected.{next_link}
-use Rattle.p25_follow.specs.Looks.{is_read, told_by_look}
-use Rattle.p25_follow.specs.Steps.{fits_by, fits_of, is_end, is_sure, step_of, true_of}
-use Rattle.p25_follow.specs.Told.{is_nothing, told_of}
+use Rattle.std.specs.{Prelude.{nat_le, nat_lt}, Option.{is_some, option_or}}
+use Rattle.p25_follow.specs.{declared.told.Look.{Look}, declared.told.Told.{Told}, declared.told.Told.TheVariants.{Expected, Other, Nothing}, Expected.{next_link}, Looks.{is_read, told_by_look}}
+use Rattle.p25_follow.specs.{Steps.{fits_by, fits_of, is_end, is_sure, step_of, true_of}, Told.{is_nothing, told_of}}
 use Rattle.p25_follow.proofs.StepLaws.{and_left-true, is_sure-suc, is_sure-zero}
 
 -- ---- a look and what is told

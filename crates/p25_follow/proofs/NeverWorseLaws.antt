@@ -1,28 +1,16 @@
 -- What the scan finds in what is written: the units of the recording, and one more for each front; and so a second time changes nothing. By induction on the bits of a stretch, and on the items.
 use Rattle.std.proofs.Common.{◌≡◌, ℕ, zero, suc, ◌+◌, ◌-◌, ◌<◌, ◌≤◌, Bool, true, false, inl, inr, ◌⊎◌, List, [], ◌∷◌, ◌++◌, length, take, drop, Option, Some, None, refl, sym, ap, ap₂, subst, ◌∙◌, arith, append_assoc, append-nil, length-append, length-drop}
-use Rattle.std.proofs.lemmas.Bool.{cases_Bool, cases_lt}
-use Rattle.std.proofs.lemmas.List.{drop-append-le, drop-drop, drop_at, length-take-le, take-append-drop, take_at}
+use Rattle.std.proofs.{lemmas.Bool.{cases_Bool, cases_lt}, lemmas.List.{drop-append-le, drop-drop, drop_at, length-take-le, take-append-drop, take_at}}
 use Rattle.std.proofs.Math.Seq.{drop-append-add, drop-append_seam, take-append_seam}
-use Rattle.p25_units.specs.Items.{covered}
-use Rattle.p25_units.specs.declared.item.Item.{Item}
+use Rattle.p25_units.specs.{Items.{covered}, declared.item.Item.{Item}}
 use Rattle.p25_stream.specs.Items.{first_item, items_of}
 use Rattle.p25_stream.proofs.ItemsLaws.{covered-first_item, items_by-more, items_by-nil}
-use Rattle.p25_follow.specs.Chains.{chain_by, with_front}
-use Rattle.p25_follow.specs.Expected.{kind_length}
-use Rattle.p25_follow.specs.Followed.{follow_of, followed_by, is_rest, unit_name}
-use Rattle.p25_follow.specs.FollowedUnits.{IsMerged, fronts_by, units_by, written_units}
-use Rattle.p25_follow.specs.RecordingLaws.{NeverWorse, SecondChangesNothing}
-use Rattle.p25_follow.specs.Steps.{step_of}
-use Rattle.p25_follow.specs.StretchLaws.{units_among}
-use Rattle.p25_follow.proofs.AfterUnitLaws.{Sound, agree-after, none-sound, sound-some, unit-sound}
-use Rattle.p25_follow.proofs.AlikeLaws.{Agree, Alike, agree-append, agree-less, rest-begins, unit-alike}
-use Rattle.p25_follow.proofs.ChainLaws.{chain_by-nil, chain_by-none, chain_by-step, chain_by-stop}
-use Rattle.p25_follow.proofs.FollowingLaws.{followed-end, followed-rest, followed-unit}
-use Rattle.p25_follow.proofs.FoundLaws.{written-found}
-use Rattle.p25_follow.proofs.FrontBitsLaws.{fronts-end, fronts-rest, fronts-unit}
-use Rattle.p25_follow.proofs.LengthLaws.{length-followed, length-with_front}
-use Rattle.p25_follow.proofs.SameUnitsLaws.{Ends, RestPlaces, among-rest, places-of, same_units-in, unit-at}
-use Rattle.p25_follow.proofs.StepLaws.{step_of-nil, step_of-there}
+use Rattle.p25_follow.specs.{Chains.{chain_by, with_front}, Expected.{kind_length}, Followed.{follow_of, followed_by, is_rest, unit_name}, FollowedUnits.{IsMerged, fronts_by, units_by, written_units}}
+use Rattle.p25_follow.specs.{RecordingLaws.{NeverWorse, SecondChangesNothing}, Steps.{step_of}, StretchLaws.{units_among}}
+use Rattle.p25_follow.proofs.{AfterUnitLaws.{Sound, agree-after, none-sound, sound-some, unit-sound}, AlikeLaws.{Agree, Alike, agree-append, agree-less, rest-begins, unit-alike}}
+use Rattle.p25_follow.proofs.{ChainLaws.{chain_by-nil, chain_by-none, chain_by-step, chain_by-stop}, FollowingLaws.{followed-end, followed-rest, followed-unit}, FoundLaws.{written-found}}
+use Rattle.p25_follow.proofs.{FrontBitsLaws.{fronts-end, fronts-rest, fronts-unit}, LengthLaws.{length-followed, length-with_front}}
+use Rattle.p25_follow.proofs.{SameUnitsLaws.{Ends, RestPlaces, among-rest, places-of, same_units-in, unit-at}, StepLaws.{step_of-nil, step_of-there}}
 use Rattle.p25_follow.proofs.WrittenUnitsLaws.{among-nil, among-unit, stretch-follow, units-end, units-rest, units-unit, written-none, written-step, written-stop}
 
 -- ---- what is written of a stretch, and bits after it

@@ -1,21 +1,15 @@
 -- Whether a unit begins at a place hangs on 316 bits alone: on the sync, the identifier and the header of a packet. By the cases of what is needed there.
 use Rattle.std.proofs.Common.{◌≡◌, ℕ, ◌≤◌, Bool, true, false, cond, inl, inr, List, length, take, Option, Some, None, Result, Ok, Err, refl, sym, ap, ap₂, ◌∙◌, arith}
-use Rattle.std.specs.Prelude.{nat_eq}
 use Rattle.std.proofs.lemmas.Bool.{cases_Bool, cond-false, cond-true, eqb-false, eqb-true}
-use Rattle.p25_status.specs.Sync.{has_sync}
-use Rattle.p25_status.specs.declared.fields.Field.{Field}
+use Rattle.std.specs.Prelude.{nat_eq}
+use Rattle.p25_status.specs.{Sync.{has_sync}, declared.fields.Field.{Field}}
 use Rattle.p25_status.proofs.SyncLaws.{has_sync-take}
 use Rattle.p25_unit_front.specs.Front.{identifier_of}
 use Rattle.p25_unit_front.proofs.FrontLaws.{identifier_of-take}
 use Rattle.p25_voice_units.specs.Lengths.{voice_length_of}
-use Rattle.p25_packet_blocks.specs.declared.head.PacketHead.{PacketHead}
-use Rattle.p25_packet_blocks.specs.Heads.{head_blocks}
-use Rattle.p25_packet_blocks.specs.Lengths.{packet_sent_length}
-use Rattle.p25_packet_blocks.specs.UnitReading.{sent_head_of}
+use Rattle.p25_packet_blocks.specs.{declared.head.PacketHead.{PacketHead}, Heads.{head_blocks}, Lengths.{packet_sent_length}, UnitReading.{sent_head_of}}
 use Rattle.p25_packet_blocks.proofs.UnitLaws.{sent_head_of-take}
-use Rattle.p25_units.specs.Needs.{head_need, identified_need, kind_need, need_of, voice_need}
-use Rattle.p25_units.specs.Units.{sent_length}
-use Rattle.p25_units.specs.declared.needs.Need.{Need}
+use Rattle.p25_units.specs.{Needs.{head_need, identified_need, kind_need, need_of, voice_need}, Units.{sent_length}, declared.needs.Need.{Need}}
 use Rattle.p25_units.specs.declared.needs.Need.TheVariants.{NoSync, More, Length, NoLength}
 use Rattle.p25_units.proofs.NeedsLaws.{head_need-bad, head_need-good, identified_need-none, identified_need-some, kind_need-packet, kind_need-unpacked, length_need-cases, need_of-synced, packet_need-long, synced_need-long, voice_need-none, voice_need-some}
 use Rattle.p25_stream.specs.Items.{first_item, synced_item}

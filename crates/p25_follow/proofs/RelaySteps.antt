@@ -1,9 +1,7 @@
 -- How a broken unit is written anew: what was taken apart, with another front and other status symbols, put together again.
-use Rattle.std.proofs.Common.{◌≡◌, ℕ, ◌-◌, Bool, List, [], ◌++◌, length, drop, replicate, ap, ap₂, ◌∙◌, arith, length-drop}
-use Rattle.std.proofs.lemmas.List.{take_all}
+use Rattle.std.proofs.{Common.{◌≡◌, ℕ, ◌-◌, Bool, List, [], ◌++◌, length, drop, replicate, ap, ap₂, ◌∙◌, arith, length-drop}, lemmas.List.{take_all}}
 use Rattle.p25_bits.specs.Bits.{part}
-use Rattle.p25_status.specs.Woven.{bare_of, statuses_of, woven}
-use Rattle.p25_status.specs.declared.symbols.Status.{Status}
+use Rattle.p25_status.specs.{Woven.{bare_of, statuses_of, woven}, declared.symbols.Status.{Status}}
 use Rattle.p25_unit_front.specs.Front.{unit_front}
 use Rattle.p25_follow.specs.Relayed.{relayed_broken}
 

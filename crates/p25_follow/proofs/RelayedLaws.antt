@@ -1,47 +1,25 @@
 -- What is forwarded of an item has as many bits as it covers, and the scan finds it again: by the cases of a first item.
 use Rattle.std.proofs.Common.{◌≡◌, ℕ, ◌+◌, ◌-◌, ◌*◌, ◌<◌, ◌≤◌, ◌⊎◌, inl, inr, Bool, true, List, ◌++◌, length, take, drop, replicate, Some, Result, Ok, Err, refl, sym, ap, ap₂, subst, ◌∙◌, arith, length-append, length-drop}
-use Rattle.std.proofs.lemmas.List.{drop-drop, length-replicate, length-take-le, take_at}
-use Rattle.std.proofs.Math.Seq.{drop-append-add}
+use Rattle.std.proofs.{lemmas.List.{drop-drop, length-replicate, length-take-le, take_at}, Math.Seq.{drop-append-add}}
 use Rattle.p25_bits.specs.Distance.{distance_of}
 use Rattle.p25_bits.proofs.DistanceLaws.{distance_of-same}
 use Rattle.p25_bch_nid.specs.NidWord.{nid_word}
-use Rattle.p25_status.specs.Sync.{has_sync, sync_bits}
-use Rattle.p25_status.specs.Woven.{bare_of, statuses_of}
-use Rattle.p25_status.specs.declared.fields.Field.{Field}
-use Rattle.p25_status.specs.declared.symbols.Status.{Status}
-use Rattle.p25_status.proofs.SyncLaws.{has_sync-append, has_sync-yes}
-use Rattle.p25_status.proofs.WovenLaws.{bare_of-woven, length-bare_of, length-statuses_of, length-woven}
+use Rattle.p25_status.specs.{Sync.{has_sync, sync_bits}, Woven.{bare_of, statuses_of}, declared.fields.Field.{Field}, declared.symbols.Status.{Status}}
+use Rattle.p25_status.proofs.{SyncLaws.{has_sync-append, has_sync-yes}, WovenLaws.{bare_of-woven, length-bare_of, length-statuses_of, length-woven}}
 use Rattle.p25_unit_front.specs.Front.{front_of, identifier_bits, identifier_of, unit_front}
 use Rattle.p25_unit_front.proofs.FrontLaws.{front_of-bare_of, front_of-identifier, front_of-sync, identifier_of-append, identifier_of-fits, identifier_of-near, identifier_of-take, length-unit_front}
-use Rattle.p25_packet_blocks.specs.Heads.{head_blocks}
-use Rattle.p25_packet_blocks.specs.Lengths.{packet_sent_length}
-use Rattle.p25_packet_blocks.specs.Reading.{head_from}
-use Rattle.p25_packet_blocks.specs.UnitReading.{sent_head_of}
+use Rattle.p25_packet_blocks.specs.{Heads.{head_blocks}, Lengths.{packet_sent_length}, Reading.{head_from}, UnitReading.{sent_head_of}}
 use Rattle.p25_trellis.specs.Nearest.{half_octets}
-use Rattle.p25_packet_blocks.proofs.ReadingLaws.{head_reading_of-is}
-use Rattle.p25_packet_blocks.proofs.SentLaws.{sent_header_bits-bare_of}
-use Rattle.p25_packet_blocks.proofs.UnitLaws.{sent_head_of-append, sent_head_of-is}
-use Rattle.p25_units.specs.Items.{covered, item_from, place_of, unit_item_of}
-use Rattle.p25_units.specs.Needs.{head_need, kind_need, need_of}
-use Rattle.p25_units.specs.Readings.{body_reading_of, frame_from, reading_from}
-use Rattle.p25_units.specs.Units.{IsSendableUnit, IsSoundFrame, frame_length_of, image_of, sent_length}
-use Rattle.p25_units.specs.declared.frame.Frame.{Frame}
-use Rattle.p25_units.specs.declared.item.Item.{Item}
-use Rattle.p25_units.specs.declared.item.Item.TheVariants.{Whole, Broken, NoUnit, Gap, Cut}
-use Rattle.p25_units.specs.declared.needs.Need.TheVariants.{Length}
-use Rattle.p25_units.specs.declared.unit.Body.{Body}
-use Rattle.p25_units.proofs.ItemsLaws.{unit_item_of-some}
-use Rattle.p25_units.proofs.KindsLaws.{IsPacketKind, IsUnitOf, IsUnitOf-need, IsVoiceKind}
+use Rattle.p25_packet_blocks.proofs.{ReadingLaws.{head_reading_of-is}, SentLaws.{sent_header_bits-bare_of}, UnitLaws.{sent_head_of-append, sent_head_of-is}}
+use Rattle.p25_units.specs.{Items.{covered, item_from, place_of, unit_item_of}, Needs.{head_need, kind_need, need_of}, Readings.{body_reading_of, frame_from, reading_from}}
+use Rattle.p25_units.specs.{Units.{IsSendableUnit, IsSoundFrame, frame_length_of, image_of, sent_length}, declared.frame.Frame.{Frame}, declared.item.Item.{Item}}
+use Rattle.p25_units.specs.{declared.item.Item.TheVariants.{Whole, Broken, NoUnit, Gap, Cut}, declared.needs.Need.TheVariants.{Length}, declared.unit.Body.{Body}}
+use Rattle.p25_units.proofs.{ItemsLaws.{unit_item_of-some}, KindsLaws.{IsPacketKind, IsUnitOf, IsUnitOf-need, IsVoiceKind}}
 use Rattle.p25_units.proofs.NeedsLaws.{IsIdentified-from, head_need-good, identified_need-some, kind_need-packet, kind_need-voice, length_need-there, need_of-synced, need_of-there, packet_need-long, synced_need-read}
-use Rattle.p25_units.proofs.ReadingsLaws.{reading_from-some}
-use Rattle.p25_units.proofs.UnitsLaws.{IsSoundFrame-frame_as, length-image_of, length-image_of-blocks}
-use Rattle.p25_stream.specs.Items.{first_item}
-use Rattle.p25_stream.specs.Repeats.{bridged_frame}
-use Rattle.p25_stream.proofs.ItemLaws.{image-whole, whole-within}
-use Rattle.p25_stream.proofs.ItemsLaws.{first_item-cases, first_item-synced, place_of-first_item}
-use Rattle.p25_follow.specs.Followed.{unit_name}
-use Rattle.p25_follow.specs.Relayed.{relayed, relayed_broken, relayed_item}
-use Rattle.p25_follow.specs.RelayLaws.{RelayedIsFound}
+use Rattle.p25_units.proofs.{ReadingsLaws.{reading_from-some}, UnitsLaws.{IsSoundFrame-frame_as, length-image_of, length-image_of-blocks}}
+use Rattle.p25_stream.specs.{Items.{first_item}, Repeats.{bridged_frame}}
+use Rattle.p25_stream.proofs.{ItemLaws.{image-whole, whole-within}, ItemsLaws.{first_item-cases, first_item-synced, place_of-first_item}}
+use Rattle.p25_follow.specs.{Followed.{unit_name}, Relayed.{relayed, relayed_broken, relayed_item}, RelayLaws.{RelayedIsFound}}
 use Rattle.p25_follow.proofs.BehindLaws.{AreAlikeBehind, body_reading-alike, head_reading-alike}
 
 -- ---- a broken unit

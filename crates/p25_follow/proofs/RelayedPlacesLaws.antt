@@ -1,26 +1,16 @@
 -- What is forwarded of a recording: each item in its place, by induction on the items before it; and a place with a sync is the place of an item, or lies within a unit
 -- that begins before it, by induction on the bits before the place.
 use Rattle.std.proofs.Common.{◌≡◌, ℕ, zero, suc, ◌+◌, ◌<◌, ◌≤◌, ◌⊎◌, inl, inr, Bool, true, false, List, [], ◌∷◌, ◌++◌, length, take, drop, Some, None, refl, sym, ap, ap₂, subst, ◌∙◌, arith, append_assoc, append-nil, length-append, length-drop}
-use Rattle.std.proofs.lemmas.Bool.{cases_lt}
-use Rattle.std.proofs.lemmas.List.{drop-append-le, drop-drop, drop_all}
+use Rattle.std.proofs.{lemmas.Bool.{cases_lt}, lemmas.List.{drop-append-le, drop-drop, drop_all}}
 use Rattle.p25_bits.specs.Bits.{part}
 use Rattle.p25_bits.proofs.PartLaws.{part_joined}
-use Rattle.p25_status.specs.Sync.{has_sync}
-use Rattle.p25_status.specs.declared.symbols.Status.{Status}
+use Rattle.p25_status.specs.{Sync.{has_sync}, declared.symbols.Status.{Status}}
 use Rattle.p25_status.proofs.SyncLaws.{has_sync-length}
-use Rattle.p25_units.specs.Items.{covered}
-use Rattle.p25_units.specs.declared.item.Item.{Item}
-use Rattle.p25_units.specs.declared.item.Item.TheVariants.{Whole, Broken, NoUnit, Gap, Cut}
-use Rattle.p25_stream.specs.Arrivals.{IsHidden, IsUnitItem}
-use Rattle.p25_stream.specs.Items.{first_item, items_of}
-use Rattle.p25_stream.proofs.ItemsLaws.{covered-first_item, first_item-cases, gap-first, items_by-first, items_by-more, items_by-nil, place_of-first_item}
-use Rattle.p25_stream.proofs.SyncPlaceLaws.{has_sync-before}
-use Rattle.p25_follow.specs.Followed.{unit_name}
-use Rattle.p25_follow.specs.Relayed.{IsAmong, relay_of, relayed, relayed_by, relayed_item}
-use Rattle.p25_follow.specs.RelayLaws.{RelayKeepsLength, RelayKeepsUnits, RelaysInPlace}
-use Rattle.p25_follow.specs.StretchLaws.{bits_in}
-use Rattle.p25_follow.proofs.StretchesLaws.{bits_in-more}
-use Rattle.p25_follow.proofs.RelayedLaws.{item-found, item-long}
+use Rattle.p25_units.specs.{Items.{covered}, declared.item.Item.{Item}, declared.item.Item.TheVariants.{Whole, Broken, NoUnit, Gap, Cut}}
+use Rattle.p25_stream.specs.{Arrivals.{IsHidden, IsUnitItem}, Items.{first_item, items_of}}
+use Rattle.p25_stream.proofs.{ItemsLaws.{covered-first_item, first_item-cases, gap-first, items_by-first, items_by-more, items_by-nil, place_of-first_item}, SyncPlaceLaws.{has_sync-before}}
+use Rattle.p25_follow.specs.{Followed.{unit_name}, Relayed.{IsAmong, relay_of, relayed, relayed_by, relayed_item}, RelayLaws.{RelayKeepsLength, RelayKeepsUnits, RelaysInPlace}, StretchLaws.{bits_in}}
+use Rattle.p25_follow.proofs.{StretchesLaws.{bits_in-more}, RelayedLaws.{item-found, item-long}}
 
 -- ---- what is forwarded of the items of a recording
 module _ (nac : ℕ) (status : Status) (nac_fits : nac < 4096) where

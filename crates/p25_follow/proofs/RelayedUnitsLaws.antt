@@ -1,29 +1,16 @@
 -- Where nothing begins in what is forwarded of the stretches, the scan finds in what is forwarded the units of the recording, one by one. By induction on the items: a unit is found in its place,
 -- and over a stretch the scan comes to the place after it.
 use Rattle.std.proofs.Common.{◌≡◌, ℕ, ◌+◌, ◌<◌, ◌≤◌, inl, inr, Bool, true, false, List, [], ◌∷◌, ◌++◌, length, take, drop, map, Option, Some, None, Result, Ok, Err, refl, sym, ap, ap₂, subst, ◌∙◌, add_assoc, arith, append-nil, length-append}
-use Rattle.std.proofs.Math.Nat.{add-zero}
-use Rattle.std.proofs.Math.Seq.{take-length}
-use Rattle.std.proofs.lemmas.Bool.{and_from, cases_Bool, cases_lt, cond-false}
-use Rattle.std.proofs.lemmas.List.{drop-drop, drop_all, drop_at}
-use Rattle.p25_status.specs.declared.fields.Field.{Field}
-use Rattle.p25_status.specs.declared.symbols.Status.{Status}
+use Rattle.std.proofs.{Math.Nat.{add-zero}, Math.Seq.{take-length}, lemmas.Bool.{and_from, cases_Bool, cases_lt, cond-false}, lemmas.List.{drop-drop, drop_all, drop_at}}
+use Rattle.p25_status.specs.{declared.fields.Field.{Field}, declared.symbols.Status.{Status}}
 use Rattle.p25_unit_front.specs.Front.{identifier_of}
-use Rattle.p25_units.specs.Items.{covered, identified_item, item_from, unit_item_of}
-use Rattle.p25_units.specs.Readings.{reading_from}
-use Rattle.p25_units.specs.Units.{frame_length_of}
-use Rattle.p25_units.specs.declared.frame.Frame.{Frame}
-use Rattle.p25_units.specs.declared.item.Item.{Item}
+use Rattle.p25_units.specs.{Items.{covered, identified_item, item_from, unit_item_of}, Readings.{reading_from}, Units.{frame_length_of}, declared.frame.Frame.{Frame}, declared.item.Item.{Item}}
 use Rattle.p25_units.specs.declared.item.Item.TheVariants.{Whole, Broken, NoUnit, Gap, Cut}
 use Rattle.p25_stream.specs.Items.{first_item, items_of}
 use Rattle.p25_stream.proofs.ItemsLaws.{covered-first_item, first_item-cases, items_by-first, items_by-more, items_by-nil}
-use Rattle.p25_follow.specs.Followed.{is_rest}
-use Rattle.p25_follow.specs.Relayed.{relay_of, relayed, relayed_by, relayed_item}
-use Rattle.p25_follow.specs.RelayLaws.{RelaySameUnits}
-use Rattle.p25_follow.specs.StretchLaws.{all_rest, begins_rest, bits_in, units_among}
-use Rattle.p25_follow.proofs.RelayedLaws.{item-found, item-long}
-use Rattle.p25_follow.proofs.RelayedPlacesLaws.{by-more, by-nil}
-use Rattle.p25_follow.proofs.SameUnitsLaws.{Ends, RestPlaces, among-rest, ends-before, rest-at, same-units, stretch-from, true-false}
-use Rattle.p25_follow.proofs.StretchesLaws.{bits_in-more}
+use Rattle.p25_follow.specs.{Followed.{is_rest}, Relayed.{relay_of, relayed, relayed_by, relayed_item}, RelayLaws.{RelaySameUnits}, StretchLaws.{all_rest, begins_rest, bits_in, units_among}}
+use Rattle.p25_follow.proofs.{RelayedLaws.{item-found, item-long}, RelayedPlacesLaws.{by-more, by-nil}}
+use Rattle.p25_follow.proofs.{SameUnitsLaws.{Ends, RestPlaces, among-rest, ends-before, rest-at, same-units, stretch-from, true-false}, StretchesLaws.{bits_in-more}}
 
 -- ---- over places at which no unit begins the scan comes to the units after them
 

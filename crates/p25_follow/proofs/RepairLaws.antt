@@ -1,29 +1,14 @@
 -- Where a repair leaves the items, it changes nothing of what comes after it: the stretches are the same, and so is what is written of them. By induction on the items of both recordings.
 use Rattle.std.proofs.Common.{◌≡◌, ℕ, zero, suc, ◌+◌, ◌<◌, ◌≤◌, Bool, true, false, inl, inr, List, [], ◌∷◌, ◌++◌, length, take, drop, Option, Some, None, refl, sym, ap, ap₂, subst, ◌∙◌, arith, append_assoc, length-append, length-drop}
-use Rattle.std.proofs.lemmas.Bool.{cases_Bool}
-use Rattle.std.proofs.lemmas.List.{drop_at, length-take-le, take_at}
-use Rattle.std.proofs.Math.Seq.{drop-append_seam, take-append_seam}
-use Rattle.p25_units.specs.Items.{covered, unit_item_of}
-use Rattle.p25_units.specs.Units.{image_of}
-use Rattle.p25_units.specs.declared.item.Item.{Item}
-use Rattle.p25_units.specs.declared.item.Item.TheVariants.{Whole, Broken, NoUnit, Gap, Cut}
-use Rattle.p25_stream.specs.Items.{first_item, items_of}
-use Rattle.p25_stream.specs.Repeats.{repaired}
+use Rattle.std.proofs.{lemmas.Bool.{cases_Bool}, lemmas.List.{drop_at, length-take-le, take_at}, Math.Seq.{drop-append_seam, take-append_seam}}
+use Rattle.p25_units.specs.{Items.{covered, unit_item_of}, Units.{image_of}, declared.item.Item.{Item}, declared.item.Item.TheVariants.{Whole, Broken, NoUnit, Gap, Cut}}
+use Rattle.p25_stream.specs.{Items.{first_item, items_of}, Repeats.{repaired}}
 use Rattle.p25_stream.proofs.ItemsLaws.{covered-first_item, items_by-more, items_by-nil}
-use Rattle.p25_follow.specs.Chains.{chain_by, with_front}
-use Rattle.p25_follow.specs.Expected.{kind_length}
-use Rattle.p25_follow.specs.Followed.{follow_of, followed_by, is_rest, unit_name}
-use Rattle.p25_follow.specs.RecordingLaws.{RepairBefore}
-use Rattle.p25_follow.specs.Repaired.{AreFoundAgain, IsFoundAgain, repair_of, repaired_from}
-use Rattle.p25_follow.specs.Steps.{step_of}
-use Rattle.p25_follow.proofs.AfterUnitLaws.{Sound, none-sound, sound-some, unit-sound}
-use Rattle.p25_follow.proofs.ChainLaws.{chain_by-nil, chain_by-none, chain_by-step, chain_by-stop}
-use Rattle.p25_follow.proofs.FollowingLaws.{followed-rest, followed-unit}
-use Rattle.p25_follow.proofs.FoundLaws.{written-found}
-use Rattle.p25_follow.proofs.LengthLaws.{length-with_front}
-use Rattle.p25_follow.proofs.NeverWorseLaws.{Begins, ends-at, next_of, rests-later, rests-more, unit-tail}
-use Rattle.p25_follow.proofs.SameUnitsLaws.{RestPlaces}
-use Rattle.p25_follow.proofs.StepLaws.{step_of-there}
+use Rattle.p25_follow.specs.{Chains.{chain_by, with_front}, Expected.{kind_length}, Followed.{follow_of, followed_by, is_rest, unit_name}, RecordingLaws.{RepairBefore}}
+use Rattle.p25_follow.specs.{Repaired.{AreFoundAgain, IsFoundAgain, repair_of, repaired_from}, Steps.{step_of}}
+use Rattle.p25_follow.proofs.{AfterUnitLaws.{Sound, none-sound, sound-some, unit-sound}, ChainLaws.{chain_by-nil, chain_by-none, chain_by-step, chain_by-stop}}
+use Rattle.p25_follow.proofs.{FollowingLaws.{followed-rest, followed-unit}, FoundLaws.{written-found}, LengthLaws.{length-with_front}}
+use Rattle.p25_follow.proofs.{NeverWorseLaws.{Begins, ends-at, next_of, rests-later, rests-more, unit-tail}, SameUnitsLaws.{RestPlaces}, StepLaws.{step_of-there}}
 use Rattle.p25_follow.proofs.RepairedLaws.{from-first, from-more, repaired-items, repaired-long, repaired-nil, rest-plain, stretch-repair}
 
 -- ---- what it writes of a chain, whatever comes after it

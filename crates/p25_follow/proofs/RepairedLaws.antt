@@ -1,28 +1,16 @@
 -- What a repair writes of items: of each as many bits as it covers, and of a stretch its bits. By the cases of an item, and by induction on the items of a stretch.
 use Rattle.std.proofs.Common.{◌≡◌, ℕ, zero, suc, ◌+◌, ◌-◌, ◌<◌, ◌≤◌, Bool, true, List, [], ◌∷◌, ◌++◌, length, take, drop, Some, Result, Ok, Err, refl, sym, ap, ap₂, subst, ◌∙◌, arith, append_assoc, length-drop}
-use Rattle.std.proofs.lemmas.List.{drop-drop}
-use Rattle.std.proofs.Math.Nat.{add-zero}
+use Rattle.std.proofs.{lemmas.List.{drop-drop}, Math.Nat.{add-zero}}
 use Rattle.p25_status.specs.declared.fields.Field.{Field}
 use Rattle.p25_unit_front.proofs.FrontLaws.{identifier_of-fits, identifier_of-take}
-use Rattle.p25_units.specs.Items.{covered, item_from, unit_item_of}
-use Rattle.p25_units.specs.Needs.{need_of}
-use Rattle.p25_units.specs.Readings.{reading_from}
-use Rattle.p25_units.specs.declared.frame.Frame.{Frame}
-use Rattle.p25_units.specs.declared.item.Item.{Item}
-use Rattle.p25_units.specs.declared.item.Item.TheVariants.{Whole, Broken, NoUnit, Gap, Cut}
-use Rattle.p25_units.specs.declared.needs.Need.TheVariants.{Length}
-use Rattle.p25_units.proofs.ItemsLaws.{unit_item_of-some}
-use Rattle.p25_units.proofs.KindsLaws.{IsUnitOf, IsUnitOf-need}
-use Rattle.p25_units.proofs.NeedsLaws.{IsIdentified-from, need_of-there}
-use Rattle.p25_units.proofs.ReadingsLaws.{IsFrameOf-reading}
+use Rattle.p25_units.specs.{Items.{covered, item_from, unit_item_of}, Needs.{need_of}, Readings.{reading_from}, declared.frame.Frame.{Frame}, declared.item.Item.{Item}}
+use Rattle.p25_units.specs.{declared.item.Item.TheVariants.{Whole, Broken, NoUnit, Gap, Cut}, declared.needs.Need.TheVariants.{Length}}
+use Rattle.p25_units.proofs.{ItemsLaws.{unit_item_of-some}, KindsLaws.{IsUnitOf, IsUnitOf-need}, NeedsLaws.{IsIdentified-from, need_of-there}, ReadingsLaws.{IsFrameOf-reading}}
 use Rattle.p25_units.proofs.UnitsLaws.{length-image_of}
-use Rattle.p25_stream.specs.Items.{first_item, items_of}
-use Rattle.p25_stream.specs.Repeats.{repaired}
+use Rattle.p25_stream.specs.{Items.{first_item, items_of}, Repeats.{repaired}}
 use Rattle.p25_stream.proofs.ItemsLaws.{covered-first_item, first_item-cases, items_by-more}
-use Rattle.p25_follow.specs.Followed.{is_rest}
-use Rattle.p25_follow.specs.Repaired.{repaired_by, repaired_from}
-use Rattle.p25_follow.proofs.SameUnitsLaws.{Ends, RestPlaces, covers-within, ends-later, rest-at}
-use Rattle.p25_follow.proofs.WrittenUnitsLaws.{append-take}
+use Rattle.p25_follow.specs.{Followed.{is_rest}, Repaired.{repaired_by, repaired_from}}
+use Rattle.p25_follow.proofs.{SameUnitsLaws.{Ends, RestPlaces, covers-within, ends-later, rest-at}, WrittenUnitsLaws.{append-take}}
 
 -- ---- what a repair writes
 

@@ -1,23 +1,15 @@
 -- Wherever in a stretch the scan begins, it comes to the same units after it: at none of the stretch's places does a unit begin, and no gap reaches past a sync. By induction on the
 -- places that are left, and on the items of the stretch.
 use Rattle.std.proofs.Common.{◌≡◌, ℕ, zero, suc, ◌+◌, ◌-◌, ◌<◌, ◌≤◌, Bool, true, false, inl, inr, ◌⊎◌, List, [], ◌∷◌, ◌++◌, length, take, drop, refl, sym, ap, ap₂, subst, ◌∙◌, add_assoc, arith, length-drop}
-use Rattle.std.proofs.lemmas.Bool.{cases_Bool, cases_lt, cond-true}
-use Rattle.std.proofs.Math.Nat.{add-zero}
-use Rattle.std.proofs.lemmas.List.{drop-drop}
+use Rattle.std.proofs.{lemmas.Bool.{cases_Bool, cases_lt, cond-true}, Math.Nat.{add-zero}, lemmas.List.{drop-drop}}
 use Rattle.p25_status.specs.Sync.{has_sync}
 use Rattle.p25_unit_front.proofs.FrontLaws.{identifier_of-take}
-use Rattle.p25_units.specs.Items.{covered, unit_item_of}
-use Rattle.p25_units.specs.Needs.{need_of}
-use Rattle.p25_units.specs.declared.item.Item.{Item}
-use Rattle.p25_units.specs.declared.needs.Need.TheVariants.{Length, More, NoLength}
+use Rattle.p25_units.specs.{Items.{covered, unit_item_of}, Needs.{need_of}, declared.item.Item.{Item}, declared.needs.Need.TheVariants.{Length, More, NoLength}}
 use Rattle.p25_units.proofs.NeedsLaws.{IsIdentified-from, need_of-there}
 use Rattle.p25_stream.specs.Items.{first_item, items_of, sync_place}
-use Rattle.p25_stream.proofs.ItemsLaws.{covered-first_item, first_item-cases, first_item-gap, first_item-synced, items_by-first, items_by-more}
-use Rattle.p25_stream.proofs.SyncPlaceLaws.{has_sync-before, sync_place-le}
-use Rattle.p25_follow.specs.Followed.{is_rest}
-use Rattle.p25_follow.specs.StretchLaws.{all_rest, begins_rest, bits_in, units_among}
-use Rattle.p25_follow.proofs.FoundLaws.{found-unit}
-use Rattle.p25_follow.proofs.StepLaws.{and_left-true, and_right-true}
+use Rattle.p25_stream.proofs.{ItemsLaws.{covered-first_item, first_item-cases, first_item-gap, first_item-synced, items_by-first, items_by-more}, SyncPlaceLaws.{has_sync-before, sync_place-le}}
+use Rattle.p25_follow.specs.{Followed.{is_rest}, StretchLaws.{all_rest, begins_rest, bits_in, units_among}}
+use Rattle.p25_follow.proofs.{FoundLaws.{found-unit}, StepLaws.{and_left-true, and_right-true}}
 
 -- ---- what an item is hangs on its bits alone
 

@@ -1,16 +1,10 @@
 -- A step looks at no more bits than its reach: what comes after them changes nothing, nor does the end. By the links, with what is told of the first 114 bits.
 use Rattle.std.proofs.Common.{◌≡◌, ℕ, zero, suc, ◌+◌, ◌-◌, ◌*◌, ◌<◌, ◌≤◌, Bool, true, false, cond, ◌&&◌, ◌||◌, inl, inr, List, [], ◌++◌, length, drop, Option, Some, None, refl, sym, ap, ap₂, subst, ◌∙◌, arith, append-nil, length-append, length-drop}
-use Rattle.std.specs.Prelude.{nat_le, nat_lt}
-use Rattle.std.specs.Option.{is_some, option_or}
-use Rattle.std.proofs.lemmas.Bool.{cases_lt, cond-false, cond-true, le-leb, leb-true, lt-leb, lt-ltb, ltb-true}
-use Rattle.std.proofs.lemmas.List.{drop-append-le, drop-drop}
-use Rattle.p25_follow.specs.declared.told.Told.{Told}
-use Rattle.p25_follow.specs.declared.told.Told.TheVariants.{Expected, Other, Nothing}
-use Rattle.p25_follow.specs.Expected.{kind_length, next_link}
-use Rattle.p25_follow.specs.Steps.{fits_by, fits_of, is_end, is_sure, step_of, true_of}
-use Rattle.p25_follow.specs.Told.{is_nothing, told_of}
-use Rattle.p25_follow.proofs.KindLaws.{IsKind, expected-kinds, link-kinds}
-use Rattle.p25_follow.proofs.ToldLaws.{told_of-append, told_of-expected, told_of-short}
+use Rattle.std.proofs.{lemmas.Bool.{cases_lt, cond-false, cond-true, le-leb, leb-true, lt-leb, lt-ltb, ltb-true}, lemmas.List.{drop-append-le, drop-drop}}
+use Rattle.std.specs.{Prelude.{nat_le, nat_lt}, Option.{is_some, option_or}}
+use Rattle.p25_follow.specs.{declared.told.Told.{Told}, declared.told.Told.TheVariants.{Expected, Other, Nothing}, Expected.{kind_length, next_link}}
+use Rattle.p25_follow.specs.{Steps.{fits_by, fits_of, is_end, is_sure, step_of, true_of}, Told.{is_nothing, told_of}}
+use Rattle.p25_follow.proofs.{KindLaws.{IsKind, expected-kinds, link-kinds}, ToldLaws.{told_of-append, told_of-expected, told_of-short}}
 
 -- ---- what fits
 

@@ -1,20 +1,12 @@
 -- What comes out of a recording, stretch by stretch: the bits of a unit as they are, and those of a stretch after it as its chain. By induction on the items before them.
 use Rattle.std.proofs.Common.{◌≡◌, ℕ, ◌+◌, ◌≤◌, Bool, true, false, inl, inr, List, [], ◌∷◌, ◌++◌, length, take, drop, Option, None, refl, sym, ap, ap₂, subst, ◌∙◌, arith, append_assoc, append-nil, length-append, length-drop}
-use Rattle.std.proofs.lemmas.Bool.{cases_Bool}
-use Rattle.std.proofs.lemmas.List.{drop-drop, drop_at, length-take-le, take_at}
-use Rattle.p25_units.specs.Items.{covered}
-use Rattle.p25_units.specs.declared.item.Item.{Item}
+use Rattle.std.proofs.{lemmas.Bool.{cases_Bool}, lemmas.List.{drop-drop, drop_at, length-take-le, take_at}}
+use Rattle.p25_units.specs.{Items.{covered}, declared.item.Item.{Item}}
 use Rattle.p25_stream.specs.Items.{items_of}
 use Rattle.p25_stream.proofs.ItemsLaws.{covered-first_item, items_by-first}
-use Rattle.p25_follow.specs.Chains.{chain_by}
-use Rattle.p25_follow.specs.Followed.{follow_of, followed_by, is_rest, unit_name}
-use Rattle.p25_follow.specs.FollowedUnits.{end_name}
-use Rattle.p25_follow.specs.RecordingLaws.{StretchByStretch}
+use Rattle.p25_follow.specs.{Chains.{chain_by}, Followed.{follow_of, followed_by, is_rest, unit_name}, FollowedUnits.{end_name}, RecordingLaws.{StretchByStretch}}
 use Rattle.p25_follow.specs.StretchLaws.{all_rest, begins_rest, bits_in}
-use Rattle.p25_follow.proofs.FollowingLaws.{followed-end, followed-rest, followed-unit}
-use Rattle.p25_follow.proofs.LengthLaws.{length-chain_of}
-use Rattle.p25_follow.proofs.StepLaws.{and_left-true, and_right-true}
-use Rattle.p25_follow.proofs.WrittenUnitsLaws.{append-take}
+use Rattle.p25_follow.proofs.{FollowingLaws.{followed-end, followed-rest, followed-unit}, LengthLaws.{length-chain_of}, StepLaws.{and_left-true, and_right-true}, WrittenUnitsLaws.{append-take}}
 
 -- ---- how many bits items cover
 

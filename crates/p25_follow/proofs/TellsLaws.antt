@@ -1,16 +1,12 @@
 -- What a front has to tell where it is written: an identifier that reads is the one that is written, and a unit that may come and whose identifier reads as its own is written.
 use Rattle.std.proofs.Common.{◌≡◌, ℕ, ◌<◌, ◌≤◌, Bool, true, false, cond, ◌&&◌, inl, inr, List, length, Option, Some, None, refl, sym, ap, subst, ◌∙◌, arith}
-use Rattle.std.specs.Prelude.{nat_eq, nat_lt}
-use Rattle.std.specs.Option.{option_or}
 use Rattle.std.proofs.lemmas.Bool.{and_from, cases_Bool, cond-false, cond-true, eq-eqb, ltb-true}
+use Rattle.std.specs.{Prelude.{nat_eq, nat_lt}, Option.{option_or}}
 use Rattle.p25_unit_front.specs.Front.{identifier_of}
 use Rattle.p25_unit_front.proofs.FrontLaws.{identifier_of-near}
-use Rattle.p25_follow.specs.declared.told.Told.TheVariants.{Expected, Other}
-use Rattle.p25_follow.specs.Expected.{is_expected, kind_length, next_link}
-use Rattle.p25_follow.specs.Steps.{fits_by, fits_of, is_sure, step_of}
+use Rattle.p25_follow.specs.{declared.told.Told.TheVariants.{Expected, Other}, Expected.{is_expected, kind_length, next_link}, Steps.{fits_by, fits_of, is_sure, step_of}}
 use Rattle.p25_follow.specs.Told.{is_nothing, name_errors_of, told_name, told_of}
-use Rattle.p25_follow.proofs.StepLaws.{and_left-true, and_right-true, fits_kind, fits_of-kind, sure-long}
-use Rattle.p25_follow.proofs.ToldLaws.{name-told, read-told}
+use Rattle.p25_follow.proofs.{StepLaws.{and_left-true, and_right-true, fits_kind, fits_of-kind, sure-long}, ToldLaws.{name-told, read-told}}
 
 name-something : (before name : ℕ × ℕ) → is_nothing (told_name before name) ≡ false
 unfolding told_name

@@ -1,15 +1,13 @@
 -- What is told hangs on the first 114 bits alone, and a kind that is told is one that is expected. By the cases of the identifier.
 use Rattle.std.proofs.Common.{◌≡◌, ℕ, ◌+◌, ◌<◌, ◌≤◌, Bool, true, false, cond, ◌&&◌, inl, inr, List, [], ◌∷◌, ◌++◌, length, take, Option, Some, None, refl, sym, ap, ap₂, subst, ◌∙◌, arith, length-append}
+use Rattle.std.proofs.{lemmas.Bool.{cases_Bool, cases_lt, cond-false, cond-true, eqb-true, le-ltb, lt-ltb}, lemmas.List.{take-append-le, take-take}}
 use Rattle.std.specs.Prelude.{nat_eq, nat_le, nat_lt}
-use Rattle.std.proofs.lemmas.Bool.{cases_Bool, cases_lt, cond-false, cond-true, eqb-true, le-ltb, lt-ltb}
-use Rattle.std.proofs.lemmas.List.{take-append-le, take-take}
 use Rattle.p25_bits.specs.Distance.{distance_of}
 use Rattle.p25_bch_nid.specs.NidWord.{nid_word}
 use Rattle.p25_status.specs.Sync.{sync_bits}
 use Rattle.p25_unit_front.specs.Front.{front_fixes_of, identifier_of}
 use Rattle.p25_unit_front.proofs.FrontLaws.{front_fixes_of-parts, identifier_bits-take, identifier_of-take}
-use Rattle.p25_follow.specs.declared.told.Told.TheVariants.{Expected, Other, Nothing}
-use Rattle.p25_follow.specs.Expected.{expected_after, is_expected}
+use Rattle.p25_follow.specs.{declared.told.Told.TheVariants.{Expected, Other, Nothing}, Expected.{expected_after, is_expected}}
 use Rattle.p25_follow.specs.Told.{name_errors_of, nearer_kind, nearest_kind, sync_errors_of, told_by, told_name, told_near, told_nearest, told_of}
 use Rattle.p25_follow.proofs.KindLaws.{Each, is_expected-all}
 

@@ -1,20 +1,15 @@
 -- Where no stretch comes after a unit all comes as it is, and where a front is written all else of its unit. By induction on the bits, item by item, and by cutting lists at known lengths.
 use Rattle.std.proofs.Common.{◌≡◌, ℕ, zero, suc, ◌+◌, ◌≤◌, Bool, true, false, ◌&&◌, inl, inr, ◌⊎◌, List, [], ◌∷◌, ◌++◌, length, take, drop, Option, Some, None, refl, sym, ap, ap₂, ◌∙◌, arith, append_assoc, append-nil, length-append, length-drop}
+use Rattle.std.proofs.{lemmas.Bool.{cases_Bool, cond-false, cond-true}, lemmas.List.{drop_at, length-take-le, take-append-drop, take_at}}
 use Rattle.std.specs.Option.{is_none}
-use Rattle.std.proofs.lemmas.Bool.{cases_Bool, cond-false, cond-true}
-use Rattle.std.proofs.lemmas.List.{drop_at, length-take-le, take-append-drop, take_at}
 use Rattle.p25_bits.specs.Bits.{part}
 use Rattle.p25_unit_front.specs.Front.{unit_front}
 use Rattle.p25_unit_front.proofs.FrontLaws.{length-unit_front}
-use Rattle.p25_units.specs.Items.{covered}
-use Rattle.p25_units.specs.declared.item.Item.{Item}
+use Rattle.p25_units.specs.{Items.{covered}, declared.item.Item.{Item}}
 use Rattle.p25_stream.specs.Items.{first_item, items_of}
 use Rattle.p25_stream.proofs.ItemsLaws.{covered-first_item, items_by-more, items_by-nil}
-use Rattle.p25_follow.specs.Chains.{chain_by, with_front}
-use Rattle.p25_follow.specs.Followed.{follow_of, followed_by, has_no_stretch, is_rest, unit_name}
-use Rattle.p25_follow.proofs.ChainLaws.{chain_by-nil, chain_by-none}
-use Rattle.p25_follow.proofs.FollowingLaws.{followed-end, followed-rest, followed-unit}
-use Rattle.p25_follow.proofs.StepLaws.{and_left-true, and_right-true}
+use Rattle.p25_follow.specs.{Chains.{chain_by, with_front}, Followed.{follow_of, followed_by, has_no_stretch, is_rest, unit_name}}
+use Rattle.p25_follow.proofs.{ChainLaws.{chain_by-nil, chain_by-none}, FollowingLaws.{followed-end, followed-rest, followed-unit}, StepLaws.{and_left-true, and_right-true}}
 
 -- ---- the bits of a unit whose front is written
 

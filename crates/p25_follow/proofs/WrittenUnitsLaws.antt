@@ -1,22 +1,12 @@
 -- The units whose fronts are written, a step at a time, and what lies before and after a stretch in which no unit begins. By induction on the bits, which each step makes fewer.
 use Rattle.std.proofs.Common.{◌≡◌, ℕ, zero, suc, ◌+◌, ◌-◌, ◌<◌, ◌≤◌, Bool, true, false, List, [], ◌∷◌, ◌++◌, length, take, drop, Option, Some, None, refl, sym, ap, ap₂, ◌∙◌, arith, append_assoc, append-nil, length-drop}
-use Rattle.std.proofs.lemmas.Bool.{cond-false, cond-true}
-use Rattle.std.proofs.lemmas.List.{drop-drop, length-take-le, take-append-drop}
-use Rattle.std.proofs.Math.Seq.{take-append-add}
-use Rattle.std.proofs.Math.Nat.{add-zero}
-use Rattle.p25_units.specs.Items.{covered, unit_item_of}
-use Rattle.p25_units.specs.declared.item.Item.{Item}
+use Rattle.std.proofs.{lemmas.Bool.{cond-false, cond-true}, lemmas.List.{drop-drop, length-take-le, take-append-drop}, Math.Seq.{take-append-add}, Math.Nat.{add-zero}}
+use Rattle.p25_units.specs.{Items.{covered, unit_item_of}, declared.item.Item.{Item}}
 use Rattle.p25_stream.specs.Items.{first_item, items_of}
 use Rattle.p25_stream.proofs.ItemsLaws.{covered-first_item, items_by-more}
-use Rattle.p25_follow.specs.Chains.{with_front}
-use Rattle.p25_follow.specs.Expected.{kind_length}
-use Rattle.p25_follow.specs.Followed.{followed_by, is_rest, unit_name}
-use Rattle.p25_follow.specs.FollowedUnits.{units_by, units_step, written_units, written_units_in}
-use Rattle.p25_follow.specs.Steps.{step_of}
-use Rattle.p25_follow.specs.StretchLaws.{units_among}
-use Rattle.p25_follow.proofs.FollowingLaws.{followed-rest}
-use Rattle.p25_follow.proofs.SameUnitsLaws.{Ends, RestPlaces, covers-within, ends-later, rest-at}
-use Rattle.p25_follow.proofs.StepLaws.{step_of-nil, step_of-there}
+use Rattle.p25_follow.specs.{Chains.{with_front}, Expected.{kind_length}, Followed.{followed_by, is_rest, unit_name}, FollowedUnits.{units_by, units_step, written_units, written_units_in}}
+use Rattle.p25_follow.specs.{Steps.{step_of}, StretchLaws.{units_among}}
+use Rattle.p25_follow.proofs.{FollowingLaws.{followed-rest}, SameUnitsLaws.{Ends, RestPlaces, covers-within, ends-later, rest-at}, StepLaws.{step_of-nil, step_of-there}}
 
 -- ---- the units whose fronts are written
 

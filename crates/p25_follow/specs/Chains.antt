@@ -2,8 +2,7 @@
 use Rattle.std.specs.Prelude.{ℕ, zero, suc, Bool, true, false, ◌||◌, if◌then◌else◌, nat_le, List, [], ◌++◌, length, take, drop, Option, Some, None}
 use Rattle.p25_bits.specs.Bits.{part}
 use Rattle.p25_unit_front.specs.Front.{unit_front}
-use Rattle.p25_follow.specs.Expected.{kind_length}
-use Rattle.p25_follow.specs.Steps.{step_of}
+use Rattle.p25_follow.specs.{Expected.{kind_length}, Steps.{step_of}}
 
 -- sent bits with the front of a name written: its first 70 bits, the status symbol that is there, its other 42 bits, and what is there
 unfoldable pub with_front : ℕ × ℕ → List Bool → List Bool

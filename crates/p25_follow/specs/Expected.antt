@@ -1,10 +1,7 @@
 -- What may come after a unit, by kind. A kind is a data unit identifier (DUID). A name is the network access code (NAC) of a unit and its
 -- kind.
-use Rattle.std.specs.Prelude.{ℕ, Bool, if◌then◌else◌, ◌==◌, List, [], ◌∷◌, Option, Some, None}
-use Rattle.std.specs.List.{list_any}
-use Rattle.std.specs.Option.{option_map, unwrap_or}
-use Rattle.p25_bch_nid.specs.Duids.{duid_hdu, duid_ldu1, duid_ldu2, duid_tdu, duid_tdulc}
-use Rattle.p25_bch_nid.specs.declared.nid.Nid.{Nid}
+use Rattle.std.specs.{Prelude.{ℕ, Bool, if◌then◌else◌, ◌==◌, List, [], ◌∷◌, Option, Some, None}, List.{list_any}, Option.{option_map, unwrap_or}}
+use Rattle.p25_bch_nid.specs.{Duids.{duid_hdu, duid_ldu1, duid_ldu2, duid_tdu, duid_tdulc}, declared.nid.Nid.{Nid}}
 use Rattle.p25_voice_units.specs.Lengths.{voice_length_of}
 use Rattle.p25_units.specs.Units.{sent_length}
 

@@ -2,14 +2,10 @@
 use Rattle.std.specs.Prelude.{◌≡◌, ℕ, ◌<◌, ◌≤◌, Bool, true, List, ◌++◌, length, take, drop, Option, Some, None}
 use Rattle.p25_bits.specs.Bits.{part}
 use Rattle.p25_unit_front.specs.Front.{identifier_of}
-use Rattle.p25_units.specs.Items.{covered}
-use Rattle.p25_units.specs.declared.item.Item.{Item}
+use Rattle.p25_units.specs.{Items.{covered}, declared.item.Item.{Item}}
 use Rattle.p25_stream.specs.Items.{first_item, is_decided, items_of}
-use Rattle.p25_follow.specs.Chains.{chain_by, chain_of, settled_of, with_front}
-use Rattle.p25_follow.specs.Expected.{is_expected, kind_length}
-use Rattle.p25_follow.specs.Followed.{follow_of, followed_by, has_no_stretch, unit_name}
-use Rattle.p25_follow.specs.Following.{IsFollow, Follow, left_of, written_by}
-use Rattle.p25_follow.specs.Steps.{step_of}
+use Rattle.p25_follow.specs.{Chains.{chain_by, chain_of, settled_of, with_front}, Expected.{is_expected, kind_length}}
+use Rattle.p25_follow.specs.{Followed.{follow_of, followed_by, has_no_stretch, unit_name}, Following.{IsFollow, Follow, left_of, written_by}, Steps.{step_of}}
 use Rattle.p25_follow.specs.Told.{name_errors_of}
 
 -- as many bits are written as are there

@@ -1,11 +1,7 @@
 -- The units of a recording with the fronts written: those that the scan finds in it, and those whose fronts are written.
 use Rattle.std.specs.Prelude.{◌≡◌, ℕ, zero, suc, ◌+◌, ◌-◌, ◌<◌, ◌≤◌, ◌⊎◌, true, if◌then◌else◌, List, [], ◌∷◌, ◌++◌, Bool, length, take, drop, Option, Some, None}
-use Rattle.p25_units.specs.Items.{covered, place_of, unit_item_of}
-use Rattle.p25_units.specs.declared.item.Item.{Item}
-use Rattle.p25_follow.specs.Chains.{with_front}
-use Rattle.p25_follow.specs.Expected.{kind_length}
-use Rattle.p25_follow.specs.Followed.{is_rest, unit_name}
-use Rattle.p25_follow.specs.Steps.{step_of}
+use Rattle.p25_units.specs.{Items.{covered, place_of, unit_item_of}, declared.item.Item.{Item}}
+use Rattle.p25_follow.specs.{Chains.{with_front}, Expected.{kind_length}, Followed.{is_rest, unit_name}, Steps.{step_of}}
 
 -- the unit of a kind that bits begin with at a place, as its bits with the front written read, and the units after it; none where none begins
 unfoldable pub units_step : (ℕ → ℕ × ℕ → List Bool → List Item) → ℕ → ℕ × ℕ → List Bool → Option ℕ → List Item

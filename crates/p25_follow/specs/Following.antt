@@ -1,11 +1,7 @@
 -- What a follower keeps, and what it writes of an item.
 use Rattle.std.specs.Prelude.{◌≡◌, ℕ, zero, suc, ◌<◌, Bool, if◌then◌else◌, nat_le, List, [], ◌∷◌, ◌++◌, length, take, drop, Option, Some, None}
-use Rattle.p25_units.specs.Items.{covered}
-use Rattle.p25_units.specs.declared.item.Item.{Item}
-use Rattle.p25_follow.specs.Chains.{chain_of, settled_of, step_reach}
-use Rattle.p25_follow.specs.Expected.{kind_length}
-use Rattle.p25_follow.specs.Followed.{is_rest, unit_name}
-use Rattle.p25_follow.specs.Steps.{step_of}
+use Rattle.p25_units.specs.{Items.{covered}, declared.item.Item.{Item}}
+use Rattle.p25_follow.specs.{Chains.{chain_of, settled_of, step_reach}, Expected.{kind_length}, Followed.{is_rest, unit_name}, Steps.{step_of}}
 
 -- the name of the unit before, or none, and what is kept of the stretch after it
 pub record Follow : Type 0 where

@@ -1,10 +1,7 @@
 -- What a look at a front tells, before its identifier is read.
-use Rattle.std.specs.Prelude.{Bool, true, false, ◌&&◌, if◌then◌else◌, nat_le, List, length}
-use Rattle.std.specs.Option.{is_some}
+use Rattle.std.specs.{Prelude.{Bool, true, false, ◌&&◌, if◌then◌else◌, nat_le, List, length}, Option.{is_some}}
 use Rattle.p25_unit_front.specs.Front.{identifier_of}
-use Rattle.p25_follow.specs.declared.told.Look.{Look}
-use Rattle.p25_follow.specs.declared.told.Told.{Told}
-use Rattle.p25_follow.specs.declared.told.Told.TheVariants.{Other}
+use Rattle.p25_follow.specs.{declared.told.Look.{Look}, declared.told.Told.{Told}, declared.told.Told.TheVariants.{Other}}
 
 -- the identifier reads of the front that bits begin with
 unfoldable pub is_read : List Bool → Bool

@@ -1,16 +1,11 @@
 -- What is true of what is written of a whole recording.
 use Rattle.std.specs.Prelude.{◌≡◌, ℕ, ◌+◌, ◌<◌, ◌≤◌, ◌⊎◌, Bool, true, false, List, [], ◌∷◌, ◌++◌, drop, Some, None}
 use Rattle.p25_bits.specs.Bits.{part}
-use Rattle.p25_units.specs.Items.{covered}
-use Rattle.p25_units.specs.declared.item.Item.{Item}
+use Rattle.p25_units.specs.{Items.{covered}, declared.item.Item.{Item}}
 use Rattle.p25_stream.specs.Items.{items_of}
-use Rattle.p25_follow.specs.Chains.{chain_of, with_front}
-use Rattle.p25_follow.specs.Expected.{is_expected, kind_length}
-use Rattle.p25_follow.specs.Followed.{follow_of, is_rest, unit_name}
+use Rattle.p25_follow.specs.{Chains.{chain_of, with_front}, Expected.{is_expected, kind_length}, Followed.{follow_of, is_rest, unit_name}}
 use Rattle.p25_follow.specs.FollowedUnits.{IsFrontBit, IsInStretch, IsMerged, IsWrittenUpTo, end_name, fronts_by, units_by}
-use Rattle.p25_follow.specs.Repaired.{AreFoundAgain, repair_of}
-use Rattle.p25_follow.specs.StretchLaws.{all_rest, begins_rest, bits_in, units_among}
-use Rattle.p25_follow.specs.Told.{name_errors_of}
+use Rattle.p25_follow.specs.{Repaired.{AreFoundAgain, repair_of}, StretchLaws.{all_rest, begins_rest, bits_in, units_among}, Told.{name_errors_of}}
 
 -- the units that the scan finds in what is written, a unit that is cut among them, are those that it finds in the recording, the same
 -- item for item and at the same places, and one more for each front that is written

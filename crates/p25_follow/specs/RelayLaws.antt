@@ -2,13 +2,9 @@
 use Rattle.std.specs.Prelude.{◌≡◌, ℕ, ◌+◌, ◌<◌, ◌⊎◌, Bool, true, List, ◌∷◌, ◌++◌, length, take, drop, map, Some}
 use Rattle.p25_bits.specs.Bits.{part}
 use Rattle.p25_status.specs.declared.symbols.Status.{Status}
-use Rattle.p25_units.specs.Items.{covered}
-use Rattle.p25_units.specs.declared.item.Item.{Item}
-use Rattle.p25_stream.specs.Arrivals.{IsHidden}
-use Rattle.p25_stream.specs.Items.{first_item, items_by, items_of}
-use Rattle.p25_follow.specs.Followed.{is_rest, unit_name}
-use Rattle.p25_follow.specs.Relayed.{IsAmong, IsFitItem, relay_of, relayed, relayed_item}
-use Rattle.p25_follow.specs.StretchLaws.{bits_in, units_among}
+use Rattle.p25_units.specs.{Items.{covered}, declared.item.Item.{Item}}
+use Rattle.p25_stream.specs.{Arrivals.{IsHidden}, Items.{first_item, items_by, items_of}}
+use Rattle.p25_follow.specs.{Followed.{is_rest, unit_name}, Relayed.{IsAmong, IsFitItem, relay_of, relayed, relayed_item}, StretchLaws.{bits_in, units_among}}
 
 -- each item that a scan finds has as many bits as its kind needs
 abbrev pub ItemsFit : Type 0

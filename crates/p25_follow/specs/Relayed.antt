@@ -1,14 +1,9 @@
 -- A recording forwarded in place, under another network access code (NAC) and with one status symbol everywhere.
 use Rattle.std.specs.Prelude.{◌≡◌, ℕ, ◌%◌, ◌≤◌, Bool, List, [], ◌∷◌, ◌++◌, length, take, drop, replicate}
-use Rattle.p25_status.specs.Woven.{bare_of, statuses_of, woven}
-use Rattle.p25_status.specs.declared.symbols.Status.{Status}
+use Rattle.p25_status.specs.{Woven.{bare_of, statuses_of, woven}, declared.symbols.Status.{Status}}
 use Rattle.p25_unit_front.specs.Front.{unit_front}
-use Rattle.p25_units.specs.Items.{covered}
-use Rattle.p25_units.specs.Units.{image_of}
-use Rattle.p25_units.specs.declared.item.Item.{Item}
-use Rattle.p25_units.specs.declared.item.Item.TheVariants.{Whole, Broken, NoUnit, Gap, Cut}
-use Rattle.p25_stream.specs.Items.{items_of}
-use Rattle.p25_stream.specs.Repeats.{bridged_frame}
+use Rattle.p25_units.specs.{Items.{covered}, Units.{image_of}, declared.item.Item.{Item}, declared.item.Item.TheVariants.{Whole, Broken, NoUnit, Gap, Cut}}
+use Rattle.p25_stream.specs.{Items.{items_of}, Repeats.{bridged_frame}}
 
 -- the bits of a unit that is broken, with the front of a NAC and a kind in place of its own and one status symbol everywhere
 unfoldable pub relayed_broken : ℕ → ℕ → Status → List Bool → List Bool

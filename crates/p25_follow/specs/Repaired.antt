@@ -1,10 +1,7 @@
 -- A recording that is repaired, and the items of it before and after.
 use Rattle.std.specs.Prelude.{◌≡◌, ℕ, Bool, List, [], ◌∷◌, ◌++◌, take, drop}
-use Rattle.p25_units.specs.Items.{covered}
-use Rattle.p25_units.specs.declared.item.Item.{Item}
-use Rattle.p25_units.specs.declared.item.Item.TheVariants.{Whole, Broken, NoUnit, Gap, Cut}
-use Rattle.p25_stream.specs.Items.{items_of}
-use Rattle.p25_stream.specs.Repeats.{repaired}
+use Rattle.p25_units.specs.{Items.{covered}, declared.item.Item.{Item}, declared.item.Item.TheVariants.{Whole, Broken, NoUnit, Gap, Cut}}
+use Rattle.p25_stream.specs.{Items.{items_of}, Repeats.{repaired}}
 
 -- what a repair writes of items that lie end to end over some bits
 unfoldable pub repaired_by : List Item → List Bool → List Bool

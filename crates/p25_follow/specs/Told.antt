@@ -4,9 +4,7 @@ use Rattle.p25_bits.specs.Distance.{distance_of}
 use Rattle.p25_bch_nid.specs.NidWord.{nid_word}
 use Rattle.p25_status.specs.Sync.{sync_bits}
 use Rattle.p25_unit_front.specs.Front.{identifier_bits, identifier_of}
-use Rattle.p25_follow.specs.declared.told.Told.{Told}
-use Rattle.p25_follow.specs.declared.told.Told.TheVariants.{Expected, Other, Nothing}
-use Rattle.p25_follow.specs.Expected.{expected_after, is_expected}
+use Rattle.p25_follow.specs.{declared.told.Told.{Told}, declared.told.Told.TheVariants.{Expected, Other, Nothing}, Expected.{expected_after, is_expected}}
 
 -- in how many of the 48 bits of a sync some bits are wrong
 unfoldable pub sync_errors_of : List Bool → ℕ

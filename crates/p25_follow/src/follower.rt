@@ -2,8 +2,7 @@
 
 ghost use Rattle.std.specs.Prelude.{◌≡◌, ◌+◌, ◌≤◌, ◌<◌, [], None, true, length};
 ghost use Rattle.p25_units.specs.Items.{IsSoundItem};
-ghost use Rattle.p25_follow.specs.Expected.{names_of};
-ghost use Rattle.p25_follow.specs.Followed.{is_rest, unit_name};
+ghost use Rattle.p25_follow.specs.{Expected.{names_of}, Followed.{is_rest, unit_name}};
 ghost use Rattle.p25_follow.specs.Following.{IsFollow, behind_item, follow, fresh_follow, written_before, written_end};
 
 use crate::chain::put_chain;
@@ -21,8 +20,7 @@ pub struct Follower {
 }
 
 impl Model for Follower {
-    ghost use Rattle.p25_follow.specs.Expected.{names_of};
-    ghost use Rattle.p25_follow.specs.Following.{Follow, IsFollow, follow};
+    ghost use Rattle.p25_follow.specs.{Expected.{names_of}, Following.{Follow, IsFollow, follow}};
 
     ghost Value = { Follow };
 

@@ -1,9 +1,7 @@
 //! Which unit lies where bits begin, after a unit with a name.
 
 ghost use Rattle.std.specs.Prelude.{◌≡◌, ◌≤◌, drop, length};
-ghost use Rattle.p25_follow.specs.Expected.{name_of, names_of};
-ghost use Rattle.p25_follow.specs.Steps.{fits_by, is_end, is_sure, step_of};
-ghost use Rattle.p25_follow.specs.Told.{is_nothing};
+ghost use Rattle.p25_follow.specs.{Expected.{name_of, names_of}, Steps.{fits_by, is_end, is_sure, step_of}, Told.{is_nothing}};
 
 use crate::expected::{is_expected, kind_length, next_link};
 use crate::told::{Told, look_at, told_at, with_kind};

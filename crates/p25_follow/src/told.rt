@@ -2,9 +2,7 @@
 
 ghost use Rattle.std.specs.Prelude.{◌≡◌, ◌+◌, ◌≤◌, ◌∷◌, [], drop, if◌then◌else◌, length, nat_le, nat_lt, ◌&&◌};
 ghost use Rattle.p25_bits.specs.Bits.{part};
-ghost use Rattle.p25_follow.specs.declared.told.Told.TheVariants.{Expected, Nothing};
-ghost use Rattle.p25_follow.specs.Expected.{expected_after, name_of};
-ghost use Rattle.p25_follow.specs.Looks.{is_read, told_by_look};
+ghost use Rattle.p25_follow.specs.{declared.told.Told.TheVariants.{Expected, Nothing}, Expected.{expected_after, name_of}, Looks.{is_read, told_by_look}};
 ghost use Rattle.p25_follow.specs.Told.{name_errors_of, nearest_kind, sync_errors_of, told_of};
 
 use crate::expected::first_expected;

@@ -3,14 +3,10 @@ use Rattle.std.proofs.Common.{◌≡◌, ℕ, ◌+◌, ◌&&◌, true, List, [],
 use Rattle.std.specs.Prelude.{codes, decimal}
 use Rattle.p25_line.specs.Octets.{octets_text}
 use Rattle.p25_line.proofs.AsciiLaws.{ascii-append, ascii-decimal, ascii-joined, ascii-octets_text, is_ascii}
-use Rattle.p25_stations.specs.declared.step.Step.{Step}
+use Rattle.p25_stations.specs.{declared.step.Step.{Step}, SessionTexts.{sessions_text}}
 use Rattle.p25_script.specs.StepTexts.{step_text_of}
-use Rattle.p25_stations.specs.SessionTexts.{sessions_text}
 use Rattle.p25_script.proofs.AsciiStepLaws.{ascii-sessions_text, ascii-step_text_of}
-use Rattle.p25_fragments.specs.LongState.{LongState}
-use Rattle.p25_fragments.specs.declared.long_step.LongStep.{LongStep}
-use Rattle.p25_fragments.specs.declared.long_step.Then.{Then}
-use Rattle.p25_fragments.specs.declared.long_step.Then.TheVariants.{Started, Part, Whole, Next}
+use Rattle.p25_fragments.specs.{LongState.{LongState}, declared.long_step.LongStep.{LongStep}, declared.long_step.Then.{Then}, declared.long_step.Then.TheVariants.{Started, Part, Whole, Next}}
 use Rattle.p25_fragment_script.specs.LongTexts.{ended_line, first_line_of, line_before, line_behind, long_closing_text_of, long_step_text_of}
 
 ended : (text : List ℕ) → is_ascii text ≡ true → is_ascii (ended_line text) ≡ true

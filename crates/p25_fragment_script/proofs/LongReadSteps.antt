@@ -1,10 +1,7 @@
 -- What each answer of the reader of lines of long messages shows of the reading of words by the definition.
-use Rattle.std.proofs.Common.{◌≡◌, ℕ, suc, true, false, List, [], ◌∷◌, length, drop, slice_get, Some, Err, refl, ap, ◌∙◌}
-use Rattle.std.specs.Prelude.{codes}
-use Rattle.std.specs.Str.{bytes_eq}
-use Rattle.std.proofs.lemmas.Bool.{cond-true, cond-false}
-use Rattle.p25_line.specs.declared.fault.LineFault.TheVariants.{Key}
-use Rattle.p25_line.specs.LineReadings.{value_or_fault}
+use Rattle.std.proofs.{Common.{◌≡◌, ℕ, suc, true, false, List, [], ◌∷◌, length, drop, slice_get, Some, Err, refl, ap, ◌∙◌}, lemmas.Bool.{cond-true, cond-false}}
+use Rattle.std.specs.{Prelude.{codes}, Str.{bytes_eq}}
+use Rattle.p25_line.specs.{declared.fault.LineFault.TheVariants.{Key}, LineReadings.{value_or_fault}}
 use Rattle.p25_fragments.specs.declared.long_step.LongEvent.TheVariants.{Long}
 use Rattle.p25_line.proofs.LineWordsLaws.{first-others, one-other}
 use Rattle.p25_fragment_script.specs.LongScript.{long_event_by_words, long_in, long_message_in, other_event}

@@ -1,23 +1,13 @@
 -- The words of an event are read as that event, and words that are read are those of their event. By the first word.
 use Rattle.std.proofs.Common.{◌≡◌, ℕ, ◌<◌, ◌≤◌, ◌&&◌, true, false, List, [], ◌∷◌, length, Option, Some, None, Result, Err, Ok, inl, inr, refl, sym, ap, ap₂, subst, ◌∙◌, arith}
-use Rattle.std.specs.Prelude.{codes, IfOk}
-use Rattle.std.specs.List.{list_all}
-use Rattle.std.specs.Str.{bytes_eq}
-use Rattle.std.proofs.lemmas.Bool.{cases_Bool, cond-true, cond-false, false≢true}
-use Rattle.std.proofs.lemmas.Slice.Eq.{bytes_eq-Decides}
-use Rattle.p25_line.specs.LineReadings.{value_or_fault}
-use Rattle.p25_line.specs.Words.{is_word}
-use Rattle.p25_line.specs.declared.fault.LineFault.{LineFault}
-use Rattle.p25_line.specs.declared.fault.LineFault.TheVariants.{Kind as WrongKind}
-use Rattle.p25_line.proofs.LineReadLaws.{IsLineOf, WordLaws, line_read-facts, line_read-words, words-line_read}
-use Rattle.p25_line.proofs.OctetsLaws.{octets-word, octets_up_to-text, text-octets_up_to}
-use Rattle.p25_stations.specs.declared.step.Event.{Event}
-use Rattle.p25_stations.specs.declared.step.Event.TheVariants.{Send}
+use Rattle.std.proofs.{lemmas.Bool.{cases_Bool, cond-true, cond-false, false≢true}, lemmas.Slice.Eq.{bytes_eq-Decides}}
+use Rattle.std.specs.{Prelude.{codes, IfOk}, List.{list_all}, Str.{bytes_eq}}
+use Rattle.p25_line.specs.{LineReadings.{value_or_fault}, Words.{is_word}, declared.fault.LineFault.{LineFault}, declared.fault.LineFault.TheVariants.{Kind as WrongKind}}
+use Rattle.p25_line.proofs.{LineReadLaws.{IsLineOf, WordLaws, line_read-facts, line_read-words, words-line_read}, OctetsLaws.{octets-word, octets_up_to-text, text-octets_up_to}}
+use Rattle.p25_stations.specs.{declared.step.Event.{Event}, declared.step.Event.TheVariants.{Send}}
 use Rattle.p25_script.specs.Script.{event_by_words, event_words}
 use Rattle.p25_script.proofs.ScriptLaws.{event_laws}
-use Rattle.p25_fragments.specs.LongRuns.{IsNoOffer}
-use Rattle.p25_fragments.specs.declared.long_step.LongEvent.{LongEvent}
-use Rattle.p25_fragments.specs.declared.long_step.LongEvent.TheVariants.{Long, Inner}
+use Rattle.p25_fragments.specs.{LongRuns.{IsNoOffer}, declared.long_step.LongEvent.{LongEvent}, declared.long_step.LongEvent.TheVariants.{Long, Inner}}
 use Rattle.p25_fragment_script.specs.LongScript.{IsLongScripted, inner_or_fault, long_event_by_words, long_event_of, long_event_text, long_event_words, long_in, long_message_in, other_event}
 
 -- ---- the words of an event are read as it

@@ -1,15 +1,11 @@
 -- No words of a script line of long messages are refused as a line that is too long. By cases of what they are read as.
-use Rattle.std.specs.Prelude.{◌≡◌, ◌≢◌, ℕ, Bool, true, false, if◌then◌else◌, List, [], ◌∷◌, codes, Result, Ok, Err}
-use Rattle.std.specs.Str.{bytes_eq}
+use Rattle.std.specs.{Prelude.{◌≡◌, ◌≢◌, ℕ, Bool, true, false, if◌then◌else◌, List, [], ◌∷◌, codes, Result, Ok, Err}, Str.{bytes_eq}}
 use Rattle.std.proofs.Common.{refl}
-use Rattle.p25_line.specs.declared.fault.LineFault.{LineFault}
-use Rattle.p25_line.specs.declared.fault.LineFault.TheVariants.{Long, Kind as WrongKind}
+use Rattle.p25_line.specs.{declared.fault.LineFault.{LineFault}, declared.fault.LineFault.TheVariants.{Long, Kind as WrongKind}}
 use Rattle.p25_stations.specs.declared.step.Event.{Event}
-use Rattle.p25_fragments.specs.declared.long_step.LongEvent.{LongEvent}
-use Rattle.p25_fragments.specs.declared.long_step.LongEvent.TheVariants.{Long as LongIt}
+use Rattle.p25_fragments.specs.{declared.long_step.LongEvent.{LongEvent}, declared.long_step.LongEvent.TheVariants.{Long as LongIt}}
 use Rattle.p25_line.proofs.LineReadLaws.{value-not_long}
-use Rattle.p25_script.specs.Script.{event_by_words}
-use Rattle.p25_script.specs.ScriptReadLaws.{event_not_long}
+use Rattle.p25_script.specs.{Script.{event_by_words}, ScriptReadLaws.{event_not_long}}
 use Rattle.p25_fragment_script.specs.LongScript.{inner_or_fault, long_event_by_words, long_in, long_message_in, other_event}
 
 long-not_long : (others : List (List ℕ)) → long_in others ≡ Err Long → ⊥

@@ -1,17 +1,10 @@
 -- Script lines of long messages: the line of an event, and the event of a line.
-use Rattle.std.specs.Prelude.{ℕ, ◌≤◌, if◌then◌else◌, List, [], ◌∷◌, length, codes, Option, Result, Ok, Err}
-use Rattle.std.specs.List.{join_with_byte}
-use Rattle.std.specs.Str.{bytes_eq}
-use Rattle.p25_line.specs.Values.{AllOctets}
-use Rattle.p25_line.specs.LineReadings.{line_read, value_or_fault}
-use Rattle.p25_line.specs.Octets.{octets_text, octets_up_to}
-use Rattle.p25_line.specs.declared.fault.LineFault.{LineFault}
-use Rattle.p25_line.specs.declared.fault.LineFault.TheVariants.{Form, Key, Kind as WrongKind}
+use Rattle.std.specs.{Prelude.{ℕ, ◌≤◌, if◌then◌else◌, List, [], ◌∷◌, length, codes, Option, Result, Ok, Err}, List.{join_with_byte}, Str.{bytes_eq}}
+use Rattle.p25_line.specs.{Values.{AllOctets}, LineReadings.{line_read, value_or_fault}, Octets.{octets_text, octets_up_to}}
+use Rattle.p25_line.specs.{declared.fault.LineFault.{LineFault}, declared.fault.LineFault.TheVariants.{Form, Key, Kind as WrongKind}}
 use Rattle.p25_stations.specs.declared.step.Event.{Event}
 use Rattle.p25_script.specs.Script.{IsScripted, event_by_words, event_words}
-use Rattle.p25_fragments.specs.LongRuns.{IsNoOffer}
-use Rattle.p25_fragments.specs.declared.long_step.LongEvent.{LongEvent}
-use Rattle.p25_fragments.specs.declared.long_step.LongEvent.TheVariants.{Long, Inner}
+use Rattle.p25_fragments.specs.{LongRuns.{IsNoOffer}, declared.long_step.LongEvent.{LongEvent}, declared.long_step.LongEvent.TheVariants.{Long, Inner}}
 
 -- ---- the line of an event
 

@@ -1,11 +1,9 @@
 -- The texts of the steps of long messages, and the text that closes a run.
 use Rattle.std.specs.Prelude.{ℕ, ◌+◌, List, [], ◌∷◌, ◌++◌, length, Option, Some, None, codes, decimal}
 use Rattle.p25_line.specs.Octets.{octets_text}
-use Rattle.p25_stations.specs.declared.step.Step.{Step}
+use Rattle.p25_stations.specs.{declared.step.Step.{Step}, SessionTexts.{sessions_text}}
 use Rattle.p25_script.specs.StepTexts.{step_text_of}
-use Rattle.p25_stations.specs.SessionTexts.{sessions_text}
-use Rattle.p25_fragments.specs.LongState.{LongState}
-use Rattle.p25_fragments.specs.declared.long_step.Then.{Then}
+use Rattle.p25_fragments.specs.{LongState.{LongState}, declared.long_step.Then.{Then}}
 use Rattle.p25_fragments.specs.declared.long_step.Then.TheVariants.{Plain, Started, Busy, Down, Part, Whole, Refused, Next, Finished}
 use Rattle.p25_fragments.specs.declared.long_step.LongStep.{LongStep}
 

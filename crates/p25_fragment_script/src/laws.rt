@@ -1,8 +1,7 @@
 //! The texts are ASCII. The body is empty: the function states what is proved.
 
 ghost use Rattle.std.specs.Prelude.{IsAscii};
-ghost use Rattle.p25_fragments.specs.LongState.{LongState};
-ghost use Rattle.p25_fragments.specs.declared.long_step.LongStep.{LongStep};
+ghost use Rattle.p25_fragments.specs.{LongState.{LongState}, declared.long_step.LongStep.{LongStep}};
 ghost use Rattle.p25_fragment_script.specs.LongTexts.{long_closing_text_of, long_step_text_of};
 
 /// **Theorem.** Each octet of the text of a step of long messages, and of the text that closes a run, is below 128, whatever the step

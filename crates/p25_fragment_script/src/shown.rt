@@ -1,8 +1,7 @@
 //! Steps of long messages as `{}` shows them, and their events as `parse` reads them.
 
 ghost use Rattle.std.specs.Prelude.{◌≡◌, Some, Ok, Err, MatchResult};
-ghost use Rattle.p25_fragment_script.specs.LongScript.{long_event_of};
-ghost use Rattle.p25_fragment_script.specs.LongTexts.{long_step_text_of};
+ghost use Rattle.p25_fragment_script.specs.{LongScript.{long_event_of}, LongTexts.{long_step_text_of}};
 
 use super::read::read_long_event;
 use super::steps::long_step_text;

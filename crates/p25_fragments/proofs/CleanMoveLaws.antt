@@ -1,21 +1,11 @@
 -- What a step means in a clean run, where the delivery keeps its facts before it and after it. By the counts of the facts.
-use Rattle.std.proofs.Common.{◌≡◌, ℕ, ◌+◌, ◌%◌, inl, inr, true, false, List, [], ◌∷◌, ◌++◌, length, take, get_or, refl, ap, sym, subst, ◌∙◌, arith, length-append}
-use Rattle.std.proofs.Math.Seq.{get_or-append_seam}
+use Rattle.std.proofs.{Common.{◌≡◌, ℕ, ◌+◌, ◌%◌, inl, inr, true, false, List, [], ◌∷◌, ◌++◌, length, take, get_or, refl, ap, sym, subst, ◌∙◌, arith, length-append}, Math.Seq.{get_or-append_seam}}
 use Rattle.std.proofs.lemmas.List.{take_all}
-use Rattle.p25_packet_blocks.specs.declared.packet.Packet.TheVariants.{Confirmed}
-use Rattle.p25_packet_blocks.specs.ConfirmedParts.{ConfirmedParts}
-use Rattle.p25_packet_blocks.specs.Heads.{head_syn}
-use Rattle.p25_delivery.specs.SenderRules.{opening_number, is_opening}
-use Rattle.p25_delivery.specs.declared.sender.Outstanding.{Outstanding}
-use Rattle.p25_delivery.specs.declared.sender.Outstanding.TheVariants.{Nothing, Message, Opening}
-use Rattle.p25_delivery.specs.Delivery.{Session, Delivery, present_session, first_number}
-use Rattle.p25_delivery.specs.Orderly.{IsHeardOf}
-use Rattle.p25_delivery.specs.Facts.{IsDataOf, OpeningFacts, SentBy, SessionFacts, FactsBy}
-use Rattle.p25_delivery.proofs.SentLaws.{data-heard}
-use Rattle.p25_delivery.proofs.CallLaws.{newest}
-use Rattle.p25_delivery.proofs.SessionLaws.{with_delivered, with_acknowledged, one_delivered, one_acknowledged, present-delivered, present-acknowledged}
-use Rattle.p25_delivery.proofs.PhaseLaws.{IsDelivering, quiet, busy, opening, IsKept}
-use Rattle.p25_delivery.proofs.FactsLaws.{facts-delivering}
+use Rattle.p25_packet_blocks.specs.{declared.packet.Packet.TheVariants.{Confirmed}, ConfirmedParts.{ConfirmedParts}, Heads.{head_syn}}
+use Rattle.p25_delivery.specs.{SenderRules.{opening_number, is_opening}, declared.sender.Outstanding.{Outstanding}, declared.sender.Outstanding.TheVariants.{Nothing, Message, Opening}}
+use Rattle.p25_delivery.specs.{Delivery.{Session, Delivery, present_session, first_number}, Orderly.{IsHeardOf}, Facts.{IsDataOf, OpeningFacts, SentBy, SessionFacts, FactsBy}}
+use Rattle.p25_delivery.proofs.{SentLaws.{data-heard}, CallLaws.{newest}, SessionLaws.{with_delivered, with_acknowledged, one_delivered, one_acknowledged, present-delivered, present-acknowledged}}
+use Rattle.p25_delivery.proofs.{PhaseLaws.{IsDelivering, quiet, busy, opening, IsKept}, FactsLaws.{facts-delivering}}
 use Rattle.p25_fragments.proofs.MoveLaws.{lists_of, outstanding_in, IsSameIn, HasSameLast}
 
 -- the facts of a delivery, by what is outstanding

@@ -1,30 +1,17 @@
 -- What it means that the long messages follow a step: they match the delivery after it. And the steps that mean nothing for them, or
 -- end a session, hear the opening packet or open the session. By what was outstanding.
-use Rattle.std.proofs.Common.{◌≡◌, ◌≢◌, ℕ, ◌+◌, true, false, [], ◌∷◌, ◌++◌, length, Option, None, refl, ap, sym, subst, ◌∙◌, arith, length-append}
-use Rattle.std.specs.Prelude.{nat_lt}
-use Rattle.std.proofs.lemmas.Bool.{cond-true, cond-false}
+use Rattle.std.proofs.{Common.{◌≡◌, ◌≢◌, ℕ, ◌+◌, true, false, [], ◌∷◌, ◌++◌, length, Option, None, refl, ap, sym, subst, ◌∙◌, arith, length-append}, lemmas.Bool.{cond-true, cond-false}}
 use Rattle.std.proofs.lemmas.Bool.Decides.{nat_tests}
-use Rattle.p25_delivery.specs.declared.outbound.Mark.{Mark}
-use Rattle.p25_delivery.specs.declared.sender.Outstanding.{Outstanding}
-use Rattle.p25_delivery.specs.declared.sender.Outstanding.TheVariants.{Nothing, Message, Opening}
-use Rattle.p25_messages.specs.declared.step_kind.StepKind.{StepKind}
-use Rattle.p25_messages.specs.declared.step_kind.StepKind.TheVariants.{Acknowledged, Delivered, SynHeard}
-use Rattle.p25_delivery.specs.Delivery.{Delivery, Session, present_mark, present_session}
-use Rattle.p25_delivery.specs.Orderly.{IsOrderly, AreOrderly}
-use Rattle.p25_delivery.proofs.SessionLaws.{marked, IsDivided, divided-marked, present-marked}
-use Rattle.p25_delivery.proofs.PhaseLaws.{IsKept, orderly-divided}
-use Rattle.p25_stations.specs.declared.step.Step.{Step}
-use Rattle.p25_stations.specs.WorldState.{WorldState}
-use Rattle.p25_fragments.specs.declared.long_stations.OutstandingPart.{OutstandingPart}
-use Rattle.p25_fragments.specs.declared.long_step.Then.{Then}
-use Rattle.p25_fragments.specs.declared.long_step.Then.TheVariants.{Plain, Refused}
-use Rattle.p25_fragments.specs.declared.long_step.LongStep.{LongStep}
-use Rattle.p25_fragments.specs.Joining.{Joining, first_joining}
-use Rattle.p25_fragments.specs.LongState.{LongState, long_delivery}
-use Rattle.p25_fragments.specs.LongSteps.{with_first, after_kind, session_ended, inner_happened}
-use Rattle.p25_fragments.specs.LongRuns.{long_sessions_of}
-use Rattle.p25_fragments.proofs.MoveLaws.{IsPlainKind, lists_of, outstanding_in, IsSameIn, HasSameLast}
-use Rattle.p25_fragments.proofs.CleanMoveLaws.{IsNoMessage}
+use Rattle.std.specs.Prelude.{nat_lt}
+use Rattle.p25_delivery.specs.{declared.outbound.Mark.{Mark}, declared.sender.Outstanding.{Outstanding}, declared.sender.Outstanding.TheVariants.{Nothing, Message, Opening}}
+use Rattle.p25_delivery.specs.{Delivery.{Delivery, Session, present_mark, present_session}, Orderly.{IsOrderly, AreOrderly}}
+use Rattle.p25_messages.specs.{declared.step_kind.StepKind.{StepKind}, declared.step_kind.StepKind.TheVariants.{Acknowledged, Delivered, SynHeard}}
+use Rattle.p25_delivery.proofs.{SessionLaws.{marked, IsDivided, divided-marked, present-marked}, PhaseLaws.{IsKept, orderly-divided}}
+use Rattle.p25_stations.specs.{declared.step.Step.{Step}, WorldState.{WorldState}}
+use Rattle.p25_fragments.specs.{declared.long_stations.OutstandingPart.{OutstandingPart}, declared.long_step.Then.{Then}, declared.long_step.Then.TheVariants.{Plain, Refused}}
+use Rattle.p25_fragments.specs.{declared.long_step.LongStep.{LongStep}, Joining.{Joining, first_joining}, LongState.{LongState, long_delivery}}
+use Rattle.p25_fragments.specs.{LongSteps.{with_first, after_kind, session_ended, inner_happened}, LongRuns.{long_sessions_of}}
+use Rattle.p25_fragments.proofs.{MoveLaws.{IsPlainKind, lists_of, outstanding_in, IsSameIn, HasSameLast}, CleanMoveLaws.{IsNoMessage}}
 use Rattle.p25_fragments.proofs.MatchLaws.{IsOpeningLong, MatchesBy, Matches, matches-at, matches-from, orderly-matches}
 
 -- the present session of the long messages

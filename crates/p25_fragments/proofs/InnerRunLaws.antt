@@ -2,27 +2,13 @@
 -- the rule that it takes.
 use Rattle.std.proofs.Common.{◌≡◌, ℕ, Bool, true, false, cond, List, [], ◌∷◌, ◌++◌, Option, Some, None, refl, ap, ap₂, sym, subst, ◌∙◌}
 use Rattle.std.specs.Prelude.{◌+◌, nat_lt, length}
-use Rattle.p25_messages.specs.LongMessages.{part_count, part_of}
+use Rattle.p25_messages.specs.{LongMessages.{part_count, part_of}, declared.step_kind.StepKind.{StepKind}, declared.step_kind.StepKind.TheVariants.{Acknowledged, Delivered, SynHeard}}
 use Rattle.p25_delivery.specs.Runs.{run_by, steps_by}
-use Rattle.p25_messages.specs.declared.step_kind.StepKind.{StepKind}
-use Rattle.p25_messages.specs.declared.step_kind.StepKind.TheVariants.{Acknowledged, Delivered, SynHeard}
 use Rattle.p25_delivery.proofs.RunLaws.{run-append, steps-append}
-use Rattle.p25_stations.specs.declared.step.Event.{Event}
-use Rattle.p25_stations.specs.declared.step.Event.TheVariants.{Send}
-use Rattle.p25_stations.specs.declared.step.Step.{Step}
-use Rattle.p25_stations.specs.WorldState.{WorldState}
-use Rattle.p25_stations.specs.Steps.{world_step}
-use Rattle.p25_stations.specs.Runs.{world_run, steps_of}
-use Rattle.p25_fragments.specs.declared.long_stations.OutstandingPart.{OutstandingPart}
-use Rattle.p25_fragments.specs.declared.joiner.Joined.{Joined}
-use Rattle.p25_fragments.specs.declared.joiner.Joined.TheVariants.{Whole as JoinedWhole}
-use Rattle.p25_fragments.specs.declared.long_step.LongEvent.{LongEvent}
-use Rattle.p25_fragments.specs.declared.long_step.LongEvent.TheVariants.{Long, Inner}
-use Rattle.p25_fragments.specs.declared.long_step.Then.{Then}
-use Rattle.p25_fragments.specs.declared.long_step.Then.TheVariants.{Plain, Busy, Down, Finished}
-use Rattle.p25_fragments.specs.declared.long_step.LongStep.{LongStep}
-use Rattle.p25_fragments.specs.Joining.{Joining, message_taken}
-use Rattle.p25_fragments.specs.LongState.{LongState}
+use Rattle.p25_stations.specs.{declared.step.Event.{Event}, declared.step.Event.TheVariants.{Send}, declared.step.Step.{Step}, WorldState.{WorldState}, Steps.{world_step}, Runs.{world_run, steps_of}}
+use Rattle.p25_fragments.specs.{declared.long_stations.OutstandingPart.{OutstandingPart}, declared.joiner.Joined.{Joined}, declared.joiner.Joined.TheVariants.{Whole as JoinedWhole}}
+use Rattle.p25_fragments.specs.{declared.long_step.LongEvent.{LongEvent}, declared.long_step.LongEvent.TheVariants.{Long, Inner}, declared.long_step.Then.{Then}}
+use Rattle.p25_fragments.specs.{declared.long_step.Then.TheVariants.{Plain, Busy, Down, Finished}, declared.long_step.LongStep.{LongStep}, Joining.{Joining, message_taken}, LongState.{LongState}}
 use Rattle.p25_fragments.specs.LongSteps.{unmoved, started, long_offered, next_offered, after_acknowledged, after_delivered, after_kind, session_ended, inner_happened, long_step}
 use Rattle.p25_fragments.specs.LongRuns.{long_run, long_steps_of, first_steps, next_steps, inner_steps, IsInnerRun}
 use Rattle.p25_fragments.proofs.OfferLaws.{OfferedAs, told_down, told_busy, told_taken, offered-as}

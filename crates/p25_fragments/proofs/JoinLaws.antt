@@ -1,14 +1,10 @@
 -- A joiner that is handed the parts of a long message in order. By the tests of a part, each at the part that comes.
-use Rattle.std.proofs.Common.{◌≡◌, ℕ, ◌+◌, ◌*◌, ◌%◌, ◌<◌, ◌≤◌, Bool, true, false, List, ◌∷◌, ◌++◌, length, take, drop, refl, ap, sym, ◌∙◌, arith, length-drop}
+use Rattle.std.proofs.{Common.{◌≡◌, ℕ, ◌+◌, ◌*◌, ◌%◌, ◌<◌, ◌≤◌, Bool, true, false, List, ◌∷◌, ◌++◌, length, take, drop, refl, ap, sym, ◌∙◌, arith, length-drop}, lemmas.Bool.{cond-true, cond-false}}
+use Rattle.std.proofs.{lemmas.Bool.Decides.{nat_tests}, lemmas.List.{take_all, length-take}, Math.Seq.{take-add}}
 use Rattle.std.specs.Prelude.{nat_le}
-use Rattle.std.proofs.lemmas.Bool.{cond-true, cond-false}
-use Rattle.std.proofs.lemmas.Bool.Decides.{nat_tests}
-use Rattle.std.proofs.lemmas.List.{take_all, length-take}
-use Rattle.std.proofs.Math.Seq.{take-add}
 use Rattle.p25_bits.specs.Bits.{part}
-use Rattle.p25_fragments.specs.declared.joiner.Joined.TheVariants.{Whole, Part}
+use Rattle.p25_fragments.specs.{declared.joiner.Joined.TheVariants.{Whole, Part}, Joining.{Joining, first_joining, is_refused, taken_as, part_taken, message_taken}}
 use Rattle.p25_messages.specs.LongMessages.{part_count, part_mark, part_of}
-use Rattle.p25_fragments.specs.Joining.{Joining, first_joining, is_refused, taken_as, part_taken, message_taken}
 
 -- a joiner that holds so many parts of a message
 abbrev pub joined_at : List ℕ → ℕ → Joining

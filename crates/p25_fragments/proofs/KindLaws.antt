@@ -1,10 +1,7 @@
 -- A step of the inner world that means nothing for the long messages. By its kind.
 use Rattle.std.proofs.Common.{◌≡◌, ℕ, List, refl}
-use Rattle.p25_messages.specs.declared.step_kind.StepKind.{StepKind}
-use Rattle.p25_messages.specs.declared.step_kind.StepKind.TheVariants.{Acknowledged, Delivered, SynHeard}
-use Rattle.p25_fragments.specs.declared.long_step.Then.TheVariants.{Plain}
-use Rattle.p25_fragments.specs.LongState.{LongState}
-use Rattle.p25_fragments.specs.LongSteps.{after_kind}
+use Rattle.p25_messages.specs.{declared.step_kind.StepKind.{StepKind}, declared.step_kind.StepKind.TheVariants.{Acknowledged, Delivered, SynHeard}}
+use Rattle.p25_fragments.specs.{declared.long_step.Then.TheVariants.{Plain}, LongState.{LongState}, LongSteps.{after_kind}}
 
 pub other_kind : (kind : StepKind) (w : LongState) → ((number : ℕ) → kind ≡ Acknowledged number → ⊥) → ((number : ℕ) (message : List ℕ) → kind ≡ Delivered number message → ⊥) → ((number : ℕ) → kind ≡ SynHeard number → ⊥) →
     after_kind kind w ≡ (w, Plain)

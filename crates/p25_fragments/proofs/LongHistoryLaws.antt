@@ -1,18 +1,12 @@
 -- Each step of a world of long messages makes its history one event longer; and what its history says of it.
 use Rattle.std.proofs.Common.{◌≡◌, ℕ, ◌≤◌, Bool, false, ◌||◌, length, List, [], ◌∷◌, ◌++◌, refl, sym, ap, subst, ◌∙◌}
-use Rattle.p25_delivery.specs.Orderly.{AreOrderly}
-use Rattle.p25_delivery.specs.Runs.{run_by, EachIs}
+use Rattle.p25_delivery.specs.{Orderly.{AreOrderly}, Runs.{run_by, EachIs}}
 use Rattle.p25_delivery.proofs.RunLaws.{run-append}
-use Rattle.p25_stations.specs.WorldState.{WorldState}
-use Rattle.p25_stations.specs.Runs.{AreClean}
-use Rattle.p25_stations.proofs.FalsePassLaws.{clean-from_none, none-from_clean}
-use Rattle.p25_stations.proofs.HistoryLaws.{each-append}
-use Rattle.p25_fragments.specs.LongState.{LongState, first_long}
-use Rattle.p25_fragments.specs.declared.long_step.LongEvent.TheVariants.{Long, Inner}
+use Rattle.p25_stations.specs.{WorldState.{WorldState}, Runs.{AreClean}, declared.step.Event.TheVariants.{Send}}
+use Rattle.p25_stations.proofs.{FalsePassLaws.{clean-from_none, none-from_clean}, HistoryLaws.{each-append}}
+use Rattle.p25_fragments.specs.{LongState.{LongState, first_long}, declared.long_step.LongEvent.TheVariants.{Long, Inner}}
 use Rattle.p25_fragments.specs.LongRuns.{HasLongHistory, IsCleanLongRun, IsEventOf, IsLongEvent, IsNoOffer, LongEvent, LongStep, long_run, long_sessions_of, long_step, offers_beside}
-use Rattle.p25_fragments.proofs.InnerRunLaws.{inner-run}
-use Rattle.p25_fragments.proofs.LongRunLaws.{long-orderly}
-use Rattle.p25_stations.specs.declared.step.Event.TheVariants.{Send}
+use Rattle.p25_fragments.proofs.{InnerRunLaws.{inner-run}, LongRunLaws.{long-orderly}}
 
 -- the inner world counts its false passes: none is counted exactly where the run is clean
 

@@ -1,28 +1,14 @@
 -- Each step adds to the lists of long messages the message that it tells of, and counts one acknowledged where it is Finished: by cases on
 -- what follows a step of the inner world; and a run by induction.
 use Rattle.std.proofs.Common.{◌≡◌, ℕ, ◌+◌, Bool, true, false, cond, List, [], ◌∷◌, ◌++◌, length, Option, Some, None, refl, ap, sym, ◌∙◌, arith, append_assoc, append-nil}
-use Rattle.std.specs.Prelude.{nat_lt}
 use Rattle.std.proofs.lemmas.List.Sums.{sum_by-cons}
-use Rattle.p25_messages.specs.LongMessages.{part_count, part_of}
-use Rattle.p25_messages.specs.declared.step_kind.StepKind.{StepKind}
-use Rattle.p25_messages.specs.declared.step_kind.StepKind.TheVariants.{Acknowledged, Delivered}
-use Rattle.p25_delivery.specs.Runs.{run_by, steps_by}
-use Rattle.p25_delivery.specs.declared.sender.Outstanding.{Outstanding}
-use Rattle.p25_delivery.specs.declared.sender.Outstanding.TheVariants.{Nothing}
-use Rattle.p25_stations.specs.declared.step.Event.{Event}
-use Rattle.p25_stations.specs.declared.step.Event.TheVariants.{Send}
-use Rattle.p25_stations.specs.declared.step.Step.{Step}
-use Rattle.p25_stations.specs.WorldState.{WorldState}
-use Rattle.p25_stations.specs.Steps.{world_step}
-use Rattle.p25_fragments.specs.declared.joiner.Joined.{Joined}
-use Rattle.p25_fragments.specs.declared.joiner.Joined.TheVariants.{Whole as JoinedWhole}
-use Rattle.p25_fragments.specs.declared.long_step.LongEvent.{LongEvent}
-use Rattle.p25_fragments.specs.declared.long_step.LongEvent.TheVariants.{Long, Inner}
-use Rattle.p25_fragments.specs.declared.long_step.Then.{Then}
-use Rattle.p25_fragments.specs.declared.long_step.Then.TheVariants.{Down, Finished}
-use Rattle.p25_fragments.specs.declared.long_step.LongStep.{LongStep}
-use Rattle.p25_fragments.specs.Joining.{Joining, message_taken}
-use Rattle.p25_fragments.specs.LongState.{LongState, OutstandingPart}
+use Rattle.std.specs.Prelude.{nat_lt}
+use Rattle.p25_messages.specs.{LongMessages.{part_count, part_of}, declared.step_kind.StepKind.{StepKind}, declared.step_kind.StepKind.TheVariants.{Acknowledged, Delivered}}
+use Rattle.p25_delivery.specs.{Runs.{run_by, steps_by}, declared.sender.Outstanding.{Outstanding}, declared.sender.Outstanding.TheVariants.{Nothing}}
+use Rattle.p25_stations.specs.{declared.step.Event.{Event}, declared.step.Event.TheVariants.{Send}, declared.step.Step.{Step}, WorldState.{WorldState}, Steps.{world_step}}
+use Rattle.p25_fragments.specs.{declared.joiner.Joined.{Joined}, declared.joiner.Joined.TheVariants.{Whole as JoinedWhole}, declared.long_step.LongEvent.{LongEvent}}
+use Rattle.p25_fragments.specs.{declared.long_step.LongEvent.TheVariants.{Long, Inner}, declared.long_step.Then.{Then}, declared.long_step.Then.TheVariants.{Down, Finished}}
+use Rattle.p25_fragments.specs.{declared.long_step.LongStep.{LongStep}, Joining.{Joining, message_taken}, LongState.{LongState, OutstandingPart}}
 use Rattle.p25_fragments.specs.LongSteps.{after_acknowledged, after_delivered, after_kind, inner_happened, long_offered, long_offered_beside, long_step, next_offered, session_ended, started, unmoved, with_first}
 use Rattle.p25_fragments.specs.LongRuns.{finished_in, is_finished, long_run, long_steps_of, taken_by, taken_in, whole_by, whole_in}
 

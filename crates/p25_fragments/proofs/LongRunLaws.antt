@@ -1,34 +1,18 @@
 -- A clean run keeps the long messages matched to the delivery, and refuses no part. One event after the other.
 use Rattle.std.proofs.Common.{◌≡◌, ◌≢◌, ℕ, ◌≤◌, Bool, false, List, [], ◌∷◌, ◌++◌, length, Option, Some, refl, ap, sym, subst, ◌∙◌, arith, append_assoc}
-use Rattle.p25_messages.specs.LongMessages.{part_of}
-use Rattle.p25_delivery.specs.Runs.{run_by, steps_by, EachIs}
-use Rattle.p25_delivery.specs.declared.sender.Outstanding.TheVariants.{Nothing, Message}
-use Rattle.p25_messages.specs.declared.step_kind.StepKind.{StepKind}
-use Rattle.p25_delivery.specs.Delivery.{Delivery, Session, last_mark, Happening, Time_up}
+use Rattle.p25_messages.specs.{LongMessages.{part_of}, declared.step_kind.StepKind.{StepKind}}
+use Rattle.p25_delivery.specs.{Runs.{run_by, steps_by, EachIs}, declared.sender.Outstanding.TheVariants.{Nothing, Message}, Delivery.{Delivery, Session, last_mark, Happening, Time_up}}
 use Rattle.p25_delivery.specs.Orderly.{IsClean, IsOrderly, AreOrderly}
-use Rattle.p25_delivery.proofs.DeliveryLaws.{happens-kept, first-kept}
-use Rattle.p25_delivery.proofs.SessionLaws.{divided-sent, present-sent}
-use Rattle.p25_stations.specs.declared.step.Event.{Event}
-use Rattle.p25_stations.specs.declared.step.Event.TheVariants.{Send}
-use Rattle.p25_stations.specs.declared.step.Step.{Step}
-use Rattle.p25_stations.specs.WorldState.{WorldState}
-use Rattle.p25_stations.specs.Steps.{world_step}
-use Rattle.p25_stations.specs.Runs.{IsEvent, AreClean}
-use Rattle.p25_stations.proofs.StepLaws.{HasHappen, offers, IsQuiet, nothing, Does, rests, does, step-does}
-use Rattle.p25_stations.proofs.CleanLaws.{happening-clean}
-use Rattle.p25_fragments.specs.declared.long_step.LongEvent.{LongEvent}
-use Rattle.p25_fragments.specs.declared.long_step.LongEvent.TheVariants.{Long, Inner}
-use Rattle.p25_fragments.specs.declared.long_step.Then.{Then}
-use Rattle.p25_fragments.specs.declared.long_step.Then.TheVariants.{Busy, Down, Refused}
-use Rattle.p25_fragments.specs.LongState.{LongState, long_delivery, first_long}
+use Rattle.p25_delivery.proofs.{DeliveryLaws.{happens-kept, first-kept}, SessionLaws.{divided-sent, present-sent}}
+use Rattle.p25_stations.specs.{declared.step.Event.{Event}, declared.step.Event.TheVariants.{Send}, declared.step.Step.{Step}, WorldState.{WorldState}, Steps.{world_step}, Runs.{IsEvent, AreClean}}
+use Rattle.p25_stations.proofs.{StepLaws.{HasHappen, offers, IsQuiet, nothing, Does, rests, does, step-does}, CleanLaws.{happening-clean}}
+use Rattle.p25_fragments.specs.{declared.long_step.LongEvent.{LongEvent}, declared.long_step.LongEvent.TheVariants.{Long, Inner}, declared.long_step.Then.{Then}}
+use Rattle.p25_fragments.specs.{declared.long_step.Then.TheVariants.{Busy, Down, Refused}, LongState.{LongState, long_delivery, first_long}}
 use Rattle.p25_fragments.specs.LongSteps.{unmoved, started, long_offered, inner_happened, long_step}
 use Rattle.p25_fragments.specs.LongRuns.{IsNoOffer, IsLongEvent, AreLongEvents, long_run, long_steps_of, first_steps, next_steps, inner_steps, IsCleanLongRun, AreUnrefused, long_sessions_of}
-use Rattle.p25_fragments.proofs.JoinLaws.{joined-none}
-use Rattle.p25_fragments.proofs.OfferLaws.{OfferedAs, told_down, told_busy, told_taken, offered-as}
-use Rattle.p25_fragments.proofs.MoveLaws.{IsPlainKind, outstanding_in, moves_nothing, IsNoOffering, happens-moves}
-use Rattle.p25_fragments.proofs.MatchLaws.{not_yet, IsIdleLong, MatchesBy, matches-at, matches-from}
-use Rattle.p25_fragments.proofs.FollowsLaws.{present, Follows, FollowsStep, sessions-orderly}
-use Rattle.p25_fragments.proofs.LongStepLaws.{offered-to, moved-follows}
+use Rattle.p25_fragments.proofs.{JoinLaws.{joined-none}, OfferLaws.{OfferedAs, told_down, told_busy, told_taken, offered-as}}
+use Rattle.p25_fragments.proofs.{MoveLaws.{IsPlainKind, outstanding_in, moves_nothing, IsNoOffering, happens-moves}, MatchLaws.{not_yet, IsIdleLong, MatchesBy, matches-at, matches-from}}
+use Rattle.p25_fragments.proofs.{FollowsLaws.{present, Follows, FollowsStep, sessions-orderly}, LongStepLaws.{offered-to, moved-follows}}
 
 -- A long message is offered.
 

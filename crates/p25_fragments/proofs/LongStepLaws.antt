@@ -1,32 +1,17 @@
 -- Each step of the inner world in a clean run keeps the long messages matched to the delivery, and refuses no part: also where a part is
 -- delivered, or acknowledged. By what was outstanding.
 use Rattle.std.proofs.Common.{◌≡◌, ℕ, ◌+◌, ◌*◌, ◌<◌, ◌≤◌, ◌⊎◌, inl, inr, Bool, true, false, List, [], ◌∷◌, ◌++◌, length, drop, Option, Some, None, refl, ap, ap₂, sym, subst, ◌∙◌, arith, length-append}
+use Rattle.std.proofs.{lemmas.Bool.{cond-true, cond-false}, lemmas.Bool.Decides.{nat_tests}, lemmas.List.{length-take}}
 use Rattle.std.specs.Prelude.{nat_lt}
-use Rattle.std.proofs.lemmas.Bool.{cond-true, cond-false}
-use Rattle.std.proofs.lemmas.Bool.Decides.{nat_tests}
-use Rattle.std.proofs.lemmas.List.{length-take}
-use Rattle.p25_messages.specs.LongMessages.{part_count, part_of}
-use Rattle.p25_delivery.specs.declared.sender.Outstanding.TheVariants.{Nothing, Message}
-use Rattle.p25_messages.specs.declared.step_kind.StepKind.{StepKind}
-use Rattle.p25_messages.specs.declared.step_kind.StepKind.TheVariants.{Acknowledged, Delivered}
-use Rattle.p25_delivery.specs.Delivery.{Delivery, Session, present_session, first_number, Happening, Offering}
+use Rattle.p25_messages.specs.{LongMessages.{part_count, part_of}, declared.step_kind.StepKind.{StepKind}, declared.step_kind.StepKind.TheVariants.{Acknowledged, Delivered}}
+use Rattle.p25_delivery.specs.{declared.sender.Outstanding.TheVariants.{Nothing, Message}, Delivery.{Delivery, Session, present_session, first_number, Happening, Offering}}
 use Rattle.p25_delivery.specs.Orderly.{IsClean, IsOrderly}
-use Rattle.p25_delivery.proofs.DeliveryLaws.{happens-kept}
-use Rattle.p25_delivery.proofs.SessionLaws.{divided-delivered, divided-acknowledged, present-sent, present-delivered, present-acknowledged}
-use Rattle.p25_delivery.proofs.PhaseLaws.{IsKept}
-use Rattle.p25_stations.specs.declared.step.Event.TheVariants.{Send}
-use Rattle.p25_stations.specs.declared.step.Step.{Step}
-use Rattle.p25_stations.specs.WorldState.{WorldState}
-use Rattle.p25_stations.specs.Steps.{world_step}
-use Rattle.p25_fragments.specs.declared.long_stations.OutstandingPart.{OutstandingPart}
-use Rattle.p25_fragments.specs.declared.joiner.Joined.{Joined}
-use Rattle.p25_fragments.specs.declared.joiner.Joined.TheVariants.{Whole as JoinedWhole, Part as JoinedPart}
-use Rattle.p25_fragments.specs.declared.long_step.Then.{Then}
-use Rattle.p25_fragments.specs.Joining.{Joining, first_joining, message_taken}
-use Rattle.p25_fragments.specs.LongState.{LongState, long_delivery}
-use Rattle.p25_fragments.specs.LongSteps.{next_offered, after_acknowledged, after_delivered, after_kind, inner_happened}
-use Rattle.p25_fragments.proofs.JoinLaws.{joined_at, join-inner, join-last}
-use Rattle.p25_fragments.proofs.OfferLaws.{send-taken}
+use Rattle.p25_delivery.proofs.{DeliveryLaws.{happens-kept}, SessionLaws.{divided-delivered, divided-acknowledged, present-sent, present-delivered, present-acknowledged}, PhaseLaws.{IsKept}}
+use Rattle.p25_stations.specs.{declared.step.Event.TheVariants.{Send}, declared.step.Step.{Step}, WorldState.{WorldState}, Steps.{world_step}}
+use Rattle.p25_fragments.specs.{declared.long_stations.OutstandingPart.{OutstandingPart}, declared.joiner.Joined.{Joined}}
+use Rattle.p25_fragments.specs.{declared.joiner.Joined.TheVariants.{Whole as JoinedWhole, Part as JoinedPart}, declared.long_step.Then.{Then}, Joining.{Joining, first_joining, message_taken}}
+use Rattle.p25_fragments.specs.{LongState.{LongState, long_delivery}, LongSteps.{next_offered, after_acknowledged, after_delivered, after_kind, inner_happened}}
+use Rattle.p25_fragments.proofs.{JoinLaws.{joined_at, join-inner, join-last}, OfferLaws.{send-taken}}
 use Rattle.p25_fragments.proofs.MoveLaws.{outstanding_in, Moves, moves_nothing, ends, delivers, hears_opening, acknowledges, opens_session}
 use Rattle.p25_fragments.proofs.CleanMoveLaws.{quiet-counts, IsDelivered, delivered-is, acknowledged-is, opened-is, away, no-message}
 use Rattle.p25_fragments.proofs.MatchLaws.{Came, not_yet, came_inner, came_last, IsPartOf, IsSendingLong, MatchesBy, matches-at, matches-from}

@@ -2,38 +2,20 @@
 -- one mark at most.
 use Rattle.std.proofs.Common.{◌≡◌, ℕ, ◌+◌, ◌⊎◌, inl, inr, Bool, true, false, cond, List, [], ◌∷◌, ◌++◌, length, Option, Some, None, refl, ap, sym, subst, ◌∙◌, arith, length-append}
 use Rattle.std.specs.Prelude.{nat_lt}
-use Rattle.p25_messages.specs.LongMessages.{part_count, part_of}
-use Rattle.p25_delivery.proofs.RunLaws.{run-keeps_all}
-use Rattle.p25_delivery.specs.Halves.{Sending}
-use Rattle.p25_delivery.specs.SenderRules.{offered}
-use Rattle.p25_delivery.specs.declared.outbound.Mark.{Mark}
-use Rattle.p25_messages.specs.declared.answers.Offer.{Offer}
-use Rattle.p25_messages.specs.declared.answers.Offer.TheVariants.{Taken}
-use Rattle.p25_messages.specs.declared.step_kind.StepKind.{StepKind}
+use Rattle.p25_messages.specs.{LongMessages.{part_count, part_of}, declared.answers.Offer.{Offer}, declared.answers.Offer.TheVariants.{Taken}, declared.step_kind.StepKind.{StepKind}}
 use Rattle.p25_messages.specs.declared.step_kind.StepKind.TheVariants.{Acknowledged, Delivered}
-use Rattle.p25_delivery.specs.HalfRules.{after_offer}
+use Rattle.p25_delivery.proofs.RunLaws.{run-keeps_all}
+use Rattle.p25_delivery.specs.{Halves.{Sending}, SenderRules.{offered}, declared.outbound.Mark.{Mark}, HalfRules.{after_offer}}
 use Rattle.p25_delivery.specs.Delivery.{Delivery, with_outbound, Happening, Offering, happens, present_mark}
-use Rattle.p25_stations.specs.declared.step.Event.{Event}
-use Rattle.p25_stations.specs.declared.step.Event.TheVariants.{Send}
-use Rattle.p25_stations.specs.declared.step.Step.{Step}
-use Rattle.p25_stations.specs.WorldState.{WorldState}
-use Rattle.p25_stations.specs.Steps.{world_step}
+use Rattle.p25_stations.specs.{declared.step.Event.{Event}, declared.step.Event.TheVariants.{Send}, declared.step.Step.{Step}, WorldState.{WorldState}, Steps.{world_step}}
 use Rattle.p25_stations.proofs.StepLaws.{Does, rests, does, step-does}
-use Rattle.p25_fragments.specs.declared.long_stations.OutstandingPart.{OutstandingPart}
-use Rattle.p25_fragments.specs.declared.joiner.Joined.{Joined}
-use Rattle.p25_fragments.specs.declared.joiner.Joined.TheVariants.{Whole as JoinedWhole}
-use Rattle.p25_fragments.specs.declared.long_step.LongEvent.{LongEvent}
-use Rattle.p25_fragments.specs.declared.long_step.LongEvent.TheVariants.{Long, Inner}
-use Rattle.p25_fragments.specs.declared.long_step.Then.{Then}
-use Rattle.p25_fragments.specs.declared.long_step.Then.TheVariants.{Finished}
-use Rattle.p25_fragments.specs.declared.long_step.LongStep.{LongStep}
-use Rattle.p25_fragments.specs.Joining.{Joining, message_taken}
+use Rattle.p25_fragments.specs.{declared.long_stations.OutstandingPart.{OutstandingPart}, declared.joiner.Joined.{Joined}, declared.joiner.Joined.TheVariants.{Whole as JoinedWhole}}
+use Rattle.p25_fragments.specs.{declared.long_step.LongEvent.{LongEvent}, declared.long_step.LongEvent.TheVariants.{Long, Inner}, declared.long_step.Then.{Then}}
+use Rattle.p25_fragments.specs.{declared.long_step.Then.TheVariants.{Finished}, declared.long_step.LongStep.{LongStep}, Joining.{Joining, message_taken}}
 use Rattle.p25_fragments.specs.LongState.{LongState, long_delivery, first_long}
-use Rattle.p25_fragments.specs.LongSteps.{started, long_offered, next_offered, after_acknowledged, after_delivered, after_kind, inner_happened, long_step}
-use Rattle.p25_fragments.specs.LongRuns.{long_run}
+use Rattle.p25_fragments.specs.{LongSteps.{started, long_offered, next_offered, after_acknowledged, after_delivered, after_kind, inner_happened, long_step}, LongRuns.{long_run}}
 use Rattle.p25_fragments.proofs.OfferLaws.{OfferedAs, told_down, told_busy, told_taken, offered-as}
-use Rattle.p25_fragments.proofs.MoveLaws.{Moves, moves_nothing, ends, delivers, hears_opening, acknowledges, opens_session, IsNoOffering, happens-moves}
-use Rattle.p25_fragments.proofs.FollowsLaws.{happened-on, happened-end}
+use Rattle.p25_fragments.proofs.{MoveLaws.{Moves, moves_nothing, ends, delivers, hears_opening, acknowledges, opens_session, IsNoOffering, happens-moves}, FollowsLaws.{happened-on, happened-end}}
 
 -- The marks of a delivery.
 

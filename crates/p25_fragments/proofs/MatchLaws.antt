@@ -1,12 +1,9 @@
 -- How the long messages of the present session match its delivery: by what is outstanding, and by whether it has arrived.
 use Rattle.std.proofs.Common.{◌≡◌, ℕ, ◌+◌, ◌<◌, ◌≤◌, List, [], ◌∷◌, ◌++◌, length, Option, Some, None, ap, sym, subst, ◌∙◌, arith, length-append, append-nil}
 use Rattle.p25_messages.specs.LongMessages.{part_count, part_of}
-use Rattle.p25_delivery.specs.declared.sender.Outstanding.{Outstanding}
-use Rattle.p25_delivery.specs.declared.sender.Outstanding.TheVariants.{Nothing, Message, Opening}
-use Rattle.p25_delivery.specs.Delivery.{Delivery, Session, empty_session, present_session}
-use Rattle.p25_delivery.specs.Orderly.{IsOrderly}
-use Rattle.p25_fragments.specs.declared.long_stations.OutstandingPart.{OutstandingPart}
-use Rattle.p25_fragments.specs.Joining.{Joining, first_joining}
+use Rattle.p25_delivery.specs.{declared.sender.Outstanding.{Outstanding}, declared.sender.Outstanding.TheVariants.{Nothing, Message, Opening}}
+use Rattle.p25_delivery.specs.{Delivery.{Delivery, Session, empty_session, present_session}, Orderly.{IsOrderly}}
+use Rattle.p25_fragments.specs.{declared.long_stations.OutstandingPart.{OutstandingPart}, Joining.{Joining, first_joining}}
 use Rattle.p25_fragments.proofs.JoinLaws.{joined_at}
 
 -- whether the part that is outstanding has arrived, with so many messages delivered and acknowledged: what the joiner holds then,

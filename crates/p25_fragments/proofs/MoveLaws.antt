@@ -1,30 +1,18 @@
 -- What happens at a delivery, but an offer, does to it, by the kind of the step: to what is outstanding, to V(R), and to the lists. By
 -- the rules of the stations, each answer in turn.
 use Rattle.std.proofs.Common.{◌≡◌, ℕ, ◌+◌, ◌%◌, Bool, true, false, cond, eqb, List, length, Option, Some, None, refl, ap, sym, subst, ◌∙◌}
-use Rattle.p25_packet_blocks.specs.declared.packet.Packet.{Packet}
-use Rattle.p25_packet_blocks.specs.declared.packet.Packet.TheVariants.{Confirmed, Plain}
-use Rattle.p25_packet_blocks.specs.ConfirmedParts.{ConfirmedParts}
+use Rattle.p25_packet_blocks.specs.{declared.packet.Packet.{Packet}, declared.packet.Packet.TheVariants.{Confirmed, Plain}, ConfirmedParts.{ConfirmedParts}}
 use Rattle.p25_packet_blocks.specs.Heads.{head_blocks, head_llid, head_syn, head_number}
-use Rattle.p25_delivery.specs.MessageBlocks.{unpadded}
-use Rattle.p25_delivery.specs.Places.{put_slots, all_octets}
-use Rattle.p25_delivery.specs.SentPackets.{station_llid, ack_packet, order_nack_packet, opening_packet}
-use Rattle.p25_delivery.specs.Halves.{Sending, Keeping, Receiving, first_outgoing, first_incoming}
-use Rattle.p25_delivery.specs.SenderRules.{timed_out_with, timed_out, sender_heard, opening_number, reopened, is_opening}
-use Rattle.p25_delivery.specs.ReceiverRules.{keeping_for, finished, completed, filled, opening_heard, data_heard, receiver_heard}
-use Rattle.p25_delivery.specs.declared.sender.Outstanding.{Outstanding}
-use Rattle.p25_delivery.specs.declared.sender.Outstanding.TheVariants.{Nothing, Message, Opening}
-use Rattle.p25_messages.specs.declared.answers.Resend.{Resend}
-use Rattle.p25_messages.specs.declared.answers.Resend.TheVariants.{Sent}
-use Rattle.p25_messages.specs.declared.answers.SenderHeard.{SenderHeard}
-use Rattle.p25_messages.specs.declared.answers.SenderHeard.TheVariants.{Acknowledged as HeardAck, Opened as SenderOpened}
-use Rattle.p25_messages.specs.declared.answers.Reopen.{Reopen as ReopenAnswer}
-use Rattle.p25_messages.specs.declared.answers.Reopen.TheVariants.{Sent as ReopenSent, Up as ReopenUp}
-use Rattle.p25_messages.specs.declared.answers.Heard.{Heard as HeardAnswer}
-use Rattle.p25_messages.specs.declared.answers.Heard.TheVariants.{Opened as ReceiverOpened, Again, RefusedOrder, Ignored as ReceiverIgnored}
-use Rattle.p25_messages.specs.declared.step_kind.StepKind.{StepKind}
-use Rattle.p25_messages.specs.declared.step_kind.StepKind.TheVariants.{Acknowledged, Delivered, SynHeard}
-use Rattle.p25_delivery.specs.HalfRules.{after_timeout, after_reopening, after_data, after_answer}
+use Rattle.p25_delivery.specs.{MessageBlocks.{unpadded}, Places.{put_slots, all_octets}, SentPackets.{station_llid, ack_packet, order_nack_packet, opening_packet}}
+use Rattle.p25_delivery.specs.{Halves.{Sending, Keeping, Receiving, first_outgoing, first_incoming}, SenderRules.{timed_out_with, timed_out, sender_heard, opening_number, reopened, is_opening}}
+use Rattle.p25_delivery.specs.{ReceiverRules.{keeping_for, finished, completed, filled, opening_heard, data_heard, receiver_heard}, declared.sender.Outstanding.{Outstanding}}
+use Rattle.p25_delivery.specs.{declared.sender.Outstanding.TheVariants.{Nothing, Message, Opening}, HalfRules.{after_timeout, after_reopening, after_data, after_answer}}
 use Rattle.p25_delivery.specs.Delivery.{Delivery, first_delivery, newest_after, with_outbound, with_inbound, Happening, Offering, Time_up, Opening_again, Data_heard, Answer_heard, happens}
+use Rattle.p25_messages.specs.{declared.answers.Resend.{Resend}, declared.answers.Resend.TheVariants.{Sent}, declared.answers.SenderHeard.{SenderHeard}}
+use Rattle.p25_messages.specs.{declared.answers.SenderHeard.TheVariants.{Acknowledged as HeardAck, Opened as SenderOpened}, declared.answers.Reopen.{Reopen as ReopenAnswer}}
+use Rattle.p25_messages.specs.{declared.answers.Reopen.TheVariants.{Sent as ReopenSent, Up as ReopenUp}, declared.answers.Heard.{Heard as HeardAnswer}}
+use Rattle.p25_messages.specs.{declared.answers.Heard.TheVariants.{Opened as ReceiverOpened, Again, RefusedOrder, Ignored as ReceiverIgnored}, declared.step_kind.StepKind.{StepKind}}
+use Rattle.p25_messages.specs.declared.step_kind.StepKind.TheVariants.{Acknowledged, Delivered, SynHeard}
 use Rattle.p25_delivery.proofs.SenderLaws.{Resends, resent-of, timeout-of, HearsAnswer, goes_on, stays, HearsOpening, opens, waits, RetriesOf, message-answer, opening-answer, quiet-answer}
 use Rattle.p25_delivery.proofs.SessionLaws.{one_delivered, one_acknowledged, marked}
 

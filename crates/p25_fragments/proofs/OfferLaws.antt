@@ -1,27 +1,12 @@
 -- What the offer of part 0 tells of a long message. By the rules of the sender: whether it is down, and what is outstanding.
-use Rattle.std.proofs.Common.{◌≡◌, ℕ, Bool, true, false, List, [], ◌∷◌, ◌++◌, length, Some, None, ap, ap₂, sym, subst, refl, ◌∙◌}
-use Rattle.std.proofs.lemmas.Bool.{cond-true, cond-false}
-use Rattle.p25_messages.specs.LongMessages.{part_of}
-use Rattle.p25_delivery.specs.MessageBlocks.{block_count}
-use Rattle.p25_delivery.specs.SentPackets.{message_packet}
-use Rattle.p25_delivery.specs.Halves.{Sending}
-use Rattle.p25_delivery.specs.SenderRules.{offered_beside, offered}
-use Rattle.p25_delivery.specs.declared.sender.Outstanding.{Outstanding}
-use Rattle.p25_delivery.specs.declared.sender.Outstanding.TheVariants.{Nothing, Message, Opening}
-use Rattle.p25_messages.specs.declared.answers.Offer.{Offer}
-use Rattle.p25_messages.specs.declared.answers.Offer.TheVariants.{Down as DownAtOffer}
+use Rattle.std.proofs.{Common.{◌≡◌, ℕ, Bool, true, false, List, [], ◌∷◌, ◌++◌, length, Some, None, ap, ap₂, sym, subst, refl, ◌∙◌}, lemmas.Bool.{cond-true, cond-false}}
+use Rattle.p25_messages.specs.{LongMessages.{part_of}, declared.answers.Offer.{Offer}, declared.answers.Offer.TheVariants.{Down as DownAtOffer}}
 use Rattle.p25_messages.specs.declared.step_kind.StepKind.TheVariants.{Taken, Busy as BusyAtOffer, OfferDown}
-use Rattle.p25_delivery.specs.HalfRules.{after_offer}
-use Rattle.p25_delivery.specs.Delivery.{Delivery, newest_after, with_outbound, happens}
+use Rattle.p25_delivery.specs.{MessageBlocks.{block_count}, SentPackets.{message_packet}, Halves.{Sending}, SenderRules.{offered_beside, offered}, declared.sender.Outstanding.{Outstanding}}
+use Rattle.p25_delivery.specs.{declared.sender.Outstanding.TheVariants.{Nothing, Message, Opening}, HalfRules.{after_offer}, Delivery.{Delivery, newest_after, with_outbound, happens}}
 use Rattle.p25_delivery.proofs.SenderLaws.{offer-quiet}
-use Rattle.p25_stations.specs.declared.step.Event.TheVariants.{Send}
-use Rattle.p25_stations.specs.declared.step.Step.{Step}
-use Rattle.p25_stations.specs.Runs.{true_step}
-use Rattle.p25_stations.specs.WorldState.{WorldState}
-use Rattle.p25_stations.specs.Steps.{quiet_step, world_step}
-use Rattle.p25_fragments.specs.declared.long_step.LongStep.{LongStep}
-use Rattle.p25_fragments.specs.declared.long_step.Then.TheVariants.{Busy, Down}
-use Rattle.p25_fragments.specs.LongState.{LongState}
+use Rattle.p25_stations.specs.{declared.step.Event.TheVariants.{Send}, declared.step.Step.{Step}, Runs.{true_step}, WorldState.{WorldState}, Steps.{quiet_step, world_step}}
+use Rattle.p25_fragments.specs.{declared.long_step.LongStep.{LongStep}, declared.long_step.Then.TheVariants.{Busy, Down}, LongState.{LongState}}
 use Rattle.p25_fragments.specs.LongSteps.{unmoved, started, long_offered_beside, long_offered}
 
 -- what the sender answers

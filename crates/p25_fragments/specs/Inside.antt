@@ -1,7 +1,6 @@
 -- What contracts see of the fields of a world of long messages.
 use Rattle.std.specs.Prelude.{ℕ, ◌-◌, ◌/◌, min, vec_len, vec_capacity}
-use Rattle.p25_fragments.specs.declared.long_stations.LongStations.TheInside.{Inside}
-use Rattle.p25_fragments.specs.LongState.{LongState, LongParts}
+use Rattle.p25_fragments.specs.{declared.long_stations.LongStations.TheInside.{Inside}, LongState.{LongState, LongParts}}
 
 -- the state of such a world
 abbrev pub state_of : Inside → LongState

@@ -1,11 +1,8 @@
 -- Runs of a world of long messages: its state and its steps after a list of events, its sessions, and what is said of the steps of the inner world.
 use Rattle.std.specs.Prelude.{◌≡◌, ◌≢◌, ◌≤◌, ℕ, Bool, true, false, List, [], ◌∷◌, ◌++◌, length, count_by, Option, Some, None}
-use Rattle.p25_delivery.specs.Runs.{run_by, steps_by, EachIs}
-use Rattle.p25_delivery.specs.Delivery.{Session, sessions_of}
-use Rattle.p25_stations.specs.declared.step.Event.{Event, TheVariants.{Send}}
-use Rattle.p25_stations.specs.declared.step.Step.{Step}
+use Rattle.p25_delivery.specs.{Runs.{run_by, steps_by, EachIs}, Delivery.{Session, sessions_of}}
+use Rattle.p25_stations.specs.{declared.step.Event.{Event, TheVariants.{Send}}, declared.step.Step.{Step}, Runs.{world_run, steps_of, AreClean}}
 pub use Rattle.p25_stations.specs.Steps.{WorldState, first_world}
-use Rattle.p25_stations.specs.Runs.{world_run, steps_of, AreClean}
 pub use Rattle.p25_fragments.specs.LongState.{LongState, first_long, long_delivery}
 pub use Rattle.p25_fragments.specs.LongSteps.{long_step, LongEvent, Long, Inner, Then, Refused, Next, Started, Whole, Finished, LongStep}
 

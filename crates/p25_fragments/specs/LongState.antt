@@ -1,9 +1,7 @@
 -- What the world of long messages keeps.
 use Rattle.std.specs.Prelude.{◌≡◌, ℕ, Bool, ◌+◌, ◌/◌, ◌<◌, ◌≤◌, min, List, [], length, Option, Some, None, IfSome}
 use Rattle.p25_messages.specs.LongMessages.{part_count}
-use Rattle.p25_delivery.specs.declared.outbound.Mark.{Mark}
-use Rattle.p25_delivery.specs.Halves.{first_outgoing, first_incoming}
-use Rattle.p25_delivery.specs.Delivery.{Delivery, first_delivery}
+use Rattle.p25_delivery.specs.{declared.outbound.Mark.{Mark}, Halves.{first_outgoing, first_incoming}, Delivery.{Delivery, first_delivery}}
 use Rattle.p25_stations.specs.WorldState.{WorldState, first_world}
 pub use Rattle.p25_fragments.specs.declared.long_stations.OutstandingPart.{OutstandingPart}
 use Rattle.p25_fragments.specs.Joining.{Joining, first_joining}

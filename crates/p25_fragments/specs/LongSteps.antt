@@ -1,12 +1,8 @@
 -- What each event makes of the world of long messages, and the step that it is.
 use Rattle.std.specs.Prelude.{ℕ, ◌+◌, nat_lt, List, [], ◌∷◌, ◌++◌, length, Option, Some, None, if◌then◌else◌}
-use Rattle.p25_messages.specs.LongMessages.{part_count, part_of}
-use Rattle.p25_delivery.specs.declared.sender.Outstanding.{Outstanding, TheVariants.{Nothing}}
-use Rattle.p25_messages.specs.declared.step_kind.StepKind.{StepKind, TheVariants.{Acknowledged, Delivered, SynHeard}}
-use Rattle.p25_delivery.specs.Delivery.{present_mark}
-use Rattle.p25_stations.specs.declared.step.Event.TheVariants.{Send}
-use Rattle.p25_stations.specs.declared.step.Step.{Step}
-use Rattle.p25_stations.specs.Steps.{world_step, WorldState}
+use Rattle.p25_messages.specs.{LongMessages.{part_count, part_of}, declared.step_kind.StepKind.{StepKind, TheVariants.{Acknowledged, Delivered, SynHeard}}}
+use Rattle.p25_delivery.specs.{declared.sender.Outstanding.{Outstanding, TheVariants.{Nothing}}, Delivery.{present_mark}}
+use Rattle.p25_stations.specs.{declared.step.Event.TheVariants.{Send}, declared.step.Step.{Step}, Steps.{world_step, WorldState}}
 pub use Rattle.p25_fragments.specs.declared.long_step.LongEvent.{LongEvent, TheVariants.{Long, Inner}}
 pub use Rattle.p25_fragments.specs.declared.long_step.Then.{Then, TheVariants.{Plain, Started, Busy, Down, Part, Whole, Refused, Next, Finished}}
 pub use Rattle.p25_fragments.specs.declared.long_step.LongStep.{LongStep}

@@ -2,8 +2,7 @@
 
 ghost use Rattle.std.specs.Prelude.{◌≡◌, List, length};
 ghost use Rattle.p25_delivery.specs.Orderly.{AreOrderly};
-ghost use Rattle.p25_fragments.specs.LongRuns.{AreLongEvents, long_run, long_steps_of, inner_steps, IsInnerRun, IsCleanLongRun, AreUnrefused, long_sessions_of, first_world, first_long, LongEvent as event_type};
-ghost use Rattle.p25_fragments.specs.LongRuns.{finished_in, taken_in, whole_in};
+ghost use Rattle.p25_fragments.specs.LongRuns.{AreLongEvents, long_run, long_steps_of, inner_steps, IsInnerRun, IsCleanLongRun, AreUnrefused, long_sessions_of, first_world, first_long, LongEvent as event_type, finished_in, taken_in, whole_in};
 
 /// **Theorem.** Its clauses say what comes of a list of events. The inner world has a run of its own, and its steps are those of
 /// the events and of the offers of parts; a session begins with each one of the inner world. Where no step of the inner world is a

@@ -2,9 +2,8 @@
 
 ghost use Rattle.std.specs.Prelude.{◌≡◌, ◌+◌, ◌<◌, ◌≤◌, OnOk, OnErr};
 ghost use Rattle.p25_fragments.specs.LongSteps.{long_step, started, long_offered, after_acknowledged, after_delivered, after_kind, session_ended, inner_happened};
-ghost use Rattle.p25_fragments.specs.LongState.{first_long, TakesRoom};
+ghost use Rattle.p25_fragments.specs.{LongState.{first_long, TakesRoom}, Joining.{message_taken}};
 ghost use Rattle.p25_stations.specs.Steps.{world_step};
-ghost use Rattle.p25_fragments.specs.Joining.{message_taken};
 
 use crate::joiner::{Joined, Joiner};
 use crate::long_step::{LongEvent, LongStep, Then};
@@ -47,8 +46,7 @@ impl Model for LongStations {
 
     ghost Value = { LongParts };
 
-    ghost use Rattle.p25_fragments.specs.LongState.{IsLongState};
-    ghost use Rattle.p25_fragments.specs.Inside.{state_of, parts_of};
+    ghost use Rattle.p25_fragments.specs.{LongState.{IsLongState}, Inside.{state_of, parts_of}};
 
     ghost view = { parts_of };
 

@@ -1,8 +1,6 @@
 ghost use Rattle.std.specs.Prelude.{◌≡◌, ◌+◌, ◌<◌, ◌≤◌, ◌||◌, false, OnOk, OnErr, IfOk};
 ghost use Rattle.p25_delivery.specs.Orderly.{AreOrderly};
-ghost use Rattle.p25_fragments.specs.LongRuns.{HasLongHistory, IsEventOf, long_sessions_of, offers_beside};
-ghost use Rattle.p25_fragments.specs.LongState.{first_long};
-ghost use Rattle.p25_fragments.specs.LongSteps.{long_step};
+ghost use Rattle.p25_fragments.specs.{LongRuns.{HasLongHistory, IsEventOf, long_sessions_of, offers_beside}, LongState.{first_long}, LongSteps.{long_step}};
 
 use crate::long_stations::LongStations;
 use crate::long_step::{LongEvent, LongStep};
@@ -21,8 +19,7 @@ pub struct LongWorld {
 }
 
 impl Model for LongWorld {
-    ghost use Rattle.p25_fragments.specs.LongState.{LongView};
-    ghost use Rattle.p25_fragments.specs.LongRuns.{HasLongHistory};
+    ghost use Rattle.p25_fragments.specs.{LongState.{LongView}, LongRuns.{HasLongHistory}};
 
     ghost Value = { LongView };
 

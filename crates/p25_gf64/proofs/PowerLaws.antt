@@ -1,6 +1,5 @@
 -- Powers in a field. By induction on the exponent.
-use Rattle.std.proofs.Common.{◌≡◌, ◌≢◌, ℕ, zero, suc, ◌+◌, ◌-◌, ◌*◌, ◌/◌, ◌%◌, ◌<◌, refl, sym, ap, ◌∙◌, inl, inr, arith}
-use Rattle.std.proofs.lemmas.Bool.{cases_order}
+use Rattle.std.proofs.{Common.{◌≡◌, ◌≢◌, ℕ, zero, suc, ◌+◌, ◌-◌, ◌*◌, ◌/◌, ◌%◌, ◌<◌, refl, sym, ap, ◌∙◌, inl, inr, arith}, lemmas.Bool.{cases_order}}
 use Rattle.p25_gf64.specs.Field.{Field, power}
 use Rattle.p25_gf64.proofs.FieldLaws.{mul_assoc, mul_left_comm, mul_one, one_mul, mul_cancel, mul_ne_zero}
 

@@ -1,12 +1,7 @@
 -- The operations of GF(64) by the numbers of the symbols, and the order of α.
-use Rattle.std.proofs.Common.{◌≡◌, ◌≢◌, ℕ, zero, suc, ◌<◌, ◌==◌, true, not, ◌||◌, bit_xor, refl, sym, ap, ◌∙◌, inl, inr, arith}
-use Rattle.std.proofs.lemmas.Bool.{or_cases, eqb-true, eq-eqb, not-true, both_ways}
-use Rattle.p25_gf64.specs.Field.{power}
-use Rattle.p25_gf64.specs.Product.{product, product_by, product_power, times_x}
-use Rattle.p25_gf64.specs.ProductLaws.{all_below, all_below_at}
-use Rattle.p25_gf64.specs.Symbol.{number, symbol_of, same_symbol, zero_symbol, one_symbol, alpha, sum_of, product_of}
-use Rattle.p25_gf64.specs.Gf64.{gf64}
-use Rattle.p25_gf64.specs.declared.symbol.Sym.{Sym}
+use Rattle.std.proofs.{Common.{◌≡◌, ◌≢◌, ℕ, zero, suc, ◌<◌, ◌==◌, true, not, ◌||◌, bit_xor, refl, sym, ap, ◌∙◌, inl, inr, arith}, lemmas.Bool.{or_cases, eqb-true, eq-eqb, not-true, both_ways}}
+use Rattle.p25_gf64.specs.{Field.{power}, Product.{product, product_by, product_power, times_x}, ProductLaws.{all_below, all_below_at}}
+use Rattle.p25_gf64.specs.{Symbol.{number, symbol_of, same_symbol, zero_symbol, one_symbol, alpha, sum_of, product_of}, Gf64.{gf64}, declared.symbol.Sym.{Sym}}
 use Rattle.p25_gf64.proofs.PowerLaws.{same_exponent}
 
 pub number_zero : number gf64.zero ≡ 0

@@ -1,16 +1,9 @@
 -- The tables of the code are the powers and the logarithms of α.
 use Rattle.std.proofs.Common.{◌≡◌, ◌≢◌, ℕ, ◌+◌, ◌-◌, ◌%◌, ◌<◌, ◌==◌, true, ◌&&◌, ◌||◌, nat_lt, slice_index_or, refl, sym, ap, ap₂, ◌∙◌, inl, inr, arith}
 use Rattle.std.proofs.lemmas.Bool.{or_cases, and_parts, eqb-true, ltb-true}
-use Rattle.p25_gf64.specs.Field.{power}
-use Rattle.p25_gf64.specs.Product.{product, product_by, product_power, times_x}
-use Rattle.p25_gf64.specs.ProductLaws.{all_below, all_below_at, product_power-lt}
-use Rattle.p25_gf64.specs.Symbol.{number, symbol_of, same_symbol, alpha}
-use Rattle.p25_gf64.specs.Gf64.{gf64}
-use Rattle.p25_gf64.specs.declared.symbol.Sym.{Sym}
-use Rattle.p25_gf64.specs.declared.tables.TheConstants.{POWERS, LOGARITHMS}
-use Rattle.p25_gf64.proofs.FieldLaws.{one_mul, mul_one, mul_assoc, mul_inverse}
-use Rattle.p25_gf64.proofs.PowerLaws.{power-add, power-mod}
-use Rattle.p25_gf64.proofs.SymbolLaws.{number-power, number_alpha, number_ne_zero, alpha_to_63}
+use Rattle.p25_gf64.specs.{Field.{power}, Product.{product, product_by, product_power, times_x}, ProductLaws.{all_below, all_below_at, product_power-lt}}
+use Rattle.p25_gf64.specs.{Symbol.{number, symbol_of, same_symbol, alpha}, Gf64.{gf64}, declared.symbol.Sym.{Sym}, declared.tables.TheConstants.{POWERS, LOGARITHMS}}
+use Rattle.p25_gf64.proofs.{FieldLaws.{one_mul, mul_one, mul_assoc, mul_inverse}, PowerLaws.{power-add, power-mod}, SymbolLaws.{number-power, number_alpha, number_ne_zero, alpha_to_63}}
 
 powers_computed : all_below 63 (λ e. slice_index_or POWERS e 0 == product_power 2 e) ≡ true
 unfolding all_below product product_by product_power times_x

@@ -1,12 +1,8 @@
 -- GF(64) as a field.
-use Rattle.std.specs.Prelude.{◌≡◌, ◌≢◌, ◌⊎◌, ℕ}
-use Rattle.std.specs.Int.Bits.{xor_assoc, xor_comm, xor_self, xor_zero_r}
-use Rattle.std.proofs.Common.{ap, inl, inr, arith}
-use Rattle.std.proofs.lemmas.Bool.{cases_eq}
-use Rattle.p25_gf64.specs.Field.{Field, FieldLaws}
-use Rattle.p25_gf64.specs.ProductLaws.{product_comm, product_assoc, product-one, product_inverse, product-xor}
-use Rattle.p25_gf64.specs.Symbol.{number, same_symbol, zero_symbol, one_symbol, sum_of, product_of, inverse_of}
-use Rattle.p25_gf64.specs.declared.symbol.Sym.{Sym}
+use Rattle.std.specs.{Prelude.{◌≡◌, ◌≢◌, ◌⊎◌, ℕ}, Int.Bits.{xor_assoc, xor_comm, xor_self, xor_zero_r}}
+use Rattle.std.proofs.{Common.{ap, inl, inr, arith}, lemmas.Bool.{cases_eq}}
+use Rattle.p25_gf64.specs.{Field.{Field, FieldLaws}, ProductLaws.{product_comm, product_assoc, product-one, product_inverse, product-xor}}
+use Rattle.p25_gf64.specs.{Symbol.{number, same_symbol, zero_symbol, one_symbol, sum_of, product_of, inverse_of}, declared.symbol.Sym.{Sym}}
 
 one_apart : one_symbol ≢ zero_symbol
 unfolding one_symbol zero_symbol

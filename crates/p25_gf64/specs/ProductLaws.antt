@@ -1,9 +1,8 @@
 -- The laws of the product on numbers below 64. Facts of two numbers are computed over all pairs; the
 -- others follow by the steps of the product.
 use Rattle.std.specs.Prelude.{◌≡◌, ℕ, zero, suc, ◌/◌, ◌%◌, ◌<◌, ◌==◌, Bool, true, false, ◌&&◌, ◌||◌, ◌≢◌, if◌then◌else◌, nat_lt, bit_xor, refl}
-use Rattle.std.proofs.Common.{sym, ap, ap₂, ◌∙◌, inl, inr, arith}
-use Rattle.std.proofs.lemmas.Bool.{and_parts, or_cases, cases_eq, eqb-true, ltb-true}
 use Rattle.std.specs.Int.Bits.{xor_lt, xor_assoc, xor_comm}
+use Rattle.std.proofs.{Common.{sym, ap, ap₂, ◌∙◌, inl, inr, arith}, lemmas.Bool.{and_parts, or_cases, cases_eq, eqb-true, ltb-true}}
 use Rattle.p25_gf64.specs.Product.{times_x, product_by, product, product_power}
 
 -- a test holds of each number below a bound

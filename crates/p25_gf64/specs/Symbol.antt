@@ -1,10 +1,7 @@
 -- The symbols as numbers, and their operations.
-use Rattle.std.specs.Prelude.{◌≡◌, ℕ, ◌<◌, bit_xor}
-use Rattle.std.specs.Coded.{le_prop}
+use Rattle.std.specs.{Prelude.{◌≡◌, ℕ, ◌<◌, bit_xor}, Coded.{le_prop}}
 use Rattle.std.proofs.Common.{ap, subst, lit<}
-use Rattle.p25_gf64.specs.Product.{product, product_power}
-use Rattle.p25_gf64.specs.ProductLaws.{xor_below, product-lt, product_power-lt}
-use Rattle.p25_gf64.specs.declared.symbol.Sym.{Sym}
+use Rattle.p25_gf64.specs.{Product.{product, product_power}, ProductLaws.{xor_below, product-lt, product_power-lt}, declared.symbol.Sym.{Sym}}
 
 -- the number that a symbol is
 abbrev pub number : Sym → ℕ

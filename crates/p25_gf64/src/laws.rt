@@ -1,10 +1,7 @@
 //! The laws of the field, for those who prove what they compute with symbols.
 
 ghost use Rattle.std.specs.Prelude.{◌≡◌, ◌≢◌, ◌⊎◌, ℕ, true, ◌<◌};
-ghost use Rattle.p25_gf64.specs.declared.symbol.Sym.{Sym};
-ghost use Rattle.p25_gf64.specs.Field.{FieldLaws, power};
-ghost use Rattle.p25_gf64.specs.Symbol.{number, alpha};
-ghost use Rattle.p25_gf64.specs.Gf64.{gf64};
+ghost use Rattle.p25_gf64.specs.{declared.symbol.Sym.{Sym}, Field.{FieldLaws, power}, Symbol.{number, alpha}, Gf64.{gf64}};
 
 /// The symbols are a field.
 pub fn field_laws()

@@ -25,10 +25,7 @@ impl Default for Sym {
 }
 
 impl Sym {
-    ghost use Rattle.p25_gf64.specs.Field.{power};
-    ghost use Rattle.p25_gf64.specs.Product.{product};
-    ghost use Rattle.p25_gf64.specs.Symbol.{number, alpha};
-    ghost use Rattle.p25_gf64.specs.Gf64.{gf64};
+    ghost use Rattle.p25_gf64.specs.{Field.{power}, Product.{product}, Symbol.{number, alpha}, Gf64.{gf64}};
 
     /// The symbol 0.
     pub const ZERO: Sym = Sym { value: 0 };

@@ -1,17 +1,9 @@
 -- The shorter code by the tables of the longer one: six zeros in front add nothing to a sum, and wrong bits among them leave none.
-use Rattle.std.proofs.Common.{◌≡◌, ℕ, ◌/◌, ◌^◌, ◌<◌, ◌≤◌, inl, inr, List, [], ◌∷◌, ◌++◌, length, Option, Some, None, bit_xor, refl, ap, sym, ◌∙◌, subst, arith}
-use Rattle.std.specs.Option.{MatchOption}
-use Rattle.std.specs.Int.Bits.{xor_zero_l}
-use Rattle.std.specs.Int.RustNames.{count_ones}
-use Rattle.std.proofs.lemmas.Bool.{cases_lt}
-use Rattle.p25_code.specs.Binary.{check_columns}
-use Rattle.p25_code.specs.WrongBits.{number_sum, AreWrong, NoneWrong}
-use Rattle.p25_code.proofs.ParityLaws.{number_sum-zero}
-use Rattle.p25_code.proofs.WrongLaws.{number_sum-append}
-use Rattle.p25_code.proofs.NumberCodeLaws.{one_wrong}
-use Rattle.p25_golay.specs.Golay18Laws.{short_rows}
-use Rattle.p25_golay.specs.Golay24Laws.{check_rows}
-use Rattle.p25_golay.specs.Golay24Readings.{golay24_is_checked}
+use Rattle.std.proofs.{Common.{◌≡◌, ℕ, ◌/◌, ◌^◌, ◌<◌, ◌≤◌, inl, inr, List, [], ◌∷◌, ◌++◌, length, Option, Some, None, bit_xor, refl, ap, sym, ◌∙◌, subst, arith}, lemmas.Bool.{cases_lt}}
+use Rattle.std.specs.{Option.{MatchOption}, Int.Bits.{xor_zero_l}, Int.RustNames.{count_ones}}
+use Rattle.p25_code.specs.{Binary.{check_columns}, WrongBits.{number_sum, AreWrong, NoneWrong}}
+use Rattle.p25_code.proofs.{ParityLaws.{number_sum-zero}, WrongLaws.{number_sum-append}, NumberCodeLaws.{one_wrong}}
+use Rattle.p25_golay.specs.{Golay18Laws.{short_rows}, Golay24Laws.{check_rows}, Golay24Readings.{golay24_is_checked}}
 
 -- the rows of the six zeros
 abbrev first_rows : List ℕ

@@ -1,14 +1,11 @@
 -- The tables hold the check bits of all messages, and the messages of all check bits: the checker computes each entry, and that
 -- each list of rows undoes the other.
 use Rattle.std.proofs.Common.{◌≡◌, ℕ, ◌/◌, ◌%◌, ◌^◌, ◌<◌, List, [], ◌∷◌, ◌++◌, length, map, get_or, bit_xor, refl, ap, ap₂, sym, ◌∙◌, arith}
-use Rattle.p25_bits.specs.Bits.{bits_of}
-use Rattle.p25_bits.specs.Numbers.{each_below}
+use Rattle.p25_bits.specs.{Bits.{bits_of}, Numbers.{each_below}}
 use Rattle.p25_bits.proofs.NumbersLaws.{get_or-each_below}
-use Rattle.p25_code.specs.Binary.{syndrome_of, check_columns}
-use Rattle.p25_code.specs.WrongBits.{number_sum, AreInverse}
+use Rattle.p25_code.specs.{Binary.{syndrome_of, check_columns}, WrongBits.{number_sum, AreInverse}}
 use Rattle.p25_code.proofs.WrongLaws.{number_sum-append, number_sum-mod, are_inverse}
-use Rattle.p25_golay.specs.Golay24Laws.{check_rows, message_rows}
-use Rattle.p25_golay.specs.declared.golay24.TheConstants.{CHECKS, MESSAGES}
+use Rattle.p25_golay.specs.{Golay24Laws.{check_rows, message_rows}, declared.golay24.TheConstants.{CHECKS, MESSAGES}}
 
 -- the sums of six rows
 abbrev sums_of : List ℕ → List ℕ

@@ -1,14 +1,10 @@
 -- The laws of the shortened Golay code (18,6).
-use Rattle.std.specs.Prelude.{◌≡◌, ℕ, ◌++◌, Bool, true, false, List, [], ◌∷◌, refl}
-use Rattle.std.specs.Int.Bits.{xor_zero_l}
+use Rattle.std.specs.{Prelude.{◌≡◌, ℕ, ◌++◌, Bool, true, false, List, [], ◌∷◌, refl}, Int.Bits.{xor_zero_l}, Bool.{beq}}
 use Rattle.std.proofs.Common.{arith, sym, ◌∙◌}
-use Rattle.std.specs.Bool.{beq}
 use Rattle.p25_bits.specs.Bits.{bits_of}
-use Rattle.p25_code.specs.Binary.{IsChecked, check_columns, systematic, syndrome_of, weight_of}
-use Rattle.p25_code.specs.CodeLaws.{IsBlockCode, IsSystematic, is_heavy, all_bits}
+use Rattle.p25_code.specs.{Binary.{IsChecked, check_columns, systematic, syndrome_of, weight_of}, CodeLaws.{IsBlockCode, IsSystematic, is_heavy, all_bits}}
 use Rattle.p25_code.proofs.BinaryLaws.{is_code}
-use Rattle.p25_golay.specs.Golay18.{IsGolay18}
-use Rattle.p25_golay.specs.Golay24Laws.{to_checked, from_checked}
+use Rattle.p25_golay.specs.{Golay18.{IsGolay18}, Golay24Laws.{to_checked, from_checked}}
 
 -- the check bits of the last six messages with one 1 of the Golay code (24,12)
 abbrev pub short_rows : List ℕ

@@ -1,7 +1,6 @@
 -- The extended Golay code (24,12) of TIA-102.BAAA.
 use Rattle.std.specs.Prelude.{◌≡◌, ◌%◌, Bool, List, length, take}
-use Rattle.p25_bits.specs.Bits.{field_of}
-use Rattle.p25_bits.specs.Divisible.{IsDivisible}
+use Rattle.p25_bits.specs.{Bits.{field_of}, Divisible.{IsDivisible}}
 use Rattle.p25_code.specs.Binary.{weight_of}
 
 -- 24 bits of even weight, of which the first 23, as a polynomial with the first bit highest, are divisible by

@@ -1,16 +1,11 @@
 -- The laws of the Golay code (24,12).
 use Rattle.std.specs.Prelude.{◌≡◌, ℕ, ◌<◌, ◌≤◌, ◌^◌, ◌+◌, ◌*◌, ◌%◌, ◌++◌, Bool, true, List, [], ◌∷◌, length, take, drop, map, bit_xor, refl, false}
-use Rattle.std.specs.Int.Bits.{xor_zero_r}
-use Rattle.std.proofs.Common.{arith, ap, ap₂, sym, ◌∙◌, take-append-drop}
-use Rattle.std.proofs.lemmas.List.{length-take-le}
-use Rattle.std.specs.Bool.{beq}
-use Rattle.p25_bits.specs.Bits.{bits_of}
-use Rattle.p25_bits.specs.Divisible.{HasDegree}
-use Rattle.p25_code.specs.Binary.{IsChecked, check_columns, systematic, syndrome_of, weight_of}
-use Rattle.p25_code.specs.WrongBits.{number_sum}
+use Rattle.std.specs.{Int.Bits.{xor_zero_r}, Bool.{beq}}
+use Rattle.std.proofs.{Common.{arith, ap, ap₂, sym, ◌∙◌, take-append-drop}, lemmas.List.{length-take-le}}
+use Rattle.p25_bits.specs.{Bits.{bits_of}, Divisible.{HasDegree}}
+use Rattle.p25_code.specs.{Binary.{IsChecked, check_columns, systematic, syndrome_of, weight_of}, WrongBits.{number_sum}}
 use Rattle.p25_code.specs.CodeLaws.{IsBlockCode, IsSystematic, is_heavy, all_bits}
-use Rattle.p25_code.proofs.SyndromeLaws.{syndrome_of-append}
-use Rattle.p25_code.proofs.BinaryLaws.{length_checked, is_code}
+use Rattle.p25_code.proofs.{SyndromeLaws.{syndrome_of-append}, BinaryLaws.{length_checked, is_code}}
 use Rattle.p25_code.proofs.RemainderLaws.{power_remainder, remainders, remainders-divisible, divisible-remainders}
 use Rattle.p25_code.proofs.ParityLaws.{mixed_passes, with_parity, syndrome_of-with_parity}
 use Rattle.p25_golay.specs.Golay24.{IsGolay24}

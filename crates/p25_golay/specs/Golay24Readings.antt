@@ -1,13 +1,10 @@
 -- The reading of the Golay code (24,12) as a function.
-use Rattle.std.specs.Prelude.{◌++◌, Bool, List, Option, refl}
+use Rattle.std.specs.{Prelude.{◌++◌, Bool, List, Option, refl}, Bool.{beq}}
 use Rattle.std.proofs.Common.{arith}
-use Rattle.std.specs.Bool.{beq}
-use Rattle.p25_code.specs.Binary.{IsChecked, check_columns}
-use Rattle.p25_code.specs.Readings.{Tested, bits_searched, tested_as, reading_of, IsReadAs, IsReadAs-reading_of}
+use Rattle.p25_code.specs.{Binary.{IsChecked, check_columns}, Readings.{Tested, bits_searched, tested_as, reading_of, IsReadAs, IsReadAs-reading_of}}
 use Rattle.p25_code.specs.CodeLaws.{IsCheckedCode}
 use Rattle.p25_code.proofs.BinaryLaws.{IsChecked-tested}
-use Rattle.p25_golay.specs.Golay24.{IsGolay24}
-use Rattle.p25_golay.specs.Golay24Laws.{code, check_rows, to_checked, from_checked, golay24_is_code}
+use Rattle.p25_golay.specs.{Golay24.{IsGolay24}, Golay24Laws.{code, check_rows, to_checked, from_checked, golay24_is_code}}
 
 -- whether a list of bits is a word can be tested
 IsGolay24-tested : Tested IsGolay24

@@ -1,8 +1,6 @@
 //! The shortened Golay code (18,6).
 
-ghost use Rattle.p25_golay.specs.Golay18.{IsGolay18};
-ghost use Rattle.p25_golay.specs.Golay18Laws.{short_rows};
-ghost use Rattle.p25_golay.specs.Golay18Readings.{golay18_reading_of, golay18_is_checked};
+ghost use Rattle.p25_golay.specs.{Golay18.{IsGolay18}, Golay18Laws.{short_rows}, Golay18Readings.{golay18_reading_of, golay18_is_checked}};
 
 use crate::golay24::Golay24;
 use p25_code::CheckedCode;

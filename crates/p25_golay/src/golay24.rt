@@ -2,9 +2,7 @@
 
 ghost use Rattle.std.specs.Prelude.{◌≡◌, ◌<◌};
 ghost use Rattle.p25_code.specs.WrongBits.{number_sum};
-ghost use Rattle.p25_golay.specs.Golay24.{IsGolay24};
-ghost use Rattle.p25_golay.specs.Golay24Laws.{check_rows, message_rows};
-ghost use Rattle.p25_golay.specs.Golay24Readings.{golay24_reading_of, golay24_is_checked};
+ghost use Rattle.p25_golay.specs.{Golay24.{IsGolay24}, Golay24Laws.{check_rows, message_rows}, Golay24Readings.{golay24_reading_of, golay24_is_checked}};
 
 use p25_bits::sums;
 use p25_code::{CheckedCode, wrong_by_halves};

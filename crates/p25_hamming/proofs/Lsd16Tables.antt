@@ -1,14 +1,11 @@
 -- The tables hold the check bits of all messages, and the messages of all check bits: the checker computes each entry, and that
 -- each list of rows undoes the other.
 use Rattle.std.proofs.Common.{◌≡◌, ℕ, ◌<◌, List, map, get_or, refl, ap, ◌∙◌}
-use Rattle.p25_bits.specs.Bits.{bits_of}
-use Rattle.p25_bits.specs.Numbers.{each_below}
+use Rattle.p25_bits.specs.{Bits.{bits_of}, Numbers.{each_below}}
 use Rattle.p25_bits.proofs.NumbersLaws.{get_or-each_below}
-use Rattle.p25_code.specs.Binary.{syndrome_of, check_columns}
-use Rattle.p25_code.specs.WrongBits.{number_sum, AreInverse}
+use Rattle.p25_code.specs.{Binary.{syndrome_of, check_columns}, WrongBits.{number_sum, AreInverse}}
 use Rattle.p25_code.proofs.WrongLaws.{are_inverse}
-use Rattle.p25_hamming.specs.Lsd16Laws.{check_rows, message_rows}
-use Rattle.p25_hamming.specs.declared.lsd16.TheConstants.{CHECKS, MESSAGES}
+use Rattle.p25_hamming.specs.{Lsd16Laws.{check_rows, message_rows}, declared.lsd16.TheConstants.{CHECKS, MESSAGES}}
 
 checks_computed : CHECKS ≡ each_below 256 (number_sum check_rows)
 unfolding each_below number_sum syndrome_of bits_of

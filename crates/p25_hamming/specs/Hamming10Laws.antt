@@ -1,9 +1,7 @@
 -- The laws of the Hamming code (10,6).
-use Rattle.std.specs.Prelude.{◌≡◌, ◌++◌, Bool, true, List, refl}
-use Rattle.p25_code.specs.Binary.{IsChecked, check_columns, systematic, syndrome_of, weight_of}
-use Rattle.p25_code.specs.CodeLaws.{IsBlockCode, IsSystematic, is_heavy, all_bits}
+use Rattle.std.specs.{Prelude.{◌≡◌, ◌++◌, Bool, true, List, refl}, Bool.{beq}}
+use Rattle.p25_code.specs.{Binary.{IsChecked, check_columns, systematic, syndrome_of, weight_of}, CodeLaws.{IsBlockCode, IsSystematic, is_heavy, all_bits}}
 use Rattle.p25_code.proofs.BinaryLaws.{sum_checked, checked_sum, length_checked, is_code}
-use Rattle.std.specs.Bool.{beq}
 use Rattle.std.proofs.Common.{arith}
 use Rattle.p25_bits.specs.Bits.{bits_of}
 use Rattle.p25_hamming.specs.Hamming10.{check_rows, IsHamming10}

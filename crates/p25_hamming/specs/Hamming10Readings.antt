@@ -1,13 +1,10 @@
 -- The reading of the Hamming code (10,6) as a function.
-use Rattle.std.specs.Prelude.{◌++◌, Bool, List, Option, refl}
+use Rattle.std.specs.{Prelude.{◌++◌, Bool, List, Option, refl}, Bool.{beq}}
 use Rattle.std.proofs.Common.{arith}
-use Rattle.std.specs.Bool.{beq}
-use Rattle.p25_code.specs.Binary.{IsChecked, check_columns}
-use Rattle.p25_code.specs.Readings.{Tested, bits_searched, tested_as, reading_of, IsReadAs, IsReadAs-reading_of}
+use Rattle.p25_code.specs.{Binary.{IsChecked, check_columns}, Readings.{Tested, bits_searched, tested_as, reading_of, IsReadAs, IsReadAs-reading_of}}
 use Rattle.p25_code.specs.CodeLaws.{IsCheckedCode}
 use Rattle.p25_code.proofs.BinaryLaws.{IsChecked-tested}
-use Rattle.p25_hamming.specs.Hamming10.{check_rows, IsHamming10}
-use Rattle.p25_hamming.specs.Hamming10Laws.{code, to_checked, from_checked, hamming10_is_code}
+use Rattle.p25_hamming.specs.{Hamming10.{check_rows, IsHamming10}, Hamming10Laws.{code, to_checked, from_checked, hamming10_is_code}}
 
 -- whether a list of bits is a word can be tested
 IsHamming10-tested : Tested IsHamming10

@@ -1,13 +1,9 @@
 -- The laws of the code (16,8) of the low speed data.
-use Rattle.std.specs.Prelude.{◌≡◌, ℕ, ◌<◌, ◌^◌, ◌++◌, Bool, true, List, [], ◌∷◌, length, refl}
+use Rattle.std.specs.{Prelude.{◌≡◌, ℕ, ◌<◌, ◌^◌, ◌++◌, Bool, true, List, [], ◌∷◌, length, refl}, Bool.{beq}}
 use Rattle.std.proofs.Common.{arith, ap, sym, ◌∙◌}
-use Rattle.std.specs.Bool.{beq}
-use Rattle.p25_bits.specs.Bits.{bits_of}
-use Rattle.p25_bits.specs.Divisible.{HasDegree}
-use Rattle.p25_code.specs.Binary.{IsChecked, check_columns, systematic, syndrome_of, weight_of}
-use Rattle.p25_code.specs.CodeLaws.{IsBlockCode, IsSystematic, is_heavy, all_bits}
-use Rattle.p25_code.proofs.BinaryLaws.{length_checked, is_code}
-use Rattle.p25_code.proofs.RemainderLaws.{power_remainder, remainders, remainders-divisible, divisible-remainders}
+use Rattle.p25_bits.specs.{Bits.{bits_of}, Divisible.{HasDegree}}
+use Rattle.p25_code.specs.{Binary.{IsChecked, check_columns, systematic, syndrome_of, weight_of}, CodeLaws.{IsBlockCode, IsSystematic, is_heavy, all_bits}}
+use Rattle.p25_code.proofs.{BinaryLaws.{length_checked, is_code}, RemainderLaws.{power_remainder, remainders, remainders-divisible, divisible-remainders}}
 use Rattle.p25_hamming.specs.Lsd16.{IsLsd16}
 
 -- the remainders of x^15 to x^8 by the generator: the check bits of the messages with one 1

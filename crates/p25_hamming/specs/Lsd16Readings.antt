@@ -1,13 +1,10 @@
 -- The reading of the code (16,8) of the low speed data (LSD) as a function.
-use Rattle.std.specs.Prelude.{◌++◌, Bool, List, Option, refl}
+use Rattle.std.specs.{Prelude.{◌++◌, Bool, List, Option, refl}, Bool.{beq}}
 use Rattle.std.proofs.Common.{arith}
-use Rattle.std.specs.Bool.{beq}
-use Rattle.p25_code.specs.Binary.{IsChecked, check_columns}
-use Rattle.p25_code.specs.Readings.{Tested, bits_searched, tested_as, reading_of, IsReadAs, IsReadAs-reading_of}
+use Rattle.p25_code.specs.{Binary.{IsChecked, check_columns}, Readings.{Tested, bits_searched, tested_as, reading_of, IsReadAs, IsReadAs-reading_of}}
 use Rattle.p25_code.specs.CodeLaws.{IsCheckedCode}
 use Rattle.p25_code.proofs.BinaryLaws.{IsChecked-tested}
-use Rattle.p25_hamming.specs.Lsd16.{IsLsd16}
-use Rattle.p25_hamming.specs.Lsd16Laws.{code, check_rows, to_checked, from_checked, lsd16_is_code}
+use Rattle.p25_hamming.specs.{Lsd16.{IsLsd16}, Lsd16Laws.{code, check_rows, to_checked, from_checked, lsd16_is_code}}
 
 -- whether a list of bits is a word can be tested
 IsLsd16-tested : Tested IsLsd16

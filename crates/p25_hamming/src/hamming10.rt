@@ -1,7 +1,6 @@
 //! The Hamming code (10,6).
 
-ghost use Rattle.p25_hamming.specs.Hamming10.{check_rows, IsHamming10};
-ghost use Rattle.p25_hamming.specs.Hamming10Readings.{hamming10_reading_of, hamming10_is_checked};
+ghost use Rattle.p25_hamming.specs.{Hamming10.{check_rows, IsHamming10}, Hamming10Readings.{hamming10_reading_of, hamming10_is_checked}};
 
 use p25_bits::sums;
 use p25_code::{CheckedCode, wrong_by_rows};

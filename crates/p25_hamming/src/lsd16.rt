@@ -2,9 +2,7 @@
 
 ghost use Rattle.std.specs.Prelude.{◌≡◌, ◌<◌};
 ghost use Rattle.p25_code.specs.WrongBits.{number_sum};
-ghost use Rattle.p25_hamming.specs.Lsd16.{IsLsd16};
-ghost use Rattle.p25_hamming.specs.Lsd16Laws.{check_rows, message_rows};
-ghost use Rattle.p25_hamming.specs.Lsd16Readings.{lsd16_reading_of, lsd16_is_checked};
+ghost use Rattle.p25_hamming.specs.{Lsd16.{IsLsd16}, Lsd16Laws.{check_rows, message_rows}, Lsd16Readings.{lsd16_reading_of, lsd16_is_checked}};
 
 use p25_bits::sums;
 use p25_code::{CheckedCode, wrong_by_halves};

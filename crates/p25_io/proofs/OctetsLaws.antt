@@ -1,10 +1,8 @@
 -- Laws for a loop that reads to the end, or that writes piece after piece.
 use Rattle.std.proofs.Common.{ℕ, ◌+◌, ◌-◌, ◌≡◌, ◌≤◌, Option, None, Some, List, [], ◌++◌, length, take, min, refl, sym, ap, subst, ◌∙◌, arith, append_assoc, append-nil, length-append, length-take}
-use Rattle.std.proofs.lemmas.List.{take_min, take-append-le}
-use Rattle.std.proofs.Math.Seq.{take-append-add}
+use Rattle.std.proofs.{lemmas.List.{take_min, take-append-le}, Math.Seq.{take-append-add}}
 use Rattle.std.specs.Io.KnownBytes.{prepend_known, append_known}
-use Rattle.p25_io.specs.Faults.{Rose}
-use Rattle.p25_io.specs.Octets.{Taken, Appended, AppendedBeginning}
+use Rattle.p25_io.specs.{Faults.{Rose}, Octets.{Taken, Appended, AppendedBeginning}}
 
 -- equal octets may stand for each other
 pub Taken-same : {first now : Option (List ℕ)} {xs ys : List ℕ} → xs ≡ ys → Taken first xs now → Taken first ys now

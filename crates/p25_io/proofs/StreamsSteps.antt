@@ -1,10 +1,7 @@
 -- What a writer took in one step and then in another.
-use Rattle.std.proofs.Common.{◌≡◌, ℕ, ◌+◌, ◌-◌, List, ◌++◌, Option, length, take, drop, arith, ap, sym, subst, ◌∙◌, length-append}
-use Rattle.std.proofs.lemmas.List.{take_rest}
-use Rattle.std.proofs.Math.Seq.{take-add}
+use Rattle.std.proofs.{Common.{◌≡◌, ℕ, ◌+◌, ◌-◌, List, ◌++◌, Option, length, take, drop, arith, ap, sym, subst, ◌∙◌, length-append}, lemmas.List.{take_rest}, Math.Seq.{take-add}}
 use Rattle.std.proofs.KnownBytes.{Appends-trans}
-use Rattle.p25_io.specs.Asked.{Took}
-use Rattle.p25_io.specs.declared.asked.AskedWriter.{AskedWriter}
+use Rattle.p25_io.specs.{Asked.{Took}, declared.asked.AskedWriter.{AskedWriter}}
 
 -- the octets that are done and the next ones, of those that are left
 pub take-done_next : (piece : List ℕ) (done count : ℕ) → take (done + count) piece ≡ take done piece ++ take count (take (length piece - done) (drop done piece))

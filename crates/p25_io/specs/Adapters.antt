@@ -1,8 +1,6 @@
 -- What contracts see of the adapters over std's readers and writers.
-use Rattle.std.specs.Prelude.{ℕ, List, Option, take}
-use Rattle.std.specs.Io.KnownBytes.{Appends}
-use Rattle.p25_io.specs.declared.read_source.ReadSource.{ReadSource}
-use Rattle.p25_io.specs.declared.write_sink.WriteSink.{WriteSink}
+use Rattle.std.specs.{Prelude.{ℕ, List, Option, take}, Io.KnownBytes.{Appends}}
+use Rattle.p25_io.specs.{declared.read_source.ReadSource.{ReadSource}, declared.write_sink.WriteSink.{WriteSink}}
 
 -- the reader inside
 abbrev pub reader_of : {R : Type 0} → ReadSource R → R

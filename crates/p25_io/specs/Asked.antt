@@ -1,6 +1,5 @@
 -- What a writer took.
-use Rattle.std.specs.Prelude.{◌≡◌, ℕ, ◌+◌, List, Option, length}
-use Rattle.std.specs.Io.KnownBytes.{Appends}
+use Rattle.std.specs.{Prelude.{◌≡◌, ℕ, ◌+◌, List, Option, length}, Io.KnownBytes.{Appends}}
 use Rattle.p25_io.specs.declared.asked.AskedWriter.{AskedWriter}
 
 -- a writer took these octets, and was flushed so many times

@@ -1,6 +1,5 @@
 -- How the logic stores the events of a history.
-use Rattle.std.specs.Prelude.{◌≡◌, ℕ, List, [], cond, ◌==◌, refl}
-use Rattle.std.specs.Coded.{Coded, code_by, coded×, coded_ℕ, coded_list}
+use Rattle.std.specs.{Prelude.{◌≡◌, ℕ, List, [], cond, ◌==◌, refl}, Coded.{Coded, code_by, coded×, coded_ℕ, coded_list}}
 use Rattle.p25_io.specs.Events.{Event, Read, ReadFailed, Wrote, WriteFailed}
 
 -- the kind of an event, a count and octets

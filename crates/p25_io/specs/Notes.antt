@@ -1,6 +1,5 @@
 -- The event that a note of a call is.
-use Rattle.p25_io.specs.Events.{Event, Read, ReadFailed, Wrote, WriteFailed}
-use Rattle.p25_io.specs.declared.history.Note.{Note}
+use Rattle.p25_io.specs.{Events.{Event, Read, ReadFailed, Wrote, WriteFailed}, declared.history.Note.{Note}}
 use Rattle.p25_io.specs.declared.history.Note.TheVariants as note
 
 -- a call, as an event

@@ -1,6 +1,5 @@
 -- What a read takes from the octets that are left, and what a write adds to those that are written.
-use Rattle.std.specs.Prelude.{ℕ, ◌≡◌, ◌≤◌, ◌↔◌, Option, List, [], length, take, IfSome}
-use Rattle.std.specs.Io.KnownBytes.{prepend_known, append_known}
+use Rattle.std.specs.{Prelude.{ℕ, ◌≡◌, ◌≤◌, ◌↔◌, Option, List, [], length, take, IfSome}, Io.KnownBytes.{prepend_known, append_known}}
 
 -- these octets stood first in what was left before, and the others are left now; told octets stay told, untold ones untold
 pub record Taken (before : Option (List ℕ)) (octets : List ℕ) (now : Option (List ℕ)) : Type 0 where

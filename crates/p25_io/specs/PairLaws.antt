@@ -1,9 +1,7 @@
 -- No event leads from a pair to itself, and events after events join: by induction on the events, for the source and for the sink.
 use Rattle.std.specs.Prelude.{ℕ, List, [], ◌∷◌, ◌++◌, Option}
 use Rattle.std.proofs.Common.{refl, ◌∙◌, subst}
-use Rattle.p25_io.specs.declared.pair.Pair.{Pair}
-use Rattle.p25_io.specs.Events.{Event, Read, ReadFailed, Wrote, WriteFailed}
-use Rattle.p25_io.specs.Pairs.{SourceGoes, SinkGoes, PairGoes}
+use Rattle.p25_io.specs.{declared.pair.Pair.{Pair}, Events.{Event, Read, ReadFailed, Wrote, WriteFailed}, Pairs.{SourceGoes, SinkGoes, PairGoes}}
 
 pub SourceGoes-joins : {S : Type 0} (left : S → Option (List ℕ)) (faults : S → ℕ) (first next last : S) (xs ys : List Event)
     → SourceGoes left faults first xs next → SourceGoes left faults next ys last → SourceGoes left faults first (xs ++ ys) last

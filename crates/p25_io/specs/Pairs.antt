@@ -1,8 +1,6 @@
 -- What a source and a sink went through in some events.
 use Rattle.std.specs.Prelude.{◌≡◌, ℕ, ◌≤◌, List, [], ◌∷◌, Option, take, IfSome}
-use Rattle.p25_io.specs.declared.pair.Pair.{Pair}
-use Rattle.p25_io.specs.Events.{Event, Read, ReadFailed, Wrote, WriteFailed}
-use Rattle.p25_io.specs.Faults.{Rose, counted}
+use Rattle.p25_io.specs.{declared.pair.Pair.{Pair}, Events.{Event, Read, ReadFailed, Wrote, WriteFailed}, Faults.{Rose, counted}}
 use Rattle.p25_io.specs.Octets.{Taken, Kept, Appended}
 
 -- a source gave these octets; where it tells what is left, none exactly at its end

@@ -1,9 +1,7 @@
 -- What a reader and a writer of std went through in some events.
-use Rattle.std.specs.Prelude.{◌≡◌, ℕ, ◌+◌, List, [], ◌∷◌, ◌++◌, Option, length, take, Contains, IfSome}
-use Rattle.std.specs.List.{flat_map}
+use Rattle.std.specs.{Prelude.{◌≡◌, ℕ, ◌+◌, List, [], ◌∷◌, ◌++◌, Option, length, take, Contains, IfSome}, List.{flat_map}}
 use Rattle.std.specs.Io.KnownBytes.{Appends, Consumes, IsAtEnd}
-use Rattle.p25_io.specs.declared.streams.Streams.{Streams}
-use Rattle.p25_io.specs.Events.{Event, Read, ReadFailed, Wrote, WriteFailed}
+use Rattle.p25_io.specs.{declared.streams.Streams.{Streams}, Events.{Event, Read, ReadFailed, Wrote, WriteFailed}}
 
 -- the reader and the writer, and the events that their port went through
 abbrev pub reader_in : {R W : Type 0} → Streams R W → R

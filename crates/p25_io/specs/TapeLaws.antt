@@ -1,12 +1,7 @@
 -- No event leads from a tape to itself, and events after events join: what is told of the last is told of those before.
 use Rattle.std.specs.Prelude.{List, [], ◌++◌, Some}
-use Rattle.std.proofs.Common.{refl, sym, ◌∙◌, ap}
-use Rattle.std.proofs.lemmas.List.{append-nil, append_assoc}
-use Rattle.p25_io.specs.declared.tape.Tape.{Tape}
-use Rattle.p25_io.specs.Events.{Event}
-use Rattle.p25_io.specs.Tapes.{calls_on, TapeGoes}
-use Rattle.p25_io.specs.MemorySource.{Supply}
-use Rattle.p25_io.specs.SliceSink.{Storage}
+use Rattle.std.proofs.{Common.{refl, sym, ◌∙◌, ap}, lemmas.List.{append-nil, append_assoc}}
+use Rattle.p25_io.specs.{declared.tape.Tape.{Tape}, Events.{Event}, Tapes.{calls_on, TapeGoes}, MemorySource.{Supply}, SliceSink.{Storage}}
 use Rattle.p25_io.specs.PairLaws.{SourceGoes-joins, SinkGoes-joins}
 
 pub TapeGoes-stays : (tape : Tape) → TapeGoes tape [] tape

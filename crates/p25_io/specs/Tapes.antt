@@ -2,9 +2,7 @@
 use Rattle.std.specs.Prelude.{◌≡◌, ℕ, Bool, false, List, ◌++◌, map, Option, Some, None}
 use Rattle.p25_io.specs.declared.tape.Call.{Call}
 use Rattle.p25_io.specs.declared.tape.Call.TheVariants.{Read as ReadCall, ReadFailed as ReadFailedCall, Wrote as WroteCall, WriteFailed as WriteFailedCall}
-use Rattle.p25_io.specs.declared.tape.Tape.{Tape}
-use Rattle.p25_io.specs.Events.{Event, Read, ReadFailed, Wrote, WriteFailed}
-use Rattle.p25_io.specs.Pairs.{SourceGoes, SinkGoes}
+use Rattle.p25_io.specs.{declared.tape.Tape.{Tape}, Events.{Event, Read, ReadFailed, Wrote, WriteFailed}, Pairs.{SourceGoes, SinkGoes}}
 
 -- a call, as an event
 abbrev pub event_of : Call → Event

@@ -1,7 +1,5 @@
 // One of std's readers and one of its writers, with what they were asked for, which exists only in proofs.
-ghost use Rattle.std.specs.Prelude.{◌≡◌, ◌≤◌, ◌+◌, [], length, take, OnErr, OnOk, IfOk};
-ghost use Rattle.std.specs.Io.{ReadsAtMost};
-ghost use Rattle.std.specs.Io.KnownBytes.{ReadConsumes};
+ghost use Rattle.std.specs.{Prelude.{◌≡◌, ◌≤◌, ◌+◌, [], length, take, OnErr, OnOk, IfOk}, Io.{ReadsAtMost}, Io.KnownBytes.{ReadConsumes}};
 
 use super::tally::{Amount, Tally};
 use crate::Failed;

@@ -1,7 +1,6 @@
 //! A sink that keeps a number of octets, and no octet.
 ghost use Rattle.std.specs.Prelude.{◌≡◌, ◌+◌, ◌-◌, ◌^◌, length, min, None, IsOk, OnOk, OnErr};
-ghost use Rattle.p25_io.specs.Faults.{HasCause};
-ghost use Rattle.p25_io.specs.Octets.{Appended, AppendedBeginning};
+ghost use Rattle.p25_io.specs.{Faults.{HasCause}, Octets.{Appended, AppendedBeginning}};
 
 use crate::{Failed, Sink};
 use std::marker::Model;

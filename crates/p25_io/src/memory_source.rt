@@ -1,7 +1,6 @@
 //! A source over octets in memory, in which chosen calls fail.
 ghost use Rattle.std.specs.Prelude.{◌≡◌, ◌<◌, ◌↔◌, ◌++◌, length, take, drop, min, Some, Contains, IsErr, IfOk, OnErr};
-ghost use Rattle.p25_io.specs.Faults.{counted, faults_after, HasCause};
-ghost use Rattle.p25_io.specs.Octets.{Gives, Kept};
+ghost use Rattle.p25_io.specs.{Faults.{counted, faults_after, HasCause}, Octets.{Gives, Kept}};
 
 use crate::{Failed, Source};
 use std::marker::Model;

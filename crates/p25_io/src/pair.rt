@@ -24,8 +24,7 @@ impl<'a, S: Source, K: Sink> Pair<'a, S, K> {
 }
 
 impl<'a, S: Source, K: Sink> Port for Pair<'a, S, K> {
-    ghost use Rattle.p25_io.specs.Pairs.{PairGoes};
-    ghost use Rattle.p25_io.specs.PairLaws.{PairGoes-stays, PairGoes-joins};
+    ghost use Rattle.p25_io.specs.{Pairs.{PairGoes}, PairLaws.{PairGoes-stays, PairGoes-joins}};
 
     ghost moves = { PairGoes S.left S.faults K.written K.faults };
 

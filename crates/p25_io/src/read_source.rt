@@ -1,9 +1,6 @@
 //! A source over one of std's readers.
-ghost use Rattle.std.specs.Prelude.{◌≡◌, ◌<◌, length, None, IfOk, OnErr};
-ghost use Rattle.std.specs.Io.KnownBytes.{ReadConsumes};
-ghost use Rattle.p25_io.specs.Faults.{faults_after, HasCause};
-ghost use Rattle.p25_io.specs.Octets.{Gives, Kept};
-ghost use Rattle.p25_io.specs.Adapters.{reader_of, read_faults};
+ghost use Rattle.std.specs.{Prelude.{◌≡◌, ◌<◌, length, None, IfOk, OnErr}, Io.KnownBytes.{ReadConsumes}};
+ghost use Rattle.p25_io.specs.{Faults.{faults_after, HasCause}, Octets.{Gives, Kept}, Adapters.{reader_of, read_faults}};
 
 use crate::{Failed, Source};
 use std::io::Read;

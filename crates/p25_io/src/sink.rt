@@ -1,7 +1,6 @@
 //! Where octets go to.
 ghost use Rattle.std.specs.Prelude.{ℕ, List, Option, OnOk, OnErr};
-ghost use Rattle.p25_io.specs.Faults.{HasCause};
-ghost use Rattle.p25_io.specs.Octets.{Appended, AppendedBeginning};
+ghost use Rattle.p25_io.specs.{Faults.{HasCause}, Octets.{Appended, AppendedBeginning}};
 
 use crate::Failed;
 

@@ -1,7 +1,6 @@
 //! A sink into memory that was lent to it, in which chosen calls fail.
 ghost use Rattle.std.specs.Prelude.{◌≡◌, ◌+◌, ◌-◌, ◌<◌, ◌≤◌, ◌⊎◌, ◌↔◌, ◌++◌, [], length, take, min, Some, Contains, IsErr, OnOk, OnErr};
-ghost use Rattle.p25_io.specs.Faults.{counted, faults_after, HasCause};
-ghost use Rattle.p25_io.specs.Octets.{Appended, AppendedBeginning};
+ghost use Rattle.p25_io.specs.{Faults.{counted, faults_after, HasCause}, Octets.{Appended, AppendedBeginning}};
 
 use crate::{Failed, Sink};
 use std::marker::Model;

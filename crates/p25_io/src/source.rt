@@ -1,7 +1,6 @@
 //! Where octets come from.
 ghost use Rattle.std.specs.Prelude.{◌≡◌, ◌<◌, ℕ, List, Option, length, IfOk, OnErr};
-ghost use Rattle.p25_io.specs.Faults.{HasCause};
-ghost use Rattle.p25_io.specs.Octets.{Gives, Kept};
+ghost use Rattle.p25_io.specs.{Faults.{HasCause}, Octets.{Gives, Kept}};
 
 use crate::Failed;
 

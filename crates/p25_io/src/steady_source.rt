@@ -1,7 +1,6 @@
 //! A source over octets in memory that never fails.
 ghost use Rattle.std.specs.Prelude.{◌≡◌, ◌<◌, ◌++◌, length, take, drop, min, Some, IfOk, OnErr};
-ghost use Rattle.p25_io.specs.Faults.{HasCause};
-ghost use Rattle.p25_io.specs.Octets.{Gives, Kept};
+ghost use Rattle.p25_io.specs.{Faults.{HasCause}, Octets.{Gives, Kept}};
 
 use crate::{Failed, Source};
 use std::marker::Model;

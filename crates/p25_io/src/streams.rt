@@ -44,8 +44,7 @@ impl<R: Read, W: Write> Streams<R, W> {
 }
 
 impl<R: Read, W: Write> Port for Streams<R, W> {
-    ghost use Rattle.p25_io.specs.Streams.{StreamsGo};
-    ghost use Rattle.p25_io.specs.StreamsLaws.{StreamsGo-stays, StreamsGo-joins};
+    ghost use Rattle.p25_io.specs.{Streams.{StreamsGo}, StreamsLaws.{StreamsGo-stays, StreamsGo-joins}};
 
     ghost moves = { StreamsGo R.remaining W.contents };
 

@@ -1,8 +1,7 @@
 //! A port in memory that tells every call.
 
 ghost use Rattle.std.specs.Prelude.{◌≡◌, false, List, [], ◌∷◌, ◌++◌};
-ghost use Rattle.p25_io.specs.Events.{Read};
-ghost use Rattle.p25_io.specs.Tapes.{TapeGoes, events_of, written_as};
+ghost use Rattle.p25_io.specs.{Events.{Read}, Tapes.{TapeGoes, events_of, written_as}};
 
 use crate::{Failed, MemorySource, Port, Sink, SliceSink, Source};
 use std::alloc::Global;

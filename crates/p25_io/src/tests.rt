@@ -1,7 +1,6 @@
 //! Loops over any source and any sink, which are proved from the traits alone, and what they do at each type.
 ghost use Rattle.std.specs.Prelude.{◌≡◌, ◌<◌, length, take, flat_map, IfOk, IfSome, OnOk, OnErr};
-ghost use Rattle.p25_io.specs.Faults.{HasCause};
-ghost use Rattle.p25_io.specs.Octets.{Taken, Appended, AppendedBeginning};
+ghost use Rattle.p25_io.specs.{Faults.{HasCause}, Octets.{Taken, Appended, AppendedBeginning}};
 
 use super::*;
 use std::test::Fail;

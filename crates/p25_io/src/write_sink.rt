@@ -1,9 +1,6 @@
 //! A sink over one of std's writers.
-ghost use Rattle.std.specs.Prelude.{◌≡◌, None, OnOk, OnErr};
-ghost use Rattle.std.specs.Io.KnownBytes.{Appends};
-ghost use Rattle.p25_io.specs.Faults.{faults_after, HasCause};
-ghost use Rattle.p25_io.specs.Octets.{Appended, AppendedBeginning};
-ghost use Rattle.p25_io.specs.Adapters.{writer_of, write_faults, AppendsBeginning};
+ghost use Rattle.std.specs.{Prelude.{◌≡◌, None, OnOk, OnErr}, Io.KnownBytes.{Appends}};
+ghost use Rattle.p25_io.specs.{Faults.{faults_after, HasCause}, Octets.{Appended, AppendedBeginning}, Adapters.{writer_of, write_faults, AppendsBeginning}};
 
 use crate::{Failed, Sink};
 use std::io::Write;

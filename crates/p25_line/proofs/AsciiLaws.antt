@@ -1,16 +1,9 @@
 -- Texts whose octets are all below 128: numbers, digits, lists with commas, and words that are joined. By tests of octets, which compute.
 use Rattle.std.proofs.Common.{◌≡◌, ℕ, zero, suc, ◌/◌, ◌%◌, ◌<◌, ◌==◌, ◌&&◌, Bool, true, false, cond, List, [], ◌∷◌, ◌++◌, length, drop, map, slice_index, refl, ap₂, ◌∙◌, arith}
-use Rattle.std.specs.Prelude.{IsAscii, decimal, nat_lt}
-use Rattle.std.specs.Fmt.{digit_glyph, digits, digits_onto}
-use Rattle.std.specs.List.{join_with_byte, list_all}
-use Rattle.std.proofs.lemmas.Bool.{and_parts, lt-ltb, ltb-true}
-use Rattle.std.proofs.lemmas.List.Folds.{list_all-append}
-use Rattle.std.proofs.lemmas.Str.Ascii.{IsAscii-cons, IsAscii-nil}
+use Rattle.std.proofs.{lemmas.Bool.{and_parts, lt-ltb, ltb-true}, lemmas.List.Folds.{list_all-append}, lemmas.Str.Ascii.{IsAscii-cons, IsAscii-nil}}
+use Rattle.std.specs.{Prelude.{IsAscii, decimal, nat_lt}, Fmt.{digit_glyph, digits, digits_onto}, List.{join_with_byte, list_all}}
 use Rattle.hex.specs.Hex.{encode_lower, encode_with, lower_digits}
-use Rattle.p25_line.specs.CommaLists.{comma_text, list_text}
-use Rattle.p25_line.specs.Octets.{octets_text}
-use Rattle.p25_line.specs.Values.{three_digits}
-use Rattle.p25_line.specs.Words.{is_printed, is_word}
+use Rattle.p25_line.specs.{CommaLists.{comma_text, list_text}, Octets.{octets_text}, Values.{three_digits}, Words.{is_printed, is_word}}
 use Rattle.p25_line.proofs.WordsLaws.{all-also}
 
 -- each octet is below 128

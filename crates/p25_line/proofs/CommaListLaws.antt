@@ -1,10 +1,7 @@
 -- A list is read from its text, and a word that is read as a list is its text, where that holds of each entry and no entry's text has a comma. By induction on the parts.
 use Rattle.std.proofs.Common.{◌≡◌, ℕ, ◌<◌, ◌==◌, ◌&&◌, Bool, true, false, List, [], ◌∷◌, length, map, Option, Some, inl, inr, refl, sym, ap, ap₂, subst, ◌∙◌, arith}
-use Rattle.std.specs.List.{join_with_byte, list_all}
-use Rattle.std.specs.Str.{bytes_eq}
-use Rattle.std.proofs.lemmas.Bool.{cases_Bool, cond-true, cond-false}
-use Rattle.std.proofs.lemmas.List.Splits.{join_with_byte-slice_split, length-slice_split}
-use Rattle.std.proofs.lemmas.Slice.Eq.{bytes_eq-Decides}
+use Rattle.std.proofs.{lemmas.Bool.{cases_Bool, cond-true, cond-false}, lemmas.List.Splits.{join_with_byte-slice_split, length-slice_split}, lemmas.Slice.Eq.{bytes_eq-Decides}}
+use Rattle.std.specs.{List.{join_with_byte, list_all}, Str.{bytes_eq}}
 use Rattle.p25_line.proofs.JoinLaws.{Lacks, split-join}
 use Rattle.p25_line.specs.CommaLists.{comma_parts, comma_text, dash, entries_in, list_in, list_text, with_entry}
 

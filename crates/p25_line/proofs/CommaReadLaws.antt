@@ -1,8 +1,7 @@
 -- A list that is read part by part, as a loop does it: all entries are those read so far and those of the parts that are left.
 use Rattle.std.proofs.Common.{◌≡◌, ◌≢◌, ℕ, ◌<◌, ◌≤◌, ◌==◌, false, List, [], ◌∷◌, ◌++◌, length, Option, Some, None, refl, sym, ap, ap₂, ◌∙◌, arith, append-nil, append_assoc, length-append}
-use Rattle.std.specs.Option.{option_map}
-use Rattle.std.specs.Str.{bytes_eq}
 use Rattle.std.proofs.lemmas.Bool.{cond-true, cond-false, eq-eqb, ne_eqb}
+use Rattle.std.specs.{Option.{option_map}, Str.{bytes_eq}}
 use Rattle.p25_line.specs.CommaLists.{comma_parts, counted, dash, entries_in, list_in, parts_from, with_entry}
 use Rattle.p25_line.proofs.CommaPartLaws.{parts_from-past, parts_from-start, some_parts}
 

@@ -1,6 +1,5 @@
 -- How long decimal numbers are.
-use Rattle.std.proofs.Common.{ℕ, ◌^◌, ◌<◌, ◌≤◌, length, decimal, arith}
-use Rattle.std.proofs.lemmas.Fmt.{length-decimal-le}
+use Rattle.std.proofs.{Common.{ℕ, ◌^◌, ◌<◌, ◌≤◌, length, decimal, arith}, lemmas.Fmt.{length-decimal-le}}
 
 -- a number of 64 bits has at most 20 digits
 pub decimal_short : (number : ℕ) → number < 2 ^ 64 → length (decimal number) ≤ 20

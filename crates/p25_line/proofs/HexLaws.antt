@@ -1,10 +1,7 @@
 -- Texts of octets: two lower-case digits an octet, read back by `octets_of`. What is true of each digit is shown by a test of all of them.
 use Rattle.std.proofs.Common.{◌≡◌, ℕ, zero, suc, ◌+◌, ◌*◌, ◌/◌, ◌%◌, ◌<◌, ◌==◌, ◌&&◌, Bool, true, cond, List, [], ◌∷◌, length, slice_index, inl, inr, refl, sym, ap, ap₂, ◌∙◌, arith}
-use Rattle.std.specs.Prelude.{nat_lt}
-use Rattle.std.specs.List.{list_all}
-use Rattle.std.proofs.lemmas.Bool.{and_parts, cases_lt, eqb-true, ltb-true, cond-true}
-use Rattle.std.proofs.lemmas.List.Elements.{All-nil, All-cons, All-head, All-tail}
-use Rattle.std.proofs.lemmas.List.{get_or_past}
+use Rattle.std.proofs.{lemmas.Bool.{and_parts, cases_lt, eqb-true, ltb-true, cond-true}, lemmas.List.Elements.{All-nil, All-cons, All-head, All-tail}, lemmas.List.{get_or_past}}
+use Rattle.std.specs.{Prelude.{nat_lt}, List.{list_all}}
 use Rattle.hex.specs.Hex.{IsBytes, encode_with, encode_lower, lower_digits}
 use Rattle.p25_line.specs.Values.{AllOctets, is_lower_digit, nibble_of, octets_of}
 

@@ -1,12 +1,8 @@
 -- Splitting undoes joining: parts that lack the octet between them are read back from their join, and a line of words is the join of its words.
 use Rattle.std.proofs.Common.{◌≡◌, ℕ, ◌<◌, ◌≤◌, ◌==◌, Bool, true, false, List, [], ◌∷◌, length, take, Option, Some, Result, Ok, Err, inl, inr, refl, sym, ap, ◌∙◌, arith}
-use Rattle.std.specs.Prelude.{nat_lt, ok_or}
-use Rattle.std.specs.List.{slice_split, join_with_byte, list_all, All}
-use Rattle.std.proofs.lemmas.Bool.{and_parts, cases_Bool, cases_lt, eq-eqb}
-use Rattle.std.proofs.lemmas.List.Splits.{slice_split_none, slice_split_at, length-slice_split, join_with_byte-slice_split}
-use Rattle.p25_line.specs.Words.{is_printed, is_word, parts_of, words_in, words_or_fault, LiesIn, marked, WordsFound, WordsAnswer}
-use Rattle.p25_line.specs.Marks.{Marks}
-use Rattle.p25_line.specs.declared.fault.LineFault.{LineFault}
+use Rattle.std.proofs.{lemmas.Bool.{and_parts, cases_Bool, cases_lt, eq-eqb}, lemmas.List.Splits.{slice_split_none, slice_split_at, length-slice_split, join_with_byte-slice_split}}
+use Rattle.std.specs.{Prelude.{nat_lt, ok_or}, List.{slice_split, join_with_byte, list_all, All}}
+use Rattle.p25_line.specs.{Words.{is_printed, is_word, parts_of, words_in, words_or_fault, LiesIn, marked, WordsFound, WordsAnswer}, Marks.{Marks}, declared.fault.LineFault.{LineFault}}
 use Rattle.p25_line.specs.declared.fault.LineFault.TheVariants.{Form}
 use Rattle.p25_line.proofs.WordsLaws.{printed-spaces, words_in-words, words_in-none, words_or_fault-long, words_or_fault-words}
 

@@ -1,13 +1,9 @@
 -- Reading a line by its words and writing it undo each other, where they do for words. For all that lines tell of.
 use Rattle.std.proofs.Common.{◌≡◌, ℕ, ◌<◌, ◌≤◌, true, List, length, Option, Some, None, Result, Ok, Err, refl, ap, ◌∙◌, sym}
-use Rattle.std.specs.Prelude.{IfOk, ok_or}
-use Rattle.std.specs.List.{join_with_byte, list_all}
-use Rattle.p25_line.specs.LineReadings.{found_read, keyed_or_fault, line_read, named_or_fault, value_or_fault}
-use Rattle.p25_line.specs.Words.{is_word, words_or_fault}
-use Rattle.p25_line.specs.declared.fault.LineFault.{LineFault}
+use Rattle.std.specs.{Prelude.{IfOk, ok_or}, List.{join_with_byte, list_all}}
+use Rattle.p25_line.specs.{LineReadings.{found_read, keyed_or_fault, line_read, named_or_fault, value_or_fault}, Words.{is_word, words_or_fault}, declared.fault.LineFault.{LineFault}}
 use Rattle.p25_line.specs.declared.fault.LineFault.TheVariants.{Long}
-use Rattle.p25_line.proofs.JoinLaws.{Accepted-words, words_or_fault-join}
-use Rattle.p25_line.proofs.WordsLaws.{words_or_fault-long}
+use Rattle.p25_line.proofs.{JoinLaws.{Accepted-words, words_or_fault-join}, WordsLaws.{words_or_fault-long}}
 
 -- a line that is too long is refused as such
 pub line_read-long : {X : Type 0} (read : List (List ℕ) → Result X LineFault) (line : List ℕ) → 8192 < length line → line_read read line ≡ Err Long

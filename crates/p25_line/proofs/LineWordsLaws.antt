@@ -1,15 +1,10 @@
 -- What is kept of the words of a line: the places of the first 16, and how many there are.
 use Rattle.std.proofs.Common.{◌≡◌, ℕ, zero, suc, ◌<◌, ◌≤◌, List, [], ◌∷◌, length, take, drop, slice_get, Option, Some, None, Result, Ok, Err, inl, inr, refl, sym, ap, ap₂, ◌∙◌, arith, length-take, length-drop}
+use Rattle.std.proofs.{lemmas.Bool.{cases_lt}, lemmas.List.{length-map}}
 use Rattle.std.specs.Prelude.{◌↔◌, ok_or}
-use Rattle.std.proofs.lemmas.Bool.{cases_lt}
-use Rattle.std.proofs.lemmas.List.{length-map}
-use Rattle.p25_line.specs.Marks.{Marks}
-use Rattle.p25_line.specs.Words.{AreWordsOf, marked, parts_of, word_at, words_in, words_or_fault, WordsAnswer, WordsFound}
-use Rattle.p25_line.specs.declared.fault.LineFault.{LineFault}
-use Rattle.p25_line.specs.declared.fault.LineFault.TheVariants.{Form, Long}
-use Rattle.p25_line.specs.declared.word_list.Place.{Place}
-use Rattle.p25_line.proofs.JoinLaws.{Accepted-words, Known, Known-words}
-use Rattle.p25_line.proofs.WordsLaws.{words_or_fault-long, words_or_fault-words}
+use Rattle.p25_line.specs.{Marks.{Marks}, Words.{AreWordsOf, marked, parts_of, word_at, words_in, words_or_fault, WordsAnswer, WordsFound}, declared.fault.LineFault.{LineFault}}
+use Rattle.p25_line.specs.{declared.fault.LineFault.TheVariants.{Form, Long}, declared.word_list.Place.{Place}}
+use Rattle.p25_line.proofs.{JoinLaws.{Accepted-words, Known, Known-words}, WordsLaws.{words_or_fault-long, words_or_fault-words}}
 
 -- a line that has words has what stands between its spaces
 are-words : (line : List ℕ) (list : Marks) (words : List (List ℕ)) → Known line list words → AreWordsOf line list

@@ -1,9 +1,7 @@
 -- Numbers are read from their decimal texts. By recursion on the bound.
-use Rattle.std.proofs.Common.{◌≡◌, ℕ, zero, suc, ◌^◌, ◌<◌, ◌≤◌, List, decimal, Some, None, inl, inr, refl, sym, ap, ◌∙◌, arith}
+use Rattle.std.proofs.{Common.{◌≡◌, ℕ, zero, suc, ◌^◌, ◌<◌, ◌≤◌, List, decimal, Some, None, inl, inr, refl, sym, ap, ◌∙◌, arith}, lemmas.Bool.{cases_Bool, cases_lt, cond-true, cond-false, true≢false}}
+use Rattle.std.proofs.{lemmas.Fmt.{decimal_injective}, lemmas.Slice.Eq.{bytes_eq-Decides}}
 use Rattle.std.specs.Str.{bytes_eq}
-use Rattle.std.proofs.lemmas.Bool.{cases_Bool, cases_lt, cond-true, cond-false, true≢false}
-use Rattle.std.proofs.lemmas.Fmt.{decimal_injective}
-use Rattle.std.proofs.lemmas.Slice.Eq.{bytes_eq-Decides}
 use Rattle.p25_line.specs.Values.{number_below}
 
 -- a number below a bound is read from its text

@@ -1,19 +1,11 @@
 -- Octets are read from their text, and a word that is read as octets is their text. By cases on what each test found.
 use Rattle.std.proofs.Common.{◌≡◌, ℕ, ◌*◌, ◌/◌, ◌%◌, ◌<◌, ◌≤◌, ◌==◌, ◌&&◌, true, false, cond, List, [], ◌∷◌, length, Some, None, inl, inr, refl, sym, ap, ap₂, subst, ◌∙◌, arith}
-use Rattle.std.specs.Prelude.{nat_le}
-use Rattle.std.specs.List.{list_all}
-use Rattle.std.specs.Str.{bytes_eq}
-use Rattle.std.proofs.lemmas.Bool.{and_parts, cases_Bool, cond-true, cond-false, eq-eqb, eqb-true, le-leb, leb-true, lt-ltb}
-use Rattle.std.proofs.lemmas.List.Elements.{All-nil}
-use Rattle.std.proofs.lemmas.Slice.Eq.{bytes_eq-Decides}
+use Rattle.std.proofs.{lemmas.Bool.{and_parts, cases_Bool, cond-true, cond-false, eq-eqb, eqb-true, le-leb, leb-true, lt-ltb}, lemmas.List.Elements.{All-nil}, lemmas.Slice.Eq.{bytes_eq-Decides}}
+use Rattle.std.specs.{Prelude.{nat_le}, List.{list_all}, Str.{bytes_eq}}
 use Rattle.hex.specs.Hex.{encode_lower, lower_digits}
 use Rattle.hex.proofs.HexLemmas.{length-encode_with}
-use Rattle.p25_line.specs.CommaLists.{dash}
-use Rattle.p25_line.specs.Octets.{has_digits_up_to, octets_text, octets_up_to}
-use Rattle.p25_line.specs.Values.{AllOctets, is_lower_digit, octets_of}
-use Rattle.p25_line.specs.Words.{is_word}
-use Rattle.p25_line.proofs.HexLaws.{list_all-encode_lower, octets_of-encode_lower, octets_of-facts}
-use Rattle.p25_line.proofs.WordsLaws.{digits-printed}
+use Rattle.p25_line.specs.{CommaLists.{dash}, Octets.{has_digits_up_to, octets_text, octets_up_to}, Values.{AllOctets, is_lower_digit, octets_of}, Words.{is_word}}
+use Rattle.p25_line.proofs.{HexLaws.{list_all-encode_lower, octets_of-encode_lower, octets_of-facts}, WordsLaws.{digits-printed}}
 
 -- a word of two octets or more is no `-`
 no_dash : (word : List ℕ) → 2 ≤ length word → bytes_eq word dash ≡ false

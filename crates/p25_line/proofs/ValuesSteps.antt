@@ -1,12 +1,7 @@
 -- What a word that is read as a value shows: the octets and the number whose text it is, and why it is no such text.
-use Rattle.std.proofs.Common.{◌≡◌, ℕ, ◌*◌, ◌^◌, ◌<◌, true, false, List, length, decimal, Result, Ok, sym, ap, subst, ◌∙◌}
-use Rattle.std.specs.List.{list_all}
-use Rattle.std.specs.Str.{IsUtf8, bytes_eq}
-use Rattle.std.specs.Str.Parse.{ParsesUnsigned}
-use Rattle.std.proofs.lemmas.Bool.{true≢false}
-use Rattle.std.proofs.lemmas.Fmt.{parse-decimal, IsAscii-decimal}
-use Rattle.std.proofs.lemmas.Slice.Eq.{bytes_eq-Decides}
-use Rattle.std.proofs.lemmas.Str.{IsUtf8-from_ascii}
+use Rattle.std.proofs.{Common.{◌≡◌, ℕ, ◌*◌, ◌^◌, ◌<◌, true, false, List, length, decimal, Result, Ok, sym, ap, subst, ◌∙◌}, lemmas.Bool.{true≢false}, lemmas.Fmt.{parse-decimal, IsAscii-decimal}}
+use Rattle.std.proofs.{lemmas.Slice.Eq.{bytes_eq-Decides}, lemmas.Str.{IsUtf8-from_ascii}}
+use Rattle.std.specs.{List.{list_all}, Str.{IsUtf8, bytes_eq}, Str.Parse.{ParsesUnsigned}}
 use Rattle.hex.specs.Hex.{encode_lower, decode_sized, lower_digits}
 use Rattle.hex.proofs.HexLemmas.{length-encode_with, decode_sized-encode_lower}
 use Rattle.p25_line.specs.Values.{AllOctets, is_lower_digit, octets_of}

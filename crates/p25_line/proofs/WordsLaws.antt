@@ -1,16 +1,9 @@
 -- Laws of the words of a line. Splitting is followed octet by octet: a line has allowed octets alone where each of its parts is printed.
-use Rattle.std.proofs.Common.{◌≡◌, ℕ, ◌<◌, ◌≤◌, ◌==◌, ◌&&◌, ◌||◌, Bool, true, false, cond, List, [], ◌∷◌, length, Some, None, Err, inl, inr, refl, sym, ap, ap₂, ◌∙◌, arith}
-use Rattle.std.specs.Prelude.{nat_lt, ok_or}
-use Rattle.std.specs.List.{find, onto_first, list_all, All}
-use Rattle.std.specs.Str.{bytes_eq}
-use Rattle.std.proofs.Math.Bool.{and_assoc}
-use Rattle.std.proofs.lemmas.Bool.{and_parts, cases_Bool, cond-true, cond-false}
-use Rattle.std.proofs.lemmas.List.Elements.{All-nil, All-cons}
-use Rattle.std.proofs.lemmas.List.Splits.{length-slice_split}
+use Rattle.std.proofs.{Common.{◌≡◌, ℕ, ◌<◌, ◌≤◌, ◌==◌, ◌&&◌, ◌||◌, Bool, true, false, cond, List, [], ◌∷◌, length, Some, None, Err, inl, inr, refl, sym, ap, ap₂, ◌∙◌, arith}, Math.Bool.{and_assoc}}
+use Rattle.std.proofs.{lemmas.Bool.{and_parts, cases_Bool, cond-true, cond-false}, lemmas.List.Elements.{All-nil, All-cons}, lemmas.List.Splits.{length-slice_split}}
 use Rattle.std.proofs.lemmas.Slice.Eq.{bytes_eq-Decides}
-use Rattle.p25_line.specs.Values.{is_lower_digit}
-use Rattle.p25_line.specs.Words.{is_printed, is_word, parts_of, words_in, words_or_fault}
-use Rattle.p25_line.specs.declared.fault.LineFault.TheVariants.{Form, Long}
+use Rattle.std.specs.{Prelude.{nat_lt, ok_or}, List.{find, onto_first, list_all, All}, Str.{bytes_eq}}
+use Rattle.p25_line.specs.{Values.{is_lower_digit}, Words.{is_printed, is_word, parts_of, words_in, words_or_fault}, declared.fault.LineFault.TheVariants.{Form, Long}}
 
 -- an octet that may stand in a line of words
 abbrev pub is_allowed : ℕ → Bool

@@ -1,15 +1,9 @@
 -- What the loop over a line's octets keeps: the parts that end before `start` are words and are noted, and from there on to `i` the octets are printed.
 use Rattle.std.proofs.Common.{◌≡◌, ℕ, zero, suc, ◌+◌, ◌-◌, ◌<◌, ◌≤◌, ◌==◌, ◌&&◌, ◌||◌, true, false, List, [], ◌∷◌, ◌++◌, length, take, drop, get_or, Option, Some, None, Ok, Err, refl, sym, ap, ap₂, subst, ◌∙◌, arith, take-append-drop, append-nil, length-append, length-take, length-drop, ◌⊎◌, inl, inr}
-use Rattle.std.specs.Prelude.{ok_or}
-use Rattle.std.specs.List.{list_all, All}
-use Rattle.std.proofs.lemmas.Bool.{cases_Bool, eqb-true, lt-ltb, true≢false}
-use Rattle.std.proofs.lemmas.List.{drop_more, take_all, take_at, drop_all, drop-drop, take-map, get_or-drop, map-append}
-use Rattle.std.proofs.lemmas.List.Elements.{All-push, All-take}
-use Rattle.std.proofs.lemmas.List.Folds.{list_all-append, list_all_more, list_all_at}
-use Rattle.std.proofs.lemmas.List.Splits.{slice_split_none, slice_split_at}
-use Rattle.p25_line.specs.Marks.{Marks}
-use Rattle.p25_line.specs.Words.{is_printed, is_word, parts_of, words_in, LiesIn, word_at, marked, WordsFound, WordsAnswer}
-use Rattle.p25_line.specs.declared.fault.LineFault.TheVariants.{Long, Form}
+use Rattle.std.proofs.{lemmas.Bool.{cases_Bool, eqb-true, lt-ltb, true≢false}, lemmas.List.{drop_more, take_all, take_at, drop_all, drop-drop, take-map, get_or-drop, map-append}}
+use Rattle.std.proofs.{lemmas.List.Elements.{All-push, All-take}, lemmas.List.Folds.{list_all-append, list_all_more, list_all_at}, lemmas.List.Splits.{slice_split_none, slice_split_at}}
+use Rattle.std.specs.{Prelude.{ok_or}, List.{list_all, All}}
+use Rattle.p25_line.specs.{Marks.{Marks}, Words.{is_printed, is_word, parts_of, words_in, LiesIn, word_at, marked, WordsFound, WordsAnswer}, declared.fault.LineFault.TheVariants.{Long, Form}}
 use Rattle.p25_line.specs.declared.word_list.Place.{Place}
 use Rattle.p25_line.proofs.WordsLaws.{printed-spaces, printed-parts, words-printed, words_in-words, words_in-none, words_or_fault-long, words_or_fault-words, is_allowed}
 

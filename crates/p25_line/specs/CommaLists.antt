@@ -1,6 +1,5 @@
 -- Lists of values with commas between them, and `-` for the empty list.
-use Rattle.std.specs.Prelude.{ℕ, ◌==◌, nat_le, if◌then◌else◌, List, [], ◌∷◌, length, drop, map, Option, Some, None}
-use Rattle.std.specs.List.{join_with_byte, slice_split}
+use Rattle.std.specs.{Prelude.{ℕ, ◌==◌, nat_le, if◌then◌else◌, List, [], ◌∷◌, length, drop, map, Option, Some, None}, List.{join_with_byte, slice_split}}
 use Rattle.std.specs.Str.{bytes_eq}
 
 -- `-`, which stands for the empty list, and for no octets

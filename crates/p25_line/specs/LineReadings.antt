@@ -1,8 +1,6 @@
 -- What a line is read as by its words.
 use Rattle.std.specs.Prelude.{ℕ, List, Option, Some, None, Result, Ok, Err}
-use Rattle.p25_line.specs.Words.{words_or_fault}
-use Rattle.p25_line.specs.declared.fault.LineFault.{LineFault}
-use Rattle.p25_line.specs.declared.fault.LineFault.TheVariants.{Kind, Key, Value}
+use Rattle.p25_line.specs.{Words.{words_or_fault}, declared.fault.LineFault.{LineFault}, declared.fault.LineFault.TheVariants.{Kind, Key, Value}}
 
 -- what words are read as, where there are words, and else why there are none
 abbrev pub found_read : {X : Type 0} → (List (List ℕ) → Result X LineFault) → Result (List (List ℕ)) LineFault → Result X LineFault

@@ -1,10 +1,8 @@
 -- Octets as words: two digits for each octet, or `-` where there is none.
-use Rattle.std.specs.Prelude.{ℕ, ◌*◌, ◌%◌, ◌==◌, ◌&&◌, nat_le, Bool, if◌then◌else◌, List, [], ◌∷◌, length, Option, Some, None}
-use Rattle.std.specs.List.{list_all}
+use Rattle.std.specs.{Prelude.{ℕ, ◌*◌, ◌%◌, ◌==◌, ◌&&◌, nat_le, Bool, if◌then◌else◌, List, [], ◌∷◌, length, Option, Some, None}, List.{list_all}}
 use Rattle.std.specs.Str.{bytes_eq}
 use Rattle.hex.specs.Hex.{encode_lower}
-use Rattle.p25_line.specs.CommaLists.{dash}
-use Rattle.p25_line.specs.Values.{is_lower_digit, octets_of}
+use Rattle.p25_line.specs.{CommaLists.{dash}, Values.{is_lower_digit, octets_of}}
 
 -- the word for octets: two digits for each octet, or `-` where there is none
 abbrev pub octets_text : List ℕ → List ℕ

@@ -1,9 +1,7 @@
 -- The words of a line, and what a list of words tells of them.
 use Rattle.std.specs.Prelude.{◌≡◌, ℕ, ◌+◌, ◌≤◌, ◌==◌, ◌&&◌, nat_lt, nat_le, Bool, if◌then◌else◌, List, [], length, take, drop, map, All, Option, Some, None, ok_or, Result, Ok, Err}
 use Rattle.std.specs.List.{slice_split, list_all}
-use Rattle.p25_line.specs.Marks.{Marks}
-use Rattle.p25_line.specs.declared.fault.LineFault.{LineFault}
-use Rattle.p25_line.specs.declared.fault.LineFault.TheVariants.{Long, Form}
+use Rattle.p25_line.specs.{Marks.{Marks}, declared.fault.LineFault.{LineFault}, declared.fault.LineFault.TheVariants.{Long, Form}}
 use Rattle.p25_line.specs.declared.word_list.Place.{Place}
 
 -- an octet that may stand in a word: 21 to 7E hex

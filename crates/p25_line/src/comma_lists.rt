@@ -1,7 +1,6 @@
 //! Words that are lists: entries with commas between them, or `-` where there is none.
 
-ghost use Rattle.std.specs.Prelude.{◌≡◌, ◌+◌, ◌≤◌, ◌∷◌, length};
-ghost use Rattle.std.specs.Str.{bytes_eq};
+ghost use Rattle.std.specs.{Prelude.{◌≡◌, ◌+◌, ◌≤◌, ◌∷◌, length}, Str.{bytes_eq}};
 ghost use Rattle.p25_line.specs.CommaLists.{dash, parts_from};
 
 /// Answers whether a word is `-`, which stands for nothing.

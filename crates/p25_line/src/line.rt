@@ -1,7 +1,6 @@
 ghost use Rattle.std.specs.Prelude.{◌≡◌, ℕ, ◌+◌, ◌*◌, ◌<◌, ◌≤◌, ◌==◌, List, [], ◌∷◌, ◌++◌, length, take, decimal};
 ghost use Rattle.hex.specs.Hex.{encode_lower};
-ghost use Rattle.p25_line.specs.Octets.{octets_text};
-ghost use Rattle.p25_line.specs.Values.{three_digits};
+ghost use Rattle.p25_line.specs.{Octets.{octets_text}, Values.{three_digits}};
 
 use crate::decimal::{DIGITS_MOST, decimal_text};
 use std::marker::Model;

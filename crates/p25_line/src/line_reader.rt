@@ -1,9 +1,7 @@
 //! Lines that are read whole.
 
 ghost use Rattle.std.specs.Prelude.{◌≡◌, ◌≢◌, ◌↔◌, ℕ, ◌<◌, List, length, Result, Err};
-ghost use Rattle.p25_line.specs.LineReadings.{line_read};
-ghost use Rattle.p25_line.specs.declared.fault.LineFault.{LineFault as fault_type};
-ghost use Rattle.p25_line.specs.declared.fault.LineFault.TheVariants.{Long};
+ghost use Rattle.p25_line.specs.{LineReadings.{line_read}, declared.fault.LineFault.{LineFault as fault_type}, declared.fault.LineFault.TheVariants.{Long}};
 
 use super::fault::LineFault;
 use super::line_words::LineWords;

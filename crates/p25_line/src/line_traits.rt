@@ -1,7 +1,6 @@
 //! A line as other Rust code takes it: empty by default, compared by its octets, lent as a slice, and shown as a text.
 
-ghost use Rattle.std.specs.Prelude.{◌≡◌, [], Some, nat_eq};
-ghost use Rattle.std.specs.Cmp.{on_equiv, on_per, partial_equiv_from_equiv};
+ghost use Rattle.std.specs.{Prelude.{◌≡◌, [], Some, nat_eq}, Cmp.{on_equiv, on_per, partial_equiv_from_equiv}};
 ghost use Rattle.std.specs.Cmp.Lexicographic.{nat_list_eq_equiv, pointwise};
 
 use super::line::Line;

@@ -1,6 +1,5 @@
 ghost use Rattle.std.specs.Prelude.{◌≡◌, ◌↔◌, ◌<◌, ◌≤◌, length, slice_get, Err};
-ghost use Rattle.p25_line.specs.Words.{words_or_fault};
-ghost use Rattle.p25_line.specs.declared.fault.LineFault.TheVariants.{Long};
+ghost use Rattle.p25_line.specs.{Words.{words_or_fault}, declared.fault.LineFault.TheVariants.{Long}};
 
 use super::fault::LineFault;
 use super::word_list::{WordList, words_of};

@@ -1,10 +1,7 @@
-ghost use Rattle.std.specs.Prelude.{◌≡◌, ◌≢◌, ℕ, ◌≤◌, List, length, take, drop, decimal, IsTrue, IfSome, MatchOption};
-ghost use Rattle.std.specs.Bool.{OnTrue, OnFalse};
-ghost use Rattle.std.specs.List.{list_all};
-ghost use Rattle.std.specs.Option.{option_map};
+ghost use Rattle.std.specs.{Prelude.{◌≡◌, ◌≢◌, ℕ, ◌≤◌, List, length, take, drop, decimal, IsTrue, IfSome, MatchOption}, Bool.{OnTrue, OnFalse}};
+ghost use Rattle.std.specs.{List.{list_all}, Option.{option_map}};
 ghost use Rattle.hex.specs.Hex.{encode_lower};
-ghost use Rattle.p25_line.specs.Octets.{octets_up_to};
-ghost use Rattle.p25_line.specs.Values.{AllOctets, is_lower_digit};
+ghost use Rattle.p25_line.specs.{Octets.{octets_up_to}, Values.{AllOctets, is_lower_digit}};
 
 use super::comma_lists::is_dash;
 use crate::decimal::{DIGITS_MOST, decimal_text};

@@ -1,9 +1,6 @@
 -- The kinds of calls, by the cases of octet 0.
-use Rattle.std.proofs.Common.{◌≡◌, ◌≢◌, ◌↔◌, eqb, slice_index, sym, ◌∙◌, arith}
-use Rattle.std.proofs.lemmas.Bool.{cond-true, cond-false, eq-eqb, ne_eqb}
-use Rattle.p25_link.specs.declared.link_control.LinkControl.{LinkControl}
-use Rattle.p25_link.specs.declared.link_control.LinkKind.{LinkKind}
-use Rattle.p25_link.specs.declared.link_control.LinkKind.TheVariants.{Other}
+use Rattle.std.proofs.{Common.{◌≡◌, ◌≢◌, ◌↔◌, eqb, slice_index, sym, ◌∙◌, arith}, lemmas.Bool.{cond-true, cond-false, eq-eqb, ne_eqb}}
+use Rattle.p25_link.specs.{declared.link_control.LinkControl.{LinkControl}, declared.link_control.LinkKind.{LinkKind}, declared.link_control.LinkKind.TheVariants.{Other}}
 use Rattle.p25_link.specs.Kinds.{group_call, individual_call, link_kind_of}
 
 pub link_kind_of-group : (link : LinkControl) → slice_index link.0 0 ≡ 0 → link_kind_of link ≡ group_call link

@@ -1,14 +1,11 @@
 -- Symbols and octets by the numbers that their bits write: one more of them in the loops that turn one into the other, and the fields of
 -- a number.
 use Rattle.std.proofs.Common.{◌≡◌, ℕ, ◌+◌, ◌-◌, ◌*◌, ◌/◌, ◌%◌, ◌^◌, ◌<◌, ◌≤◌, Bool, List, [], ◌∷◌, ◌++◌, length, take, drop, map, get_or, set, ap, ap₂, sym, subst, ◌∙◌, arith, lit<}
-use Rattle.std.proofs.Math.Nat.{mod-eq_of_lt, mul_comm, pow-le-pow_right}
-use Rattle.std.proofs.lemmas.List.{append-nil, length-take-le, map-append, take_all, take_more, take_more_set}
-use Rattle.p25_bits.specs.Bits.{bits_of, field_of, octet_bits, part}
-use Rattle.p25_bits.specs.Numbers.{number_bits, octets_from}
+use Rattle.std.proofs.{Math.Nat.{mod-eq_of_lt, mul_comm, pow-le-pow_right}, lemmas.List.{append-nil, length-take-le, map-append, take_all, take_more, take_more_set}}
+use Rattle.p25_bits.specs.{Bits.{bits_of, field_of, octet_bits, part}, Numbers.{number_bits, octets_from}}
 use Rattle.p25_bits.proofs.BitsLaws.{length-bits_of, length-octet_bits, octet_bits-append, octet_bits-cons, octet_bits-nil, bits_of-field_of, bits_of-joined, field_of-append, field_of-bits_of, field_of-lt, take-bits_of, drop-bits_of}
 use Rattle.p25_bits.proofs.NumbersLaws.{number_bits-append, number_bits-one, numbers_from-more}
-use Rattle.p25_gf64.specs.declared.symbol.Sym.{Sym}
-use Rattle.p25_gf64.specs.Symbol.{number, same_symbol}
+use Rattle.p25_gf64.specs.{declared.symbol.Sym.{Sym}, Symbol.{number, same_symbol}}
 use Rattle.p25_link.specs.Symbols.{symbol_in, symbols_in, symbol_bits}
 use Rattle.p25_link.proofs.SymbolsLaws.{number-symbol_in, symbol_bits-numbers, symbols_in-more, length-symbol_bits}
 

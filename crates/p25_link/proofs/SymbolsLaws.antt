@@ -1,14 +1,9 @@
 -- Symbols of six bits are numbers of six bits: each law follows from that of numbers in p25_bits, or by induction on the symbols.
-use Rattle.std.proofs.Common.{◌≡◌, ℕ, zero, suc, ◌+◌, ◌*◌, ◌<◌, ◌≤◌, Bool, List, [], ◌∷◌, ◌++◌, length, take, drop, map, refl, ap, ap₂, sym, ◌∙◌, arith, All, get_or, ◌^◌}
-use Rattle.std.proofs.Math.Seq.{take-length}
-use Rattle.std.proofs.lemmas.List.{drop-drop, length-map}
-use Rattle.std.proofs.lemmas.List.Elements.{All-map}
-use Rattle.std.proofs.lemmas.List.Folds.{flat_map-map}
-use Rattle.p25_bits.specs.Bits.{bits_of, field_of}
-use Rattle.p25_bits.specs.Numbers.{number_bits, numbers_from}
+use Rattle.std.proofs.{Common.{◌≡◌, ℕ, zero, suc, ◌+◌, ◌*◌, ◌<◌, ◌≤◌, Bool, List, [], ◌∷◌, ◌++◌, length, take, drop, map, refl, ap, ap₂, sym, ◌∙◌, arith, All, get_or, ◌^◌}, Math.Seq.{take-length}}
+use Rattle.std.proofs.{lemmas.List.{drop-drop, length-map}, lemmas.List.Elements.{All-map}, lemmas.List.Folds.{flat_map-map}}
+use Rattle.p25_bits.specs.{Bits.{bits_of, field_of}, Numbers.{number_bits, numbers_from}}
 use Rattle.p25_bits.proofs.NumbersLaws.{length-number_bits, number_bits-numbers_from, numbers_from-number_bits}
-use Rattle.p25_gf64.specs.declared.symbol.Sym.{Sym}
-use Rattle.p25_gf64.specs.Symbol.{number, same_symbol}
+use Rattle.p25_gf64.specs.{declared.symbol.Sym.{Sym}, Symbol.{number, same_symbol}}
 use Rattle.p25_link.specs.Symbols.{symbol_in, symbols_in, symbol_bits}
 
 -- the number of a symbol is that which its bits write

@@ -1,15 +1,11 @@
 -- Words and symbols undo each other: each is shown of the bits between them, field by field.
-use Rattle.std.proofs.Common.{◌≡◌, ℕ, ◌+◌, ◌*◌, ◌^◌, ◌<◌, ◌≤◌, Bool, List, ◌++◌, length, ap, ap₂, sym, ◌∙◌, arith, length-append}
-use Rattle.std.proofs.Math.Nat.{mod-eq_of_lt}
-use Rattle.p25_bits.specs.Bits.{bits_of, field_of, octet_bits, part}
-use Rattle.p25_bits.specs.Numbers.{octets_from}
+use Rattle.std.proofs.{Common.{◌≡◌, ℕ, ◌+◌, ◌*◌, ◌^◌, ◌<◌, ◌≤◌, Bool, List, ◌++◌, length, ap, ap₂, sym, ◌∙◌, arith, length-append}, Math.Nat.{mod-eq_of_lt}}
+use Rattle.p25_bits.specs.{Bits.{bits_of, field_of, octet_bits, part}, Numbers.{octets_from}}
 use Rattle.p25_bits.proofs.BitsLaws.{length-bits_of, field_of-bits_of}
 use Rattle.p25_bits.proofs.NumbersLaws.{number_bits-octets, length-number_bits, numbers_from-number_bits, number_bits-numbers_from, numbers_from-append, bits_of-field}
 use Rattle.p25_bits.proofs.PartLaws.{part_add, part_left, part_last, part_whole}
 use Rattle.p25_gf64.specs.declared.symbol.Sym.{Sym}
-use Rattle.p25_link.specs.declared.link_control.LinkControl.{LinkControl}
-use Rattle.p25_link.specs.declared.encryption_sync.EncryptionSync.{EncryptionSync}
-use Rattle.p25_link.specs.declared.header_word.HeaderWord.{HeaderWord}
+use Rattle.p25_link.specs.{declared.link_control.LinkControl.{LinkControl}, declared.encryption_sync.EncryptionSync.{EncryptionSync}, declared.header_word.HeaderWord.{HeaderWord}}
 use Rattle.p25_link.specs.Symbols.{symbols_in, symbol_bits}
 use Rattle.p25_link.specs.Words.{link_word_bits, sync_word_bits, header_word_bits, link_of_bits, sync_of_bits, header_of_bits, link_symbols, sync_symbols, header_symbols, link_of_symbols, sync_of_symbols, header_of_symbols, AreNineOctets, IsLinkControl, IsEncryptionSync, IsHeaderWord}
 use Rattle.p25_link.proofs.SymbolsLaws.{length-symbols_in, length-symbol_bits, symbol_bits-all, symbols_in-symbol_bits}

@@ -1,8 +1,7 @@
 -- What the octets of link control (LC) say of a call.
 use Rattle.std.specs.Prelude.{◌/◌, ◌==◌, if◌then◌else◌, slice_index}
 use Rattle.p25_bits.specs.Numbers.{pair_at, triple_at}
-use Rattle.p25_link.specs.declared.link_control.LinkControl.{LinkControl}
-use Rattle.p25_link.specs.declared.link_control.LinkKind.{LinkKind}
+use Rattle.p25_link.specs.{declared.link_control.LinkControl.{LinkControl}, declared.link_control.LinkKind.{LinkKind}}
 use Rattle.p25_link.specs.declared.link_control.LinkKind.TheVariants.{Group, Individual, Other}
 
 -- a call to a group: octet 1 MFID, the first bit of octet 2 emergency, octets 4 and 5 the group, 6 to 8 the source

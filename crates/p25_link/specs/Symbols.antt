@@ -1,10 +1,8 @@
 -- Symbols of six bits, the first bit the highest of the symbol's number.
-use Rattle.std.specs.Prelude.{ℕ, zero, suc, ◌<◌, Bool, List, [], ◌∷◌, take, drop}
-use Rattle.std.specs.List.{flat_map}
+use Rattle.std.specs.{Prelude.{ℕ, zero, suc, ◌<◌, Bool, List, [], ◌∷◌, take, drop}, List.{flat_map}}
 use Rattle.p25_bits.specs.Bits.{bits_of, field_of}
 use Rattle.p25_bits.proofs.NumbersLaws.{field-lt}
-use Rattle.p25_gf64.specs.declared.symbol.Sym.{Sym}
-use Rattle.p25_gf64.specs.Symbol.{number, symbol_of}
+use Rattle.p25_gf64.specs.{declared.symbol.Sym.{Sym}, Symbol.{number, symbol_of}}
 
 -- six bits write a number below 64
 pub six-lt : (bits : List Bool) → field_of (take 6 bits) < 64

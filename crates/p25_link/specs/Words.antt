@@ -1,13 +1,10 @@
 -- The words of voice units as bits, by their fields in order, and as symbols of six bits: link control (LC), encryption sync (ES)
 -- and the header word of an HDU.
 use Rattle.std.specs.Prelude.{◌≡◌, ℕ, ◌<◌, ◌^◌, Bool, List, ◌++◌, length, All}
-use Rattle.p25_bits.specs.Bits.{bits_of, field_of, octet_bits, part}
-use Rattle.p25_bits.specs.Numbers.{octets_from}
+use Rattle.p25_bits.specs.{Bits.{bits_of, field_of, octet_bits, part}, Numbers.{octets_from}}
 use Rattle.p25_gf64.specs.declared.symbol.Sym.{Sym}
-use Rattle.p25_link.specs.declared.link_control.LinkControl.{LinkControl}
-use Rattle.p25_link.specs.declared.encryption_sync.EncryptionSync.{EncryptionSync}
-use Rattle.p25_link.specs.declared.header_word.HeaderWord.{HeaderWord}
-use Rattle.p25_link.specs.Symbols.{symbols_in, symbol_bits}
+use Rattle.p25_link.specs.{declared.link_control.LinkControl.{LinkControl}, declared.encryption_sync.EncryptionSync.{EncryptionSync}}
+use Rattle.p25_link.specs.{declared.header_word.HeaderWord.{HeaderWord}, Symbols.{symbols_in, symbol_bits}}
 
 -- the 72 bits of link control (LC): its nine octets
 unfoldable pub link_word_bits : LinkControl → List Bool

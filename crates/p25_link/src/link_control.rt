@@ -1,8 +1,7 @@
 //! Link control (LC).
 
 ghost use Rattle.std.specs.Prelude.{◌≡◌, ◌≢◌, ◌↔◌, ◌+◌, ◌*◌, length, slice_index};
-ghost use Rattle.p25_link.specs.Words.{link_symbols, link_of_symbols, IsLinkControl};
-ghost use Rattle.p25_link.specs.Kinds.{link_kind_of, group_call, individual_call};
+ghost use Rattle.p25_link.specs.{Words.{link_symbols, link_of_symbols, IsLinkControl}, Kinds.{link_kind_of, group_call, individual_call}};
 ghost use Rattle.p25_bits.specs.Numbers.{triple_at};
 
 use crate::symbols::{first_octets, octets_number, put_symbols, symbols_number};

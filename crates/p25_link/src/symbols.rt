@@ -1,10 +1,8 @@
 //! Symbols of six bits and octets, by the numbers that their bits write.
 
 ghost use Rattle.std.specs.Prelude.{◌≡◌, ◌+◌, ◌*◌, ◌^◌, ◌<◌, ◌≤◌, length};
-ghost use Rattle.p25_bits.specs.Bits.{bits_of, field_of, octet_bits};
-ghost use Rattle.p25_bits.specs.Numbers.{octets_from};
-ghost use Rattle.p25_link.specs.Words.{AreNineOctets};
-ghost use Rattle.p25_link.specs.Symbols.{symbols_in, symbol_bits};
+ghost use Rattle.p25_bits.specs.{Bits.{bits_of, field_of, octet_bits}, Numbers.{octets_from}};
+ghost use Rattle.p25_link.specs.{Words.{AreNineOctets}, Symbols.{symbols_in, symbol_bits}};
 
 use p25_gf64::Sym;
 

@@ -1,6 +1,5 @@
 -- A list of messages, kept as all their octets and the place after the last octet of each.
-use Rattle.std.specs.Prelude.{◌≡◌, ℕ, zero, suc, ◌-◌, ◌/◌, ◌^◌, ◌<◌, ◌≤◌, min, List, [], ◌∷◌, slice_range, vec_len, vec_capacity}
-use Rattle.std.specs.Global.{Vec}
+use Rattle.std.specs.{Prelude.{◌≡◌, ℕ, zero, suc, ◌-◌, ◌/◌, ◌^◌, ◌<◌, ◌≤◌, min, List, [], ◌∷◌, slice_range, vec_len, vec_capacity}, Global.{Vec}}
 
 -- what contracts see of a list of messages: the messages, and the number of messages for which there is room
 pub record ListParts : Type 0 where

@@ -1,24 +1,14 @@
 -- Blocks against what they read as: the block of the octets that were read differs from the received bits as the nearest path does.
 use Rattle.std.proofs.Common.{◌≡◌, ℕ, zero, suc, ◌+◌, ◌*◌, ◌<◌, ◌≤◌, inl, inr, Bool, eqb, List, [], ◌++◌, length, refl, ap, ap₂, sym, ◌∙◌, arith, add-one, append_assoc, length-append}
-use Rattle.std.specs.Bool.{beq}
 use Rattle.std.proofs.lemmas.Bool.{cond-true, eq-eqb}
-use Rattle.p25_bits.specs.Bits.{part}
-use Rattle.p25_bits.specs.Distance.{distance_of}
-use Rattle.p25_bits.specs.Numbers.{joined_below}
-use Rattle.p25_bits.proofs.DistanceLaws.{distance_by-append, distance_by-nil, distance_of-sym}
-use Rattle.p25_bits.proofs.NumbersLaws.{joined_below-suc, joined_below-zero, joined_below-parts, length-joined_below}
+use Rattle.std.specs.Bool.{beq}
+use Rattle.p25_bits.specs.{Bits.{part}, Distance.{distance_of}, Numbers.{joined_below}}
+use Rattle.p25_bits.proofs.{DistanceLaws.{distance_by-append, distance_by-nil, distance_of-sym}, NumbersLaws.{joined_below-suc, joined_below-zero, joined_below-parts, length-joined_below}}
 use Rattle.p25_bits.proofs.PartLaws.{part_add, part_joined, length-part}
-use Rattle.p25_trellis.specs.Nearest.{nearest_distance, half_octets, three_quarter_octets, half_block, three_quarter_block}
-use Rattle.p25_trellis.specs.Tables.{half_point, three_quarter_point}
-use Rattle.p25_trellis.proofs.ApartLaws.{length-block}
-use Rattle.p25_trellis.proofs.NearestLaws.{IsBlock-block_from}
-use Rattle.p25_trellis.proofs.NearestBlockLaws.{All-nearest_octets, nearest_distance-block, nearest_distance-le}
-use Rattle.p25_packet_blocks.specs.declared.head.PacketHead.{PacketHead}
-use Rattle.p25_packet_blocks.specs.Reading.{block_bits}
-use Rattle.p25_packet_blocks.specs.Fixes.{blocks_distance, half_distance, three_quarter_distance}
-use Rattle.p25_packet_blocks.specs.Heads.{confirmed_format, head_format, head_blocks}
-use Rattle.p25_packet_blocks.specs.Kinds.{IsPlainFormat}
-use Rattle.p25_packet_blocks.specs.Outcomes.{body_distance}
+use Rattle.p25_trellis.specs.{Nearest.{nearest_distance, half_octets, three_quarter_octets, half_block, three_quarter_block}, Tables.{half_point, three_quarter_point}}
+use Rattle.p25_trellis.proofs.{ApartLaws.{length-block}, NearestLaws.{IsBlock-block_from}, NearestBlockLaws.{All-nearest_octets, nearest_distance-block, nearest_distance-le}}
+use Rattle.p25_packet_blocks.specs.{declared.head.PacketHead.{PacketHead}, Reading.{block_bits}, Fixes.{blocks_distance, half_distance, three_quarter_distance}}
+use Rattle.p25_packet_blocks.specs.{Heads.{confirmed_format, head_format, head_blocks}, Kinds.{IsPlainFormat}, Outcomes.{body_distance}}
 use Rattle.p25_packet_blocks.proofs.ReadingLaws.{length-half_octets, length-three_quarter_octets}
 
 -- Blocks against what they read as.

@@ -1,9 +1,7 @@
 -- Flags as octets and back: each case of the definitions by its length, and that reading undoes making.
 use Rattle.std.proofs.Common.{◌≡◌, ◌≢◌, ℕ, ◌+◌, ◌*◌, ◌⊎◌, inl, inr, Bool, List, [], ◌∷◌, ◌++◌, length, take, Some, None, eqb, refl, ap, sym, ◌∙◌, arith, length-append, append-nil}
-use Rattle.std.proofs.lemmas.Bool.{ne_eqb, cond-false}
-use Rattle.std.proofs.lemmas.List.{take_at, take_all}
-use Rattle.p25_bits.specs.Bits.{octet_bits}
-use Rattle.p25_bits.specs.Numbers.{octets_from}
+use Rattle.std.proofs.{lemmas.Bool.{ne_eqb, cond-false}, lemmas.List.{take_at, take_all}}
+use Rattle.p25_bits.specs.{Bits.{octet_bits}, Numbers.{octets_from}}
 use Rattle.p25_bits.proofs.NumbersLaws.{length-numbers_from, number_bits-octets, number_bits-numbers_from}
 use Rattle.p25_packet_blocks.specs.FlagOctets.{flag_octets, flags_of_octets}
 

@@ -1,9 +1,7 @@
 -- The steps of the loops of flags: one more octet or flag, by the laws of lists that grow at their end.
-use Rattle.std.proofs.Common.{◌≡◌, ℕ, ◌+◌, ◌*◌, ◌<◌, Bool, false, List, [], ◌∷◌, ◌++◌, length, take, set, slice_get, Some, ap, ap₂, sym, ◌∙◌, append_assoc}
-use Rattle.std.proofs.lemmas.List.{take_more, take_more_set}
+use Rattle.std.proofs.{Common.{◌≡◌, ℕ, ◌+◌, ◌*◌, ◌<◌, Bool, false, List, [], ◌∷◌, ◌++◌, length, take, set, slice_get, Some, ap, ap₂, sym, ◌∙◌, append_assoc}, lemmas.List.{take_more, take_more_set}}
 use Rattle.std.proofs.lemmas.Option.{get_or_from_slice_get}
-use Rattle.p25_bits.specs.Bits.{field_of, part}
-use Rattle.p25_bits.specs.Numbers.{octets_from}
+use Rattle.p25_bits.specs.{Bits.{field_of, part}, Numbers.{octets_from}}
 use Rattle.p25_bits.proofs.NumbersLaws.{numbers_from-more}
 
 -- one more octet read from bits

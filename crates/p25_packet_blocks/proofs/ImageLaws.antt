@@ -1,18 +1,12 @@
 -- The octets of blocks, their lengths and that they are octets, and the cases of a packet's blocks.
-use Rattle.std.proofs.Common.{◌≡◌, ℕ, ◌+◌, ◌*◌, ◌/◌, ◌%◌, ◌^◌, ◌<◌, List, [], ◌∷◌, ◌++◌, length, get_or, refl, ap, ◌∙◌, arith, length-append}
-use Rattle.std.proofs.lemmas.List.Elements.{All-nil, All-cons, All-append}
+use Rattle.std.proofs.{Common.{◌≡◌, ℕ, ◌+◌, ◌*◌, ◌/◌, ◌%◌, ◌^◌, ◌<◌, List, [], ◌∷◌, ◌++◌, length, get_or, refl, ap, ◌∙◌, arith, length-append}, lemmas.List.Elements.{All-nil, All-cons, All-append}}
 use Rattle.p25_bits.specs.Bits.{part}
 use Rattle.p25_crc.specs.Values.{crc9_of, crc16_of, crc32_of}
 use Rattle.p25_crc.proofs.ChecksLaws.{crc9_of-lt, crc16_of-lt, crc32_of-lt}
 use Rattle.p25_trellis.specs.Nearest.{half_block, three_quarter_block}
-use Rattle.p25_packet_blocks.specs.declared.head.PacketHead.{PacketHead}
-use Rattle.p25_packet_blocks.specs.declared.block.Block.{Block}
-use Rattle.p25_packet_blocks.specs.declared.block.Slot.TheVariants.{Good, Bad}
-use Rattle.p25_packet_blocks.specs.declared.packet.Packet.TheVariants.{Confirmed, Plain}
-use Rattle.p25_packet_blocks.specs.ConfirmedParts.{ConfirmedParts}
-use Rattle.p25_packet_blocks.specs.Parts.{PlainParts}
-use Rattle.p25_packet_blocks.specs.Image.{two_octets, four_octets, header_octets, confirmed_octets, slot_bits, checked_octets, body_block}
-use Rattle.p25_packet_blocks.specs.Sendable.{AreOctets, IsHead, IsDataBlock}
+use Rattle.p25_packet_blocks.specs.{declared.head.PacketHead.{PacketHead}, declared.block.Block.{Block}, declared.block.Slot.TheVariants.{Good, Bad}}
+use Rattle.p25_packet_blocks.specs.{declared.packet.Packet.TheVariants.{Confirmed, Plain}, ConfirmedParts.{ConfirmedParts}, Parts.{PlainParts}}
+use Rattle.p25_packet_blocks.specs.{Image.{two_octets, four_octets, header_octets, confirmed_octets, slot_bits, checked_octets, body_block}, Sendable.{AreOctets, IsHead, IsDataBlock}}
 
 -- The octets of a header block.
 

@@ -1,14 +1,9 @@
 -- The steps of the writers: the octets of a number as they are put, and one more block of a loop.
 use Rattle.std.proofs.Common.{◌≡◌, ℕ, ◌+◌, ◌/◌, ◌%◌, ◌^◌, ◌<◌, Bool, List, [], ◌∷◌, ◌++◌, get_or, slice_get, Some, ap, ap₂, sym, subst, ◌∙◌, arith, inl, inr, append_assoc, append-nil}
-use Rattle.std.proofs.Math.Nat.{mod-eq_of_lt}
-use Rattle.std.proofs.lemmas.Bool.{cases_lt}
-use Rattle.std.proofs.lemmas.Option.{get_or_from_slice_get}
+use Rattle.std.proofs.{Math.Nat.{mod-eq_of_lt}, lemmas.Bool.{cases_lt}, lemmas.Option.{get_or_from_slice_get}}
 use Rattle.p25_bits.specs.Numbers.{joined_below}
 use Rattle.p25_bits.proofs.NumbersLaws.{joined_below-zero, joined_below-more}
-use Rattle.p25_packet_blocks.specs.declared.block.Block.{Block}
-use Rattle.p25_packet_blocks.specs.declared.block.Slot.{Slot}
-use Rattle.p25_packet_blocks.specs.declared.block.Slot.TheVariants.{Good, Bad}
-use Rattle.p25_packet_blocks.specs.Image.{two_octets, four_octets}
+use Rattle.p25_packet_blocks.specs.{declared.block.Block.{Block}, declared.block.Slot.{Slot}, declared.block.Slot.TheVariants.{Good, Bad}, Image.{two_octets, four_octets}}
 use Rattle.p25_packet_blocks.specs.Sendable.{IsDataBlock, AreDataBlocks}
 
 -- the octets of a number of 16 bits

@@ -1,10 +1,8 @@
 -- Blocks of both rates with few wrong bits read as sent: the laws of all rates at the two tables.
 use Rattle.std.proofs.Common.{refl, arith}
-use Rattle.p25_trellis.specs.Nearest.{nearest_octets, nearest_distance, half_block, three_quarter_block}
-use Rattle.p25_trellis.specs.Tables.{half_point, three_quarter_point}
+use Rattle.p25_trellis.specs.{Nearest.{nearest_octets, nearest_distance, half_block, three_quarter_block}, Tables.{half_point, three_quarter_point}}
 use Rattle.p25_trellis.specs.TableLaws.{half_parted, half_is_rate, three_quarter_parted, three_quarter_is_rate}
-use Rattle.p25_trellis.proofs.ApartLaws.{same_from_sent_bits, IsNearReading-from}
-use Rattle.p25_trellis.proofs.NearestLaws.{nearest_reading, IsBlock-block_from}
+use Rattle.p25_trellis.proofs.{ApartLaws.{same_from_sent_bits, IsNearReading-from}, NearestLaws.{nearest_reading, IsBlock-block_from}}
 use Rattle.p25_packet_blocks.proofs.RadiusLaws.{HalfNear, ThreeQuarterNear}
 
 pub half_near : HalfNear

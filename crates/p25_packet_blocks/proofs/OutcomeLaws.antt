@@ -1,30 +1,18 @@
 -- What the reading of a packet answers: the blocks that fail are those whose slots are Bad, and where none fails the number of wrong bits
 -- is that of the packet's fixes. By cases of the packet and of the format.
 use Rattle.std.proofs.Common.{◌≡◌, ◌≢◌, ℕ, zero, suc, ◌+◌, ◌*◌, ◌<◌, ◌≤◌, inl, inr, Bool, List, [], ◌∷◌, ◌++◌, length, get_or, Result, Ok, Err, refl, ap, ap₂, sym, ◌∙◌, subst, arith, add-one}
-use Rattle.std.specs.Prelude.{IfOk}
 use Rattle.std.proofs.lemmas.Bool.{cases_eq}
+use Rattle.std.specs.Prelude.{IfOk}
 use Rattle.p25_bits.proofs.NumbersLaws.{joined_below-zero, joined_below-suc}
-use Rattle.p25_status.specs.declared.fields.Field.{Field}
-use Rattle.p25_status.specs.declared.outcome.Outcome.TheVariants.{Failing}
-use Rattle.p25_status.specs.Outcomes.{outcome_of, IfRead}
-use Rattle.p25_trellis.specs.Nearest.{nearest_distance, half_octets}
-use Rattle.p25_trellis.specs.Tables.{half_point}
+use Rattle.p25_status.specs.{declared.fields.Field.{Field}, declared.outcome.Outcome.TheVariants.{Failing}, Outcomes.{outcome_of, IfRead}}
+use Rattle.p25_trellis.specs.{Nearest.{nearest_distance, half_octets}, Tables.{half_point}}
 use Rattle.p25_trellis.proofs.NearestBlockLaws.{nearest_distance-le}
-use Rattle.p25_packet_blocks.specs.declared.head.PacketHead.{PacketHead}
-use Rattle.p25_packet_blocks.specs.declared.head.ReadHead.{ReadHead}
-use Rattle.p25_packet_blocks.specs.declared.block.Slot.{Slot}
-use Rattle.p25_packet_blocks.specs.declared.block.Slot.TheVariants.{Good, Bad}
-use Rattle.p25_packet_blocks.specs.declared.packet.Packet.{Packet}
-use Rattle.p25_packet_blocks.specs.declared.packet.Packet.TheVariants.{Confirmed, Plain}
-use Rattle.p25_packet_blocks.specs.Heads.{confirmed_format, head_format, head_blocks}
-use Rattle.p25_packet_blocks.specs.Kinds.{IsPlainFormat}
-use Rattle.p25_packet_blocks.specs.Whole.{IsWholePacket}
-use Rattle.p25_packet_blocks.specs.Fixes.{half_distance, three_quarter_distance, packet_fixes_of}
+use Rattle.p25_packet_blocks.specs.{declared.head.PacketHead.{PacketHead}, declared.head.ReadHead.{ReadHead}, declared.block.Slot.{Slot}, declared.block.Slot.TheVariants.{Good, Bad}}
+use Rattle.p25_packet_blocks.specs.{declared.packet.Packet.{Packet}, declared.packet.Packet.TheVariants.{Confirmed, Plain}, Heads.{confirmed_format, head_format, head_blocks}, Kinds.{IsPlainFormat}}
+use Rattle.p25_packet_blocks.specs.{Whole.{IsWholePacket}, Fixes.{half_distance, three_quarter_distance, packet_fixes_of}}
 use Rattle.p25_packet_blocks.specs.Outcomes.{failing_slot, failing_slots_of, failing_blocks_of, body_distance, packet_failing, packet_outcome_of}
 use Rattle.p25_packet_blocks.specs.Reading.{header_bits, head_from, head_reading_of, counted_head, read_head_of, confirmed_by_parts, slots_read, packet_of_head}
-use Rattle.p25_packet_blocks.proofs.ReadingLaws.{head_reading_of-is, packet_of_head-confirmed}
-use Rattle.p25_packet_blocks.proofs.FixesLaws.{body_distance-confirmed, body_distance-plain}
-use Rattle.p25_packet_blocks.proofs.PacketFixesLaws.{packet_fixes-is}
+use Rattle.p25_packet_blocks.proofs.{ReadingLaws.{head_reading_of-is, packet_of_head-confirmed}, FixesLaws.{body_distance-confirmed, body_distance-plain}, PacketFixesLaws.{packet_fixes-is}}
 
 -- The header.
 

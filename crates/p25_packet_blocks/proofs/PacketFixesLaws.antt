@@ -4,24 +4,12 @@ use Rattle.std.proofs.Common.{◌≡◌, ℕ, ◌+◌, ◌*◌, ◌<◌, ◌≤�
 use Rattle.p25_bits.specs.Distance.{distance_of}
 use Rattle.p25_unit_front.specs.Front.{unit_front}
 use Rattle.p25_unit_front.proofs.FrontLaws.{length-unit_front}
-use Rattle.p25_trellis.specs.Nearest.{nearest_distance, half_octets, three_quarter_octets, half_block, three_quarter_block}
-use Rattle.p25_trellis.specs.Tables.{half_point, three_quarter_point}
-use Rattle.p25_packet_blocks.specs.declared.head.PacketHead.{PacketHead}
-use Rattle.p25_packet_blocks.specs.declared.packet.Packet.{Packet}
-use Rattle.p25_packet_blocks.specs.declared.packet.Packet.TheVariants.{Confirmed, Plain}
-use Rattle.p25_packet_blocks.specs.ConfirmedParts.{ConfirmedParts}
-use Rattle.p25_packet_blocks.specs.Parts.{PlainParts}
-use Rattle.p25_packet_blocks.specs.Heads.{head_blocks}
-use Rattle.p25_packet_blocks.specs.Whole.{packet_head, IsWholePacket}
-use Rattle.p25_packet_blocks.specs.WholeReading.{IsBlockRead, IsPacketRead}
-use Rattle.p25_packet_blocks.specs.Image.{header_octets, body_block, packet_nulls, packet_image_of}
-use Rattle.p25_packet_blocks.specs.Sendable.{IsSendable}
-use Rattle.p25_packet_blocks.specs.Reading.{header_bits, block_bits, head_reading_of, packet_of_head}
-use Rattle.p25_packet_blocks.specs.Fixes.{packet_fixes_of}
-use Rattle.p25_packet_blocks.specs.Outcomes.{body_distance}
-use Rattle.p25_packet_blocks.proofs.ReadingLaws.{packet_reading_of-good}
-use Rattle.p25_packet_blocks.proofs.ImageLaws.{body_block-confirmed, body_block-plain}
-use Rattle.p25_packet_blocks.proofs.WholeLaws.{IsWholeRead-reading}
+use Rattle.p25_trellis.specs.{Nearest.{nearest_distance, half_octets, three_quarter_octets, half_block, three_quarter_block}, Tables.{half_point, three_quarter_point}}
+use Rattle.p25_packet_blocks.specs.{declared.head.PacketHead.{PacketHead}, declared.packet.Packet.{Packet}, declared.packet.Packet.TheVariants.{Confirmed, Plain}, ConfirmedParts.{ConfirmedParts}}
+use Rattle.p25_packet_blocks.specs.{Parts.{PlainParts}, Heads.{head_blocks}, Whole.{packet_head, IsWholePacket}, WholeReading.{IsBlockRead, IsPacketRead}}
+use Rattle.p25_packet_blocks.specs.{Image.{header_octets, body_block, packet_nulls, packet_image_of}, Sendable.{IsSendable}, Reading.{header_bits, block_bits, head_reading_of, packet_of_head}}
+use Rattle.p25_packet_blocks.specs.{Fixes.{packet_fixes_of}, Outcomes.{body_distance}}
+use Rattle.p25_packet_blocks.proofs.{ReadingLaws.{packet_reading_of-good}, ImageLaws.{body_block-confirmed, body_block-plain}, WholeLaws.{IsWholeRead-reading}}
 use Rattle.p25_packet_blocks.proofs.FixesLaws.{all_fixes, body_distance-confirmed, body_distance-plain, half_fixes, length-half, length-three_quarter, three_quarter_fixes}
 
 confirmed_sent : (packet : ConfirmedParts) (j : ℕ) (bits : List Bool) → IsBlockRead (Confirmed packet) j bits → body_block (Confirmed packet) j ≡ three_quarter_block (three_quarter_octets bits)

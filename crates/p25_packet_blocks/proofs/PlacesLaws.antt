@@ -1,27 +1,16 @@
 -- The image by its places: the list has what the standard says at each place, and nothing else has. Each place of the list
 -- is found by the lengths of what stands before it; a list is put together again from its parts that touch.
 use Rattle.std.proofs.Common.{◌≡◌, ℕ, ◌+◌, ◌-◌, ◌*◌, ◌<◌, ◌≤◌, Bool, false, List, ◌++◌, length, take, drop, get_or, replicate, slice_get, Some, refl, ap, ap₂, sym, subst, ◌∙◌, arith, length-append, length-drop, All, append_assoc, take-append-drop}
-use Rattle.std.proofs.lemmas.List.{take_at, get_or-append_right, get_or-replicate, get_or-drop, same_lists, length-replicate}
-use Rattle.std.proofs.lemmas.Option.{slice_get-get_or, get_or_from_slice_get}
-use Rattle.p25_bits.specs.Bits.{part}
-use Rattle.p25_bits.specs.Numbers.{joined_below}
-use Rattle.p25_bits.proofs.PartLaws.{part_add, part_left, part_behind, part_joined}
-use Rattle.p25_bits.proofs.NumbersLaws.{length-joined_below, part-joined_below, joined_below-same, joined_below-parts}
+use Rattle.std.proofs.{lemmas.List.{take_at, get_or-append_right, get_or-replicate, get_or-drop, same_lists, length-replicate}, lemmas.Option.{slice_get-get_or, get_or_from_slice_get}}
+use Rattle.p25_bits.specs.{Bits.{part}, Numbers.{joined_below}}
+use Rattle.p25_bits.proofs.{PartLaws.{part_add, part_left, part_behind, part_joined}, NumbersLaws.{length-joined_below, part-joined_below, joined_below-same, joined_below-parts}}
 use Rattle.p25_unit_front.specs.Front.{unit_front, IsFront}
 use Rattle.p25_unit_front.proofs.FrontLaws.{length-unit_front, IsFront-unit_front, unit_front-only}
-use Rattle.p25_trellis.specs.Trellis.{IsBlock}
-use Rattle.p25_trellis.specs.Tables.{half_point, three_quarter_point}
-use Rattle.p25_trellis.specs.Nearest.{half_block, three_quarter_block}
-use Rattle.p25_trellis.proofs.ApartLaws.{length-block}
-use Rattle.p25_trellis.proofs.NearestLaws.{IsBlock-block_from, same_block_from}
-use Rattle.p25_packet_blocks.specs.declared.packet.Packet.{Packet}
-use Rattle.p25_packet_blocks.specs.declared.packet.Packet.TheVariants.{Confirmed, Plain}
-use Rattle.p25_packet_blocks.specs.Heads.{head_blocks}
-use Rattle.p25_packet_blocks.specs.Whole.{packet_head}
-use Rattle.p25_packet_blocks.specs.Lengths.{packet_bits, packet_bare_length}
-use Rattle.p25_packet_blocks.specs.Reading.{header_bits, block_bits}
-use Rattle.p25_packet_blocks.specs.Image.{header_octets, confirmed_octets, checked_octets, body_block, packet_nulls, packet_image_of}
-use Rattle.p25_packet_blocks.specs.Sendable.{IsDataBlock, IsSendable}
+use Rattle.p25_trellis.specs.{Trellis.{IsBlock}, Tables.{half_point, three_quarter_point}, Nearest.{half_block, three_quarter_block}}
+use Rattle.p25_trellis.proofs.{ApartLaws.{length-block}, NearestLaws.{IsBlock-block_from, same_block_from}}
+use Rattle.p25_packet_blocks.specs.{declared.packet.Packet.{Packet}, declared.packet.Packet.TheVariants.{Confirmed, Plain}, Heads.{head_blocks}, Whole.{packet_head}}
+use Rattle.p25_packet_blocks.specs.{Lengths.{packet_bits, packet_bare_length}, Reading.{header_bits, block_bits}}
+use Rattle.p25_packet_blocks.specs.{Image.{header_octets, confirmed_octets, checked_octets, body_block, packet_nulls, packet_image_of}, Sendable.{IsDataBlock, IsSendable}}
 use Rattle.p25_packet_blocks.specs.Places.{IsBodyBlock, IsPacketImage}
 use Rattle.p25_packet_blocks.proofs.ImageLaws.{length-header_octets, AreOctets-header_octets, length-confirmed_octets, AreOctets-confirmed_octets, body_block-confirmed, body_block-plain}
 use Rattle.p25_packet_blocks.proofs.SendableLaws.{IsSendable-head, octets_of_block}

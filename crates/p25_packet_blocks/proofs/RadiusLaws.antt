@@ -1,36 +1,22 @@
 -- Received bits within radius of a packet read as that packet: each block reads as the octets that were sent, their checks
 -- agree, and so every step of the reading gives what the packet has.
 use Rattle.std.proofs.Common.{◌≡◌, ℕ, ◌+◌, ◌-◌, ◌*◌, ◌/◌, ◌%◌, ◌<◌, ◌≤◌, inl, inr, Bool, List, ◌∷◌, length, take, drop, get_or, Result, Ok, refl, ap, sym, subst, ◌∙◌, arith}
-use Rattle.std.proofs.lemmas.Bool.{cases_eq, eq-eqb}
-use Rattle.std.proofs.lemmas.List.{take_at, drop_at, take_all, take-take}
-use Rattle.p25_bits.specs.Bits.{part}
-use Rattle.p25_bits.specs.Distance.{distance_of}
-use Rattle.p25_bits.specs.Numbers.{octets_number, number_after}
-use Rattle.p25_bits.proofs.PartLaws.{length-part}
-use Rattle.p25_bits.proofs.NumbersLaws.{each_below-same, each_below-list, joined_below-same, joined_below-parts}
+use Rattle.std.proofs.{lemmas.Bool.{cases_eq, eq-eqb}, lemmas.List.{take_at, drop_at, take_all, take-take}}
+use Rattle.p25_bits.specs.{Bits.{part}, Distance.{distance_of}, Numbers.{octets_number, number_after}}
+use Rattle.p25_bits.proofs.{PartLaws.{length-part}, NumbersLaws.{each_below-same, each_below-list, joined_below-same, joined_below-parts}}
 use Rattle.p25_status.specs.declared.fields.Field.{Field}
 use Rattle.p25_trellis.specs.Nearest.{half_octets, three_quarter_octets, half_block, three_quarter_block}
 use Rattle.p25_crc.specs.Values.{crc9_of, crc16_of, crc32_of}
 use Rattle.p25_crc.proofs.ChecksLaws.{crc9_of-lt}
-use Rattle.p25_packet_blocks.specs.declared.head.PacketHead.{PacketHead}
-use Rattle.p25_packet_blocks.specs.declared.block.Block.{Block}
-use Rattle.p25_packet_blocks.specs.declared.block.Slot.{Slot}
-use Rattle.p25_packet_blocks.specs.declared.block.Slot.TheVariants.{Good, Bad}
-use Rattle.p25_packet_blocks.specs.declared.packet.Packet.{Packet}
-use Rattle.p25_packet_blocks.specs.declared.packet.Packet.TheVariants.{Confirmed, Plain}
-use Rattle.p25_packet_blocks.specs.ConfirmedParts.{ConfirmedParts}
-use Rattle.p25_packet_blocks.specs.Parts.{BlockParts, PlainParts}
-use Rattle.p25_packet_blocks.specs.Heads.{head_blocks}
-use Rattle.p25_packet_blocks.specs.Whole.{packet_head}
-use Rattle.p25_packet_blocks.specs.Lengths.{packet_bare_length}
+use Rattle.p25_packet_blocks.specs.{declared.head.PacketHead.{PacketHead}, declared.block.Block.{Block}, declared.block.Slot.{Slot}, declared.block.Slot.TheVariants.{Good, Bad}}
+use Rattle.p25_packet_blocks.specs.{declared.packet.Packet.{Packet}, declared.packet.Packet.TheVariants.{Confirmed, Plain}, ConfirmedParts.{ConfirmedParts}, Parts.{BlockParts, PlainParts}}
+use Rattle.p25_packet_blocks.specs.{Heads.{head_blocks}, Whole.{packet_head}, Lengths.{packet_bare_length}}
 use Rattle.p25_packet_blocks.specs.Reading.{header_bits, block_bits, head_from, slot_from, slots_read, octets_read, packet_of_head, packet_reading_of}
-use Rattle.p25_packet_blocks.specs.Image.{two_octets, four_octets, header_octets, confirmed_octets, checked_octets, packet_image_of}
-use Rattle.p25_packet_blocks.specs.Sendable.{AreOctets, IsHead, IsDataBlock, IsSendable}
+use Rattle.p25_packet_blocks.specs.{Image.{two_octets, four_octets, header_octets, confirmed_octets, checked_octets, packet_image_of}, Sendable.{AreOctets, IsHead, IsDataBlock, IsSendable}}
 use Rattle.p25_packet_blocks.specs.Within.{AreBlocksWithin}
 use Rattle.p25_packet_blocks.proofs.ReadingLaws.{head_from-good, head_reading_of-is, slot_from-good, plain_from-none, plain_from-good, packet_of_head-confirmed, packet_of_head-plain, packet_reading_of-good}
 use Rattle.p25_packet_blocks.proofs.ImageLaws.{header_octets-is, length-header_octets, AreOctets-header_octets, confirmed_octets-is, length-confirmed_octets, AreOctets-confirmed_octets, checked_octets-is, length-checked_octets, body_block-confirmed, body_block-plain}
-use Rattle.p25_packet_blocks.proofs.SendableLaws.{IsSendable-head, octets_of_block}
-use Rattle.p25_packet_blocks.proofs.PlacesLaws.{image_long, image_header, image_block}
+use Rattle.p25_packet_blocks.proofs.{SendableLaws.{IsSendable-head, octets_of_block}, PlacesLaws.{image_long, image_header, image_block}}
 
 -- What is written is read again.
 

@@ -3,16 +3,11 @@ use Rattle.std.proofs.Common.{◌≡◌, ◌≢◌, ℕ, ◌+◌, ◌-◌, ◌*�
 use Rattle.std.proofs.lemmas.Bool.{cond-true, cond-false, eq-eqb, ne_eqb}
 use Rattle.p25_bits.specs.Numbers.{octets_number}
 use Rattle.p25_bits.proofs.NumbersLaws.{length-numbers_from, each_below-zero, each_below-more, joined_below-zero, joined_below-more, length-each_below, length-joined_below}
-use Rattle.p25_status.specs.declared.fields.Field.{Field}
-use Rattle.p25_status.specs.declared.fields.Field.TheVariants.{PacketHeader, Format, PacketCrc}
+use Rattle.p25_status.specs.{declared.fields.Field.{Field}, declared.fields.Field.TheVariants.{PacketHeader, Format, PacketCrc}}
 use Rattle.p25_trellis.specs.Nearest.{nearest_octets, half_octets, three_quarter_octets}
 use Rattle.p25_crc.specs.Values.{crc9_of, crc16_of, crc32_of}
-use Rattle.p25_packet_blocks.specs.declared.head.PacketHead.{PacketHead}
-use Rattle.p25_packet_blocks.specs.declared.block.Slot.TheVariants.{Good, Bad}
-use Rattle.p25_packet_blocks.specs.declared.packet.Packet.TheVariants.{Confirmed, Plain}
-use Rattle.p25_packet_blocks.specs.Heads.{head_format, head_blocks}
-use Rattle.p25_packet_blocks.specs.Kinds.{IsPlainFormat}
-use Rattle.p25_packet_blocks.specs.Lengths.{packet_bits}
+use Rattle.p25_packet_blocks.specs.{declared.head.PacketHead.{PacketHead}, declared.block.Slot.TheVariants.{Good, Bad}, declared.packet.Packet.TheVariants.{Confirmed, Plain}}
+use Rattle.p25_packet_blocks.specs.{Heads.{head_format, head_blocks}, Kinds.{IsPlainFormat}, Lengths.{packet_bits}}
 use Rattle.p25_packet_blocks.specs.Reading.{header_bits, block_bits, head_from, head_reading_of, slot_from, slots_read, octets_read, plain_from, packet_of_head, packet_from, packet_reading_of, HasItsLength}
 
 -- The header.

@@ -1,15 +1,9 @@
 -- What packets that can be sent keep: their header, and the octets of each block to follow.
-use Rattle.std.proofs.Common.{◌≡◌, ℕ, ◌+◌, ◌*◌, ◌<◌, ◌≤◌, length, drop, arith}
-use Rattle.std.proofs.lemmas.List.Elements.{All-take, All-drop}
+use Rattle.std.proofs.{Common.{◌≡◌, ℕ, ◌+◌, ◌*◌, ◌<◌, ◌≤◌, length, drop, arith}, lemmas.List.Elements.{All-take, All-drop}}
 use Rattle.p25_bits.specs.Bits.{part}
 use Rattle.p25_bits.proofs.PartLaws.{length-part}
-use Rattle.p25_packet_blocks.specs.declared.packet.Packet.{Packet}
-use Rattle.p25_packet_blocks.specs.declared.packet.Packet.TheVariants.{Confirmed, Plain}
-use Rattle.p25_packet_blocks.specs.Parts.{PlainParts}
-use Rattle.p25_packet_blocks.specs.Heads.{head_blocks}
-use Rattle.p25_packet_blocks.specs.Whole.{packet_head}
-use Rattle.p25_packet_blocks.specs.Image.{checked_octets}
-use Rattle.p25_packet_blocks.specs.Sendable.{AreOctets, IsHead, IsSendable, IsSendablePlain}
+use Rattle.p25_packet_blocks.specs.{declared.packet.Packet.{Packet}, declared.packet.Packet.TheVariants.{Confirmed, Plain}, Parts.{PlainParts}, Heads.{head_blocks}, Whole.{packet_head}}
+use Rattle.p25_packet_blocks.specs.{Image.{checked_octets}, Sendable.{AreOctets, IsHead, IsSendable, IsSendablePlain}}
 use Rattle.p25_packet_blocks.proofs.ImageLaws.{length-checked_octets, AreOctets-checked_octets}
 
 -- its header

@@ -1,34 +1,19 @@
 -- A sent unit of a packet: its header block between status symbols, and that it reads as the packet within radius. The front
 -- is read by the laws of fronts, the rest without status symbols.
-use Rattle.std.proofs.Common.{◌≡◌, ℕ, ◌*◌, ◌≤◌, Bool, List, ◌++◌, length, take, Ok, refl, ap, ap₂, sym, subst, ◌∙◌, arith}
-use Rattle.std.proofs.lemmas.List.{take_all}
-use Rattle.p25_bits.specs.Bits.{part}
-use Rattle.p25_bits.specs.Distance.{distance_of}
-use Rattle.p25_bits.proofs.PartLaws.{part_add}
-use Rattle.p25_bits.proofs.DistanceLaws.{distance_of-same}
-use Rattle.p25_status.specs.declared.symbols.Status.{Status}
-use Rattle.p25_status.specs.Sync.{sync_bits, sync_slack}
-use Rattle.p25_status.specs.Woven.{bare_of}
-use Rattle.p25_status.proofs.SyncLaws.{has_sync-yes}
-use Rattle.p25_status.proofs.WovenLaws.{length-woven, bare_of-woven, part-bare_of}
+use Rattle.std.proofs.{Common.{◌≡◌, ℕ, ◌*◌, ◌≤◌, Bool, List, ◌++◌, length, take, Ok, refl, ap, ap₂, sym, subst, ◌∙◌, arith}, lemmas.List.{take_all}}
+use Rattle.p25_bits.specs.{Bits.{part}, Distance.{distance_of}}
+use Rattle.p25_bits.proofs.{PartLaws.{part_add}, DistanceLaws.{distance_of-same}}
+use Rattle.p25_status.specs.{declared.symbols.Status.{Status}, Sync.{sync_bits, sync_slack}, Woven.{bare_of}}
+use Rattle.p25_status.proofs.{SyncLaws.{has_sync-yes}, WovenLaws.{length-woven, bare_of-woven, part-bare_of}}
 use Rattle.p25_bch_nid.specs.NidWord.{nid_word}
 use Rattle.p25_unit_front.specs.Front.{unit_front, front_of, identifier_bits}
 use Rattle.p25_unit_front.proofs.FrontLaws.{front_of-bare_of, front_of-sync, front_of-identifier, identifier_of-near}
 use Rattle.p25_trellis.specs.Nearest.{half_octets}
-use Rattle.p25_packet_blocks.specs.declared.packet.Packet.{Packet}
-use Rattle.p25_packet_blocks.specs.Heads.{head_blocks}
-use Rattle.p25_packet_blocks.specs.Whole.{packet_head}
-use Rattle.p25_packet_blocks.specs.Lengths.{packet_bare_length, packet_sent_length}
-use Rattle.p25_packet_blocks.specs.Reading.{header_bits, block_bits, head_from, read_head_of, head_reading_of, packet_of_head}
-use Rattle.p25_packet_blocks.specs.Image.{packet_image_of}
-use Rattle.p25_packet_blocks.specs.Sendable.{IsSendable}
-use Rattle.p25_packet_blocks.specs.Within.{block_radius, AreBlocksWithin, IsPacketWithin, IsSending, sent_unit}
-use Rattle.p25_packet_blocks.specs.UnitReading.{sent_header_bits, sent_head_of, sent_read_of, packet_unit_of}
-use Rattle.p25_packet_blocks.proofs.ReadingLaws.{head_reading_of-is}
-use Rattle.p25_packet_blocks.proofs.UnitLaws.{sent_header_bits-is, sent_head_of-is, sent_packet_of-whole, packet_unit_of-good}
-use Rattle.p25_packet_blocks.proofs.SendableLaws.{IsSendable-head}
-use Rattle.p25_packet_blocks.proofs.PlacesLaws.{image_long, image_front}
-use Rattle.p25_packet_blocks.proofs.RadiusLaws.{HalfNear, ThreeQuarterNear, head_again, head_within, body_within}
+use Rattle.p25_packet_blocks.specs.{declared.packet.Packet.{Packet}, Heads.{head_blocks}, Whole.{packet_head}, Lengths.{packet_bare_length, packet_sent_length}}
+use Rattle.p25_packet_blocks.specs.{Reading.{header_bits, block_bits, head_from, read_head_of, head_reading_of, packet_of_head}, Image.{packet_image_of}, Sendable.{IsSendable}}
+use Rattle.p25_packet_blocks.specs.{Within.{block_radius, AreBlocksWithin, IsPacketWithin, IsSending, sent_unit}, UnitReading.{sent_header_bits, sent_head_of, sent_read_of, packet_unit_of}}
+use Rattle.p25_packet_blocks.proofs.{ReadingLaws.{head_reading_of-is}, UnitLaws.{sent_header_bits-is, sent_head_of-is, sent_packet_of-whole, packet_unit_of-good}, SendableLaws.{IsSendable-head}}
+use Rattle.p25_packet_blocks.proofs.{PlacesLaws.{image_long, image_front}, RadiusLaws.{HalfNear, ThreeQuarterNear, head_again, head_within, body_within}}
 
 -- the header block of a sent unit is that of its bits without status symbols
 pub sent_header_bits-bare_of : (blocks : ℕ) (sent : List Bool) → 5 ≤ blocks → length sent ≡ 72 * blocks → sent_header_bits sent ≡ header_bits (bare_of sent)

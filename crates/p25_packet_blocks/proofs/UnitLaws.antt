@@ -1,20 +1,12 @@
 -- The packet answer of a sent unit by its cases: each arm with the facts that choose it.
 use Rattle.std.proofs.Common.{◌≡◌, ◌≢◌, ℕ, ◌<◌, ◌≤◌, Bool, true, false, eqb, leb, List, ◌++◌, length, take, Ok, Err, Some, None, refl, ap, ap₂, sym, ◌∙◌, arith}
-use Rattle.std.proofs.lemmas.Bool.{cond-true, cond-false, eq-eqb, ne_eqb, le-leb, false_from_ne_true, leb-true}
-use Rattle.std.proofs.lemmas.List.{take-append-le}
+use Rattle.std.proofs.{lemmas.Bool.{cond-true, cond-false, eq-eqb, ne_eqb, le-leb, false_from_ne_true, leb-true}, lemmas.List.{take-append-le}}
 use Rattle.p25_bits.specs.Bits.{part}
 use Rattle.p25_bits.proofs.PartLaws.{part-take}
-use Rattle.p25_status.specs.declared.fields.Field.{Field}
-use Rattle.p25_status.specs.declared.fields.Field.TheVariants.{Sync, Nid, Duid, Length}
-use Rattle.p25_status.specs.Sync.{has_sync}
-use Rattle.p25_status.specs.Woven.{bare_of}
+use Rattle.p25_status.specs.{declared.fields.Field.{Field}, declared.fields.Field.TheVariants.{Sync, Nid, Duid, Length}, Sync.{has_sync}, Woven.{bare_of}}
 use Rattle.p25_unit_front.specs.Front.{identifier_of}
 use Rattle.p25_trellis.specs.Nearest.{half_octets}
-use Rattle.p25_packet_blocks.specs.declared.head.PacketHead.{PacketHead}
-use Rattle.p25_packet_blocks.specs.declared.head.ReadHead.{ReadHead}
-use Rattle.p25_packet_blocks.specs.declared.packet.Packet.{Packet}
-use Rattle.p25_packet_blocks.specs.Heads.{head_blocks}
-use Rattle.p25_packet_blocks.specs.Lengths.{packet_sent_length}
+use Rattle.p25_packet_blocks.specs.{declared.head.PacketHead.{PacketHead}, declared.head.ReadHead.{ReadHead}, declared.packet.Packet.{Packet}, Heads.{head_blocks}, Lengths.{packet_sent_length}}
 use Rattle.p25_packet_blocks.specs.Reading.{head_from, read_head_of, packet_of_head}
 use Rattle.p25_packet_blocks.specs.UnitReading.{sent_header_bits, sent_head_of, sent_read_of, sent_from, sent_packet_of, with_nac, identified_packet_of, packet_unit_of}
 use Rattle.p25_packet_blocks.proofs.OutcomeLaws.{IsReadHead-of, head_from-unread}

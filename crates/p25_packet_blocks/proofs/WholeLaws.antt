@@ -1,28 +1,17 @@
 -- A packet that was read and in which no slot is Bad can be sent, and is what the first nearest paths carry. By cases of what
 -- was read: where the checks agree, the octets that were read are those that are written.
 use Rattle.std.proofs.Common.{◌≡◌, ◌≢◌, ℕ, ◌+◌, ◌-◌, ◌*◌, ◌/◌, ◌%◌, ◌<◌, ◌^◌, inl, inr, Bool, true, false, ◌||◌, eqb, List, [], ◌∷◌, ◌++◌, length, take, drop, get_or, Result, Ok, Err, refl, ap, ap₂, sym, subst, ◌∙◌, arith, length-drop, take-append-drop}
-use Rattle.std.proofs.lemmas.Bool.{cases_Bool, cases_eq, cond-false, cond-true, eqb-true, ne_eqb}
-use Rattle.std.proofs.lemmas.List.{length-take-le}
-use Rattle.std.proofs.lemmas.List.Elements.{All-head, All-tail, All-take, All-drop}
-use Rattle.p25_bits.specs.Bits.{part}
-use Rattle.p25_bits.specs.Numbers.{octets_number, number_after}
+use Rattle.std.proofs.{lemmas.Bool.{cases_Bool, cases_eq, cond-false, cond-true, eqb-true, ne_eqb}, lemmas.List.{length-take-le}, lemmas.List.Elements.{All-head, All-tail, All-take, All-drop}}
+use Rattle.p25_bits.specs.{Bits.{part}, Numbers.{octets_number, number_after}}
 use Rattle.p25_bits.proofs.NumbersLaws.{All-numbers_from, All-joined_below, get_or-each_below, part-joined_below}
-use Rattle.p25_status.specs.declared.fields.Field.{Field}
-use Rattle.p25_status.specs.declared.fields.Field.TheVariants.{PacketHeader, Format, PacketCrc}
+use Rattle.p25_status.specs.{declared.fields.Field.{Field}, declared.fields.Field.TheVariants.{PacketHeader, Format, PacketCrc}}
 use Rattle.p25_trellis.specs.Nearest.{nearest_octets, half_octets, three_quarter_octets}
 use Rattle.p25_crc.specs.Values.{crc9_of, crc16_of, crc32_of}
-use Rattle.p25_packet_blocks.specs.declared.head.PacketHead.{PacketHead}
-use Rattle.p25_packet_blocks.specs.declared.block.Block.{Block}
-use Rattle.p25_packet_blocks.specs.declared.block.Slot.{Slot}
-use Rattle.p25_packet_blocks.specs.declared.block.Slot.TheVariants.{Good, Bad}
-use Rattle.p25_packet_blocks.specs.declared.packet.Packet.{Packet}
-use Rattle.p25_packet_blocks.specs.declared.packet.Packet.TheVariants.{Confirmed, Plain}
-use Rattle.p25_packet_blocks.specs.Heads.{head_format, head_blocks}
-use Rattle.p25_packet_blocks.specs.Kinds.{IsPlainFormat}
+use Rattle.p25_packet_blocks.specs.{declared.head.PacketHead.{PacketHead}, declared.block.Block.{Block}, declared.block.Slot.{Slot}, declared.block.Slot.TheVariants.{Good, Bad}}
+use Rattle.p25_packet_blocks.specs.{declared.packet.Packet.{Packet}, declared.packet.Packet.TheVariants.{Confirmed, Plain}, Heads.{head_format, head_blocks}, Kinds.{IsPlainFormat}}
 use Rattle.p25_packet_blocks.specs.Whole.{packet_head, AreGood, IsWholePacket}
 use Rattle.p25_packet_blocks.specs.Reading.{header_bits, block_bits, head_from, head_reading_of, slot_from, slots_read, octets_read, plain_from, packet_of_head, packet_from, packet_reading_of}
-use Rattle.p25_packet_blocks.specs.Image.{two_octets, four_octets, header_octets, confirmed_octets, checked_octets}
-use Rattle.p25_packet_blocks.specs.Sendable.{AreOctets, IsHead, IsDataBlock, IsSendable}
+use Rattle.p25_packet_blocks.specs.{Image.{two_octets, four_octets, header_octets, confirmed_octets, checked_octets}, Sendable.{AreOctets, IsHead, IsDataBlock, IsSendable}}
 use Rattle.p25_packet_blocks.specs.WholeReading.{IsBlockRead, IsPacketRead}
 use Rattle.p25_packet_blocks.proofs.ReadingLaws.{head_reading_of-is, length-slots_read, length-half_octets, length-three_quarter_octets, length-octets_read, packet_of_head-confirmed, packet_of_head-plain, packet_of_head-other}
 use Rattle.p25_packet_blocks.proofs.ImageLaws.{header_octets-is, confirmed_octets-is, checked_octets-is}

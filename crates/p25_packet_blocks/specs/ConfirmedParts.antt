@@ -1,7 +1,6 @@
 -- What contracts see of a confirmed packet (PDU): its parts alone.
 use Rattle.std.specs.Prelude.{List}
-use Rattle.p25_packet_blocks.specs.declared.head.PacketHead.{PacketHead}
-use Rattle.p25_packet_blocks.specs.declared.block.Slot.{Slot}
+use Rattle.p25_packet_blocks.specs.{declared.head.PacketHead.{PacketHead}, declared.block.Slot.{Slot}}
 
 -- the header of a confirmed packet, and a slot for each block to follow
 pub record ConfirmedParts : Type 0 where

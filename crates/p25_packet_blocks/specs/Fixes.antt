@@ -1,14 +1,8 @@
 -- In how many bits the blocks of a unit were received otherwise than its packet (PDU) is sent.
 use Rattle.std.specs.Prelude.{ℕ, zero, suc, ◌+◌, ◌*◌, Bool, List}
-use Rattle.p25_bits.specs.Bits.{part}
-use Rattle.p25_bits.specs.Distance.{distance_of}
-use Rattle.p25_trellis.specs.Nearest.{nearest_distance}
-use Rattle.p25_trellis.specs.Tables.{half_point, three_quarter_point}
-use Rattle.p25_packet_blocks.specs.declared.packet.Packet.{Packet}
-use Rattle.p25_packet_blocks.specs.Heads.{head_blocks}
-use Rattle.p25_packet_blocks.specs.Whole.{packet_head}
-use Rattle.p25_packet_blocks.specs.Reading.{block_bits}
-use Rattle.p25_packet_blocks.specs.Image.{packet_image_of}
+use Rattle.p25_bits.specs.{Bits.{part}, Distance.{distance_of}}
+use Rattle.p25_trellis.specs.{Nearest.{nearest_distance}, Tables.{half_point, three_quarter_point}}
+use Rattle.p25_packet_blocks.specs.{declared.packet.Packet.{Packet}, Heads.{head_blocks}, Whole.{packet_head}, Reading.{block_bits}, Image.{packet_image_of}}
 
 -- in how many of the bits from place 112 on, as many as the header block and the blocks to follow have, the image of a packet
 -- differs from the bits of a unit that was received

@@ -1,7 +1,6 @@
 -- Flags as the octets of a selective retry (PDU).
 use Rattle.std.specs.Prelude.{ℕ, ◌/◌, Bool, ◌==◌, List, [], ◌∷◌, ◌++◌, length, take, Option, Some, None, if◌then◌else◌}
-use Rattle.p25_bits.specs.Bits.{octet_bits}
-use Rattle.p25_bits.specs.Numbers.{octets_from}
+use Rattle.p25_bits.specs.{Bits.{octet_bits}, Numbers.{octets_from}}
 
 -- the octets of 64 or of 128 flags: the first flag is the most significant bit of the first octet, and after 128 flags
 -- stand four octets of 0

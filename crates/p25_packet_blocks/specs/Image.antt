@@ -1,19 +1,13 @@
 -- The image of a packet (PDU): the bits of its unit without status symbols, as one list.
 use Rattle.std.specs.Prelude.{ℕ, ◌+◌, ◌-◌, ◌*◌, ◌/◌, ◌%◌, ◌^◌, Bool, false, List, [], ◌∷◌, ◌++◌, replicate, slice_index_or}
-use Rattle.p25_bits.specs.Bits.{part}
-use Rattle.p25_bits.specs.Numbers.{joined_below}
+use Rattle.p25_bits.specs.{Bits.{part}, Numbers.{joined_below}}
 use Rattle.p25_bch_nid.specs.Duids.{duid_pdu}
 use Rattle.p25_trellis.specs.Nearest.{half_block, three_quarter_block}
 use Rattle.p25_crc.specs.Values.{crc9_of, crc16_of, crc32_of}
 use Rattle.p25_unit_front.specs.Front.{unit_front}
-use Rattle.p25_packet_blocks.specs.declared.head.PacketHead.{PacketHead}
-use Rattle.p25_packet_blocks.specs.declared.block.Block.{Block}
-use Rattle.p25_packet_blocks.specs.declared.block.Slot.{Slot}
-use Rattle.p25_packet_blocks.specs.declared.block.Slot.TheVariants.{Good, Bad}
-use Rattle.p25_packet_blocks.specs.declared.packet.Packet.{Packet}
-use Rattle.p25_packet_blocks.specs.declared.packet.Packet.TheVariants.{Confirmed, Plain}
-use Rattle.p25_packet_blocks.specs.Heads.{head_blocks}
-use Rattle.p25_packet_blocks.specs.Whole.{packet_head}
+use Rattle.p25_packet_blocks.specs.{declared.head.PacketHead.{PacketHead}, declared.block.Block.{Block}, declared.block.Slot.{Slot}}
+use Rattle.p25_packet_blocks.specs.{declared.block.Slot.TheVariants.{Good, Bad}, declared.packet.Packet.{Packet}}
+use Rattle.p25_packet_blocks.specs.{declared.packet.Packet.TheVariants.{Confirmed, Plain}, Heads.{head_blocks}, Whole.{packet_head}}
 use Rattle.p25_packet_blocks.specs.Lengths.{packet_bits, packet_bare_length}
 
 -- the two octets of a number, the first highest

@@ -1,7 +1,6 @@
 -- What makes a packet (PDU) confirmed, and what makes it plain.
 use Rattle.std.specs.Prelude.{◌≡◌, ℕ, ◌-◌, ◌*◌, ◌⊎◌, length}
-use Rattle.p25_packet_blocks.specs.Heads.{confirmed_format, plain_format, response_format, head_format, head_blocks}
-use Rattle.p25_packet_blocks.specs.Parts.{PlainParts}
+use Rattle.p25_packet_blocks.specs.{Heads.{confirmed_format, plain_format, response_format, head_format, head_blocks}, Parts.{PlainParts}}
 use Rattle.p25_packet_blocks.specs.ConfirmedParts.{ConfirmedParts}
 
 -- a confirmed packet: format 16 hex, and a slot for each block to follow

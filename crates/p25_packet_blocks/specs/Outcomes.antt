@@ -1,19 +1,12 @@
 -- What the reading of a packet (PDU) answers beside the packet: the fields that fail, and how many bits were wrong.
 use Rattle.std.specs.Prelude.{ℕ, ◌+◌, Bool, List, [], ◌∷◌, length, slice_index_or, Result, Ok, Err, if◌then◌else◌, ◌==◌}
 use Rattle.p25_bits.specs.Numbers.{joined_below}
-use Rattle.p25_status.specs.Outcomes.{outcome_of}
-use Rattle.p25_status.specs.declared.fields.Field.{Field}
-use Rattle.p25_status.specs.declared.fields.Field.TheVariants.{Block}
+use Rattle.p25_status.specs.{Outcomes.{outcome_of}, declared.fields.Field.{Field}, declared.fields.Field.TheVariants.{Block}}
 use Rattle.p25_status.specs.declared.outcome.Outcome.{Outcome}
-use Rattle.p25_packet_blocks.specs.declared.head.PacketHead.{PacketHead}
-use Rattle.p25_packet_blocks.specs.declared.head.ReadHead.{ReadHead}
-use Rattle.p25_packet_blocks.specs.declared.block.Slot.{Slot}
-use Rattle.p25_packet_blocks.specs.declared.block.Slot.TheVariants.{Good, Bad}
-use Rattle.p25_packet_blocks.specs.declared.packet.Packet.{Packet}
-use Rattle.p25_packet_blocks.specs.declared.packet.Packet.TheVariants.{Confirmed, Plain}
-use Rattle.p25_packet_blocks.specs.Fixes.{half_distance, three_quarter_distance}
-use Rattle.p25_packet_blocks.specs.Heads.{confirmed_format, head_format, head_blocks}
-use Rattle.p25_packet_blocks.specs.Reading.{packet_of_head}
+use Rattle.p25_packet_blocks.specs.{declared.head.PacketHead.{PacketHead}, declared.head.ReadHead.{ReadHead}, declared.block.Slot.{Slot}}
+use Rattle.p25_packet_blocks.specs.{declared.block.Slot.TheVariants.{Good, Bad}, declared.packet.Packet.{Packet}}
+use Rattle.p25_packet_blocks.specs.{declared.packet.Packet.TheVariants.{Confirmed, Plain}, Fixes.{half_distance, three_quarter_distance}}
+use Rattle.p25_packet_blocks.specs.{Heads.{confirmed_format, head_format, head_blocks}, Reading.{packet_of_head}}
 
 -- the field that fails where the slot at a place is Bad
 abbrev pub failing_slot : ℕ → Slot → List Field

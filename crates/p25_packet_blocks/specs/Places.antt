@@ -2,17 +2,11 @@
 use Rattle.std.specs.Prelude.{◌≡◌, ℕ, ◌*◌, ◌<◌, ◌≤◌, Bool, false, List, length, take, slice_get, slice_index_or, Some}
 use Rattle.p25_bits.specs.Bits.{part}
 use Rattle.p25_bch_nid.specs.Duids.{duid_pdu}
-use Rattle.p25_trellis.specs.Trellis.{IsBlock}
-use Rattle.p25_trellis.specs.Tables.{half_point, three_quarter_point}
+use Rattle.p25_trellis.specs.{Trellis.{IsBlock}, Tables.{half_point, three_quarter_point}}
 use Rattle.p25_unit_front.specs.Front.{IsFront}
-use Rattle.p25_packet_blocks.specs.declared.block.Block.{Block}
-use Rattle.p25_packet_blocks.specs.declared.block.Slot.TheVariants.{Good, Bad}
-use Rattle.p25_packet_blocks.specs.declared.packet.Packet.{Packet}
-use Rattle.p25_packet_blocks.specs.declared.packet.Packet.TheVariants.{Confirmed, Plain}
-use Rattle.p25_packet_blocks.specs.Heads.{head_blocks}
-use Rattle.p25_packet_blocks.specs.Whole.{packet_head}
-use Rattle.p25_packet_blocks.specs.Lengths.{packet_bits, packet_bare_length}
-use Rattle.p25_packet_blocks.specs.Reading.{header_bits, block_bits}
+use Rattle.p25_packet_blocks.specs.{declared.block.Block.{Block}, declared.block.Slot.TheVariants.{Good, Bad}, declared.packet.Packet.{Packet}}
+use Rattle.p25_packet_blocks.specs.{declared.packet.Packet.TheVariants.{Confirmed, Plain}, Heads.{head_blocks}, Whole.{packet_head}}
+use Rattle.p25_packet_blocks.specs.{Lengths.{packet_bits, packet_bare_length}, Reading.{header_bits, block_bits}}
 use Rattle.p25_packet_blocks.specs.Image.{header_octets, confirmed_octets, checked_octets}
 
 -- bits are those of the block at place j: at three-quarter rate the serial number, the CRC-9 and the octets of the slot's

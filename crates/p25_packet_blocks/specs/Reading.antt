@@ -1,21 +1,14 @@
 -- The packet answer: what a unit (PDU) without its status symbols reads as. Each reading is in steps, so that what decides is an
 -- argument of the next step.
 use Rattle.std.specs.Prelude.{◌≡◌, ℕ, ◌+◌, ◌-◌, ◌*◌, ◌/◌, ◌%◌, ◌≤◌, Bool, List, length, ◌==◌, ◌||◌, take, drop, slice_index, Result, Ok, Err, if◌then◌else◌}
-use Rattle.p25_bits.specs.Bits.{part}
-use Rattle.p25_bits.specs.Numbers.{octets_number, each_below, joined_below}
-use Rattle.p25_status.specs.declared.fields.Field.{Field}
-use Rattle.p25_status.specs.declared.fields.Field.TheVariants.{PacketHeader, Format, PacketCrc}
-use Rattle.p25_trellis.specs.Nearest.{nearest_distance, half_octets, three_quarter_octets}
-use Rattle.p25_trellis.specs.Tables.{half_point}
+use Rattle.p25_bits.specs.{Bits.{part}, Numbers.{octets_number, each_below, joined_below}}
+use Rattle.p25_status.specs.{declared.fields.Field.{Field}, declared.fields.Field.TheVariants.{PacketHeader, Format, PacketCrc}}
+use Rattle.p25_trellis.specs.{Nearest.{nearest_distance, half_octets, three_quarter_octets}, Tables.{half_point}}
 use Rattle.p25_crc.specs.Values.{crc9_of, crc16_of, crc32_of}
-use Rattle.p25_packet_blocks.specs.declared.head.PacketHead.{PacketHead}
-use Rattle.p25_packet_blocks.specs.declared.head.ReadHead.{ReadHead}
-use Rattle.p25_packet_blocks.specs.declared.block.Slot.{Slot}
-use Rattle.p25_packet_blocks.specs.declared.block.Slot.TheVariants.{Good, Bad}
-use Rattle.p25_packet_blocks.specs.declared.packet.Packet.{Packet}
+use Rattle.p25_packet_blocks.specs.{declared.head.PacketHead.{PacketHead}, declared.head.ReadHead.{ReadHead}, declared.block.Slot.{Slot}}
+use Rattle.p25_packet_blocks.specs.{declared.block.Slot.TheVariants.{Good, Bad}, declared.packet.Packet.{Packet}}
 use Rattle.p25_packet_blocks.specs.declared.packet.Packet.TheVariants.{Confirmed, Plain}
-use Rattle.p25_packet_blocks.specs.Heads.{confirmed_format, plain_format, response_format, head_format, head_blocks}
-use Rattle.p25_packet_blocks.specs.Lengths.{packet_bits}
+use Rattle.p25_packet_blocks.specs.{Heads.{confirmed_format, plain_format, response_format, head_format, head_blocks}, Lengths.{packet_bits}}
 
 -- the bits of the header block of a unit
 abbrev pub header_bits : List Bool → List Bool

@@ -2,14 +2,9 @@
 use Rattle.std.specs.Prelude.{◌≡◌, ℕ, ◌*◌, ◌<◌, Bool, List, slice_index_or}
 use Rattle.p25_bits.specs.Bits.{part}
 use Rattle.p25_trellis.specs.Nearest.{half_octets, three_quarter_octets}
-use Rattle.p25_packet_blocks.specs.declared.block.Block.{Block}
-use Rattle.p25_packet_blocks.specs.declared.block.Slot.TheVariants.{Good, Bad}
-use Rattle.p25_packet_blocks.specs.declared.packet.Packet.{Packet}
-use Rattle.p25_packet_blocks.specs.declared.packet.Packet.TheVariants.{Confirmed, Plain}
-use Rattle.p25_packet_blocks.specs.Heads.{head_blocks}
-use Rattle.p25_packet_blocks.specs.Whole.{packet_head}
-use Rattle.p25_packet_blocks.specs.Reading.{header_bits, block_bits}
-use Rattle.p25_packet_blocks.specs.Image.{header_octets, confirmed_octets, checked_octets}
+use Rattle.p25_packet_blocks.specs.{declared.block.Block.{Block}, declared.block.Slot.TheVariants.{Good, Bad}, declared.packet.Packet.{Packet}}
+use Rattle.p25_packet_blocks.specs.{declared.packet.Packet.TheVariants.{Confirmed, Plain}, Heads.{head_blocks}, Whole.{packet_head}}
+use Rattle.p25_packet_blocks.specs.{Reading.{header_bits, block_bits}, Image.{header_octets, confirmed_octets, checked_octets}}
 
 -- the first nearest path to received bits carries the block at place j: the serial number, the CRC-9 and the octets of the
 -- slot's block, or the twelve octets from 12·j of all octets and their packet CRC

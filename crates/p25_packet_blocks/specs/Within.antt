@@ -1,17 +1,10 @@
 -- Received bits within radius of the image of a packet (PDU).
 use Rattle.std.specs.Prelude.{◌≡◌, ℕ, ◌*◌, ◌<◌, ◌≤◌, Bool, List, length, take}
 use Rattle.p25_bits.specs.Distance.{distance_of}
-use Rattle.p25_status.specs.Sync.{sync_slack}
-use Rattle.p25_status.specs.declared.symbols.Status.{Status}
-use Rattle.p25_status.specs.Woven.{woven, bare_of}
+use Rattle.p25_status.specs.{Sync.{sync_slack}, declared.symbols.Status.{Status}, Woven.{woven, bare_of}}
 use Rattle.p25_unit_front.specs.Front.{identifier_bits}
-use Rattle.p25_packet_blocks.specs.declared.packet.Packet.{Packet}
-use Rattle.p25_packet_blocks.specs.declared.packet.Packet.TheVariants.{Confirmed, Plain}
-use Rattle.p25_packet_blocks.specs.Heads.{head_blocks}
-use Rattle.p25_packet_blocks.specs.Whole.{packet_head}
-use Rattle.p25_packet_blocks.specs.Lengths.{packet_bare_length}
-use Rattle.p25_packet_blocks.specs.Image.{packet_image_of}
-use Rattle.p25_packet_blocks.specs.Sendable.{IsSendable}
+use Rattle.p25_packet_blocks.specs.{declared.packet.Packet.{Packet}, declared.packet.Packet.TheVariants.{Confirmed, Plain}, Heads.{head_blocks}}
+use Rattle.p25_packet_blocks.specs.{Whole.{packet_head}, Lengths.{packet_bare_length}, Image.{packet_image_of}, Sendable.{IsSendable}}
 use Rattle.p25_packet_blocks.specs.Reading.{header_bits, block_bits}
 
 -- how many bits of a block may be wrong: one at three-quarter rate, two at half rate

@@ -5,10 +5,8 @@ ghost use Rattle.p25_bits.specs.Numbers.{joined_below};
 ghost use Rattle.p25_bch_nid.specs.Duids.{duid_pdu};
 ghost use Rattle.p25_unit_front.specs.Front.{unit_front};
 ghost use Rattle.p25_trellis.specs.Nearest.{half_block, three_quarter_block};
-ghost use Rattle.p25_packet_blocks.specs.declared.packet.Packet.TheVariants.{Confirmed as confirmed_packet, Plain as plain_packet};
-ghost use Rattle.p25_packet_blocks.specs.Heads.{head_blocks};
-ghost use Rattle.p25_packet_blocks.specs.Whole.{packet_head, AreGood, IsWholePacket};
-ghost use Rattle.p25_packet_blocks.specs.Lengths.{packet_bits, packet_bare_length, packet_sent_length};
+ghost use Rattle.p25_packet_blocks.specs.{declared.packet.Packet.TheVariants.{Confirmed as confirmed_packet, Plain as plain_packet}, Heads.{head_blocks}};
+ghost use Rattle.p25_packet_blocks.specs.{Whole.{packet_head, AreGood, IsWholePacket}, Lengths.{packet_bits, packet_bare_length, packet_sent_length}};
 ghost use Rattle.p25_packet_blocks.specs.Image.{header_octets, confirmed_octets, checked_octets, body_block, packet_nulls, packet_image_of};
 ghost use Rattle.p25_packet_blocks.specs.Sendable.{IsHead, IsDataBlock, IsSendableConfirmed, IsSendablePlain, IsSendable};
 

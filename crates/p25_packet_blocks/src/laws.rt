@@ -2,14 +2,10 @@
 //! what is proved, and makes no call but of the theorems that it stands on.
 
 ghost use Rattle.std.specs.Prelude.{◌≡◌, ℕ, ◌↔◌, Bool, List, Ok};
-ghost use Rattle.p25_packet_blocks.specs.declared.packet.Packet.{Packet as packet_type};
-ghost use Rattle.p25_packet_blocks.specs.Image.{packet_image_of};
-ghost use Rattle.p25_packet_blocks.specs.Sendable.{IsSendable};
-ghost use Rattle.p25_packet_blocks.specs.Places.{IsPacketImage};
-ghost use Rattle.p25_status.specs.declared.symbols.Status.{Status as status_type};
-ghost use Rattle.p25_packet_blocks.specs.Reading.{packet_reading_of};
-ghost use Rattle.p25_packet_blocks.specs.Within.{AreBlocksWithin, IsPacketWithin, IsSending, sent_unit};
+ghost use Rattle.p25_packet_blocks.specs.{declared.packet.Packet.{Packet as packet_type}, Image.{packet_image_of}, Sendable.{IsSendable}};
+ghost use Rattle.p25_packet_blocks.specs.{Places.{IsPacketImage}, Reading.{packet_reading_of}, Within.{AreBlocksWithin, IsPacketWithin, IsSending, sent_unit}};
 ghost use Rattle.p25_packet_blocks.specs.UnitReading.{packet_unit_of};
+ghost use Rattle.p25_status.specs.declared.symbols.Status.{Status as status_type};
 
 use crate::{BLOCK_LENGTH, BLOCKS_AT, CONFIRMED_FORMAT, HEADER_AT, PLAIN_FORMAT, RESPONSE_FORMAT};
 use p25_trellis::laws::{half_rate_near, three_quarter_rate_near};

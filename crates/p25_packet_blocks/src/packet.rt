@@ -1,7 +1,6 @@
 ghost use Rattle.std.specs.Prelude.{◌≡◌, ℕ, ◌+◌, ◌-◌, ◌*◌, ◌≤◌, [], length, Ok, IfOk};
 ghost use Rattle.p25_packet_blocks.specs.Fixes.{half_distance, three_quarter_distance, packet_fixes_of};
-ghost use Rattle.p25_packet_blocks.specs.Heads.{confirmed_format, head_format, head_blocks, response_head};
-ghost use Rattle.p25_packet_blocks.specs.Kinds.{IsPlainFormat};
+ghost use Rattle.p25_packet_blocks.specs.{Heads.{confirmed_format, head_format, head_blocks, response_head}, Kinds.{IsPlainFormat}};
 ghost use Rattle.p25_packet_blocks.specs.Outcomes.{body_distance, packet_or, packet_outcome_of};
 ghost use Rattle.p25_packet_blocks.specs.Reading.{header_bits, octets_read, read_head_of, slots_read, confirmed_by_parts, plain_by_parts, packet_of_head, plain_from};
 ghost use Rattle.p25_status.specs.Outcomes.{IfRead};
@@ -25,8 +24,7 @@ pub struct Confirmed {
 }
 
 impl Model for Confirmed {
-    ghost use Rattle.p25_packet_blocks.specs.ConfirmedParts.{ConfirmedParts};
-    ghost use Rattle.p25_packet_blocks.specs.Kinds.{IsConfirmed};
+    ghost use Rattle.p25_packet_blocks.specs.{ConfirmedParts.{ConfirmedParts}, Kinds.{IsConfirmed}};
 
     ghost Value = { ConfirmedParts };
 
@@ -75,8 +73,7 @@ pub struct Plain {
 }
 
 impl Model for Plain {
-    ghost use Rattle.p25_packet_blocks.specs.Parts.{PlainParts};
-    ghost use Rattle.p25_packet_blocks.specs.Kinds.{IsPlain};
+    ghost use Rattle.p25_packet_blocks.specs.{Parts.{PlainParts}, Kinds.{IsPlain}};
 
     ghost Value = { PlainParts };
 

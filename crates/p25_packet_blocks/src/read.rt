@@ -1,8 +1,7 @@
 //! Units of packets (PDU) read, without their status symbols.
 
 ghost use Rattle.std.specs.Prelude.{◌≡◌, ◌+◌, ◌*◌, ◌≤◌, ◌==◌, length, take, drop, IfOk};
-ghost use Rattle.p25_bits.specs.Bits.{part};
-ghost use Rattle.p25_bits.specs.Numbers.{octets_number};
+ghost use Rattle.p25_bits.specs.{Bits.{part}, Numbers.{octets_number}};
 ghost use Rattle.p25_crc.specs.Values.{crc32_of};
 ghost use Rattle.p25_packet_blocks.specs.Fixes.{half_distance, three_quarter_distance};
 ghost use Rattle.p25_packet_blocks.specs.Reading.{head_reading_of, read_head_of, slot_from, slots_read, octets_read, packet_reading_of, HasItsLength};

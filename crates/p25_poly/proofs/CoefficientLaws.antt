@@ -1,14 +1,10 @@
 -- Coefficients in lists, and the steps of the loops over them: a step writes one place, and a list has zeros past its end.
 use Rattle.std.proofs.Common.{◌≡◌, ◌≢◌, ◌⊎◌, ℕ, suc, ◌+◌, ◌-◌, ◌<◌, ◌≤◌, List, length, get_or, set, replicate, sym, ap, ap₂, ◌∙◌, inl, inr, arith, get_or-set_same, get_or-set_other}
-use Rattle.std.proofs.lemmas.Bool.{cases_eq, cases_lt}
-use Rattle.std.proofs.lemmas.List.{get_or_past, get_or_read, get_or-replicate, length-replicate, length-set}
+use Rattle.std.proofs.{lemmas.Bool.{cases_eq, cases_lt}, lemmas.List.{get_or_past, get_or_read, get_or-replicate, length-replicate, length-set}}
 use Rattle.p25_gf64.specs.Field.{Field}
 use Rattle.p25_gf64.proofs.FieldLaws.{add_comm, add_zero, mul_comm, mul_zero, one_mul}
-use Rattle.p25_algebra.specs.Sums.{sum_below}
-use Rattle.p25_algebra.specs.Series.{coefficient, value_at, product_at, shifted, IsShort, IsDegree}
-use Rattle.p25_algebra.proofs.SumLaws.{sum-suc}
-use Rattle.p25_algebra.proofs.ValueLaws.{value_first, value_same}
-use Rattle.p25_algebra.proofs.ProductLaws.{shifted_below, shifted_from, product_by_rows, product_zero, zero_or_degree}
+use Rattle.p25_algebra.specs.{Sums.{sum_below}, Series.{coefficient, value_at, product_at, shifted, IsShort, IsDegree}}
+use Rattle.p25_algebra.proofs.{SumLaws.{sum-suc}, ValueLaws.{value_first, value_same}, ProductLaws.{shifted_below, shifted_from, product_by_rows, product_zero, zero_or_degree}}
 
 module _ {F : Type 0} (K : Field F) where
   open K use {zero as 𝟘, one as 𝟙, add as ◌⊕◌, mul as ◌⊗◌}

@@ -1,6 +1,5 @@
 -- Sums of products of two lists, after one of them changes.
-use Rattle.std.proofs.Common.{◌≡◌, ◌≢◌, ℕ, suc, ◌+◌, ◌<◌, sym, ap, ◌∙◌, inl, inr, arith}
-use Rattle.std.proofs.lemmas.Bool.{cases_eq}
+use Rattle.std.proofs.{Common.{◌≡◌, ◌≢◌, ℕ, suc, ◌+◌, ◌<◌, sym, ap, ◌∙◌, inl, inr, arith}, lemmas.Bool.{cases_eq}}
 use Rattle.p25_gf64.specs.Field.{Field}
 use Rattle.p25_gf64.proofs.FieldLaws.{add_self, add_comm, add_twice, mul_add, mul_assoc, mul_left_comm, mul_zero, zero_mul, add_mul, mul_inverse, mul_one}
 use Rattle.p25_algebra.specs.Sums.{dot}

@@ -1,22 +1,14 @@
 -- The steps of Euclid's algorithm keep its pair of sides. What holds of each coefficient is shown coefficient by coefficient; the
 -- crosswise sum is shown by values, so that no product of the two sides is needed.
-use Rattle.std.proofs.Common.{◌≡◌, ◌≢◌, ℕ, ◌+◌, ◌-◌, ◌*◌, ◌/◌, ◌<◌, ◌≤◌, List, length, sym, ap, ap₂, ◌∙◌, inl, inr, arith}
-use Rattle.std.proofs.lemmas.Bool.{cases_eq, cases_lt}
-use Rattle.p25_gf64.specs.declared.symbol.Sym.{Sym}
-use Rattle.p25_gf64.specs.Field.{Field, power}
-use Rattle.p25_gf64.specs.Gf64.{gf64}
+use Rattle.std.proofs.{Common.{◌≡◌, ◌≢◌, ℕ, ◌+◌, ◌-◌, ◌*◌, ◌/◌, ◌<◌, ◌≤◌, List, length, sym, ap, ap₂, ◌∙◌, inl, inr, arith}, lemmas.Bool.{cases_eq, cases_lt}}
+use Rattle.p25_gf64.specs.{declared.symbol.Sym.{Sym}, Field.{Field, power}, Gf64.{gf64}}
 use Rattle.p25_gf64.proofs.FieldLaws.{add_comm, add_assoc, add_zero, add_self, add_twice, mul_comm, mul_assoc, mul_left_comm, mul_one, one_mul, mul_add, add_mul, mul_zero, zero_mul, mul_inverse}
 use Rattle.p25_gf64.proofs.PowerLaws.{power-zero, power_of_one, power_ne_zero}
 use Rattle.p25_algebra.specs.Series.{coefficient, value_at, product_at, shifted, IsZero, IsShort}
-use Rattle.p25_algebra.proofs.SumLaws.{sum_of_one}
-use Rattle.p25_algebra.proofs.ValueLaws.{value_same, value_of_zeros}
+use Rattle.p25_algebra.proofs.{SumLaws.{sum_of_one}, ValueLaws.{value_same, value_of_zeros}}
 use Rattle.p25_algebra.proofs.ProductLaws.{shifted_below, shifted_from, shifted_agree, product_same_left, product_comm, product-add_left, product-mul_left, product-shifted, product_monomial, product_zero}
 use Rattle.p25_algebra.proofs.ProductValueLaws.{value-add, value-mul, value_longer, value-shifted}
-use Rattle.p25_poly.specs.declared.polynomial.Poly.{Poly}
-use Rattle.p25_poly.specs.declared.side.Side.{Side}
-use Rattle.p25_poly.specs.Polynomial.{coefficient_of}
-use Rattle.p25_poly.specs.Euclid.{behind, IsPadded, IsPair, IsMoved, IsReduced}
-use Rattle.p25_poly.specs.Key.{IsKey}
+use Rattle.p25_poly.specs.{declared.polynomial.Poly.{Poly}, declared.side.Side.{Side}, Polynomial.{coefficient_of}, Euclid.{behind, IsPadded, IsPair, IsMoved, IsReduced}, Key.{IsKey}}
 use Rattle.p25_poly.proofs.CoefficientLaws.{coefficient_past}
 
 module _ {F : Type 0} (K : Field F) where

@@ -1,15 +1,11 @@
 -- A polynomial is its coefficients, and quotient and remainder are determined.
-use Rattle.std.proofs.Common.{◌≡◌, ℕ, ◌<◌, List, length, sym, ap, subst, ◌∙◌, arith}
-use Rattle.std.proofs.lemmas.List.{ext_get_or}
+use Rattle.std.proofs.{Common.{◌≡◌, ℕ, ◌<◌, List, length, sym, ap, subst, ◌∙◌, arith}, lemmas.List.{ext_get_or}}
 use Rattle.std.specs.Coded.{Coded-set, coded_ℕ}
-use Rattle.p25_gf64.specs.declared.symbol.Sym.{Sym}
-use Rattle.p25_gf64.specs.Gf64.{gf64}
+use Rattle.p25_gf64.specs.{declared.symbol.Sym.{Sym}, Gf64.{gf64}}
 use Rattle.p25_algebra.specs.Series.{product_at, IsShort, IsDegree}
 use Rattle.p25_algebra.proofs.ProductLaws.{same_degree, same_quotient, same_remainder}
-use Rattle.p25_poly.specs.declared.polynomial.Poly.{Poly}
-use Rattle.p25_poly.specs.Polynomial.{coefficient_of, IsDivision}
-use Rattle.p25_poly.proofs.CoefficientLaws.{short_list}
-use Rattle.p25_poly.proofs.DivisionLaws.{DividedTo}
+use Rattle.p25_poly.specs.{declared.polynomial.Poly.{Poly}, Polynomial.{coefficient_of, IsDivision}}
+use Rattle.p25_poly.proofs.{CoefficientLaws.{short_list}, DivisionLaws.{DividedTo}}
 
 abbrev pub poly_of : (coefficients : List Sym) → length coefficients ≡ 64 → Poly
 poly_of coefficients full = record { coefficients = coefficients; full = full }

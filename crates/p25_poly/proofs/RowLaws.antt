@@ -1,15 +1,10 @@
 -- Rows of a linear system: clearing a column, correcting an unknown, and the steps of elimination. With the front row, cleared rows have the
 -- solutions of the rows; the unknown of the cleared column is free in them, and the front row corrects it.
-use Rattle.std.proofs.Common.{◌≡◌, ◌≢◌, ℕ, zero, suc, ◌+◌, ◌<◌, List, length, drop, Bool, false, ◌==◌, sym, ap, ap₂, ◌∙◌, arith}
-use Rattle.std.proofs.lemmas.Bool.{eqb-false}
-use Rattle.std.proofs.lemmas.List.{get_or-drop, length-drop}
-use Rattle.p25_gf64.specs.declared.symbol.Sym.{Sym}
-use Rattle.p25_gf64.specs.Gf64.{gf64}
+use Rattle.std.proofs.{Common.{◌≡◌, ◌≢◌, ℕ, zero, suc, ◌+◌, ◌<◌, List, length, drop, Bool, false, ◌==◌, sym, ap, ap₂, ◌∙◌, arith}, lemmas.Bool.{eqb-false}, lemmas.List.{get_or-drop, length-drop}}
+use Rattle.p25_gf64.specs.{declared.symbol.Sym.{Sym}, Gf64.{gf64}}
 use Rattle.p25_gf64.proofs.FieldLaws.{add_self, add_comm, add_twice, mul_comm, mul_assoc, mul_inverse, mul_one}
-use Rattle.p25_algebra.specs.Sums.{dot}
-use Rattle.p25_algebra.specs.Series.{coefficient}
-use Rattle.p25_poly.specs.declared.row.Row.{Row}
-use Rattle.p25_poly.specs.LinearSystem.{IsMet, blank_row, row_of, AreMet, IsCleared, AreCleared, AgreeBut}
+use Rattle.p25_algebra.specs.{Sums.{dot}, Series.{coefficient}}
+use Rattle.p25_poly.specs.{declared.row.Row.{Row}, LinearSystem.{IsMet, blank_row, row_of, AreMet, IsCleared, AreCleared, AgreeBut}}
 use Rattle.p25_poly.proofs.DotLaws.{dot_of_zeros, dot_same, dot_multiple, dot_elsewhere, dot_gained, short_made_up}
 
 -- a row that has gained the multiple of the front row which takes its cell in the column

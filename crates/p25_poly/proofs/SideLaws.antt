@@ -1,6 +1,5 @@
 -- A side is its parts: the facts that it keeps beside them are equations of numbers, of which there is one each.
-use Rattle.std.proofs.Common.{◌≡◌, ℕ, List, length, ap₂, subst}
-use Rattle.std.proofs.Math.Nat.{ℕ_set}
+use Rattle.std.proofs.{Common.{◌≡◌, ℕ, List, length, ap₂, subst}, Math.Nat.{ℕ_set}}
 use Rattle.p25_gf64.specs.declared.symbol.Sym.{Sym}
 use Rattle.p25_poly.specs.declared.side.Side.{Side}
 

@@ -1,14 +1,8 @@
 -- Solutions of a matrix's system and of its rows.
-use Rattle.std.proofs.Common.{◌≡◌, ℕ, ◌<◌, List, length, take, sym, ap, ◌∙◌, arith}
-use Rattle.std.proofs.lemmas.List.{get_or-take, length-take}
-use Rattle.p25_gf64.specs.declared.symbol.Sym.{Sym}
-use Rattle.p25_gf64.specs.Gf64.{gf64}
-use Rattle.p25_algebra.specs.Sums.{dot}
-use Rattle.p25_algebra.specs.Series.{coefficient}
-use Rattle.p25_poly.specs.declared.matrix.Matrix.{Matrix}
-use Rattle.p25_poly.specs.declared.row.Row.{Row}
-use Rattle.p25_poly.specs.LinearSystem.{IsMet, AreMet, row_of}
-use Rattle.p25_poly.specs.Matrix.{row_count, column_count, IsSolution, IsSystem}
+use Rattle.std.proofs.{Common.{◌≡◌, ℕ, ◌<◌, List, length, take, sym, ap, ◌∙◌, arith}, lemmas.List.{get_or-take, length-take}}
+use Rattle.p25_gf64.specs.{declared.symbol.Sym.{Sym}, Gf64.{gf64}}
+use Rattle.p25_algebra.specs.{Sums.{dot}, Series.{coefficient}}
+use Rattle.p25_poly.specs.{declared.matrix.Matrix.{Matrix}, declared.row.Row.{Row}, LinearSystem.{IsMet, AreMet, row_of}, Matrix.{row_count, column_count, IsSolution, IsSystem}}
 
 -- a solution of the system meets its rows
 pub solution_met : (m : Matrix) (right : ℕ → Sym) (rows : List Row) (n : ℕ) (x : ℕ → Sym) → IsSystem m right rows → n ≡ column_count m → IsSolution m right x → AreMet n (take (row_count m) rows) x

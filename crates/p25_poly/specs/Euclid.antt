@@ -1,8 +1,6 @@
 -- The sides of Euclid's algorithm, and what each of its steps keeps.
 use Rattle.std.specs.Prelude.{◌≡◌, ℕ, ◌+◌, ◌-◌, ◌<◌, ◌≤◌, List}
-use Rattle.p25_gf64.specs.declared.symbol.Sym.{Sym}
-use Rattle.p25_gf64.specs.Field.{power}
-use Rattle.p25_gf64.specs.Gf64.{gf64}
+use Rattle.p25_gf64.specs.{declared.symbol.Sym.{Sym}, Field.{power}, Gf64.{gf64}}
 use Rattle.p25_algebra.specs.Series.{coefficient, value_at, product_at, IsShort}
 use Rattle.p25_poly.specs.declared.side.Side.{Side}
 

@@ -1,10 +1,8 @@
 -- Solutions of the key equation of Reed-Solomon and BCH codes.
 use Rattle.std.specs.Prelude.{◌≡◌, ◌≢◌, ℕ, ◌+◌, ◌/◌, ◌<◌, List, length}
-use Rattle.p25_gf64.specs.declared.symbol.Sym.{Sym}
-use Rattle.p25_gf64.specs.Gf64.{gf64}
+use Rattle.p25_gf64.specs.{declared.symbol.Sym.{Sym}, Gf64.{gf64}}
 use Rattle.p25_algebra.specs.Series.{coefficient, value_at, product_at, IsZero, IsShort}
-use Rattle.p25_poly.specs.declared.polynomial.Poly.{Poly}
-use Rattle.p25_poly.specs.Polynomial.{coefficient_of}
+use Rattle.p25_poly.specs.{declared.polynomial.Poly.{Poly}, Polynomial.{coefficient_of}}
 
 -- of 2t syndromes, the coefficients of a polynomial S, lowest first: a locator that isn't zero, of degree t at most, and an evaluator
 -- of degree below t; locator times S and the evaluator are the same below x^(2t), and only 0 can be a zero of both

@@ -1,9 +1,7 @@
 -- Systems of linear equations by their rows.
 use Rattle.std.specs.Prelude.{◌≡◌, ◌≢◌, ℕ, ◌<◌, List, length, replicate, slice_index_or, refl}
-use Rattle.p25_gf64.specs.declared.symbol.Sym.{Sym}
-use Rattle.p25_gf64.specs.Gf64.{gf64}
-use Rattle.p25_algebra.specs.Sums.{dot}
-use Rattle.p25_algebra.specs.Series.{coefficient}
+use Rattle.p25_gf64.specs.{declared.symbol.Sym.{Sym}, Gf64.{gf64}}
+use Rattle.p25_algebra.specs.{Sums.{dot}, Series.{coefficient}}
 use Rattle.p25_poly.specs.declared.row.Row.{Row}
 
 -- the equation of a row of n cells holds of the unknowns

@@ -1,12 +1,8 @@
 -- Matrices by their entries, and the solutions of linear systems.
 use Rattle.std.specs.Prelude.{◌≡◌, ℕ, ◌<◌, List}
-use Rattle.p25_gf64.specs.declared.symbol.Sym.{Sym}
-use Rattle.p25_gf64.specs.Gf64.{gf64}
-use Rattle.p25_algebra.specs.Sums.{dot}
-use Rattle.p25_algebra.specs.Series.{coefficient}
-use Rattle.p25_poly.specs.declared.matrix.Matrix.{Matrix}
-use Rattle.p25_poly.specs.declared.row.Row.{Row}
-use Rattle.p25_poly.specs.LinearSystem.{row_of}
+use Rattle.p25_gf64.specs.{declared.symbol.Sym.{Sym}, Gf64.{gf64}}
+use Rattle.p25_algebra.specs.{Sums.{dot}, Series.{coefficient}}
+use Rattle.p25_poly.specs.{declared.matrix.Matrix.{Matrix}, declared.row.Row.{Row}, LinearSystem.{row_of}}
 
 -- how many rows there are
 abbrev pub row_count : Matrix → ℕ

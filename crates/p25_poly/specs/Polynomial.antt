@@ -1,7 +1,6 @@
 -- A polynomial by its coefficients.
 use Rattle.std.specs.Prelude.{◌≡◌, ℕ}
-use Rattle.p25_gf64.specs.declared.symbol.Sym.{Sym}
-use Rattle.p25_gf64.specs.Gf64.{gf64}
+use Rattle.p25_gf64.specs.{declared.symbol.Sym.{Sym}, Gf64.{gf64}}
 use Rattle.p25_algebra.specs.Series.{coefficient, product_at, IsShort, IsDegree}
 use Rattle.p25_poly.specs.declared.polynomial.Poly.{Poly}
 

@@ -2,9 +2,7 @@
 
 ghost use Rattle.std.specs.Prelude.{◌≡◌, ◌≢◌, ℕ, ◌+◌, ◌*◌, ◌/◌, ◌≤◌, length};
 ghost use Rattle.p25_gf64.specs.declared.symbol.Sym.{Sym};
-ghost use Rattle.p25_poly.specs.declared.side.Side.{Side};
-ghost use Rattle.p25_poly.specs.Euclid.{IsPair};
-ghost use Rattle.p25_poly.specs.Key.{IsKey};
+ghost use Rattle.p25_poly.specs.{declared.side.Side.{Side}, Euclid.{IsPair}, Key.{IsKey}};
 
 use crate::polynomial::Poly;
 use crate::side::Side;

@@ -3,8 +3,7 @@
 ghost use Rattle.std.specs.Prelude.{◌≡◌, ℕ, ◌<◌, ◌≤◌};
 ghost use Rattle.p25_gf64.specs.Gf64.{gf64};
 ghost use Rattle.p25_algebra.specs.Series.{IsShort};
-ghost use Rattle.p25_poly.specs.declared.polynomial.Poly.{Poly};
-ghost use Rattle.p25_poly.specs.Polynomial.{coefficient_of};
+ghost use Rattle.p25_poly.specs.{declared.polynomial.Poly.{Poly}, Polynomial.{coefficient_of}};
 
 /// A polynomial is its coefficients, and has none from x^64 on.
 pub fn polynomial_laws()

@@ -13,8 +13,7 @@ pub struct Poly {
 }
 
 impl Poly {
-    ghost use Rattle.p25_poly.specs.declared.polynomial.Poly.{Poly as Polynomial};
-    ghost use Rattle.p25_poly.specs.Polynomial.{coefficient_of, IsDivision};
+    ghost use Rattle.p25_poly.specs.{declared.polynomial.Poly.{Poly as Polynomial}, Polynomial.{coefficient_of, IsDivision}};
 
     /// Answers the polynomial zero.
     pub fn zero() -> Poly

@@ -15,8 +15,7 @@ pub(crate) struct Row {
 
 impl Row {
     ghost use Rattle.p25_gf64.specs.Gf64.{gf64};
-    ghost use Rattle.p25_algebra.specs.Sums.{dot};
-    ghost use Rattle.p25_algebra.specs.Series.{coefficient};
+    ghost use Rattle.p25_algebra.specs.{Sums.{dot}, Series.{coefficient}};
     ghost use Rattle.p25_poly.specs.LinearSystem.{IsMet, IsCleared, AgreeBut};
 
     /// The row of zeros.

@@ -1,8 +1,7 @@
 //! Linear systems over GF(64), by elimination.
 
 ghost use Rattle.std.specs.Prelude.{◌≡◌, ℕ, length, IsTrue};
-ghost use Rattle.p25_gf64.specs.declared.symbol.Sym.{Sym};
-ghost use Rattle.p25_gf64.specs.Gf64.{gf64};
+ghost use Rattle.p25_gf64.specs.{declared.symbol.Sym.{Sym}, Gf64.{gf64}};
 ghost use Rattle.p25_algebra.specs.Series.{coefficient};
 ghost use Rattle.p25_poly.specs.Matrix.{row_count, column_count, IsSolution};
 

@@ -1,21 +1,13 @@
 -- What `calls` writes of items, by induction on the items: the lines of what a caller answers. Those of items that lie end to end are the calls among them.
 use Rattle.std.proofs.Common.{◌≡◌, ℕ, ◌+◌, Bool, true, false, cond, List, [], ◌∷◌, ◌++◌, length, drop, refl, ap, ap₂, sym, ◌∙◌, arith, append_assoc, length-append}
-use Rattle.std.specs.List.{flat_map}
-use Rattle.std.specs.Prelude.{option_to_list}
 use Rattle.std.proofs.lemmas.List.Concat.{flat_map-append}
-use Rattle.p25_units.specs.declared.item.Item.{Item}
-use Rattle.p25_units.specs.Items.{covered}
+use Rattle.std.specs.{List.{flat_map}, Prelude.{option_to_list}}
+use Rattle.p25_units.specs.{declared.item.Item.{Item}, Items.{covered}}
 use Rattle.p25_stream.specs.Items.{items_by}
 use Rattle.p25_stream.proofs.ItemLaws.{item-covers}
-use Rattle.p25_calls.specs.CallLaws.{LieFrom}
-use Rattle.p25_calls.specs.Calls.{calls_by}
-use Rattle.p25_calls.specs.Taking.{CallerParts, answer_to, answers_by, behind_item, fresh_caller}
-use Rattle.p25_calls.specs.declared.call.Call.{Call}
-use Rattle.p25_calls.proofs.LieLaws.{lie-from}
-use Rattle.p25_calls.proofs.TakingLaws.{answers-are-calls}
-use Rattle.p25_recording_filters.specs.ItemOutputs.{call_line, calls_line}
-use Rattle.p25_recording_filters.specs.Commands.{CallsParts, calls_reporting}
-use Rattle.p25_recording_filters.specs.Reports.{reported}
+use Rattle.p25_calls.specs.{CallLaws.{LieFrom}, Calls.{calls_by}, Taking.{CallerParts, answer_to, answers_by, behind_item, fresh_caller}, declared.call.Call.{Call}}
+use Rattle.p25_calls.proofs.{LieLaws.{lie-from}, TakingLaws.{answers-are-calls}}
+use Rattle.p25_recording_filters.specs.{ItemOutputs.{call_line, calls_line}, Commands.{CallsParts, calls_reporting}, Reports.{reported}}
 use Rattle.p25_recording_filters.proofs.ReportsLaws.{reported-cons, reported-nil}
 
 -- the lines of some calls, after so many others

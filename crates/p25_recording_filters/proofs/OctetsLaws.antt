@@ -1,13 +1,10 @@
 -- Whole octets of bits that are joined: those of the first bits, and then those of what is left of them and the others.
 use Rattle.std.proofs.Common.{◌≡◌, ℕ, zero, suc, ◌+◌, ◌-◌, ◌*◌, ◌/◌, ◌%◌, ◌^◌, ◌<◌, ◌≤◌, Bool, List, [], ◌∷◌, ◌++◌, length, take, drop, refl, ap, ap₂, sym, ◌∙◌, arith, append_assoc, append-nil, length-append, length-take, length-drop}
+use Rattle.std.proofs.{lemmas.List.{drop-append-le, drop-drop, drop_all, take-append-drop, take_all}, Math.Seq.{drop-append-add}}
 use Rattle.std.specs.Int.{w64, byte_at, bytes_high_first, to_be_bytes}
-use Rattle.std.proofs.lemmas.List.{drop-append-le, drop-drop, drop_all, take-append-drop, take_all}
-use Rattle.std.proofs.Math.Seq.{drop-append-add}
-use Rattle.p25_bits.specs.Bits.{bits_of, field_of, part}
-use Rattle.p25_bits.specs.Numbers.{octets_from}
+use Rattle.p25_bits.specs.{Bits.{bits_of, field_of, part}, Numbers.{octets_from}}
 use Rattle.p25_bits.proofs.BitsLaws.{field_of-bits_of, take-bits_of, drop-bits_of}
-use Rattle.p25_bits.proofs.NumbersLaws.{bits_of-field, numbers_from-zero, numbers_from-suc, numbers_from-add, numbers_from-append, numbers_from-take}
-use Rattle.p25_bits.proofs.OctetNumbersLaws.{pow_256}
+use Rattle.p25_bits.proofs.{NumbersLaws.{bits_of-field, numbers_from-zero, numbers_from-suc, numbers_from-add, numbers_from-append, numbers_from-take}, OctetNumbersLaws.{pow_256}}
 use Rattle.p25_recording_filters.specs.Commands.{unfilled}
 use Rattle.p25_units.specs.Units.{whole_octets}
 

@@ -3,18 +3,14 @@ use Rattle.std.proofs.Common.{◌≡◌, ◌≢◌, ℕ, ◌+◌, Bool, true, fa
 use Rattle.std.proofs.lemmas.List.{take-append-le, drop-append-le}
 use Rattle.p25_bits.specs.Bits.{octet_bits}
 use Rattle.p25_bits.proofs.BitsLaws.{octet_bits-append, octet_bits-nil}
-use Rattle.p25_units.specs.declared.item.Item.{Item}
-use Rattle.p25_units.specs.Items.{covered, place_of}
-use Rattle.p25_stream.specs.Items.{items_by, items_in}
-use Rattle.p25_stream.specs.ItemLaws.{GaveItems}
-use Rattle.p25_stream.specs.Scan.{Scan, Gave, given}
+use Rattle.p25_units.specs.{declared.item.Item.{Item}, Items.{covered, place_of}}
+use Rattle.p25_stream.specs.{Items.{items_by, items_in}, ItemLaws.{GaveItems}, Scan.{Scan, Gave, given}}
 use Rattle.p25_stream.proofs.ItemLaws.{item-covers}
 use Rattle.p25_follow.specs.Relayed.{IsFitItem}
 use Rattle.p25_follow.proofs.FitLaws.{items-fit}
 use Rattle.p25_filter.specs.Futures.{IsClosed, IsIdle, NextPiece, Progress}
 use Rattle.p25_filter.proofs.LinesLaws.{Contains-none}
-use Rattle.p25_recording_filters.specs.declared.recording.Phase.{Phase}
-use Rattle.p25_recording_filters.specs.declared.recording.Phase.TheVariants.{Reading, Ended, Closed}
+use Rattle.p25_recording_filters.specs.{declared.recording.Phase.{Phase}, declared.recording.Phase.TheVariants.{Reading, Ended, Closed}}
 use Rattle.p25_recording_filters.specs.Recordings.{HasClosed, IsClosing, IsClosingBy, RecordingParts, bits_ending, bits_written, fresh, has_ended, phase_future, recording_future}
 use Rattle.p25_recording_filters.specs.Reports.{IgnoresBits, Reporting, report_behind, reported}
 use Rattle.p25_recording_filters.proofs.ReportsLaws.{behind-cons, behind-nil, reported-cons, reported-nil}

@@ -1,18 +1,13 @@
 -- What the reports of the commands write of items, by induction on the items: the outputs that the commands are defined by.
 use Rattle.std.proofs.Common.{◌≡◌, ℕ, ◌+◌, ◌*◌, ◌/◌, ◌<◌, Bool, true, false, cond, List, [], ◌∷◌, ◌++◌, length, take, drop, refl, ap, ap₂, sym, ◌∙◌, arith, append_assoc, append-nil, length-drop, None}
 use Rattle.std.specs.List.{flat_map}
-use Rattle.p25_units.specs.declared.item.Item.{Item}
-use Rattle.p25_units.specs.Items.{covered}
+use Rattle.p25_units.specs.{declared.item.Item.{Item}, Items.{covered}, Units.{whole_octets}}
 use Rattle.p25_stream.specs.Repeats.{is_whole_item}
-use Rattle.p25_recording_filters.specs.declared.reports.show.Show.{Show}
-use Rattle.p25_recording_filters.specs.declared.reports.check.Check.{Check}
-use Rattle.p25_units.specs.Units.{whole_octets}
-use Rattle.p25_recording_filters.specs.ItemOutputs.{changed_bits, check_line, faults_in, faulty, shown, units_in}
-use Rattle.p25_follow.specs.Followed.{followed_by}
-use Rattle.p25_follow.specs.Following.{Follow, IsFollow, behind_item, fresh_follow, written_before, written_by, written_end, written_item}
-use Rattle.p25_follow.proofs.FollowingLaws.{written-follows}
+use Rattle.p25_recording_filters.specs.{declared.reports.show.Show.{Show}, declared.reports.check.Check.{Check}, ItemOutputs.{changed_bits, check_line, faults_in, faulty, shown, units_in}}
 use Rattle.p25_recording_filters.specs.Commands.{ChangedParts, FollowedParts, change_of, changed_reporting, check_reporting, followed_item, followed_reporting, show_reporting, unfilled}
 use Rattle.p25_recording_filters.specs.Reports.{Reporting, report_behind, reported}
+use Rattle.p25_follow.specs.{Followed.{followed_by}, Following.{Follow, IsFollow, behind_item, fresh_follow, written_before, written_by, written_end, written_item}}
+use Rattle.p25_follow.proofs.FollowingLaws.{written-follows}
 use Rattle.p25_recording_filters.proofs.OctetsLaws.{whole_octets-append, whole_octets-few}
 
 -- a first item that is given, whatever the bits after it

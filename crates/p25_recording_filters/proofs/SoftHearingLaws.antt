@@ -1,15 +1,12 @@
 -- What a scanner holds after one more level: the bits of the last group after those that it held, where the level fills one.
 use Rattle.std.proofs.Common.{◌≡◌, ◌≢◌, ℕ, ◌+◌, ◌-◌, ◌*◌, ◌%◌, ◌^◌, ◌<◌, ◌≤◌, Bool, true, false, List, [], ◌∷◌, ◌++◌, length, drop, map, get_or, refl, ap, ap₂, sym, ◌∙◌, arith, length-append, ℤ, pos}
 use Rattle.std.proofs.lemmas.List.{drop-append-le}
-use Rattle.p25_bits.specs.Bits.{bits_of, part}
-use Rattle.p25_bits.specs.Numbers.{number_bits}
-use Rattle.p25_bits.proofs.BitsLaws.{bits_of-joined}
-use Rattle.p25_bits.proofs.NumbersLaws.{number_bits-cons, number_bits-one}
+use Rattle.p25_bits.specs.{Bits.{bits_of, part}, Numbers.{number_bits}}
+use Rattle.p25_bits.proofs.{BitsLaws.{bits_of-joined}, NumbersLaws.{number_bits-cons, number_bits-one}}
 use Rattle.p25_stream.specs.Scan.{Scan}
 use Rattle.p25_soft.specs.Levels.{hard_bits, hard_dibit}
 use Rattle.p25_soft.proofs.HardBitsLaws.{hard_bits-append, length-hard_bits}
-use Rattle.p25_recording_filters.specs.SoftLevels.{grouped}
-use Rattle.p25_recording_filters.specs.Softs.{IsHolding}
+use Rattle.p25_recording_filters.specs.{SoftLevels.{grouped}, Softs.{IsHolding}}
 use Rattle.p25_recording_filters.proofs.SoftLevelsLaws.{grouped-last, grouped-more, length-grouped}
 
 -- a level that does not fill its group

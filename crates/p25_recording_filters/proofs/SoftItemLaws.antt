@@ -1,35 +1,22 @@
 -- The bits of an item of a soft recording, softened by the levels of its place. What is written of an item does not look at levels before the group of
 -- its place, so these can be let go.
 use Rattle.std.proofs.Common.{◌≡◌, ℕ, ◌+◌, ◌-◌, ◌*◌, ◌/◌, ◌%◌, ◌<◌, ◌≤◌, ◌&&◌, inl, inr, Bool, true, false, cond, List, [], ◌∷◌, ◌++◌, length, take, drop, refl, ap, ap₂, sym, subst, ◌∙◌, arith, append_assoc, append-nil, length-append, length-drop, eq-eqb, ℤ}
-use Rattle.std.specs.Prelude.{nat_eq}
 use Rattle.std.proofs.lemmas.Bool.{cases_Bool, cond-true, cond-false, eqb-true, and_parts, both_ways}
 use Rattle.std.proofs.lemmas.List.{take-append-drop, take-append-le, drop-append-le, drop-drop, length-take-le, drop_at}
+use Rattle.std.specs.Prelude.{nat_eq}
 use Rattle.p25_bits.specs.Bits.{part}
 use Rattle.p25_bits.proofs.PartLaws.{part-drop, part_left}
-use Rattle.p25_units.specs.declared.item.Item.{Item}
-use Rattle.p25_units.specs.declared.item.Item.TheVariants.{Broken}
-use Rattle.p25_units.specs.Items.{covered, place_of, unit_item_of}
-use Rattle.p25_status.specs.Sync.{has_sync}
-use Rattle.p25_units.specs.Needs.{need_of}
-use Rattle.p25_units.specs.declared.needs.Need.TheVariants.{Length}
-use Rattle.p25_units.proofs.NeedsLaws.{need_of-there}
-use Rattle.p25_units.proofs.ItemsLaws.{covered-unit_item_of}
-use Rattle.p25_stream.specs.Items.{first_item, items_by}
-use Rattle.p25_stream.specs.ItemLaws.{GaveItems}
-use Rattle.p25_stream.specs.Scan.{Scan, Gave, given}
-use Rattle.p25_stream.proofs.ItemsLaws.{first_item-cases, items_by-first, place_of-first_item}
-use Rattle.p25_soft.specs.Levels.{hard_bits}
-use Rattle.p25_soft.specs.Softened.{IsHeard, softened}
-use Rattle.p25_soft.proofs.HardBitsLaws.{hard_bits-append, hard_bits-drop, hard_bits-none, hard_bits-part, length-hard_bits}
-use Rattle.p25_soft.proofs.HeardLaws.{IsHeard-front, softened-other, softened-unpacked}
-use Rattle.p25_status.specs.declared.fields.Field.{Field}
-use Rattle.p25_recording_filters.specs.Commands.{unfilled}
+use Rattle.p25_units.specs.{declared.item.Item.{Item}, declared.item.Item.TheVariants.{Broken}, Items.{covered, place_of, unit_item_of}, Needs.{need_of}, declared.needs.Need.TheVariants.{Length}}
 use Rattle.p25_units.specs.Units.{whole_octets}
-use Rattle.p25_recording_filters.specs.ItemOutputs.{changed_bits}
-use Rattle.p25_recording_filters.specs.SoftLevels.{grouped, item_softened, scanned}
+use Rattle.p25_status.specs.{Sync.{has_sync}, declared.fields.Field.{Field}}
+use Rattle.p25_units.proofs.{NeedsLaws.{need_of-there}, ItemsLaws.{covered-unit_item_of}}
+use Rattle.p25_stream.specs.{Items.{first_item, items_by}, ItemLaws.{GaveItems}, Scan.{Scan, Gave, given}}
+use Rattle.p25_stream.proofs.ItemsLaws.{first_item-cases, items_by-first, place_of-first_item}
+use Rattle.p25_soft.specs.{Levels.{hard_bits}, Softened.{IsHeard, softened}}
+use Rattle.p25_soft.proofs.{HardBitsLaws.{hard_bits-append, hard_bits-drop, hard_bits-none, hard_bits-part, length-hard_bits}, HeardLaws.{IsHeard-front, softened-other, softened-unpacked}}
+use Rattle.p25_recording_filters.specs.{Commands.{unfilled}, ItemOutputs.{changed_bits}, SoftLevels.{grouped, item_softened, scanned}}
 use Rattle.p25_recording_filters.specs.Softs.{IsHeardAmong, IsHolding, first_level, is_even_packet, item_levels, soft_written}
-use Rattle.p25_recording_filters.proofs.OctetsLaws.{whole_octets-append}
-use Rattle.p25_recording_filters.proofs.SoftLevelsLaws.{filled-whole, grouped-ungrouped, length-grouped, scanned-append, scanned-split, ungrouped, ungrouped-none}
+use Rattle.p25_recording_filters.proofs.{OctetsLaws.{whole_octets-append}, SoftLevelsLaws.{filled-whole, grouped-ungrouped, length-grouped, scanned-append, scanned-split, ungrouped, ungrouped-none}}
 
 -- the levels of an item from a group on
 part_from_group : (place covers : ℕ) (levels : List ℤ) → part (place / 2 - first_level place) covers levels ≡ part (place % 8 / 2) covers levels

@@ -1,23 +1,15 @@
 -- How the work on a soft recording goes on: levels come, an item is given, the input ends.
 use Rattle.std.proofs.Common.{◌≡◌, ℕ, ◌+◌, ◌-◌, ◌%◌, ◌<◌, Bool, true, false, List, [], ◌∷◌, ◌++◌, length, drop, map, Some, Ok, refl, ap, ap₂, sym, subst, ◌∙◌, arith, append_assoc, append-nil, length-drop, ℤ}
-use Rattle.p25_units.specs.declared.item.Item.{Item}
-use Rattle.p25_units.specs.Items.{covered, place_of}
-use Rattle.p25_stream.specs.Items.{items_by}
-use Rattle.p25_stream.specs.ItemLaws.{GaveItems}
-use Rattle.p25_stream.specs.Scan.{Scan, Gave, given}
+use Rattle.p25_units.specs.{declared.item.Item.{Item}, Items.{covered, place_of}, Units.{whole_octets}}
+use Rattle.p25_stream.specs.{Items.{items_by}, ItemLaws.{GaveItems}, Scan.{Scan, Gave, given}}
 use Rattle.p25_stream.proofs.ItemsLaws.{items_by-nil}
 use Rattle.p25_soft.specs.Levels.{hard_bits}
 use Rattle.p25_soft.proofs.HardBitsLaws.{hard_bits-none}
-use Rattle.p25_filter.specs.declared.ending.Ending.TheVariants.{Done}
-use Rattle.p25_filter.specs.Futures.{IsClosed, IsIdle, NextPiece, Progress}
+use Rattle.p25_filter.specs.{declared.ending.Ending.TheVariants.{Done}, Futures.{IsClosed, IsIdle, NextPiece, Progress}}
 use Rattle.p25_filter.proofs.LinesLaws.{Contains-none}
-use Rattle.p25_recording_filters.specs.Commands.{unfilled}
-use Rattle.p25_units.specs.Units.{whole_octets}
-use Rattle.p25_recording_filters.specs.ItemOutputs.{changed_bits}
-use Rattle.p25_recording_filters.specs.SoftLevels.{filled, grouped, item_softened, octet_level}
+use Rattle.p25_recording_filters.specs.{Commands.{unfilled}, ItemOutputs.{changed_bits}, SoftLevels.{filled, grouped, item_softened, octet_level}}
 use Rattle.p25_recording_filters.specs.Softs.{IsHolding, PutSoftItem, SoftParts, first_level, soft_future, soft_future_by, soft_written}
-use Rattle.p25_recording_filters.proofs.OctetsLaws.{whole_octets-few}
-use Rattle.p25_recording_filters.proofs.SoftLevelsLaws.{filled-whole, grouped-whole, length-filled}
+use Rattle.p25_recording_filters.proofs.{OctetsLaws.{whole_octets-few}, SoftLevelsLaws.{filled-whole, grouped-whole, length-filled}}
 use Rattle.p25_recording_filters.proofs.SoftItemLaws.{changed-none, gone-there, place-given, written-given}
 
 -- a level comes

@@ -1,17 +1,13 @@
 -- The reports of the commands, item by item.
 use Rattle.std.specs.Prelude.{◌^◌, ◌+◌, ◌*◌, ◌/◌, ◌<◌, Bool, if◌then◌else◌, ◌≤◌, ℕ, List, [], ◌++◌, length, drop, flat_map, option_to_list}
-use Rattle.p25_units.specs.declared.item.Item.{Item}
+use Rattle.p25_units.specs.{declared.item.Item.{Item}, Units.{whole_octets}}
 use Rattle.p25_stream.specs.Repeats.{bridged, is_whole_item, repaired}
-use Rattle.p25_follow.specs.Following.{Follow, behind_item as follow_behind, written_before, written_end, written_item}
-use Rattle.p25_follow.specs.Relayed.{relayed}
+use Rattle.p25_follow.specs.{Following.{Follow, behind_item as follow_behind, written_before, written_end, written_item}, Relayed.{relayed}}
 use Rattle.p25_filter.specs.declared.ending.Ending.TheVariants.{Done}
-use Rattle.p25_recording_filters.specs.declared.reports.show.Show.{Show}
-use Rattle.p25_recording_filters.specs.declared.reports.changed.Change.{Change}
+use Rattle.p25_recording_filters.specs.{declared.reports.show.Show.{Show}, declared.reports.changed.Change.{Change}}
 use Rattle.p25_recording_filters.specs.declared.reports.changed.Change.TheVariants.{Repaired, Bridged, Relayed}
+use Rattle.p25_recording_filters.specs.{ItemOutputs.{shown, faulty, call_line, calls_line, check_line, check_ending}, Reports.{Reporting}}
 use Rattle.p25_calls.specs.Taking.{CallerParts, HasSoundPending, answer_to, behind_item, open_call}
-use Rattle.p25_units.specs.Units.{whole_octets}
-use Rattle.p25_recording_filters.specs.ItemOutputs.{shown, faulty, call_line, calls_line, check_line, check_ending}
-use Rattle.p25_recording_filters.specs.Reports.{Reporting}
 
 -- what `show` reports: the line of each item
 abbrev pub show_reporting : Reporting Show

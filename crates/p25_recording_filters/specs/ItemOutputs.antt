@@ -1,16 +1,11 @@
 -- What is written of the items of a recording.
 use Rattle.std.specs.Prelude.{ℕ, ◌+◌, Bool, if◌then◌else◌, ◌==◌, List, [], ◌∷◌, ◌++◌, map, take, drop, codes, decimal}
-use Rattle.p25_units.specs.Items.{covered}
-use Rattle.p25_units.specs.Units.{whole_octets}
-use Rattle.p25_units.specs.declared.item.Item.{Item}
-use Rattle.p25_stream.specs.Items.{items_by}
+use Rattle.p25_units.specs.{Items.{covered}, Units.{whole_octets}, declared.item.Item.{Item}}
+use Rattle.p25_stream.specs.{Items.{items_by}, Repeats.{is_whole_item}}
 use Rattle.p25_soft.specs.Levels.{hard_bits}
-use Rattle.p25_stream.specs.Repeats.{is_whole_item}
 use Rattle.p25_text.specs.ItemTexts.{item_text_of}
-use Rattle.p25_calls.specs.CallTexts.{call_text_of}
-use Rattle.p25_calls.specs.declared.call.Call.{Call}
-use Rattle.p25_filter.specs.declared.ending.Ending.{Ending}
-use Rattle.p25_filter.specs.declared.ending.Ending.TheVariants.{Done, Found}
+use Rattle.p25_calls.specs.{CallTexts.{call_text_of}, declared.call.Call.{Call}}
+use Rattle.p25_filter.specs.{declared.ending.Ending.{Ending}, declared.ending.Ending.TheVariants.{Done, Found}}
 use Rattle.p25_recording_filters.specs.SoftLevels.{item_softened, octet_level, scanned}
 
 -- the text of an item and the end of its line

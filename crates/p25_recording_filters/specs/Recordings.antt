@@ -1,13 +1,10 @@
 -- A report at work on a recording: what it still writes, for any bits that may still come.
 use Rattle.std.specs.Prelude.{◌≡◌, ℕ, Bool, true, false, if◌then◌else◌, List, [], ◌++◌, Option, Some, None}
 use Rattle.p25_bits.specs.Bits.{octet_bits}
-use Rattle.p25_stream.specs.Items.{items_by}
-use Rattle.p25_stream.specs.Scan.{Scan, Gave, given}
+use Rattle.p25_stream.specs.{Items.{items_by}, Scan.{Scan, Gave, given}}
 use Rattle.p25_units.specs.declared.item.Item.{Item}
-use Rattle.p25_filter.specs.Futures.{Future}
-use Rattle.p25_filter.specs.declared.ending.Ending.{Ending}
-use Rattle.p25_recording_filters.specs.declared.recording.Phase.{Phase}
-use Rattle.p25_recording_filters.specs.declared.recording.Phase.TheVariants.{Reading, Ended, Closed}
+use Rattle.p25_filter.specs.{Futures.{Future}, declared.ending.Ending.{Ending}}
+use Rattle.p25_recording_filters.specs.{declared.recording.Phase.{Phase}, declared.recording.Phase.TheVariants.{Reading, Ended, Closed}}
 use Rattle.p25_recording_filters.specs.Reports.{Reporting, reported, report_behind}
 
 -- the report, the bits that are held, and how far the work has come

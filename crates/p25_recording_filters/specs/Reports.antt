@@ -1,7 +1,6 @@
 -- Reports of the items of a recording, item by item.
 use Rattle.std.specs.Prelude.{◌≡◌, ℕ, Bool, if◌then◌else◌, List, [], ◌∷◌, ◌++◌, take, drop}
-use Rattle.p25_units.specs.declared.item.Item.{Item}
-use Rattle.p25_units.specs.Items.{covered}
+use Rattle.p25_units.specs.{declared.item.Item.{Item}, Items.{covered}}
 use Rattle.p25_filter.specs.declared.ending.Ending.{Ending}
 
 -- what a report writes of an item and the bits that it covers, what it is after that item, what it writes at the end of the

@@ -1,10 +1,8 @@
 -- The levels of a soft recording, and the bits of its items.
-use Rattle.std.specs.Prelude.{ℕ, ◌-◌, ◌*◌, ◌/◌, ◌%◌, Bool, if◌then◌else◌, ◌==◌, List, ◌++◌, length, take, replicate, ℤ, pos}
-use Rattle.std.specs.Int.{w8, cast_signed}
+use Rattle.std.specs.{Prelude.{ℕ, ◌-◌, ◌*◌, ◌/◌, ◌%◌, Bool, if◌then◌else◌, ◌==◌, List, ◌++◌, length, take, replicate, ℤ, pos}, Int.{w8, cast_signed}}
 use Rattle.p25_bits.specs.Bits.{part}
 use Rattle.p25_soft.specs.Softened.{softened}
-use Rattle.p25_units.specs.Items.{covered, place_of}
-use Rattle.p25_units.specs.declared.item.Item.{Item}
+use Rattle.p25_units.specs.{Items.{covered, place_of}, declared.item.Item.{Item}}
 
 -- the level that an octet is, in two's complement
 unfoldable pub octet_level : ℕ → ℤ

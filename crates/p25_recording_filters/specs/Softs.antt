@@ -2,19 +2,12 @@
 use Rattle.std.specs.Prelude.{◌≡◌, ℕ, ◌+◌, ◌-◌, ◌*◌, ◌/◌, ◌%◌, ◌≤◌, Bool, true, false, ◌&&◌, if◌then◌else◌, ◌==◌, List, [], ◌++◌, length, drop, map, ℤ, Some, None}
 use Rattle.p25_bits.specs.Bits.{part}
 use Rattle.p25_bch_nid.specs.Duids.{duid_pdu}
-use Rattle.p25_units.specs.Items.{covered, place_of}
-use Rattle.p25_units.specs.declared.item.Item.{Item}
-use Rattle.p25_units.specs.declared.item.Item.TheVariants.{Whole, Broken, NoUnit, Gap, Cut}
-use Rattle.p25_stream.specs.Items.{items_by}
-use Rattle.p25_stream.specs.Scan.{Scan, Gave}
-use Rattle.p25_soft.specs.Levels.{hard_bits}
-use Rattle.p25_soft.specs.Softened.{IsHeard}
-use Rattle.p25_filter.specs.Futures.{Future}
-use Rattle.p25_filter.specs.declared.ending.Ending.TheVariants.{Done}
-use Rattle.p25_recording_filters.specs.Commands.{unfilled}
+use Rattle.p25_units.specs.{Items.{covered, place_of}, declared.item.Item.{Item}, declared.item.Item.TheVariants.{Whole, Broken, NoUnit, Gap, Cut}}
 use Rattle.p25_units.specs.Units.{whole_octets}
-use Rattle.p25_recording_filters.specs.ItemOutputs.{changed_bits}
-use Rattle.p25_recording_filters.specs.SoftLevels.{grouped, item_softened, octet_level, scanned}
+use Rattle.p25_stream.specs.{Items.{items_by}, Scan.{Scan, Gave}}
+use Rattle.p25_soft.specs.{Levels.{hard_bits}, Softened.{IsHeard}}
+use Rattle.p25_filter.specs.{Futures.{Future}, declared.ending.Ending.TheVariants.{Done}}
+use Rattle.p25_recording_filters.specs.{Commands.{unfilled}, ItemOutputs.{changed_bits}, SoftLevels.{grouped, item_softened, octet_level, scanned}}
 
 -- the bits that a scanner holds, the levels from that of a whole group before them on, and the bits that are kept back
 pub record SoftParts : Type 0 where

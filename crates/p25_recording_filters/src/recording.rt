@@ -114,8 +114,7 @@ fn take_item<R: Report>(scanner: &mut Scanner, item: &mut Item, raw: &mut BitBuf
 impl<R: Report> Filter for Recording<R> {
     ghost use Rattle.std.specs.Prelude.{◌≡◌, ◌≢◌, ◌+◌, [], length};
     ghost use Rattle.p25_stream.specs.Scan.{given};
-    ghost use Rattle.p25_recording_filters.specs.declared.recording.Phase.TheVariants.{Ended};
-    ghost use Rattle.p25_recording_filters.specs.Recordings.{has_ended, pieces_of, recording_future};
+    ghost use Rattle.p25_recording_filters.specs.{declared.recording.Phase.TheVariants.{Ended}, Recordings.{has_ended, pieces_of, recording_future}};
 
     ghost future = { recording_future R.reporting };
 

@@ -3,11 +3,9 @@
 ghost use Rattle.std.specs.Prelude.{◌≡◌, ◌≢◌, ◌+◌, ◌-◌, ◌%◌, ◌^◌, ◌<◌, ◌≤◌, true, false, [], ◌∷◌, ◌++◌, length, drop};
 ghost use Rattle.p25_bits.specs.Bits.{bits_of};
 ghost use Rattle.p25_stream.specs.Scan.{given};
-ghost use Rattle.p25_units.specs.Items.{covered, place_of};
+ghost use Rattle.p25_units.specs.{Items.{covered, place_of}, Units.{whole_octets}};
 ghost use Rattle.p25_soft.specs.Levels.{hard_bits};
-ghost use Rattle.p25_recording_filters.specs.Commands.{unfilled};
-ghost use Rattle.p25_units.specs.Units.{whole_octets};
-ghost use Rattle.p25_recording_filters.specs.SoftLevels.{filled, item_softened};
+ghost use Rattle.p25_recording_filters.specs.{Commands.{unfilled}, SoftLevels.{filled, item_softened}};
 ghost use Rattle.p25_recording_filters.specs.Softs.{IsHeardAmong, IsHolding, PutSoftItem, first_level, fresh_soft, is_even_packet};
 
 use crate::held_levels::HeldLevels;

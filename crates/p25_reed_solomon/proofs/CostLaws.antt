@@ -1,14 +1,10 @@
 -- The cost of a word to a list with erasures, by the errors between what was received and the word: by induction on both lists.
 use Rattle.std.proofs.Common.{◌≡◌, ℕ, zero, suc, ◌+◌, ◌*◌, Bool, true, false, cond, List, [], ◌∷◌, length, Some, None, refl, ap₂, sym, ◌∙◌, arith}
-use Rattle.p25_gf64.specs.declared.symbol.Sym.{Sym}
-use Rattle.p25_gf64.specs.Gf64.{gf64}
-use Rattle.p25_algebra.specs.Sums.{nonzeros, weight_by}
-use Rattle.p25_algebra.specs.Series.{coefficient}
+use Rattle.p25_gf64.specs.{declared.symbol.Sym.{Sym}, Gf64.{gf64}}
+use Rattle.p25_algebra.specs.{Sums.{nonzeros, weight_by}, Series.{coefficient}}
 use Rattle.p25_algebra.proofs.VanishingLaws.{weight_zero}
 use Rattle.p25_code.specs.Erasures.{without_erased, erasures_in, letter_distance, kept_distance, erased_cost}
-use Rattle.p25_reed_solomon.specs.Words.{same_symbols}
-use Rattle.p25_reed_solomon.specs.Errors.{erased_below, kept_errors}
-use Rattle.p25_reed_solomon.specs.DistanceLaws.{nonzeros_first, weight_of_sum}
+use Rattle.p25_reed_solomon.specs.{Words.{same_symbols}, Errors.{erased_below, kept_errors}, DistanceLaws.{nonzeros_first, weight_of_sum}}
 
 -- the first place apart
 erased_below-first : (gone : Bool) (erased : List Bool) (n : ℕ) → erased_below (gone ∷ erased) (suc n) ≡ cond gone 1 0 + erased_below erased n

@@ -1,23 +1,12 @@
 -- The steps of the encoder of Reed-Solomon words: the generator a factor at a time, the division a symbol at a time; the word is the sum of two
 -- lists that have one value at each power of α.
-use Rattle.std.proofs.Common.{◌≡◌, ◌≢◌, ℕ, ◌+◌, ◌-◌, ◌*◌, ◌<◌, ◌≤◌, List, replicate, set, sym, ap, ap₂, ◌∙◌, inl, inr, arith}
-use Rattle.std.proofs.lemmas.Bool.{cases_eq, cases_lt}
-use Rattle.std.proofs.lemmas.List.{length-replicate}
-use Rattle.p25_gf64.specs.declared.symbol.Sym.{Sym}
-use Rattle.p25_gf64.specs.Field.{power}
-use Rattle.p25_gf64.specs.Symbol.{alpha}
-use Rattle.p25_gf64.specs.Gf64.{gf64}
-use Rattle.p25_gf64.proofs.FieldLaws.{add_zero, zero_add, add_self, mul_zero, mul_one}
-use Rattle.p25_gf64.proofs.PowerLaws.{power-mul, power_ne_zero}
-use Rattle.p25_gf64.proofs.SymbolLaws.{alpha_ne_zero}
+use Rattle.std.proofs.{Common.{◌≡◌, ◌≢◌, ℕ, ◌+◌, ◌-◌, ◌*◌, ◌<◌, ◌≤◌, List, replicate, set, sym, ap, ap₂, ◌∙◌, inl, inr, arith}, lemmas.Bool.{cases_eq, cases_lt}, lemmas.List.{length-replicate}}
+use Rattle.p25_gf64.specs.{declared.symbol.Sym.{Sym}, Field.{power}, Symbol.{alpha}, Gf64.{gf64}}
+use Rattle.p25_gf64.proofs.{FieldLaws.{add_zero, zero_add, add_self, mul_zero, mul_one}, PowerLaws.{power-mul, power_ne_zero}, SymbolLaws.{alpha_ne_zero}}
 use Rattle.p25_algebra.specs.Series.{coefficient, value_at, shifted}
-use Rattle.p25_algebra.proofs.SumLaws.{sum_same}
-use Rattle.p25_algebra.proofs.ValueLaws.{value_same}
-use Rattle.p25_algebra.proofs.ProductValueLaws.{value-add}
-use Rattle.p25_algebra.proofs.ProductLaws.{shifted_from}
+use Rattle.p25_algebra.proofs.{SumLaws.{sum_same}, ValueLaws.{value_same}, ProductValueLaws.{value-add}, ProductLaws.{shifted_from}}
 use Rattle.p25_poly.proofs.CoefficientLaws.{coefficient_blank, written_at, written_elsewhere, nothing_added}
-use Rattle.p25_reed_solomon.specs.Generator.{IsGenerator}
-use Rattle.p25_reed_solomon.specs.Words.{value_of}
+use Rattle.p25_reed_solomon.specs.{Generator.{IsGenerator}, Words.{value_of}}
 use Rattle.p25_reed_solomon.proofs.MultiplesLaws.{value_stays, old_zero, new_zero, longer_by_one, first_stays, value_down}
 open gf64 use {zero as 𝟘, one as 𝟙, add as ◌⊕◌, mul as ◌⊗◌, inverse}
 

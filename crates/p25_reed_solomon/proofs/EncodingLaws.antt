@@ -1,28 +1,16 @@
 -- The word of some information is a word of the code that begins with it: the generator vanishes at the powers of α by induction on its
 -- factors, and what is taken away for the remainder keeps the values there.
-use Rattle.std.proofs.Common.{◌≡◌, ℕ, zero, suc, ◌+◌, ◌-◌, ◌<◌, ◌≤◌, eqb, List, length, take, refl, ap, sym, ◌∙◌, inl, inr, arith}
-use Rattle.std.proofs.lemmas.Bool.{cases_eq, cond-false, ne_eqb}
-use Rattle.std.proofs.Math.Seq.{take-length}
+use Rattle.std.proofs.{Common.{◌≡◌, ℕ, zero, suc, ◌+◌, ◌-◌, ◌<◌, ◌≤◌, eqb, List, length, take, refl, ap, sym, ◌∙◌, inl, inr, arith}, lemmas.Bool.{cases_eq, cond-false, ne_eqb}, Math.Seq.{take-length}}
 use Rattle.p25_bits.specs.Numbers.{each_below}
 use Rattle.p25_bits.proofs.NumbersLaws.{length-each_below, get_or-each_below, each_below-same, take-each_below, each_below-list}
 use Rattle.p25_code.specs.Words.{IsEncoding}
-use Rattle.p25_gf64.specs.declared.symbol.Sym.{Sym}
-use Rattle.p25_gf64.specs.Field.{power}
-use Rattle.p25_gf64.specs.Symbol.{alpha}
-use Rattle.p25_gf64.specs.Gf64.{gf64}
-use Rattle.p25_gf64.proofs.FieldLaws.{add_zero, add_self, mul_one}
-use Rattle.p25_gf64.proofs.PowerLaws.{power_ne_zero}
-use Rattle.p25_gf64.proofs.SymbolLaws.{alpha_ne_zero}
+use Rattle.p25_gf64.specs.{declared.symbol.Sym.{Sym}, Field.{power}, Symbol.{alpha}, Gf64.{gf64}}
+use Rattle.p25_gf64.proofs.{FieldLaws.{add_zero, add_self, mul_one}, PowerLaws.{power_ne_zero}, SymbolLaws.{alpha_ne_zero}}
 use Rattle.p25_algebra.specs.Series.{coefficient, value_at, shifted, IsShort}
-use Rattle.p25_algebra.proofs.ValueLaws.{value_same}
-use Rattle.p25_algebra.proofs.ProductValueLaws.{value-add}
-use Rattle.p25_algebra.proofs.ProductLaws.{shifted_from}
+use Rattle.p25_algebra.proofs.{ValueLaws.{value_same}, ProductValueLaws.{value-add}, ProductLaws.{shifted_from}}
 use Rattle.p25_poly.proofs.CoefficientLaws.{nothing_added}
-use Rattle.p25_reed_solomon.specs.Words.{IsCode, IsWord}
-use Rattle.p25_reed_solomon.specs.Encoding.{generator_of, reduced, rs_word}
-use Rattle.p25_reed_solomon.specs.WordLaws.{one_word_of}
-use Rattle.p25_reed_solomon.proofs.MultiplesLaws.{value_stays, old_zero, new_zero, longer_by_one, first_stays}
-use Rattle.p25_reed_solomon.proofs.EncoderSteps.{value_of_word}
+use Rattle.p25_reed_solomon.specs.{Words.{IsCode, IsWord}, Encoding.{generator_of, reduced, rs_word}, WordLaws.{one_word_of}}
+use Rattle.p25_reed_solomon.proofs.{MultiplesLaws.{value_stays, old_zero, new_zero, longer_by_one, first_stays}, EncoderSteps.{value_of_word}}
 open gf64 use {zero as 𝟘, one as 𝟙, add as ◌⊕◌, mul as ◌⊗◌, inverse}
 
 infixl 65 ◌⊕◌

@@ -2,16 +2,12 @@
 -- by induction on the places.
 use Rattle.std.proofs.Common.{◌≡◌, ◌≢◌, ℕ, zero, suc, ◌+◌, ◌<◌, ◌≤◌, Bool, true, false, cond, List, refl, sym, ap, ap₂, ◌∙◌, subst, inl, inr, arith}
 use Rattle.std.proofs.lemmas.Bool.{cases_eq, cases_Bool, cond-true, cond-false, both_ways}
-use Rattle.p25_gf64.specs.declared.symbol.Sym.{Sym}
-use Rattle.p25_gf64.specs.Gf64.{gf64}
+use Rattle.p25_gf64.specs.{declared.symbol.Sym.{Sym}, Gf64.{gf64}}
 use Rattle.p25_gf64.proofs.FieldLaws.{add_self, add_zero, mul_zero, zero_mul, mul_one, mul_inverse, mul_assoc, mul_comm, mul_ne_zero, same_from_sum}
-use Rattle.p25_algebra.specs.Sums.{power_sum, nonzeros}
-use Rattle.p25_algebra.specs.Series.{value_at, product_at, times_linear, IsZero, IsShort}
+use Rattle.p25_algebra.specs.{Sums.{power_sum, nonzeros}, Series.{value_at, product_at, times_linear, IsZero, IsShort}}
 use Rattle.p25_algebra.proofs.VanishingLaws.{lowered, power_sum-lowered, nonzeros_mono}
 use Rattle.p25_algebra.proofs.QuotientLaws.{shifted-first, shifted-next, short_times_linear, value-times_linear, times_linear_same, product-times_linear, product-times_linear_right}
-use Rattle.p25_reed_solomon.specs.ElementLaws.{same_place, element_ne_zero}
-use Rattle.p25_reed_solomon.specs.Errors.{element_of, point_of, is_erased, erased_below, kept_errors}
-use Rattle.p25_reed_solomon.specs.Locator.{times_erasures}
+use Rattle.p25_reed_solomon.specs.{ElementLaws.{same_place, element_ne_zero}, Errors.{element_of, point_of, is_erased, erased_below, kept_errors}, Locator.{times_erasures}}
 
 -- ---- one place more
 

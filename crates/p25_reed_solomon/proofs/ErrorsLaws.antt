@@ -1,15 +1,10 @@
 -- Errors at listed places: their power sums, and how many there are, by sums over the places and by induction.
 use Rattle.std.proofs.Common.{◌≡◌, ◌≢◌, ℕ, zero, suc, ◌+◌, ◌<◌, ◌≤◌, cond, eqb, List, length, get_or, set, inl, inr, refl, ap, ap₂, sym, ◌∙◌, arith}
-use Rattle.std.proofs.lemmas.Bool.{cases_eq, cases_order, cond-true, cond-false, eq-eqb, ne_eqb}
-use Rattle.std.proofs.lemmas.List.{length-set, get_or-set_same, get_or-set_other}
-use Rattle.p25_gf64.specs.declared.symbol.Sym.{Sym}
-use Rattle.p25_gf64.specs.Field.{power}
-use Rattle.p25_gf64.specs.Gf64.{gf64}
+use Rattle.std.proofs.{lemmas.Bool.{cases_eq, cases_order, cond-true, cond-false, eq-eqb, ne_eqb}, lemmas.List.{length-set, get_or-set_same, get_or-set_other}}
+use Rattle.p25_gf64.specs.{declared.symbol.Sym.{Sym}, Field.{power}, Gf64.{gf64}}
 use Rattle.p25_gf64.proofs.FieldLaws.{add_zero, mul_comm, zero_mul}
-use Rattle.p25_algebra.specs.Sums.{sum_below, power_sum, nonzeros, weight_by}
-use Rattle.p25_algebra.specs.Series.{coefficient}
-use Rattle.p25_algebra.proofs.SumLaws.{sum-none, sum-suc, sum_same, sum_of_zeros, sum_of_one, sum_exchange, sum-mul}
-use Rattle.p25_algebra.proofs.VanishingLaws.{nonzeros-suc, nonzeros_mono, weight-le}
+use Rattle.p25_algebra.specs.{Sums.{sum_below, power_sum, nonzeros, weight_by}, Series.{coefficient}}
+use Rattle.p25_algebra.proofs.{SumLaws.{sum-none, sum-suc, sum_same, sum_of_zeros, sum_of_one, sum_exchange, sum-mul}, VanishingLaws.{nonzeros-suc, nonzeros_mono, weight-le}}
 use Rattle.p25_reed_solomon.specs.Errors.{element_of, IsListed, placed}
 
 -- one value at its place

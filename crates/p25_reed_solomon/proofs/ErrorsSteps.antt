@@ -1,22 +1,14 @@
 -- The errors that a locator gives: any errors that explain the syndromes stand at its zeros and have the values that Forney's formula
 -- gives there; and values at its zeros with the right power sums explain the syndromes, since each erasure is one of few zeros.
 use Rattle.std.proofs.Common.{◌≡◌, ◌≢◌, ℕ, zero, suc, ◌+◌, ◌*◌, ◌<◌, ◌≤◌, Bool, cond, List, length, take, get_or, inl, inr, ap, ap₂, sym, ◌∙◌, subst, arith}
-use Rattle.std.proofs.lemmas.Bool.{cases_eq, cases_lt, cases_Bool, cond-true, cond-false}
-use Rattle.std.proofs.lemmas.List.{get_or-take, length-take}
-use Rattle.p25_gf64.specs.declared.symbol.Sym.{Sym}
-use Rattle.p25_gf64.specs.Field.{power}
-use Rattle.p25_gf64.specs.Gf64.{gf64}
+use Rattle.std.proofs.{lemmas.Bool.{cases_eq, cases_lt, cases_Bool, cond-true, cond-false}, lemmas.List.{get_or-take, length-take}}
+use Rattle.p25_gf64.specs.{declared.symbol.Sym.{Sym}, Field.{power}, Gf64.{gf64}}
 use Rattle.p25_gf64.proofs.FieldLaws.{add_zero, mul_comm, mul_cancel}
-use Rattle.p25_algebra.specs.Sums.{sum_below, power_sum, nonzeros, weight_by}
-use Rattle.p25_algebra.specs.Series.{coefficient, value_at, slope_at}
-use Rattle.p25_algebra.proofs.SumLaws.{sum-none, sum-suc, sum_same}
-use Rattle.p25_algebra.proofs.VanishingLaws.{nonzeros-suc, weight_zero, weight_one}
-use Rattle.p25_algebra.proofs.ValueLaws.{value_same}
+use Rattle.p25_algebra.specs.{Sums.{sum_below, power_sum, nonzeros, weight_by}, Series.{coefficient, value_at, slope_at}}
+use Rattle.p25_algebra.proofs.{SumLaws.{sum-none, sum-suc, sum_same}, VanishingLaws.{nonzeros-suc, weight_zero, weight_one}, ValueLaws.{value_same}}
 use Rattle.p25_poly.proofs.CoefficientLaws.{coefficient_past}
-use Rattle.p25_reed_solomon.specs.Errors.{element_of, point_of, is_erased, erased_below, kept_errors, Explains, IsListed, AreZeros, placed}
-use Rattle.p25_reed_solomon.specs.Locator.{IsLocator}
-use Rattle.p25_reed_solomon.proofs.ErasuresLaws.{erased_below-none, erased_below-gone, erased_below-kept}
-use Rattle.p25_reed_solomon.proofs.LocatorLaws.{same_function}
+use Rattle.p25_reed_solomon.specs.{Errors.{element_of, point_of, is_erased, erased_below, kept_errors, Explains, IsListed, AreZeros, placed}, Locator.{IsLocator}}
+use Rattle.p25_reed_solomon.proofs.{ErasuresLaws.{erased_below-none, erased_below-gone, erased_below-kept}, LocatorLaws.{same_function}}
 use Rattle.p25_reed_solomon.proofs.ErrorsLaws.{at_place, elsewhere, power_sum-placed, placed-errors, nonzeros-placed, nonzeros_same, nonzeros-none}
 
 -- the parts of the lists that have the coefficients are a locator and its evaluator too

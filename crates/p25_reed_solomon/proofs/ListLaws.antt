@@ -1,16 +1,9 @@
 -- The steps of the loops over lists of 32 and 64 symbols: what holds of each place holds of the coefficients.
-use Rattle.std.proofs.Common.{◌≡◌, ℕ, zero, suc, ◌+◌, ◌-◌, ◌<◌, ◌≤◌, List, length, ap, sym, ◌∙◌, inl, inr, arith}
-use Rattle.std.proofs.lemmas.Bool.{cases_lt}
-use Rattle.p25_gf64.specs.declared.symbol.Sym.{Sym}
-use Rattle.p25_gf64.specs.Field.{power}
-use Rattle.p25_gf64.specs.Gf64.{gf64}
-use Rattle.p25_gf64.proofs.FieldLaws.{mul_comm, mul_assoc, zero_mul}
-use Rattle.p25_gf64.proofs.PowerLaws.{power-suc}
-use Rattle.p25_algebra.specs.Sums.{sum_below, power_sum}
-use Rattle.p25_algebra.specs.Series.{coefficient, value_at, shifted, rest_at}
-use Rattle.p25_algebra.proofs.SumLaws.{sum_same, sum_longer}
-use Rattle.p25_algebra.proofs.ValueLaws.{value-none, value_same}
-use Rattle.p25_algebra.proofs.QuotientLaws.{shifted-first, shifted-next}
+use Rattle.std.proofs.{Common.{◌≡◌, ℕ, zero, suc, ◌+◌, ◌-◌, ◌<◌, ◌≤◌, List, length, ap, sym, ◌∙◌, inl, inr, arith}, lemmas.Bool.{cases_lt}}
+use Rattle.p25_gf64.specs.{declared.symbol.Sym.{Sym}, Field.{power}, Gf64.{gf64}}
+use Rattle.p25_gf64.proofs.{FieldLaws.{mul_comm, mul_assoc, zero_mul}, PowerLaws.{power-suc}}
+use Rattle.p25_algebra.specs.{Sums.{sum_below, power_sum}, Series.{coefficient, value_at, shifted, rest_at}}
+use Rattle.p25_algebra.proofs.{SumLaws.{sum_same, sum_longer}, ValueLaws.{value-none, value_same}, QuotientLaws.{shifted-first, shifted-next}}
 use Rattle.p25_poly.proofs.CoefficientLaws.{coefficient_past}
 
 -- a list moved up by one place

@@ -2,29 +2,15 @@
 -- are zeros of the key's locator; its zeros have slopes, since key and evaluator have no zero in common; and a factor more keeps the
 -- slopes of old zeros and makes a new zero with a slope.
 use Rattle.std.proofs.Common.{◌≡◌, ◌≢◌, ℕ, zero, suc, ◌+◌, ◌-◌, ◌*◌, ◌/◌, ◌<◌, ◌≤◌, Bool, true, false, List, length, take, drop, sym, ap, ap₂, ◌∙◌, inl, inr, arith}
-use Rattle.std.proofs.lemmas.Bool.{cases_eq, cases_lt, cases_Bool, both_ways}
-use Rattle.std.proofs.lemmas.List.{get_or-take, get_or-drop, length-take, length-drop}
-use Rattle.p25_gf64.specs.declared.symbol.Sym.{Sym}
-use Rattle.p25_gf64.specs.Field.{power}
-use Rattle.p25_gf64.specs.Gf64.{gf64}
-use Rattle.p25_gf64.proofs.PowerLaws.{power-zero}
-use Rattle.p25_gf64.proofs.FieldLaws.{add_comm, zero_add, mul_comm, mul_one, mul_zero, zero_mul, mul_ne_zero, other_zero, inverse_ne_zero}
-use Rattle.p25_algebra.specs.Sums.{power_sum, nonzeros}
-use Rattle.p25_algebra.specs.Series.{coefficient, value_at, product_at, shifted, slope_at, IsZero, IsShort}
-use Rattle.p25_algebra.proofs.SumLaws.{sum_of_one}
-use Rattle.p25_algebra.proofs.ValueLaws.{value-none, value_same}
-use Rattle.p25_algebra.proofs.ProductLaws.{product_agree, product_same, product_same_left, product_comm, product_first, product_at_zero}
-use Rattle.p25_algebra.proofs.ProductValueLaws.{value_longer}
-use Rattle.p25_algebra.proofs.QuotientLaws.{shifted-first, shifted-next, slope_longer, slope-kept, slope-new}
-use Rattle.p25_algebra.proofs.LocatorLaws.{locator_vanishes}
-use Rattle.p25_algebra.proofs.ForneyLaws.{forney}
-use Rattle.p25_poly.specs.declared.polynomial.Poly.{Poly}
-use Rattle.p25_poly.specs.Polynomial.{coefficient_of}
-use Rattle.p25_poly.specs.Key.{IsKey}
+use Rattle.std.proofs.{lemmas.Bool.{cases_eq, cases_lt, cases_Bool, both_ways}, lemmas.List.{get_or-take, get_or-drop, length-take, length-drop}}
+use Rattle.p25_gf64.specs.{declared.symbol.Sym.{Sym}, Field.{power}, Gf64.{gf64}}
+use Rattle.p25_gf64.proofs.{PowerLaws.{power-zero}, FieldLaws.{add_comm, zero_add, mul_comm, mul_one, mul_zero, zero_mul, mul_ne_zero, other_zero, inverse_ne_zero}}
+use Rattle.p25_algebra.specs.{Sums.{power_sum, nonzeros}, Series.{coefficient, value_at, product_at, shifted, slope_at, IsZero, IsShort}}
+use Rattle.p25_algebra.proofs.{SumLaws.{sum_of_one}, ValueLaws.{value-none, value_same}, ProductLaws.{product_agree, product_same, product_same_left, product_comm, product_first, product_at_zero}}
+use Rattle.p25_algebra.proofs.{ProductValueLaws.{value_longer}, QuotientLaws.{shifted-first, shifted-next, slope_longer, slope-kept, slope-new}, LocatorLaws.{locator_vanishes}, ForneyLaws.{forney}}
+use Rattle.p25_poly.specs.{declared.polynomial.Poly.{Poly}, Polynomial.{coefficient_of}, Key.{IsKey}}
 use Rattle.p25_poly.proofs.CoefficientLaws.{coefficient_past}
-use Rattle.p25_reed_solomon.specs.ElementLaws.{elements_apart, element_ne_zero}
-use Rattle.p25_reed_solomon.specs.Errors.{element_of, point_of, is_erased, erased_below, Explains}
-use Rattle.p25_reed_solomon.specs.Locator.{times_erasures, IsLocator}
+use Rattle.p25_reed_solomon.specs.{ElementLaws.{elements_apart, element_ne_zero}, Errors.{element_of, point_of, is_erased, erased_below, Explains}, Locator.{times_erasures, IsLocator}}
 use Rattle.p25_reed_solomon.proofs.ErasuresLaws.{erased_below-none, erased_below-gone, erased_below-kept, times_erasures-none, times_erasures-gone, times_erasures-kept, short_times_erasures, zero_from_times_erasures, product-times_erasures, point_inverse, factor_ne_zero, value-times_erasures, value-times_kept, zero_stays, erasure_vanishes, lowered_by, lowered_sums, lowered_zero, lowered_gone, lowered_kept, nonzeros-lowered}
 
 point_ne_zero : (n j : ℕ) → point_of n j ≢ gf64.zero

@@ -1,16 +1,10 @@
 -- Multiples that are added to the symbols of a list, and values in 1/x: where a polynomial vanishes, a multiple of it changes no value.
-use Rattle.std.proofs.Common.{◌≡◌, ◌≢◌, ℕ, ◌+◌, ◌-◌, ◌<◌, ◌≤◌, List, length, set, take, length-take, refl, sym, ap, ap₂, ◌∙◌, inl, inr, arith}
-use Rattle.std.proofs.lemmas.Bool.{cases_eq, cases_lt}
+use Rattle.std.proofs.{Common.{◌≡◌, ◌≢◌, ℕ, ◌+◌, ◌-◌, ◌<◌, ◌≤◌, List, length, set, take, length-take, refl, sym, ap, ap₂, ◌∙◌, inl, inr, arith}, lemmas.Bool.{cases_eq, cases_lt}}
 use Rattle.std.proofs.lemmas.List.{get_or-take, ext_get_or}
 use Rattle.p25_gf64.specs.Field.{Field, power}
-use Rattle.p25_gf64.proofs.FieldLaws.{add_zero, add_self, mul_comm, mul_assoc, mul_zero, one_mul, mul_one, mul_inverse}
-use Rattle.p25_gf64.proofs.PowerLaws.{power-one, power-add, power_of_mul, power_of_one}
-use Rattle.p25_algebra.specs.Sums.{sum_below}
-use Rattle.p25_algebra.specs.Series.{coefficient, value_at, shifted, IsShort}
-use Rattle.p25_algebra.proofs.SumLaws.{sum_same, sum-mul}
-use Rattle.p25_algebra.proofs.ValueLaws.{value_same}
-use Rattle.p25_algebra.proofs.ProductValueLaws.{value-add, value-mul, value_longer, value-shifted}
-use Rattle.p25_algebra.proofs.ProductLaws.{shifted_from}
+use Rattle.p25_gf64.proofs.{FieldLaws.{add_zero, add_self, mul_comm, mul_assoc, mul_zero, one_mul, mul_one, mul_inverse}, PowerLaws.{power-one, power-add, power_of_mul, power_of_one}}
+use Rattle.p25_algebra.specs.{Sums.{sum_below}, Series.{coefficient, value_at, shifted, IsShort}}
+use Rattle.p25_algebra.proofs.{SumLaws.{sum_same, sum-mul}, ValueLaws.{value_same}, ProductValueLaws.{value-add, value-mul, value_longer, value-shifted}, ProductLaws.{shifted_from}}
 use Rattle.p25_poly.proofs.CoefficientLaws.{written_at, written_elsewhere, nothing_added}
 
 module _ {F : Type 0} (K : Field F) where

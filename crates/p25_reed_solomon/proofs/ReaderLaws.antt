@@ -1,20 +1,14 @@
 -- What the reader answers: the cost of a word is that of the errors between it and what was received, and errors that explain the syndromes make a word.
-use Rattle.std.proofs.Common.{◌≡◌, ℕ, ◌+◌, ◌-◌, ◌*◌, ◌<◌, ◌≤◌, Bool, false, cond, List, length, take, replicate, All, refl, ap, ap₂, sym, ◌∙◌, arith}
-use Rattle.std.proofs.lemmas.Bool.{cond_both}
+use Rattle.std.proofs.{Common.{◌≡◌, ℕ, ◌+◌, ◌-◌, ◌*◌, ◌<◌, ◌≤◌, Bool, false, cond, List, length, take, replicate, All, refl, ap, ap₂, sym, ◌∙◌, arith}, lemmas.Bool.{cond_both}}
 use Rattle.std.proofs.lemmas.List.{get_or-take, get_or-replicate, length-take, length-replicate}
 use Rattle.p25_bits.specs.Distance.{distance_by}
 use Rattle.p25_code.specs.Erasures.{without_erased, erased_cost}
-use Rattle.p25_gf64.specs.declared.symbol.Sym.{Sym}
-use Rattle.p25_gf64.specs.Gf64.{gf64}
+use Rattle.p25_gf64.specs.{declared.symbol.Sym.{Sym}, Gf64.{gf64}}
 use Rattle.p25_gf64.proofs.FieldLaws.{add_self, add_zero, add_twice}
-use Rattle.p25_algebra.specs.Sums.{nonzeros, power_sum}
-use Rattle.p25_algebra.specs.Series.{coefficient}
-use Rattle.p25_reed_solomon.specs.Words.{IsCode, IsWord, value_of, same_symbols}
-use Rattle.p25_reed_solomon.specs.DistanceLaws.{distance-nonzeros}
-use Rattle.p25_reed_solomon.specs.Errors.{element_of, is_erased, erased_below, kept_errors, Explains}
+use Rattle.p25_algebra.specs.{Sums.{nonzeros, power_sum}, Series.{coefficient}}
+use Rattle.p25_reed_solomon.specs.{Words.{IsCode, IsWord, value_of, same_symbols}, DistanceLaws.{distance-nonzeros}, Errors.{element_of, is_erased, erased_below, kept_errors, Explains}}
 use Rattle.p25_reed_solomon.specs.ValueLaws.{value-power_sum, front_value-add, front_value_same}
-use Rattle.p25_reed_solomon.proofs.ErrorsLaws.{nonzeros_same, zeros_count}
-use Rattle.p25_reed_solomon.proofs.CostLaws.{cost-errors}
+use Rattle.p25_reed_solomon.proofs.{ErrorsLaws.{nonzeros_same, zeros_count}, CostLaws.{cost-errors}}
 
 -- the errors between a received word and a word of the code that costs little explain the syndromes
 pub difference_explains : (n k : ℕ) (received word syndromes : List Sym) (erased : List Bool) → IsCode n k → length received ≡ n → length erased ≡ n → IsWord n k word

@@ -1,23 +1,14 @@
 -- The wrong places of a word without an erasure are the zeros of its locator.
-use Rattle.std.proofs.Common.{◌≡◌, ◌≢◌, ◌↔◌, ℕ, zero, suc, ◌+◌, ◌-◌, ◌*◌, ◌<◌, ◌≤◌, Bool, false, List, length, take, replicate, inl, inr, ap, sym, ◌∙◌, arith}
-use Rattle.std.proofs.lemmas.Bool.{cases_lt, cond-false}
+use Rattle.std.proofs.{Common.{◌≡◌, ◌≢◌, ◌↔◌, ℕ, zero, suc, ◌+◌, ◌-◌, ◌*◌, ◌<◌, ◌≤◌, Bool, false, List, length, take, replicate, inl, inr, ap, sym, ◌∙◌, arith}, lemmas.Bool.{cases_lt, cond-false}}
 use Rattle.std.proofs.lemmas.List.{get_or-take, get_or_past}
 use Rattle.p25_bits.specs.Distance.{distance_by}
-use Rattle.p25_gf64.specs.declared.symbol.Sym.{Sym}
-use Rattle.p25_gf64.specs.Gf64.{gf64}
+use Rattle.p25_gf64.specs.{declared.symbol.Sym.{Sym}, Gf64.{gf64}}
 use Rattle.p25_gf64.proofs.FieldLaws.{add_zero}
-use Rattle.p25_algebra.specs.Sums.{nonzeros}
-use Rattle.p25_algebra.specs.Series.{coefficient, value_at}
-use Rattle.p25_algebra.proofs.ValueLaws.{value_same}
-use Rattle.p25_algebra.proofs.ProductValueLaws.{value_longer}
-use Rattle.p25_reed_solomon.specs.Words.{IsCode, IsWord, value_of, same_symbols}
-use Rattle.p25_reed_solomon.specs.DistanceLaws.{distance-nonzeros}
-use Rattle.p25_reed_solomon.specs.ValueLaws.{value-power_sum, front_value-add}
-use Rattle.p25_reed_solomon.specs.Errors.{point_of, is_erased, erased_below, kept_errors, Explains, AreErrors}
-use Rattle.p25_reed_solomon.specs.Locator.{IsLocator}
-use Rattle.p25_reed_solomon.proofs.ErasuresLaws.{erased_below-none, erased_below-kept}
-use Rattle.p25_reed_solomon.proofs.ErrorsLaws.{nonzeros_same}
-use Rattle.p25_reed_solomon.proofs.ReaderLaws.{no_erasures}
+use Rattle.p25_algebra.specs.{Sums.{nonzeros}, Series.{coefficient, value_at}}
+use Rattle.p25_algebra.proofs.{ValueLaws.{value_same}, ProductValueLaws.{value_longer}}
+use Rattle.p25_reed_solomon.specs.{Words.{IsCode, IsWord, value_of, same_symbols}, DistanceLaws.{distance-nonzeros}, ValueLaws.{value-power_sum, front_value-add}}
+use Rattle.p25_reed_solomon.specs.{Errors.{point_of, is_erased, erased_below, kept_errors, Explains, AreErrors}, Locator.{IsLocator}}
+use Rattle.p25_reed_solomon.proofs.{ErasuresLaws.{erased_below-none, erased_below-kept}, ErrorsLaws.{nonzeros_same}, ReaderLaws.{no_erasures}}
 
 no_erasure : (n j : ℕ) → is_erased (take n (replicate 63 false)) j ≡ false
 no_erasure n j =

@@ -1,15 +1,11 @@
 -- The places at which a polynomial vanishes, listed in rising order: one place more at a time, and no more than the polynomial has coefficients.
-use Rattle.std.proofs.Common.{◌≡◌, ◌≢◌, ℕ, ◌+◌, ◌<◌, ◌≤◌, List, [], ◌∷◌, ◌++◌, length, get_or, inl, inr, refl, sym, ◌∙◌, subst, arith}
-use Rattle.std.proofs.lemmas.Bool.{cases_lt, cases_eq, cases_order}
+use Rattle.std.proofs.{Common.{◌≡◌, ◌≢◌, ℕ, ◌+◌, ◌<◌, ◌≤◌, List, [], ◌∷◌, ◌++◌, length, get_or, inl, inr, refl, sym, ◌∙◌, subst, arith}, lemmas.Bool.{cases_lt, cases_eq, cases_order}}
 use Rattle.std.proofs.lemmas.List.{get_or_append_left, get_or_at, length_push}
-use Rattle.p25_gf64.specs.declared.symbol.Sym.{Sym}
-use Rattle.p25_gf64.specs.Gf64.{gf64}
-use Rattle.p25_algebra.specs.Sums.{AreApart}
-use Rattle.p25_algebra.specs.Series.{coefficient, value_at, IsZero}
+use Rattle.p25_gf64.specs.{declared.symbol.Sym.{Sym}, Gf64.{gf64}}
+use Rattle.p25_algebra.specs.{Sums.{AreApart}, Series.{coefficient, value_at, IsZero}}
 use Rattle.p25_algebra.proofs.ValueLaws.{few_zeros}
 use Rattle.p25_poly.proofs.CoefficientLaws.{coefficient_past}
-use Rattle.p25_reed_solomon.specs.ElementLaws.{same_point}
-use Rattle.p25_reed_solomon.specs.Errors.{point_of, AreZeros}
+use Rattle.p25_reed_solomon.specs.{ElementLaws.{same_point}, Errors.{point_of, AreZeros}}
 
 -- a polynomial with as many zeros as coefficients has no coefficient
 pub AreZeros-few : (n upto : ℕ) (polynomial : List Sym) (places : List ℕ) → n ≤ 63 → upto ≤ n → AreZeros n polynomial upto places → (IsZero gf64 (coefficient gf64 polynomial) → ⊥) → length places < length polynomial

@@ -1,15 +1,10 @@
 -- Distances of words by their symbols.
 use Rattle.std.specs.Prelude.{◌≡◌, ℕ, zero, suc, ◌+◌, true, if◌then◌else◌, List, [], ◌∷◌, length, refl}
-use Rattle.std.proofs.Common.{ap, ap₂, sym, ◌∙◌, inl, inr, arith}
-use Rattle.std.proofs.lemmas.Bool.{cond-true, cond-false, eq-eqb, false_from_ne_true}
+use Rattle.std.proofs.{Common.{ap, ap₂, sym, ◌∙◌, inl, inr, arith}, lemmas.Bool.{cond-true, cond-false, eq-eqb, false_from_ne_true}}
 use Rattle.p25_bits.specs.Distance.{distance_by}
-use Rattle.p25_gf64.specs.declared.symbol.Sym.{Sym}
-use Rattle.p25_gf64.specs.Symbol.{number}
-use Rattle.p25_gf64.specs.Gf64.{gf64}
-use Rattle.p25_gf64.proofs.FieldLaws.{add_self, same_from_sum}
-use Rattle.p25_gf64.proofs.SymbolLaws.{same_from_eq}
-use Rattle.p25_algebra.specs.Sums.{nonzeros, weight_by}
-use Rattle.p25_algebra.specs.Series.{coefficient}
+use Rattle.p25_gf64.specs.{declared.symbol.Sym.{Sym}, Symbol.{number}, Gf64.{gf64}}
+use Rattle.p25_gf64.proofs.{FieldLaws.{add_self, same_from_sum}, SymbolLaws.{same_from_eq}}
+use Rattle.p25_algebra.specs.{Sums.{nonzeros, weight_by}, Series.{coefficient}}
 use Rattle.p25_reed_solomon.specs.Words.{same_symbols}
 
 -- the first factor apart

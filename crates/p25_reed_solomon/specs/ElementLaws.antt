@@ -1,11 +1,8 @@
 -- The elements of places.
 use Rattle.std.specs.Prelude.{◌≡◌, ◌≢◌, ℕ, ◌+◌, ◌-◌, ◌<◌, ◌≤◌}
 use Rattle.std.proofs.Common.{ap, sym, ◌∙◌, arith}
-use Rattle.p25_gf64.specs.Field.{power}
-use Rattle.p25_gf64.specs.Symbol.{alpha}
-use Rattle.p25_gf64.specs.Gf64.{gf64}
-use Rattle.p25_gf64.proofs.FieldLaws.{mul_comm, mul_inverse, mul_cancel, inverse_ne_zero, inverse_from_one}
-use Rattle.p25_gf64.proofs.PowerLaws.{power-add, power_ne_zero}
+use Rattle.p25_gf64.specs.{Field.{power}, Symbol.{alpha}, Gf64.{gf64}}
+use Rattle.p25_gf64.proofs.{FieldLaws.{mul_comm, mul_inverse, mul_cancel, inverse_ne_zero, inverse_from_one}, PowerLaws.{power-add, power_ne_zero}}
 use Rattle.p25_gf64.proofs.SymbolLaws.{alpha_exponents, alpha_ne_zero, alpha_to_63}
 use Rattle.p25_algebra.specs.Sums.{AreApart}
 use Rattle.p25_reed_solomon.specs.Errors.{element_of, point_of}

@@ -2,10 +2,7 @@
 -- coefficient of the j-th power of 1/x.
 use Rattle.std.specs.Prelude.{ℕ, zero, suc, ◌-◌, ◌==◌, List, if◌then◌else◌}
 use Rattle.p25_bits.specs.Numbers.{each_below}
-use Rattle.p25_gf64.specs.declared.symbol.Sym.{Sym}
-use Rattle.p25_gf64.specs.Field.{power}
-use Rattle.p25_gf64.specs.Symbol.{alpha}
-use Rattle.p25_gf64.specs.Gf64.{gf64}
+use Rattle.p25_gf64.specs.{declared.symbol.Sym.{Sym}, Field.{power}, Symbol.{alpha}, Gf64.{gf64}}
 use Rattle.p25_algebra.specs.Series.{coefficient, shifted, times_linear}
 
 -- the coefficients of the generator: the product of 1 + α^i / x for each i from 1 to the number of check symbols

@@ -1,11 +1,7 @@
 -- Errors of a received word: what is added to it at each place. Places may be erased: what stands there is not known.
 use Rattle.std.specs.Prelude.{◌≡◌, ℕ, zero, suc, ◌+◌, ◌-◌, ◌*◌, ◌<◌, ◌≤◌, Bool, false, List, length, slice_index, slice_index_or, ◌==◌, if◌then◌else◌}
-use Rattle.p25_gf64.specs.declared.symbol.Sym.{Sym}
-use Rattle.p25_gf64.specs.Field.{power}
-use Rattle.p25_gf64.specs.Symbol.{alpha}
-use Rattle.p25_gf64.specs.Gf64.{gf64}
-use Rattle.p25_algebra.specs.Sums.{sum_below, power_sum, nonzeros}
-use Rattle.p25_algebra.specs.Series.{coefficient, value_at}
+use Rattle.p25_gf64.specs.{declared.symbol.Sym.{Sym}, Field.{power}, Symbol.{alpha}, Gf64.{gf64}}
+use Rattle.p25_algebra.specs.{Sums.{sum_below, power_sum, nonzeros}, Series.{coefficient, value_at}}
 
 -- the element of a place among n: α to the exponent of its coefficient
 abbrev pub element_of : ℕ → ℕ → Sym

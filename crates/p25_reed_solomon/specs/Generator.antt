@@ -1,9 +1,6 @@
 -- The generator polynomials of the Reed-Solomon codes.
 use Rattle.std.specs.Prelude.{◌≡◌, ℕ, ◌+◌, ◌≤◌, List}
-use Rattle.p25_gf64.specs.declared.symbol.Sym.{Sym}
-use Rattle.p25_gf64.specs.Field.{power}
-use Rattle.p25_gf64.specs.Symbol.{alpha}
-use Rattle.p25_gf64.specs.Gf64.{gf64}
+use Rattle.p25_gf64.specs.{declared.symbol.Sym.{Sym}, Field.{power}, Symbol.{alpha}, Gf64.{gf64}}
 use Rattle.p25_algebra.specs.Series.{coefficient, value_at, IsShort}
 
 -- the symbols are the coefficients, highest first, of a polynomial x^checks + .. that vanishes at α^1 to α^checks; divided

@@ -1,7 +1,6 @@
 -- Locators of the places of a received word that are erased or wrong, and their evaluators.
 use Rattle.std.specs.Prelude.{◌≡◌, ◌≢◌, ℕ, zero, suc, ◌+◌, ◌<◌, Bool, true, false, List, if◌then◌else◌}
-use Rattle.p25_gf64.specs.declared.symbol.Sym.{Sym}
-use Rattle.p25_gf64.specs.Gf64.{gf64}
+use Rattle.p25_gf64.specs.{declared.symbol.Sym.{Sym}, Gf64.{gf64}}
 use Rattle.p25_algebra.specs.Series.{value_at, slope_at, times_linear, IsZero, IsShort}
 use Rattle.p25_reed_solomon.specs.Errors.{element_of, point_of, is_erased, Explains}
 

@@ -1,12 +1,7 @@
 -- Values of words at powers of α.
-use Rattle.std.proofs.Common.{◌≡◌, ℕ, suc, ◌+◌, ◌-◌, ◌*◌, ◌<◌, ap, ap₂, ◌∙◌, arith}
-use Rattle.std.proofs.Math.Nat.{mul_comm as nat_mul_comm, mul-suc}
-use Rattle.p25_gf64.specs.declared.symbol.Sym.{Sym}
-use Rattle.p25_gf64.specs.Field.{power}
-use Rattle.p25_gf64.specs.Symbol.{alpha}
-use Rattle.p25_gf64.specs.Gf64.{gf64}
-use Rattle.p25_gf64.proofs.FieldLaws.{mul_one, mul_comm, mul_left_comm, add_mul}
-use Rattle.p25_gf64.proofs.PowerLaws.{power-zero, power-add, power-mul}
+use Rattle.std.proofs.{Common.{◌≡◌, ℕ, suc, ◌+◌, ◌-◌, ◌*◌, ◌<◌, ap, ap₂, ◌∙◌, arith}, Math.Nat.{mul_comm as nat_mul_comm, mul-suc}}
+use Rattle.p25_gf64.specs.{declared.symbol.Sym.{Sym}, Field.{power}, Symbol.{alpha}, Gf64.{gf64}}
+use Rattle.p25_gf64.proofs.{FieldLaws.{mul_one, mul_comm, mul_left_comm, add_mul}, PowerLaws.{power-zero, power-add, power-mul}}
 use Rattle.p25_algebra.specs.Sums.{sum_below, power_sum}
 use Rattle.p25_algebra.proofs.SumLaws.{sum-suc, sum_same, sum-mul, sum-add}
 use Rattle.p25_reed_solomon.specs.Errors.{element_of}

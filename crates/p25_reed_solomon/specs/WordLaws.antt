@@ -1,21 +1,15 @@
 -- Laws of the Reed-Solomon words: their distance, and that the information determines the word.
 use Rattle.std.specs.Prelude.{◌≡◌, ◌≢◌, ℕ, ◌+◌, ◌-◌, ◌*◌, ◌/◌, ◌<◌, ◌≤◌, List, length, take, drop}
-use Rattle.std.proofs.Common.{inl, inr, ap, ap₂, sym, ◌∙◌, arith, length-drop, take-append-drop}
-use Rattle.std.proofs.lemmas.Bool.{cases_lt}
+use Rattle.std.proofs.{Common.{inl, inr, ap, ap₂, sym, ◌∙◌, arith, length-drop, take-append-drop}, lemmas.Bool.{cases_lt}}
 use Rattle.std.proofs.lemmas.List.{ext_get_or, length-take-le}
 use Rattle.p25_bits.specs.Distance.{distance_by}
 use Rattle.p25_bits.proofs.DistanceLaws.{distance_by-append, distance_by-same, distance_by-le}
-use Rattle.p25_gf64.specs.declared.symbol.Sym.{Sym}
-use Rattle.p25_gf64.specs.Gf64.{gf64}
+use Rattle.p25_gf64.specs.{declared.symbol.Sym.{Sym}, Gf64.{gf64}}
 use Rattle.p25_gf64.proofs.FieldLaws.{add_zero, same_from_sum}
-use Rattle.p25_algebra.specs.Sums.{nonzeros, power_sum}
-use Rattle.p25_algebra.specs.Series.{coefficient}
+use Rattle.p25_algebra.specs.{Sums.{nonzeros, power_sum}, Series.{coefficient}}
 use Rattle.p25_algebra.proofs.VanishingLaws.{vanishing}
-use Rattle.p25_reed_solomon.specs.Words.{IsCode, IsWord, same_symbols}
-use Rattle.p25_reed_solomon.specs.Errors.{element_of}
-use Rattle.p25_reed_solomon.specs.ValueLaws.{value-power_sum, front_value-add}
-use Rattle.p25_reed_solomon.specs.ElementLaws.{elements_apart, element_ne_zero}
-use Rattle.p25_reed_solomon.specs.DistanceLaws.{distance-nonzeros, same_symbols-same}
+use Rattle.p25_reed_solomon.specs.{Words.{IsCode, IsWord, same_symbols}, Errors.{element_of}, ValueLaws.{value-power_sum, front_value-add}}
+use Rattle.p25_reed_solomon.specs.{ElementLaws.{elements_apart, element_ne_zero}, DistanceLaws.{distance-nonzeros, same_symbols-same}}
 
 -- two words that differ in no more symbols than there are check symbols are one word
 pub same_word : (n k : ℕ) → IsCode n k → (v w : List Sym) → IsWord n k v → IsWord n k w → distance_by same_symbols v w ≤ n - k → v ≡ w

@@ -1,11 +1,7 @@
 -- The Reed-Solomon codes over GF(64): the words that vanish at successive powers of α.
 use Rattle.std.specs.Prelude.{◌≡◌, ℕ, Bool, ◌==◌, ◌-◌, ◌*◌, ◌/◌, ◌<◌, ◌≤◌, List, length}
-use Rattle.p25_gf64.specs.declared.symbol.Sym.{Sym}
-use Rattle.p25_gf64.specs.Field.{power}
-use Rattle.p25_gf64.specs.Symbol.{alpha, number}
-use Rattle.p25_gf64.specs.Gf64.{gf64}
-use Rattle.p25_algebra.specs.Sums.{sum_below}
-use Rattle.p25_algebra.specs.Series.{coefficient}
+use Rattle.p25_gf64.specs.{declared.symbol.Sym.{Sym}, Field.{power}, Symbol.{alpha, number}, Gf64.{gf64}}
+use Rattle.p25_algebra.specs.{Sums.{sum_below}, Series.{coefficient}}
 
 -- n and k make a code: places enough for n symbols, some information, and an even number of check symbols, 22 at most
 pub record IsCode (n k : ℕ) : Type 0 where

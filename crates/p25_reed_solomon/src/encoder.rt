@@ -5,12 +5,9 @@
 //! zeros but 0.
 
 ghost use Rattle.std.specs.Prelude.{◌≡◌, ℕ, ◌+◌, ◌-◌, ◌≤◌, ◌<◌, length, take};
-ghost use Rattle.p25_gf64.specs.Field.{power};
-ghost use Rattle.p25_gf64.specs.Symbol.{alpha};
-ghost use Rattle.p25_gf64.specs.Gf64.{gf64};
+ghost use Rattle.p25_gf64.specs.{Field.{power}, Symbol.{alpha}, Gf64.{gf64}};
 ghost use Rattle.p25_algebra.specs.Series.{coefficient, value_at, shifted, IsShort};
-ghost use Rattle.p25_reed_solomon.specs.Generator.{IsGenerator};
-ghost use Rattle.p25_reed_solomon.specs.Words.{IsCode, IsWord};
+ghost use Rattle.p25_reed_solomon.specs.{Generator.{IsGenerator}, Words.{IsCode, IsWord}};
 
 use p25_gf64::Sym;
 

@@ -3,8 +3,7 @@
 ghost use Rattle.std.specs.Prelude.{◌≡◌, ℕ, suc, ◌+◌, ◌<◌, ◌≤◌, length};
 ghost use Rattle.p25_gf64.specs.Gf64.{gf64};
 ghost use Rattle.p25_algebra.specs.Series.{coefficient, shifted, times_linear};
-ghost use Rattle.p25_reed_solomon.specs.Errors.{erased_below};
-ghost use Rattle.p25_reed_solomon.specs.Locator.{times_erasures};
+ghost use Rattle.p25_reed_solomon.specs.{Errors.{erased_below}, Locator.{times_erasures}};
 
 use p25_gf64::Sym;
 

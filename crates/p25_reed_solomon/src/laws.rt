@@ -3,8 +3,7 @@
 ghost use Rattle.std.specs.Prelude.{◌≡◌, ℕ, List, length};
 ghost use Rattle.p25_code.specs.Words.{IsEncoding};
 ghost use Rattle.p25_gf64.specs.declared.symbol.Sym.{Sym};
-ghost use Rattle.p25_reed_solomon.specs.Words.{IsCode, IsWord};
-ghost use Rattle.p25_reed_solomon.specs.Encoding.{rs_word};
+ghost use Rattle.p25_reed_solomon.specs.{Words.{IsCode, IsWord}, Encoding.{rs_word}};
 
 /// **Theorem.** Each information has a word, `rs_word`, and no other.
 pub fn encoding_laws()

@@ -3,10 +3,8 @@
 ghost use Rattle.std.specs.Prelude.{◌≡◌, ℕ, ◌+◌, ◌*◌, ◌/◌, ◌<◌, ◌≤◌, length};
 ghost use Rattle.p25_gf64.specs.Gf64.{gf64};
 ghost use Rattle.p25_algebra.specs.Series.{coefficient, IsShort};
-ghost use Rattle.p25_poly.specs.Key.{IsKey};
-ghost use Rattle.p25_poly.specs.Polynomial.{coefficient_of};
-ghost use Rattle.p25_reed_solomon.specs.Errors.{erased_below};
-ghost use Rattle.p25_reed_solomon.specs.Locator.{IsLocator};
+ghost use Rattle.p25_poly.specs.{Key.{IsKey}, Polynomial.{coefficient_of}};
+ghost use Rattle.p25_reed_solomon.specs.{Errors.{erased_below}, Locator.{IsLocator}};
 
 use crate::erasures::{count_erasures, multiply_by_erasures, multiply_by_x_and_add};
 use p25_gf64::Sym;

@@ -1,9 +1,7 @@
 //! Polynomials at many points at once. Each step goes over all points, so that a compiler makes vector operations of it.
 
 ghost use Rattle.std.specs.Prelude.{◌≡◌, ℕ, ◌+◌, ◌<◌, ◌≤◌, length};
-ghost use Rattle.p25_gf64.specs.Field.{power};
-ghost use Rattle.p25_gf64.specs.Symbol.{alpha};
-ghost use Rattle.p25_gf64.specs.Gf64.{gf64};
+ghost use Rattle.p25_gf64.specs.{Field.{power}, Symbol.{alpha}, Gf64.{gf64}};
 ghost use Rattle.p25_algebra.specs.Series.{coefficient, value_at};
 
 use p25_gf64::Sym;

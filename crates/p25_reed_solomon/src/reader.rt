@@ -2,10 +2,8 @@
 
 ghost use Rattle.std.specs.Prelude.{◌≡◌, ℕ, ◌-◌, ◌<◌, ◌≤◌, length};
 ghost use Rattle.p25_gf64.specs.Gf64.{gf64};
-ghost use Rattle.p25_algebra.specs.Sums.{nonzeros};
-ghost use Rattle.p25_algebra.specs.Series.{coefficient};
-ghost use Rattle.p25_code.specs.Words.{IsReading};
-ghost use Rattle.p25_code.specs.Erasures.{without_erased, IsErasedReading};
+ghost use Rattle.p25_algebra.specs.{Sums.{nonzeros}, Series.{coefficient}};
+ghost use Rattle.p25_code.specs.{Words.{IsReading}, Erasures.{without_erased, IsErasedReading}};
 ghost use Rattle.p25_reed_solomon.specs.Words.{IsCode, IsWord, radius_of, same_symbols};
 
 use crate::erasures::count_erasures;

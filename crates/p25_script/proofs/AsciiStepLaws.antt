@@ -2,20 +2,15 @@
 use Rattle.std.proofs.Common.{◌≡◌, ℕ, ◌+◌, ◌/◌, ◌&&◌, Bool, true, false, cond, List, [], ◌∷◌, ◌++◌, length, refl, ap₂}
 use Rattle.std.specs.Prelude.{codes, decimal, nat_lt}
 use Rattle.p25_bits.specs.Numbers.{octets_from}
-use Rattle.p25_line.specs.CommaLists.{comma_text}
-use Rattle.p25_line.specs.Octets.{octets_text}
+use Rattle.p25_line.specs.{CommaLists.{comma_text}, Octets.{octets_text}}
 use Rattle.p25_line.proofs.AsciiLaws.{ascii-append, ascii-comma_text, ascii-decimal, ascii-encode_lower, ascii-joined, ascii-octets_text, is_ascii}
 use Rattle.p25_text.specs.ItemTexts.{field_name}
 use Rattle.p25_text.proofs.AsciiTextLaws.{ascii-field_name}
 use Rattle.p25_messages.specs.declared.step_kind.StepKind.{StepKind}
 use Rattle.p25_messages.specs.declared.step_kind.StepKind.TheVariants.{Taken, Resent, Reopened, Nothing, Lost, Ignored, Delivered, SynHeard, Again, Kept, RefusedCrc, RefusedOrder, Acknowledged, LinkOpened, Retry, Repeat}
-use Rattle.p25_messages.specs.declared.step_kind.Way.{Way}
-use Rattle.p25_messages.specs.declared.step_kind.Way.TheVariants.{Packets, Answers}
-use Rattle.p25_stations.specs.WorldState.{WorldState}
-use Rattle.p25_stations.specs.declared.step.Step.{Step}
-use Rattle.p25_script.specs.Script.{way_word}
-use Rattle.p25_script.specs.StepTexts.{closing_text_of, false_text, flags_text, kind_text, serials_of, step_text_of}
-use Rattle.p25_stations.specs.SessionTexts.{sessions_text}
+use Rattle.p25_messages.specs.{declared.step_kind.Way.{Way}, declared.step_kind.Way.TheVariants.{Packets, Answers}}
+use Rattle.p25_stations.specs.{WorldState.{WorldState}, declared.step.Step.{Step}, SessionTexts.{sessions_text}}
+use Rattle.p25_script.specs.{Script.{way_word}, StepTexts.{closing_text_of, false_text, flags_text, kind_text, serials_of, step_text_of}}
 
 ascii-way : (way : Way) → is_ascii (way_word way) ≡ true
 ascii-way Packets = refl

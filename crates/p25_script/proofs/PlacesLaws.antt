@@ -1,9 +1,7 @@
 -- Ascending places: as the standard library has them, and with one more at the end. By induction on the places.
-use Rattle.std.proofs.Common.{◌≡◌, ℕ, zero, suc, ◌+◌, ◌<◌, ◌≤◌, ◌&&◌, true, List, [], ◌∷◌, ◌++◌, refl, ap₂, subst, slice_index, arith}
-use Rattle.std.specs.Prelude.{nat_lt, All}
-use Rattle.std.specs.List.Sorted.{IsStrictlyIncreasing}
-use Rattle.std.proofs.lemmas.Bool.{and_parts, lt-ltb, ltb-true}
+use Rattle.std.proofs.{Common.{◌≡◌, ℕ, zero, suc, ◌+◌, ◌<◌, ◌≤◌, ◌&&◌, true, List, [], ◌∷◌, ◌++◌, refl, ap₂, subst, slice_index, arith}, lemmas.Bool.{and_parts, lt-ltb, ltb-true}}
 use Rattle.std.proofs.lemmas.List.Elements.{All-nil, All-cons, All-head}
+use Rattle.std.specs.{Prelude.{nat_lt, All}, List.Sorted.{IsStrictlyIncreasing}}
 use Rattle.p25_script.specs.Values.{is_ascending}
 
 -- the test is that of the standard library's relation

@@ -1,8 +1,7 @@
 -- Places that are read part by part, as the loop takes them. What was read so far is a beginning of all that the word lists.
 use Rattle.std.proofs.Common.{◌≡◌, ℕ, ◌<◌, true, false, List, [], ◌∷◌, ◌++◌, length, Option, Some, None, inl, inr, refl, sym, ap, ◌∙◌, arith, append_assoc}
-use Rattle.std.specs.Option.{option_map}
-use Rattle.std.specs.Str.{bytes_eq}
 use Rattle.std.proofs.lemmas.Bool.{cases_Bool, cond-true, cond-false}
+use Rattle.std.specs.{Option.{option_map}, Str.{bytes_eq}}
 use Rattle.p25_line.specs.CommaLists.{dash, entries_in, parts_from}
 use Rattle.p25_script.specs.Values.{is_ascending, place_in, places_in, where_ascending}
 use Rattle.p25_line.proofs.CommaReadLaws.{EntriesSoFar, EntriesSoFar-end, EntriesSoFar-more, list_in-parts}

@@ -1,10 +1,8 @@
 -- What each answer of the reader of script lines shows of the reading of words by the definition.
 use Rattle.std.proofs.Common.{◌≡◌, ℕ, suc, List, [], ◌∷◌, length, drop, slice_get, Some, None, Err, refl, ap, ◌∙◌}
-use Rattle.p25_line.specs.declared.fault.LineFault.TheVariants.{Key, Kind as WrongKind}
-use Rattle.p25_line.specs.LineReadings.{named_or_fault}
+use Rattle.p25_line.specs.{declared.fault.LineFault.TheVariants.{Key, Kind as WrongKind}, LineReadings.{named_or_fault}}
 use Rattle.p25_line.proofs.LineWordsLaws.{first-others}
-use Rattle.p25_script.specs.Script.{event_by_words, event_in, event_named, word_count}
-use Rattle.p25_script.specs.declared.names.EventKind.{EventKind}
+use Rattle.p25_script.specs.{Script.{event_by_words, event_in, event_named, word_count}, declared.names.EventKind.{EventKind}}
 use Rattle.p25_script.specs.declared.names.EventKind.TheVariants.{Send as SendLine, Timeout as TimeoutLine, Reopen as ReopenLine, Deliver as DeliverLine}
 
 -- the first word names no kind

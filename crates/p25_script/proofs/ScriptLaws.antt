@@ -1,21 +1,13 @@
 -- The line of an event is read as that event, and a line that is read is the line of its event. By cases on what each step of the reading found.
 use Rattle.std.proofs.Common.{◌≡◌, ℕ, ◌+◌, ◌*◌, ◌<◌, ◌≤◌, ◌&&◌, true, List, [], ◌∷◌, length, Option, Some, None, Result, Ok, refl, ap, ap₂, subst, ◌∙◌, arith}
-use Rattle.std.specs.Prelude.{IfOk}
-use Rattle.std.specs.List.{list_all}
-use Rattle.p25_line.specs.LineReadings.{keyed_or_fault, named_or_fault, value_or_fault}
-use Rattle.p25_line.specs.Words.{is_word}
-use Rattle.p25_line.specs.declared.fault.LineFault.{LineFault}
-use Rattle.p25_line.proofs.LineReadLaws.{IsLineOf, WordLaws, line_read-facts, line_read-words, words-line_read}
-use Rattle.p25_line.proofs.WordsLaws.{named-word}
-use Rattle.p25_stations.specs.Runs.{IsEvent}
+use Rattle.std.specs.{Prelude.{IfOk}, List.{list_all}}
+use Rattle.p25_line.specs.{LineReadings.{keyed_or_fault, named_or_fault, value_or_fault}, Words.{is_word}, declared.fault.LineFault.{LineFault}}
+use Rattle.p25_line.proofs.{LineReadLaws.{IsLineOf, WordLaws, line_read-facts, line_read-words, words-line_read}, WordsLaws.{named-word}}
+use Rattle.p25_stations.specs.{Runs.{IsEvent}, declared.step.Event.{Event}, declared.step.Event.TheVariants.{Send, Timeout, Reopen, ToReceiver, ToSender}}
 use Rattle.p25_delivery.specs.SoundHalves.{IsMessage}
-use Rattle.p25_stations.specs.declared.step.Event.{Event}
-use Rattle.p25_stations.specs.declared.step.Event.TheVariants.{Send, Timeout, Reopen, ToReceiver, ToSender}
-use Rattle.p25_messages.specs.declared.step_kind.Way.{Way}
-use Rattle.p25_messages.specs.declared.step_kind.Way.TheVariants.{Packets, Answers}
+use Rattle.p25_messages.specs.{declared.step_kind.Way.{Way}, declared.step_kind.Way.TheVariants.{Packets, Answers}}
 use Rattle.p25_script.specs.Script.{IsScripted, delivery, event_by_words, event_in, event_kinds, event_named, event_of, event_text, event_word, event_words, way_named, way_word, ways}
-use Rattle.p25_script.specs.Values.{ArePlaces, message_in, places_in, places_text}
-use Rattle.p25_script.specs.declared.names.EventKind.{EventKind}
+use Rattle.p25_script.specs.{Values.{ArePlaces, message_in, places_in, places_text}, declared.names.EventKind.{EventKind}}
 use Rattle.p25_script.specs.declared.names.EventKind.TheVariants.{Send as SendLine, Timeout as TimeoutLine, Reopen as ReopenLine, Deliver as DeliverLine}
 use Rattle.p25_script.proofs.ValueLaws.{length-message_text, length-places_text, message-message_in, message-word, message_in-text, places-places_in, places-word, places_in-text}
 

@@ -1,10 +1,7 @@
 -- The pieces of step texts: the octets of flags, and one serial number more. By the lists made place by place.
 use Rattle.std.proofs.Common.{◌≡◌, ℕ, ◌+◌, ◌/◌, Bool, true, false, cond, List, [], ◌∷◌, ◌++◌, length, take, map, decimal, slice_get, Some, refl, sym, ap, ap₂, ◌∙◌, arith, append-nil, append_assoc}
-use Rattle.std.specs.Prelude.{slice_index_or, eqb, if◌then◌else◌}
-use Rattle.std.specs.List.{join_with_byte}
-use Rattle.std.proofs.lemmas.Bool.{cond-true, cond-false}
-use Rattle.std.proofs.lemmas.List.{map_push, take_all, take-append-le}
-use Rattle.std.proofs.lemmas.Option.{get_or_from_slice_get}
+use Rattle.std.proofs.{lemmas.Bool.{cond-true, cond-false}, lemmas.List.{map_push, take_all, take-append-le}, lemmas.Option.{get_or_from_slice_get}}
+use Rattle.std.specs.{Prelude.{slice_index_or, eqb, if◌then◌else◌}, List.{join_with_byte}}
 use Rattle.p25_bits.specs.Numbers.{joined_below, octets_from}
 use Rattle.p25_bits.proofs.NumbersLaws.{joined_below-more, length-numbers_from}
 use Rattle.p25_packet_blocks.specs.FlagOctets.{flag_octets}

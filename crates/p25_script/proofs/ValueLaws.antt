@@ -1,24 +1,14 @@
 -- Messages and places are read from their texts, and a word that is read as one is its text. By cases on what each test found.
 use Rattle.std.proofs.Common.{◌≡◌, ℕ, ◌+◌, ◌*◌, ◌^◌, ◌<◌, ◌≤◌, ◌==◌, ◌&&◌, ◌||◌, Bool, true, false, List, [], ◌∷◌, length, map, decimal, Option, Some, None, inl, inr, refl, sym, ap, ap₂, ◌∙◌, arith, length-append}
-use Rattle.std.specs.Prelude.{All}
-use Rattle.std.specs.Char.{is_ascii_digit}
-use Rattle.std.specs.List.{join_with_byte, list_all}
-use Rattle.std.specs.Str.{all_ascii_digits, bytes_eq}
-use Rattle.std.proofs.lemmas.Bool.{and_parts, cases_Bool, cond-true, cond-false, lt-ltb, true≢false}
-use Rattle.std.proofs.lemmas.Fmt.{decimal_nonempty, digits_decimal, length-decimal-le}
-use Rattle.std.proofs.lemmas.List.Elements.{All-nil, All-cons, All-head, All-tail}
-use Rattle.std.proofs.lemmas.List.Folds.{list_all-append}
-use Rattle.std.proofs.lemmas.Slice.Eq.{bytes_eq-Decides}
+use Rattle.std.proofs.{lemmas.Bool.{and_parts, cases_Bool, cond-true, cond-false, lt-ltb, true≢false}, lemmas.Fmt.{decimal_nonempty, digits_decimal, length-decimal-le}}
+use Rattle.std.proofs.{lemmas.List.Elements.{All-nil, All-cons, All-head, All-tail}, lemmas.List.Folds.{list_all-append}, lemmas.Slice.Eq.{bytes_eq-Decides}}
 use Rattle.std.proofs.lemmas.Str.Parse.{numerals_by_value, tells_all_ascii_digits}
-use Rattle.p25_line.specs.Octets.{octets_text}
-use Rattle.p25_line.specs.Words.{is_printed, is_word}
-use Rattle.p25_line.proofs.NumberLaws.{decimal-number_below, number_below-decimal}
-use Rattle.p25_line.proofs.OctetsLaws.{length-octets_text, octets-word, octets_up_to-text, text-octets_up_to}
-use Rattle.p25_line.proofs.JoinLaws.{Lacks}
-use Rattle.p25_delivery.specs.SoundHalves.{IsMessage}
-use Rattle.p25_line.specs.CommaLists.{comma_text, dash, list_in}
-use Rattle.p25_script.specs.Values.{ArePlaces, is_ascending, message_in, place_in, places_in, places_text, where_ascending}
+use Rattle.std.specs.{Prelude.{All}, Char.{is_ascii_digit}, List.{join_with_byte, list_all}, Str.{all_ascii_digits, bytes_eq}}
+use Rattle.p25_line.specs.{Octets.{octets_text}, Words.{is_printed, is_word}, CommaLists.{comma_text, dash, list_in}}
+use Rattle.p25_line.proofs.{NumberLaws.{decimal-number_below, number_below-decimal}, OctetsLaws.{length-octets_text, octets-word, octets_up_to-text, text-octets_up_to}, JoinLaws.{Lacks}}
 use Rattle.p25_line.proofs.CommaListLaws.{AllFit, EntryLaws, list_in-text, text-list_in}
+use Rattle.p25_delivery.specs.SoundHalves.{IsMessage}
+use Rattle.p25_script.specs.Values.{ArePlaces, is_ascending, message_in, place_in, places_in, places_text, where_ascending}
 use Rattle.p25_script.proofs.PlacesLaws.{increasing-is_ascending, is_ascending-increasing}
 
 -- ---- messages

@@ -1,18 +1,11 @@
 -- Script lines: the line of an event, and the event of a line.
-use Rattle.std.specs.Prelude.{ℕ, List, [], ◌∷◌, codes, Option, Result, Ok, Err}
-use Rattle.std.specs.List.{find, join_with_byte}
-use Rattle.std.specs.Str.{bytes_eq}
-use Rattle.p25_line.specs.LineReadings.{keyed_or_fault, line_read, named_or_fault, value_or_fault}
-use Rattle.p25_line.specs.Octets.{octets_text}
-use Rattle.p25_line.specs.declared.fault.LineFault.{LineFault}
+use Rattle.std.specs.{Prelude.{ℕ, List, [], ◌∷◌, codes, Option, Result, Ok, Err}, List.{find, join_with_byte}, Str.{bytes_eq}}
+use Rattle.p25_line.specs.{LineReadings.{keyed_or_fault, line_read, named_or_fault, value_or_fault}, Octets.{octets_text}, declared.fault.LineFault.{LineFault}}
 use Rattle.p25_line.specs.declared.fault.LineFault.TheVariants.{Form, Key}
 use Rattle.p25_delivery.specs.SoundHalves.{IsMessage}
-use Rattle.p25_stations.specs.declared.step.Event.{Event}
-use Rattle.p25_stations.specs.declared.step.Event.TheVariants.{Send, Timeout, Reopen, ToReceiver, ToSender}
-use Rattle.p25_messages.specs.declared.step_kind.Way.{Way}
-use Rattle.p25_messages.specs.declared.step_kind.Way.TheVariants.{Packets, Answers}
-use Rattle.p25_script.specs.Values.{ArePlaces, message_in, places_in, places_text}
-use Rattle.p25_script.specs.declared.names.EventKind.{EventKind}
+use Rattle.p25_stations.specs.{declared.step.Event.{Event}, declared.step.Event.TheVariants.{Send, Timeout, Reopen, ToReceiver, ToSender}}
+use Rattle.p25_messages.specs.{declared.step_kind.Way.{Way}, declared.step_kind.Way.TheVariants.{Packets, Answers}}
+use Rattle.p25_script.specs.{Values.{ArePlaces, message_in, places_in, places_text}, declared.names.EventKind.{EventKind}}
 use Rattle.p25_script.specs.declared.names.EventKind.TheVariants.{Send as SendLine, Timeout as TimeoutLine, Reopen as ReopenLine, Deliver as DeliverLine}
 
 -- ---- the words of script lines

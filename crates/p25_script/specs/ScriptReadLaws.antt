@@ -3,8 +3,7 @@ use Rattle.std.specs.Prelude.{◌≡◌, ◌≢◌, ℕ, List, [], ◌∷◌, Er
 use Rattle.p25_line.specs.declared.fault.LineFault.TheVariants.{Long}
 use Rattle.p25_line.proofs.LineReadLaws.{keyed-not_long, named-not_long, value-not_long}
 use Rattle.p25_stations.specs.declared.step.Event.TheVariants.{Send}
-use Rattle.p25_script.specs.Values.{message_in, places_in}
-use Rattle.p25_script.specs.Script.{delivery, event_by_words, event_in, event_named, way_named}
+use Rattle.p25_script.specs.{Values.{message_in, places_in}, Script.{delivery, event_by_words, event_in, event_named, way_named}}
 use Rattle.p25_script.specs.declared.names.EventKind.{EventKind}
 use Rattle.p25_script.specs.declared.names.EventKind.TheVariants.{Send as SendLine, Deliver as DeliverLine, Timeout as TimeoutLine, Reopen as ReopenLine}
 

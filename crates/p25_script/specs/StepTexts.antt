@@ -3,13 +3,10 @@ use Rattle.std.specs.Prelude.{ℕ, ◌+◌, ◌/◌, Bool, true, false, if◌the
 use Rattle.hex.specs.Hex.{encode_lower}
 use Rattle.p25_bits.specs.Numbers.{joined_below, octets_from}
 use Rattle.p25_text.specs.ItemTexts.{field_name}
-use Rattle.p25_stations.specs.SessionTexts.{sessions_text}
-use Rattle.p25_stations.specs.WorldState.{WorldState}
-use Rattle.p25_stations.specs.declared.step.Step.{Step}
+use Rattle.p25_stations.specs.{SessionTexts.{sessions_text}, WorldState.{WorldState}, declared.step.Step.{Step}}
 use Rattle.p25_messages.specs.declared.step_kind.StepKind.{StepKind}
 use Rattle.p25_messages.specs.declared.step_kind.StepKind.TheVariants.{Taken, Busy, OfferDown, Resent, Idle, TimeoutDown, Reopened, Up, Nothing, Lost, Ignored, Delivered, SynHeard, Again, Kept, RefusedCrc, RefusedOrder, Acknowledged, LinkOpened, Retry, Repeat, AnswerDown}
-use Rattle.p25_line.specs.CommaLists.{comma_text}
-use Rattle.p25_line.specs.Octets.{octets_text}
+use Rattle.p25_line.specs.{CommaLists.{comma_text}, Octets.{octets_text}}
 use Rattle.p25_script.specs.Script.{way_word}
 
 -- the octets of flags, two digits each: the first flag is the most significant bit of the first octet

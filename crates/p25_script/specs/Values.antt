@@ -1,9 +1,7 @@
 -- The values of script lines: messages and places of wrong bits.
 use Rattle.std.specs.Prelude.{ℕ, ◌<◌, ◌&&◌, nat_lt, Bool, true, if◌then◌else◌, List, [], ◌∷◌, All, Option, Some, None, decimal}
 use Rattle.std.specs.List.Sorted.{IsStrictlyIncreasing}
-use Rattle.p25_line.specs.Values.{number_below}
-use Rattle.p25_line.specs.CommaLists.{list_in, list_text}
-use Rattle.p25_line.specs.Octets.{octets_up_to}
+use Rattle.p25_line.specs.{Values.{number_below}, CommaLists.{list_in, list_text}, Octets.{octets_up_to}}
 
 -- ---- messages
 

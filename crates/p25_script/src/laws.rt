@@ -1,15 +1,10 @@
 //! Lines and events tell each other, and the texts are ASCII. The functions make no call: their contracts are the theorems.
 
 ghost use Rattle.std.specs.Prelude.{◌≡◌, ◌≢◌, ℕ, ◌<◌, ◌≤◌, List, length, Ok, IsAscii};
-ghost use Rattle.p25_stations.specs.Runs.{IsEvent};
+ghost use Rattle.p25_stations.specs.{Runs.{IsEvent}, WorldState.{WorldState}, declared.step.Event.{Event as event_type}};
+ghost use Rattle.p25_stations.specs.{declared.step.Event.TheVariants.{Send, ToReceiver, ToSender}, declared.step.Step.{Step as step_type}};
 ghost use Rattle.p25_delivery.specs.SoundHalves.{IsMessage};
-ghost use Rattle.p25_stations.specs.WorldState.{WorldState};
-ghost use Rattle.p25_stations.specs.declared.step.Event.{Event as event_type};
-ghost use Rattle.p25_stations.specs.declared.step.Event.TheVariants.{Send, ToReceiver, ToSender};
-ghost use Rattle.p25_script.specs.Script.{IsScripted, event_of, event_text};
-ghost use Rattle.p25_stations.specs.declared.step.Step.{Step as step_type};
-ghost use Rattle.p25_script.specs.StepTexts.{closing_text_of, step_text_of};
-ghost use Rattle.p25_script.specs.Values.{ArePlaces};
+ghost use Rattle.p25_script.specs.{Script.{IsScripted, event_of, event_text}, StepTexts.{closing_text_of, step_text_of}, Values.{ArePlaces}};
 
 /// **Theorem.** That lines and events tell each other. The line of each event that is not too long is
 /// read as that event; a line that is read is the line of its event, which a script can tell of, and no line is read as an

@@ -1,11 +1,9 @@
 //! Events read from lines.
 
 ghost use Rattle.std.specs.Prelude.{◌≡◌, ◌↔◌, ◌<◌, ◌≤◌, IfOk, Err, length, drop};
-ghost use Rattle.p25_line.specs.LineReadings.{keyed_or_fault};
-ghost use Rattle.p25_line.specs.declared.fault.LineFault.TheVariants.{Long};
+ghost use Rattle.p25_line.specs.{LineReadings.{keyed_or_fault}, declared.fault.LineFault.TheVariants.{Long}};
 ghost use Rattle.p25_stations.specs.declared.step.Event.{Event as event_type};
-ghost use Rattle.p25_script.specs.Script.{IsScripted, delivery, event_by_words, event_in, event_of, event_text, way_named, word_count};
-ghost use Rattle.p25_script.specs.Values.{places_in};
+ghost use Rattle.p25_script.specs.{Script.{IsScripted, delivery, event_by_words, event_in, event_of, event_text, way_named, word_count}, Values.{places_in}};
 
 use super::names::{EventKind, named_way};
 use super::values::{message_value, places_value};

@@ -2,8 +2,7 @@
 //! for types of this crate alone, so each has a newtype here.
 
 ghost use Rattle.std.specs.Prelude.{◌≡◌, Some, Ok, Err, MatchResult};
-ghost use Rattle.p25_script.specs.Script.{event_of};
-ghost use Rattle.p25_script.specs.StepTexts.{step_text_of};
+ghost use Rattle.p25_script.specs.{Script.{event_of}, StepTexts.{step_text_of}};
 
 use super::read::read_event;
 use super::steps::step_text;

@@ -2,10 +2,8 @@
 
 ghost use Rattle.std.specs.Prelude.{◌≡◌, ◌+◌, ◌*◌, ◌<◌, ◌≤◌, Bool, true, ◌++◌, [], ◌∷◌, length, if◌then◌else◌, codes, decimal};
 ghost use Rattle.p25_messages.specs.declared.step_kind.StepKind.TheVariants.{Taken, Retry};
-ghost use Rattle.p25_line.specs.CommaLists.{comma_text};
-ghost use Rattle.p25_line.specs.Octets.{octets_text};
-ghost use Rattle.p25_script.specs.StepTexts.{flags_text, kind_text, serials_of, step_text_of};
-ghost use Rattle.p25_script.specs.Script.{way_word};
+ghost use Rattle.p25_line.specs.{CommaLists.{comma_text}, Octets.{octets_text}};
+ghost use Rattle.p25_script.specs.{StepTexts.{flags_text, kind_text, serials_of, step_text_of}, Script.{way_word}};
 
 use super::names::word_of_way;
 use p25_line::Line;

@@ -1,30 +1,17 @@
 -- What a call of `show` comes to, in one form, follows from what holds of each call.
 use Rattle.std.proofs.Common.{◌≡◌, ℕ, ◌<◌, ◌≤◌, Bool, true, false, cond, nat_lt, List, [], ◌++◌, length, take, Option, Some, refl, ap, sym, subst, ◌∙◌, arith, append-nil, length-append, inl, inr}
-use Rattle.std.specs.Prelude.{IfSome}
-use Rattle.std.specs.List.{flat_map}
-use Rattle.std.proofs.lemmas.List.{take_all, nil_from_length}
-use Rattle.std.proofs.lemmas.Bool.Decides.{nat_tests}
+use Rattle.std.proofs.{lemmas.List.{take_all, nil_from_length}, lemmas.Bool.Decides.{nat_tests}}
+use Rattle.std.specs.{Prelude.{IfSome}, List.{flat_map}}
 use Rattle.p25_io.specs.Octets.{Appended}
 use Rattle.p25_stream.specs.Arrivals.{Arrival, wholes_of}
 use Rattle.p25_recording_filters.specs.ItemOutputs.{shown}
-use Rattle.p25_filter.specs.Runs.{Filtered, IsFinal, input_most}
-use Rattle.p25_filter.specs.declared.ending.Ending.{Ending}
-use Rattle.p25_filter.specs.declared.ending.Ending.TheVariants.{Done as EndDone}
-use Rattle.p25_filter.specs.declared.ending.FilterEnd.{FilterEnd}
+use Rattle.p25_filter.specs.{Runs.{Filtered, IsFinal, input_most}, declared.ending.Ending.{Ending}, declared.ending.Ending.TheVariants.{Done as EndDone}, declared.ending.FilterEnd.{FilterEnd}}
 use Rattle.p25_filter.specs.declared.ending.FilterEnd.TheVariants.{Ended, ReadFault as EndReadFault, WriteFault as EndWriteFault, TooLong as EndTooLong, Memory as EndMemory}
 use Rattle.p25_io.proofs.OctetsLaws.{Taken-told}
-use Rattle.p25_tool.specs.declared.command.Command.{Command}
-use Rattle.p25_tool.specs.declared.command.Command.TheVariants.{Show}
-use Rattle.p25_tool.specs.declared.outcome.Outcome.{Outcome}
-use Rattle.p25_tool.specs.declared.outcome.Outcome.TheVariants.{Done}
-use Rattle.p25_tool.specs.CallClauses.{CallSays}
-use Rattle.p25_tool.specs.Outcomes.{ending_outcome, filter_outcome}
-use Rattle.p25_tool.specs.Outputs.{command_future}
-use Rattle.p25_tool.specs.Recorded.{IsRecording}
-use Rattle.p25_tool.specs.Words.{command_of}
+use Rattle.p25_tool.specs.{declared.command.Command.{Command}, declared.command.Command.TheVariants.{Show}, declared.outcome.Outcome.{Outcome}, declared.outcome.Outcome.TheVariants.{Done}}
+use Rattle.p25_tool.specs.{CallClauses.{CallSays}, Outcomes.{ending_outcome, filter_outcome}, Outputs.{command_future}, Recorded.{IsRecording}, Words.{command_of}}
 use Rattle.p25_show.specs.Calls.{IsShown, ShowSays, all_shown, lines_shown}
-use Rattle.p25_tool.proofs.RecordedLaws.{shows-units}
-use Rattle.p25_tool.proofs.RunsLaws.{wanting-command}
+use Rattle.p25_tool.proofs.{RecordedLaws.{shows-units}, RunsLaws.{wanting-command}}
 
 -- all that is to be written for an input that is not too long, and for one that is
 all-short : (octets : List ℕ) → length octets ≤ input_most → all_shown octets ≡ lines_shown true octets

@@ -1,37 +1,19 @@
 -- The readings of units, codes, blocks and checks, as the definitions say them.
 use Rattle.std.proofs.Common.{◌≡◌, ℕ, ◌-◌, Bool, List, length, Option, Some, None, Result, Ok, Err, refl, ap, sym, ◌∙◌}
 use Rattle.std.specs.Bool.{beq}
-use Rattle.p25_bits.specs.Bits.{octet_bits}
-use Rattle.p25_bits.specs.Distance.{distance_by}
-use Rattle.p25_code.specs.Erasures.{erased_cost}
-use Rattle.p25_code.specs.ErasedReadings.{IsErasedReadAs}
-use Rattle.p25_code.specs.Readings.{IsReadAs, IsWordWithin}
-use Rattle.p25_hamming.specs.Hamming10.{IsHamming10}
-use Rattle.p25_hamming.specs.Hamming10Readings.{hamming10_reading_of, hamming10_reads_as}
-use Rattle.p25_hamming.specs.Lsd16.{IsLsd16}
-use Rattle.p25_hamming.specs.Lsd16Readings.{lsd16_reading_of, lsd16_reads_as}
-use Rattle.p25_golay.specs.Golay18.{IsGolay18}
-use Rattle.p25_golay.specs.Golay18Readings.{golay18_reading_of, golay18_reads_as}
-use Rattle.p25_golay.specs.Golay24.{IsGolay24}
-use Rattle.p25_golay.specs.Golay24Readings.{golay24_reading_of, golay24_reads_as}
-use Rattle.p25_reed_solomon.specs.Words.{IsWord, same_symbols}
-use Rattle.p25_reed_solomon.specs.RsReadings.{rs_erased_reading_of, rs_erased_reads_as}
-use Rattle.p25_bch_nid.specs.Bch63.{IsBch63}
-use Rattle.p25_bch_nid.specs.Bch63Readings.{bch63_reading_of, bch63_reads_as}
+use Rattle.p25_bits.specs.{Bits.{octet_bits}, Distance.{distance_by}}
+use Rattle.p25_code.specs.{Erasures.{erased_cost}, ErasedReadings.{IsErasedReadAs}, Readings.{IsReadAs, IsWordWithin}}
+use Rattle.p25_hamming.specs.{Hamming10.{IsHamming10}, Hamming10Readings.{hamming10_reading_of, hamming10_reads_as}, Lsd16.{IsLsd16}, Lsd16Readings.{lsd16_reading_of, lsd16_reads_as}}
+use Rattle.p25_golay.specs.{Golay18.{IsGolay18}, Golay18Readings.{golay18_reading_of, golay18_reads_as}, Golay24.{IsGolay24}, Golay24Readings.{golay24_reading_of, golay24_reads_as}}
+use Rattle.p25_reed_solomon.specs.{Words.{IsWord, same_symbols}, RsReadings.{rs_erased_reading_of, rs_erased_reads_as}}
+use Rattle.p25_bch_nid.specs.{Bch63.{IsBch63}, Bch63Readings.{bch63_reading_of, bch63_reads_as}, NidReading.{nid_reading_of}}
 use Rattle.p25_trellis.specs.Trellis.{IsFirstLeastReading, distance_from}
 use Rattle.p25_crc.specs.Checks.{IsCheck, IsCrc16, IsCrc32, IsCrc9, block_divisor, block_message, header_divisor, packet_divisor}
 use Rattle.p25_crc.specs.Values.{IsCrc16-crc16_of, IsCrc32-crc32_of, IsCrc9-crc9_of, crc16_of, crc32_of, crc9_of}
-use Rattle.p25_status.specs.Woven.{bare_of, statuses_of}
-use Rattle.p25_status.specs.declared.fields.Field.{Field}
-use Rattle.p25_status.specs.declared.symbols.Status.{Status}
+use Rattle.p25_status.specs.{Woven.{bare_of, statuses_of}, declared.fields.Field.{Field}, declared.symbols.Status.{Status}}
 use Rattle.p25_unit_front.specs.Front.{identifier_bits, identifier_of}
-use Rattle.p25_bch_nid.specs.NidReading.{nid_reading_of}
-use Rattle.p25_units.specs.Fixes.{fixes_of}
-use Rattle.p25_units.specs.Items.{identified_item, item_from, unit_item_of}
-use Rattle.p25_units.specs.Readings.{body_reading_of, frame_from, reading_from}
-use Rattle.p25_units.specs.declared.frame.Frame.{Frame}
-use Rattle.p25_units.specs.declared.item.Item.TheVariants.{Whole, Broken}
-use Rattle.p25_units.specs.declared.unit.Body.{Body}
+use Rattle.p25_units.specs.{Fixes.{fixes_of}, Items.{identified_item, item_from, unit_item_of}, Readings.{body_reading_of, frame_from, reading_from}, declared.frame.Frame.{Frame}}
+use Rattle.p25_units.specs.{declared.item.Item.TheVariants.{Whole, Broken}, declared.unit.Body.{Body}}
 use Rattle.p25_show.specs.Readings.{ChecksAreMade, CodesAreRead, IsNearestBlock, IsUnitRead, identifier_read}
 
 pub identifier-read : (sent : List Bool) → identifier_of sent ≡ identifier_read sent

@@ -2,12 +2,10 @@
 use Rattle.std.specs.Prelude.{◌≡◌, ℕ, ◌+◌, ◌<◌, ◌≤◌, Bool, true, false, if◌then◌else◌, nat_lt, List, [], ◌++◌, length, take, Option, Some, All}
 use Rattle.std.specs.List.{flat_map}
 use Rattle.p25_bits.specs.Bits.{octet_bits}
-use Rattle.p25_stream.specs.Arrivals.{Arrival, IsNearArrival, bits_arrived, wholes_of}
-use Rattle.p25_stream.specs.Items.{items_by}
+use Rattle.p25_stream.specs.{Arrivals.{Arrival, IsNearArrival, bits_arrived, wholes_of}, Items.{items_by}}
 use Rattle.p25_recording_filters.specs.ItemOutputs.{shown}
 use Rattle.p25_filter.specs.Runs.{input_most, read_most}
-use Rattle.p25_tool.specs.declared.outcome.Outcome.{Outcome}
-use Rattle.p25_tool.specs.declared.outcome.Outcome.TheVariants.{Done, TooLong, ReadFault, WriteFault}
+use Rattle.p25_tool.specs.{declared.outcome.Outcome.{Outcome}, declared.outcome.Outcome.TheVariants.{Done, TooLong, ReadFault, WriteFault}}
 
 -- the lines of the items of some octets, whether they are all or more may come
 abbrev pub lines_shown : Bool → List ℕ → List ℕ

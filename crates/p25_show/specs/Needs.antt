@@ -4,12 +4,8 @@ use Rattle.p25_status.specs.declared.fields.Field.TheVariants.{Nid, Duid}
 use Rattle.p25_bch_nid.specs.Duids.{duid_pdu}
 use Rattle.p25_unit_front.specs.Front.{identifier_of}
 use Rattle.p25_voice_units.specs.Lengths.{voice_length_of}
-use Rattle.p25_packet_blocks.specs.Heads.{head_blocks}
-use Rattle.p25_packet_blocks.specs.Lengths.{packet_sent_length}
-use Rattle.p25_packet_blocks.specs.UnitReading.{sent_head_of}
-use Rattle.p25_units.specs.Needs.{length_need}
-use Rattle.p25_units.specs.declared.needs.Need.{Need}
-use Rattle.p25_units.specs.declared.needs.Need.TheVariants.{More, NoLength}
+use Rattle.p25_packet_blocks.specs.{Heads.{head_blocks}, Lengths.{packet_sent_length}, UnitReading.{sent_head_of}}
+use Rattle.p25_units.specs.{Needs.{length_need}, declared.needs.Need.{Need}, declared.needs.Need.TheVariants.{More, NoLength}}
 
 -- what a packet (PDU) needs: 316 bits for its header, and then all that its header asks for
 abbrev pub packet_at : List Bool → Need

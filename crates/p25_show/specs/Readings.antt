@@ -1,34 +1,16 @@
 -- What the readings are that the lines of `show` tell: of units, of words of the codes, of blocks of packets, and their checks.
 use Rattle.std.specs.Prelude.{◌≡◌, ℕ, ◌-◌, ◌≤◌, Bool, List, ◌++◌, length, take, Option, option_map, Ok, Err}
-use Rattle.p25_bits.specs.Bits.{field_of, octet_bits, part}
-use Rattle.p25_bits.specs.Distance.{distance_of}
-use Rattle.p25_bits.specs.Numbers.{number_bits}
-use Rattle.p25_code.specs.Erasures.{erased_cost}
-use Rattle.p25_code.specs.Readings.{IsWordWithin}
+use Rattle.p25_bits.specs.{Bits.{field_of, octet_bits, part}, Distance.{distance_of}, Numbers.{number_bits}}
+use Rattle.p25_code.specs.{Erasures.{erased_cost}, Readings.{IsWordWithin}}
 use Rattle.p25_gf64.specs.declared.symbol.Sym.{Sym}
-use Rattle.p25_hamming.specs.Hamming10.{IsHamming10}
-use Rattle.p25_hamming.specs.Hamming10Readings.{hamming10_reading_of}
-use Rattle.p25_hamming.specs.Lsd16.{IsLsd16}
-use Rattle.p25_hamming.specs.Lsd16Readings.{lsd16_reading_of}
-use Rattle.p25_golay.specs.Golay18.{IsGolay18}
-use Rattle.p25_golay.specs.Golay18Readings.{golay18_reading_of}
-use Rattle.p25_golay.specs.Golay24.{IsGolay24}
-use Rattle.p25_golay.specs.Golay24Readings.{golay24_reading_of}
-use Rattle.p25_reed_solomon.specs.Words.{IsWord, same_symbols}
-use Rattle.p25_reed_solomon.specs.RsReadings.{rs_erased_reading_of}
-use Rattle.p25_bch_nid.specs.Bch63.{IsBch63}
-use Rattle.p25_bch_nid.specs.Bch63Readings.{bch63_reading_of}
-use Rattle.p25_trellis.specs.Nearest.{half_octets, three_quarter_octets}
-use Rattle.p25_trellis.specs.Tables.{half_point, three_quarter_point}
-use Rattle.p25_trellis.specs.Trellis.{IsNotAfter, IsPath, sent_bits}
-use Rattle.p25_crc.specs.Checks.{IsCheck, block_divisor, block_message, header_divisor, packet_divisor}
-use Rattle.p25_crc.specs.Values.{crc16_of, crc32_of, crc9_of}
-use Rattle.p25_status.specs.Woven.{bare_of, statuses_of}
-use Rattle.p25_status.specs.declared.fields.Field.{Field}
-use Rattle.p25_units.specs.Fixes.{fixes_of}
-use Rattle.p25_units.specs.Items.{unit_item_of}
-use Rattle.p25_units.specs.Readings.{body_reading_of}
-use Rattle.p25_units.specs.declared.frame.Frame.{Frame}
+use Rattle.p25_hamming.specs.{Hamming10.{IsHamming10}, Hamming10Readings.{hamming10_reading_of}, Lsd16.{IsLsd16}, Lsd16Readings.{lsd16_reading_of}}
+use Rattle.p25_golay.specs.{Golay18.{IsGolay18}, Golay18Readings.{golay18_reading_of}, Golay24.{IsGolay24}, Golay24Readings.{golay24_reading_of}}
+use Rattle.p25_reed_solomon.specs.{Words.{IsWord, same_symbols}, RsReadings.{rs_erased_reading_of}}
+use Rattle.p25_bch_nid.specs.{Bch63.{IsBch63}, Bch63Readings.{bch63_reading_of}}
+use Rattle.p25_trellis.specs.{Nearest.{half_octets, three_quarter_octets}, Tables.{half_point, three_quarter_point}, Trellis.{IsNotAfter, IsPath, sent_bits}}
+use Rattle.p25_crc.specs.{Checks.{IsCheck, block_divisor, block_message, header_divisor, packet_divisor}, Values.{crc16_of, crc32_of, crc9_of}}
+use Rattle.p25_status.specs.{Woven.{bare_of, statuses_of}, declared.fields.Field.{Field}}
+use Rattle.p25_units.specs.{Fixes.{fixes_of}, Items.{unit_item_of}, Readings.{body_reading_of}, declared.frame.Frame.{Frame}}
 use Rattle.p25_units.specs.declared.item.Item.TheVariants.{Whole, Broken}
 
 -- the identifier of a unit's bits: NAC and DUID, the first 16 bits of the word that the bits behind the sync read as, without the

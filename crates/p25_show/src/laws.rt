@@ -1,23 +1,15 @@
 //! What a call of `show` comes to, and what the readings are that its lines tell.
 
 ghost use Rattle.std.specs.Prelude.{◌≡◌, ℕ, Bool, true, List, [], ◌∷◌, codes, Some};
-ghost use Rattle.p25_io.specs.Events.{Event};
-ghost use Rattle.p25_io.specs.Faults.{Rose};
-ghost use Rattle.p25_io.specs.Streams.{StreamsGo, reader_in, writer_in};
-ghost use Rattle.p25_io.specs.declared.streams.Streams.{Streams};
+ghost use Rattle.p25_io.specs.{Events.{Event}, Faults.{Rose}, Streams.{StreamsGo, reader_in, writer_in}, declared.streams.Streams.{Streams}};
 ghost use Rattle.p25_filter.specs.Traces.{HasReadFault, HasWriteFault};
-ghost use Rattle.p25_trellis.specs.Nearest.{half_octets, three_quarter_octets};
-ghost use Rattle.p25_trellis.specs.Tables.{half_point, three_quarter_point};
+ghost use Rattle.p25_trellis.specs.{Nearest.{half_octets, three_quarter_octets}, Tables.{half_point, three_quarter_point}};
 ghost use Rattle.p25_status.specs.Sync.{has_sync};
 ghost use Rattle.p25_unit_front.specs.Front.{identifier_of};
 ghost use Rattle.p25_units.specs.Needs.{need_of};
-ghost use Rattle.p25_tool.specs.CallClauses.{CallSays};
-ghost use Rattle.p25_tool.specs.CallRuns.{IsCallRun};
-ghost use Rattle.p25_tool.specs.Words.{command_of};
-ghost use Rattle.p25_tool.specs.declared.command.Command.{Command};
+ghost use Rattle.p25_tool.specs.{CallClauses.{CallSays}, CallRuns.{IsCallRun}, Words.{command_of}, declared.command.Command.{Command}};
 ghost use Rattle.p25_tool.specs.declared.outcome.Outcome.{Outcome};
-ghost use Rattle.p25_show.specs.Calls.{ShowSays};
-ghost use Rattle.p25_show.specs.Needs.{need_at};
+ghost use Rattle.p25_show.specs.{Calls.{ShowSays}, Needs.{need_at}};
 ghost use Rattle.p25_show.specs.Readings.{BlocksAreRead, ChecksAreMade, CodesAreRead, IsNearestBlock, IsUnitRead, identifier_read};
 
 use p25_io::{Sink, Source};

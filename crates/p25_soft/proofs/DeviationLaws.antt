@@ -1,13 +1,8 @@
 -- How far the nominal levels of bits lie from those of others, and from levels: dibit by dibit.
 use Rattle.std.proofs.Common.{◌≡◌, ℕ, zero, suc, ◌+◌, ◌-◌, ◌*◌, ◌≤◌, inl, inr, Bool, true, false, cond, leb, List, [], ◌∷◌, ◌++◌, length, refl, ap, ap₂, arith, map, ℤ, ◌-ℤ◌}
-use Rattle.std.specs.Prelude.{unsigned_abs}
-use Rattle.std.specs.Bool.{beq}
-use Rattle.std.proofs.Math.Nat.{mul-le-mul, mul-add, add-mul, mul_comm}
-use Rattle.std.proofs.lemmas.Bool.{cases_lt, leb-true}
-use Rattle.std.proofs.lemmas.Int.{ints}
-use Rattle.p25_bits.specs.Bits.{bits_of, digit_of}
-use Rattle.p25_bits.specs.Numbers.{number_bits}
-use Rattle.p25_bits.specs.Distance.{distance_by, distance_of}
+use Rattle.std.proofs.{Math.Nat.{mul-le-mul, mul-add, add-mul, mul_comm}, lemmas.Bool.{cases_lt, leb-true}, lemmas.Int.{ints}}
+use Rattle.std.specs.{Prelude.{unsigned_abs}, Bool.{beq}}
+use Rattle.p25_bits.specs.{Bits.{bits_of, digit_of}, Numbers.{number_bits}, Distance.{distance_by, distance_of}}
 use Rattle.p25_soft.specs.Levels.{nominal_level, hard_dibit, hard_bits, dibits_of, nominal_levels, squared_deviation, deviation_of}
 
 -- a level is no farther from a second one than by way of a third

@@ -1,8 +1,7 @@
 -- Levels and the bits that they are read as: two bits for each level.
 use Rattle.std.proofs.Common.{◌≡◌, ℕ, ◌+◌, ◌*◌, ◌≤◌, List, Bool, [], ◌∷◌, ◌++◌, length, length-drop, take, drop, map, refl, ap, ◌∙◌, arith, ℤ}
 use Rattle.std.proofs.lemmas.List.{length-map, map-append, take-map, drop-map}
-use Rattle.p25_bits.specs.Bits.{bits_of, part}
-use Rattle.p25_bits.specs.Numbers.{number_bits}
+use Rattle.p25_bits.specs.{Bits.{bits_of, part}, Numbers.{number_bits}}
 use Rattle.p25_bits.proofs.NumbersLaws.{length-number_bits, number_bits-append, number_bits-one, take-number_bits, drop-number_bits}
 use Rattle.p25_soft.specs.Levels.{hard_bits, hard_dibit}
 

@@ -1,27 +1,15 @@
 -- What is known of a broken packet that its bits are divided into: its header was read, and it has the length that it tells. And what is made of each item.
 use Rattle.std.proofs.Common.{◌≡◌, ◌≢◌, ℕ, ◌≤◌, inl, inr, Bool, true, List, length, take, refl, ap, sym, subst, ◌∙◌, arith, ℤ, Some, Result, Ok, Err, eq-eqb}
+use Rattle.std.proofs.{lemmas.Bool.{cases_lt, cond-true, cond-false, ne_eqb}, lemmas.List.{length-take-le, take_all}}
 use Rattle.std.specs.Prelude.{nat_eq}
-use Rattle.std.proofs.lemmas.Bool.{cases_lt, cond-true, cond-false, ne_eqb}
-use Rattle.std.proofs.lemmas.List.{length-take-le, take_all}
-use Rattle.p25_status.specs.Sync.{has_sync}
-use Rattle.p25_status.specs.declared.fields.Field.{Field}
-use Rattle.p25_packet_blocks.specs.declared.head.PacketHead.{PacketHead}
-use Rattle.p25_packet_blocks.specs.Heads.{head_blocks}
-use Rattle.p25_packet_blocks.specs.Lengths.{packet_sent_length}
-use Rattle.p25_packet_blocks.specs.UnitReading.{sent_head_of}
-use Rattle.p25_units.specs.declared.frame.Frame.{Frame}
-use Rattle.p25_units.specs.declared.item.Item.{Item}
-use Rattle.p25_units.specs.declared.item.Item.TheVariants.{Broken}
-use Rattle.p25_units.specs.declared.needs.Need.TheVariants.{More, Length, NoLength}
-use Rattle.p25_units.specs.Items.{covered, item_from, place_of, unit_item_of}
-use Rattle.p25_units.specs.Needs.{head_need, kind_need, need_of, packet_need}
-use Rattle.p25_units.specs.Readings.{reading_from}
+use Rattle.p25_status.specs.{Sync.{has_sync}, declared.fields.Field.{Field}}
+use Rattle.p25_packet_blocks.specs.{declared.head.PacketHead.{PacketHead}, Heads.{head_blocks}, Lengths.{packet_sent_length}, UnitReading.{sent_head_of}}
+use Rattle.p25_units.specs.{declared.frame.Frame.{Frame}, declared.item.Item.{Item}, declared.item.Item.TheVariants.{Broken}, declared.needs.Need.TheVariants.{More, Length, NoLength}}
+use Rattle.p25_units.specs.{Items.{covered, item_from, place_of, unit_item_of}, Needs.{head_need, kind_need, need_of, packet_need}, Readings.{reading_from}}
 use Rattle.p25_units.proofs.ItemsLaws.{covered-unit_item_of, place_of-unit_item_of, unit_item_of-some}
-use Rattle.p25_units.proofs.NeedsLaws.{IsIdentified-from, head_need-bad, head_need-good, kind_need-packet, packet_need-short, packet_need-long}
-use Rattle.p25_units.proofs.PacketNeedLaws.{length_need-is, need_of-packet_alone}
+use Rattle.p25_units.proofs.{NeedsLaws.{IsIdentified-from, head_need-bad, head_need-good, kind_need-packet, packet_need-short, packet_need-long}, PacketNeedLaws.{length_need-is, need_of-packet_alone}}
 use Rattle.p25_units.proofs.UnitPlaceLaws.{IsUnitAt-from}
-use Rattle.p25_soft.specs.Levels.{hard_bits}
-use Rattle.p25_soft.specs.Softened.{IsHeard, IsReadFrom, blocks_replaced, blocks_to_follow, softened, softened_count, softened_packet, told_blocks}
+use Rattle.p25_soft.specs.{Levels.{hard_bits}, Softened.{IsHeard, IsReadFrom, blocks_replaced, blocks_to_follow, softened, softened_count, softened_packet, told_blocks}}
 
 -- the length of a packet that is known is the one that its header tells
 head_told : (head : Result PacketHead Field) (have : ℕ) → head_need head have ≡ Length have → have ≡ packet_sent_length (told_blocks head)

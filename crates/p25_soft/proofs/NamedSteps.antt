@@ -1,12 +1,8 @@
 -- Whether a field is among those that fail: a search field by field.
-use Rattle.std.proofs.Common.{◌≡◌, ℕ, ◌+◌, ◌<◌, ◌≤◌, ◌||◌, Bool, true, false, List, length, take, refl, ap, ap₂, sym, ◌∙◌, Some}
-use Rattle.std.specs.Prelude.{slice_get, nat_eq}
-use Rattle.std.specs.List.{list_any}
-use Rattle.std.proofs.lemmas.List.{take_all}
-use Rattle.std.proofs.lemmas.List.Folds.{list_any_at, list_any_more}
-use Rattle.std.proofs.lemmas.Option.{get_or_from_slice_get}
-use Rattle.p25_status.specs.declared.fields.Field.{Field}
-use Rattle.p25_status.specs.declared.fields.Field.TheVariants.{PacketCrc, Block}
+use Rattle.std.proofs.{Common.{◌≡◌, ℕ, ◌+◌, ◌<◌, ◌≤◌, ◌||◌, Bool, true, false, List, length, take, refl, ap, ap₂, sym, ◌∙◌, Some}, lemmas.List.{take_all}}
+use Rattle.std.proofs.{lemmas.List.Folds.{list_any_at, list_any_more}, lemmas.Option.{get_or_from_slice_get}}
+use Rattle.std.specs.{Prelude.{slice_get, nat_eq}, List.{list_any}}
+use Rattle.p25_status.specs.{declared.fields.Field.{Field}, declared.fields.Field.TheVariants.{PacketCrc, Block}}
 use Rattle.p25_soft.specs.Softened.{is_block, is_packet_crc}
 
 pub is_packet_crc-is : (field : Field) → field ≡ PacketCrc → is_packet_crc field ≡ true

@@ -1,21 +1,12 @@
 -- What a path costs in the table of points is what its sent bits deviate from the levels: step by step along the path, then in the order of sending.
 use Rattle.std.proofs.Common.{◌≡◌, ◌≢◌, ℕ, suc, ◌+◌, ◌*◌, ◌/◌, ◌%◌, ◌^◌, ◌<◌, ◌≤◌, ◌&&◌, Bool, true, eqb, List, [], ◌∷◌, ◌++◌, length, drop, get_or, set, refl, ap, ap₂, sym, ◌∙◌, arith, All, below_more, get_or-set_same, get_or-set_other, ℤ, pos}
-use Rattle.std.proofs.lemmas.Bool.{eqb-true, and_parts}
-use Rattle.std.proofs.lemmas.List.{drop_more}
-use Rattle.std.proofs.lemmas.List.Elements.{All-head, All-tail, All-from_get_or}
+use Rattle.std.proofs.{lemmas.Bool.{eqb-true, and_parts}, lemmas.List.{drop_more}, lemmas.List.Elements.{All-head, All-tail, All-from_get_or}}
 use Rattle.std.specs.Int.{bit_at}
-use Rattle.p25_bits.specs.Bits.{bits_of, digit_of}
-use Rattle.p25_bits.specs.Numbers.{number_bits}
-use Rattle.p25_trellis.specs.Interleave.{interleaved}
-use Rattle.p25_trellis.specs.Trellis.{IsPath, nibbles_from, sent_bits}
-use Rattle.p25_trellis.specs.Costs.{symbols_cost, path_cost, cost_in}
-use Rattle.p25_trellis.specs.TableLaws.{passed_below, passed_below-at}
-use Rattle.p25_trellis.proofs.InterleaveLaws.{weighed, weighed-interleaved, length-interleaved, All-interleaved, All-from_interleaved}
-use Rattle.p25_trellis.proofs.PathLaws.{length-nibbles_from}
+use Rattle.p25_bits.specs.{Bits.{bits_of, digit_of}, Numbers.{number_bits}}
+use Rattle.p25_trellis.specs.{Interleave.{interleaved}, Trellis.{IsPath, nibbles_from, sent_bits}, Costs.{symbols_cost, path_cost, cost_in}, TableLaws.{passed_below, passed_below-at}}
+use Rattle.p25_trellis.proofs.{InterleaveLaws.{weighed, weighed-interleaved, length-interleaved, All-interleaved, All-from_interleaved}, PathLaws.{length-nibbles_from}}
 use Rattle.p25_trellis.proofs.DistanceLaws.{All-nibbles_from, total_cost-weighed, weighed-drop}
-use Rattle.p25_soft.specs.Levels.{squared_deviation, deviation_of, bits_deviation, dibits_of}
-use Rattle.p25_soft.specs.SoftPaths.{soft_cost}
-use Rattle.p25_soft.specs.PointCosts.{IsPointTable, point_deviation}
+use Rattle.p25_soft.specs.{Levels.{squared_deviation, deviation_of, bits_deviation, dibits_of}, SoftPaths.{soft_cost}, PointCosts.{IsPointTable, point_deviation}}
 
 -- places that are sent in order are places
 pub All-places : (places : List ℕ) → length places ≡ 49 → ((k : ℕ) → k < 49 → get_or (interleaved places) k 0 ≡ k) → All (λ place. place < 49) places

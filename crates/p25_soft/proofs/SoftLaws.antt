@@ -1,18 +1,12 @@
 -- The soft path as a function is the first least path, and what is read by it follows. Levels near a path have it as their soft path, since the nominal
 -- levels of another deviate too far.
-use Rattle.std.proofs.Common.{◌≡◌, ℕ, ◌+◌, ◌*◌, ◌^◌, ◌<◌, ◌≤◌, Bool, List, length, take, refl, ap, sym, subst, ◌∙◌, arith, All, ℤ}
-use Rattle.std.proofs.lemmas.List.{length-map}
-use Rattle.p25_bits.specs.Distance.{distance_of}
-use Rattle.p25_bits.specs.Numbers.{number_bits, octets_from}
+use Rattle.std.proofs.{Common.{◌≡◌, ℕ, ◌+◌, ◌*◌, ◌^◌, ◌<◌, ◌≤◌, Bool, List, length, take, refl, ap, sym, subst, ◌∙◌, arith, All, ℤ}, lemmas.List.{length-map}}
+use Rattle.p25_bits.specs.{Distance.{distance_of}, Numbers.{number_bits, octets_from}}
 use Rattle.p25_bits.proofs.NumbersLaws.{length-numbers_from}
-use Rattle.p25_trellis.specs.Trellis.{IsFirstLeast, IsFirstLeastReading, IsPath, Carries, sent_bits}
-use Rattle.p25_trellis.specs.Nearest.{block_from}
-use Rattle.p25_trellis.proofs.ApartLaws.{length-sent_bits, length-block}
-use Rattle.p25_trellis.proofs.FirstPathLaws.{same_reading}
-use Rattle.p25_trellis.proofs.NearestLaws.{IsFirstLeast-first_least_end, Carries-octets_from, IsBlock-block_from, same_block_from}
-use Rattle.p25_trellis.proofs.PathLaws.{power-pos, same_octets}
-use Rattle.p25_soft.specs.Levels.{bits_deviation, deviation_of, dibits_of, hard_bits, nominal_level, nominal_levels}
-use Rattle.p25_soft.specs.SoftPaths.{soft_cost, soft_path, soft_octets, soft_block}
+use Rattle.p25_trellis.specs.{Trellis.{IsFirstLeast, IsFirstLeastReading, IsPath, Carries, sent_bits}, Nearest.{block_from}}
+use Rattle.p25_trellis.proofs.{ApartLaws.{length-sent_bits, length-block}, FirstPathLaws.{same_reading}}
+use Rattle.p25_trellis.proofs.{NearestLaws.{IsFirstLeast-first_least_end, Carries-octets_from, IsBlock-block_from, same_block_from}, PathLaws.{power-pos, same_octets}}
+use Rattle.p25_soft.specs.{Levels.{bits_deviation, deviation_of, dibits_of, hard_bits, nominal_level, nominal_levels}, SoftPaths.{soft_cost, soft_path, soft_octets, soft_block}}
 use Rattle.p25_soft.proofs.DeviationLaws.{deviation-same, deviation-triangle, far-bits, hard_bits-nominal, length-dibits_of}
 
 -- the soft path is the first least path by the cost of levels

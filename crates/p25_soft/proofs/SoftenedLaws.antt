@@ -1,20 +1,13 @@
 -- The blocks of a broken packet with some replaced: one by one after the header block, and then all as they are sent.
 use Rattle.std.proofs.Common.{◌≡◌, ◌≢◌, ℕ, zero, suc, ◌+◌, ◌-◌, ◌*◌, ◌/◌, ◌<◌, ◌≤◌, ◌||◌, Bool, true, false, cond, List, [], ◌++◌, length, take, drop, get_or, set, refl, ap, ap₂, sym, ◌∙◌, arith, append_assoc, add-one, below_more, get_or-set_same, get_or-set_other, ℤ, pos}
-use Rattle.std.proofs.lemmas.Bool.{cond-true, cond-false}
-use Rattle.std.proofs.lemmas.List.{take_all, take-append-drop, drop-drop}
-use Rattle.p25_bits.specs.Bits.{part}
-use Rattle.p25_bits.specs.Numbers.{joined_below}
-use Rattle.p25_bits.proofs.NumbersLaws.{each_below-same, each_below-list, joined_below-same, joined_below-parts}
-use Rattle.p25_bits.proofs.PartLaws.{drop-is_part}
-use Rattle.p25_status.specs.Woven.{woven, bare_of, statuses_of}
-use Rattle.p25_status.specs.declared.fields.Field.{Field}
-use Rattle.p25_status.specs.declared.symbols.Status.{Status}
+use Rattle.std.proofs.{lemmas.Bool.{cond-true, cond-false}, lemmas.List.{take_all, take-append-drop, drop-drop}}
+use Rattle.p25_bits.specs.{Bits.{part}, Numbers.{joined_below}}
+use Rattle.p25_bits.proofs.{NumbersLaws.{each_below-same, each_below-list, joined_below-same, joined_below-parts}, PartLaws.{drop-is_part}}
+use Rattle.p25_status.specs.{Woven.{woven, bare_of, statuses_of}, declared.fields.Field.{Field}, declared.symbols.Status.{Status}}
 use Rattle.p25_status.proofs.WovenLaws.{woven-of}
 use Rattle.p25_trellis.specs.Tables.{half_point, three_quarter_point}
-use Rattle.p25_packet_blocks.specs.Lengths.{packet_sent_length}
-use Rattle.p25_packet_blocks.specs.Reading.{block_bits}
-use Rattle.p25_soft.specs.SoftPaths.{soft_block}
-use Rattle.p25_soft.specs.Softened.{block_levels, blocks_replaced, blocks_to_follow, names_all, names_block, sent_dibit, softened_block, softened_packet, softened_bare}
+use Rattle.p25_packet_blocks.specs.{Lengths.{packet_sent_length}, Reading.{block_bits}}
+use Rattle.p25_soft.specs.{SoftPaths.{soft_block}, Softened.{block_levels, blocks_replaced, blocks_to_follow, names_all, names_block, sent_dibit, softened_block, softened_packet, softened_bare}}
 
 -- one more level of a block
 pub levels_more : (levels block : List ℤ) (j i : ℕ) (level : ℤ) → i < length block → ((k : ℕ) → k < i → get_or block k (pos 0) ≡ get_or levels (sent_dibit (154 + 98 * j + k)) (pos 0))

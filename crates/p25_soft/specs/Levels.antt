@@ -1,7 +1,6 @@
 -- Levels of a soft recording: one number from -128 to 127 for each two bits, which are a dibit.
 use Rattle.std.specs.Prelude.{ℕ, ◌+◌, ◌*◌, Bool, List, [], ◌∷◌, map, ℤ, pos, negsuc, int_le, ◌-ℤ◌, unsigned_abs, slice_index_or, if◌then◌else◌}
-use Rattle.p25_bits.specs.Bits.{digit_of}
-use Rattle.p25_bits.specs.Numbers.{number_bits}
+use Rattle.p25_bits.specs.{Bits.{digit_of}, Numbers.{number_bits}}
 
 -- the level that stands for each dibit: 32 for 00, 96 for 01, -32 for 10 and -96 for 11
 unfoldable pub nominal_level : ℕ → ℤ

@@ -1,7 +1,6 @@
 -- What a nibble costs at a step of a path, where its two dibits are sent at a place among the points of a block.
 use Rattle.std.specs.Prelude.{◌≡◌, ℕ, ◌+◌, ◌*◌, ◌/◌, ◌%◌, ◌<◌, List, length, ℤ, pos, slice_index, slice_index_or}
-use Rattle.p25_trellis.specs.Interleave.{interleaved}
-use Rattle.p25_trellis.specs.Costs.{cost_in}
+use Rattle.p25_trellis.specs.{Interleave.{interleaved}, Costs.{cost_in}}
 use Rattle.p25_soft.specs.Levels.{squared_deviation}
 
 -- a nibble that is sent as the point at a place, whose levels are those at 2·place and 2·place + 1

@@ -1,8 +1,7 @@
 -- The soft path of the levels of a block: the path whose nominal levels deviate least from them.
 use Rattle.std.specs.Prelude.{ℕ, ◌*◌, Bool, List, ℤ, take}
 use Rattle.p25_bits.specs.Numbers.{number_bits, octets_from}
-use Rattle.p25_trellis.specs.Nearest.{first_least_end}
-use Rattle.p25_trellis.specs.Trellis.{sent_bits}
+use Rattle.p25_trellis.specs.{Nearest.{first_least_end}, Trellis.{sent_bits}}
 use Rattle.p25_soft.specs.Levels.{bits_deviation}
 
 -- the cost of a path by levels: the sum, over the 98 dibits of its sent bits, of the square of level minus nominal level

@@ -2,22 +2,13 @@
 use Rattle.std.specs.Prelude.{◌≡◌, ℕ, zero, suc, ◌+◌, ◌*◌, ◌/◌, Bool, true, false, ◌||◌, ◌==◌, List, ◌++◌, length, take, drop, ℤ, pos, slice_index_or, Result, Ok, Err, if◌then◌else◌}
 use Rattle.std.specs.List.{list_any}
 use Rattle.p25_bits.specs.Numbers.{each_below, joined_below}
-use Rattle.p25_status.specs.Woven.{woven, bare_of, statuses_of}
-use Rattle.p25_status.specs.declared.fields.Field.{Field}
-use Rattle.p25_status.specs.declared.fields.Field.TheVariants.{PacketCrc, Block}
+use Rattle.p25_status.specs.{Woven.{woven, bare_of, statuses_of}, declared.fields.Field.{Field}, declared.fields.Field.TheVariants.{PacketCrc, Block}}
 use Rattle.p25_bch_nid.specs.Duids.{duid_pdu}
 use Rattle.p25_trellis.specs.Tables.{half_point, three_quarter_point}
-use Rattle.p25_packet_blocks.specs.declared.head.PacketHead.{PacketHead}
-use Rattle.p25_packet_blocks.specs.Heads.{head_blocks}
-use Rattle.p25_packet_blocks.specs.Reading.{block_bits}
-use Rattle.p25_packet_blocks.specs.UnitReading.{sent_head_of}
-use Rattle.p25_units.specs.Items.{covered, unit_item_of}
-use Rattle.p25_units.specs.Needs.{need_of}
-use Rattle.p25_units.specs.declared.needs.Need.TheVariants.{Length}
-use Rattle.p25_units.specs.declared.item.Item.{Item}
+use Rattle.p25_packet_blocks.specs.{declared.head.PacketHead.{PacketHead}, Heads.{head_blocks}, Reading.{block_bits}, UnitReading.{sent_head_of}}
+use Rattle.p25_units.specs.{Items.{covered, unit_item_of}, Needs.{need_of}, declared.needs.Need.TheVariants.{Length}, declared.item.Item.{Item}}
 use Rattle.p25_units.specs.declared.item.Item.TheVariants.{Whole, Broken, NoUnit, Gap, Cut}
-use Rattle.p25_soft.specs.Levels.{hard_bits}
-use Rattle.p25_soft.specs.SoftPaths.{soft_block}
+use Rattle.p25_soft.specs.{Levels.{hard_bits}, SoftPaths.{soft_block}}
 
 -- where dibit d of a unit without status symbols is sent: one dibit is a status symbol after every 35
 unfoldable pub sent_dibit : ℕ → ℕ

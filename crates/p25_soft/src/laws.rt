@@ -2,10 +2,8 @@
 
 ghost use Rattle.std.specs.Prelude.{◌≡◌, ℕ, ◌*◌, ◌<◌, List, ℤ, All, length};
 ghost use Rattle.p25_trellis.specs.Nearest.{block_from, half_block, half_octets, three_quarter_block, three_quarter_octets};
-ghost use Rattle.p25_trellis.specs.Tables.{half_point, three_quarter_point};
-ghost use Rattle.p25_trellis.specs.Trellis.{IsFirstLeastReading};
-ghost use Rattle.p25_soft.specs.Levels.{bits_deviation, hard_bits, nominal_levels};
-ghost use Rattle.p25_soft.specs.SoftPaths.{soft_cost, soft_octets, soft_path};
+ghost use Rattle.p25_trellis.specs.{Tables.{half_point, three_quarter_point}, Trellis.{IsFirstLeastReading}};
+ghost use Rattle.p25_soft.specs.{Levels.{bits_deviation, hard_bits, nominal_levels}, SoftPaths.{soft_cost, soft_octets, soft_path}};
 
 use p25_trellis::laws::{nearest_laws, paths_apart};
 use p25_trellis::{Half, Rate, ThreeQuarter};

@@ -1,10 +1,8 @@
 //! Blocks read from levels.
 
 ghost use Rattle.std.specs.Prelude.{◌≡◌, ℕ, ◌^◌, ◌<◌, ◌≤◌, All, length, slice_index};
-ghost use Rattle.p25_trellis.specs.Interleave.{interleaved};
-ghost use Rattle.p25_trellis.specs.Trellis.{IsFirstLeastReading};
-ghost use Rattle.p25_soft.specs.SoftPaths.{soft_cost, soft_octets};
-ghost use Rattle.p25_soft.specs.PointCosts.{IsPointTable, point_deviation};
+ghost use Rattle.p25_trellis.specs.{Interleave.{interleaved}, Trellis.{IsFirstLeastReading}};
+ghost use Rattle.p25_soft.specs.{SoftPaths.{soft_cost, soft_octets}, PointCosts.{IsPointTable, point_deviation}};
 
 use crate::level::deviation;
 use p25_trellis::{BLOCK_COSTS, Rate, gather, read_costs};

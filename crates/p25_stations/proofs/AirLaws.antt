@@ -1,26 +1,12 @@
 -- What the air keeps: a packet that is heard in no false pass is true to the one sent, and one that arrives within radius is
 -- heard as it was sent. By the tests of a false pass, and the law of packets within radius.
 use Rattle.std.proofs.Common.{subst, ◌≡◌, ℕ, ◌*◌, ◌<◌, inl, inr, Bool, true, false, cond, eqb, ◌&&◌, not, List, [], ◌∷◌, length, get_or, replicate, Result, Ok, Err, refl, ap, ap₂, sym, ◌∙◌, arith}
-use Rattle.std.specs.Prelude.{◌↔◌}
-use Rattle.std.specs.Str.{bytes_eq}
-use Rattle.std.specs.Cmp.Lexicographic.{same_text}
-use Rattle.std.proofs.lemmas.Bool.{and_parts, and_from, eq-eqb, ne_eqb, cond-true, cond-false, eqb-true, not-false}
-use Rattle.std.proofs.lemmas.List.{length-replicate}
-use Rattle.std.proofs.lemmas.Slice.Eq.{bytes_eq-Decides}
-use Rattle.p25_status.specs.declared.symbols.Status.{Status}
-use Rattle.p25_status.specs.declared.fields.Field.{Field}
-use Rattle.p25_packet_blocks.specs.declared.head.PacketHead.{PacketHead}
-use Rattle.p25_packet_blocks.specs.declared.block.Slot.{Slot}
-use Rattle.p25_packet_blocks.specs.declared.block.Slot.TheVariants.{Good, Bad}
-use Rattle.p25_packet_blocks.specs.declared.packet.Packet.{Packet}
-use Rattle.p25_packet_blocks.specs.declared.packet.Packet.TheVariants.{Confirmed, Plain}
-use Rattle.p25_packet_blocks.specs.Heads.{head_blocks}
-use Rattle.p25_packet_blocks.specs.Whole.{packet_head, IsWholePacket}
-use Rattle.p25_packet_blocks.specs.Lengths.{packet_parts}
-use Rattle.p25_packet_blocks.specs.Parts.{BlockParts, PlainParts}
-use Rattle.p25_packet_blocks.specs.Sendable.{IsSendable}
-use Rattle.p25_packet_blocks.specs.UnitReading.{packet_unit_of}
-use Rattle.p25_packet_blocks.specs.Within.{IsPacketWithin, IsSending, sent_unit}
+use Rattle.std.proofs.{lemmas.Bool.{and_parts, and_from, eq-eqb, ne_eqb, cond-true, cond-false, eqb-true, not-false}, lemmas.List.{length-replicate}, lemmas.Slice.Eq.{bytes_eq-Decides}}
+use Rattle.std.specs.{Prelude.{◌↔◌}, Str.{bytes_eq}, Cmp.Lexicographic.{same_text}}
+use Rattle.p25_status.specs.{declared.symbols.Status.{Status}, declared.fields.Field.{Field}}
+use Rattle.p25_packet_blocks.specs.{declared.head.PacketHead.{PacketHead}, declared.block.Slot.{Slot}, declared.block.Slot.TheVariants.{Good, Bad}, declared.packet.Packet.{Packet}}
+use Rattle.p25_packet_blocks.specs.{declared.packet.Packet.TheVariants.{Confirmed, Plain}, Heads.{head_blocks}, Whole.{packet_head, IsWholePacket}, Lengths.{packet_parts}}
+use Rattle.p25_packet_blocks.specs.{Parts.{BlockParts, PlainParts}, Sendable.{IsSendable}, UnitReading.{packet_unit_of}, Within.{IsPacketWithin, IsSending, sent_unit}}
 use Rattle.p25_delivery.specs.Orderly.{AreTrueSlots, IsTrueTo}
 use Rattle.p25_stations.specs.declared.air.Carried.TheVariants.{Lost, Foreign, Heard}
 use Rattle.p25_stations.specs.Air.{station_nac, station_status, transmission_of, received_bits, is_true_slot, are_true_slots, is_true_to, carried_from, carried_of, ArrivesWithin}

@@ -1,12 +1,9 @@
 -- The loops of the air: one more place inverted, one more status symbol, one more slot. By the laws of lists by their places.
 use Rattle.std.proofs.Common.{◌≡◌, ℕ, zero, suc, ◌+◌, ◌<◌, ◌≤◌, Bool, false, ◌&&◌, List, [], ◌∷◌, ◌++◌, length, take, drop, get_or, Some, refl, ap, ap₂, sym, ◌∙◌, arith}
+use Rattle.std.proofs.{lemmas.List.{take_more, drop_more}, Math.Bool.{and-false}, lemmas.Option.{get_or_from_slice_get}}
 use Rattle.std.specs.Prelude.{slice_get}
-use Rattle.std.proofs.lemmas.List.{take_more, drop_more}
-use Rattle.std.proofs.Math.Bool.{and-false}
-use Rattle.std.proofs.lemmas.Option.{get_or_from_slice_get}
 use Rattle.p25_bits.specs.Bits.{flipped}
-use Rattle.p25_packet_blocks.specs.declared.block.Slot.{Slot}
-use Rattle.p25_packet_blocks.specs.declared.block.Slot.TheVariants.{Bad}
+use Rattle.p25_packet_blocks.specs.{declared.block.Slot.{Slot}, declared.block.Slot.TheVariants.{Bad}}
 use Rattle.p25_stations.specs.Air.{with_flips, is_true_slot, are_true_slots}
 
 -- Flips.

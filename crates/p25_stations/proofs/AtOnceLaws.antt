@@ -1,47 +1,23 @@
 -- What comes of deliveries within radius: a message is taken, delivered and acknowledged, and a sender that is down opens
 -- again. By the laws of deliveries, each packet heard as it was sent.
-use Rattle.std.proofs.Common.{◌≡◌, ℕ, Bool, true, false, List, [], ◌∷◌, length, Option, Some, None, refl, ap, ap₂, sym, subst, ◌∙◌}
+use Rattle.std.proofs.{Common.{◌≡◌, ℕ, Bool, true, false, List, [], ◌∷◌, length, Option, Some, None, refl, ap, ap₂, sym, subst, ◌∙◌}, lemmas.Bool.{cond-true}}
 use Rattle.std.specs.Prelude.{IfSome}
-use Rattle.std.proofs.lemmas.Bool.{cond-true}
-use Rattle.p25_packet_blocks.specs.declared.packet.Packet.{Packet}
-use Rattle.p25_packet_blocks.specs.Sendable.{IsSendable}
-use Rattle.p25_delivery.specs.Runs.{steps_by, MeetAt}
-use Rattle.p25_delivery.specs.MessageBlocks.{block_count}
-use Rattle.p25_delivery.specs.SentPackets.{opening_packet}
-use Rattle.p25_delivery.specs.Halves.{Sending, Receiving}
-use Rattle.p25_delivery.specs.SenderRules.{sending_after, sender_heard, opening_number, reopened, is_opening}
-use Rattle.p25_delivery.specs.ReceiverRules.{receiver_heard}
-use Rattle.p25_delivery.specs.declared.sender.Outstanding.TheVariants.{Nothing, Opening}
-use Rattle.p25_messages.specs.declared.answers.Offer.{Offer}
-use Rattle.p25_messages.specs.declared.answers.Offer.TheVariants.{Taken as OfferTaken}
-use Rattle.p25_messages.specs.declared.answers.SenderHeard.{SenderHeard}
-use Rattle.p25_messages.specs.declared.answers.SenderHeard.TheVariants.{Acknowledged as HeardAck, Opened as SenderOpened}
-use Rattle.p25_messages.specs.declared.answers.Reopen.{Reopen as ReopenAnswer}
-use Rattle.p25_messages.specs.declared.answers.Reopen.TheVariants.{Sent as ReopenSent, Up as ReopenUp}
-use Rattle.p25_messages.specs.declared.answers.Heard.{Heard as HeardAnswer}
-use Rattle.p25_messages.specs.declared.answers.Heard.TheVariants.{Delivered as HeardDelivered, Opened as ReceiverOpened}
-use Rattle.p25_messages.specs.declared.step_kind.Way.{Way}
-use Rattle.p25_messages.specs.declared.step_kind.Way.TheVariants.{Packets, Answers}
-use Rattle.p25_delivery.specs.HalfRules.{after_offer, after_reopening, after_data, after_answer}
-use Rattle.p25_delivery.specs.Delivery.{Delivery, first_delivery, Happening, newest_after, with_outbound, with_inbound, happens, delivery_run}
-use Rattle.p25_delivery.specs.Orderly.{IsCleanRun as IsCleanDelivery}
-use Rattle.p25_delivery.specs.AtOnce.{DeliversAtOnce, OpensAtOnce}
-use Rattle.p25_delivery.proofs.DeliveryLaws.{run-delivers}
-use Rattle.p25_delivery.proofs.AtOnceLaws.{opens-down}
-use Rattle.p25_stations.specs.declared.step.Event.{Event}
-use Rattle.p25_stations.specs.declared.step.Event.TheVariants.{Send, Reopen, ToReceiver, ToSender}
-use Rattle.p25_stations.specs.declared.step.Step.{Step}
-use Rattle.p25_messages.specs.declared.step_kind.StepKind.TheVariants.{Taken, Reopened, Delivered, SynHeard, Acknowledged, LinkOpened}
-use Rattle.p25_stations.specs.declared.air.Carried.{Carried}
-use Rattle.p25_stations.specs.Air.{ArrivesWithin}
-use Rattle.p25_stations.specs.WorldState.{WorldState, first_world}
-use Rattle.p25_delivery.specs.SoundHalves.{IsMessage}
-use Rattle.p25_stations.specs.Steps.{heard_of, delivery_of, quiet_step, counted_when, heard_by, newest_by, delivered, world_step}
+use Rattle.p25_packet_blocks.specs.{declared.packet.Packet.{Packet}, Sendable.{IsSendable}}
+use Rattle.p25_delivery.specs.{Runs.{steps_by, MeetAt}, MessageBlocks.{block_count}, SentPackets.{opening_packet}, Halves.{Sending, Receiving}}
+use Rattle.p25_delivery.specs.{SenderRules.{sending_after, sender_heard, opening_number, reopened, is_opening}, ReceiverRules.{receiver_heard}}
+use Rattle.p25_delivery.specs.{declared.sender.Outstanding.TheVariants.{Nothing, Opening}, HalfRules.{after_offer, after_reopening, after_data, after_answer}}
+use Rattle.p25_delivery.specs.{Delivery.{Delivery, first_delivery, Happening, newest_after, with_outbound, with_inbound, happens, delivery_run}, Orderly.{IsCleanRun as IsCleanDelivery}}
+use Rattle.p25_delivery.specs.{AtOnce.{DeliversAtOnce, OpensAtOnce}, SoundHalves.{IsMessage}}
+use Rattle.p25_messages.specs.{declared.answers.Offer.{Offer}, declared.answers.Offer.TheVariants.{Taken as OfferTaken}, declared.answers.SenderHeard.{SenderHeard}}
+use Rattle.p25_messages.specs.{declared.answers.SenderHeard.TheVariants.{Acknowledged as HeardAck, Opened as SenderOpened}, declared.answers.Reopen.{Reopen as ReopenAnswer}}
+use Rattle.p25_messages.specs.{declared.answers.Reopen.TheVariants.{Sent as ReopenSent, Up as ReopenUp}, declared.answers.Heard.{Heard as HeardAnswer}}
+use Rattle.p25_messages.specs.{declared.answers.Heard.TheVariants.{Delivered as HeardDelivered, Opened as ReceiverOpened}, declared.step_kind.Way.{Way}}
+use Rattle.p25_messages.specs.{declared.step_kind.Way.TheVariants.{Packets, Answers}, declared.step_kind.StepKind.TheVariants.{Taken, Reopened, Delivered, SynHeard, Acknowledged, LinkOpened}}
+use Rattle.p25_delivery.proofs.{DeliveryLaws.{run-delivers}, AtOnceLaws.{opens-down}}
+use Rattle.p25_stations.specs.{declared.step.Event.{Event}, declared.step.Event.TheVariants.{Send, Reopen, ToReceiver, ToSender}, declared.step.Step.{Step}, declared.air.Carried.{Carried}}
+use Rattle.p25_stations.specs.{Air.{ArrivesWithin}, WorldState.{WorldState, first_world}, Steps.{heard_of, delivery_of, quiet_step, counted_when, heard_by, newest_by, delivered, world_step}}
 use Rattle.p25_stations.specs.Runs.{IsEvent, AreEvents, world_run, steps_of, IsWithin, AreWithin, true_step}
-use Rattle.p25_stations.proofs.AirLaws.{ReadsWithin, air-within}
-use Rattle.p25_stations.proofs.SoundLaws.{IsSoundDelivery, step-sound, run-sound, first-sound}
-use Rattle.p25_stations.proofs.CleanLaws.{from-deliveries}
-use Rattle.p25_stations.proofs.FalsePassLaws.{clean-from_none}
+use Rattle.p25_stations.proofs.{AirLaws.{ReadsWithin, air-within}, SoundLaws.{IsSoundDelivery, step-sound, run-sound, first-sound}, CleanLaws.{from-deliveries}, FalsePassLaws.{clean-from_none}}
 
 -- Three steps.
 

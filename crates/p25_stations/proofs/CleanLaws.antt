@@ -2,21 +2,12 @@
 -- after the other; so the laws of deliveries are laws of the world.
 use Rattle.std.proofs.Common.{◌≡◌, Bool, false, List, [], ◌∷◌, ℕ, Option, Some, refl, ap, sym, subst, ◌∙◌}
 use Rattle.p25_packet_blocks.specs.declared.packet.Packet.{Packet}
-use Rattle.p25_delivery.specs.Runs.{run_by, steps_by, MeetAt, EachIs}
-use Rattle.p25_delivery.specs.Delivery.{Delivery, first_delivery, Happening, delivery_run, sessions_of}
-use Rattle.p25_delivery.specs.Orderly.{IsHeardOf, IsClean, IsCleanRun as IsCleanDelivery, AreOrderly, AreCounted}
-use Rattle.p25_delivery.specs.Facts.{DeliveryFacts}
-use Rattle.p25_delivery.proofs.DeliveryLaws.{sessions-orderly, facts-kept}
-use Rattle.p25_delivery.proofs.CountLaws.{sessions-counted}
-use Rattle.p25_stations.specs.declared.air.Carried.TheVariants.{Heard}
-use Rattle.p25_stations.specs.declared.step.Event.{Event}
-use Rattle.p25_stations.specs.declared.step.Step.{Step}
-use Rattle.p25_stations.specs.Air.{carried_of}
-use Rattle.p25_stations.specs.WorldState.{WorldState, first_world}
-use Rattle.p25_stations.specs.Steps.{world_step}
-use Rattle.p25_stations.specs.Runs.{IsEvent, AreEvents, world_run, steps_of, AreClean, IsCleanRun}
-use Rattle.p25_stations.proofs.AirLaws.{air-true}
-use Rattle.p25_stations.proofs.StepLaws.{HasHappen, offers, is_late, opens, brings_data, brings_answer, Does, rests, does, step-does}
+use Rattle.p25_delivery.specs.{Runs.{run_by, steps_by, MeetAt, EachIs}, Delivery.{Delivery, first_delivery, Happening, delivery_run, sessions_of}}
+use Rattle.p25_delivery.specs.{Orderly.{IsHeardOf, IsClean, IsCleanRun as IsCleanDelivery, AreOrderly, AreCounted}, Facts.{DeliveryFacts}}
+use Rattle.p25_delivery.proofs.{DeliveryLaws.{sessions-orderly, facts-kept}, CountLaws.{sessions-counted}}
+use Rattle.p25_stations.specs.{declared.air.Carried.TheVariants.{Heard}, declared.step.Event.{Event}, declared.step.Step.{Step}, Air.{carried_of}, WorldState.{WorldState, first_world}}
+use Rattle.p25_stations.specs.{Steps.{world_step}, Runs.{IsEvent, AreEvents, world_run, steps_of, AreClean, IsCleanRun}}
+use Rattle.p25_stations.proofs.{AirLaws.{air-true}, StepLaws.{HasHappen, offers, is_late, opens, brings_data, brings_answer, Does, rests, does, step-does}}
 
 -- what is heard in no false pass is true to what was sent
 heard-of : (sent packet : Packet) (flips : List ℕ) (newest : Option Packet) (false_pass : Bool) → newest ≡ Some sent → carried_of sent flips ≡ Heard packet false_pass → false_pass ≡ false → IsHeardOf newest packet

@@ -1,23 +1,12 @@
 -- Which deliveries are false passes, and how they are counted. By what is carried.
-use Rattle.std.proofs.Common.{◌≡◌, ℕ, ◌≤◌, inl, inr, Bool, true, false, List, Option, Some, None, refl, ap, sym, ◌∙◌, arith}
+use Rattle.std.proofs.{Common.{◌≡◌, ℕ, ◌≤◌, inl, inr, Bool, true, false, List, Option, Some, None, refl, ap, sym, ◌∙◌, arith}, lemmas.Bool.{cases_lt, false≢true}}
 use Rattle.std.specs.Prelude.{IfSome}
-use Rattle.std.proofs.lemmas.Bool.{cases_lt, false≢true}
-use Rattle.p25_packet_blocks.specs.declared.packet.Packet.{Packet}
-use Rattle.p25_packet_blocks.specs.Sendable.{IsSendable}
-use Rattle.p25_messages.specs.declared.step_kind.Way.{Way}
-use Rattle.p25_messages.specs.declared.step_kind.Way.TheVariants.{Packets, Answers}
-use Rattle.p25_stations.specs.declared.air.Carried.{Carried}
-use Rattle.p25_stations.specs.declared.step.Event.{Event}
-use Rattle.p25_stations.specs.declared.step.Event.TheVariants.{ToReceiver, ToSender}
-use Rattle.p25_stations.specs.declared.step.Step.{Step}
-use Rattle.p25_stations.specs.Air.{places_within, ArrivesWithin}
-use Rattle.p25_stations.specs.WorldState.{WorldState, first_world}
-use Rattle.p25_stations.specs.Steps.{heard_of, delivery_of, counted_when, newest_by, delivered, world_step}
+use Rattle.p25_packet_blocks.specs.{declared.packet.Packet.{Packet}, Sendable.{IsSendable}}
+use Rattle.p25_messages.specs.{declared.step_kind.Way.{Way}, declared.step_kind.Way.TheVariants.{Packets, Answers}}
+use Rattle.p25_stations.specs.{declared.air.Carried.{Carried}, declared.step.Event.{Event}, declared.step.Event.TheVariants.{ToReceiver, ToSender}, declared.step.Step.{Step}}
+use Rattle.p25_stations.specs.{Air.{places_within, ArrivesWithin}, WorldState.{WorldState, first_world}, Steps.{heard_of, delivery_of, counted_when, newest_by, delivered, world_step}}
 use Rattle.p25_stations.specs.Runs.{world_run, IsCleanRun, IsWithin, IsTwiceDamaged}
-use Rattle.p25_stations.proofs.AirLaws.{ReadsWithin, air-within}
-use Rattle.p25_stations.proofs.CountedLaws.{none-counted, none-from}
-use Rattle.p25_stations.proofs.FewFlipsLaws.{few-arrive}
-use Rattle.p25_stations.proofs.SoundLaws.{IsSoundDelivery}
+use Rattle.p25_stations.proofs.{AirLaws.{ReadsWithin, air-within}, CountedLaws.{none-counted, none-from}, FewFlipsLaws.{few-arrive}, SoundLaws.{IsSoundDelivery}}
 use Rattle.p25_stations.proofs.StepLaws.{Does, rests, does, step-does}
 
 -- Within radius.

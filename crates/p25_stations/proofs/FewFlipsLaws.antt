@@ -1,29 +1,16 @@
 -- A transmission of which at most one bit comes inverted arrives within radius: no part of it differs in more places than the
 -- whole. By recursion on the bits and on the flips.
 use Rattle.std.proofs.Common.{◌≡◌, ℕ, zero, suc, ◌+◌, ◌*◌, ◌/◌, ◌<◌, ◌≤◌, inl, inr, Bool, cond, List, [], ◌∷◌, ◌++◌, length, take, drop, replicate, refl, ap, ap₂, sym, subst, ◌∙◌, arith, length-append, length-drop}
-use Rattle.std.specs.Prelude.{nat_lt, count_by}
-use Rattle.std.specs.Bool.{beq}
-use Rattle.std.proofs.lemmas.Bool.{cases_lt}
-use Rattle.std.proofs.lemmas.Bool.Decides.{nat_tests}
-use Rattle.std.proofs.lemmas.List.{take-take, length-replicate}
-use Rattle.std.proofs.lemmas.List.Sums.{sum_by-cons}
-use Rattle.p25_bits.specs.Bits.{part, flipped}
-use Rattle.p25_bits.specs.Distance.{distance_by, distance_of}
-use Rattle.p25_bits.proofs.BitsLaws.{length-flipped}
-use Rattle.p25_bits.proofs.PartLaws.{length-part}
+use Rattle.std.proofs.{lemmas.Bool.{cases_lt}, lemmas.Bool.Decides.{nat_tests}, lemmas.List.{take-take, length-replicate}, lemmas.List.Sums.{sum_by-cons}}
+use Rattle.std.specs.{Prelude.{nat_lt, count_by}, Bool.{beq}}
+use Rattle.p25_bits.specs.{Bits.{part, flipped}, Distance.{distance_by, distance_of}}
+use Rattle.p25_bits.proofs.{BitsLaws.{length-flipped}, PartLaws.{length-part}}
 use Rattle.p25_bits.proofs.DistanceLaws.{distance_by-append, distance_of-same, distance_of-sym, distance_of-triangle, distance_of-split, distance_of-take, distance_of-part, distance_of-flipped}
 use Rattle.p25_status.specs.Woven.{bare_in, bare_of}
 use Rattle.p25_status.proofs.WovenLaws.{length-woven, length-bare_of}
 use Rattle.p25_unit_front.specs.Front.{identifier_bits}
-use Rattle.p25_packet_blocks.specs.declared.packet.Packet.{Packet}
-use Rattle.p25_packet_blocks.specs.declared.packet.Packet.TheVariants.{Confirmed, Plain}
-use Rattle.p25_packet_blocks.specs.Heads.{head_blocks}
-use Rattle.p25_packet_blocks.specs.Whole.{packet_head}
-use Rattle.p25_packet_blocks.specs.Lengths.{packet_parts}
-use Rattle.p25_packet_blocks.specs.Reading.{header_bits, block_bits}
-use Rattle.p25_packet_blocks.specs.Image.{packet_image_of}
-use Rattle.p25_packet_blocks.specs.Sendable.{IsSendable}
-use Rattle.p25_packet_blocks.specs.Within.{block_radius}
+use Rattle.p25_packet_blocks.specs.{declared.packet.Packet.{Packet}, declared.packet.Packet.TheVariants.{Confirmed, Plain}, Heads.{head_blocks}, Whole.{packet_head}, Lengths.{packet_parts}}
+use Rattle.p25_packet_blocks.specs.{Reading.{header_bits, block_bits}, Image.{packet_image_of}, Sendable.{IsSendable}, Within.{block_radius}}
 use Rattle.p25_packet_blocks.proofs.PlacesLaws.{image_long}
 use Rattle.p25_stations.specs.Air.{places_within, station_nac, station_status, transmission_of, with_flips, received_bits, ArrivesWithin}
 use Rattle.p25_stations.proofs.AirLoopLaws.{flipped-past}

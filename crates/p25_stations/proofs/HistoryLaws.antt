@@ -1,15 +1,9 @@
 -- Each step of a world makes its history one event longer.
 use Rattle.std.proofs.Common.{◌≡◌, ℕ, List, [], ◌∷◌, ◌++◌, refl, sym, ap, subst, ◌∙◌}
-use Rattle.p25_delivery.specs.Delivery.{sessions_of}
-use Rattle.p25_delivery.specs.Facts.{DeliveryFacts}
-use Rattle.p25_delivery.specs.Orderly.{AreCounted, AreOrderly}
-use Rattle.p25_delivery.specs.Runs.{run_by, EachIs}
+use Rattle.p25_delivery.specs.{Delivery.{sessions_of}, Facts.{DeliveryFacts}, Orderly.{AreCounted, AreOrderly}, Runs.{run_by, EachIs}, SoundHalves.{IsMessage}}
 use Rattle.p25_delivery.proofs.RunLaws.{run-append}
-use Rattle.p25_delivery.specs.SoundHalves.{IsMessage}
-use Rattle.p25_stations.specs.Steps.{Event, Send, Step, WorldState, first_world, world_step}
-use Rattle.p25_stations.specs.Runs.{HasHistory, IsCleanRun, IsEvent}
-use Rattle.p25_stations.proofs.CleanLaws.{run-orderly, run-facts, run-counted}
-use Rattle.p25_stations.proofs.FalsePassLaws.{clean-from_none}
+use Rattle.p25_stations.specs.{Steps.{Event, Send, Step, WorldState, first_world, world_step}, Runs.{HasHistory, IsCleanRun, IsEvent}}
+use Rattle.p25_stations.proofs.{CleanLaws.{run-orderly, run-facts, run-counted}, FalsePassLaws.{clean-from_none}}
 
 -- what holds of each entry of two lists holds of each of both
 pub each-append : {X : Type 0} (Is : X → Type 0) (xs ys : List X) → EachIs Is xs → EachIs Is ys → EachIs Is (xs ++ ys)

@@ -1,8 +1,7 @@
 -- The newest transmission after a call of a half can be sent, where what the call sends can. By what the call sends.
 use Rattle.std.proofs.Common.{Option, Some, None}
 use Rattle.std.specs.Prelude.{IfSome}
-use Rattle.p25_packet_blocks.specs.declared.packet.Packet.{Packet}
-use Rattle.p25_packet_blocks.specs.Sendable.{IsSendable}
+use Rattle.p25_packet_blocks.specs.{declared.packet.Packet.{Packet}, Sendable.{IsSendable}}
 use Rattle.p25_delivery.specs.Delivery.{newest_after}
 
 pub newest-sendable : (packet newest : Option Packet) → IfSome packet IsSendable → IfSome newest IsSendable → IfSome (newest_after packet newest) IsSendable

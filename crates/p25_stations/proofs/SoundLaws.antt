@@ -1,21 +1,12 @@
 -- Every step keeps what the halves of a world keep, and its newest transmissions can be sent. By what happens at the delivery.
 use Rattle.std.proofs.Common.{Bool, List, length, Option}
 use Rattle.std.specs.Prelude.{IfSome}
-use Rattle.p25_packet_blocks.specs.declared.packet.Packet.{Packet}
-use Rattle.p25_packet_blocks.specs.Sendable.{IsSendable}
+use Rattle.p25_packet_blocks.specs.{declared.packet.Packet.{Packet}, Sendable.{IsSendable}}
 use Rattle.p25_messages.specs.declared.step_kind.StepKind.{StepKind}
-use Rattle.p25_delivery.specs.Halves.{Outgoing, Incoming}
-use Rattle.p25_delivery.specs.SoundHalves.{IsOutgoing, IsIncoming}
-use Rattle.p25_delivery.specs.Delivery.{Delivery, Happening, with_outbound, with_inbound, happens}
-use Rattle.p25_delivery.proofs.HalfLaws.{KeepsOutgoing, KeepsIncoming, offer-keeps, timeout-keeps, reopen-keeps, data-keeps, answer-keeps, first-outgoing, first-incoming}
-use Rattle.p25_delivery.proofs.RunLaws.{run-keeps_each}
-use Rattle.p25_stations.specs.declared.step.Event.{Event}
-use Rattle.p25_stations.specs.declared.step.Step.{Step}
-use Rattle.p25_stations.specs.WorldState.{WorldState, first_world}
-use Rattle.p25_stations.specs.Steps.{world_step}
-use Rattle.p25_stations.specs.Runs.{IsEvent, AreEvents, world_run}
-use Rattle.p25_stations.proofs.NewestLaws.{newest-sendable}
-use Rattle.p25_stations.proofs.StepLaws.{HasHappen, offers, is_late, opens, brings_data, brings_answer, Does, rests, does, step-does}
+use Rattle.p25_delivery.specs.{Halves.{Outgoing, Incoming}, SoundHalves.{IsOutgoing, IsIncoming}, Delivery.{Delivery, Happening, with_outbound, with_inbound, happens}}
+use Rattle.p25_delivery.proofs.{HalfLaws.{KeepsOutgoing, KeepsIncoming, offer-keeps, timeout-keeps, reopen-keeps, data-keeps, answer-keeps, first-outgoing, first-incoming}, RunLaws.{run-keeps_each}}
+use Rattle.p25_stations.specs.{declared.step.Event.{Event}, declared.step.Step.{Step}, WorldState.{WorldState, first_world}, Steps.{world_step}, Runs.{IsEvent, AreEvents, world_run}}
+use Rattle.p25_stations.proofs.{NewestLaws.{newest-sendable}, StepLaws.{HasHappen, offers, is_late, opens, brings_data, brings_answer, Does, rests, does, step-does}}
 
 -- a delivery with sound halves, whose newest transmissions can be sent
 pub record IsSoundDelivery (w : Delivery) : Type 0 where

@@ -2,18 +2,11 @@
 use Rattle.std.proofs.Common.{◌≡◌, ℕ, Bool, false, List, Option, Some, None, refl}
 use Rattle.p25_status.specs.declared.fields.Field.{Field}
 use Rattle.p25_packet_blocks.specs.declared.packet.Packet.{Packet}
-use Rattle.p25_messages.specs.declared.step_kind.Way.{Way}
-use Rattle.p25_messages.specs.declared.step_kind.Way.TheVariants.{Packets, Answers}
-use Rattle.p25_messages.specs.declared.step_kind.StepKind.{StepKind}
+use Rattle.p25_messages.specs.{declared.step_kind.Way.{Way}, declared.step_kind.Way.TheVariants.{Packets, Answers}, declared.step_kind.StepKind.{StepKind}}
 use Rattle.p25_messages.specs.declared.step_kind.StepKind.TheVariants.{Nothing, Lost, Ignored}
 use Rattle.p25_delivery.specs.Delivery.{Delivery, Happening, Offering, Time_up, Opening_again, Data_heard, Answer_heard, happens}
-use Rattle.p25_stations.specs.declared.air.Carried.{Carried}
-use Rattle.p25_stations.specs.declared.air.Carried.TheVariants.{Lost as CarriedLost, Foreign, Heard}
-use Rattle.p25_stations.specs.declared.step.Event.{Event}
-use Rattle.p25_stations.specs.declared.step.Event.TheVariants.{Send, Timeout, Reopen, ToReceiver, ToSender}
-use Rattle.p25_stations.specs.declared.step.Step.{Step}
-use Rattle.p25_stations.specs.Air.{carried_of}
-use Rattle.p25_stations.specs.WorldState.{WorldState}
+use Rattle.p25_stations.specs.{declared.air.Carried.{Carried}, declared.air.Carried.TheVariants.{Lost as CarriedLost, Foreign, Heard}, declared.step.Event.{Event}}
+use Rattle.p25_stations.specs.{declared.step.Event.TheVariants.{Send, Timeout, Reopen, ToReceiver, ToSender}, declared.step.Step.{Step}, Air.{carried_of}, WorldState.{WorldState}}
 use Rattle.p25_stations.specs.Steps.{heard_of, delivery_of, counted_when, quiet_step, heard_step, heard_by, newest_by, delivered, world_step}
 
 -- what an event has happen at a delivery, and whether it is a false pass

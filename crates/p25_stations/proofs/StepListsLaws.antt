@@ -1,30 +1,14 @@
 -- Each step adds to the world's lists the messages that it tells of, and counts one acknowledged where it is Acknowledged: by
 -- cases on what the stations answer; and a run by induction.
-use Rattle.std.proofs.Common.{◌≡◌, ℕ, ◌+◌, Bool, true, false, cond, List, [], ◌∷◌, ◌++◌, length, refl, ap, sym, ◌∙◌, arith, append_assoc, append-nil}
-use Rattle.std.proofs.lemmas.List.Sums.{sum_by-cons}
-use Rattle.p25_delivery.specs.Runs.{run_by, steps_by}
-use Rattle.p25_delivery.specs.Halves.{Sending, Receiving}
-use Rattle.p25_delivery.specs.SenderRules.{offered, timed_out, sender_heard, reopened, is_opening}
-use Rattle.p25_delivery.specs.ReceiverRules.{receiver_heard}
-use Rattle.p25_messages.specs.declared.answers.Offer.{Offer}
-use Rattle.p25_messages.specs.declared.answers.Offer.TheVariants.{Taken as OfferTaken}
-use Rattle.p25_messages.specs.declared.answers.Resend.{Resend}
-use Rattle.p25_messages.specs.declared.answers.Resend.TheVariants.{Sent}
-use Rattle.p25_messages.specs.declared.answers.SenderHeard.{SenderHeard}
-use Rattle.p25_messages.specs.declared.answers.SenderHeard.TheVariants.{Acknowledged as HeardAck}
-use Rattle.p25_messages.specs.declared.answers.Reopen.{Reopen as ReopenAnswer}
-use Rattle.p25_messages.specs.declared.answers.Reopen.TheVariants.{Sent as ReopenSent}
-use Rattle.p25_messages.specs.declared.answers.Heard.{Heard as HeardAnswer}
-use Rattle.p25_messages.specs.declared.answers.Heard.TheVariants.{Delivered as HeardDelivered}
-use Rattle.p25_messages.specs.declared.step_kind.StepKind.{StepKind}
-use Rattle.p25_delivery.specs.HalfRules.{after_offer, after_timeout, after_reopening, after_data, after_answer}
-use Rattle.p25_delivery.specs.Delivery.{Delivery, Happening, with_outbound, with_inbound, happens}
-use Rattle.p25_stations.specs.declared.step.Event.{Event}
-use Rattle.p25_stations.specs.declared.step.Event.TheVariants.{Send, Timeout, Reopen, ToReceiver, ToSender}
-use Rattle.p25_stations.specs.declared.step.Step.{Step}
-use Rattle.p25_stations.specs.WorldState.{WorldState}
-use Rattle.p25_stations.specs.Steps.{world_step}
-use Rattle.p25_stations.specs.Runs.{steps_of, world_run, delivered_by, delivered_in, sent_by, sent_in, is_acknowledged, acknowledged_in}
+use Rattle.std.proofs.{Common.{◌≡◌, ℕ, ◌+◌, Bool, true, false, cond, List, [], ◌∷◌, ◌++◌, length, refl, ap, sym, ◌∙◌, arith, append_assoc, append-nil}, lemmas.List.Sums.{sum_by-cons}}
+use Rattle.p25_delivery.specs.{Runs.{run_by, steps_by}, Halves.{Sending, Receiving}, SenderRules.{offered, timed_out, sender_heard, reopened, is_opening}, ReceiverRules.{receiver_heard}}
+use Rattle.p25_delivery.specs.{HalfRules.{after_offer, after_timeout, after_reopening, after_data, after_answer}, Delivery.{Delivery, Happening, with_outbound, with_inbound, happens}}
+use Rattle.p25_messages.specs.{declared.answers.Offer.{Offer}, declared.answers.Offer.TheVariants.{Taken as OfferTaken}, declared.answers.Resend.{Resend}, declared.answers.Resend.TheVariants.{Sent}}
+use Rattle.p25_messages.specs.{declared.answers.SenderHeard.{SenderHeard}, declared.answers.SenderHeard.TheVariants.{Acknowledged as HeardAck}, declared.answers.Reopen.{Reopen as ReopenAnswer}}
+use Rattle.p25_messages.specs.{declared.answers.Reopen.TheVariants.{Sent as ReopenSent}, declared.answers.Heard.{Heard as HeardAnswer}}
+use Rattle.p25_messages.specs.{declared.answers.Heard.TheVariants.{Delivered as HeardDelivered}, declared.step_kind.StepKind.{StepKind}}
+use Rattle.p25_stations.specs.{declared.step.Event.{Event}, declared.step.Event.TheVariants.{Send, Timeout, Reopen, ToReceiver, ToSender}, declared.step.Step.{Step}, WorldState.{WorldState}}
+use Rattle.p25_stations.specs.{Steps.{world_step}, Runs.{steps_of, world_run, delivered_by, delivered_in, sent_by, sent_in, is_acknowledged, acknowledged_in}}
 use Rattle.p25_stations.proofs.StepLaws.{HasHappen, offers, is_late, opens, brings_data, brings_answer, IsQuiet, nothing, Does, rests, does, step-does}
 
 -- what an event of a kind adds to the lists of a delivery

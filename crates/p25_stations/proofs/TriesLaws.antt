@@ -1,42 +1,21 @@
 -- The transmissions that steps tell are those that the sender counts. By the rules, each test taken both ways.
 use Rattle.std.proofs.Common.{◌≡◌, ℕ, ◌+◌, ◌≤◌, inl, inr, Bool, true, false, cond, List, [], ◌∷◌, length, Option, refl, ap, sym, subst, ◌∙◌, arith}
-use Rattle.p25_packet_blocks.specs.Parts.{PlainParts}
-use Rattle.p25_packet_blocks.specs.declared.packet.Packet.{Packet}
-use Rattle.p25_packet_blocks.specs.declared.packet.Packet.TheVariants.{Confirmed, Plain}
-use Rattle.p25_delivery.specs.Runs.{run_by, steps_by, EachIs}
-use Rattle.p25_delivery.specs.MessageBlocks.{block_count}
-use Rattle.p25_delivery.specs.SentPackets.{message_packet, blocks_packet, opening_packet}
-use Rattle.p25_delivery.specs.Halves.{Sending, Receiving, Outgoing, Incoming}
-use Rattle.p25_delivery.specs.Asked.{is_response, is_ack, asked_of}
+use Rattle.p25_packet_blocks.specs.{Parts.{PlainParts}, declared.packet.Packet.{Packet}, declared.packet.Packet.TheVariants.{Confirmed, Plain}}
+use Rattle.p25_delivery.specs.{Runs.{run_by, steps_by, EachIs}, MessageBlocks.{block_count}, SentPackets.{message_packet, blocks_packet, opening_packet}}
+use Rattle.p25_delivery.specs.{Halves.{Sending, Receiving, Outgoing, Incoming}, Asked.{is_response, is_ack, asked_of}}
 use Rattle.p25_delivery.specs.SenderRules.{sending_after, tried, fallen, may_send, offered, resent, timed_out_with, timed_out, repeated, retried, answered, response_heard, sender_heard, opening_number, reopened, is_opening}
-use Rattle.p25_delivery.specs.ReceiverRules.{receiver_heard}
-use Rattle.p25_delivery.specs.declared.asked.Asked.{Asked}
-use Rattle.p25_delivery.specs.declared.asked.Asked.TheVariants.{WholeMessage, Blocks}
-use Rattle.p25_delivery.specs.declared.sender.Outstanding.{Outstanding}
-use Rattle.p25_delivery.specs.declared.sender.Outstanding.TheVariants.{Nothing, Message, Opening}
-use Rattle.p25_messages.specs.declared.answers.Offer.{Offer}
-use Rattle.p25_messages.specs.declared.answers.Offer.TheVariants.{Taken as OfferTaken}
-use Rattle.p25_messages.specs.declared.answers.Resend.{Resend}
-use Rattle.p25_messages.specs.declared.answers.Resend.TheVariants.{Sent, Down as DownAtTimeout}
-use Rattle.p25_messages.specs.declared.answers.SenderHeard.{SenderHeard}
+use Rattle.p25_delivery.specs.{ReceiverRules.{receiver_heard}, declared.asked.Asked.{Asked}, declared.asked.Asked.TheVariants.{WholeMessage, Blocks}, declared.sender.Outstanding.{Outstanding}}
+use Rattle.p25_delivery.specs.{declared.sender.Outstanding.TheVariants.{Nothing, Message, Opening}, HalfRules.{after_offer, after_timeout, after_reopening, after_data, after_answer}}
+use Rattle.p25_delivery.specs.{SoundHalves.{IsOutgoing}, Delivery.{Delivery, Happening, Offering, Time_up, Opening_again, Data_heard, Answer_heard, with_outbound, with_inbound, happens}}
+use Rattle.p25_messages.specs.{declared.answers.Offer.{Offer}, declared.answers.Offer.TheVariants.{Taken as OfferTaken}, declared.answers.Resend.{Resend}}
+use Rattle.p25_messages.specs.{declared.answers.Resend.TheVariants.{Sent, Down as DownAtTimeout}, declared.answers.SenderHeard.{SenderHeard}}
 use Rattle.p25_messages.specs.declared.answers.SenderHeard.TheVariants.{Opened as SenderOpened, Retry as HeardRetry, Repeat as HeardRepeat, Ignored as SenderIgnored, Down as DownAtAnswer}
-use Rattle.p25_messages.specs.declared.answers.Reopen.{Reopen as ReopenAnswer}
-use Rattle.p25_messages.specs.declared.answers.Reopen.TheVariants.{Sent as ReopenSent, Up as ReopenUp}
-use Rattle.p25_messages.specs.declared.answers.Heard.{Heard as HeardAnswer}
-use Rattle.p25_messages.specs.declared.answers.Heard.TheVariants.{Delivered as HeardDelivered}
-use Rattle.p25_messages.specs.declared.step_kind.StepKind.{StepKind}
-use Rattle.p25_delivery.specs.HalfRules.{after_offer, after_timeout, after_reopening, after_data, after_answer}
-use Rattle.p25_delivery.specs.SoundHalves.{IsOutgoing}
-use Rattle.p25_delivery.specs.Delivery.{Delivery, Happening, Offering, Time_up, Opening_again, Data_heard, Answer_heard, with_outbound, with_inbound, happens}
-use Rattle.p25_delivery.proofs.SenderLaws.{offer-quiet, offer-message, offer-opening}
-use Rattle.p25_delivery.proofs.HalfLaws.{counted-at, quiet-is}
-use Rattle.p25_stations.specs.declared.step.Event.{Event}
-use Rattle.p25_stations.specs.declared.step.Step.{Step}
-use Rattle.p25_stations.specs.WorldState.{WorldState, first_world}
-use Rattle.p25_stations.specs.Steps.{world_step}
+use Rattle.p25_messages.specs.{declared.answers.Reopen.{Reopen as ReopenAnswer}, declared.answers.Reopen.TheVariants.{Sent as ReopenSent, Up as ReopenUp}}
+use Rattle.p25_messages.specs.{declared.answers.Heard.{Heard as HeardAnswer}, declared.answers.Heard.TheVariants.{Delivered as HeardDelivered}, declared.step_kind.StepKind.{StepKind}}
+use Rattle.p25_delivery.proofs.{SenderLaws.{offer-quiet, offer-message, offer-opening}, HalfLaws.{counted-at, quiet-is}}
+use Rattle.p25_stations.specs.{declared.step.Event.{Event}, declared.step.Step.{Step}, WorldState.{WorldState, first_world}, Steps.{world_step}}
 use Rattle.p25_stations.specs.Runs.{AreEvents, world_run, steps_of, tries_after, tries_in}
-use Rattle.p25_stations.proofs.StepLaws.{IsQuiet, nothing, Does, rests, does, step-does}
-use Rattle.p25_stations.proofs.SoundLaws.{IsSoundDelivery, step-sound, run-sound, first-sound}
+use Rattle.p25_stations.proofs.{StepLaws.{IsQuiet, nothing, Does, rests, does, step-does}, SoundLaws.{IsSoundDelivery, step-sound, run-sound, first-sound}}
 
 -- what happened tells how often the half has sent what is outstanding, where it had sent it so often before
 abbrev Tells : ℕ → Outgoing × (StepKind × Option Packet) → Type 0

@@ -3,15 +3,9 @@ use Rattle.std.specs.Prelude.{nat_lt, length, count_by, ℕ, ◌&&◌, Bool, tru
 use Rattle.std.specs.Str.{bytes_eq}
 use Rattle.std.proofs.Common.{lit<}
 use Rattle.p25_bits.specs.Bits.{flipped}
-use Rattle.p25_status.specs.declared.symbols.Status.{Status}
-use Rattle.p25_status.specs.declared.fields.Field.{Field}
-use Rattle.p25_status.specs.Status.{status_at_number}
-use Rattle.p25_packet_blocks.specs.declared.block.Slot.{Slot, TheVariants.{Good, Bad}}
-use Rattle.p25_packet_blocks.specs.declared.packet.Packet.{Packet, TheVariants.{Confirmed, Plain}}
-use Rattle.p25_packet_blocks.specs.Heads.{head_blocks}
-use Rattle.p25_packet_blocks.specs.Whole.{packet_head}
-use Rattle.p25_packet_blocks.specs.Lengths.{packet_parts}
-use Rattle.p25_packet_blocks.specs.UnitReading.{packet_unit_of}
+use Rattle.p25_status.specs.{declared.symbols.Status.{Status}, declared.fields.Field.{Field}, Status.{status_at_number}}
+use Rattle.p25_packet_blocks.specs.{declared.block.Slot.{Slot, TheVariants.{Good, Bad}}, declared.packet.Packet.{Packet, TheVariants.{Confirmed, Plain}}}
+use Rattle.p25_packet_blocks.specs.{Heads.{head_blocks}, Whole.{packet_head}, Lengths.{packet_parts}, UnitReading.{packet_unit_of}}
 use Rattle.p25_packet_blocks.specs.Within.{IsPacketWithin, sent_unit}
 use Rattle.p25_stations.specs.declared.air.Carried.{Carried, TheVariants.{Lost, Foreign, Heard}}
 

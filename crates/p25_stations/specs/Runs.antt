@@ -1,11 +1,9 @@
 -- Runs of the world: its state and its steps after a list of events, what makes a run clean, and what the laws say of events, of
 -- the messages that steps tell of, and of the number of those that they acknowledge.
 use Rattle.std.specs.Prelude.{◌≡◌, false, List, ℕ, ◌+◌, ◌≤◌, [], ◌∷◌, IfSome, Some, count_by, Bool, true, ◌++◌}
-use Rattle.p25_delivery.specs.SoundHalves.{IsMessage}
-use Rattle.p25_delivery.specs.Runs.{run_by, steps_by, EachIs, MeetAt}
-use Rattle.p25_stations.specs.Steps.{world_step, Event, Send, Step, WorldState, first_world, Packet, ToReceiver, ToSender}
+use Rattle.p25_delivery.specs.{SoundHalves.{IsMessage}, Runs.{run_by, steps_by, EachIs, MeetAt}}
+use Rattle.p25_stations.specs.{Steps.{world_step, Event, Send, Step, WorldState, first_world, Packet, ToReceiver, ToSender}, Air.{ArrivesWithin, places_within}}
 use Rattle.p25_messages.specs.declared.step_kind.StepKind.{StepKind, TheVariants.{Taken, Resent, Reopened, Acknowledged, LinkOpened, Retry, Repeat, Delivered}}
-use Rattle.p25_stations.specs.Air.{ArrivesWithin, places_within}
 
 -- what every event keeps: what is sent is a message of at most 2,028 octets
 unfoldable pub IsEvent : Event → Type 0

@@ -3,8 +3,7 @@ use Rattle.std.specs.Prelude.{ℕ, Bool, List, Option, Some, None, Result, Ok, E
 pub use Rattle.p25_packet_blocks.specs.declared.packet.Packet.{Packet}
 pub use Rattle.p25_messages.specs.declared.step_kind.Way.{Way, TheVariants.{Packets, Answers}}
 pub use Rattle.p25_messages.specs.declared.step_kind.StepKind.{StepKind, TheVariants.{Nothing, Lost, Ignored}}
-use Rattle.p25_stations.specs.declared.air.Carried.{Carried, TheVariants.{Lost as CarriedLost, Foreign, Heard}}
-use Rattle.p25_stations.specs.Air.{carried_of}
+use Rattle.p25_stations.specs.{declared.air.Carried.{Carried, TheVariants.{Lost as CarriedLost, Foreign, Heard}}, Air.{carried_of}}
 use Rattle.p25_delivery.specs.Delivery.{Delivery, Happening, Offering, Time_up, Opening_again, Data_heard, Answer_heard, happens}
 pub use Rattle.p25_stations.specs.declared.step.Event.{Event, TheVariants.{Send, Timeout, Reopen, ToReceiver, ToSender}}
 pub use Rattle.p25_stations.specs.declared.step.Step.{Step}

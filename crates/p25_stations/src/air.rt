@@ -1,10 +1,7 @@
 //! The air between the two stations: transmissions as bits, and what comes of them.
 
 ghost use Rattle.std.specs.Prelude.{◌≡◌, length};
-ghost use Rattle.p25_packet_blocks.specs.Whole.{packet_head, IsWholePacket};
-ghost use Rattle.p25_packet_blocks.specs.Heads.{head_blocks};
-ghost use Rattle.p25_packet_blocks.specs.Lengths.{packet_sent_length};
-ghost use Rattle.p25_packet_blocks.specs.Sendable.{IsSendable};
+ghost use Rattle.p25_packet_blocks.specs.{Whole.{packet_head, IsWholePacket}, Heads.{head_blocks}, Lengths.{packet_sent_length}, Sendable.{IsSendable}};
 ghost use Rattle.p25_stations.specs.Air.{transmission_of, with_flips, carried_of};
 
 use crate::truth::is_true_to;

@@ -2,19 +2,13 @@
 //! of its own: its contract is the theorem.
 
 ghost use Rattle.std.specs.Prelude.{◌≡◌, ℕ, ◌≤◌, true, false, List, [], ◌∷◌, length, ◌<◌, ◌↔◌};
-ghost use Rattle.p25_delivery.specs.MessageBlocks.{block_count};
-ghost use Rattle.p25_delivery.specs.SenderRules.{opening_number};
-ghost use Rattle.p25_delivery.specs.declared.sender.Outstanding.TheVariants.{Nothing};
-ghost use Rattle.p25_delivery.specs.Orderly.{AreOrderly, AreCounted, IsTrueTo};
-ghost use Rattle.p25_delivery.specs.Delivery.{sessions_of};
-ghost use Rattle.p25_delivery.specs.Facts.{DeliveryFacts};
+ghost use Rattle.p25_delivery.specs.{MessageBlocks.{block_count}, SenderRules.{opening_number}, declared.sender.Outstanding.TheVariants.{Nothing}};
+ghost use Rattle.p25_delivery.specs.{Orderly.{AreOrderly, AreCounted, IsTrueTo}, Delivery.{sessions_of}, Facts.{DeliveryFacts}, SoundHalves.{IsMessage}};
 ghost use Rattle.p25_messages.specs.declared.step_kind.StepKind.TheVariants.{Taken, Reopened, Delivered, SynHeard, Acknowledged, LinkOpened};
-ghost use Rattle.p25_delivery.specs.SoundHalves.{IsMessage};
 ghost use Rattle.p25_stations.specs.Steps.{world_step, Packet as packet_type, Event as event_type, Send, Reopen, ToReceiver, ToSender, first_world};
 ghost use Rattle.p25_stations.specs.Runs.{AreEvents, world_run, steps_of, IsCleanRun, IsWithin, AreWithin, IsTwiceDamaged, true_step, tries_in, delivered_in, sent_in, acknowledged_in};
+ghost use Rattle.p25_stations.specs.{declared.air.Carried.TheVariants.{Heard as heard_packet}, Air.{is_true_to, carried_of, ArrivesWithin, places_within}};
 ghost use Rattle.p25_packet_blocks.specs.Sendable.{IsSendable};
-ghost use Rattle.p25_stations.specs.declared.air.Carried.TheVariants.{Heard as heard_packet};
-ghost use Rattle.p25_stations.specs.Air.{is_true_to, carried_of, ArrivesWithin, places_within};
 
 use p25_packet_blocks::laws::packet_radius;
 

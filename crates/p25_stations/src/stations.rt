@@ -1,8 +1,7 @@
 #![tactic(auto, unfolding(p25_delivery::specs::Delivery::happens, p25_delivery::specs::Delivery::with_outbound, p25_delivery::specs::Delivery::with_inbound))]
 
 ghost use Rattle.std.specs.Prelude.{◌≡◌, ◌+◌, ◌<◌, ◌≤◌, length, OnOk, OnErr};
-ghost use Rattle.p25_stations.specs.Steps.{world_step, heard_by, delivery_step};
-ghost use Rattle.p25_stations.specs.WorldState.{first_world};
+ghost use Rattle.p25_stations.specs.{Steps.{world_step, heard_by, delivery_step}, WorldState.{first_world}};
 ghost use Rattle.p25_delivery.specs.Delivery.{happens};
 
 use crate::newest::Newest;

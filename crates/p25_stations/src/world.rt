@@ -1,10 +1,6 @@
 ghost use Rattle.std.specs.Prelude.{◌≡◌, ◌+◌, ◌<◌, ◌≤◌, length, OnOk, OnErr, IfOk};
-ghost use Rattle.p25_delivery.specs.Delivery.{sessions_of};
-ghost use Rattle.p25_delivery.specs.Facts.{DeliveryFacts};
-ghost use Rattle.p25_delivery.specs.Orderly.{AreCounted, AreOrderly};
-ghost use Rattle.p25_stations.specs.Runs.{HasHistory, IsEvent};
-ghost use Rattle.p25_stations.specs.Steps.{world_step};
-ghost use Rattle.p25_stations.specs.WorldState.{first_world};
+ghost use Rattle.p25_delivery.specs.{Delivery.{sessions_of}, Facts.{DeliveryFacts}, Orderly.{AreCounted, AreOrderly}};
+ghost use Rattle.p25_stations.specs.{Runs.{HasHistory, IsEvent}, Steps.{world_step}, WorldState.{first_world}};
 
 use crate::fitting::message_fits;
 use crate::stations::Stations;
@@ -22,8 +18,7 @@ pub struct World {
 
 impl Model for World {
     ghost use Rattle.p25_delivery.specs.Halves.{Roomy};
-    ghost use Rattle.p25_stations.specs.WorldState.{WorldState};
-    ghost use Rattle.p25_stations.specs.Runs.{HasHistory};
+    ghost use Rattle.p25_stations.specs.{WorldState.{WorldState}, Runs.{HasHistory}};
 
     ghost Value = { Roomy WorldState };
 

@@ -1,16 +1,11 @@
 -- The rule by places: a bit stands two places later for each whole 70 before it. By recursion on the status symbols, a block each.
 use Rattle.std.proofs.Common.{◌≡◌, ℕ, zero, suc, ◌+◌, ◌-◌, ◌*◌, ◌/◌, ◌<◌, inl, inr, Bool, List, [], ◌∷◌, ◌++◌, length, take, drop, slice_get, Some, refl, ap, sym, ◌∙◌, arith, length-drop, get_or}
-use Rattle.std.specs.Option.{unwrap_or}
-use Rattle.std.proofs.lemmas.Option.{unwrap_or-slice_get}
-use Rattle.std.proofs.Math.Nat.{div-eq_of_lt}
-use Rattle.std.proofs.lemmas.Bool.{cases_lt}
+use Rattle.std.proofs.{lemmas.Option.{unwrap_or-slice_get}, Math.Nat.{div-eq_of_lt}, lemmas.Bool.{cases_lt}}
 use Rattle.std.proofs.lemmas.List.{take-append-drop, length-take-le, drop-drop, get_or-take, get_or-drop, same_lists, take_at, drop_at}
-use Rattle.p25_bits.proofs.PartLaws.{slice_get-front, slice_get-drop}
+use Rattle.std.specs.Option.{unwrap_or}
+use Rattle.p25_bits.proofs.{PartLaws.{slice_get-front, slice_get-drop}, BitsLaws.{length-bits_of}}
 use Rattle.p25_bits.specs.Bits.{bits_of, part}
-use Rattle.p25_bits.proofs.BitsLaws.{length-bits_of}
-use Rattle.p25_status.specs.Status.{status_number}
-use Rattle.p25_status.specs.Woven.{woven, StandsByPlaces}
-use Rattle.p25_status.specs.declared.symbols.Status.{Status}
+use Rattle.p25_status.specs.{Status.{status_number}, Woven.{woven, StandsByPlaces}, declared.symbols.Status.{Status}}
 use Rattle.p25_status.proofs.WovenLaws.{length-woven, after_block}
 
 -- a bit of the first 70 stands where it stood

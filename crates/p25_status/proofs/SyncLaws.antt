@@ -1,12 +1,9 @@
 -- The frame sync and its distance as the weight of an exclusive or, and when bits begin with a sync. The laws of `has_sync` are read off its two tests.
 use Rattle.std.proofs.Common.{◌≡◌, ℕ, ◌+◌, ◌<◌, ◌≤◌, ◌&&◌, Bool, true, false, nat_le, List, ◌++◌, length, length-append, take, drop, bit_xor, refl, ap, ap₂, sym, ◌∙◌, arith}
+use Rattle.std.proofs.{lemmas.Bool.{and_parts, and_from, and_left, and_right, le-leb, leb-true, lt-leb}, lemmas.List.{take-append-le, take-append-drop, length-take}}
 use Rattle.std.specs.Int.RustNames.{count_ones}
-use Rattle.std.proofs.lemmas.Bool.{and_parts, and_from, and_left, and_right, le-leb, leb-true, lt-leb}
-use Rattle.std.proofs.lemmas.List.{take-append-le, take-append-drop, length-take}
-use Rattle.p25_bits.specs.Bits.{bits_of, field_of}
-use Rattle.p25_bits.specs.Distance.{distance_of}
-use Rattle.p25_bits.proofs.BitsLaws.{length-bits_of, field_of-bits_of}
-use Rattle.p25_bits.proofs.DistanceLaws.{ones-xor}
+use Rattle.p25_bits.specs.{Bits.{bits_of, field_of}, Distance.{distance_of}}
+use Rattle.p25_bits.proofs.{BitsLaws.{length-bits_of, field_of-bits_of}, DistanceLaws.{ones-xor}}
 use Rattle.p25_status.specs.Sync.{sync_bits, sync_slack, has_sync}
 
 pub length-sync_bits : length sync_bits ≡ 48

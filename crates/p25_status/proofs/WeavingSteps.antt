@@ -1,12 +1,9 @@
 -- What the loops over the blocks of a unit need at each step: one block more. The blocks from a place on begin with that block.
 use Rattle.std.proofs.Common.{◌≡◌, ℕ, suc, ◌+◌, ◌-◌, ◌*◌, ◌<◌, ◌≤◌, Bool, false, List, [], ◌∷◌, ◌++◌, length, take, drop, get_or, slice_get, Some, ap, ap₂, sym, ◌∙◌, arith, append_assoc}
-use Rattle.std.proofs.lemmas.Option.{slice_get_within, get_or_from_slice_get}
-use Rattle.std.proofs.lemmas.List.{drop_more, drop-drop, get_or-drop}
+use Rattle.std.proofs.{lemmas.Option.{slice_get_within, get_or_from_slice_get}, lemmas.List.{drop_more, drop-drop, get_or-drop}}
 use Rattle.p25_bits.specs.Bits.{digit_of, bits_of, field_of, field_after, part}
 use Rattle.p25_bits.proofs.PartLaws.{get_or-part}
-use Rattle.p25_status.specs.Status.{status_number, status_from_bits, same_status}
-use Rattle.p25_status.specs.Woven.{woven, bare_in, statuses_in}
-use Rattle.p25_status.specs.declared.symbols.Status.{Status}
+use Rattle.p25_status.specs.{Status.{status_number, status_from_bits, same_status}, Woven.{woven, bare_in, statuses_in}, declared.symbols.Status.{Status}}
 
 -- the blocks from block i on begin with that block
 pub woven_block : (bits : List Bool) (statuses : List Status) (i : ℕ) (status : Status) → slice_get statuses i ≡ Some status

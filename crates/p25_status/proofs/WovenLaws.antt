@@ -1,15 +1,10 @@
 -- To weave and to take apart undo each other. By recursion on the blocks, each of 70 bits and a status symbol.
 use Rattle.std.proofs.Common.{◌≡◌, ℕ, zero, suc, ◌+◌, ◌*◌, ◌/◌, ◌<◌, ◌≤◌, Bool, true, false, eqb, List, [], ◌∷◌, ◌++◌, length, take, drop, get_or, refl, ap, ap₂, sym, ◌∙◌, arith, length-append, length-drop}
+use Rattle.std.proofs.{Math.Nat.{mod-eq_of_lt}, Math.Seq.{drop-cons}, lemmas.List.{take-append-drop, length-take-le, nil_from_length, get_or-drop, drop-drop, take_at, drop_at}}
 use Rattle.std.specs.Int.{bit_at}
-use Rattle.std.proofs.Math.Nat.{mod-eq_of_lt}
-use Rattle.std.proofs.Math.Seq.{drop-cons}
-use Rattle.std.proofs.lemmas.List.{take-append-drop, length-take-le, nil_from_length, get_or-drop, drop-drop, take_at, drop_at}
 use Rattle.p25_bits.specs.Bits.{digit_of, bits_of, field_of, field_after, part}
-use Rattle.p25_bits.proofs.PartLaws.{part-take, drop_behind}
-use Rattle.p25_bits.proofs.BitsLaws.{length-bits_of, field_of-bits_of}
-use Rattle.p25_status.specs.Status.{status_number, status_from_bits, same_status}
-use Rattle.p25_status.specs.Woven.{woven, bare_in, bare_of, statuses_in, statuses_of}
-use Rattle.p25_status.specs.declared.symbols.Status.{Status}
+use Rattle.p25_bits.proofs.{PartLaws.{part-take, drop_behind}, BitsLaws.{length-bits_of, field_of-bits_of}}
+use Rattle.p25_status.specs.{Status.{status_number, status_from_bits, same_status}, Woven.{woven, bare_in, bare_of, statuses_in, statuses_of}, declared.symbols.Status.{Status}}
 
 -- two bits of a number below 4 write it
 two_digits : (n : ℕ) → n < 4 → 2 * digit_of (eqb (bit_at n 1) 1) + digit_of (eqb (bit_at n 0) 1) ≡ n

@@ -1,8 +1,6 @@
 -- What a reading answers beside the value that it sets in place.
 use Rattle.std.specs.Prelude.{ℕ, List, [], ◌∷◌, Result, Ok, Err}
-use Rattle.p25_status.specs.declared.fields.Field.{Field}
-use Rattle.p25_status.specs.declared.outcome.Outcome.{Outcome}
-use Rattle.p25_status.specs.declared.outcome.Outcome.TheVariants.{Read, Failing}
+use Rattle.p25_status.specs.{declared.fields.Field.{Field}, declared.outcome.Outcome.{Outcome}, declared.outcome.Outcome.TheVariants.{Read, Failing}}
 
 -- what was read into its place, or exactly the fields that fail
 abbrev pub read_or : {X : Type 0} → Outcome → X → Result X (List Field)

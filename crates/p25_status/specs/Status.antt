@@ -1,8 +1,6 @@
 -- Status symbols as numbers and as bits.
-use Rattle.std.specs.Prelude.{◌≡◌, ℕ, ◌+◌, ◌*◌, ◌%◌, ◌<◌, Bool, true, false}
-use Rattle.std.specs.Coded.{le_prop}
-use Rattle.std.proofs.Common.{ap, subst, lit<}
-use Rattle.std.proofs.Math.Nat.{mod-lt}
+use Rattle.std.specs.{Prelude.{◌≡◌, ℕ, ◌+◌, ◌*◌, ◌%◌, ◌<◌, Bool, true, false}, Coded.{le_prop}}
+use Rattle.std.proofs.{Common.{ap, subst, lit<}, Math.Nat.{mod-lt}}
 use Rattle.p25_bits.specs.Bits.{digit_of}
 use Rattle.p25_status.specs.declared.symbols.Status.{Status}
 

@@ -1,7 +1,6 @@
 -- The frame sync, with its slack, and the lengths of the parts of a unit that stand at fixed places.
 use Rattle.std.specs.Prelude.{ℕ, ◌&&◌, Bool, List, nat_le, length, take}
-use Rattle.p25_bits.specs.Bits.{bits_of}
-use Rattle.p25_bits.specs.Distance.{distance_of}
+use Rattle.p25_bits.specs.{Bits.{bits_of}, Distance.{distance_of}}
 
 -- how many bits a frame sync has
 abbrev pub sync_length : ℕ

@@ -1,8 +1,7 @@
 -- Where status symbols stand among the bits of a unit: one of two bits after every 70 bits.
 use Rattle.std.specs.Prelude.{◌≡◌, ℕ, zero, suc, ◌+◌, ◌*◌, ◌/◌, ◌<◌, Bool, false, List, [], ◌∷◌, ◌++◌, length, take, drop, slice_get, slice_index_or, Some}
 use Rattle.p25_bits.specs.Bits.{bits_of, part}
-use Rattle.p25_status.specs.Status.{status_number, status_from_bits}
-use Rattle.p25_status.specs.declared.symbols.Status.{Status}
+use Rattle.p25_status.specs.{Status.{status_number, status_from_bits}, declared.symbols.Status.{Status}}
 
 -- the bits of a unit as they are sent, with its status symbols
 unfoldable pub woven : List Bool → List Status → List Bool

@@ -1,6 +1,5 @@
 ghost use Rattle.std.specs.Prelude.{◌≡◌, ◌+◌, ◌^◌, ◌<◌, ◌≤◌, ◌↔◌, IsTrue, length};
-ghost use Rattle.p25_bits.specs.Bits.{bits_of, part};
-ghost use Rattle.p25_bits.specs.Distance.{distance_of};
+ghost use Rattle.p25_bits.specs.{Bits.{bits_of, part}, Distance.{distance_of}};
 ghost use Rattle.p25_status.specs.Sync.{sync_bits, sync_slack, sync_length, identifier_length};
 
 use p25_bits::BitBuf;

@@ -1,8 +1,7 @@
 //! What a reading of a unit answers beside the value that it sets in place.
 
 ghost use Rattle.std.specs.Prelude.{◌≡◌, [], ◌∷◌};
-ghost use Rattle.p25_status.specs.Outcomes.{outcome_of};
-ghost use Rattle.p25_status.specs.declared.outcome.Outcome.TheVariants.{Failing};
+ghost use Rattle.p25_status.specs.{Outcomes.{outcome_of}, declared.outcome.Outcome.TheVariants.{Failing}};
 
 use crate::fields::{Field, FieldList};
 

@@ -1,22 +1,14 @@
 -- Units end to end are whole, by induction on their list: each is decided by its own bits. A unit after other bits is found there, by
 -- induction on the number of those bits: the first item of them ends before it, or it is a unit that covers its first bit.
 use Rattle.std.proofs.Common.{◌≡◌, ℕ, zero, suc, ◌+◌, ◌<◌, ◌≤◌, ◌⊎◌, inl, inr, Bool, true, false, List, [], ◌∷◌, ◌++◌, length, drop, refl, ap, ap₂, sym, ◌∙◌, subst, arith, append_assoc, append-nil, length-append, length-drop}
-use Rattle.std.proofs.lemmas.Bool.{cases_lt}
-use Rattle.std.proofs.lemmas.List.{drop-append-le, drop_all}
-use Rattle.std.proofs.lemmas.List.Elements.{All-head, All-tail}
-use Rattle.std.proofs.lemmas.List.Sums.{sum_by-cons}
+use Rattle.std.proofs.{lemmas.Bool.{cases_lt}, lemmas.List.{drop-append-le, drop_all}, lemmas.List.Elements.{All-head, All-tail}, lemmas.List.Sums.{sum_by-cons}}
 use Rattle.p25_status.specs.Sync.{has_sync}
 use Rattle.p25_status.proofs.SyncLaws.{has_sync-append, has_sync-length}
-use Rattle.p25_units.specs.Items.{covered}
-use Rattle.p25_units.specs.Units.{IsSendableUnit, IsSoundFrame}
-use Rattle.p25_units.specs.declared.item.Item.{Item}
-use Rattle.p25_units.specs.declared.item.Item.TheVariants.{NoUnit, Gap}
+use Rattle.p25_units.specs.{Items.{covered}, Units.{IsSendableUnit, IsSoundFrame}, declared.item.Item.{Item}, declared.item.Item.TheVariants.{NoUnit, Gap}}
 use Rattle.p25_units.proofs.WithinRadiusLaws.{has_sync-near}
 use Rattle.p25_stream.specs.Arrivals.{Arrival, IsFound, IsHidden, IsNearArrival, IsUnitItem, UnitIsFound, UnitsAreWhole, bits_arrived, frame_arrived, whole_of, wholes_of}
 use Rattle.p25_stream.specs.Items.{first_item, is_decided, items_by, items_of}
-use Rattle.p25_stream.proofs.ItemLaws.{near-whole, whole-within}
-use Rattle.p25_stream.proofs.ItemsLaws.{covered-first_item, gap-first, items_by-decided, items_by-more, place_of-first_item}
-use Rattle.p25_stream.proofs.SyncPlaceLaws.{has_sync-before}
+use Rattle.p25_stream.proofs.{ItemLaws.{near-whole, whole-within}, ItemsLaws.{covered-first_item, gap-first, items_by-decided, items_by-more, place_of-first_item}, SyncPlaceLaws.{has_sync-before}}
 
 pub wholes_of-nil : (place : ℕ) → wholes_of place [] ≡ []
 unfolding wholes_of

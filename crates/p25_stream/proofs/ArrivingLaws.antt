@@ -1,10 +1,8 @@
 -- The bits of the octets that come: those of one, and those of the word that eight make, which is the number that they write in
 -- base 256.
 use Rattle.std.proofs.Common.{◌≡◌, ℕ, ◌+◌, ◌*◌, ◌<◌, ◌≤◌, Bool, List, [], ◌∷◌, ◌++◌, length, take, get_or, ap, sym, ◌∙◌, arith, append-nil, length-take, All}
-use Rattle.p25_bits.specs.Bits.{bits_of, field_of, octet_bits}
-use Rattle.p25_bits.specs.Numbers.{octets_number, number_after}
-use Rattle.p25_bits.proofs.BitsLaws.{bits_of-field_of, length-octet_bits, octet_bits-cons, octet_bits-nil}
-use Rattle.p25_bits.proofs.OctetNumbersLaws.{octets_number-bits}
+use Rattle.p25_bits.specs.{Bits.{bits_of, field_of, octet_bits}, Numbers.{octets_number, number_after}}
+use Rattle.p25_bits.proofs.{BitsLaws.{bits_of-field_of, length-octet_bits, octet_bits-cons, octet_bits-nil}, OctetNumbersLaws.{octets_number-bits}}
 
 -- the bits of the first octet
 pub bits_of-first : (octets : List ℕ) → 0 < length octets → bits_of 8 (get_or octets 0 0) ≡ octet_bits (take 1 octets)

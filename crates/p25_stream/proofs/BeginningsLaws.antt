@@ -1,20 +1,13 @@
 -- What a scanner remembers says what the first item is and whether it is decided, and stays true as bits come.
 use Rattle.std.proofs.Common.{◌≡◌, ℕ, ◌+◌, ◌-◌, ◌<◌, ◌≤◌, inl, inr, Bool, true, false, min, List, ◌++◌, length, drop, ap, sym, ◌∙◌, subst, arith, length-append}
 use Rattle.std.proofs.lemmas.Bool.{cases_Bool, cases_lt, le-leb, lt-leb, leb-true, ltb-true}
-use Rattle.p25_status.specs.Sync.{has_sync}
+use Rattle.p25_status.specs.{Sync.{has_sync}, declared.fields.Field.{Field}}
 use Rattle.p25_status.proofs.SyncLaws.{has_sync-length, has_sync-append}
-use Rattle.p25_status.specs.declared.fields.Field.{Field}
-use Rattle.p25_units.specs.Needs.{need_of}
-use Rattle.p25_units.specs.declared.begun.Begun.{Begun}
-use Rattle.p25_units.specs.declared.needs.Need.TheVariants.{More, Length, NoLength}
-use Rattle.p25_units.proofs.NeedsLaws.{need_of-few, need_of-waits}
-use Rattle.p25_units.proofs.BegunLaws.{IsBegun-append}
-use Rattle.p25_stream.specs.Items.{sync_place, gap_of, gap_known, is_decided}
-use Rattle.p25_stream.specs.Beginnings.{Needs, HasNoUnit, IsSearched, IsKnownGap, is_settled, waits, IsBeginning, WasBeginning}
-use Rattle.p25_stream.specs.declared.beginning.Beginning.{Beginning}
-use Rattle.p25_stream.specs.declared.beginning.Beginning.TheVariants.{Searching, Waiting, Gap, Ready, NoUnit}
-use Rattle.p25_stream.proofs.SyncPlaceLaws.{sync_place-synced, sync_place-all, sync_place-from, sync_place-append_far}
-use Rattle.p25_stream.proofs.ItemsLaws.{is_decided-gap, is_decided-synced}
+use Rattle.p25_units.specs.{Needs.{need_of}, declared.begun.Begun.{Begun}, declared.needs.Need.TheVariants.{More, Length, NoLength}}
+use Rattle.p25_units.proofs.{NeedsLaws.{need_of-few, need_of-waits}, BegunLaws.{IsBegun-append}}
+use Rattle.p25_stream.specs.{Items.{sync_place, gap_of, gap_known, is_decided}, Beginnings.{Needs, HasNoUnit, IsSearched, IsKnownGap, is_settled, waits, IsBeginning, WasBeginning}}
+use Rattle.p25_stream.specs.{declared.beginning.Beginning.{Beginning}, declared.beginning.Beginning.TheVariants.{Searching, Waiting, Gap, Ready, NoUnit}}
+use Rattle.p25_stream.proofs.{SyncPlaceLaws.{sync_place-synced, sync_place-all, sync_place-from, sync_place-append_far}, ItemsLaws.{is_decided-gap, is_decided-synced}}
 
 -- bits that were searched begin with no sync, and have none
 pub searched-none : (bits : List Bool) (clear : ℕ) → IsSearched bits clear → has_sync bits ≡ false

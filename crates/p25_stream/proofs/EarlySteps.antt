@@ -1,17 +1,10 @@
 -- Two counts of ones tell that eight places have no sync: where a sync stands at a place, the ones of a mask that lies within its
 -- ones are missed in no more places than it is wrong in. By induction on lists of bits.
 use Rattle.std.proofs.Common.{◌≡◌, ℕ, zero, suc, ◌+◌, ◌*◌, ◌^◌, ◌<◌, ◌≤◌, inl, inr, Bool, true, false, not, cond, ◌||◌, ◌&&◌, List, [], ◌∷◌, ◌++◌, length, take, drop, replicate, bit_and, refl, ap, ap₂, sym, ◌∙◌, subst, arith, mod-eq_of_lt, length-append, length-drop}
-use Rattle.std.specs.Bool.{beq}
-use Rattle.std.specs.Int.RustNames.{count_ones}
-use Rattle.std.proofs.lemmas.Bool.{cases_Bool, and_from, and_parts}
-use Rattle.std.proofs.Math.Seq.{take-length}
-use Rattle.std.proofs.lemmas.List.{length-take-le, take-append-drop}
-use Rattle.std.proofs.lemmas.Nat.{and_block, and_le_l, ones_cat}
-use Rattle.p25_bits.specs.Bits.{digit_of, bits_of, field_of, part}
-use Rattle.p25_bits.specs.Distance.{distance_by, distance_of}
-use Rattle.p25_bits.proofs.BitsLaws.{length-bits_of, field_of-cons, field_of-lt, field_of-nil, field_of-bits_of}
-use Rattle.p25_bits.proofs.DistanceLaws.{distance_of-same, distance_by-append}
-use Rattle.p25_bits.proofs.PartLaws.{length-part}
+use Rattle.std.proofs.{lemmas.Bool.{cases_Bool, and_from, and_parts}, Math.Seq.{take-length}, lemmas.List.{length-take-le, take-append-drop}, lemmas.Nat.{and_block, and_le_l, ones_cat}}
+use Rattle.std.specs.{Bool.{beq}, Int.RustNames.{count_ones}}
+use Rattle.p25_bits.specs.{Bits.{digit_of, bits_of, field_of, part}, Distance.{distance_by, distance_of}}
+use Rattle.p25_bits.proofs.{BitsLaws.{length-bits_of, field_of-cons, field_of-lt, field_of-nil, field_of-bits_of}, DistanceLaws.{distance_of-same, distance_by-append}, PartLaws.{length-part}}
 use Rattle.p25_status.specs.Sync.{has_sync, sync_bits}
 use Rattle.p25_status.proofs.SyncLaws.{has_sync-distance, length-sync_bits}
 

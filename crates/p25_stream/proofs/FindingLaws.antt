@@ -1,19 +1,12 @@
 -- Octets that are taken from a place on until the first item is known: the bits held and those left are the bits from there on, and so
 -- the first item of those held is the first of all.
 use Rattle.std.proofs.Common.{◌≡◌, ℕ, ◌+◌, ◌-◌, ◌*◌, ◌/◌, ◌%◌, ◌<◌, ◌≤◌, Bool, true, false, ◌||◌, inl, inr, List, [], ◌∷◌, ◌++◌, length, take, drop, get_or, ap, ap₂, sym, subst, ◌∙◌, arith, append_assoc, append-nil, length-append, length-take, add-one}
-use Rattle.std.proofs.Math.Seq.{drop-cons, take-add}
-use Rattle.std.proofs.lemmas.Bool.{cases_Bool}
-use Rattle.std.proofs.lemmas.List.{drop-append-le, drop_all, take-append-drop, take_rest}
+use Rattle.std.proofs.{Math.Seq.{drop-cons, take-add}, lemmas.Bool.{cases_Bool}, lemmas.List.{drop-append-le, drop_all, take-append-drop, take_rest}}
 use Rattle.p25_bits.specs.Bits.{bits_of, octet_bits}
-use Rattle.p25_bits.proofs.BitsLaws.{length-bits_of, length-octet_bits, octet_bits-append, octet_bits-cons, octet_bits-nil}
-use Rattle.p25_bits.proofs.PartLaws.{drop_behind}
+use Rattle.p25_bits.proofs.{BitsLaws.{length-bits_of, length-octet_bits, octet_bits-append, octet_bits-cons, octet_bits-nil}, PartLaws.{drop_behind}}
 use Rattle.p25_units.specs.Items.{covered}
-use Rattle.p25_stream.specs.Beginnings.{IsBeginning, is_settled}
-use Rattle.p25_stream.specs.Finding.{IsFilled, IsFirst}
-use Rattle.p25_stream.specs.Items.{first_item, is_decided, items_by}
-use Rattle.p25_stream.specs.declared.beginning.Beginning.{Beginning}
-use Rattle.p25_stream.proofs.BeginningsLaws.{IsBeginning-decided}
-use Rattle.p25_stream.proofs.ItemsLaws.{covered-first_item, decided-some, items_by-decided, items_by-more, items_by-nil, items_by-none}
+use Rattle.p25_stream.specs.{Beginnings.{IsBeginning, is_settled}, Finding.{IsFilled, IsFirst}, Items.{first_item, is_decided, items_by}, declared.beginning.Beginning.{Beginning}}
+use Rattle.p25_stream.proofs.{BeginningsLaws.{IsBeginning-decided}, ItemsLaws.{covered-first_item, decided-some, items_by-decided, items_by-more, items_by-nil, items_by-none}}
 
 pub put-none : (held : List Bool) (octets : List ℕ) → held ≡ held ++ octet_bits (take 0 octets)
 put-none held octets = sym (append-nil held) ∙ ap (λ (zs : List Bool). held ++ zs) (sym octet_bits-nil)

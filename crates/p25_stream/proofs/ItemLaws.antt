@@ -1,25 +1,13 @@
 -- The laws of items: an item among others is the first of what those before it leave, and a step of the walk says the rest.
 use Rattle.std.proofs.Common.{◌≡◌, ℕ, zero, suc, ◌+◌, ◌<◌, ◌≤◌, inl, inr, Bool, true, List, [], ◌∷◌, ◌++◌, length, take, drop, refl, ap, ap₂, sym, ◌∙◌, subst, arith, length-drop}
-use Rattle.std.proofs.lemmas.Bool.{cases_lt}
-use Rattle.std.proofs.lemmas.List.{drop-drop, take-append-le}
-use Rattle.std.proofs.Math.Seq.{take-length}
+use Rattle.std.proofs.{lemmas.Bool.{cases_lt}, lemmas.List.{drop-drop, take-append-le}, Math.Seq.{take-length}, lemmas.List.Sums.{sum_by-cons}}
 use Rattle.std.specs.List.{sum_by}
-use Rattle.std.proofs.lemmas.List.Sums.{sum_by-cons}
 use Rattle.p25_status.proofs.SyncLaws.{has_sync-append, has_sync-length}
-use Rattle.p25_units.specs.Fixes.{fixes_of}
-use Rattle.p25_units.specs.Items.{covered, place_of, IsSoundItem, unit_item_of}
-use Rattle.p25_units.specs.Units.{frame_length_of, image_of}
-use Rattle.p25_units.specs.WholeLaws.{IsWholeOf}
-use Rattle.p25_units.specs.declared.item.Item.{Item}
-use Rattle.p25_units.specs.declared.frame.Frame.{Frame}
-use Rattle.p25_units.specs.declared.item.Item.TheVariants.{Whole, Gap}
-use Rattle.p25_units.specs.declared.needs.Need.TheVariants.{Length}
-use Rattle.p25_units.proofs.ItemsLaws.{covered-unit_item_of}
-use Rattle.p25_units.proofs.FixesLaws.{fixes_of-image_of}
-use Rattle.p25_units.proofs.WholeLaws.{whole-near}
+use Rattle.p25_units.specs.{Fixes.{fixes_of}, Items.{covered, place_of, IsSoundItem, unit_item_of}, Units.{frame_length_of, image_of}, WholeLaws.{IsWholeOf}, declared.item.Item.{Item}}
+use Rattle.p25_units.specs.{declared.frame.Frame.{Frame}, declared.item.Item.TheVariants.{Whole, Gap}, declared.needs.Need.TheVariants.{Length}}
+use Rattle.p25_units.proofs.{ItemsLaws.{covered-unit_item_of}, FixesLaws.{fixes_of-image_of}, WholeLaws.{whole-near}}
 use Rattle.p25_units.proofs.WithinRadiusLaws.{has_sync-near, need_of-near, unit_item_of-near, IsWithinRadius-image_of, received-image_of}
-use Rattle.p25_stream.specs.Items.{sync_place, first_item, items_by, items_of}
-use Rattle.p25_stream.specs.ItemLaws.{NearIsWhole, WholeIsRead, ImageIsWhole}
+use Rattle.p25_stream.specs.{Items.{sync_place, first_item, items_by, items_of}, ItemLaws.{NearIsWhole, WholeIsRead, ImageIsWhole}}
 use Rattle.p25_stream.proofs.SyncPlaceLaws.{sync_place-left, sync_place-unsynced}
 use Rattle.p25_stream.proofs.ItemsLaws.{covered-first_item, place_of-first_item, IsSoundItem-first_item, first_item-cases, gap-first, items_by-nil, items_by-more, items_by-first, first_item-synced, is_decided-synced}
 

@@ -1,17 +1,11 @@
 -- The items of a stream: the cases of the first item, the walk a step at a time, and what stays under more bits. All that is
 -- known of units are the laws that p25_units gives a scanner.
 use Rattle.std.proofs.Common.{◌≡◌, ℕ, zero, suc, ◌+◌, ◌<◌, ◌≤◌, inl, inr, Bool, true, false, ◌||◌, cond, min, List, [], ◌∷◌, ◌++◌, length, take, drop, refl, ap, sym, ◌∙◌, subst, arith, length-append, length-drop}
-use Rattle.std.proofs.lemmas.Bool.{cases_Bool, cases_lt, le-leb, leb-true, cond-true, cond-false, or_right}
-use Rattle.std.proofs.lemmas.List.{take-append-le, drop-append-le}
-use Rattle.p25_status.specs.Sync.{has_sync}
-use Rattle.p25_status.specs.declared.fields.Field.{Field}
+use Rattle.std.proofs.{lemmas.Bool.{cases_Bool, cases_lt, le-leb, leb-true, cond-true, cond-false, or_right}, lemmas.List.{take-append-le, drop-append-le}}
+use Rattle.p25_status.specs.{Sync.{has_sync}, declared.fields.Field.{Field}}
 use Rattle.p25_status.proofs.SyncLaws.{has_sync-length, has_sync-append}
-use Rattle.p25_units.specs.Items.{covered, place_of, IsSoundItem, unit_item_of}
-use Rattle.p25_units.specs.Needs.{is_known, need_of}
-use Rattle.p25_units.specs.declared.needs.Need.{Need}
-use Rattle.p25_units.specs.declared.needs.Need.TheVariants.{NoSync, More, Length, NoLength}
-use Rattle.p25_units.specs.declared.item.Item.{Item}
-use Rattle.p25_units.specs.declared.item.Item.TheVariants.{NoUnit, Gap, Cut}
+use Rattle.p25_units.specs.{Items.{covered, place_of, IsSoundItem, unit_item_of}, Needs.{is_known, need_of}, declared.needs.Need.{Need}}
+use Rattle.p25_units.specs.{declared.needs.Need.TheVariants.{NoSync, More, Length, NoLength}, declared.item.Item.{Item}, declared.item.Item.TheVariants.{NoUnit, Gap, Cut}}
 use Rattle.p25_units.proofs.NeedsLaws.{need_of-few, need_of-there, need_of-seen, need_of-stays}
 use Rattle.p25_units.proofs.ItemsLaws.{covered-unit_item_of, place_of-unit_item_of, IsSoundItem-unit_item_of, unit_item_of-no_gap}
 use Rattle.p25_stream.specs.Items.{sync_place, synced_item, gap_of, first_item, gap_known, is_decided, items_in, items_by, decided_of}

@@ -1,13 +1,9 @@
 -- What the functions that judge bits need at each step: the windows of one number, and each answer as a case of what is
 -- remembered.
 use Rattle.std.proofs.Common.{◌≡◌, ℕ, zero, suc, ◌+◌, ◌-◌, ◌/◌, ◌%◌, ◌^◌, ◌<◌, ◌≤◌, inl, inr, Bool, true, false, List, ◌++◌, length, take, drop, ap, sym, ◌∙◌, subst, arith, append_assoc, mod-eq_of_lt, length-drop}
-use Rattle.std.proofs.lemmas.Bool.{cases_lt}
-use Rattle.std.proofs.Math.Seq.{take-length}
-use Rattle.p25_bits.specs.Bits.{bits_of, field_of, part}
-use Rattle.p25_bits.specs.Distance.{distance_of}
-use Rattle.p25_bits.proofs.BitsLaws.{length-bits_of, bits_of-add, field_of-bits_of, same_from_field_of}
-use Rattle.p25_bits.proofs.NumbersLaws.{bits_of-field}
-use Rattle.p25_bits.proofs.PartLaws.{part-part, part_joined}
+use Rattle.std.proofs.{lemmas.Bool.{cases_lt}, Math.Seq.{take-length}}
+use Rattle.p25_bits.specs.{Bits.{bits_of, field_of, part}, Distance.{distance_of}}
+use Rattle.p25_bits.proofs.{BitsLaws.{length-bits_of, bits_of-add, field_of-bits_of, same_from_field_of}, NumbersLaws.{bits_of-field}, PartLaws.{part-part, part_joined}}
 use Rattle.p25_status.specs.Sync.{has_sync, sync_bits, sync_slack}
 use Rattle.p25_status.proofs.SyncLaws.{has_sync-yes, has_sync-no, has_sync-take}
 use Rattle.p25_stream.specs.Items.{sync_place}

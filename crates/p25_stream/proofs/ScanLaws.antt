@@ -2,12 +2,8 @@
 use Rattle.std.proofs.Common.{◌≡◌, ◌↔◌, ℕ, ◌+◌, ◌<◌, ◌≤◌, inl, inr, Bool, true, false, not, ◌||◌, eqb, List, [], ◌∷◌, ◌++◌, length, take, drop, refl, ap, ap₂, sym, ◌∙◌, subst, arith, append-nil}
 use Rattle.std.proofs.lemmas.Bool.{cases_Bool, eqb-true, eq-eqb, not-true}
 use Rattle.std.specs.Prelude.{IsTrue}
-use Rattle.p25_units.specs.Items.{covered}
-use Rattle.p25_units.specs.declared.item.Item.{Item}
-use Rattle.p25_stream.specs.Items.{first_item, is_decided, items_by}
-use Rattle.p25_stream.specs.Scan.{Scan, given, Gave}
-use Rattle.p25_stream.specs.Beginnings.{IsBeginning, is_settled}
-use Rattle.p25_stream.specs.declared.beginning.Beginning.{Beginning}
+use Rattle.p25_units.specs.{Items.{covered}, declared.item.Item.{Item}}
+use Rattle.p25_stream.specs.{Items.{first_item, is_decided, items_by}, Scan.{Scan, given, Gave}, Beginnings.{IsBeginning, is_settled}, declared.beginning.Beginning.{Beginning}}
 use Rattle.p25_stream.proofs.ItemsLaws.{covered-first_item, items_by-nil, items_by-more, items_by-none, items_by-first, items_by-decided, decided-some}
 use Rattle.p25_stream.proofs.BeginningsLaws.{IsBeginning-decided, IsBeginning-few}
 

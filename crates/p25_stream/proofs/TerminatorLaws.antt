@@ -1,14 +1,10 @@
 -- Terminators among the items: the laws of all whole units, at a frame with two status symbols.
-use Rattle.std.proofs.Common.{◌≡◌, ◌≤◌, ◌++◌, length, take, drop, ap, sym, ◌∙◌, subst, arith}
-use Rattle.std.proofs.lemmas.List.{take-append-drop, length-take}
+use Rattle.std.proofs.{Common.{◌≡◌, ◌≤◌, ◌++◌, length, take, drop, ap, sym, ◌∙◌, subst, arith}, lemmas.List.{take-append-drop, length-take}}
 use Rattle.p25_status.specs.Woven.{statuses_of}
-use Rattle.p25_units.specs.Terminators.{terminator}
-use Rattle.p25_units.specs.WholeLaws.{IsWholeOf}
-use Rattle.p25_units.specs.declared.item.Item.TheVariants.{Whole}
+use Rattle.p25_units.specs.{Terminators.{terminator}, WholeLaws.{IsWholeOf}, declared.item.Item.TheVariants.{Whole}}
 use Rattle.p25_units.proofs.TerminatorsLaws.{length-terminator, IsSoundFrame-terminator, IsSendableUnit-terminator, image_of-terminator, two-statuses, IsWithinRadius-terminator, HasTerminator-from, fixes_of-terminator}
 use Rattle.p25_units.proofs.UnitsLaws.{length-image_of}
-use Rattle.p25_stream.specs.Items.{first_item, is_decided}
-use Rattle.p25_stream.specs.ItemLaws.{TerminatorIsRead, TerminatorIsThere, SentTerminatorIsRead}
+use Rattle.p25_stream.specs.{Items.{first_item, is_decided}, ItemLaws.{TerminatorIsRead, TerminatorIsThere, SentTerminatorIsRead}}
 use Rattle.p25_stream.proofs.ItemLaws.{near-whole, whole-within, image-whole}
 
 -- the first 144 bits are within radius of the frame

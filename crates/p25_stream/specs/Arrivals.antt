@@ -1,13 +1,7 @@
 -- Units that were sent one after the other, and what came of them: where each is found again among the items of a stream.
-use Rattle.std.specs.Prelude.{◌≡◌, ℕ, ◌+◌, ◌<◌, Bool, List, [], ◌∷◌, ◌++◌, length, All, ◌⊎◌}
-use Rattle.std.specs.List.{flat_map, sum_by}
-use Rattle.p25_units.specs.Fixes.{fixes_of}
-use Rattle.p25_units.specs.Items.{covered, place_of}
-use Rattle.p25_units.specs.Units.{IsSendableUnit, IsSoundFrame}
-use Rattle.p25_units.specs.WithinRadius.{IsWithinRadius, received_frame}
-use Rattle.p25_units.specs.declared.frame.Frame.{Frame}
-use Rattle.p25_units.specs.declared.item.Item.{Item}
-use Rattle.p25_units.specs.declared.item.Item.TheVariants.{Whole, Broken, NoUnit, Gap, Cut}
+use Rattle.std.specs.{Prelude.{◌≡◌, ℕ, ◌+◌, ◌<◌, Bool, List, [], ◌∷◌, ◌++◌, length, All, ◌⊎◌}, List.{flat_map, sum_by}}
+use Rattle.p25_units.specs.{Fixes.{fixes_of}, Items.{covered, place_of}, Units.{IsSendableUnit, IsSoundFrame}, WithinRadius.{IsWithinRadius, received_frame}}
+use Rattle.p25_units.specs.{declared.frame.Frame.{Frame}, declared.item.Item.{Item}, declared.item.Item.TheVariants.{Whole, Broken, NoUnit, Gap, Cut}}
 use Rattle.p25_stream.specs.Items.{items_by, items_of}
 
 -- a frame that was sent, and the bits that came of its image

@@ -1,13 +1,9 @@
 -- What a scanner remembers of the item that the bits it holds begin with.
 use Rattle.std.specs.Prelude.{◌≡◌, ℕ, ◌-◌, ◌<◌, ◌≤◌, Bool, true, false, nat_le, nat_lt, List, ◌++◌, length}
 use Rattle.p25_status.specs.Sync.{has_sync}
-use Rattle.p25_units.specs.Begins.{IsBegun}
-use Rattle.p25_units.specs.Needs.{need_of}
-use Rattle.p25_units.specs.declared.begun.Begun.{Begun}
-use Rattle.p25_units.specs.declared.needs.Need.{Need}
+use Rattle.p25_units.specs.{Begins.{IsBegun}, Needs.{need_of}, declared.begun.Begun.{Begun}, declared.needs.Need.{Need}}
 use Rattle.p25_units.specs.declared.needs.Need.TheVariants.{More, Length, NoLength}
-use Rattle.p25_stream.specs.Items.{sync_place, gap_of, gap_known}
-use Rattle.p25_stream.specs.declared.beginning.Beginning.{Beginning}
+use Rattle.p25_stream.specs.{Items.{sync_place, gap_of, gap_known}, declared.beginning.Beginning.{Beginning}}
 use Rattle.p25_stream.specs.declared.beginning.Beginning.TheVariants.{Searching, Waiting, Gap, Ready, NoUnit}
 
 -- bits that begin with a sync, what is needed there, and what was read of the unit

@@ -1,10 +1,7 @@
 -- The first item of some bits, found with no scanner.
 use Rattle.std.specs.Prelude.{◌≡◌, ℕ, ◌+◌, ◌≤◌, Bool, false, List, [], ◌∷◌, ◌++◌, length, drop}
-use Rattle.p25_units.specs.Items.{covered}
-use Rattle.p25_units.specs.declared.item.Item.{Item}
-use Rattle.p25_stream.specs.Beginnings.{IsBeginning, is_settled}
-use Rattle.p25_stream.specs.Items.{items_by}
-use Rattle.p25_stream.specs.declared.beginning.Beginning.{Beginning}
+use Rattle.p25_units.specs.{Items.{covered}, declared.item.Item.{Item}}
+use Rattle.p25_stream.specs.{Beginnings.{IsBeginning, is_settled}, Items.{items_by}, declared.beginning.Beginning.{Beginning}}
 
 -- an item is the first of those of some bits, and the others are those of the bits after it
 pub record IsFirst (ended : Bool) (place : ℕ) (bits : List Bool) (item : Item) : Type 0 where

@@ -1,20 +1,12 @@
 -- What makes the definition of a stream's items believable: laws over all bits and places.
-use Rattle.std.specs.Prelude.{◌≡◌, ℕ, ◌+◌, ◌<◌, ◌≤◌, Bool, true, false, ◌||◌, List, [], ◌∷◌, ◌++◌, length, take, drop}
-use Rattle.std.specs.List.{sum_by}
-use Rattle.p25_status.specs.Sync.{has_sync}
-use Rattle.p25_status.specs.Woven.{statuses_of}
-use Rattle.p25_status.specs.declared.symbols.Status.{Status}
-use Rattle.p25_units.specs.Fixes.{fixes_of}
-use Rattle.p25_units.specs.Items.{IsSoundItem, covered, place_of}
+use Rattle.std.specs.{Prelude.{◌≡◌, ℕ, ◌+◌, ◌<◌, ◌≤◌, Bool, true, false, ◌||◌, List, [], ◌∷◌, ◌++◌, length, take, drop}, List.{sum_by}}
+use Rattle.p25_status.specs.{Sync.{has_sync}, Woven.{statuses_of}, declared.symbols.Status.{Status}}
+use Rattle.p25_units.specs.{Fixes.{fixes_of}, Items.{IsSoundItem, covered, place_of}}
 use Rattle.p25_units.specs.Terminators.{HasTerminator, identifier_errors, sync_errors, terminator, terminator_bits}
-use Rattle.p25_units.specs.Units.{IsSendableUnit, IsSoundFrame, frame_length_of, image_of}
-use Rattle.p25_units.specs.WholeLaws.{IsWholeOf}
-use Rattle.p25_units.specs.WithinRadius.{IsWithinRadius, received_frame}
-use Rattle.p25_units.specs.declared.frame.Frame.{Frame}
-use Rattle.p25_units.specs.declared.item.Item.{Item}
+use Rattle.p25_units.specs.{Units.{IsSendableUnit, IsSoundFrame, frame_length_of, image_of}, WholeLaws.{IsWholeOf}}
+use Rattle.p25_units.specs.{WithinRadius.{IsWithinRadius, received_frame}, declared.frame.Frame.{Frame}, declared.item.Item.{Item}}
 use Rattle.p25_units.specs.declared.item.Item.TheVariants.{Whole, Gap}
-use Rattle.p25_stream.specs.Items.{sync_place, first_item, is_decided, items_by, items_of, decided_of}
-use Rattle.p25_stream.specs.Scan.{Scan, Gave}
+use Rattle.p25_stream.specs.{Items.{sync_place, first_item, is_decided, items_by, items_of, decided_of}, Scan.{Scan, Gave}}
 
 -- the least place with a sync: no place before it has one, and it has one where it is among the bits
 abbrev pub SyncPlaceIsLeast : Type 0

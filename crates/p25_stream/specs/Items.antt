@@ -1,12 +1,8 @@
 -- The items of a stream of bits: what stands at each of its places.
 use Rattle.std.specs.Prelude.{ℕ, zero, suc, ◌+◌, Bool, true, false, ◌||◌, if◌then◌else◌, min, nat_le, List, [], ◌∷◌, length, take, drop}
-use Rattle.p25_status.specs.Sync.{has_sync}
-use Rattle.p25_status.specs.declared.fields.Field.TheVariants.{Sync}
-use Rattle.p25_units.specs.Items.{covered, unit_item_of}
-use Rattle.p25_units.specs.Needs.{is_known, need_of}
-use Rattle.p25_units.specs.declared.needs.Need.{Need}
-use Rattle.p25_units.specs.declared.needs.Need.TheVariants.{NoSync, More, Length, NoLength}
-use Rattle.p25_units.specs.declared.item.Item.{Item}
+use Rattle.p25_status.specs.{Sync.{has_sync}, declared.fields.Field.TheVariants.{Sync}}
+use Rattle.p25_units.specs.{Items.{covered, unit_item_of}, Needs.{is_known, need_of}, declared.needs.Need.{Need}}
+use Rattle.p25_units.specs.{declared.needs.Need.TheVariants.{NoSync, More, Length, NoLength}, declared.item.Item.{Item}}
 use Rattle.p25_units.specs.declared.item.Item.TheVariants.{NoUnit, Gap, Cut}
 
 -- the least place with a sync, or the number of bits where there is none

@@ -1,9 +1,7 @@
 -- Items that are sent again.
 use Rattle.std.specs.Prelude.{ℕ, Bool, true, false, List, length, replicate}
 use Rattle.p25_status.specs.declared.symbols.Status.{Status}
-use Rattle.p25_units.specs.Units.{frame_as, image_of}
-use Rattle.p25_units.specs.declared.frame.Frame.{Frame}
-use Rattle.p25_units.specs.declared.item.Item.{Item}
+use Rattle.p25_units.specs.{Units.{frame_as, image_of}, declared.frame.Frame.{Frame}, declared.item.Item.{Item}}
 use Rattle.p25_units.specs.declared.item.Item.TheVariants.{Whole, Broken, NoUnit, Gap, Cut}
 
 -- the bits of an item, repaired: those of the frame of a whole unit, and all other bits as they are

@@ -2,9 +2,7 @@
 
 ghost use Rattle.std.specs.Prelude.{◌≡◌, ◌+◌, ◌%◌, ◌<◌, ◌≤◌, ◌++◌, [], false, true, length, take, drop};
 ghost use Rattle.p25_bits.specs.Bits.{bits_of, octet_bits};
-ghost use Rattle.p25_stream.specs.Beginnings.{IsBeginning, is_settled};
-ghost use Rattle.p25_stream.specs.Finding.{IsFilled, IsFirst};
-ghost use Rattle.p25_stream.specs.Items.{items_by};
+ghost use Rattle.p25_stream.specs.{Beginnings.{IsBeginning, is_settled}, Finding.{IsFilled, IsFirst}, Items.{items_by}};
 ghost use Rattle.p25_units.specs.Items.{IsSoundItem};
 
 use crate::arriving::put_some;

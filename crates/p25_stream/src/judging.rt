@@ -3,10 +3,8 @@
 ghost use Rattle.std.specs.Prelude.{◌≡◌, ◌+◌, ◌-◌, ◌*◌, ◌^◌, ◌<◌, ◌≤◌, ℕ, true, false, length, drop};
 ghost use Rattle.p25_bits.specs.Bits.{bits_of, part};
 ghost use Rattle.p25_status.specs.Sync.{has_sync};
-ghost use Rattle.p25_units.specs.Begins.{IsBegun};
-ghost use Rattle.p25_units.specs.Items.{IsSoundItem};
-ghost use Rattle.p25_stream.specs.Beginnings.{IsBeginning, WasBeginning, is_settled};
-ghost use Rattle.p25_stream.specs.Items.{first_item, sync_place};
+ghost use Rattle.p25_units.specs.{Begins.{IsBegun}, Items.{IsSoundItem}};
+ghost use Rattle.p25_stream.specs.{Beginnings.{IsBeginning, WasBeginning, is_settled}, Items.{first_item, sync_place}};
 
 use crate::beginning::{BEHIND, Beginning};
 use p25_bits::BitBuf;

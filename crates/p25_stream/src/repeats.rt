@@ -1,8 +1,7 @@
 //! Items that are sent again, repaired or under another network access code (NAC).
 
 ghost use Rattle.std.specs.Prelude.{◌≡◌, ◌<◌, ◌≤◌, replicate};
-ghost use Rattle.p25_units.specs.Items.{IsSoundItem};
-ghost use Rattle.p25_units.specs.Units.{IsSoundFrame, image_of};
+ghost use Rattle.p25_units.specs.{Items.{IsSoundItem}, Units.{IsSoundFrame, image_of}};
 ghost use Rattle.p25_stream.specs.Repeats.{bridged, bridged_frame, is_whole_item, repaired};
 
 use p25_bits::BitBuf;

@@ -26,8 +26,7 @@ pub struct Scanner {
 
 impl Model for Scanner {
     ghost use Rattle.std.specs.Prelude.{◌+◌, ◌^◌, ◌<◌, ◌≤◌, length};
-    ghost use Rattle.p25_stream.specs.Scan.{Scan};
-    ghost use Rattle.p25_stream.specs.Beginnings.{IsBeginning};
+    ghost use Rattle.p25_stream.specs.{Scan.{Scan}, Beginnings.{IsBeginning}};
 
     ghost Value = { Scan };
 

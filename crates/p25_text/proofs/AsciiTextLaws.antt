@@ -1,38 +1,19 @@
 -- The texts of units, items and calls have octets below 128 alone. By the texts that they are made of.
-use Rattle.std.proofs.Common.{◌≡◌, ℕ, ◌+◌, ◌<◌, ◌&&◌, Bool, true, false, List, [], ◌∷◌, Option, Some, None, refl, ap₂, arith}
-use Rattle.std.specs.Prelude.{codes, decimal}
-use Rattle.std.specs.List.{list_all}
-use Rattle.std.proofs.lemmas.Bool.{and_parts, lt-ltb}
+use Rattle.std.proofs.{Common.{◌≡◌, ℕ, ◌+◌, ◌<◌, ◌&&◌, Bool, true, false, List, [], ◌∷◌, Option, Some, None, refl, ap₂, arith}, lemmas.Bool.{and_parts, lt-ltb}}
+use Rattle.std.specs.{Prelude.{codes, decimal}, List.{list_all}}
 use Rattle.hex.specs.Hex.{encode_lower}
 use Rattle.p25_line.specs.Values.{three_digits}
 use Rattle.p25_line.proofs.AsciiLaws.{ascii-append, ascii-comma_text, ascii-decimal, ascii-drop, ascii-encode_lower, ascii-join, ascii-joined, ascii-list_text, ascii-map, ascii-octets_text, ascii-three_digits, ascii-word, is_ascii}
-use Rattle.p25_status.specs.Status.{status_number}
-use Rattle.p25_status.specs.declared.fields.Field.{Field}
-use Rattle.p25_status.specs.declared.fields.Field.TheVariants.{Block}
-use Rattle.p25_status.specs.declared.symbols.Status.{Status}
+use Rattle.p25_status.specs.{Status.{status_number}, declared.fields.Field.{Field}, declared.fields.Field.TheVariants.{Block}, declared.symbols.Status.{Status}}
 use Rattle.p25_link.specs.declared.link_control.LinkControl.{LinkControl as Link}
-use Rattle.p25_calls.specs.declared.call.Call.{Call}
-use Rattle.p25_calls.specs.declared.call.CallEnd.{CallEnd}
-use Rattle.p25_calls.specs.declared.call.CallEnd.TheVariants.{Tdu}
-use Rattle.p25_packet_blocks.specs.declared.block.Slot.{Slot}
-use Rattle.p25_packet_blocks.specs.declared.block.Slot.TheVariants.{Good, Bad}
-use Rattle.p25_packet_blocks.specs.declared.packet.Packet.{Packet as BlockPacket}
+use Rattle.p25_calls.specs.{declared.call.Call.{Call}, declared.call.CallEnd.{CallEnd}, declared.call.CallEnd.TheVariants.{Tdu}, CallTexts.{algid_text, call_text_of, end_word, entry_word, link_text}}
+use Rattle.p25_packet_blocks.specs.{declared.block.Slot.{Slot}, declared.block.Slot.TheVariants.{Good, Bad}, declared.packet.Packet.{Packet as BlockPacket}}
 use Rattle.p25_packet_blocks.specs.declared.packet.Packet.TheVariants.{Confirmed, Plain}
-use Rattle.p25_units.specs.UnitParts.{UnitParts}
-use Rattle.p25_units.specs.Units.{frame_length_of}
-use Rattle.p25_units.specs.declared.item.Item.{Item}
-use Rattle.p25_units.specs.declared.item.Item.TheVariants.{Whole, Broken, NoUnit, Gap, Cut}
-use Rattle.p25_units.specs.declared.unit.Body.{Body}
+use Rattle.p25_units.specs.{UnitParts.{UnitParts}, Units.{frame_length_of}, declared.item.Item.{Item}, declared.item.Item.TheVariants.{Whole, Broken, NoUnit, Gap, Cut}, declared.unit.Body.{Body}}
 use Rattle.p25_units.specs.declared.unit.Body.TheVariants.{Voice, Packet}
-use Rattle.p25_calls.specs.CallTexts.{algid_text, call_text_of, end_word, entry_word, link_text}
-use Rattle.p25_text.specs.Grammar.{body_values, keyed, kind_of, text_of, unit_words, values_of}
-use Rattle.p25_text.specs.ItemTexts.{field_name, field_names, item_text_of, one_digit, status_digits}
-use Rattle.p25_text.specs.Names.{key_text, keys_of, kind_word}
-use Rattle.p25_text.specs.Packets.{packet_values, slot_text}
-use Rattle.p25_text.specs.Voices.{voice_octets}
-use Rattle.p25_text.specs.declared.names.UnitKey.{UnitKey}
-use Rattle.p25_text.proofs.GrammarLaws.{kind-word}
-use Rattle.p25_text.proofs.WordLaws.{key-word}
+use Rattle.p25_text.specs.{Grammar.{body_values, keyed, kind_of, text_of, unit_words, values_of}, ItemTexts.{field_name, field_names, item_text_of, one_digit, status_digits}}
+use Rattle.p25_text.specs.{Names.{key_text, keys_of, kind_word}, Packets.{packet_values, slot_text}, Voices.{voice_octets}, declared.names.UnitKey.{UnitKey}}
+use Rattle.p25_text.proofs.{GrammarLaws.{kind-word}, WordLaws.{key-word}}
 
 -- ---- units
 

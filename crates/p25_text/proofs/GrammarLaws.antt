@@ -1,35 +1,19 @@
 -- The line of a unit is read as that unit, and a line that is read is the line of its unit. By cases on what each step of the reading found.
 use Rattle.std.proofs.Common.{◌≡◌, ℕ, suc, ◌≤◌, ◌&&◌, true, List, [], ◌∷◌, length, Option, Some, None, Result, Ok, inl, inr, refl, ap, ap₂, subst, ◌∙◌, arith}
-use Rattle.std.specs.List.{list_all}
-use Rattle.std.specs.Option.{option_map}
-use Rattle.std.specs.Prelude.{IfOk, ok_or}
-use Rattle.p25_line.specs.Words.{is_printed, is_word}
-use Rattle.p25_line.specs.LineReadings.{found_read, named_or_fault}
-use Rattle.p25_line.specs.declared.fault.LineFault.{LineFault}
-use Rattle.p25_line.specs.declared.fault.LineFault.TheVariants.{Key, Value}
-use Rattle.p25_line.proofs.LineReadLaws.{WordLaws, line_read-facts, line_read-words, words-line_read}
-use Rattle.p25_voice_units.specs.declared.unit.VoiceUnit.{VoiceUnit}
-use Rattle.p25_voice_units.specs.declared.unit.VoiceUnit.TheVariants.{Header}
-use Rattle.p25_packet_blocks.specs.declared.packet.Packet.{Packet as BlockPacket}
-use Rattle.p25_packet_blocks.specs.declared.packet.Packet.TheVariants.{Confirmed as ConfirmedPacket, Plain as PlainPacket}
-use Rattle.p25_packet_blocks.specs.Sendable.{IsSendable}
-use Rattle.p25_units.specs.UnitParts.{UnitParts}
-use Rattle.p25_units.specs.declared.unit.Body.{Body}
-use Rattle.p25_units.specs.declared.unit.Body.TheVariants.{Voice, Packet}
-use Rattle.p25_units.specs.Units.{IsSendableBody, IsSendableUnit}
-use Rattle.p25_text.specs.Grammar.{body_in, body_values, keyed, kind_of, read_kind, read_line_of, read_values, read_words, text_of, unit_from, unit_in, unit_words, values_behind, values_of}
-use Rattle.p25_text.specs.Names.{kind_named, kind_word, kinds, keys_of}
-use Rattle.p25_text.specs.Packets.{confirmed_in, packet_kind, packet_values, plain_in}
-use Rattle.p25_text.specs.Values.{nac_in}
+use Rattle.std.specs.{List.{list_all}, Option.{option_map}, Prelude.{IfOk, ok_or}}
+use Rattle.p25_line.specs.{Words.{is_printed, is_word}, LineReadings.{found_read, named_or_fault}, declared.fault.LineFault.{LineFault}, declared.fault.LineFault.TheVariants.{Key, Value}}
 use Rattle.p25_line.specs.Values.{three_digits}
-use Rattle.p25_text.specs.Voices.{voice_in, voice_kind, voice_values}
-use Rattle.p25_text.specs.declared.names.UnitKind.{UnitKind}
-use Rattle.p25_text.specs.declared.names.UnitKind.TheVariants.{Hdu, Ldu1, Ldu2, Tdu, Tdulc, Confirmed, Plain, Response}
+use Rattle.p25_line.proofs.{LineReadLaws.{WordLaws, line_read-facts, line_read-words, words-line_read}, WordsLaws.{digits-printed, named-word}}
+use Rattle.p25_voice_units.specs.{declared.unit.VoiceUnit.{VoiceUnit}, declared.unit.VoiceUnit.TheVariants.{Header}}
+use Rattle.p25_packet_blocks.specs.{declared.packet.Packet.{Packet as BlockPacket}, declared.packet.Packet.TheVariants.{Confirmed as ConfirmedPacket, Plain as PlainPacket}, Sendable.{IsSendable}}
+use Rattle.p25_units.specs.{UnitParts.{UnitParts}, declared.unit.Body.{Body}, declared.unit.Body.TheVariants.{Voice, Packet}, Units.{IsSendableBody, IsSendableUnit}}
+use Rattle.p25_text.specs.Grammar.{body_in, body_values, keyed, kind_of, read_kind, read_line_of, read_values, read_words, text_of, unit_from, unit_in, unit_words, values_behind, values_of}
+use Rattle.p25_text.specs.{Names.{kind_named, kind_word, kinds, keys_of}, Packets.{confirmed_in, packet_kind, packet_values, plain_in}, Values.{nac_in}, Voices.{voice_in, voice_kind, voice_values}}
+use Rattle.p25_text.specs.{declared.names.UnitKind.{UnitKind}, declared.names.UnitKind.TheVariants.{Hdu, Ldu1, Ldu2, Tdu, Tdulc, Confirmed, Plain, Response}}
 use Rattle.p25_text.proofs.OptionLaws.{option_map-found}
 use Rattle.p25_text.proofs.PacketLaws.{IsPacketRead, confirmed_in-values, packet-count, packet-printed, packet-short, plain_in-values, plain_kind, values-confirmed_in, values-plain_in}
 use Rattle.p25_text.proofs.ValueLaws.{length-three_digits, nac_in-text, nac_in-three_digits, printed-three_digits}
 use Rattle.p25_text.proofs.VoiceLaws.{values-voice_in, voice-count, voice-printed, voice-short, voice_in-values}
-use Rattle.p25_line.proofs.WordsLaws.{digits-printed, named-word}
 use Rattle.p25_text.proofs.WordLaws.{keyed-values_behind, keyed-words, length-join, size_of, size_of-keyed, values_behind-keyed}
 
 -- ---- what is shown for each kind, in the order of their table

@@ -1,8 +1,6 @@
 -- One status symbol more, as the loop of the texts of items takes it.
-use Rattle.std.proofs.Common.{◌≡◌, ℕ, ◌+◌, List, [], ◌∷◌, ◌++◌, take, map, slice_get, Some, refl, sym, ap, ap₂, ◌∙◌, append_assoc}
-use Rattle.std.proofs.lemmas.List.{map_push}
-use Rattle.p25_status.specs.Status.{status_number}
-use Rattle.p25_status.specs.declared.symbols.Status.{Status}
+use Rattle.std.proofs.{Common.{◌≡◌, ℕ, ◌+◌, List, [], ◌∷◌, ◌++◌, take, map, slice_get, Some, refl, sym, ap, ap₂, ◌∙◌, append_assoc}, lemmas.List.{map_push}}
+use Rattle.p25_status.specs.{Status.{status_number}, declared.symbols.Status.{Status}}
 use Rattle.p25_text.specs.ItemTexts.{status_digits}
 use Rattle.p25_line.proofs.CommaWriteLaws.{take-read}
 

@@ -1,7 +1,6 @@
 -- What a reading in steps found: where the whole found something, each step did.
-use Rattle.std.proofs.Common.{◌≡◌, ℕ, ◌==◌, Bool, true, cond, List, length, Option, Some, None, inl, inr, refl, sym, ap, ◌∙◌}
+use Rattle.std.proofs.{Common.{◌≡◌, ℕ, ◌==◌, Bool, true, cond, List, length, Option, Some, None, inl, inr, refl, sym, ap, ◌∙◌}, lemmas.Bool.{cases_Bool, cond-true, cond-false, eqb-true}}
 use Rattle.std.specs.Option.{option_and_then, option_map}
-use Rattle.std.proofs.lemmas.Bool.{cases_Bool, cond-true, cond-false, eqb-true}
 use Rattle.p25_line.specs.CommaLists.{counted}
 
 -- a value was changed

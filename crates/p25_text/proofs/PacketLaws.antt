@@ -1,37 +1,21 @@
 -- The values of a packet are read as the packet, and what is read as a packet has them. By the steps of the reading.
 use Rattle.std.proofs.Common.{◌≡◌, ℕ, ◌+◌, ◌-◌, ◌*◌, ◌<◌, ◌≤◌, ◌==◌, ◌&&◌, Bool, true, false, cond, List, [], ◌∷◌, length, Some, None, inl, inr, refl, sym, ap, ap₂, subst, ◌∙◌, arith}
-use Rattle.std.specs.List.{list_all}
-use Rattle.std.specs.Option.{option_and_then, option_map}
-use Rattle.std.specs.Str.{bytes_eq}
-use Rattle.std.proofs.lemmas.Bool.{cases_Bool, cond-true, eq-eqb, eqb-true}
-use Rattle.std.proofs.lemmas.Slice.Eq.{bytes_eq-Decides}
+use Rattle.std.proofs.{lemmas.Bool.{cases_Bool, cond-true, eq-eqb, eqb-true}, lemmas.Slice.Eq.{bytes_eq-Decides}}
+use Rattle.std.specs.{List.{list_all}, Option.{option_and_then, option_map}, Str.{bytes_eq}}
 use Rattle.hex.specs.Hex.{encode_lower, lower_digits}
 use Rattle.hex.proofs.HexLemmas.{length-encode_with}
-use Rattle.p25_line.specs.Words.{is_printed}
-use Rattle.p25_line.proofs.HexLaws.{list_all-encode_lower}
-use Rattle.p25_packet_blocks.specs.declared.block.Slot.{Slot}
-use Rattle.p25_packet_blocks.specs.declared.head.PacketHead.{PacketHead}
-use Rattle.p25_packet_blocks.specs.declared.packet.Packet.{Packet}
-use Rattle.p25_packet_blocks.specs.declared.packet.Packet.TheVariants.{Confirmed, Plain}
-use Rattle.p25_packet_blocks.specs.ConfirmedParts.{ConfirmedParts}
-use Rattle.p25_packet_blocks.specs.Parts.{PlainParts}
-use Rattle.p25_packet_blocks.specs.Heads.{head_blocks, head_format}
-use Rattle.p25_packet_blocks.specs.Kinds.{IsPlainFormat}
+use Rattle.p25_line.specs.{Words.{is_printed}, CommaLists.{counted, dash, list_in, list_text}, Octets.{octets_text}}
+use Rattle.p25_line.proofs.{HexLaws.{list_all-encode_lower}, CommaListLaws.{AllFit, list_in-text, text-list_in}, WordsLaws.{digits-printed}}
+use Rattle.p25_packet_blocks.specs.{declared.block.Slot.{Slot}, declared.head.PacketHead.{PacketHead}, declared.packet.Packet.{Packet}, declared.packet.Packet.TheVariants.{Confirmed, Plain}}
+use Rattle.p25_packet_blocks.specs.{ConfirmedParts.{ConfirmedParts}, Parts.{PlainParts}, Heads.{head_blocks, head_format}, Kinds.{IsPlainFormat}}
 use Rattle.p25_packet_blocks.specs.Sendable.{IsHead, IsSendable, IsSendableConfirmed, IsSendablePlain}
 use Rattle.p25_packet_blocks.proofs.HeadLaws.{head_blocks-lt}
-use Rattle.p25_line.specs.CommaLists.{counted, dash, list_in, list_text}
-use Rattle.p25_text.specs.Names.{other_keys}
-use Rattle.p25_text.specs.Packets.{confirmed_from, confirmed_in, confirmed_of, head_in, packet_kind, packet_values, plain_from, plain_in, plain_of, slot_in, slot_text}
-use Rattle.p25_text.specs.Values.{octets_in, octets_or_none}
-use Rattle.p25_line.specs.Octets.{octets_text}
-use Rattle.p25_text.specs.declared.names.UnitKind.{UnitKind}
+use Rattle.p25_text.specs.{Names.{other_keys}, Packets.{confirmed_from, confirmed_in, confirmed_of, head_in, packet_kind, packet_values, plain_from, plain_in, plain_of, slot_in, slot_text}}
+use Rattle.p25_text.specs.{Values.{octets_in, octets_or_none}, declared.names.UnitKind.{UnitKind}}
 use Rattle.p25_text.specs.declared.names.UnitKind.TheVariants.{Confirmed as ConfirmedKind, Plain as PlainKind, Response as ResponseKind}
-use Rattle.p25_line.proofs.CommaListLaws.{AllFit, list_in-text, text-list_in}
 use Rattle.p25_text.proofs.OptionLaws.{cond-found, counted-found, option_and_then-found, option_map-found}
 use Rattle.p25_text.proofs.PacketValueLaws.{IsGoodSlot, AllFit-slots, slots-AllFit, slots-printed, slots-size, slot_laws}
-use Rattle.p25_text.proofs.ValueLaws.{octets_in-encode_lower, octets_in-text, octets_or_none-text, text-octets_or_none}
-use Rattle.p25_line.proofs.WordsLaws.{digits-printed}
-use Rattle.p25_text.proofs.WordLaws.{size_of}
+use Rattle.p25_text.proofs.{ValueLaws.{octets_in-encode_lower, octets_in-text, octets_or_none-text, text-octets_or_none}, WordLaws.{size_of}}
 
 -- ---- headers
 

@@ -1,28 +1,14 @@
 -- The texts of blocks and slots: each is read as what it is the text of, and what is read has it as its text. By cases on what each step found.
 use Rattle.std.proofs.Common.{◌≡◌, ℕ, zero, suc, ◌+◌, ◌*◌, ◌<◌, ◌≤◌, ◌==◌, ◌&&◌, Bool, true, false, List, [], ◌∷◌, ◌++◌, length, take, drop, slice_index, get_or, map, Option, Some, None, inl, inr, refl, sym, ap, ap₂, subst, ◌∙◌, arith, length-append}
-use Rattle.std.specs.Prelude.{nat_le, nat_lt}
-use Rattle.std.specs.List.{join_with_byte, list_all}
-use Rattle.std.specs.Option.{option_map}
-use Rattle.std.proofs.lemmas.Bool.{and_parts, cases_Bool, cases_lt, cond-true, cond-false, eq-eqb, eqb-true, lt-ltb}
-use Rattle.std.proofs.lemmas.List.Elements.{All-nil, All-cons}
-use Rattle.std.proofs.lemmas.List.Folds.{list_all-append}
+use Rattle.std.proofs.{lemmas.Bool.{and_parts, cases_Bool, cases_lt, cond-true, cond-false, eq-eqb, eqb-true, lt-ltb}, lemmas.List.Elements.{All-nil, All-cons}, lemmas.List.Folds.{list_all-append}}
+use Rattle.std.specs.{Prelude.{nat_le, nat_lt}, List.{join_with_byte, list_all}, Option.{option_map}}
 use Rattle.hex.specs.Hex.{encode_lower, encode_with, lower_digits}
 use Rattle.hex.proofs.HexLemmas.{length-encode_with}
-use Rattle.p25_line.specs.Values.{is_lower_digit}
-use Rattle.p25_line.specs.Words.{is_printed}
-use Rattle.p25_line.proofs.HexLaws.{list_all-encode_lower}
-use Rattle.p25_line.proofs.JoinLaws.{Lacks}
-use Rattle.p25_packet_blocks.specs.declared.block.Block.{Block}
-use Rattle.p25_packet_blocks.specs.declared.block.Slot.{Slot}
-use Rattle.p25_packet_blocks.specs.declared.block.Slot.TheVariants.{Good, Bad}
-use Rattle.p25_packet_blocks.specs.Sendable.{AreDataBlocks, IsDataBlock}
-use Rattle.p25_line.specs.CommaLists.{comma_text, list_text}
-use Rattle.p25_text.specs.Packets.{block_from, block_in, block_text, slot_in, slot_text}
-use Rattle.p25_text.specs.Values.{octets_in}
-use Rattle.p25_line.proofs.CommaListLaws.{AllFit, EntryLaws}
-use Rattle.p25_text.proofs.ValueLaws.{octets_in-encode_lower, octets_in-text, one_octet}
-use Rattle.p25_line.proofs.WordsLaws.{all-also}
-use Rattle.p25_text.proofs.WordLaws.{length-join, size_of}
+use Rattle.p25_line.specs.{Values.{is_lower_digit}, Words.{is_printed}, CommaLists.{comma_text, list_text}}
+use Rattle.p25_line.proofs.{HexLaws.{list_all-encode_lower}, JoinLaws.{Lacks}, CommaListLaws.{AllFit, EntryLaws}, WordsLaws.{all-also}}
+use Rattle.p25_packet_blocks.specs.{declared.block.Block.{Block}, declared.block.Slot.{Slot}, declared.block.Slot.TheVariants.{Good, Bad}, Sendable.{AreDataBlocks, IsDataBlock}}
+use Rattle.p25_text.specs.{Packets.{block_from, block_in, block_text, slot_in, slot_text}, Values.{octets_in}}
+use Rattle.p25_text.proofs.{ValueLaws.{octets_in-encode_lower, octets_in-text, one_octet}, WordLaws.{length-join, size_of}}
 
 -- ---- the texts of slots
 

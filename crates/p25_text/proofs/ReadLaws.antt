@@ -1,16 +1,10 @@
 -- What each answer of the reader of lines shows of the reading by the definition.
 use Rattle.std.proofs.Common.{◌≡◌, ℕ, suc, ◌+◌, ◌<◌, List, [], ◌∷◌, ◌++◌, length, drop, slice_get, get_or, Option, Some, None, Err, refl, sym, ap, ap₂, ◌∙◌, arith, append_assoc}
-use Rattle.std.specs.Prelude.{ok_or}
-use Rattle.std.specs.Option.{option_map, option_and_then}
-use Rattle.std.proofs.lemmas.List.{drop_more}
-use Rattle.std.proofs.lemmas.Option.{slice_get-get_or}
-use Rattle.p25_line.specs.declared.fault.LineFault.TheVariants.{Key, Kind as WrongKind}
-use Rattle.p25_line.specs.LineReadings.{found_read, named_or_fault}
+use Rattle.std.proofs.{lemmas.List.{drop_more}, lemmas.Option.{slice_get-get_or}}
+use Rattle.std.specs.{Prelude.{ok_or}, Option.{option_map, option_and_then}}
+use Rattle.p25_line.specs.{declared.fault.LineFault.TheVariants.{Key, Kind as WrongKind}, LineReadings.{found_read, named_or_fault}, CommaLists.{with_entry}}
 use Rattle.p25_line.proofs.LineWordsLaws.{first-others}
-use Rattle.p25_text.specs.Grammar.{read_kind, read_values, read_words, values_behind, behind}
-use Rattle.p25_text.specs.Names.{kind_named, keys_of, key_text}
-use Rattle.p25_line.specs.CommaLists.{with_entry}
-use Rattle.p25_text.specs.declared.names.UnitKey.{UnitKey}
+use Rattle.p25_text.specs.{Grammar.{read_kind, read_values, read_words, values_behind, behind}, Names.{kind_named, keys_of, key_text}, declared.names.UnitKey.{UnitKey}}
 use Rattle.p25_text.specs.declared.names.UnitKind.{UnitKind}
 use Rattle.p25_text.proofs.WordLaws.{values_behind-other}
 

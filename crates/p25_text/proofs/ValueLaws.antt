@@ -1,18 +1,13 @@
 -- For each form of value, that its text is read as it, and that what is read is the text of it.
 use Rattle.std.proofs.Common.{◌≡◌, ℕ, ◌+◌, ◌*◌, ◌/◌, ◌%◌, ◌<◌, ◌==◌, ◌&&◌, true, cond, List, [], ◌∷◌, length, drop, slice_index, get_or, Option, Some, None, inl, inr, refl, sym, ap, ap₂, subst, ◌∙◌, arith}
-use Rattle.std.specs.List.{list_all}
-use Rattle.std.specs.Str.{bytes_eq}
-use Rattle.std.proofs.lemmas.Bool.Decides.{eqb_tells}
-use Rattle.std.proofs.lemmas.Bool.{and_parts, cases_Bool, cond-true, cond-false, eq-eqb, eqb-true, ne_eqb}
-use Rattle.std.proofs.lemmas.List.Elements.{All-nil, All-cons, All-head, All-tail}
-use Rattle.std.proofs.lemmas.Slice.Eq.{bytes_eq-Decides}
+use Rattle.std.proofs.{lemmas.Bool.Decides.{eqb_tells}, lemmas.Bool.{and_parts, cases_Bool, cond-true, cond-false, eq-eqb, eqb-true, ne_eqb}}
+use Rattle.std.proofs.{lemmas.List.Elements.{All-nil, All-cons, All-head, All-tail}, lemmas.Slice.Eq.{bytes_eq-Decides}}
+use Rattle.std.specs.{List.{list_all}, Str.{bytes_eq}}
 use Rattle.hex.specs.Hex.{encode_with, encode_lower, lower_digits}
 use Rattle.hex.proofs.HexLemmas.{length-encode_with}
-use Rattle.p25_line.specs.Values.{AllOctets, is_lower_digit, nibble_of, octets_of, three_digits}
+use Rattle.p25_line.specs.{Values.{AllOctets, is_lower_digit, nibble_of, octets_of, three_digits}, CommaLists.{dash}, Octets.{octets_text}}
 use Rattle.p25_line.proofs.HexLaws.{digit_facts, list_all-encode_lower, octets_of-encode_lower, octets_of-facts}
-use Rattle.p25_line.specs.CommaLists.{dash}
 use Rattle.p25_text.specs.Values.{octets_in, octets_or_none, number_in, nac_in}
-use Rattle.p25_line.specs.Octets.{octets_text}
 
 -- one number below 256, and two
 pub one_octet : (octet : ℕ) → octet < 256 → AllOctets (octet ∷ [])

@@ -1,32 +1,19 @@
 -- The values of a voice unit are read as the unit, and what is read as a voice unit has them. The octets of values are read in general, by induction on the keys; each kind then adds its fields.
 use Rattle.std.proofs.Common.{◌≡◌, ℕ, zero, suc, ◌+◌, ◌*◌, ◌/◌, ◌%◌, ◌^◌, ◌<◌, ◌≤◌, ◌&&◌, true, List, [], ◌∷◌, ◌++◌, length, take, drop, map, Option, Some, refl, ap, ap₂, subst, ◌∙◌, arith, length-append, length-take, length-drop}
-use Rattle.std.specs.Prelude.{All}
-use Rattle.std.specs.List.{list_all}
-use Rattle.std.specs.Option.{option_and_then}
-use Rattle.std.proofs.lemmas.List.{drop-drop, drop_at, take-append-drop, take_at}
-use Rattle.std.proofs.lemmas.List.Elements.{All-nil, All-cons, All-head, All-tail, All-append, All-take, All-drop}
+use Rattle.std.proofs.{lemmas.List.{drop-drop, drop_at, take-append-drop, take_at}, lemmas.List.Elements.{All-nil, All-cons, All-head, All-tail, All-append, All-take, All-drop}}
+use Rattle.std.specs.{Prelude.{All}, List.{list_all}, Option.{option_and_then}}
 use Rattle.hex.specs.Hex.{encode_lower, lower_digits}
 use Rattle.hex.proofs.HexLemmas.{length-encode_with}
 use Rattle.p25_bits.specs.Numbers.{pair_at}
-use Rattle.p25_line.specs.Values.{AllOctets}
-use Rattle.p25_line.specs.Words.{is_printed}
-use Rattle.p25_line.proofs.HexLaws.{list_all-encode_lower}
+use Rattle.p25_line.specs.{Values.{AllOctets}, Words.{is_printed}, CommaLists.{with_entry}}
+use Rattle.p25_line.proofs.{HexLaws.{list_all-encode_lower}, WordsLaws.{digits-printed}}
 use Rattle.p25_link.specs.Words.{AreNineOctets}
-use Rattle.p25_voice_units.specs.declared.unit.VoiceUnit.{VoiceUnit}
-use Rattle.p25_voice_units.specs.declared.unit.VoiceUnit.TheVariants.{Header, Link1, Link2, End, EndLink}
-use Rattle.p25_voice_units.specs.Sendable.{IsSendableVoice, IsSpeech, IsVoiceFrame}
+use Rattle.p25_voice_units.specs.{declared.unit.VoiceUnit.{VoiceUnit}, declared.unit.VoiceUnit.TheVariants.{Header, Link1, Link2, End, EndLink}, Sendable.{IsSendableVoice, IsSpeech, IsVoiceFrame}}
 use Rattle.p25_voice_units.specs.declared.voice.VoiceFrame.{VoiceFrame}
-use Rattle.p25_text.specs.Names.{other_keys, width_of}
-use Rattle.p25_text.specs.Values.{octets_in}
-use Rattle.p25_line.specs.CommaLists.{with_entry}
-use Rattle.p25_text.specs.Voices.{frame_octets, frames_of, octet_number, octets_behind, pair_of, voice_from, voice_in, voice_kind, voice_octets, voice_values}
-use Rattle.p25_text.specs.declared.names.UnitKey.{UnitKey}
-use Rattle.p25_text.specs.declared.names.UnitKind.{UnitKind}
-use Rattle.p25_text.specs.declared.names.UnitKind.TheVariants.{Hdu, Ldu1, Ldu2, Tdu, Tdulc}
-use Rattle.p25_text.proofs.OptionLaws.{option_and_then-found}
-use Rattle.p25_text.proofs.ValueLaws.{octets_in-encode_lower, octets_in-text, one_octet, two_octets}
-use Rattle.p25_line.proofs.WordsLaws.{digits-printed}
-use Rattle.p25_text.proofs.WordLaws.{size_of}
+use Rattle.p25_text.specs.{Names.{other_keys, width_of}, Values.{octets_in}}
+use Rattle.p25_text.specs.{Voices.{frame_octets, frames_of, octet_number, octets_behind, pair_of, voice_from, voice_in, voice_kind, voice_octets, voice_values}, declared.names.UnitKey.{UnitKey}}
+use Rattle.p25_text.specs.{declared.names.UnitKind.{UnitKind}, declared.names.UnitKind.TheVariants.{Hdu, Ldu1, Ldu2, Tdu, Tdulc}}
+use Rattle.p25_text.proofs.{OptionLaws.{option_and_then-found}, ValueLaws.{octets_in-encode_lower, octets_in-text, one_octet, two_octets}, WordLaws.{size_of}}
 
 -- ---- octets of any keys
 

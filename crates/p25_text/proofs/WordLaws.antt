@@ -1,18 +1,10 @@
 -- Keys with their values: put together and taken apart, and that they are words of a line that is not too long.
 use Rattle.std.proofs.Common.{◌≡◌, ℕ, suc, ◌+◌, ◌*◌, ◌<◌, ◌≤◌, ◌&&◌, true, List, [], ◌∷◌, ◌++◌, length, drop, Option, Some, None, inl, inr, refl, sym, ap, ap₂, ◌∙◌, arith, length-append}
-use Rattle.std.specs.Prelude.{◌==◌, nat_lt}
-use Rattle.std.specs.List.{join_with_byte, list_all, starts_with}
-use Rattle.std.proofs.lemmas.Bool.{and_parts, cases_Bool, cond-true, cond-false, lt-ltb}
-use Rattle.std.proofs.lemmas.Bool.Decides.{Decides-eqb}
-use Rattle.std.proofs.lemmas.List.{drop_at}
-use Rattle.std.proofs.lemmas.List.Folds.{list_all-append}
+use Rattle.std.proofs.{lemmas.Bool.{and_parts, cases_Bool, cond-true, cond-false, lt-ltb}, lemmas.Bool.Decides.{Decides-eqb}, lemmas.List.{drop_at}, lemmas.List.Folds.{list_all-append}}
 use Rattle.std.proofs.lemmas.Slice.Eq.{starts_is}
-use Rattle.p25_line.specs.Words.{is_printed, is_word}
-use Rattle.p25_text.specs.Grammar.{behind, keyed, values_behind}
-use Rattle.p25_text.specs.Names.{key_text}
-use Rattle.p25_line.specs.CommaLists.{with_entry}
-use Rattle.p25_text.specs.declared.names.UnitKey.{UnitKey}
-use Rattle.p25_text.specs.declared.names.UnitKey.TheVariants.{Nac}
+use Rattle.std.specs.{Prelude.{◌==◌, nat_lt}, List.{join_with_byte, list_all, starts_with}}
+use Rattle.p25_line.specs.{Words.{is_printed, is_word}, CommaLists.{with_entry}}
+use Rattle.p25_text.specs.{Grammar.{behind, keyed, values_behind}, Names.{key_text}, declared.names.UnitKey.{UnitKey}, declared.names.UnitKey.TheVariants.{Nac}}
 
 -- what stands after a key
 pub behind-append : (key value : List ℕ) → behind key (key ++ value) ≡ Some value

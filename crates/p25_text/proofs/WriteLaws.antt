@@ -2,28 +2,14 @@
 use Rattle.std.proofs.Common.{◌≡◌, ℕ, ◌+◌, ◌/◌, ◌%◌, ◌==◌, Bool, true, false, cond, List, [], ◌∷◌, ◌++◌, take, map, slice_get, slice_index, Some, refl, sym, ap, ap₂, ◌∙◌, append-nil, append_assoc}
 use Rattle.std.specs.List.{join_with_byte}
 use Rattle.hex.specs.Hex.{encode_lower, encode_with, lower_digits}
-use Rattle.p25_packet_blocks.specs.ConfirmedParts.{ConfirmedParts}
-use Rattle.p25_packet_blocks.specs.Parts.{PlainParts}
-use Rattle.p25_packet_blocks.specs.Heads.{head_format}
-use Rattle.p25_packet_blocks.specs.declared.block.Slot.{Slot}
-use Rattle.p25_packet_blocks.specs.declared.head.PacketHead.{PacketHead}
+use Rattle.p25_packet_blocks.specs.{ConfirmedParts.{ConfirmedParts}, Parts.{PlainParts}, Heads.{head_format}, declared.block.Slot.{Slot}, declared.head.PacketHead.{PacketHead}}
 use Rattle.p25_packet_blocks.specs.declared.packet.Packet.TheVariants.{Confirmed, Plain}
-use Rattle.p25_voice_units.specs.declared.unit.VoiceUnit.{VoiceUnit}
-use Rattle.p25_voice_units.specs.declared.voice.VoiceFrame.{VoiceFrame}
-use Rattle.p25_units.specs.UnitParts.{UnitParts}
-use Rattle.p25_units.specs.declared.unit.Body.TheVariants.{Voice, Packet}
-use Rattle.p25_line.specs.CommaLists.{list_text}
-use Rattle.p25_text.specs.Grammar.{keyed, kind_of, text_of, values_of}
-use Rattle.p25_text.specs.Names.{key_text, keys_of, kind_word, other_keys}
-use Rattle.p25_text.specs.Packets.{packet_kind, slot_text}
-use Rattle.p25_text.specs.Values.{key_value_text}
-use Rattle.p25_line.specs.Octets.{octets_text}
-use Rattle.p25_line.specs.Values.{three_digits}
-use Rattle.p25_text.specs.Voices.{frame_octets, voice_kind, voice_octets, voice_values}
-use Rattle.p25_text.specs.declared.names.UnitKey.{UnitKey}
-use Rattle.p25_text.specs.declared.names.UnitKey.TheVariants.{Nac, Head, Blocks, Octets}
-use Rattle.p25_text.specs.declared.names.UnitKind.{UnitKind}
-use Rattle.p25_text.specs.declared.names.UnitKind.TheVariants.{Confirmed as ConfirmedKind, Plain as PlainKind, Response as ResponseKind}
+use Rattle.p25_voice_units.specs.{declared.unit.VoiceUnit.{VoiceUnit}, declared.voice.VoiceFrame.{VoiceFrame}}
+use Rattle.p25_units.specs.{UnitParts.{UnitParts}, declared.unit.Body.TheVariants.{Voice, Packet}}
+use Rattle.p25_line.specs.{CommaLists.{list_text}, Octets.{octets_text}, Values.{three_digits}}
+use Rattle.p25_text.specs.{Grammar.{keyed, kind_of, text_of, values_of}, Names.{key_text, keys_of, kind_word, other_keys}, Packets.{packet_kind, slot_text}, Values.{key_value_text}}
+use Rattle.p25_text.specs.{Voices.{frame_octets, voice_kind, voice_octets, voice_values}, declared.names.UnitKey.{UnitKey}, declared.names.UnitKey.TheVariants.{Nac, Head, Blocks, Octets}}
+use Rattle.p25_text.specs.{declared.names.UnitKind.{UnitKind}, declared.names.UnitKind.TheVariants.{Confirmed as ConfirmedKind, Plain as PlainKind, Response as ResponseKind}}
 use Rattle.p25_line.proofs.CommaWriteLaws.{take-read}
 
 -- keys with their values, a space before each

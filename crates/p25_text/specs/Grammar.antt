@@ -1,21 +1,11 @@
 -- Unit lines: the line of a unit, and the unit of a line.
-use Rattle.std.specs.Option.{option_map}
-use Rattle.std.specs.Prelude.{ℕ, ◌==◌, if◌then◌else◌, List, [], ◌∷◌, ◌++◌, length, drop, Option, Some, None, ok_or, Result, Err}
+use Rattle.std.specs.{Option.{option_map}, Prelude.{ℕ, ◌==◌, if◌then◌else◌, List, [], ◌∷◌, ◌++◌, length, drop, Option, Some, None, ok_or, Result, Err}}
 use Rattle.std.specs.List.{join_with_byte, starts_with}
-use Rattle.p25_line.specs.Values.{three_digits}
-use Rattle.p25_line.specs.CommaLists.{with_entry}
-use Rattle.p25_line.specs.LineReadings.{found_read, line_read, named_or_fault}
-use Rattle.p25_line.specs.declared.fault.LineFault.{LineFault}
-use Rattle.p25_line.specs.declared.fault.LineFault.TheVariants.{Form, Key, Value}
-use Rattle.p25_units.specs.UnitParts.{UnitParts}
-use Rattle.p25_units.specs.declared.unit.Body.{Body}
-use Rattle.p25_units.specs.declared.unit.Body.TheVariants.{Voice, Packet}
-use Rattle.p25_text.specs.Names.{kind_word, kind_named, keys_of, key_text}
-use Rattle.p25_text.specs.Packets.{confirmed_in, packet_kind, packet_values, plain_in}
-use Rattle.p25_text.specs.Values.{nac_in}
-use Rattle.p25_text.specs.Voices.{voice_in, voice_kind, voice_values}
-use Rattle.p25_text.specs.declared.names.UnitKey.{UnitKey}
-use Rattle.p25_text.specs.declared.names.UnitKind.{UnitKind}
+use Rattle.p25_line.specs.{Values.{three_digits}, CommaLists.{with_entry}, LineReadings.{found_read, line_read, named_or_fault}}
+use Rattle.p25_line.specs.{declared.fault.LineFault.{LineFault}, declared.fault.LineFault.TheVariants.{Form, Key, Value}}
+use Rattle.p25_units.specs.{UnitParts.{UnitParts}, declared.unit.Body.{Body}, declared.unit.Body.TheVariants.{Voice, Packet}}
+use Rattle.p25_text.specs.{Names.{kind_word, kind_named, keys_of, key_text}, Packets.{confirmed_in, packet_kind, packet_values, plain_in}, Values.{nac_in}}
+use Rattle.p25_text.specs.{Voices.{voice_in, voice_kind, voice_values}, declared.names.UnitKey.{UnitKey}, declared.names.UnitKind.{UnitKind}}
 use Rattle.p25_text.specs.declared.names.UnitKind.TheVariants.{Confirmed, Plain, Response}
 
 -- ---- the kinds, in the order of their table

@@ -1,15 +1,11 @@
 -- The texts of items.
 use Rattle.std.specs.Prelude.{ℕ, ◌+◌, List, [], ◌∷◌, ◌++◌, drop, map, codes, decimal}
 use Rattle.hex.specs.Hex.{encode_lower}
-use Rattle.p25_status.specs.Status.{status_number}
-use Rattle.p25_status.specs.declared.fields.Field.{Field}
+use Rattle.p25_status.specs.{Status.{status_number}, declared.fields.Field.{Field}}
 use Rattle.p25_status.specs.declared.fields.Field.TheVariants.{Sync, Nid, Duid, HeaderWord, LinkControl, EncryptionSync, LowSpeed1, LowSpeed2, PacketHeader, Length, Format, PacketCrc, Block}
 use Rattle.p25_status.specs.declared.symbols.Status.{Status}
-use Rattle.p25_units.specs.Units.{frame_length_of}
-use Rattle.p25_units.specs.declared.item.Item.{Item}
-use Rattle.p25_units.specs.declared.item.Item.TheVariants.{Whole, Broken, NoUnit, Gap, Cut}
-use Rattle.p25_line.specs.CommaLists.{comma_text}
-use Rattle.p25_line.specs.Values.{three_digits}
+use Rattle.p25_units.specs.{Units.{frame_length_of}, declared.item.Item.{Item}, declared.item.Item.TheVariants.{Whole, Broken, NoUnit, Gap, Cut}}
+use Rattle.p25_line.specs.{CommaLists.{comma_text}, Values.{three_digits}}
 use Rattle.p25_text.specs.Grammar.{text_of}
 
 -- the name of a field

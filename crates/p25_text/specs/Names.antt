@@ -1,11 +1,8 @@
 -- The kinds of unit lines, and their keys.
-use Rattle.std.specs.Prelude.{List, [], ◌∷◌, codes, ℕ, Option}
-use Rattle.std.specs.Str.{bytes_eq}
-use Rattle.std.specs.List.{find}
+use Rattle.std.specs.{Prelude.{List, [], ◌∷◌, codes, ℕ, Option}, Str.{bytes_eq}, List.{find}}
 use Rattle.p25_text.specs.declared.names.UnitKey.{UnitKey}
 use Rattle.p25_text.specs.declared.names.UnitKey.TheVariants.{Nac, Mi, Mfid, Algid, Kid, Tgid, Lc, Lsd, Frames, Head, Blocks, Octets}
-use Rattle.p25_text.specs.declared.names.UnitKind.{UnitKind}
-use Rattle.p25_text.specs.declared.names.UnitKind.TheVariants.{Hdu, Ldu1, Ldu2, Tdu, Tdulc, Confirmed, Plain, Response}
+use Rattle.p25_text.specs.{declared.names.UnitKind.{UnitKind}, declared.names.UnitKind.TheVariants.{Hdu, Ldu1, Ldu2, Tdu, Tdulc, Confirmed, Plain, Response}}
 
 -- the word that begins a line of a kind
 abbrev pub kind_word : UnitKind → List ℕ

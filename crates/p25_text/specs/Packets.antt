@@ -2,17 +2,11 @@
 use Rattle.std.specs.Prelude.{ℕ, ◌-◌, ◌*◌, ◌==◌, ◌&&◌, nat_lt, if◌then◌else◌, List, [], ◌∷◌, ◌++◌, length, take, drop, slice_index, Option, Some, None}
 use Rattle.std.specs.Option.{option_and_then, option_map}
 use Rattle.hex.specs.Hex.{encode_lower}
-use Rattle.p25_packet_blocks.specs.declared.block.Block.{Block}
-use Rattle.p25_packet_blocks.specs.declared.block.Slot.{Slot}
-use Rattle.p25_packet_blocks.specs.declared.block.Slot.TheVariants.{Good, Bad}
-use Rattle.p25_packet_blocks.specs.declared.head.PacketHead.{PacketHead}
-use Rattle.p25_packet_blocks.specs.declared.packet.Packet.{Packet}
-use Rattle.p25_packet_blocks.specs.declared.packet.Packet.TheVariants.{Confirmed, Plain}
-use Rattle.p25_packet_blocks.specs.Heads.{head_blocks, head_format}
-use Rattle.p25_line.specs.CommaLists.{counted, list_in, list_text}
-use Rattle.p25_line.specs.Octets.{octets_text}
-use Rattle.p25_text.specs.Values.{octets_in, octets_or_none}
-use Rattle.p25_text.specs.declared.names.UnitKind.{UnitKind}
+use Rattle.p25_packet_blocks.specs.{declared.block.Block.{Block}, declared.block.Slot.{Slot}, declared.block.Slot.TheVariants.{Good, Bad}}
+use Rattle.p25_packet_blocks.specs.{declared.head.PacketHead.{PacketHead}, declared.packet.Packet.{Packet}}
+use Rattle.p25_packet_blocks.specs.{declared.packet.Packet.TheVariants.{Confirmed, Plain}, Heads.{head_blocks, head_format}}
+use Rattle.p25_line.specs.{CommaLists.{counted, list_in, list_text}, Octets.{octets_text}}
+use Rattle.p25_text.specs.{Values.{octets_in, octets_or_none}, declared.names.UnitKind.{UnitKind}}
 use Rattle.p25_text.specs.declared.names.UnitKind.TheVariants.{Confirmed as ConfirmedKind, Plain as PlainKind, Response as ResponseKind}
 
 -- ---- texts

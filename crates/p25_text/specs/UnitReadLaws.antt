@@ -2,8 +2,7 @@
 use Rattle.std.specs.Prelude.{◌≡◌, ◌≢◌, ℕ, List, [], ◌∷◌, ok_or, Err}
 use Rattle.p25_line.specs.declared.fault.LineFault.TheVariants.{Key, Long, Value}
 use Rattle.p25_line.proofs.LineReadLaws.{found-not_long, named-not_long, or-not_long}
-use Rattle.p25_text.specs.Grammar.{read_kind, read_values, read_words, unit_in, values_behind}
-use Rattle.p25_text.specs.Names.{keys_of, kind_named}
+use Rattle.p25_text.specs.{Grammar.{read_kind, read_values, read_words, unit_in, values_behind}, Names.{keys_of, kind_named}}
 use Rattle.p25_text.specs.declared.names.UnitKind.{UnitKind}
 
 kind-not_long : (kind : UnitKind) (words : List (List ℕ)) → read_kind kind words ≡ Err Long → ⊥

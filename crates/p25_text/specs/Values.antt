@@ -1,12 +1,8 @@
 -- Values of keys, and the words that they are written as: digits two for each octet, or `-` for none.
-use Rattle.std.specs.Prelude.{ℕ, ◌+◌, ◌*◌, ◌==◌, ◌&&◌, if◌then◌else◌, List, [], ◌∷◌, ◌++◌, length, Option, Some, None}
-use Rattle.std.specs.List.{list_all}
-use Rattle.std.specs.Str.{bytes_eq}
+use Rattle.std.specs.{Prelude.{ℕ, ◌+◌, ◌*◌, ◌==◌, ◌&&◌, if◌then◌else◌, List, [], ◌∷◌, ◌++◌, length, Option, Some, None}, List.{list_all}, Str.{bytes_eq}}
 use Rattle.hex.specs.Hex.{encode_lower}
-use Rattle.p25_line.specs.CommaLists.{dash}
-use Rattle.p25_line.specs.Values.{is_lower_digit, octets_of}
-use Rattle.p25_text.specs.Names.{key_text}
-use Rattle.p25_text.specs.declared.names.UnitKey.{UnitKey}
+use Rattle.p25_line.specs.{CommaLists.{dash}, Values.{is_lower_digit, octets_of}}
+use Rattle.p25_text.specs.{Names.{key_text}, declared.names.UnitKey.{UnitKey}}
 
 -- the octets whose text a word is, where it has two digits for each of so many octets
 abbrev pub octets_in : ℕ → List ℕ → Option (List ℕ)

@@ -1,18 +1,13 @@
 -- The values of voice units (HDU, LDU1, LDU2, TDU, TDULC) after the network access code (NAC), and the voice units that values are
 -- read as.
-use Rattle.std.specs.Prelude.{ℕ, zero, suc, ◌/◌, ◌%◌, List, [], ◌∷◌, take, drop, map, slice_index, Option, Some, None}
-use Rattle.std.specs.List.{flat_map}
+use Rattle.std.specs.{Prelude.{ℕ, zero, suc, ◌/◌, ◌%◌, List, [], ◌∷◌, take, drop, map, slice_index, Option, Some, None}, List.{flat_map}}
 use Rattle.std.specs.Option.{option_and_then}
 use Rattle.hex.specs.Hex.{encode_lower}
 use Rattle.p25_bits.specs.Numbers.{pair_at}
 use Rattle.p25_line.specs.CommaLists.{with_entry}
-use Rattle.p25_voice_units.specs.declared.unit.VoiceUnit.{VoiceUnit}
-use Rattle.p25_voice_units.specs.declared.unit.VoiceUnit.TheVariants.{Header, Link1, Link2, End, EndLink}
+use Rattle.p25_voice_units.specs.{declared.unit.VoiceUnit.{VoiceUnit}, declared.unit.VoiceUnit.TheVariants.{Header, Link1, Link2, End, EndLink}}
 use Rattle.p25_voice_units.specs.declared.voice.VoiceFrame.{VoiceFrame}
-use Rattle.p25_text.specs.Names.{other_keys, width_of}
-use Rattle.p25_text.specs.Values.{octets_in}
-use Rattle.p25_text.specs.declared.names.UnitKey.{UnitKey}
-use Rattle.p25_text.specs.declared.names.UnitKind.{UnitKind}
+use Rattle.p25_text.specs.{Names.{other_keys, width_of}, Values.{octets_in}, declared.names.UnitKey.{UnitKey}, declared.names.UnitKind.{UnitKind}}
 use Rattle.p25_text.specs.declared.names.UnitKind.TheVariants.{Hdu, Ldu1, Ldu2, Tdu, Tdulc}
 
 -- ---- texts

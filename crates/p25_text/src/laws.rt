@@ -1,12 +1,9 @@
 //! The texts are ASCII. The body is empty: the function states what is proved.
 
 ghost use Rattle.std.specs.Prelude.{IsAscii};
-ghost use Rattle.p25_calls.specs.declared.call.Call.{Call as call_type};
-ghost use Rattle.p25_units.specs.UnitParts.{UnitParts};
-ghost use Rattle.p25_units.specs.declared.item.Item.{Item as item_type};
-ghost use Rattle.p25_calls.specs.CallTexts.{call_text_of};
-ghost use Rattle.p25_text.specs.Grammar.{text_of};
-ghost use Rattle.p25_text.specs.ItemTexts.{item_text_of};
+ghost use Rattle.p25_calls.specs.{declared.call.Call.{Call as call_type}, CallTexts.{call_text_of}};
+ghost use Rattle.p25_units.specs.{UnitParts.{UnitParts}, declared.item.Item.{Item as item_type}};
+ghost use Rattle.p25_text.specs.{Grammar.{text_of}, ItemTexts.{item_text_of}};
 
 /// **Theorem.** Each octet of the text of a unit, of an item and of a call is below 128, whatever the unit, the item and the call
 /// are. So these texts are always UTF-8.

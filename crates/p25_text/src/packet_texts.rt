@@ -2,8 +2,7 @@
 
 ghost use Rattle.std.specs.Prelude.{◌≡◌, ◌+◌, ◌≤◌, ◌++◌, length};
 ghost use Rattle.p25_line.specs.CommaLists.{list_text};
-ghost use Rattle.p25_text.specs.Grammar.{text_of};
-ghost use Rattle.p25_text.specs.Packets.{block_text, packet_kind, slot_text};
+ghost use Rattle.p25_text.specs.{Grammar.{text_of}, Packets.{block_text, packet_kind, slot_text}};
 
 use super::names::{UnitKey, UnitKind};
 use super::write::{put_key, put_key_value, put_start};

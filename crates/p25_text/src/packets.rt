@@ -3,8 +3,7 @@
 ghost use Rattle.std.specs.Prelude.{◌≡◌, ◌<◌, ◌≤◌, length, IfSome};
 ghost use Rattle.p25_packet_blocks.specs.Kinds.{IsPlainFormat};
 ghost use Rattle.p25_line.specs.CommaLists.{counted, list_in};
-ghost use Rattle.p25_text.specs.Packets.{block_from, block_in, confirmed_in, head_in, plain_in, slot_in};
-ghost use Rattle.p25_text.specs.Values.{octets_in, octets_or_none};
+ghost use Rattle.p25_text.specs.{Packets.{block_from, block_in, confirmed_in, head_in, plain_in, slot_in}, Values.{octets_in, octets_or_none}};
 
 use super::values::octets_value;
 use p25_line::{comma_part, hex_value, is_dash};

@@ -1,13 +1,9 @@
 //! Units read from lines.
 
-ghost use Rattle.std.specs.Prelude.{◌≡◌, ◌↔◌, ℕ, ◌<◌, IfOk, Err, length, drop};
+ghost use Rattle.std.specs.{Prelude.{◌≡◌, ◌↔◌, ℕ, ◌<◌, IfOk, Err, length, drop}, Option.{option_map}};
 ghost use Rattle.p25_line.specs.declared.fault.LineFault.TheVariants.{Long};
-ghost use Rattle.std.specs.Option.{option_map};
-ghost use Rattle.p25_units.specs.UnitParts.{UnitParts};
-ghost use Rattle.p25_units.specs.Units.{IsSendableUnit};
-ghost use Rattle.p25_text.specs.Grammar.{body_in, read_line_of, read_words as unit_of_words, text_of, unit_in};
-ghost use Rattle.p25_text.specs.Names.{keys_of};
-ghost use Rattle.p25_text.specs.Voices.{voice_in};
+ghost use Rattle.p25_units.specs.{UnitParts.{UnitParts}, Units.{IsSendableUnit}};
+ghost use Rattle.p25_text.specs.{Grammar.{body_in, read_line_of, read_words as unit_of_words, text_of, unit_in}, Names.{keys_of}, Voices.{voice_in}};
 ghost use Rattle.p25_text.specs.declared.names.UnitKind.TheVariants.{Hdu, Ldu2};
 
 use super::names::UnitKind;

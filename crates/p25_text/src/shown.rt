@@ -2,8 +2,7 @@
 //! for types of this crate alone, so each has a newtype here.
 
 ghost use Rattle.std.specs.Prelude.{◌≡◌, ◌<◌, Some, Ok, Err, MatchResult};
-ghost use Rattle.p25_text.specs.Grammar.{read_line_of, text_of};
-ghost use Rattle.p25_text.specs.ItemTexts.{item_text_of};
+ghost use Rattle.p25_text.specs.{Grammar.{read_line_of, text_of}, ItemTexts.{item_text_of}};
 ghost use Rattle.p25_calls.specs.CallTexts.{call_text_of};
 ghost use Rattle.p25_units.specs.Items.{IsSoundItem};
 
@@ -63,8 +62,7 @@ pub struct ItemText<'a> {
 }
 
 impl<'a> Model for ItemText<'a> {
-    ghost use Rattle.p25_units.specs.Items.{IsSoundItem};
-    ghost use Rattle.p25_units.specs.declared.item.Item.{Item as item_type};
+    ghost use Rattle.p25_units.specs.{Items.{IsSoundItem}, declared.item.Item.{Item as item_type}};
 
     ghost Value = { item_type };
 

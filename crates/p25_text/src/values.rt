@@ -1,10 +1,7 @@
 //! The values of the keys of a unit line.
 
-ghost use Rattle.std.specs.Prelude.{◌≡◌, ℕ, ◌+◌, ◌<◌, ◌≤◌, List, [], ◌∷◌, ◌++◌, length, drop, map, slice_get, IfSome};
-ghost use Rattle.std.specs.Option.{option_map};
-ghost use Rattle.p25_text.specs.Grammar.{behind, values_behind};
-ghost use Rattle.p25_text.specs.Names.{key_text};
-ghost use Rattle.p25_text.specs.Values.{nac_in, octets_in};
+ghost use Rattle.std.specs.{Prelude.{◌≡◌, ℕ, ◌+◌, ◌<◌, ◌≤◌, List, [], ◌∷◌, ◌++◌, length, drop, map, slice_get, IfSome}, Option.{option_map}};
+ghost use Rattle.p25_text.specs.{Grammar.{behind, values_behind}, Names.{key_text}, Values.{nac_in, octets_in}};
 
 use super::names::UnitKey;
 use arrayvec::ArrayVec;

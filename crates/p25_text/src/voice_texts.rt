@@ -1,10 +1,7 @@
 //! The lines of voice units: HDU, LDU1, LDU2, TDU and TDULC.
 
 ghost use Rattle.std.specs.Prelude.{◌≡◌, ◌+◌, ◌*◌, ◌≤◌, ◌++◌, length};
-ghost use Rattle.p25_text.specs.Grammar.{text_of};
-ghost use Rattle.p25_text.specs.Values.{key_value_text};
-ghost use Rattle.p25_text.specs.Voices.{frame_octets, pair_of};
-ghost use Rattle.p25_text.specs.declared.names.UnitKey.TheVariants.{Frames};
+ghost use Rattle.p25_text.specs.{Grammar.{text_of}, Values.{key_value_text}, Voices.{frame_octets, pair_of}, declared.names.UnitKey.TheVariants.{Frames}};
 
 use super::names::{UnitKey, UnitKind};
 use super::write::{put_key, put_key_value, put_start};

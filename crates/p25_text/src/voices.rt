@@ -1,10 +1,7 @@
 //! The values of voice units (HDU, LDU1, LDU2, TDULC): their fields, read from words.
 
-ghost use Rattle.std.specs.Prelude.{◌≡◌, ◌+◌, ◌*◌, ◌≤◌, [], ◌∷◌, length, take, drop};
-ghost use Rattle.std.specs.Option.{option_and_then};
-ghost use Rattle.p25_text.specs.Names.{other_keys};
-ghost use Rattle.p25_text.specs.Voices.{frames_of, octets_behind, voice_in};
-ghost use Rattle.p25_text.specs.declared.names.UnitKind.TheVariants.{Hdu, Ldu1, Ldu2, Tdulc};
+ghost use Rattle.std.specs.{Prelude.{◌≡◌, ◌+◌, ◌*◌, ◌≤◌, [], ◌∷◌, length, take, drop}, Option.{option_and_then}};
+ghost use Rattle.p25_text.specs.{Names.{other_keys}, Voices.{frames_of, octets_behind, voice_in}, declared.names.UnitKind.TheVariants.{Hdu, Ldu1, Ldu2, Tdulc}};
 
 use super::values::octets_value;
 use p25_link::{EncryptionSync, HeaderWord, LinkControl};

@@ -2,11 +2,8 @@
 
 ghost use Rattle.std.specs.Prelude.{◌≡◌, ◌+◌, ◌*◌, ◌<◌, ◌≤◌, ◌∷◌, ◌++◌, length};
 ghost use Rattle.hex.specs.Hex.{encode_lower};
-ghost use Rattle.p25_text.specs.Grammar.{text_of};
-ghost use Rattle.p25_text.specs.Names.{key_text, kind_word};
+ghost use Rattle.p25_text.specs.{Grammar.{text_of}, Names.{key_text, kind_word}, Values.{key_value_text}, declared.names.UnitKey.TheVariants.{Nac}};
 ghost use Rattle.p25_line.specs.Values.{three_digits};
-ghost use Rattle.p25_text.specs.Values.{key_value_text};
-ghost use Rattle.p25_text.specs.declared.names.UnitKey.TheVariants.{Nac};
 
 use super::names::{UnitKey, UnitKind};
 use super::packet_texts::put_packet;

@@ -1,37 +1,24 @@
 -- What `build` writes: the bits are those of the units of its lines, by induction on the units, and so a recording of undamaged units;
 -- what lines are read as, by induction on the lines and cases on the first.
 use Rattle.std.proofs.Common.{◌≡◌, ℕ, ◌+◌, ◌/◌, Bool, true, List, [], ◌∷◌, ◌++◌, length, map, take, Option, Some, Result, Ok, Err, refl, subst, ap, ap₂, sym, ◌∙◌, append-nil, arith, false, None}
-use Rattle.std.specs.Prelude.{All}
-use Rattle.std.specs.List.{flat_map}
-use Rattle.std.proofs.lemmas.List.{length-replicate}
-use Rattle.std.proofs.lemmas.List.Elements.{All-cons, All-head, All-map, All-nil, All-tail, All-weaker}
-use Rattle.std.proofs.lemmas.List.Folds.{flat_map-map}
+use Rattle.std.proofs.{lemmas.List.{length-replicate}, lemmas.List.Elements.{All-cons, All-head, All-map, All-nil, All-tail, All-weaker}, lemmas.List.Folds.{flat_map-map}}
+use Rattle.std.specs.{Prelude.{All}, List.{flat_map}}
 use Rattle.p25_bits.specs.Bits.{octet_bits}
 use Rattle.p25_bits.proofs.BitsLaws.{octet_bits-append, octet_bits-nil}
 use Rattle.p25_line.specs.declared.fault.LineFault.{LineFault}
 use Rattle.p25_status.specs.declared.symbols.Status.{Status}
 use Rattle.p25_text.specs.Grammar.{read_line_of, text_of}
 use Rattle.p25_text.proofs.GrammarLaws.{text_of-read_line}
-use Rattle.p25_units.specs.Fixes.{fixes_of}
-use Rattle.p25_units.specs.UnitParts.{UnitParts}
-use Rattle.p25_units.specs.Units.{IsSendableUnit, IsSoundFrame, filled_frame, frame_length_of, image_octets, image_of}
-use Rattle.p25_units.specs.declared.frame.Frame.{Frame}
-use Rattle.p25_units.specs.declared.item.Item.{Item}
-use Rattle.p25_units.specs.declared.item.Item.TheVariants.{Whole}
-use Rattle.p25_units.proofs.FixesLaws.{fixes_of-image_of}
-use Rattle.p25_units.proofs.ReadingsLaws.{IsWholeBody-sendable}
-use Rattle.p25_units.proofs.UnitsLaws.{length-image_of}
-use Rattle.p25_units.proofs.WithinRadiusLaws.{IsWithinRadius-image_of, received-image_of}
+use Rattle.p25_units.specs.{Fixes.{fixes_of}, UnitParts.{UnitParts}, Units.{IsSendableUnit, IsSoundFrame, filled_frame, frame_length_of, image_octets, image_of}, declared.frame.Frame.{Frame}}
+use Rattle.p25_units.specs.{declared.item.Item.{Item}, declared.item.Item.TheVariants.{Whole}}
+use Rattle.p25_units.proofs.{FixesLaws.{fixes_of-image_of}, ReadingsLaws.{IsWholeBody-sendable}, UnitsLaws.{length-image_of}, WithinRadiusLaws.{IsWithinRadius-image_of, received-image_of}}
 use Rattle.p25_stream.specs.Arrivals.{Arrival, IsNearArrival, whole_of, wholes_of}
 use Rattle.p25_stream.proofs.ArrivalLaws.{wholes_of-cons, wholes_of-nil}
-use Rattle.p25_filter.specs.declared.ending.Ending.{Ending}
-use Rattle.p25_filter.specs.Lines.{closing_by, lines_in, refusal_in}
+use Rattle.p25_filter.specs.{declared.ending.Ending.{Ending}, Lines.{closing_by, lines_in, refusal_in}}
 use Rattle.p25_filter.proofs.LinesLaws.{read_of-err, read_of-nil, read_of-ok}
-use Rattle.p25_tool.specs.Built.{AcceptedAreRead, BuildsUnits, LinesAreTexts, bits_built, units_of, wholes_built}
-use Rattle.p25_tool.specs.declared.command.Command.TheVariants.{Build}
-use Rattle.p25_tool.specs.Outputs.{output_by}
-use Rattle.p25_recording_filters.specs.ItemOutputs.{shown}
+use Rattle.p25_tool.specs.{Built.{AcceptedAreRead, BuildsUnits, LinesAreTexts, bits_built, units_of, wholes_built}, declared.command.Command.TheVariants.{Build}, Outputs.{output_by}}
 use Rattle.p25_tool.specs.Recorded.{IsRecording}
+use Rattle.p25_recording_filters.specs.ItemOutputs.{shown}
 use Rattle.p25_tool.proofs.RecordedLaws.{items-recording, octet_bits-whole, shows-units, whole-image}
 
 module _ (status : Status) where

@@ -1,38 +1,21 @@
 -- What a call between a source and a sink leaves, by the events that they went through.
 use Rattle.std.proofs.Common.{◌≡◌, ℕ, ◌≤◌, false, List, [], ◌∷◌, ◌++◌, length, Option, Some, None, refl, ap, sym, subst, ◌∙◌, ◌⊎◌, ◌↔◌}
 use Rattle.std.specs.Prelude.{IfSome}
-use Rattle.p25_io.specs.Events.{Event, ReadFailed, Wrote, WriteFailed}
-use Rattle.p25_io.specs.Faults.{Rose}
-use Rattle.p25_io.specs.Pairs.{SinkGoes, SourceGoes}
-use Rattle.p25_filter.specs.Futures.{Future}
-use Rattle.p25_filter.specs.Runs.{Filtered, all_written, input_most}
-use Rattle.p25_filter.specs.Traces.{IsFinalAt, IsMemoryAt, IsRun, Phase, Going, Over, Broken, after_all, at_first}
-use Rattle.p25_filter.specs.declared.ending.Ending.{Ending}
-use Rattle.p25_filter.specs.declared.ending.Ending.TheVariants.{Done}
-use Rattle.p25_filter.specs.declared.ending.FilterEnd.{FilterEnd}
+use Rattle.p25_io.specs.{Events.{Event, ReadFailed, Wrote, WriteFailed}, Faults.{Rose}, Pairs.{SinkGoes, SourceGoes}}
+use Rattle.p25_filter.specs.{Futures.{Future}, Runs.{Filtered, all_written, input_most}, Traces.{IsFinalAt, IsMemoryAt, IsRun, Phase, Going, Over, Broken, after_all, at_first}}
+use Rattle.p25_filter.specs.{declared.ending.Ending.{Ending}, declared.ending.Ending.TheVariants.{Done}, declared.ending.FilterEnd.{FilterEnd}}
 use Rattle.p25_filter.specs.declared.ending.FilterEnd.TheVariants.{Ended, ReadFault as EndedReadFault, WriteFault as EndedWriteFault, TooLong, Memory as NoMemory}
-use Rattle.p25_filter.proofs.RunsLaws.{run-filtered, run-read_fault, run-untouched, run-write_fault}
-use Rattle.p25_filter.proofs.LinesLaws.{Contains-none}
+use Rattle.p25_filter.proofs.{RunsLaws.{run-filtered, run-read_fault, run-untouched, run-write_fault}, LinesLaws.{Contains-none}}
 use Rattle.p25_stations.specs.declared.step.Event.{Event as StationsEvent}
 use Rattle.p25_fragments.specs.declared.long_step.LongEvent.{LongEvent}
 use Rattle.p25_duplex.specs.declared.event.DuplexEvent.{DuplexEvent}
-use Rattle.p25_tool.specs.CallClauses.{CallSays}
-use Rattle.p25_tool.specs.CallRuns.{AreWrites, IsCallRun, IsCommandRun}
-use Rattle.p25_tool.specs.declared.command.Command.{Command}
-use Rattle.p25_tool.specs.declared.command.Command.TheVariants.{Duplex, Fragments, Sample, Stations}
-use Rattle.p25_tool.specs.declared.outcome.Outcome.{Outcome}
-use Rattle.p25_tool.specs.declared.outcome.Outcome.TheVariants.{Done as DoneOutcome, Memory, ReadFault, Usage, WriteFault}
-use Rattle.p25_tool.specs.Outcomes.{ending_outcome, filter_outcome}
-use Rattle.p25_tool.specs.Outputs.{CanWantMemory, command_future}
-use Rattle.p25_tool.specs.Runs.{Ran, answer_of}
-use Rattle.p25_tool.specs.Recorded.{IsRecording}
-use Rattle.p25_tool.specs.RecordedRuns.{HasWrittenUnits, IsUnitCommand}
-use Rattle.p25_tool.specs.Words.{command_of}
+use Rattle.p25_tool.specs.{CallClauses.{CallSays}, CallRuns.{AreWrites, IsCallRun, IsCommandRun}, declared.command.Command.{Command}}
+use Rattle.p25_tool.specs.{declared.command.Command.TheVariants.{Duplex, Fragments, Sample, Stations}, declared.outcome.Outcome.{Outcome}}
+use Rattle.p25_tool.specs.{declared.outcome.Outcome.TheVariants.{Done as DoneOutcome, Memory, ReadFault, Usage, WriteFault}, Outcomes.{ending_outcome, filter_outcome}}
+use Rattle.p25_tool.specs.{Outputs.{CanWantMemory, command_future}, Runs.{Ran, answer_of}, Recorded.{IsRecording}, RecordedRuns.{HasWrittenUnits, IsUnitCommand}, Words.{command_of}}
 use Rattle.p25_tool.specs.Scripts.{HasDuplexRun, HasLongRun, HasRun, IsDuplexScriptOf, IsLongScriptOf, IsScriptOf}
 use Rattle.p25_stream.specs.Arrivals.{Arrival}
-use Rattle.p25_tool.proofs.RecordedRunsLaws.{command-fit, units-run}
-use Rattle.p25_tool.proofs.RunsLaws.{answer-without-faults, memory-command}
-use Rattle.p25_tool.proofs.ScriptsLaws.{duplex-script-run, long-script-run, script-run}
+use Rattle.p25_tool.proofs.{RecordedRunsLaws.{command-fit, units-run}, RunsLaws.{answer-without-faults, memory-command}, ScriptsLaws.{duplex-script-run, long-script-run, script-run}}
 
 -- the run of a command that reads, by what it is named and a future that is its own
 pub alike-run : {P : Type 0} (moves : P → List Event → P → Type 0) (first last : P) (f : Future) (named command : Command) (end : FilterEnd)

@@ -7,18 +7,14 @@ use Rattle.p25_stream.specs.Items.{items_by}
 use Rattle.p25_filter.specs.declared.ending.Ending.TheVariants.{Done}
 use Rattle.p25_filter.proofs.SameLaws.{same-future}
 use Rattle.p25_tool.specs.declared.command.Command.TheVariants.{Show as ShowIt, Check as CheckIt, Follow as FollowIt, Calls as CallsIt, Soft as SoftIt}
-use Rattle.p25_recording_filters.specs.declared.reports.show.Show.{Show}
-use Rattle.p25_recording_filters.specs.declared.reports.check.Check.{Check}
-use Rattle.p25_recording_filters.specs.declared.reports.changed.Change.{Change}
-use Rattle.p25_recording_filters.specs.Commands.{CallsParts, ChangedParts, FollowedParts, calls_reporting, change_of, changed_reporting, check_reporting, followed_reporting, show_reporting}
 use Rattle.p25_tool.specs.Outputs.{command_future, ending_by, items_future}
-use Rattle.p25_recording_filters.specs.ItemOutputs.{changed_bits, check_ending, check_line, faults_in, faulty, units_in, soft_output}
+use Rattle.p25_recording_filters.specs.{declared.reports.show.Show.{Show}, declared.reports.check.Check.{Check}, declared.reports.changed.Change.{Change}}
+use Rattle.p25_recording_filters.specs.Commands.{CallsParts, ChangedParts, FollowedParts, calls_reporting, change_of, changed_reporting, check_reporting, followed_reporting, show_reporting}
+use Rattle.p25_recording_filters.specs.{ItemOutputs.{changed_bits, check_ending, check_line, faults_in, faulty, units_in, soft_output}, Softs.{fresh_soft, soft_future}}
+use Rattle.p25_recording_filters.specs.Recordings.{fresh, recording_future}
 use Rattle.p25_calls.specs.Taking.{fresh_caller}
 use Rattle.p25_follow.specs.Following.{fresh_follow}
-use Rattle.p25_recording_filters.specs.Softs.{fresh_soft, soft_future}
-use Rattle.p25_recording_filters.specs.Recordings.{fresh, recording_future}
-use Rattle.p25_recording_filters.proofs.CallReportsLaws.{reported-calls}
-use Rattle.p25_recording_filters.proofs.ReportsLaws.{behind-check, reported-changed, reported-check, reported-followed, reported-show}
+use Rattle.p25_recording_filters.proofs.{CallReportsLaws.{reported-calls}, ReportsLaws.{behind-check, reported-changed, reported-check, reported-followed, reported-show}}
 
 pub show-alike : (report : Show) → recording_future show_reporting (fresh report) ≡ command_future ShowIt
 unfolding recording_future

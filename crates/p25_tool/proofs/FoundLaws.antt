@@ -1,25 +1,14 @@
 -- A unit within radius among any bits: the items before it and after it are written before its own and after it. `repair` keeps the
 -- number of bits of each item, so the image of the unit stands at its place.
 use Rattle.std.proofs.Common.{◌≡◌, ℕ, ◌+◌, ◌/◌, ◌%◌, ◌≤◌, ◌⊎◌, inl, inr, Bool, true, List, [], ◌∷◌, ◌++◌, length, take, drop, refl, ap, sym, ◌∙◌, subst, arith, append_assoc, append-nil, length-append, length-take}
+use Rattle.std.proofs.{lemmas.Grind.{flat_map-append}, lemmas.List.{drop-drop}, lemmas.List.Sums.{sum_by-cons}}
 use Rattle.std.specs.List.{flat_map, sum_by}
-use Rattle.std.proofs.lemmas.Grind.{flat_map-append}
-use Rattle.std.proofs.lemmas.List.{drop-drop}
-use Rattle.std.proofs.lemmas.List.Sums.{sum_by-cons}
 use Rattle.p25_bits.specs.Bits.{octet_bits, part}
-use Rattle.p25_bits.proofs.BitsLaws.{length-octet_bits}
-use Rattle.p25_bits.proofs.NumbersLaws.{length-numbers_from}
-use Rattle.p25_bits.proofs.PartLaws.{part_joined}
-use Rattle.p25_units.specs.Items.{covered}
-use Rattle.p25_units.specs.Units.{image_of}
-use Rattle.p25_units.specs.declared.item.Item.{Item}
-use Rattle.p25_units.specs.declared.item.Item.TheVariants.{Whole, Broken, NoUnit, Gap, Cut}
+use Rattle.p25_bits.proofs.{BitsLaws.{length-octet_bits}, NumbersLaws.{length-numbers_from}, PartLaws.{part_joined}}
+use Rattle.p25_units.specs.{Items.{covered}, Units.{image_of}, declared.item.Item.{Item}, declared.item.Item.TheVariants.{Whole, Broken, NoUnit, Gap, Cut}}
 use Rattle.p25_units.proofs.UnitsLaws.{length-image_of}
-use Rattle.p25_stream.specs.Arrivals.{Arrival, IsFound, IsHidden, IsNearArrival, frame_arrived, whole_of}
-use Rattle.p25_stream.specs.Items.{first_item, items_of}
-use Rattle.p25_stream.specs.Repeats.{repaired}
-use Rattle.p25_stream.proofs.ArrivalLaws.{covered-whole_of, frame_arrived-sound, unit-found}
-use Rattle.p25_stream.proofs.ItemLaws.{covered-items_of, whole-within}
-use Rattle.p25_stream.proofs.ItemsLaws.{covered-first_item, items_by-first}
+use Rattle.p25_stream.specs.{Arrivals.{Arrival, IsFound, IsHidden, IsNearArrival, frame_arrived, whole_of}, Items.{first_item, items_of}, Repeats.{repaired}}
+use Rattle.p25_stream.proofs.{ArrivalLaws.{covered-whole_of, frame_arrived-sound, unit-found}, ItemLaws.{covered-items_of, whole-within}, ItemsLaws.{covered-first_item, items_by-first}}
 use Rattle.p25_recording_filters.specs.ItemOutputs.{changed_bits, shown}
 use Rattle.p25_tool.specs.Recorded.{RepairKeepsLength, RepairsEachUnit, ShowsEachUnit}
 use Rattle.p25_tool.proofs.RecordedLaws.{octet_bits-whole}

@@ -1,30 +1,19 @@
 -- Recordings of units within radius: their items are known, so each command writes what it writes of whole units, by induction on the
 -- list of units. Images have 72 bits for each status symbol, so they fill whole octets.
 use Rattle.std.proofs.Common.{◌≡◌, ℕ, ◌+◌, ◌*◌, ◌/◌, ◌%◌, ◌<◌, Bool, true, false, List, [], ◌∷◌, ◌++◌, length, map, take, drop, replicate, refl, ap, ap₂, sym, subst, ◌∙◌, arith, append-nil, length-append}
-use Rattle.std.specs.Prelude.{All, Option, Some, None}
-use Rattle.std.specs.List.{flat_map}
-use Rattle.std.proofs.lemmas.List.{drop-append-le, drop_all, length-replicate, take-append-le, take_all}
-use Rattle.std.proofs.lemmas.List.Elements.{All-head, All-map, All-tail, All-weaker}
+use Rattle.std.proofs.{lemmas.List.{drop-append-le, drop_all, length-replicate, take-append-le, take_all}, lemmas.List.Elements.{All-head, All-map, All-tail, All-weaker}}
 use Rattle.std.proofs.lemmas.List.Folds.{flat_map-map}
+use Rattle.std.specs.{Prelude.{All, Option, Some, None}, List.{flat_map}}
 use Rattle.p25_bits.specs.Bits.{octet_bits}
 use Rattle.p25_bits.proofs.NumbersLaws.{number_bits-numbers_from, number_bits-octets}
 use Rattle.p25_status.specs.declared.symbols.Status.{Status}
-use Rattle.p25_units.specs.Items.{covered}
-use Rattle.p25_units.specs.Units.{IsSendableUnit, IsSoundFrame, image_of, whole_octets}
-use Rattle.p25_units.specs.declared.frame.Frame.{Frame}
-use Rattle.p25_units.specs.declared.item.Item.{Item}
+use Rattle.p25_units.specs.{Items.{covered}, Units.{IsSendableUnit, IsSoundFrame, image_of, whole_octets}, declared.frame.Frame.{Frame}, declared.item.Item.{Item}}
 use Rattle.p25_units.specs.declared.item.Item.TheVariants.{Whole}
-use Rattle.p25_units.proofs.UnitsLaws.{IsSoundFrame-frame_as, length-image_of-blocks}
-use Rattle.p25_units.proofs.WithinRadiusLaws.{IsWithinRadius-image_of, received-image_of}
-use Rattle.p25_stream.specs.Arrivals.{Arrival, IsNearArrival, bits_arrived, frame_arrived, whole_of, wholes_of}
-use Rattle.p25_stream.specs.Items.{items_by}
-use Rattle.p25_stream.specs.Repeats.{bridged, bridged_frame, repaired}
-use Rattle.p25_stream.proofs.ArrivalLaws.{covered-whole_of, frame_arrived-sound, units-whole, wholes_of-cons, wholes_of-nil}
-use Rattle.p25_stream.proofs.ItemsLaws.{items_by-nil}
-use Rattle.p25_follow.specs.Followed.{followed_by, unit_name}
-use Rattle.p25_follow.specs.Relayed.{relayed}
-use Rattle.p25_follow.proofs.ChainLaws.{chain_by-nil}
-use Rattle.p25_follow.proofs.FollowingLaws.{followed-end, followed-unit}
+use Rattle.p25_units.proofs.{UnitsLaws.{IsSoundFrame-frame_as, length-image_of-blocks}, WithinRadiusLaws.{IsWithinRadius-image_of, received-image_of}}
+use Rattle.p25_stream.specs.{Arrivals.{Arrival, IsNearArrival, bits_arrived, frame_arrived, whole_of, wholes_of}, Items.{items_by}, Repeats.{bridged, bridged_frame, repaired}}
+use Rattle.p25_stream.proofs.{ArrivalLaws.{covered-whole_of, frame_arrived-sound, units-whole, wholes_of-cons, wholes_of-nil}, ItemsLaws.{items_by-nil}}
+use Rattle.p25_follow.specs.{Followed.{followed_by, unit_name}, Relayed.{relayed}}
+use Rattle.p25_follow.proofs.{ChainLaws.{chain_by-nil}, FollowingLaws.{followed-end, followed-unit}}
 use Rattle.p25_recording_filters.specs.ItemOutputs.{changed_bits, check_ending, check_line, faults_in, faulty, shown, units_in}
 use Rattle.p25_tool.specs.Recorded.{AreOctetsOf, BridgesUnits, ChecksUnits, FollowsUnits, IsRecording, RelaysItself, RelaysUnits, images_bridged, RepairedIsRecorded, RepairsUnits, ShowsUnits, UnitsAreRecorded, undamaged}
 

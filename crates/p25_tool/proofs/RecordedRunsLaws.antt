@@ -1,30 +1,17 @@
 -- A recording of units within radius: a command that works on units ends as Done, and wrote what its law of recordings says.
 use Rattle.std.proofs.Common.{◌≡◌, ℕ, ◌<◌, ◌≤◌, Bool, true, false, cond, nat_eq, List, [], ◌∷◌, length, codes, Option, Some, None, ◌⊎◌, inl, inr, refl, ap, sym, subst, ◌∙◌, arith}
-use Rattle.std.specs.Prelude.{option_map}
-use Rattle.std.specs.Str.{bytes_eq}
+use Rattle.std.specs.{Prelude.{option_map}, Str.{bytes_eq}}
 use Rattle.p25_status.specs.declared.symbols.Status.{Status}
 use Rattle.p25_text.specs.Values.{nac_in}
 use Rattle.p25_text.proofs.ValueLaws.{nac_in-text}
 use Rattle.p25_line.specs.Values.{number_below}
 use Rattle.p25_stream.specs.Arrivals.{Arrival}
-use Rattle.p25_filter.specs.Runs.{Filtered, input_most}
-use Rattle.p25_filter.specs.declared.ending.Ending.{Ending}
-use Rattle.p25_filter.specs.declared.ending.Ending.TheVariants.{Done as EndDone}
-use Rattle.p25_filter.specs.declared.ending.FilterEnd.{FilterEnd}
-use Rattle.p25_tool.specs.declared.command.Command.{Command}
-use Rattle.p25_tool.specs.declared.command.Command.TheVariants.{Show, Check, Repair, Bridge, Relay, Follow, Build, Sample}
-use Rattle.p25_tool.specs.declared.outcome.Outcome.{Outcome}
-use Rattle.p25_tool.specs.declared.outcome.Outcome.TheVariants.{Done, Memory, TooLong}
-use Rattle.p25_tool.specs.Outcomes.{filter_outcome}
-use Rattle.p25_tool.specs.Outputs.{CanWantMemory, command_future, ending_by, output_by}
-use Rattle.p25_tool.specs.Recorded.{IsRecording}
-use Rattle.p25_tool.specs.RecordedRuns.{AreWrittenOf, HasWrittenUnits, IsUnitCommand}
-use Rattle.p25_tool.specs.Runs.{answer_of, ending_or}
-use Rattle.p25_tool.specs.Words.{command_of, forwarded, forwarding_of, one_word_command, sample_of, status_in}
-use Rattle.p25_tool.specs.Written.{HasEnded}
-use Rattle.p25_tool.proofs.RecordedLaws.{bridges-units, checks-units, follows-arrived, relays-units, repairs-units, shows-units}
-use Rattle.p25_tool.proofs.RunsLaws.{answer-short}
-use Rattle.p25_tool.proofs.WrittenLaws.{ended-wrote}
+use Rattle.p25_filter.specs.{Runs.{Filtered, input_most}, declared.ending.Ending.{Ending}, declared.ending.Ending.TheVariants.{Done as EndDone}, declared.ending.FilterEnd.{FilterEnd}}
+use Rattle.p25_tool.specs.{declared.command.Command.{Command}, declared.command.Command.TheVariants.{Show, Check, Repair, Bridge, Relay, Follow, Build, Sample}, declared.outcome.Outcome.{Outcome}}
+use Rattle.p25_tool.specs.{declared.outcome.Outcome.TheVariants.{Done, Memory, TooLong}, Outcomes.{filter_outcome}, Outputs.{CanWantMemory, command_future, ending_by, output_by}}
+use Rattle.p25_tool.specs.{Recorded.{IsRecording}, RecordedRuns.{AreWrittenOf, HasWrittenUnits, IsUnitCommand}, Runs.{answer_of, ending_or}}
+use Rattle.p25_tool.specs.{Words.{command_of, forwarded, forwarding_of, one_word_command, sample_of, status_in}, Written.{HasEnded}}
+use Rattle.p25_tool.proofs.{RecordedLaws.{bridges-units, checks-units, follows-arrived, relays-units, repairs-units, shows-units}, RunsLaws.{answer-short}, WrittenLaws.{ended-wrote}}
 
 -- where a command forwards under a network access code, the code is one
 abbrev pub HasFitCode : Command → Type 0

@@ -1,23 +1,13 @@
 -- The outcome of work on an input without faults.
 use Rattle.std.proofs.Common.{◌≡◌, ℕ, ◌-◌, ◌<◌, ◌≤◌, Bool, true, false, cond, nat_lt, List, [], ◌++◌, length, take, Option, Some, refl, ap, sym, subst, ◌∙◌, arith, append-nil, length-append, ◌⊎◌, inl, inr}
+use Rattle.std.proofs.{lemmas.List.{take_all, take-append-le}, lemmas.Bool.{cases_lt}, lemmas.Bool.Decides.{nat_tests}}
 use Rattle.std.specs.Prelude.{IfSome}
-use Rattle.std.proofs.lemmas.List.{take_all, take-append-le}
-use Rattle.std.proofs.lemmas.Bool.{cases_lt}
-use Rattle.std.proofs.lemmas.Bool.Decides.{nat_tests}
 use Rattle.p25_io.specs.Octets.{Taken}
-use Rattle.p25_filter.specs.Runs.{IsFinal, IsTooLong, Filtered, input_most}
-use Rattle.p25_filter.specs.declared.ending.Ending.{Ending}
-use Rattle.p25_filter.specs.declared.ending.Ending.TheVariants.{Done}
-use Rattle.p25_filter.specs.declared.ending.FilterEnd.{FilterEnd}
+use Rattle.p25_filter.specs.{Runs.{IsFinal, IsTooLong, Filtered, input_most}, declared.ending.Ending.{Ending}, declared.ending.Ending.TheVariants.{Done}, declared.ending.FilterEnd.{FilterEnd}}
 use Rattle.p25_filter.specs.declared.ending.FilterEnd.TheVariants.{Ended, ReadFault, WriteFault, TooLong as InputTooLong, Memory as NoMemory}
-use Rattle.p25_filter.proofs.LinesLaws.{Contains-none}
-use Rattle.p25_filter.proofs.RunsLaws.{ended-input, first-take, told-parts}
-use Rattle.p25_tool.specs.declared.command.Command.{Command}
-use Rattle.p25_tool.specs.declared.command.Command.TheVariants.{Stations, Duplex, Fragments}
-use Rattle.p25_tool.specs.declared.outcome.Outcome.{Outcome}
-use Rattle.p25_tool.specs.declared.outcome.Outcome.TheVariants.{TooLong, Memory}
-use Rattle.p25_tool.specs.Outcomes.{ending_outcome, filter_outcome}
-use Rattle.p25_tool.specs.Outputs.{CanWantMemory, command_future, ending_by}
+use Rattle.p25_filter.proofs.{LinesLaws.{Contains-none}, RunsLaws.{ended-input, first-take, told-parts}}
+use Rattle.p25_tool.specs.{declared.command.Command.{Command}, declared.command.Command.TheVariants.{Stations, Duplex, Fragments}, declared.outcome.Outcome.{Outcome}}
+use Rattle.p25_tool.specs.{declared.outcome.Outcome.TheVariants.{TooLong, Memory}, Outcomes.{ending_outcome, filter_outcome}, Outputs.{CanWantMemory, command_future, ending_by}}
 use Rattle.p25_tool.specs.Runs.{answer_of, ending_or}
 
 -- the first octets of an input begin with those of the octets that were taken from it

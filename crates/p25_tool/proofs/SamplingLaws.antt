@@ -1,11 +1,8 @@
 -- The work of `sample`: the write of its line is a live run, whatever input there is.
 use Rattle.std.proofs.Common.{◌≡◌, ℕ, ◌<◌, ◌≤◌, List, [], ◌∷◌, length, refl, sym, arith, append-nil}
 use Rattle.p25_io.specs.Events.{Wrote, WriteFailed}
-use Rattle.p25_filter.specs.Traces.{IsDue, IsRun, at_first}
-use Rattle.p25_filter.specs.declared.ending.Ending.TheVariants.{Done}
-use Rattle.p25_filter.specs.declared.ending.FilterEnd.TheVariants.{Ended, WriteFault}
-use Rattle.p25_tool.specs.declared.command.Command.TheVariants.{Sample}
-use Rattle.p25_tool.specs.Outputs.{command_future, sample_line}
+use Rattle.p25_filter.specs.{Traces.{IsDue, IsRun, at_first}, declared.ending.Ending.TheVariants.{Done}, declared.ending.FilterEnd.TheVariants.{Ended, WriteFault}}
+use Rattle.p25_tool.specs.{declared.command.Command.TheVariants.{Sample}, Outputs.{command_future, sample_line}}
 
 some-line : (line : List ℕ) (first : ℕ) (rest : List ℕ) → line ≡ first ∷ rest → 0 < length line
 some-line [] first rest same = cc

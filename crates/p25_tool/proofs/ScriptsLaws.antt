@@ -1,57 +1,33 @@
 -- A script whose lines are all read: they are read as its events and none is refused, by induction on the lines; and what stands
 -- when its run is done. For any machine that reads each line by itself.
 use Rattle.std.proofs.Common.{◌≡◌, ℕ, ◌+◌, ◌≤◌, Bool, true, false, nat_lt, List, [], ◌∷◌, ◌++◌, length, map, take, Option, Some, None, Result, Ok, Err, ◌⊎◌, inl, inr, refl, ap, ap₂, sym, ◌∙◌, arith}
-use Rattle.std.specs.Prelude.{IfSome}
-use Rattle.std.specs.List.{flat_map}
-use Rattle.std.proofs.lemmas.List.{take_all}
-use Rattle.std.proofs.lemmas.Bool.Decides.{nat_tests}
-use Rattle.std.proofs.lemmas.Bool.{cond-false}
+use Rattle.std.proofs.{lemmas.List.{take_all}, lemmas.Bool.Decides.{nat_tests}, lemmas.Bool.{cond-false}}
+use Rattle.std.specs.{Prelude.{IfSome}, List.{flat_map}}
 use Rattle.p25_delivery.specs.Runs.{EachIs}
 use Rattle.p25_io.specs.Octets.{Appended}
 use Rattle.p25_io.proofs.OctetsLaws.{Appended-same}
 use Rattle.p25_line.specs.declared.fault.LineFault.{LineFault}
-use Rattle.p25_stations.specs.Runs.{IsCleanRun, IsEvent, steps_of, world_run}
-use Rattle.p25_stations.specs.WorldState.{first_world}
-use Rattle.p25_stations.specs.declared.step.Event.{Event}
-use Rattle.p25_stations.proofs.CleanLaws.{run-orderly}
-use Rattle.p25_stations.proofs.FalsePassLaws.{clean-from_none}
-use Rattle.p25_stations.proofs.StepListsLaws.{run-acknowledged, run-delivered, run-sent}
+use Rattle.p25_stations.specs.{Runs.{IsCleanRun, IsEvent, steps_of, world_run}, WorldState.{first_world}, declared.step.Event.{Event}}
+use Rattle.p25_stations.proofs.{CleanLaws.{run-orderly}, FalsePassLaws.{clean-from_none}, StepListsLaws.{run-acknowledged, run-delivered, run-sent}}
 use Rattle.p25_script.specs.Script.{event_of}
 use Rattle.p25_script.proofs.ScriptLaws.{IsEvent-IsScripted, IsLineOf-event_of}
-use Rattle.p25_fragments.specs.LongState.{first_long}
-use Rattle.p25_fragments.specs.LongRuns.{IsCleanLongRun, IsLongEvent, long_run, long_steps_of}
-use Rattle.p25_fragments.specs.declared.long_step.LongEvent.{LongEvent}
+use Rattle.p25_fragments.specs.{LongState.{first_long}, LongRuns.{IsCleanLongRun, IsLongEvent, long_run, long_steps_of}, declared.long_step.LongEvent.{LongEvent}}
 use Rattle.p25_fragments.specs.declared.long_step.LongEvent.TheVariants.{Long, Inner}
-use Rattle.p25_fragments.proofs.LongHistoryLaws.{long-clean}
-use Rattle.p25_fragments.proofs.LongListsLaws.{run-finished, run-taken, run-whole}
-use Rattle.p25_fragments.proofs.LongRunLaws.{long-orderly, long-unrefused}
-use Rattle.p25_fragment_script.specs.LongScript.{IsLongScripted, long_event_of}
-use Rattle.p25_fragment_script.specs.LongTexts.{long_step_text_of}
+use Rattle.p25_fragments.proofs.{LongHistoryLaws.{long-clean}, LongListsLaws.{run-finished, run-taken, run-whole}, LongRunLaws.{long-orderly, long-unrefused}}
+use Rattle.p25_fragment_script.specs.{LongScript.{IsLongScripted, long_event_of}, LongTexts.{long_step_text_of}}
 use Rattle.p25_fragment_script.proofs.LongScriptLaws.{IsLineOf-long_event_of}
-use Rattle.p25_duplex.specs.declared.event.DuplexEvent.{DuplexEvent}
-use Rattle.p25_duplex.specs.declared.side.Side.{Side}
-use Rattle.p25_duplex.specs.declared.side.Side.TheVariants.{A, B}
-use Rattle.p25_duplex.specs.DuplexSteps.{first_duplex}
+use Rattle.p25_duplex.specs.{declared.event.DuplexEvent.{DuplexEvent}, declared.side.Side.{Side}, declared.side.Side.TheVariants.{A, B}, DuplexSteps.{first_duplex}}
 use Rattle.p25_duplex.specs.DuplexRuns.{IsCleanDuplex, IsDuplexEvent, duplex_run, duplex_steps}
-use Rattle.p25_duplex.proofs.CountLaws.{clean-from_none as duplex-clean}
-use Rattle.p25_duplex.proofs.DuplexListsLaws.{run-acknowledged as duplex-acknowledged, run-heard, run-sent as duplex-sent}
+use Rattle.p25_duplex.proofs.{CountLaws.{clean-from_none as duplex-clean}, DuplexListsLaws.{run-acknowledged as duplex-acknowledged, run-heard, run-sent as duplex-sent}}
 use Rattle.p25_duplex.proofs.RunLaws.{run-orderly as duplex-orderly}
 use Rattle.p25_duplex_script.specs.DuplexLines.{duplex_event_of}
 use Rattle.p25_duplex_script.proofs.DuplexLineLaws.{read-event}
-use Rattle.p25_filter.specs.declared.ending.Ending.{Ending}
-use Rattle.p25_filter.specs.declared.ending.Ending.TheVariants.{Done as EndDone}
-use Rattle.p25_filter.specs.declared.ending.FilterEnd.{FilterEnd}
-use Rattle.p25_filter.specs.declared.ending.FilterEnd.TheVariants.{Ended}
-use Rattle.p25_filter.specs.Futures.{Future}
-use Rattle.p25_filter.specs.Lines.{closing_by, lines_ending, lines_future, lines_in, read_of, refusal_in}
+use Rattle.p25_filter.specs.{declared.ending.Ending.{Ending}, declared.ending.Ending.TheVariants.{Done as EndDone}, declared.ending.FilterEnd.{FilterEnd}}
+use Rattle.p25_filter.specs.{declared.ending.FilterEnd.TheVariants.{Ended}, Futures.{Future}, Lines.{closing_by, lines_ending, lines_future, lines_in, read_of, refusal_in}}
 use Rattle.p25_filter.specs.Runs.{IsFinal, Filtered, input_most}
-use Rattle.p25_filter.proofs.LinesLaws.{read_of-nil, read_of-ok, refusal_in-err, refusal_in-nil, refusal_in-ok}
-use Rattle.p25_filter.proofs.RunsLaws.{ended-input}
-use Rattle.p25_tool.specs.declared.command.Command.{Command}
-use Rattle.p25_tool.specs.declared.command.Command.TheVariants.{Stations, Fragments, Duplex}
-use Rattle.p25_tool.specs.declared.outcome.Outcome.{Outcome}
-use Rattle.p25_tool.specs.declared.outcome.Outcome.TheVariants.{Done, Memory, TooLong as OutcomeTooLong}
-use Rattle.p25_tool.specs.Outcomes.{ending_outcome, filter_outcome}
+use Rattle.p25_filter.proofs.{LinesLaws.{read_of-nil, read_of-ok, refusal_in-err, refusal_in-nil, refusal_in-ok}, RunsLaws.{ended-input}}
+use Rattle.p25_tool.specs.{declared.command.Command.{Command}, declared.command.Command.TheVariants.{Stations, Fragments, Duplex}, declared.outcome.Outcome.{Outcome}}
+use Rattle.p25_tool.specs.{declared.outcome.Outcome.TheVariants.{Done, Memory, TooLong as OutcomeTooLong}, Outcomes.{ending_outcome, filter_outcome}}
 use Rattle.p25_tool.specs.Outputs.{CanWantMemory, closing_line, command_future, duplex_closing_lines, duplex_step_line, ending_by, long_closing_line, output_by, step_line}
 use Rattle.p25_tool.specs.Runs.{answer_of, ending_or}
 use Rattle.p25_tool.specs.Scripts.{HasDuplexRun, HasLongRun, HasRun, IsDuplexScriptOf, IsLongScriptOf, IsOrderlyLongRun, IsRunOf, IsScript, IsScriptOf, TellsLists, TellsListsOf, TellsLongLists}

@@ -1,24 +1,12 @@
 -- What a call comes to on streams that tell what they hold: what it comes to between a source and a sink that went through its events.
 use Rattle.std.proofs.Common.{◌≡◌, ℕ, true, List, ◌++◌, Option, Some, None, ap, sym, subst, ◌∙◌, arith}
 use Rattle.std.specs.Prelude.{IfSome}
-use Rattle.p25_io.specs.Events.{Event}
-use Rattle.p25_io.specs.Faults.{Rose}
-use Rattle.p25_io.specs.Streams.{StreamsGo, octets_read, octets_written, reader_in, writer_in}
-use Rattle.p25_io.specs.declared.streams.Streams.{Streams}
-use Rattle.p25_filter.specs.Futures.{Future}
-use Rattle.p25_filter.specs.Traces.{HasReadFault, HasWriteFault, IsLive, at_first}
+use Rattle.p25_io.specs.{Events.{Event}, Faults.{Rose}, Streams.{StreamsGo, octets_read, octets_written, reader_in, writer_in}, declared.streams.Streams.{Streams}}
+use Rattle.p25_filter.specs.{Futures.{Future}, Traces.{HasReadFault, HasWriteFault, IsLive, at_first}}
 use Rattle.p25_filter.proofs.StreamsLaws.{Told, ended-told, faults_told, octets_told, read-rose, read-told, read_faults, sink-chain, source-chain, write-rose, write_faults, wrote-told}
-use Rattle.p25_tool.specs.CallClauses.{CallSays}
-use Rattle.p25_tool.specs.CallRuns.{IsCallRun}
-use Rattle.p25_tool.specs.Outputs.{command_future, output_by}
-use Rattle.p25_tool.specs.Runs.{Ran}
-use Rattle.p25_tool.specs.Words.{command_of}
-use Rattle.p25_tool.specs.Written.{HasEnded}
-use Rattle.p25_tool.specs.declared.command.Command.{Command}
-use Rattle.p25_tool.specs.declared.command.Command.TheVariants.{Show}
-use Rattle.p25_tool.specs.declared.outcome.Outcome.{Outcome}
-use Rattle.p25_tool.proofs.CallRunsLaws.{call-says}
-use Rattle.p25_tool.proofs.WrittenLaws.{all-written}
+use Rattle.p25_tool.specs.{CallClauses.{CallSays}, CallRuns.{IsCallRun}, Outputs.{command_future, output_by}, Runs.{Ran}, Words.{command_of}, Written.{HasEnded}, declared.command.Command.{Command}}
+use Rattle.p25_tool.specs.{declared.command.Command.TheVariants.{Show}, declared.outcome.Outcome.{Outcome}}
+use Rattle.p25_tool.proofs.{CallRunsLaws.{call-says}, WrittenLaws.{all-written}}
 
 -- the events of a call are live, by the command that is named, if one is
 live-events : (named : Option Command) (events : List Event) (outcome : Outcome) → IsCallRun named events outcome → (future : Future) × IsLive future at_first events

@@ -1,17 +1,12 @@
 -- What `follow` and `relay` write of any recording: their definitions over bits, which keep the number of bits, so that they fill the octets.
 use Rattle.std.proofs.Common.{◌≡◌, ℕ, ◌/◌, Bool, true, List, [], ◌∷◌, ◌++◌, length, take, drop, None, refl, ap, ◌∙◌, arith}
 use Rattle.p25_bits.specs.Bits.{octet_bits}
-use Rattle.p25_bits.proofs.BitsLaws.{length-octet_bits}
-use Rattle.p25_bits.proofs.NumbersLaws.{length-numbers_from}
+use Rattle.p25_bits.proofs.{BitsLaws.{length-octet_bits}, NumbersLaws.{length-numbers_from}}
 use Rattle.p25_status.specs.declared.symbols.Status.{Status}
-use Rattle.p25_units.specs.Items.{covered}
-use Rattle.p25_units.specs.Units.{whole_octets}
-use Rattle.p25_units.specs.declared.item.Item.{Item}
+use Rattle.p25_units.specs.{Items.{covered}, Units.{whole_octets}, declared.item.Item.{Item}}
 use Rattle.p25_stream.specs.Items.{items_of}
-use Rattle.p25_follow.specs.Followed.{follow_of, followed_by}
-use Rattle.p25_follow.specs.Relayed.{relay_of, relayed, relayed_by}
-use Rattle.p25_follow.proofs.LengthLaws.{length-follow_of}
-use Rattle.p25_follow.proofs.RelayedPlacesLaws.{relay-long}
+use Rattle.p25_follow.specs.{Followed.{follow_of, followed_by}, Relayed.{relay_of, relayed, relayed_by}}
+use Rattle.p25_follow.proofs.{LengthLaws.{length-follow_of}, RelayedPlacesLaws.{relay-long}}
 use Rattle.p25_recording_filters.specs.ItemOutputs.{changed_bits}
 use Rattle.p25_tool.specs.Recorded.{AreOctetsOf, FollowsRecording, RelaysRecording}
 use Rattle.p25_tool.proofs.RecordedLaws.{octet_bits-whole}

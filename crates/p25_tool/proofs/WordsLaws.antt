@@ -1,8 +1,7 @@
 -- The number that a word is, and the status symbol of one of its digits.
 use Rattle.std.proofs.Common.{◌≡◌, ◌≢◌, ℕ, ◌+◌, ◌<◌, ◌≤◌, List, Option, Some, None, refl, ap, sym, subst, ◌∙◌, arith, false, true}
 use Rattle.std.specs.Prelude.{IfSome, IsSome, MatchOption, decimal, option_map, ◌↔◌}
-use Rattle.p25_status.specs.Status.{same_status, status_modulo, status_number}
-use Rattle.p25_status.specs.declared.symbols.Status.{Status}
+use Rattle.p25_status.specs.{Status.{same_status, status_modulo, status_number}, declared.symbols.Status.{Status}}
 use Rattle.p25_line.specs.Values.{number_below}
 use Rattle.p25_line.proofs.NumberLaws.{number_below-decimal, number_below-none}
 use Rattle.p25_tool.specs.Words.{status_in}

@@ -1,27 +1,18 @@
 -- A call that came to the end of its input wrote the output of all of it: what ends a call before that is a line that is refused.
-use Rattle.std.proofs.Common.{◌≡◌, ℕ, ◌+◌, ◌≤◌, Bool, true, false, List, [], ◌∷◌, length, take, Option, Some, None, Result, Ok, Err, refl, ap, sym, ◌∙◌, subst}
+use Rattle.std.proofs.{Common.{◌≡◌, ℕ, ◌+◌, ◌≤◌, Bool, true, false, List, [], ◌∷◌, length, take, Option, Some, None, Result, Ok, Err, refl, ap, sym, ◌∙◌, subst}, lemmas.List.{take_all}}
 use Rattle.std.specs.Prelude.{IfSome}
-use Rattle.std.proofs.lemmas.List.{take_all}
 use Rattle.p25_io.specs.Octets.{Appended}
 use Rattle.p25_io.proofs.OctetsLaws.{Appended-same}
 use Rattle.p25_line.specs.declared.fault.LineFault.{LineFault}
 use Rattle.p25_text.specs.Grammar.{read_line_of}
 use Rattle.p25_script.specs.Script.{event_of}
 use Rattle.p25_fragment_script.specs.LongScript.{long_event_of}
-use Rattle.p25_filter.specs.Lines.{lines_ending, lines_in, refusal_in}
-use Rattle.p25_filter.proofs.LinesLaws.{refusal_in-err, refusal_in-nil, refusal_in-ok}
-use Rattle.p25_filter.specs.Runs.{IsFinal, Filtered, input_most}
-use Rattle.p25_filter.proofs.RunsLaws.{ended-input}
-use Rattle.p25_filter.specs.declared.ending.Ending.{Ending}
-use Rattle.p25_filter.specs.declared.ending.Ending.TheVariants.{BadLine}
-use Rattle.p25_filter.specs.declared.ending.FilterEnd.{FilterEnd}
-use Rattle.p25_filter.specs.declared.ending.FilterEnd.TheVariants.{Ended}
-use Rattle.p25_tool.specs.declared.command.Command.{Command}
-use Rattle.p25_tool.specs.declared.command.Command.TheVariants.{Build, Stations, Fragments, Duplex, Sample}
+use Rattle.p25_filter.specs.{Lines.{lines_ending, lines_in, refusal_in}, Runs.{IsFinal, Filtered, input_most}, declared.ending.Ending.{Ending}, declared.ending.Ending.TheVariants.{BadLine}}
+use Rattle.p25_filter.specs.{declared.ending.FilterEnd.{FilterEnd}, declared.ending.FilterEnd.TheVariants.{Ended}}
+use Rattle.p25_filter.proofs.{LinesLaws.{refusal_in-err, refusal_in-nil, refusal_in-ok}, RunsLaws.{ended-input}}
+use Rattle.p25_tool.specs.{declared.command.Command.{Command}, declared.command.Command.TheVariants.{Build, Stations, Fragments, Duplex, Sample}, Outcomes.{ending_outcome, filter_outcome}}
+use Rattle.p25_tool.specs.{Outputs.{command_future, ending_by, output_by}, Written.{AllIsWritten, HasEnded}}
 use Rattle.p25_duplex_script.specs.DuplexLines.{duplex_event_of}
-use Rattle.p25_tool.specs.Outcomes.{ending_outcome, filter_outcome}
-use Rattle.p25_tool.specs.Outputs.{command_future, ending_by, output_by}
-use Rattle.p25_tool.specs.Written.{AllIsWritten, HasEnded}
 
 -- a line that is refused is no end of the input, whatever lines are read as
 module _ {E : Type 0} (read : List ℕ → Result E LineFault) where

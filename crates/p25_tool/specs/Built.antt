@@ -1,17 +1,13 @@
 -- What becomes of what `build` writes: the units of the lines, undamaged, end to end.
-use Rattle.std.specs.Prelude.{◌≡◌, ℕ, ◌+◌, Bool, true, List, [], ◌∷◌, length, map, take, Ok}
-use Rattle.std.specs.List.{flat_map}
+use Rattle.std.specs.{Prelude.{◌≡◌, ℕ, ◌+◌, Bool, true, List, [], ◌∷◌, length, map, take, Ok}, List.{flat_map}}
 use Rattle.p25_bits.specs.Bits.{octet_bits}
 use Rattle.p25_status.specs.declared.symbols.Status.{Status}
 use Rattle.p25_text.specs.Grammar.{read_line_of, text_of}
-use Rattle.p25_units.specs.UnitParts.{UnitParts}
-use Rattle.p25_units.specs.Units.{filled_frame, frame_length_of, image_of}
-use Rattle.p25_units.specs.declared.item.Item.{Item}
+use Rattle.p25_units.specs.{UnitParts.{UnitParts}, Units.{filled_frame, frame_length_of, image_of}, declared.item.Item.{Item}}
 use Rattle.p25_units.specs.declared.item.Item.TheVariants.{Whole}
 use Rattle.p25_stream.specs.Items.{items_of}
 use Rattle.p25_filter.specs.Lines.{lines_in, read_of}
-use Rattle.p25_tool.specs.declared.command.Command.TheVariants.{Show, Build}
-use Rattle.p25_tool.specs.Outputs.{output_by}
+use Rattle.p25_tool.specs.{declared.command.Command.TheVariants.{Show, Build}, Outputs.{output_by}}
 use Rattle.p25_recording_filters.specs.ItemOutputs.{shown}
 
 -- the bits of units with one status symbol everywhere, end to end

@@ -5,15 +5,10 @@ use Rattle.p25_stations.specs.declared.step.Event.{Event}
 use Rattle.p25_fragments.specs.declared.long_step.LongEvent.{LongEvent}
 use Rattle.p25_duplex.specs.declared.event.DuplexEvent.{DuplexEvent}
 use Rattle.p25_filter.specs.Runs.{all_written, input_most}
-use Rattle.p25_tool.specs.declared.command.Command.{Command}
-use Rattle.p25_tool.specs.declared.command.Command.TheVariants.{Duplex, Fragments, Sample, Stations}
-use Rattle.p25_tool.specs.declared.outcome.Outcome.{Outcome}
-use Rattle.p25_tool.specs.declared.outcome.Outcome.TheVariants.{Done, Memory, ReadFault, Usage, WriteFault}
-use Rattle.p25_tool.specs.Outputs.{CanWantMemory, command_future}
-use Rattle.p25_tool.specs.Recorded.{IsRecording}
-use Rattle.p25_tool.specs.RecordedRuns.{HasWrittenUnits, IsUnitCommand}
-use Rattle.p25_tool.specs.Runs.{Ran, answer_of}
-use Rattle.p25_tool.specs.Scripts.{HasDuplexRun, HasLongRun, HasRun, IsDuplexScriptOf, IsLongScriptOf, IsScriptOf}
+use Rattle.p25_tool.specs.{declared.command.Command.{Command}, declared.command.Command.TheVariants.{Duplex, Fragments, Sample, Stations}}
+use Rattle.p25_tool.specs.{declared.outcome.Outcome.{Outcome}, declared.outcome.Outcome.TheVariants.{Done, Memory, ReadFault, Usage, WriteFault}}
+use Rattle.p25_tool.specs.{Outputs.{CanWantMemory, command_future}, Recorded.{IsRecording}, RecordedRuns.{HasWrittenUnits, IsUnitCommand}}
+use Rattle.p25_tool.specs.{Runs.{Ran, answer_of}, Scripts.{HasDuplexRun, HasLongRun, HasRun, IsDuplexScriptOf, IsLongScriptOf, IsScriptOf}}
 
 -- what holds of a call by the command that its words name, if they name one: what was told to be read and what is left, what stood
 -- written first and what does last, whether a read or a write failed, whether what is read from and written to is as it was, and the

@@ -1,14 +1,9 @@
 -- What a call reads and writes, in which order, and how it ends.
 use Rattle.std.specs.Prelude.{◌≡◌, ℕ, List, [], ◌∷◌, Option, Some, None}
 use Rattle.p25_io.specs.Events.{Event, Read, ReadFailed, Wrote, WriteFailed}
-use Rattle.p25_filter.specs.Traces.{IsRun}
-use Rattle.p25_filter.specs.declared.ending.FilterEnd.{FilterEnd}
-use Rattle.p25_tool.specs.declared.command.Command.{Command}
-use Rattle.p25_tool.specs.declared.command.Command.TheVariants.{Sample}
-use Rattle.p25_tool.specs.declared.outcome.Outcome.{Outcome}
-use Rattle.p25_tool.specs.declared.outcome.Outcome.TheVariants.{Usage}
-use Rattle.p25_tool.specs.Outcomes.{filter_outcome}
-use Rattle.p25_tool.specs.Outputs.{command_future}
+use Rattle.p25_filter.specs.{Traces.{IsRun}, declared.ending.FilterEnd.{FilterEnd}}
+use Rattle.p25_tool.specs.{declared.command.Command.{Command}, declared.command.Command.TheVariants.{Sample}, declared.outcome.Outcome.{Outcome}}
+use Rattle.p25_tool.specs.{declared.outcome.Outcome.TheVariants.{Usage}, Outcomes.{filter_outcome}, Outputs.{command_future}}
 
 -- no event is a read
 abbrev pub AreWrites : List Event → Type 0

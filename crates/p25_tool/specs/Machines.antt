@@ -1,23 +1,15 @@
 -- The rules of the commands over lines: what a line is read as, what it is answered with, and what is written at the end.
 use Rattle.std.specs.Prelude.{true, false, []}
 use Rattle.p25_text.specs.Grammar.{read_line_of}
-use Rattle.p25_units.specs.UnitParts.{UnitParts}
-use Rattle.p25_units.specs.Units.{image_octets}
-use Rattle.p25_stations.specs.Steps.{world_step}
-use Rattle.p25_stations.specs.WorldState.{WorldState}
-use Rattle.p25_stations.specs.declared.step.Event.{Event}
+use Rattle.p25_units.specs.{UnitParts.{UnitParts}, Units.{image_octets}}
+use Rattle.p25_stations.specs.{Steps.{world_step}, WorldState.{WorldState}, declared.step.Event.{Event}}
 use Rattle.p25_script.specs.Script.{event_of}
-use Rattle.p25_fragments.specs.LongState.{LongState}
-use Rattle.p25_fragments.specs.LongSteps.{long_step}
-use Rattle.p25_fragments.specs.declared.long_step.LongEvent.{LongEvent}
-use Rattle.p25_fragment_script.specs.LongScript.{long_event_of}
-use Rattle.p25_fragment_script.specs.LongTexts.{long_step_text_of}
-use Rattle.p25_duplex.specs.DuplexSteps.{DuplexState, duplex_step}
-use Rattle.p25_duplex.specs.declared.event.DuplexEvent.{DuplexEvent}
+use Rattle.p25_fragments.specs.{LongState.{LongState}, LongSteps.{long_step}, declared.long_step.LongEvent.{LongEvent}}
+use Rattle.p25_fragment_script.specs.{LongScript.{long_event_of}, LongTexts.{long_step_text_of}}
+use Rattle.p25_duplex.specs.{DuplexSteps.{DuplexState, duplex_step}, declared.event.DuplexEvent.{DuplexEvent}}
 use Rattle.p25_duplex_script.specs.DuplexLines.{duplex_event_of}
 use Rattle.p25_filter.specs.LineRules.{LineRules, told_by}
-use Rattle.p25_tool.specs.declared.build.Build.{Build}
-use Rattle.p25_tool.specs.Outputs.{closing_line, duplex_closing_lines, duplex_step_line, long_closing_line, step_line}
+use Rattle.p25_tool.specs.{declared.build.Build.{Build}, Outputs.{closing_line, duplex_closing_lines, duplex_step_line, long_closing_line, step_line}}
 
 -- `build`: the octets of the unit that a line describes; nothing closes them, and no memory is wanted
 abbrev pub build_rules : LineRules Build UnitParts

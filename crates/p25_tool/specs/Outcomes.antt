@@ -1,9 +1,7 @@
 -- How a call ended: its line on standard error, and its status.
 use Rattle.std.specs.Prelude.{ℕ, List, [], ◌++◌, codes, decimal}
-use Rattle.p25_line.specs.declared.fault.LineFault.{LineFault}
-use Rattle.p25_line.specs.declared.fault.LineFault.TheVariants.{Long, Form, Kind, Key, Value}
-use Rattle.p25_filter.specs.declared.ending.Ending.{Ending}
-use Rattle.p25_filter.specs.declared.ending.Ending.TheVariants.{Done as EndDone, Found as EndFound, BadLine as EndBadLine}
+use Rattle.p25_line.specs.{declared.fault.LineFault.{LineFault}, declared.fault.LineFault.TheVariants.{Long, Form, Kind, Key, Value}}
+use Rattle.p25_filter.specs.{declared.ending.Ending.{Ending}, declared.ending.Ending.TheVariants.{Done as EndDone, Found as EndFound, BadLine as EndBadLine}}
 use Rattle.p25_filter.specs.declared.ending.FilterEnd.{FilterEnd}
 use Rattle.p25_filter.specs.declared.ending.FilterEnd.TheVariants.{Ended, ReadFault as ReadFailed, WriteFault as WriteFailed, TooLong as InputTooLong, Memory as NoMemory}
 use Rattle.p25_tool.specs.declared.outcome.Outcome.{Outcome}

@@ -1,39 +1,23 @@
 -- What each command writes for its input, and how a call ends by its input.
-use Rattle.std.specs.Prelude.{ℕ, Bool, true, false, if◌then◌else◌, List, [], ◌∷◌, ◌++◌, length, codes, decimal, Option, Some, None}
-use Rattle.std.specs.List.{flat_map}
+use Rattle.std.specs.{Prelude.{ℕ, Bool, true, false, if◌then◌else◌, List, [], ◌∷◌, ◌++◌, length, codes, decimal, Option, Some, None}, List.{flat_map}}
 use Rattle.p25_bits.specs.Bits.{octet_bits}
 use Rattle.p25_status.specs.declared.symbols.Status.{Status}
-use Rattle.p25_units.specs.Units.{image_octets, whole_octets}
-use Rattle.p25_units.specs.declared.item.Item.{Item}
-use Rattle.p25_stream.specs.Items.{items_by}
-use Rattle.p25_stream.specs.Repeats.{bridged, repaired}
-use Rattle.p25_follow.specs.Followed.{followed_by}
-use Rattle.p25_follow.specs.Relayed.{relayed}
+use Rattle.p25_units.specs.{Units.{image_octets, whole_octets}, declared.item.Item.{Item}}
+use Rattle.p25_stream.specs.{Items.{items_by}, Repeats.{bridged, repaired}}
+use Rattle.p25_follow.specs.{Followed.{followed_by}, Relayed.{relayed}}
 use Rattle.p25_text.specs.Grammar.{read_line_of}
 use Rattle.p25_calls.specs.Calls.{calls_by}
 use Rattle.p25_vectors.specs.Samples.{flips_of}
-use Rattle.p25_filter.specs.declared.ending.Ending.{Ending}
-use Rattle.p25_filter.specs.declared.ending.Ending.TheVariants.{Done}
-use Rattle.p25_stations.specs.Runs.{steps_of, world_run}
-use Rattle.p25_stations.specs.WorldState.{WorldState, first_world}
-use Rattle.p25_stations.specs.declared.step.Step.{Step}
-use Rattle.p25_script.specs.Script.{event_of}
-use Rattle.p25_script.specs.StepTexts.{closing_text_of, step_text_of}
-use Rattle.p25_duplex.specs.declared.side.Side.TheVariants.{A, B}
-use Rattle.p25_duplex.specs.declared.event.DuplexStep.{DuplexStep}
-use Rattle.p25_duplex.specs.DuplexSteps.{DuplexState, first_duplex}
-use Rattle.p25_duplex.specs.DuplexRuns.{duplex_run, duplex_steps}
-use Rattle.p25_duplex.specs.ClosingTexts.{duplex_closing_of}
-use Rattle.p25_duplex_script.specs.DuplexTexts.{duplex_step_text_of}
-use Rattle.p25_duplex_script.specs.DuplexLines.{duplex_event_of}
-use Rattle.p25_filter.specs.Futures.{Future}
-use Rattle.p25_filter.specs.Lines.{lines_future}
+use Rattle.p25_filter.specs.{declared.ending.Ending.{Ending}, declared.ending.Ending.TheVariants.{Done}, Futures.{Future}, Lines.{lines_future}}
+use Rattle.p25_stations.specs.{Runs.{steps_of, world_run}, WorldState.{WorldState, first_world}, declared.step.Step.{Step}}
+use Rattle.p25_script.specs.{Script.{event_of}, StepTexts.{closing_text_of, step_text_of}}
+use Rattle.p25_duplex.specs.{declared.side.Side.TheVariants.{A, B}, declared.event.DuplexStep.{DuplexStep}, DuplexSteps.{DuplexState, first_duplex}}
+use Rattle.p25_duplex.specs.{DuplexRuns.{duplex_run, duplex_steps}, ClosingTexts.{duplex_closing_of}}
+use Rattle.p25_duplex_script.specs.{DuplexTexts.{duplex_step_text_of}, DuplexLines.{duplex_event_of}}
 use Rattle.p25_tool.specs.declared.command.Command.{Command}
 use Rattle.p25_tool.specs.declared.command.Command.TheVariants.{Show, Check, Repair, Bridge, Relay, Follow, Build, Stations, Calls, Duplex, Fragments, Soft, Sample}
-use Rattle.p25_fragments.specs.LongState.{LongState, first_long}
-use Rattle.p25_fragments.specs.LongRuns.{long_run, long_steps_of}
-use Rattle.p25_fragment_script.specs.LongScript.{long_event_of}
-use Rattle.p25_fragment_script.specs.LongTexts.{long_closing_text_of, long_step_text_of}
+use Rattle.p25_fragments.specs.{LongState.{LongState, first_long}, LongRuns.{long_run, long_steps_of}}
+use Rattle.p25_fragment_script.specs.{LongScript.{long_event_of}, LongTexts.{long_closing_text_of, long_step_text_of}}
 use Rattle.p25_recording_filters.specs.ItemOutputs.{shown, faulty, units_in, faults_in, check_line, check_ending, changed_bits, call_line, calls_line, soft_output}
 
 -- the text of a step, and the text that closes a run, each with the end of its line

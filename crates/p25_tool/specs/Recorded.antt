@@ -1,19 +1,14 @@
 -- What the commands write of a recording of units that were sent one after the other, each damaged within radius: each unit as it
 -- was sent, with the voice frames and the status symbols that came.
-use Rattle.std.specs.Prelude.{◌≡◌, ℕ, ◌<◌, Bool, true, false, List, [], ◌++◌, length, map, All, Some, ◌⊎◌}
-use Rattle.std.specs.List.{flat_map}
+use Rattle.std.specs.{Prelude.{◌≡◌, ℕ, ◌<◌, Bool, true, false, List, [], ◌++◌, length, map, All, Some, ◌⊎◌}, List.{flat_map}}
 use Rattle.p25_bits.specs.Bits.{octet_bits, part}
 use Rattle.p25_status.specs.declared.symbols.Status.{Status}
-use Rattle.p25_units.specs.Units.{image_of, whole_octets}
-use Rattle.p25_units.specs.declared.item.Item.{Item}
-use Rattle.p25_stream.specs.Arrivals.{Arrival, IsHidden, IsNearArrival, bits_arrived, frame_arrived, whole_of, wholes_of}
-use Rattle.p25_stream.specs.Items.{items_of}
+use Rattle.p25_units.specs.{Units.{image_of, whole_octets}, declared.item.Item.{Item}}
+use Rattle.p25_stream.specs.{Arrivals.{Arrival, IsHidden, IsNearArrival, bits_arrived, frame_arrived, whole_of, wholes_of}, Items.{items_of}}
 use Rattle.p25_stream.specs.Repeats.{bridged_frame}
-use Rattle.p25_follow.specs.Followed.{follow_of}
-use Rattle.p25_follow.specs.Relayed.{relay_of}
+use Rattle.p25_follow.specs.{Followed.{follow_of}, Relayed.{relay_of}}
 use Rattle.p25_filter.specs.declared.ending.Ending.TheVariants.{Done}
-use Rattle.p25_tool.specs.declared.command.Command.TheVariants.{Show, Check, Repair, Bridge, Relay, Follow}
-use Rattle.p25_tool.specs.Outputs.{ending_by, output_by}
+use Rattle.p25_tool.specs.{declared.command.Command.TheVariants.{Show, Check, Repair, Bridge, Relay, Follow}, Outputs.{ending_by, output_by}}
 use Rattle.p25_recording_filters.specs.ItemOutputs.{check_line, shown}
 
 -- octets are a recording of units: their bits are those of the units, end to end, each within radius of its image

@@ -1,13 +1,10 @@
 -- What a call makes of a recording of units within radius.
-use Rattle.std.specs.Prelude.{◌≡◌, ℕ, List, length, Option}
-use Rattle.std.specs.List.{flat_map}
+use Rattle.std.specs.{Prelude.{◌≡◌, ℕ, List, length, Option}, List.{flat_map}}
 use Rattle.p25_io.specs.Octets.{Appended}
 use Rattle.p25_stream.specs.Arrivals.{Arrival, bits_arrived, wholes_of}
 use Rattle.p25_recording_filters.specs.ItemOutputs.{check_line, shown}
-use Rattle.p25_tool.specs.declared.command.Command.{Command}
-use Rattle.p25_tool.specs.declared.command.Command.TheVariants.{Show, Check, Repair, Bridge, Relay, Follow}
-use Rattle.p25_tool.specs.declared.outcome.Outcome.{Outcome}
-use Rattle.p25_tool.specs.declared.outcome.Outcome.TheVariants.{Done}
+use Rattle.p25_tool.specs.{declared.command.Command.{Command}, declared.command.Command.TheVariants.{Show, Check, Repair, Bridge, Relay, Follow}}
+use Rattle.p25_tool.specs.{declared.outcome.Outcome.{Outcome}, declared.outcome.Outcome.TheVariants.{Done}}
 use Rattle.p25_tool.specs.Recorded.{AreOctetsOf, images_arrived, images_bridged}
 
 -- the commands that work on each unit by itself

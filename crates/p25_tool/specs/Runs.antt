@@ -1,13 +1,8 @@
 -- What a call leaves, and how it answers an input without faults.
 use Rattle.std.specs.Prelude.{◌≡◌, ℕ, true, false, if◌then◌else◌, nat_lt, List, length, take, Option, Some, None}
-use Rattle.p25_filter.specs.Runs.{Filtered, input_most}
-use Rattle.p25_filter.specs.declared.ending.Ending.{Ending}
-use Rattle.p25_filter.specs.declared.ending.FilterEnd.{FilterEnd}
-use Rattle.p25_tool.specs.declared.command.Command.{Command}
-use Rattle.p25_tool.specs.declared.outcome.Outcome.{Outcome}
-use Rattle.p25_tool.specs.declared.outcome.Outcome.TheVariants.{TooLong}
-use Rattle.p25_tool.specs.Outcomes.{ending_outcome, filter_outcome}
-use Rattle.p25_tool.specs.Outputs.{command_future, ending_by}
+use Rattle.p25_filter.specs.{Runs.{Filtered, input_most}, declared.ending.Ending.{Ending}, declared.ending.FilterEnd.{FilterEnd}}
+use Rattle.p25_tool.specs.{declared.command.Command.{Command}, declared.outcome.Outcome.{Outcome}, declared.outcome.Outcome.TheVariants.{TooLong}}
+use Rattle.p25_tool.specs.{Outcomes.{ending_outcome, filter_outcome}, Outputs.{command_future, ending_by}}
 
 -- what a call of a command took and wrote, by its outcome
 pub record Ran (told left first last : Option (List ℕ)) (command : Command) (outcome : Outcome) : Type 0 where

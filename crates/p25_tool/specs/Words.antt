@@ -1,8 +1,7 @@
 -- The words of a call, and the commands that they name.
 use Rattle.std.specs.Prelude.{ℕ, ◌<◌, ◌≤◌, List, [], ◌∷◌, ◌++◌, Option, Some, None, option_map, if◌then◌else◌, ◌==◌, nat_lt, length, take, codes}
 use Rattle.std.specs.Str.{bytes_eq}
-use Rattle.p25_status.specs.Status.{status_modulo}
-use Rattle.p25_status.specs.declared.symbols.Status.{Status}
+use Rattle.p25_status.specs.{Status.{status_modulo}, declared.symbols.Status.{Status}}
 use Rattle.p25_text.specs.Values.{nac_in}
 use Rattle.p25_line.specs.Values.{number_below}
 use Rattle.p25_tool.specs.declared.command.Command.{Command}

@@ -1,9 +1,7 @@
 -- What a call wrote that came to the end of its input.
 use Rattle.std.specs.Prelude.{◌≡◌, ℕ, true, List, ◌++◌, Option, Some}
-use Rattle.p25_tool.specs.declared.command.Command.{Command}
-use Rattle.p25_tool.specs.declared.outcome.Outcome.{Outcome}
-use Rattle.p25_tool.specs.declared.outcome.Outcome.TheVariants.{Done, Usage, BadLine, ReadFault, WriteFault, Memory, TooLong, Found}
-use Rattle.p25_tool.specs.Outputs.{output_by}
+use Rattle.p25_tool.specs.{declared.command.Command.{Command}, declared.outcome.Outcome.{Outcome}}
+use Rattle.p25_tool.specs.{declared.outcome.Outcome.TheVariants.{Done, Usage, BadLine, ReadFault, WriteFault, Memory, TooLong, Found}, Outputs.{output_by}}
 use Rattle.p25_tool.specs.Runs.{Ran}
 
 -- a call came to the end of its input

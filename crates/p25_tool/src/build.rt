@@ -29,8 +29,7 @@ impl Build {
 
 impl LineMachine for Build {
     ghost use Rattle.p25_units.specs.Units.{IsSendableBody};
-    ghost use Rattle.p25_tool.specs.Machines.{build_rules};
-    ghost use Rattle.p25_tool.specs.LongLines.{build_long};
+    ghost use Rattle.p25_tool.specs.{Machines.{build_rules}, LongLines.{build_long}};
 
     type Event = Unit;
 

@@ -1,19 +1,11 @@
 //! The call that the program makes.
 
 ghost use Rattle.std.specs.Prelude.{◌≡◌, ℕ, ◌≤◌, ◌↔◌, false, List, [], None};
-ghost use Rattle.p25_io.specs.Events.{Event};
-ghost use Rattle.p25_io.specs.Faults.{Rose};
-ghost use Rattle.p25_io.specs.Pairs.{SinkGoes, SourceGoes};
-ghost use Rattle.p25_io.specs.Tapes.{calls_on, is_torn};
-ghost use Rattle.p25_filter.specs.Traces.{IsRun};
-ghost use Rattle.p25_filter.specs.LineFilters.{first_line, line_future};
-ghost use Rattle.p25_tool.specs.Outputs.{command_future};
-ghost use Rattle.p25_recording_filters.specs.Recordings.{fresh, recording_future};
-ghost use Rattle.p25_recording_filters.specs.Softs.{fresh_soft, soft_future};
-ghost use Rattle.p25_tool.specs.CallClauses.{CallSays};
-ghost use Rattle.p25_tool.specs.CallRuns.{AreWrites, IsCallRun};
-ghost use Rattle.p25_tool.specs.Words.{IsSoundCommand, command_of};
+ghost use Rattle.p25_io.specs.{Events.{Event}, Faults.{Rose}, Pairs.{SinkGoes, SourceGoes}, Tapes.{calls_on, is_torn}};
+ghost use Rattle.p25_filter.specs.{Traces.{IsRun}, LineFilters.{first_line, line_future}};
+ghost use Rattle.p25_tool.specs.{Outputs.{command_future}, CallClauses.{CallSays}, CallRuns.{AreWrites, IsCallRun}, Words.{IsSoundCommand, command_of}};
 ghost use Rattle.p25_tool.specs.declared.command.Command.{Command};
+ghost use Rattle.p25_recording_filters.specs.{Recordings.{fresh, recording_future}, Softs.{fresh_soft, soft_future}};
 
 use super::build::Build;
 use super::command::Command;

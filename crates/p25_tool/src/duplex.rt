@@ -38,8 +38,7 @@ impl Duplex {
 
 impl LineMachine for Duplex {
     ghost use Rattle.std.specs.Prelude.{⊤};
-    ghost use Rattle.p25_tool.specs.Machines.{duplex_rules};
-    ghost use Rattle.p25_tool.specs.LongLines.{duplex_long};
+    ghost use Rattle.p25_tool.specs.{Machines.{duplex_rules}, LongLines.{duplex_long}};
 
     type Event = DuplexEvent;
 

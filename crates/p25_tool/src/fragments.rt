@@ -37,8 +37,7 @@ impl Fragments {
 
 impl LineMachine for Fragments {
     ghost use Rattle.std.specs.Prelude.{⊤};
-    ghost use Rattle.p25_tool.specs.Machines.{fragment_rules};
-    ghost use Rattle.p25_tool.specs.LongLines.{fragment_long};
+    ghost use Rattle.p25_tool.specs.{Machines.{fragment_rules}, LongLines.{fragment_long}};
 
     type Event = LongEvent;
 

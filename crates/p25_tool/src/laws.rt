@@ -2,17 +2,10 @@
 //! function states what is proved.
 
 ghost use Rattle.std.specs.Prelude.{◌≡◌, ℕ, true, List, ◌++◌, Some, IfSome};
-ghost use Rattle.p25_io.specs.Events.{Event};
-ghost use Rattle.p25_io.specs.Faults.{Rose};
-ghost use Rattle.p25_io.specs.Pairs.{SinkGoes, SourceGoes};
-ghost use Rattle.p25_io.specs.Streams.{StreamsGo, reader_in, writer_in};
+ghost use Rattle.p25_io.specs.{Events.{Event}, Faults.{Rose}, Pairs.{SinkGoes, SourceGoes}, Streams.{StreamsGo, reader_in, writer_in}};
 ghost use Rattle.p25_io.specs.declared.streams.Streams.{Streams};
 ghost use Rattle.p25_filter.specs.Traces.{HasReadFault, HasWriteFault};
-ghost use Rattle.p25_tool.specs.CallClauses.{CallSays};
-ghost use Rattle.p25_tool.specs.CallRuns.{IsCallRun};
-ghost use Rattle.p25_tool.specs.Outputs.{output_by};
-ghost use Rattle.p25_tool.specs.Words.{command_of};
-ghost use Rattle.p25_tool.specs.declared.outcome.Outcome.{Outcome};
+ghost use Rattle.p25_tool.specs.{CallClauses.{CallSays}, CallRuns.{IsCallRun}, Outputs.{output_by}, Words.{command_of}, declared.outcome.Outcome.{Outcome}};
 ghost use Rattle.p25_tool.specs.Built.{AcceptedAreRead, BuildsUnits, LinesAreTexts};
 ghost use Rattle.p25_tool.specs.Recorded.{BridgesUnits, ChecksUnits, FollowsRecording, FollowsUnits, RelaysItself, RelaysRecording, RelaysUnits, RepairKeepsLength, RepairedIsRecorded, RepairsEachUnit, RepairsUnits, ShowsEachUnit, ShowsUnits, UnitsAreRecorded};
 ghost use Rattle.p25_tool.specs.Written.{AllIsWritten, HasEnded};

@@ -4,9 +4,7 @@ ghost use Rattle.std.specs.Prelude.{◌≡◌, ◌≤◌, List};
 ghost use Rattle.p25_io.specs.Events.{Event};
 ghost use Rattle.p25_filter.specs.Traces.{IsRun};
 ghost use Rattle.p25_vectors.specs.Samples.{flips_of};
-ghost use Rattle.p25_tool.specs.CallRuns.{AreWrites};
-ghost use Rattle.p25_tool.specs.Outputs.{command_future, sample_line};
-ghost use Rattle.p25_tool.specs.declared.command.Command.TheVariants.{Sample};
+ghost use Rattle.p25_tool.specs.{CallRuns.{AreWrites}, Outputs.{command_future, sample_line}, declared.command.Command.TheVariants.{Sample}};
 
 use p25_filter::{Ending, FilterEnd};
 use p25_io::Port;

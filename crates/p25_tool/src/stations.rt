@@ -36,8 +36,7 @@ impl Stations {
 
 impl LineMachine for Stations {
     ghost use Rattle.std.specs.Prelude.{⊤};
-    ghost use Rattle.p25_tool.specs.Machines.{station_rules};
-    ghost use Rattle.p25_tool.specs.LongLines.{station_long};
+    ghost use Rattle.p25_tool.specs.{Machines.{station_rules}, LongLines.{station_long}};
 
     type Event = Event;
 

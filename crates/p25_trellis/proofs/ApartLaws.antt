@@ -3,16 +3,10 @@
 use Rattle.std.proofs.Common.{◌≡◌, ◌≢◌, ℕ, zero, suc, ◌+◌, ◌*◌, ◌<◌, ◌≤◌, inl, inr, Bool, false, eqb, List, [], ◌∷◌, length, refl, ap, ap₂, sym, subst, ◌∙◌, arith}
 use Rattle.std.proofs.lemmas.Bool.{cases_Bool, eqb-true, eq-eqb}
 use Rattle.p25_bits.specs.Distance.{distance_of}
-use Rattle.p25_bits.proofs.DistanceLaws.{distance_of-sym, distance_of-triangle}
-use Rattle.p25_trellis.specs.Interleave.{interleaved}
-use Rattle.p25_trellis.specs.Tables.{nibble_distance}
-use Rattle.p25_trellis.specs.Trellis.{IsPath, IsBlock, Carries, IsFirstLeastReading, IsNearReading, nibbles_from, sent_bits, distance_from}
+use Rattle.p25_bits.proofs.{DistanceLaws.{distance_of-sym, distance_of-triangle}, NumbersLaws.{length-number_bits}}
+use Rattle.p25_trellis.specs.{Interleave.{interleaved}, Tables.{nibble_distance}, Trellis.{IsPath, IsBlock, Carries, IsFirstLeastReading, IsNearReading, nibbles_from, sent_bits, distance_from}}
 use Rattle.p25_trellis.specs.Least.{IsEnd}
-use Rattle.p25_trellis.proofs.InterleaveLaws.{weighed, length-interleaved}
-use Rattle.p25_bits.proofs.NumbersLaws.{length-number_bits}
-use Rattle.p25_trellis.proofs.PathLaws.{length-nibbles_from, same_octets}
-use Rattle.p25_trellis.proofs.FirstPathLaws.{IsEnd-from_path}
-use Rattle.p25_trellis.proofs.DistanceLaws.{distance_of-interleaved}
+use Rattle.p25_trellis.proofs.{InterleaveLaws.{weighed, length-interleaved}, PathLaws.{length-nibbles_from, same_octets}, FirstPathLaws.{IsEnd-from_path}, DistanceLaws.{distance_of-interleaved}}
 
 -- what the nibbles of symbols weigh against those of others, step by step
 weighed-nibbles : (point : ℕ → ℕ → ℕ) (a b x y : ℕ) (xs ys : List ℕ)

@@ -1,12 +1,8 @@
 -- The least cost of what follows a state, from the last step to the first: the least over its symbols of what the step and the rest cost.
 use Rattle.std.proofs.Common.{◌≡◌, ◌≢◌, ℕ, zero, suc, ◌+◌, ◌*◌, ◌<◌, ◌≤◌, inl, inr, List, [], ◌∷◌, length, get_or, set, refl, ap, ap₂, sym, subst, ◌∙◌, arith, All, below_more, get_or-set_same, get_or-set_other, ◌-◌, ◌^◌, add-one}
-use Rattle.std.proofs.Math.Nat.{mul-suc, mul-le-mul_left}
-use Rattle.std.proofs.lemmas.Bool.{cases_lt}
-use Rattle.std.proofs.lemmas.List.{get_or_past}
+use Rattle.std.proofs.{Math.Nat.{mul-suc, mul-le-mul_left}, lemmas.Bool.{cases_lt}, lemmas.List.{get_or_past}}
 use Rattle.p25_trellis.proofs.PathLaws.{length-nibbles_from}
-use Rattle.p25_trellis.specs.Trellis.{nibbles_from}
-use Rattle.p25_trellis.specs.Costs.{total_cost, symbols_cost, cost_in}
-use Rattle.p25_trellis.specs.Least.{rest_in, step_cost, IsEnd, IsLeastEnd, HasLeastFrom, IsLowestLeast}
+use Rattle.p25_trellis.specs.{Trellis.{nibbles_from}, Costs.{total_cost, symbols_cost, cost_in}, Least.{rest_in, step_cost, IsEnd, IsLeastEnd, HasLeastFrom, IsLowestLeast}}
 
 -- the first symbol is the lowest least of one
 pub IsLowestLeast-one : (value : ℕ → ℕ) (least : ℕ) → least ≡ value 0 → IsLowestLeast 1 value 0 least

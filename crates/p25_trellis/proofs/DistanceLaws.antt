@@ -1,19 +1,12 @@
 -- The distance of sent bits as a sum over nibbles.
-use Rattle.std.proofs.Common.{◌≡◌, ℕ, suc, ◌+◌, ◌<◌, ◌≤◌, Bool, List, [], ◌∷◌, length, drop, get_or, refl, ap, ap₂, sym, ◌∙◌, arith, All}
-use Rattle.std.specs.Bool.{beq}
-use Rattle.std.proofs.lemmas.List.{drop_more}
+use Rattle.std.proofs.{Common.{◌≡◌, ℕ, suc, ◌+◌, ◌<◌, ◌≤◌, Bool, List, [], ◌∷◌, length, drop, get_or, refl, ap, ap₂, sym, ◌∙◌, arith, All}, lemmas.List.{drop_more}}
 use Rattle.std.proofs.lemmas.List.Elements.{All-cons, All-nil, All-head, All-tail}
-use Rattle.p25_bits.specs.Bits.{bits_of}
-use Rattle.p25_bits.specs.Distance.{distance_of}
-use Rattle.p25_bits.proofs.BitsLaws.{length-bits_of}
-use Rattle.p25_bits.proofs.DistanceLaws.{distance_by-append, distance_by-nil, distance_by-le}
-use Rattle.p25_trellis.specs.Interleave.{interleaved}
-use Rattle.p25_trellis.specs.Tables.{nibble_distance}
-use Rattle.p25_bits.specs.Numbers.{number_bits}
-use Rattle.p25_trellis.specs.Trellis.{nibbles_from, sent_bits, distance_from, IsPath, IsFirstLeastReading}
+use Rattle.std.specs.Bool.{beq}
+use Rattle.p25_bits.specs.{Bits.{bits_of}, Distance.{distance_of}, Numbers.{number_bits}}
+use Rattle.p25_bits.proofs.{BitsLaws.{length-bits_of}, DistanceLaws.{distance_by-append, distance_by-nil, distance_by-le}}
+use Rattle.p25_trellis.specs.{Interleave.{interleaved}, Tables.{nibble_distance}, Trellis.{nibbles_from, sent_bits, distance_from, IsPath, IsFirstLeastReading}}
 use Rattle.p25_trellis.specs.Costs.{total_cost, symbols_cost, path_cost, received_cost}
-use Rattle.p25_trellis.proofs.InterleaveLaws.{weighed, weighed-interleaved, length-interleaved}
-use Rattle.p25_trellis.proofs.PathLaws.{length-nibbles_from}
+use Rattle.p25_trellis.proofs.{InterleaveLaws.{weighed, weighed-interleaved, length-interleaved}, PathLaws.{length-nibbles_from}}
 
 -- two nibbles differ in at most four bits
 pub nibble_distance-le : (a b : ℕ) → nibble_distance a b ≤ 4

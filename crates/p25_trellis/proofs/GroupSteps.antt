@@ -1,13 +1,8 @@
 -- Numbers of a few bits each, group by group: joined to one number, taken apart, and written as numbers of another width.
 use Rattle.std.proofs.Common.{◌≡◌, ℕ, ◌+◌, ◌-◌, ◌*◌, ◌/◌, ◌%◌, ◌^◌, ◌<◌, ◌≤◌, Bool, List, [], ◌∷◌, ◌++◌, length, take, drop, get_or, ap, ap₂, sym, ◌∙◌, arith, add-one, length-drop}
-use Rattle.std.proofs.Math.Nat.{mul-suc, mul-le-mul_left, mul-le-mul_right}
-use Rattle.std.proofs.Math.Pow.{pow_mono}
-use Rattle.std.proofs.lemmas.List.{ext_get_or, take_more}
-use Rattle.std.proofs.lemmas.Nat.{pow-add, shl_whole}
-use Rattle.std.proofs.lemmas.Slice.{take-put_mid}
+use Rattle.std.proofs.{Math.Nat.{mul-suc, mul-le-mul_left, mul-le-mul_right}, Math.Pow.{pow_mono}, lemmas.List.{ext_get_or, take_more}, lemmas.Nat.{pow-add, shl_whole}, lemmas.Slice.{take-put_mid}}
 use borrow.Rule.Slice.PartMut.{put_mid}
-use Rattle.p25_bits.specs.Bits.{bits_of, field_of, part}
-use Rattle.p25_bits.specs.Numbers.{number_bits, numbers_from}
+use Rattle.p25_bits.specs.{Bits.{bits_of, field_of, part}, Numbers.{number_bits, numbers_from}}
 use Rattle.p25_bits.proofs.BitsLaws.{take-bits_of, drop-bits_of, field_of-bits_of, bits_of-joined}
 use Rattle.p25_bits.proofs.NumbersLaws.{number_bits-append, number_bits-one, length-number_bits, take-number_bits, drop-number_bits, length-numbers_from, get_or-numbers_from, numbers_from-add, numbers_from-take}
 

@@ -1,16 +1,12 @@
 -- Laws of the interleaver: what is summed over the places of lists is summed over their fourth elements, and its order is a table, which
 -- computed tests compare.
 use Rattle.std.proofs.Common.{◌≡◌, ◌≢◌, ℕ, zero, suc, ◌+◌, ◌<◌, ◌≤◌, ◌||◌, Bool, true, false, not, cond, eqb, ltb, List, [], ◌∷◌, ◌++◌, map, length, get_or, set, take, drop, refl, ap, sym, ◌∙◌, arith, length-append, below_more, get_or-set_same, get_or-set_other, All}
-use Rattle.std.proofs.lemmas.List.Elements.{All-cons, All-head, All-tail, All-append, All-same, All-take, All-drop}
+use Rattle.std.proofs.{lemmas.List.Elements.{All-cons, All-head, All-tail, All-append, All-same, All-take, All-drop}, lemmas.Bool.{eqb-true, ltb-true, eq-eqb}}
+use Rattle.std.proofs.{lemmas.List.{take_all, take_at, drop_at, map-append, get_or-map}, lemmas.List.FromFn.{fill_by_all}}
 use Rattle.std.specs.List.{range_with_len}
-use Rattle.std.proofs.lemmas.Bool.{eqb-true, ltb-true, eq-eqb}
-use Rattle.std.proofs.lemmas.List.{take_all, take_at, drop_at, map-append, get_or-map}
-use Rattle.std.proofs.lemmas.List.FromFn.{fill_by_all}
 use Rattle.p25_bits.specs.Distance.{distance_by}
 use Rattle.p25_bits.proofs.DistanceLaws.{distance_by-same, same_from_distance_by}
-use Rattle.p25_trellis.specs.declared.interleave.TheConstants.{SENT_ORDER}
-use Rattle.p25_trellis.specs.Interleave.{each_fourth, interleaved}
-use Rattle.p25_trellis.specs.TableLaws.{passed_below, passed_below-at}
+use Rattle.p25_trellis.specs.{declared.interleave.TheConstants.{SENT_ORDER}, Interleave.{each_fourth, interleaved}, TableLaws.{passed_below, passed_below-at}}
 
 -- how many fourth elements there are depends on the length alone
 length-each_fourth : {X Y : Type 0} (wait : ℕ) (xs : List X) (ys : List Y) → length xs ≡ length ys → length (each_fourth wait xs) ≡ length (each_fourth wait ys)

@@ -1,13 +1,9 @@
 -- The least distances of a step, from those of the step after it: each is the least over the symbols, which are taken in one after another.
-use Rattle.std.proofs.Common.{◌≡◌, ℕ, zero, suc, ◌+◌, ◌-◌, ◌*◌, ◌<◌, ◌≤◌, inl, inr, List, take, drop, get_or, refl, ap, ap₂, sym, subst, ◌∙◌, arith, min, add-one}
-use Rattle.std.proofs.lemmas.Bool.{cases_lt}
+use Rattle.std.proofs.{Common.{◌≡◌, ℕ, zero, suc, ◌+◌, ◌-◌, ◌*◌, ◌<◌, ◌≤◌, inl, inr, List, take, drop, get_or, refl, ap, ap₂, sym, subst, ◌∙◌, arith, min, add-one}, lemmas.Bool.{cases_lt}}
 use borrow.Rule.Slice.PartMut.{mid_of}
 use Rattle.p25_bits.proofs.PartLaws.{get_or-part}
-use Rattle.p25_trellis.specs.Tables.{nibble_distance}
-use Rattle.p25_trellis.specs.Costs.{received_cost}
-use Rattle.p25_trellis.specs.Least.{rest_in, step_cost, HasLeastFrom, IsLowestLeast}
-use Rattle.p25_trellis.proofs.CostLaws.{IsLowestLeast-one, IsLowestLeast-less, IsLowestLeast-kept, rest-le}
-use Rattle.p25_trellis.proofs.DistanceLaws.{nibble_distance-le}
+use Rattle.p25_trellis.specs.{Tables.{nibble_distance}, Costs.{received_cost}, Least.{rest_in, step_cost, HasLeastFrom, IsLowestLeast}}
+use Rattle.p25_trellis.proofs.{CostLaws.{IsLowestLeast-one, IsLowestLeast-less, IsLowestLeast-kept, rest-le}, DistanceLaws.{nibble_distance-le}}
 
 -- the distance that a table has for a state is the cost of its nibble
 pub received_cost-is : (received distances : List ℕ) (step state nibble : ℕ) → get_or distances state 0 ≡ nibble_distance nibble (get_or received step 0) → get_or distances state 0 ≡ received_cost received step nibble

@@ -2,12 +2,9 @@
 use Rattle.std.proofs.Common.{◌≡◌, ℕ, ◌*◌, ◌^◌, ◌<◌, ◌≤◌, Bool, List, length, refl, ap, ◌∙◌, arith, All}
 use Rattle.std.specs.Bool.{beq}
 use Rattle.p25_bits.specs.Distance.{distance_of}
-use Rattle.p25_bits.proofs.DistanceLaws.{distance_by-le}
-use Rattle.p25_bits.proofs.NumbersLaws.{length-numbers_from}
-use Rattle.p25_trellis.specs.Trellis.{IsBlock, sent_bits}
-use Rattle.p25_trellis.specs.Nearest.{nearest_octets, nearest_distance, block_from}
-use Rattle.p25_trellis.proofs.ApartLaws.{length-sent_bits}
-use Rattle.p25_trellis.proofs.NearestLaws.{nearest_reading, same_block_from}
+use Rattle.p25_bits.proofs.{DistanceLaws.{distance_by-le}, NumbersLaws.{length-numbers_from}}
+use Rattle.p25_trellis.specs.{Trellis.{IsBlock, sent_bits}, Nearest.{nearest_octets, nearest_distance, block_from}}
+use Rattle.p25_trellis.proofs.{ApartLaws.{length-sent_bits}, NearestLaws.{nearest_reading, same_block_from}}
 
 -- the octets that are read are octets
 pub All-nearest_octets : (states width : ℕ) (point : ℕ → ℕ → ℕ) (received : List Bool) → 0 < states → All (λ octet. octet < 256) (nearest_octets states width point received)

@@ -1,18 +1,12 @@
 -- The first nearest path, as a function, is the first least path; what is read by it and the block of octets follow. The
 -- path goes by induction on the symbols that are left: the lowest symbol with the cheapest best end goes before that end.
 use Rattle.std.proofs.Common.{◌≡◌, ℕ, zero, suc, ◌*◌, ◌^◌, ◌<◌, ◌≤◌, inl, inr, Bool, if◌then◌else◌, nat_lt, List, [], ◌∷◌, length, take, refl, ap, sym, subst, ◌∙◌, arith, All, add-one, length-append}
-use Rattle.std.proofs.lemmas.Bool.{cases_lt, cond-true, cond-false, lt-ltb, le-ltb}
-use Rattle.std.proofs.lemmas.List.{length-take-le, take_all, take_at, drop_at}
-use Rattle.std.proofs.lemmas.List.Elements.{All-append, All-cons, All-nil}
-use Rattle.p25_bits.specs.Bits.{octet_bits}
-use Rattle.p25_bits.specs.Numbers.{number_bits, numbers_from, octets_from}
-use Rattle.p25_bits.proofs.BitsLaws.{length-octet_bits}
-use Rattle.p25_bits.proofs.NumbersLaws.{number_bits-octets, length-number_bits, length-numbers_from, All-numbers_from, number_bits-numbers_from}
-use Rattle.p25_trellis.specs.Trellis.{IsPath, Carries, IsBlock, IsNotAfter, IsFirstLeast, IsFirstLeastReading, distance_from}
-use Rattle.p25_trellis.specs.Least.{IsEnd, IsLowestLeast}
+use Rattle.std.proofs.{lemmas.Bool.{cases_lt, cond-true, cond-false, lt-ltb, le-ltb}, lemmas.List.{length-take-le, take_all, take_at, drop_at}, lemmas.List.Elements.{All-append, All-cons, All-nil}}
+use Rattle.p25_bits.specs.{Bits.{octet_bits}, Numbers.{number_bits, numbers_from, octets_from}}
+use Rattle.p25_bits.proofs.{BitsLaws.{length-octet_bits}, NumbersLaws.{number_bits-octets, length-number_bits, length-numbers_from, All-numbers_from, number_bits-numbers_from}}
+use Rattle.p25_trellis.specs.{Trellis.{IsPath, Carries, IsBlock, IsNotAfter, IsFirstLeast, IsFirstLeastReading, distance_from}, Least.{IsEnd, IsLowestLeast}}
 use Rattle.p25_trellis.specs.Nearest.{lowest_least, first_least_end, nearest_path, nearest_octets, nearest_distance, path_from, block_from}
-use Rattle.p25_trellis.proofs.CostLaws.{IsLowestLeast-one, IsLowestLeast-less, IsLowestLeast-kept}
-use Rattle.p25_trellis.proofs.FirstPathLaws.{IsFirstLeastEnd, IsFirstLeastEnd-last, IsFirstLeast-from_end, same_reading}
+use Rattle.p25_trellis.proofs.{CostLaws.{IsLowestLeast-one, IsLowestLeast-less, IsLowestLeast-kept}, FirstPathLaws.{IsFirstLeastEnd, IsFirstLeastEnd-last, IsFirstLeast-from_end, same_reading}}
 use Rattle.p25_trellis.proofs.PathLaws.{power-pos, same_block}
 
 -- one number more is the lowest least where it has less

@@ -1,9 +1,7 @@
 -- Seven nibbles at a time: those that a word of 28 bits writes, and the word that they write.
-use Rattle.std.proofs.Common.{append_assoc, ◌≡◌, ℕ, ◌+◌, ◌-◌, ◌*◌, ◌<◌, ◌≤◌, Bool, List, ◌++◌, length, take, drop, ap, ap₂, sym, ◌∙◌, arith, length-drop}
-use Rattle.std.proofs.Math.Seq.{take-add}
+use Rattle.std.proofs.{Common.{append_assoc, ◌≡◌, ℕ, ◌+◌, ◌-◌, ◌*◌, ◌<◌, ◌≤◌, Bool, List, ◌++◌, length, take, drop, ap, ap₂, sym, ◌∙◌, arith, length-drop}, Math.Seq.{take-add}}
 use Rattle.std.proofs.lemmas.List.{drop-drop}
-use Rattle.p25_bits.specs.Bits.{bits_of, field_of, part}
-use Rattle.p25_bits.specs.Numbers.{number_bits, numbers_from}
+use Rattle.p25_bits.specs.{Bits.{bits_of, field_of, part}, Numbers.{number_bits, numbers_from}}
 use Rattle.p25_bits.proofs.NumbersLaws.{number_bits-append, numbers_from-take, bits_of-field}
 
 -- the seven nibbles of a word that was read are those of the bits from its place on

@@ -1,8 +1,6 @@
 -- Paths, their nibbles and what they carry.
 use Rattle.std.proofs.Common.{◌≡◌, ℕ, suc, ◌+◌, ◌^◌, ◌<◌, ◌≤◌, Bool, List, [], ◌∷◌, ◌++◌, length, take, drop, get_or, set, refl, ap, ap₂, sym, subst, ◌∙◌, arith, append_assoc, All}
-use Rattle.std.proofs.lemmas.List.{take-append-drop, take_more_set, drop_more, length-take-le}
-use Rattle.std.proofs.lemmas.List.Elements.{All-take}
-use Rattle.std.proofs.lemmas.Nat.{pow_pos}
+use Rattle.std.proofs.{lemmas.List.{take-append-drop, take_more_set, drop_more, length-take-le}, lemmas.List.Elements.{All-take}, lemmas.Nat.{pow_pos}}
 use Rattle.p25_bits.specs.Numbers.{number_bits}
 use Rattle.p25_trellis.specs.Trellis.{IsPath, IsBlock, Carries, nibbles_from, sent_bits}
 use Rattle.p25_bits.proofs.NumbersLaws.{length-number_bits, number_bits-octets, same_from_number_bits}

@@ -1,8 +1,6 @@
 -- The tables of the code have what the standard's tables have: each entry is compared, and the comparison computes.
-use Rattle.std.proofs.Common.{◌≡◌, ℕ, ◌+◌, ◌*◌, ◌<◌, true, eqb, ltb, get_or, refl}
-use Rattle.std.proofs.lemmas.Bool.{eqb-true, ltb-true}
-use Rattle.p25_trellis.specs.declared.rate.TheConstants.{NIBBLES, HALF_POINTS, THREE_QUARTER_POINTS}
-use Rattle.p25_trellis.specs.Tables.{point_nibbles, half_rows, three_quarter_rows, point_in, half_point, three_quarter_point}
+use Rattle.std.proofs.{Common.{◌≡◌, ℕ, ◌+◌, ◌*◌, ◌<◌, true, eqb, ltb, get_or, refl}, lemmas.Bool.{eqb-true, ltb-true}}
+use Rattle.p25_trellis.specs.{declared.rate.TheConstants.{NIBBLES, HALF_POINTS, THREE_QUARTER_POINTS}, Tables.{point_nibbles, half_rows, three_quarter_rows, point_in, half_point, three_quarter_point}}
 use Rattle.p25_trellis.specs.TableLaws.{passed_below, passed_below-at}
 
 three_quarter_points_test : passed_below 64 (λ i. ltb (get_or THREE_QUARTER_POINTS i 0) 16) ≡ true

@@ -1,16 +1,12 @@
 -- The tables of the search have what the points say: each entry is compared, and the comparison computes.
 use Rattle.std.proofs.Common.{◌≡◌, ◌≢◌, ℕ, ◌+◌, ◌*◌, ◌<◌, ◌≤◌, inl, inr, Bool, true, false, eqb, ltb, ◌||◌, ◌&&◌, not, List, length, take, drop, get_or, refl, ap, ap₂, sym, ◌∙◌, arith, ◌-◌}
+use Rattle.std.proofs.{Math.Path.{subst₂}, lemmas.Bool.{eq-eqb, eqb-true, le-ltb, ltb-true, cases_lt, lt-ltb}, lemmas.List.{get_or_past}}
 use Rattle.std.specs.Cmp.{first_so, second_so}
-use Rattle.std.proofs.Math.Path.{subst₂}
-use Rattle.std.proofs.lemmas.Bool.{eq-eqb, eqb-true, le-ltb, ltb-true, cases_lt, lt-ltb}
-use Rattle.std.proofs.lemmas.List.{get_or_past}
 use borrow.Rule.Slice.PartMut.{mid_of}
-use Rattle.p25_bits.specs.Bits.{bits_of, part}
-use Rattle.p25_bits.specs.Distance.{distance_by}
+use Rattle.p25_bits.specs.{Bits.{bits_of, part}, Distance.{distance_by}}
 use Rattle.p25_bits.proofs.PartLaws.{get_or-part}
 use Rattle.p25_trellis.specs.declared.tables.TheConstants.{HALF_SYMBOLS, HALF_DISTANCES, THREE_QUARTER_SYMBOLS, THREE_QUARTER_DISTANCES}
-use Rattle.p25_trellis.specs.Tables.{point_nibbles, half_rows, three_quarter_rows, point_in, half_point, three_quarter_point, nibble_distance}
-use Rattle.p25_trellis.specs.TableLaws.{passed_below, passed_below-at}
+use Rattle.p25_trellis.specs.{Tables.{point_nibbles, half_rows, three_quarter_rows, point_in, half_point, three_quarter_point, nibble_distance}, TableLaws.{passed_below, passed_below-at}}
 
 -- every entry that is a symbol is one that sends the nibble of its place
 unfoldable sending_test : ℕ → (ℕ → ℕ → ℕ) → List ℕ → Bool

@@ -1,7 +1,6 @@
 -- The cost of a path, where each step has a cost for each nibble.
 use Rattle.std.specs.Prelude.{ℕ, suc, ◌+◌, ◌*◌, List, [], ◌∷◌, slice_index}
-use Rattle.p25_trellis.specs.Tables.{nibble_distance}
-use Rattle.p25_trellis.specs.Trellis.{nibbles_from}
+use Rattle.p25_trellis.specs.{Tables.{nibble_distance}, Trellis.{nibbles_from}}
 
 -- the cost of nibbles sent from a step on, where each step has a cost for each nibble
 unfoldable pub total_cost : (ℕ → ℕ → ℕ) → ℕ → List ℕ → ℕ

@@ -1,10 +1,8 @@
 -- The first nearest path to received bits as a function, the octets and the distance that are read by it, and the block
 -- of octets as a function.
 use Rattle.std.specs.Prelude.{ℕ, zero, suc, ◌*◌, Bool, if◌then◌else◌, nat_lt, List, [], ◌∷◌, ◌++◌, take}
-use Rattle.p25_bits.specs.Bits.{octet_bits}
-use Rattle.p25_bits.specs.Numbers.{number_bits, numbers_from, octets_from}
-use Rattle.p25_trellis.specs.Trellis.{sent_bits, distance_from}
-use Rattle.p25_trellis.specs.Tables.{half_point, three_quarter_point}
+use Rattle.p25_bits.specs.{Bits.{octet_bits}, Numbers.{number_bits, numbers_from, octets_from}}
+use Rattle.p25_trellis.specs.{Trellis.{sent_bits, distance_from}, Tables.{half_point, three_quarter_point}}
 
 -- the lowest of the numbers below a bound that have the least value
 unfoldable pub lowest_least : ℕ → (ℕ → ℕ) → ℕ

@@ -1,13 +1,9 @@
 -- The laws of the tables of points, from tests over the whole table that compute.
 use Rattle.std.specs.Prelude.{◌≡◌, ◌≢◌, ℕ, zero, suc, ◌+◌, ◌*◌, ◌^◌, ◌/◌, ◌<◌, ◌≤◌, Bool, true, false, if◌then◌else◌, ◌==◌, nat_le, nat_lt, ◌&&◌, ◌||◌, ◌∷◌, replicate, refl}
-use Rattle.std.proofs.Common.{inl, inr, sym, subst, arith}
-use Rattle.std.proofs.lemmas.Bool.{cases_Bool, leb-true, ltb-true, eqb-true, and_parts}
+use Rattle.std.proofs.{Common.{inl, inr, sym, subst, arith}, lemmas.Bool.{cases_Bool, leb-true, ltb-true, eqb-true, and_parts}}
 use Rattle.std.proofs.lemmas.List.Elements.{All-cons, All-replicate}
-use Rattle.p25_bits.specs.Bits.{bits_of}
-use Rattle.p25_bits.specs.Distance.{distance_by, distance_of}
-use Rattle.p25_trellis.specs.Interleave.{each_fourth, interleaved}
-use Rattle.p25_bits.specs.Numbers.{number_bits}
-use Rattle.p25_trellis.specs.Trellis.{nibbles_from, sent_bits, SomeApart}
+use Rattle.p25_bits.specs.{Bits.{bits_of}, Distance.{distance_by, distance_of}, Numbers.{number_bits}}
+use Rattle.p25_trellis.specs.{Interleave.{each_fourth, interleaved}, Trellis.{nibbles_from, sent_bits, SomeApart}}
 use Rattle.p25_trellis.specs.Tables.{point_nibbles, half_rows, three_quarter_rows, point_in, nibble_distance, half_point, three_quarter_point}
 
 -- what makes a table of points a rate: there is a state for each symbol and a symbol for each value of its bits, the 48 symbols have as many

@@ -1,7 +1,6 @@
 -- The tables of points of the two rates, and in how many bits two nibbles differ.
 use Rattle.std.specs.Prelude.{ℕ, List, [], ◌∷◌, slice_index, slice_index_or}
-use Rattle.p25_bits.specs.Bits.{bits_of}
-use Rattle.p25_bits.specs.Distance.{distance_of}
+use Rattle.p25_bits.specs.{Bits.{bits_of}, Distance.{distance_of}}
 
 -- the four bits of each of the 16 points, as a number
 unfoldable pub point_nibbles : List ℕ

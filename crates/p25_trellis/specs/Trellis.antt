@@ -1,8 +1,6 @@
 -- Paths of a trellis code, the bits that are sent for them, and the path that is nearest to received bits.
 use Rattle.std.specs.Prelude.{◌≡◌, ◌≢◌, ℕ, ◌*◌, ◌<◌, ◌≤◌, ◌⊎◌, Bool, List, [], ◌∷◌, length, take, drop, All}
-use Rattle.p25_bits.specs.Bits.{octet_bits}
-use Rattle.p25_bits.specs.Distance.{distance_of}
-use Rattle.p25_bits.specs.Numbers.{number_bits}
+use Rattle.p25_bits.specs.{Bits.{octet_bits}, Distance.{distance_of}, Numbers.{number_bits}}
 use Rattle.p25_trellis.specs.Interleave.{interleaved}
 
 -- a path: 49 symbols below the number of states, of which the last is 0

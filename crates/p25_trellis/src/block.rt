@@ -1,10 +1,8 @@
 //! Blocks: octets to sent bits, and received bits to the octets of the first nearest path.
 
 ghost use Rattle.std.specs.Prelude.{◌≡◌, ℕ, ◌+◌, ◌*◌, ◌^◌, ◌<◌, ◌≤◌, List, Bool, ◌++◌, All, length, take, drop};
-ghost use Rattle.p25_bits.specs.Bits.{part};
-ghost use Rattle.p25_bits.specs.Numbers.{number_bits};
-ghost use Rattle.p25_trellis.specs.Interleave.{interleaved};
-ghost use Rattle.p25_trellis.specs.Trellis.{IsBlock, IsFirstLeastReading, IsNearReading, distance_from};
+ghost use Rattle.p25_bits.specs.{Bits.{part}, Numbers.{number_bits}};
+ghost use Rattle.p25_trellis.specs.{Interleave.{interleaved}, Trellis.{IsBlock, IsFirstLeastReading, IsNearReading, distance_from}};
 ghost use Rattle.p25_trellis.specs.Nearest.{nearest_octets, nearest_distance, block_from};
 
 use super::exact::path_along;

@@ -2,8 +2,7 @@
 //! width written as numbers of another.
 
 ghost use Rattle.std.specs.Prelude.{◌≡◌, ◌*◌, ◌^◌, ◌<◌, ◌≤◌, All, length};
-ghost use Rattle.p25_bits.specs.Bits.{bits_of};
-ghost use Rattle.p25_bits.specs.Numbers.{number_bits, numbers_from};
+ghost use Rattle.p25_bits.specs.{Bits.{bits_of}, Numbers.{number_bits, numbers_from}};
 
 // The number that numbers of `width` bits each write, the first one highest.
 #[inline(always)]

@@ -1,8 +1,7 @@
 //! Laws of the rates: how far their paths differ, and what the functions of blocks and readings are. Each function
 //! states what is proved, and calls at most other theorems.
 
-ghost use Rattle.std.specs.Prelude.{◌≡◌, ℕ, ◌*◌, ◌<◌, ◌≤◌, Bool, List, All, length};
-ghost use Rattle.std.specs.List.{concat};
+ghost use Rattle.std.specs.{Prelude.{◌≡◌, ℕ, ◌*◌, ◌<◌, ◌≤◌, Bool, List, All, length}, List.{concat}};
 ghost use Rattle.p25_bits.specs.Distance.{distance_of};
 ghost use Rattle.p25_trellis.specs.Nearest.{nearest_octets, nearest_distance, block_from, half_octets, three_quarter_octets, half_block, three_quarter_block};
 ghost use Rattle.p25_trellis.specs.Tables.{half_point, three_quarter_point, point_nibbles, half_rows, three_quarter_rows};

@@ -2,8 +2,7 @@
 //! state, and then forward the lowest symbol that attains it.
 
 ghost use Rattle.std.specs.Prelude.{◌≡◌, ℕ, suc, ◌+◌, ◌*◌, ◌^◌, ◌<◌, ◌≤◌, All, length, take, drop};
-ghost use Rattle.p25_trellis.specs.Trellis.{IsFirstLeast, IsFirstLeastReading};
-ghost use Rattle.p25_trellis.specs.Costs.{cost_in, path_cost};
+ghost use Rattle.p25_trellis.specs.{Trellis.{IsFirstLeast, IsFirstLeastReading}, Costs.{cost_in, path_cost}};
 ghost use Rattle.p25_trellis.specs.Least.{rest_in, step_cost, HasLeastFrom, IsLowestLeast};
 
 use super::path::octets_of;

@@ -2,9 +2,7 @@
 //! state, all states of a step side by side, and then forward the lowest symbol that attains it.
 
 ghost use Rattle.std.specs.Prelude.{◌≡◌, ℕ, suc, ◌+◌, ◌<◌, ◌≤◌, All, length, min, slice_index};
-ghost use Rattle.p25_trellis.specs.Tables.{nibble_distance};
-ghost use Rattle.p25_trellis.specs.Trellis.{IsFirstLeast};
-ghost use Rattle.p25_trellis.specs.Costs.{path_cost, received_cost};
+ghost use Rattle.p25_trellis.specs.{Tables.{nibble_distance}, Trellis.{IsFirstLeast}, Costs.{path_cost, received_cost}};
 ghost use Rattle.p25_trellis.specs.Least.{rest_in, step_cost, HasLeastFrom, IsLowestLeast};
 
 use super::rate::Rate;

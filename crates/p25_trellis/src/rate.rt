@@ -1,8 +1,7 @@
 //! The two rates: their tables of points, and the nibbles of the points.
 
 ghost use Rattle.std.specs.Prelude.{◌≡◌, ◌≢◌, ℕ, ◌<◌, ◌≤◌, length, slice_index};
-ghost use Rattle.p25_trellis.specs.Tables.{nibble_distance};
-ghost use Rattle.p25_trellis.specs.TableLaws.{IsRate};
+ghost use Rattle.p25_trellis.specs.{Tables.{nibble_distance}, TableLaws.{IsRate}};
 
 use super::tables::{HALF_DISTANCES, HALF_SYMBOLS, THREE_QUARTER_DISTANCES, THREE_QUARTER_SYMBOLS};
 
@@ -104,8 +103,7 @@ impl Rate for Half {
 
     const APART: u32 = 5;
 
-    ghost use Rattle.p25_trellis.specs.Tables.{half_point};
-    ghost use Rattle.p25_trellis.specs.TableLaws.{half_parted, half_is_rate};
+    ghost use Rattle.p25_trellis.specs.{Tables.{half_point}, TableLaws.{half_parted, half_is_rate}};
 
     ghost STATES = { 4 };
 
@@ -144,8 +142,7 @@ impl Rate for ThreeQuarter {
 
     const APART: u32 = 3;
 
-    ghost use Rattle.p25_trellis.specs.Tables.{three_quarter_point};
-    ghost use Rattle.p25_trellis.specs.TableLaws.{three_quarter_parted, three_quarter_is_rate};
+    ghost use Rattle.p25_trellis.specs.{Tables.{three_quarter_point}, TableLaws.{three_quarter_parted, three_quarter_is_rate}};
 
     ghost STATES = { 8 };
 

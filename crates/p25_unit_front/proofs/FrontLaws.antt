@@ -1,25 +1,15 @@
 -- The laws of a unit's front: its two parts, its form by places, and where it stands in a sent unit. Each goes by cutting
 -- lists at known lengths.
 use Rattle.std.proofs.Common.{◌≡◌, ◌↔◌, ◌<◌, Option, Some, ℕ, ◌+◌, ◌*◌, ◌≤◌, Bool, List, ◌++◌, length, take, drop, ap, ap₂, sym, ◌∙◌, subst, arith, length-append, length-drop, length-take}
-use Rattle.std.proofs.Math.Seq.{take-add, take-append-add, take-length}
-use Rattle.std.proofs.lemmas.List.{length-take-le, take-append-drop, drop-drop, take-append-le, take-take, take_at, drop_at}
-use Rattle.p25_bits.specs.Bits.{bits_of, field_of, part}
-use Rattle.p25_bits.proofs.NumbersLaws.{field-lt}
-use Rattle.p25_bits.specs.Distance.{distance_of}
-use Rattle.p25_bits.proofs.PartLaws.{part-take}
-use Rattle.p25_bits.proofs.DistanceLaws.{distance_of-same, distance_by-append, distance_by-le}
+use Rattle.std.proofs.{Math.Seq.{take-add, take-append-add, take-length}, lemmas.List.{length-take-le, take-append-drop, drop-drop, take-append-le, take-take, take_at, drop_at}}
+use Rattle.p25_bits.specs.{Bits.{bits_of, field_of, part}, Distance.{distance_of}}
+use Rattle.p25_bits.proofs.{NumbersLaws.{field-lt}, PartLaws.{part-take}, DistanceLaws.{distance_of-same, distance_by-append, distance_by-le}}
 use Rattle.std.specs.Bool.{beq}
 use Rattle.p25_code.specs.Words.{IsEncoding}
-use Rattle.p25_status.specs.Sync.{sync_bits}
-use Rattle.p25_status.specs.Woven.{bare_of}
-use Rattle.p25_status.proofs.SyncLaws.{length-sync_bits}
-use Rattle.p25_status.proofs.WovenLaws.{part-bare_of}
-use Rattle.p25_bch_nid.specs.Bch63.{IsBch63}
-use Rattle.p25_bch_nid.specs.Bch63Laws.{one_word}
-use Rattle.p25_bch_nid.specs.NidReading.{IsNidFound, IsNidReading, nid_reading_of}
-use Rattle.p25_bch_nid.proofs.NidReadingLaws.{IsNidReading-nid_reading_of, nid_reading_of-word}
-use Rattle.p25_bch_nid.proofs.NidWordLaws.{drop-nid_word, IsEncoding-nid_word, length-nid_word, identifier_of_word-encoding}
-use Rattle.p25_bch_nid.specs.NidWord.{nid_word}
+use Rattle.p25_status.specs.{Sync.{sync_bits}, Woven.{bare_of}}
+use Rattle.p25_status.proofs.{SyncLaws.{length-sync_bits}, WovenLaws.{part-bare_of}}
+use Rattle.p25_bch_nid.specs.{Bch63.{IsBch63}, Bch63Laws.{one_word}, NidReading.{IsNidFound, IsNidReading, nid_reading_of}, NidWord.{nid_word}}
+use Rattle.p25_bch_nid.proofs.{NidReadingLaws.{IsNidReading-nid_reading_of, nid_reading_of-word}, NidWordLaws.{drop-nid_word, IsEncoding-nid_word, length-nid_word, identifier_of_word-encoding}}
 use Rattle.p25_unit_front.specs.Front.{unit_front, IsFront, identifier_bits, identifier_of, front_of, front_fixes_of}
 
 -- the parts of a front

@@ -1,13 +1,9 @@
 -- The front of a unit: its frame sync and its network identifier (NID).
 use Rattle.std.specs.Prelude.{◌≡◌, ◌==◌, ℕ, Bool, List, [], ◌∷◌, ◌++◌, length, take, Option}
-use Rattle.p25_bits.specs.Bits.{bits_of, part}
-use Rattle.p25_bits.specs.Distance.{distance_of}
+use Rattle.p25_bits.specs.{Bits.{bits_of, part}, Distance.{distance_of}}
 use Rattle.p25_code.specs.Words.{IsEncoding}
 use Rattle.p25_status.specs.Sync.{sync_bits}
-use Rattle.p25_bch_nid.specs.Bch63.{IsBch63}
-use Rattle.p25_bch_nid.specs.Nid.{parity_of}
-use Rattle.p25_bch_nid.specs.NidReading.{nid_reading_of}
-use Rattle.p25_bch_nid.specs.NidWord.{nid_word}
+use Rattle.p25_bch_nid.specs.{Bch63.{IsBch63}, Nid.{parity_of}, NidReading.{nid_reading_of}, NidWord.{nid_word}}
 
 -- the first 112 bits of a unit: the sync and the network identifier (NID)
 unfoldable pub unit_front : ℕ → ℕ → List Bool

@@ -3,11 +3,9 @@ use Rattle.std.proofs.Common.{◌≡◌, ◌≤◌, Bool, List, ◌++◌, length
 use Rattle.p25_bch_nid.specs.declared.nid.ReadNid.{ReadNid}
 use Rattle.p25_unit_front.specs.Front.{front_fixes_of, identifier_of}
 use Rattle.p25_unit_front.proofs.FrontLaws.{front_fixes_of-append, identifier_of-append}
-use Rattle.p25_packet_blocks.specs.declared.head.ReadHead.{ReadHead}
-use Rattle.p25_packet_blocks.specs.UnitReading.{sent_read_of}
+use Rattle.p25_packet_blocks.specs.{declared.head.ReadHead.{ReadHead}, UnitReading.{sent_read_of}}
 use Rattle.p25_packet_blocks.proofs.UnitLaws.{sent_read_of-append}
-use Rattle.p25_units.specs.Begins.{IsIdentifier, IsHeader, IsBegun}
-use Rattle.p25_units.specs.declared.begun.Begun.{Begun}
+use Rattle.p25_units.specs.{Begins.{IsIdentifier, IsHeader, IsBegun}, declared.begun.Begun.{Begun}}
 
 -- nothing
 pub IsBegun-none : (begun : Begun) (bits : List Bool) → begun.nid ≡ None → begun.head ≡ None → IsBegun begun bits

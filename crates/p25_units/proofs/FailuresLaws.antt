@@ -1,23 +1,15 @@
 -- A unit that is refused has a field that fails: by its kind, and by what was read of each of its fields.
 use Rattle.std.proofs.Common.{◌≡◌, ℕ, ◌%◌, ◌<◌, inl, inr, Bool, List, [], ◌∷◌, length, take, Some, Result, Ok, Err, refl, ap, sym, ◌∙◌, arith}
 use Rattle.std.specs.Prelude.{IfErr}
-use Rattle.p25_status.specs.Woven.{bare_of, statuses_of}
-use Rattle.p25_status.specs.declared.fields.Field.{Field}
+use Rattle.p25_status.specs.{Woven.{bare_of, statuses_of}, declared.fields.Field.{Field}}
 use Rattle.p25_unit_front.specs.Front.{identifier_of}
 use Rattle.p25_unit_front.proofs.FrontLaws.{identifier_of-take}
-use Rattle.p25_voice_units.specs.declared.unit.VoiceUnit.{VoiceUnit}
-use Rattle.p25_voice_units.specs.Readings.{voice_reading_of}
+use Rattle.p25_voice_units.specs.{declared.unit.VoiceUnit.{VoiceUnit}, Readings.{voice_reading_of}}
 use Rattle.p25_voice_units.proofs.FailuresLaws.{first_fails, voice_fails}
-use Rattle.p25_packet_blocks.specs.declared.packet.Packet.{Packet as packet_type}
-use Rattle.p25_packet_blocks.specs.Outcomes.{failing_blocks_of}
-use Rattle.p25_packet_blocks.specs.Reading.{packet_reading_of}
-use Rattle.p25_units.specs.Needs.{need_of}
-use Rattle.p25_units.specs.Readings.{body_from, whole_from, packet_body_from, body_reading_of, frame_from, unit_reading_of}
-use Rattle.p25_units.specs.declared.unit.Body.{Body}
-use Rattle.p25_units.specs.declared.frame.Frame.{Frame}
+use Rattle.p25_packet_blocks.specs.{declared.packet.Packet.{Packet as packet_type}, Outcomes.{failing_blocks_of}, Reading.{packet_reading_of}}
+use Rattle.p25_units.specs.{Needs.{need_of}, Readings.{body_from, whole_from, packet_body_from, body_reading_of, frame_from, unit_reading_of}, declared.unit.Body.{Body}, declared.frame.Frame.{Frame}}
 use Rattle.p25_units.specs.declared.needs.Need.TheVariants.{Length}
-use Rattle.p25_units.proofs.NeedsLaws.{IsIdentified-from, need_of-there}
-use Rattle.p25_units.proofs.KindsLaws.{IsUnitOf, IsUnitOf-need}
+use Rattle.p25_units.proofs.{NeedsLaws.{IsIdentified-from, need_of-there}, KindsLaws.{IsUnitOf, IsUnitOf-need}}
 use Rattle.p25_units.proofs.ReadingsLaws.{body_reading_of-packet, body_reading_of-voice, reading_from-some, unit_reading_of-read}
 
 -- Voice units.

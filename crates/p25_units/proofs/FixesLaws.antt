@@ -1,31 +1,18 @@
 -- The fixes of a frame are those of its front and those after it, by cutting the lists of looked-at bits.
 use Rattle.std.proofs.Common.{◌≡◌, ℕ, zero, suc, ◌+◌, ◌*◌, ◌≤◌, Bool, List, [], ◌∷◌, ◌++◌, length, take, drop, refl, ap, ap₂, sym, ◌∙◌, arith, append-nil, append_assoc, length-drop}
-use Rattle.std.specs.Bool.{beq}
 use Rattle.std.proofs.lemmas.List.{take-take, length-take-le}
-use Rattle.p25_bits.specs.Bits.{part}
-use Rattle.p25_bits.specs.Numbers.{each_below}
-use Rattle.p25_bits.specs.Distance.{distance_of}
-use Rattle.p25_bits.proofs.PartLaws.{part_add}
-use Rattle.p25_bits.proofs.NumbersLaws.{each_below-zero, each_below-suc}
-use Rattle.p25_bits.proofs.DistanceLaws.{distance_of-same, distance_by-append}
+use Rattle.std.specs.Bool.{beq}
+use Rattle.p25_bits.specs.{Bits.{part}, Numbers.{each_below}, Distance.{distance_of}}
+use Rattle.p25_bits.proofs.{PartLaws.{part_add}, NumbersLaws.{each_below-zero, each_below-suc}, DistanceLaws.{distance_of-same, distance_by-append}}
 use Rattle.p25_status.specs.Woven.{bare_of}
 use Rattle.p25_status.proofs.WovenLaws.{length-bare_of}
 use Rattle.p25_unit_front.specs.Front.{unit_front, front_of, front_fixes_of}
 use Rattle.p25_unit_front.proofs.FrontLaws.{front_of-bare_of, front_fixes_of-take}
-use Rattle.p25_voice_units.specs.declared.unit.VoiceUnit.{VoiceUnit}
-use Rattle.p25_voice_units.specs.declared.unit.VoiceUnit.TheVariants.{End}
-use Rattle.p25_voice_units.specs.Fixes.{voice_looked, bits_at, voice_fixes_of}
-use Rattle.p25_voice_units.specs.Images.{voice_image_of}
+use Rattle.p25_voice_units.specs.{declared.unit.VoiceUnit.{VoiceUnit}, declared.unit.VoiceUnit.TheVariants.{End}, Fixes.{voice_looked, bits_at, voice_fixes_of}, Images.{voice_image_of}}
 use Rattle.p25_voice_units.proofs.FixesLaws.{bits_at-append}
-use Rattle.p25_packet_blocks.specs.declared.packet.Packet.{Packet as packet_type}
-use Rattle.p25_packet_blocks.specs.Heads.{head_blocks}
-use Rattle.p25_packet_blocks.specs.Image.{packet_image_of}
-use Rattle.p25_packet_blocks.specs.Whole.{packet_head}
-use Rattle.p25_units.specs.UnitParts.{UnitParts}
-use Rattle.p25_units.specs.Units.{body_duid, frame_length_of, unit_image_of, image_of, IsSoundFrame, IsSendableBody, IsSendableUnit}
-use Rattle.p25_units.specs.Fixes.{packet_looked, body_looked, looked_of, body_fixes_of, fixes_of}
-use Rattle.p25_units.specs.declared.unit.Body.TheVariants.{Voice, Packet}
-use Rattle.p25_units.specs.declared.frame.Frame.{Frame}
+use Rattle.p25_packet_blocks.specs.{declared.packet.Packet.{Packet as packet_type}, Heads.{head_blocks}, Image.{packet_image_of}, Whole.{packet_head}}
+use Rattle.p25_units.specs.{UnitParts.{UnitParts}, Units.{body_duid, frame_length_of, unit_image_of, image_of, IsSoundFrame, IsSendableBody, IsSendableUnit}}
+use Rattle.p25_units.specs.{Fixes.{packet_looked, body_looked, looked_of, body_fixes_of, fixes_of}, declared.unit.Body.TheVariants.{Voice, Packet}, declared.frame.Frame.{Frame}}
 use Rattle.p25_units.proofs.UnitsLaws.{blocks-sound, unit_image_of-front, bare_of-image_of, length-unit_image_of, IsSentLength-body}
 
 -- the bits at one place, and at none

@@ -4,11 +4,8 @@ use Rattle.p25_status.specs.Woven.{woven}
 use Rattle.p25_status.proofs.PlacesSteps.{woven-places, StandsByPlaces-unique}
 use Rattle.p25_voice_units.proofs.ImagesLaws.{IsVoiceImage-iff}
 use Rattle.p25_packet_blocks.proofs.PlacesLaws.{IsPacketImage-image, IsPacketImage-only}
-use Rattle.p25_units.specs.ImagePlaces.{IsBodyImage, IsImage}
-use Rattle.p25_units.specs.Units.{body_image_of, unit_image_of, image_of, IsSoundFrame, IsSendableBody, IsSendableUnit}
-use Rattle.p25_units.specs.declared.unit.Body.{Body}
-use Rattle.p25_units.specs.declared.unit.Body.TheVariants.{Voice, Packet}
-use Rattle.p25_units.specs.declared.frame.Frame.{Frame}
+use Rattle.p25_units.specs.{ImagePlaces.{IsBodyImage, IsImage}, Units.{body_image_of, unit_image_of, image_of, IsSoundFrame, IsSendableBody, IsSendableUnit}, declared.unit.Body.{Body}}
+use Rattle.p25_units.specs.{declared.unit.Body.TheVariants.{Voice, Packet}, declared.frame.Frame.{Frame}}
 use Rattle.p25_units.proofs.UnitsLaws.{symbols-image}
 
 -- bits are those of what a unit carries exactly where they stand by places

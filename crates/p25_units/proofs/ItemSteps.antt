@@ -1,16 +1,9 @@
 -- The items of units whose identifiers were read, by what they are read as.
-use Rattle.std.proofs.Common.{◌≡◌, ℕ, ◌≤◌, Bool, List, length, drop, Some, Result, Ok, Err, ap, sym, ◌∙◌, arith, length-drop}
-use Rattle.std.proofs.lemmas.List.{length-take-le}
+use Rattle.std.proofs.{Common.{◌≡◌, ℕ, ◌≤◌, Bool, List, length, drop, Some, Result, Ok, Err, ap, sym, ◌∙◌, arith, length-drop}, lemmas.List.{length-take-le}}
 use Rattle.p25_bits.specs.Bits.{part}
 use Rattle.p25_status.specs.declared.fields.Field.{Field}
-use Rattle.p25_units.specs.Fixes.{fixes_of}
-use Rattle.p25_units.specs.Items.{item_from}
-use Rattle.p25_units.specs.Needs.{kind_need}
-use Rattle.p25_units.specs.Readings.{reading_from}
-use Rattle.p25_units.specs.declared.frame.Frame.{Frame}
-use Rattle.p25_units.specs.declared.item.Item.{Item}
-use Rattle.p25_units.specs.declared.item.Item.TheVariants.{Whole, Broken}
-use Rattle.p25_units.specs.declared.needs.Need.TheVariants.{Length}
+use Rattle.p25_units.specs.{Fixes.{fixes_of}, Items.{item_from}, Needs.{kind_need}, Readings.{reading_from}, declared.frame.Frame.{Frame}, declared.item.Item.{Item}}
+use Rattle.p25_units.specs.{declared.item.Item.TheVariants.{Whole, Broken}, declared.needs.Need.TheVariants.{Length}}
 use Rattle.p25_units.proofs.UnitPlaceLaws.{IsCountAt-kind}
 
 -- the bits of a unit are as many as its count

@@ -1,19 +1,11 @@
 -- The item of a unit covers its bits, begins at its place, is sound and is no gap: by cases of its identifier and reading.
-use Rattle.std.proofs.Common.{◌≡◌, ℕ, ◌%◌, ◌<◌, ◌≤◌, Bool, List, length, take, Option, Some, None, Result, Ok, Err, refl, ap, sym, ◌∙◌, subst, arith}
-use Rattle.std.proofs.lemmas.List.{length-take-le}
+use Rattle.std.proofs.{Common.{◌≡◌, ℕ, ◌%◌, ◌<◌, ◌≤◌, Bool, List, length, take, Option, Some, None, Result, Ok, Err, refl, ap, sym, ◌∙◌, subst, arith}, lemmas.List.{length-take-le}}
 use Rattle.p25_status.specs.declared.fields.Field.{Field}
 use Rattle.p25_unit_front.specs.Front.{identifier_of}
 use Rattle.p25_unit_front.proofs.FrontLaws.{identifier_of-take, identifier_of-fits}
-use Rattle.p25_units.specs.Readings.{reading_from}
-use Rattle.p25_units.specs.Items.{covered, place_of, IsSoundItem, item_from, identified_item, unit_item_of}
-use Rattle.p25_units.specs.Needs.{need_of}
-use Rattle.p25_units.specs.declared.frame.Frame.{Frame}
-use Rattle.p25_units.specs.declared.needs.Need.TheVariants.{Length}
-use Rattle.p25_units.specs.declared.item.Item.{Item}
-use Rattle.p25_units.specs.declared.item.Item.TheVariants.{Gap}
-use Rattle.p25_units.proofs.NeedsLaws.{IsIdentified-from, IsHead-kind, need_of-there}
-use Rattle.p25_units.proofs.KindsLaws.{IsUnitOf-need}
-use Rattle.p25_units.proofs.ReadingsLaws.{IsFrameOf, IsFrameOf-reading}
+use Rattle.p25_units.specs.{Readings.{reading_from}, Items.{covered, place_of, IsSoundItem, item_from, identified_item, unit_item_of}, Needs.{need_of}, declared.frame.Frame.{Frame}}
+use Rattle.p25_units.specs.{declared.needs.Need.TheVariants.{Length}, declared.item.Item.{Item}, declared.item.Item.TheVariants.{Gap}}
+use Rattle.p25_units.proofs.{NeedsLaws.{IsIdentified-from, IsHead-kind, need_of-there}, KindsLaws.{IsUnitOf-need}, ReadingsLaws.{IsFrameOf, IsFrameOf-reading}}
 
 -- by what was read
 pub unit_item_of-read : (place : ℕ) (sent : List Bool) (read : Option (ℕ × ℕ)) → identifier_of sent ≡ read → unit_item_of place sent ≡ identified_item place sent read

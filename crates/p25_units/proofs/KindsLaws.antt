@@ -1,21 +1,11 @@
 -- The bits of a unit whose length is known, by its kind: what its DUID or its header tells of its length.
 use Rattle.std.proofs.Common.{◌≡◌, ◌≢◌, ℕ, ◌*◌, ◌/◌, ◌%◌, ◌<◌, ◌≤◌, ◌⊎◌, inl, inr, Bool, List, length, take, Option, Some, None, Result, Ok, Err, refl, ap, sym, ◌∙◌, subst, arith}
-use Rattle.std.proofs.lemmas.Bool.{cases_eq, cases_lt}
-use Rattle.std.proofs.lemmas.List.{length-take-le}
-use Rattle.p25_status.specs.Woven.{bare_of}
-use Rattle.p25_status.specs.declared.fields.Field.{Field}
-use Rattle.p25_status.specs.declared.fields.Field.TheVariants.{Duid}
+use Rattle.std.proofs.{lemmas.Bool.{cases_eq, cases_lt}, lemmas.List.{length-take-le}}
+use Rattle.p25_status.specs.{Woven.{bare_of}, declared.fields.Field.{Field}, declared.fields.Field.TheVariants.{Duid}}
 use Rattle.p25_voice_units.specs.Lengths.{voice_length_of}
-use Rattle.p25_packet_blocks.specs.declared.head.PacketHead.{PacketHead}
-use Rattle.p25_packet_blocks.specs.Heads.{head_blocks}
-use Rattle.p25_packet_blocks.specs.Lengths.{packet_sent_length}
-use Rattle.p25_packet_blocks.specs.Reading.{head_reading_of}
-use Rattle.p25_packet_blocks.specs.UnitReading.{sent_head_of}
-use Rattle.p25_packet_blocks.proofs.SentLaws.{sent_head_of-bare_of}
-use Rattle.p25_packet_blocks.proofs.UnitLaws.{sent_head_of-take}
-use Rattle.p25_units.specs.Units.{sent_length}
-use Rattle.p25_units.specs.Needs.{voice_need, head_need, packet_need, kind_need}
-use Rattle.p25_units.specs.declared.needs.Need.TheVariants.{More, Length, NoLength}
+use Rattle.p25_packet_blocks.specs.{declared.head.PacketHead.{PacketHead}, Heads.{head_blocks}, Lengths.{packet_sent_length}, Reading.{head_reading_of}, UnitReading.{sent_head_of}}
+use Rattle.p25_packet_blocks.proofs.{SentLaws.{sent_head_of-bare_of}, UnitLaws.{sent_head_of-take}}
+use Rattle.p25_units.specs.{Units.{sent_length}, Needs.{voice_need, head_need, packet_need, kind_need}, declared.needs.Need.TheVariants.{More, Length, NoLength}}
 use Rattle.p25_units.proofs.PacketNeedLaws.{length_need-is}
 use Rattle.p25_units.proofs.NeedsLaws.{voice_need-none, voice_need-some, head_need-bad, head_need-good, packet_need-short, packet_need-long, kind_need-packet, kind_need-unpacked, IsHead-kind}
 

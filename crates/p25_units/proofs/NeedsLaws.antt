@@ -2,22 +2,14 @@
 -- that is added has to meet `IsHead` and nothing else.
 use Rattle.std.proofs.Common.{◌≡◌, ◌≢◌, ℕ, ◌%◌, ◌<◌, ◌≤◌, inl, inr, Bool, true, false, cond, eqb, ltb, List, ◌++◌, length, Option, Some, None, Result, Ok, Err, refl, ap, sym, ◌∙◌, subst, arith, length-append}
 use Rattle.std.proofs.lemmas.Bool.{cases_Bool, cases_eq, cases_lt, lt-ltb, le-ltb, ne_eqb, cond-true, cond-false}
-use Rattle.p25_status.specs.Sync.{has_sync}
+use Rattle.p25_status.specs.{Sync.{has_sync}, declared.fields.Field.{Field}, declared.fields.Field.TheVariants.{Nid, Duid}}
 use Rattle.p25_status.proofs.SyncLaws.{has_sync-length, has_sync-append}
-use Rattle.p25_status.specs.declared.fields.Field.{Field}
-use Rattle.p25_status.specs.declared.fields.Field.TheVariants.{Nid, Duid}
 use Rattle.p25_unit_front.specs.Front.{identifier_of}
 use Rattle.p25_unit_front.proofs.FrontLaws.{identifier_of-append}
 use Rattle.p25_voice_units.specs.Lengths.{voice_length_of}
-use Rattle.p25_packet_blocks.specs.declared.head.PacketHead.{PacketHead}
-use Rattle.p25_packet_blocks.specs.Heads.{head_blocks}
-use Rattle.p25_packet_blocks.specs.Lengths.{packet_sent_length}
-use Rattle.p25_packet_blocks.specs.UnitReading.{sent_head_of}
-use Rattle.p25_packet_blocks.proofs.HeadLaws.{head_blocks-lt}
-use Rattle.p25_packet_blocks.proofs.UnitLaws.{sent_head_of-append}
-use Rattle.p25_units.specs.Units.{sent_length}
-use Rattle.p25_units.specs.Needs.{length_need, voice_need, head_need, packet_need, kind_need, identified_need, synced_need, need_of, is_known}
-use Rattle.p25_units.specs.declared.needs.Need.{Need}
+use Rattle.p25_packet_blocks.specs.{declared.head.PacketHead.{PacketHead}, Heads.{head_blocks}, Lengths.{packet_sent_length}, UnitReading.{sent_head_of}}
+use Rattle.p25_packet_blocks.proofs.{HeadLaws.{head_blocks-lt}, UnitLaws.{sent_head_of-append}}
+use Rattle.p25_units.specs.{Units.{sent_length}, Needs.{length_need, voice_need, head_need, packet_need, kind_need, identified_need, synced_need, need_of, is_known}, declared.needs.Need.{Need}}
 use Rattle.p25_units.specs.declared.needs.Need.TheVariants.{NoSync, More, Length, NoLength}
 use Rattle.p25_units.proofs.UnitsLaws.{IsSentLength, IsSentLength-voice}
 

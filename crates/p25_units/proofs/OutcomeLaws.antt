@@ -1,33 +1,17 @@
 -- What a reading sets in its place: a body by its voice unit or its packet, a frame by its body, an item by its frame. By cases of the
 -- outcome.
 use Rattle.std.proofs.Common.{◌≡◌, ℕ, ◌≤◌, Bool, List, [], ◌∷◌, length, refl, sym, ◌∙◌, arith, ◌+◌, ◌*◌, drop, Result, Ok, Err, ap, length-drop, length-take}
-use Rattle.p25_status.specs.Outcomes.{IfRead, outcome_of, read_or}
-use Rattle.p25_status.specs.declared.fields.Field.{Field}
-use Rattle.p25_status.specs.declared.outcome.Outcome.{Outcome}
-use Rattle.p25_status.specs.declared.outcome.Outcome.TheVariants.{Read, Failing}
-use Rattle.p25_voice_units.specs.Fixes.{AreFixes}
-use Rattle.p25_voice_units.specs.declared.unit.VoiceUnit.{VoiceUnit}
-use Rattle.p25_packet_blocks.specs.declared.packet.Packet.{Packet as packet_type}
-use Rattle.p25_packet_blocks.specs.Fixes.{packet_fixes_of}
-use Rattle.p25_packet_blocks.specs.Reading.{packet_reading_of, header_bits, packet_of_head, read_head_of, HasItsLength}
-use Rattle.p25_packet_blocks.specs.Whole.{packet_head}
-use Rattle.p25_units.specs.UnitParts.{UnitParts}
-use Rattle.p25_units.specs.Fixes.{body_fixes_of}
-use Rattle.p25_units.specs.Readings.{packet_body_from, whole_from}
-use Rattle.p25_units.specs.declared.unit.Body.TheVariants.{Packet, Voice}
+use Rattle.p25_status.specs.{Outcomes.{IfRead, outcome_of, read_or}, declared.fields.Field.{Field}, declared.outcome.Outcome.{Outcome}, declared.outcome.Outcome.TheVariants.{Read, Failing}}
+use Rattle.p25_voice_units.specs.{Fixes.{AreFixes}, declared.unit.VoiceUnit.{VoiceUnit}}
+use Rattle.p25_packet_blocks.specs.{declared.packet.Packet.{Packet as packet_type}, Fixes.{packet_fixes_of}, Reading.{packet_reading_of, header_bits, packet_of_head, read_head_of, HasItsLength}}
+use Rattle.p25_packet_blocks.specs.{Whole.{packet_head}, declared.head.ReadHead.{ReadHead}, Heads.{head_blocks}, Image.{packet_image_of}, Lengths.{packet_bits}}
+use Rattle.p25_packet_blocks.specs.Outcomes.{body_distance, failing_blocks_of, packet_failing, packet_outcome_of}
+use Rattle.p25_units.specs.{UnitParts.{UnitParts}, Fixes.{body_fixes_of}, Readings.{packet_body_from, whole_from}, declared.unit.Body.TheVariants.{Packet, Voice}, declared.unit.Body.{Body}}
 use Rattle.p25_units.proofs.FixesLaws.{body_fixes_of-packet, body_fixes_of-voice}
-use Rattle.std.specs.Prelude.{IfOk}
-use Rattle.std.specs.Bool.{beq}
+use Rattle.std.specs.{Prelude.{IfOk}, Bool.{beq}}
 use Rattle.p25_bits.specs.Bits.{part}
 use Rattle.p25_bits.proofs.DistanceLaws.{distance_by-le}
-use Rattle.p25_packet_blocks.specs.declared.head.ReadHead.{ReadHead}
-use Rattle.p25_packet_blocks.specs.Heads.{head_blocks}
-use Rattle.p25_packet_blocks.specs.Image.{packet_image_of}
-use Rattle.p25_packet_blocks.specs.Lengths.{packet_bits}
-use Rattle.p25_packet_blocks.specs.Outcomes.{body_distance, failing_blocks_of, packet_failing, packet_outcome_of}
-use Rattle.p25_packet_blocks.proofs.OutcomeLaws.{head_reading_of-read}
-use Rattle.p25_packet_blocks.proofs.ReadingLaws.{packet_reading_of-good, HasItsLength-head}
-use Rattle.p25_units.specs.declared.unit.Body.{Body}
+use Rattle.p25_packet_blocks.proofs.{OutcomeLaws.{head_reading_of-read}, ReadingLaws.{packet_reading_of-good, HasItsLength-head}}
 
 -- the wrong bits of a voice unit are those of the body
 pub voice-wrong : (outcome : Outcome) (nac : ℕ) (voice : VoiceUnit) (bare : List Bool) → IfRead outcome (λ wrong. AreFixes voice bare wrong)

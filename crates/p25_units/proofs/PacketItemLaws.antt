@@ -1,24 +1,12 @@
 -- The frame of a unit that was read: its fixes are those of its front and those after it.
 use Rattle.std.proofs.Common.{◌≡◌, ℕ, ◌+◌, ◌≤◌, Bool, List, length, drop, Some, Result, Ok, Err, refl, ap, sym, subst, ◌∙◌, arith}
 use Rattle.p25_bits.specs.Bits.{part}
-use Rattle.p25_status.specs.Woven.{bare_of, statuses_of}
-use Rattle.p25_status.specs.Outcomes.{IfRead, read_or}
-use Rattle.p25_status.specs.declared.fields.Field.{Field}
-use Rattle.p25_status.specs.declared.outcome.Outcome.{Outcome}
-use Rattle.p25_status.specs.declared.outcome.Outcome.TheVariants.{Read, Failing}
-use Rattle.p25_status.specs.declared.symbols.Status.{Status}
+use Rattle.p25_status.specs.{Woven.{bare_of, statuses_of}, Outcomes.{IfRead, read_or}, declared.fields.Field.{Field}, declared.outcome.Outcome.{Outcome}}
+use Rattle.p25_status.specs.{declared.outcome.Outcome.TheVariants.{Read, Failing}, declared.symbols.Status.{Status}}
 use Rattle.p25_unit_front.specs.Front.{front_fixes_of}
-use Rattle.p25_units.specs.UnitParts.{UnitParts}
-use Rattle.p25_units.specs.Fixes.{body_fixes_of, fixes_of}
-use Rattle.p25_units.specs.Needs.{kind_need}
-use Rattle.p25_units.specs.Readings.{body_reading_of, reading_from}
-use Rattle.p25_units.specs.Units.{frame_length_of}
-use Rattle.p25_units.specs.declared.frame.Frame.{Frame}
+use Rattle.p25_units.specs.{UnitParts.{UnitParts}, Fixes.{body_fixes_of, fixes_of}, Needs.{kind_need}, Readings.{body_reading_of, reading_from}, Units.{frame_length_of}, declared.frame.Frame.{Frame}}
 use Rattle.p25_units.specs.declared.needs.Need.TheVariants.{Length}
-use Rattle.p25_units.proofs.FixesLaws.{fixes_in}
-use Rattle.p25_units.proofs.KindsLaws.{IsUnitOf-need}
-use Rattle.p25_units.proofs.ReadingsLaws.{IsFrameOf-reading}
-use Rattle.p25_units.proofs.UnitPlaceLaws.{IsCountAt-kind, frame-is, reading-is}
+use Rattle.p25_units.proofs.{FixesLaws.{fixes_in}, KindsLaws.{IsUnitOf-need}, ReadingsLaws.{IsFrameOf-reading}, UnitPlaceLaws.{IsCountAt-kind, frame-is, reading-is}}
 
 -- the frame of a whole unit by what it carries
 pub whole_frame-is : (nac duid : ℕ) (sent : List Bool) (unit : UnitParts) (statuses : List Status) → unit.nac ≡ nac → statuses ≡ statuses_of sent → Ok unit.body ≡ body_reading_of duid (bare_of sent)

@@ -1,19 +1,12 @@
 -- The bits of a packet need no more by themselves than among others: its identifier and its header are read from them, and they are as many as it tells.
-use Rattle.std.proofs.Common.{◌≡◌, ℕ, ◌≤◌, inl, inr, Bool, true, List, length, take, ap, sym, ◌∙◌, arith, Some, Result, Ok, Err}
-use Rattle.std.proofs.lemmas.Bool.{cases_lt}
-use Rattle.std.proofs.lemmas.List.{length-take-le}
-use Rattle.p25_status.specs.Sync.{has_sync}
-use Rattle.p25_status.specs.declared.fields.Field.{Field}
+use Rattle.std.proofs.{Common.{◌≡◌, ℕ, ◌≤◌, inl, inr, Bool, true, List, length, take, ap, sym, ◌∙◌, arith, Some, Result, Ok, Err}, lemmas.Bool.{cases_lt}, lemmas.List.{length-take-le}}
+use Rattle.p25_status.specs.{Sync.{has_sync}, declared.fields.Field.{Field}}
 use Rattle.p25_status.proofs.SyncLaws.{has_sync-take}
 use Rattle.p25_unit_front.specs.Front.{identifier_of}
 use Rattle.p25_unit_front.proofs.FrontLaws.{identifier_of-take}
-use Rattle.p25_packet_blocks.specs.declared.head.PacketHead.{PacketHead}
-use Rattle.p25_packet_blocks.specs.Heads.{head_blocks}
-use Rattle.p25_packet_blocks.specs.Lengths.{packet_sent_length}
-use Rattle.p25_packet_blocks.specs.UnitReading.{sent_head_of}
+use Rattle.p25_packet_blocks.specs.{declared.head.PacketHead.{PacketHead}, Heads.{head_blocks}, Lengths.{packet_sent_length}, UnitReading.{sent_head_of}}
 use Rattle.p25_packet_blocks.proofs.UnitLaws.{sent_head_of-take}
-use Rattle.p25_units.specs.declared.needs.Need.TheVariants.{More, Length, NoLength}
-use Rattle.p25_units.specs.Needs.{head_need, kind_need, length_need, need_of, packet_need}
+use Rattle.p25_units.specs.{declared.needs.Need.TheVariants.{More, Length, NoLength}, Needs.{head_need, kind_need, length_need, need_of, packet_need}}
 use Rattle.p25_units.proofs.NeedsLaws.{head_need-bad, head_need-good, identified_need-some, kind_need-packet, length_need-more, length_need-there, need_of-synced, packet_need-long, packet_need-short, synced_need-read}
 
 -- a length that is there is the one that was asked for

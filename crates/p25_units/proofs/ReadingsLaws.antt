@@ -1,47 +1,22 @@
 -- What units are read as: a frame that was read is sound, can be sent and is as long as its bits, and bits that have few wrong
 -- ones read as the frame. By cases of what it carries.
 use Rattle.std.proofs.Common.{◌≡◌, ◌≢◌, ℕ, ◌*◌, inl, inr, Bool, eqb, List, [], ◌∷◌, length, Option, Some, Result, Ok, Err, refl, ap, sym, ◌∙◌, subst, arith}
-use Rattle.std.specs.Option.{unwrap_or}
 use Rattle.std.proofs.lemmas.Bool.{cases_eq, cond-false, ne_eqb}
-use Rattle.p25_status.specs.Woven.{bare_of, statuses_of}
+use Rattle.std.specs.Option.{unwrap_or}
+use Rattle.p25_status.specs.{Woven.{bare_of, statuses_of}, declared.fields.Field.{Field}, declared.symbols.Status.{Status}}
 use Rattle.p25_status.proofs.WovenLaws.{length-statuses_of}
-use Rattle.p25_status.specs.declared.fields.Field.{Field}
-use Rattle.p25_status.specs.declared.symbols.Status.{Status}
 use Rattle.p25_unit_front.specs.Front.{identifier_of}
-use Rattle.p25_voice_units.specs.declared.unit.VoiceUnit.{VoiceUnit}
-use Rattle.p25_voice_units.specs.Lengths.{voice_duid, voice_length_of}
-use Rattle.p25_voice_units.specs.Readings.{voice_reading_of}
-use Rattle.p25_voice_units.specs.Images.{voice_image_of}
+use Rattle.p25_voice_units.specs.{declared.unit.VoiceUnit.{VoiceUnit}, Lengths.{voice_duid, voice_length_of}, Readings.{voice_reading_of}, Images.{voice_image_of}, WithinRadius.{IsVoiceWithin}}
 pub use Rattle.p25_voice_units.proofs.RadiusLaws.{IsVoiceImage-same}
-use Rattle.p25_voice_units.proofs.RadiusLaws.{voice_within}
-use Rattle.p25_voice_units.proofs.ReadingLaws.{IsUnitOf as IsVoiceOf, unit_read}
-use Rattle.p25_voice_units.proofs.WholeLaws.{voice_whole}
-use Rattle.p25_voice_units.specs.WithinRadius.{IsVoiceWithin}
-use Rattle.p25_packet_blocks.specs.declared.head.PacketHead.{PacketHead}
-use Rattle.p25_packet_blocks.specs.declared.block.Slot.TheVariants.{Good, Bad}
-use Rattle.p25_packet_blocks.specs.declared.packet.Packet.{Packet as packet_type}
-use Rattle.p25_packet_blocks.specs.declared.packet.Packet.TheVariants.{Confirmed, Plain}
-use Rattle.p25_packet_blocks.specs.Heads.{head_blocks}
-use Rattle.p25_packet_blocks.specs.Lengths.{packet_sent_length}
-use Rattle.p25_packet_blocks.specs.Outcomes.{failing_blocks_of}
-use Rattle.p25_packet_blocks.specs.Reading.{head_reading_of, packet_reading_of}
-use Rattle.p25_packet_blocks.specs.Sendable.{IsSendable}
-use Rattle.p25_packet_blocks.specs.Whole.{packet_head, IsWholePacket}
-use Rattle.p25_packet_blocks.proofs.NearLaws.{half_near, three_quarter_near}
-use Rattle.p25_packet_blocks.proofs.OutcomeLaws.{IsWholePacket-none, failing_blocks_of-none}
-use Rattle.p25_packet_blocks.proofs.RadiusLaws.{packet_within}
-use Rattle.p25_packet_blocks.proofs.WholeLaws.{IsWholeRead-reading}
-use Rattle.p25_units.specs.UnitParts.{UnitParts}
-use Rattle.p25_units.specs.Units.{body_duid, body_length, body_image_of, unit_image_of, sent_length, frame_length_of, IsWholeBody, IsSoundFrame, IsSendableBody}
-use Rattle.p25_units.specs.Readings.{body_from, whole_from, packet_body_from, body_reading_of, frame_from, reading_from, unit_reading_of}
-use Rattle.p25_units.specs.WholeLaws.{IsBodyRead}
-use Rattle.p25_units.specs.WithinRadius.{IsBodyWithin, received_body}
-use Rattle.p25_units.specs.declared.unit.Body.{Body}
-use Rattle.p25_units.specs.declared.unit.Body.TheVariants.{Voice, Packet}
-use Rattle.p25_units.specs.declared.frame.Frame.{Frame}
-use Rattle.p25_units.proofs.UnitsLaws.{body_length-known, sent_length-packet}
-use Rattle.p25_units.proofs.NeedsLaws.{voice-other}
-use Rattle.p25_units.proofs.KindsLaws.{IsUnitOf}
+use Rattle.p25_voice_units.proofs.{RadiusLaws.{voice_within}, ReadingLaws.{IsUnitOf as IsVoiceOf, unit_read}, WholeLaws.{voice_whole}}
+use Rattle.p25_packet_blocks.specs.{declared.head.PacketHead.{PacketHead}, declared.block.Slot.TheVariants.{Good, Bad}, declared.packet.Packet.{Packet as packet_type}}
+use Rattle.p25_packet_blocks.specs.{declared.packet.Packet.TheVariants.{Confirmed, Plain}, Heads.{head_blocks}, Lengths.{packet_sent_length}, Outcomes.{failing_blocks_of}}
+use Rattle.p25_packet_blocks.specs.{Reading.{head_reading_of, packet_reading_of}, Sendable.{IsSendable}, Whole.{packet_head, IsWholePacket}}
+use Rattle.p25_packet_blocks.proofs.{NearLaws.{half_near, three_quarter_near}, OutcomeLaws.{IsWholePacket-none, failing_blocks_of-none}, RadiusLaws.{packet_within}, WholeLaws.{IsWholeRead-reading}}
+use Rattle.p25_units.specs.{UnitParts.{UnitParts}, Units.{body_duid, body_length, body_image_of, unit_image_of, sent_length, frame_length_of, IsWholeBody, IsSoundFrame, IsSendableBody}}
+use Rattle.p25_units.specs.{Readings.{body_from, whole_from, packet_body_from, body_reading_of, frame_from, reading_from, unit_reading_of}, WholeLaws.{IsBodyRead}}
+use Rattle.p25_units.specs.{WithinRadius.{IsBodyWithin, received_body}, declared.unit.Body.{Body}, declared.unit.Body.TheVariants.{Voice, Packet}, declared.frame.Frame.{Frame}}
+use Rattle.p25_units.proofs.{UnitsLaws.{body_length-known, sent_length-packet}, NeedsLaws.{voice-other}, KindsLaws.{IsUnitOf}}
 
 -- a frame
 pub frame_of : ℕ → List Status → Body → Frame

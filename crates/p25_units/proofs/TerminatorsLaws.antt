@@ -1,27 +1,17 @@
 -- Terminators: their frames are sound, their bits are those that are sent, and bits begin with one exactly where the first 144
 -- lie within radius of its frame. By the laws of all units, at a length of two blocks.
-use Rattle.std.proofs.Common.{◌≡◌, ℕ, ◌+◌, ◌*◌, ◌<◌, ◌≤◌, Bool, List, length, take, refl, ap, ap₂, sym, ◌∙◌, subst, arith}
-use Rattle.std.proofs.lemmas.List.{length-take-le, take-take}
+use Rattle.std.proofs.{Common.{◌≡◌, ℕ, ◌+◌, ◌*◌, ◌<◌, ◌≤◌, Bool, List, length, take, refl, ap, ap₂, sym, ◌∙◌, subst, arith}, lemmas.List.{length-take-le, take-take}}
 use Rattle.p25_bits.specs.Distance.{distance_of}
-use Rattle.p25_status.specs.Sync.{sync_bits, sync_slack}
-use Rattle.p25_status.specs.Woven.{woven, bare_of, statuses_of}
-use Rattle.p25_status.specs.declared.symbols.Status.{Status}
+use Rattle.p25_status.specs.{Sync.{sync_bits, sync_slack}, Woven.{woven, bare_of, statuses_of}, declared.symbols.Status.{Status}}
 use Rattle.p25_status.proofs.WovenLaws.{length-statuses_of}
 use Rattle.p25_bch_nid.specs.NidWord.{nid_word}
 use Rattle.p25_unit_front.specs.Front.{unit_front, identifier_bits}
 use Rattle.p25_unit_front.proofs.FrontLaws.{front_of-sync, front_of-identifier, front_fixes_of-parts, identifier_bits-take}
-use Rattle.p25_voice_units.specs.declared.unit.VoiceUnit.TheVariants.{End}
-use Rattle.p25_voice_units.specs.Lengths.{voice_length_of}
-use Rattle.p25_voice_units.specs.Sendable.{IsSendableVoice}
-use Rattle.p25_voice_units.specs.WithinRadius.{IsVoiceWithin}
+use Rattle.p25_voice_units.specs.{declared.unit.VoiceUnit.TheVariants.{End}, Lengths.{voice_length_of}, Sendable.{IsSendableVoice}, WithinRadius.{IsVoiceWithin}}
 use Rattle.p25_voice_units.proofs.KindsLaws.{image-end}
-use Rattle.p25_units.specs.declared.unit.Body.TheVariants.{Voice}
-use Rattle.p25_units.specs.Fixes.{fixes_of}
-use Rattle.p25_units.specs.Terminators.{terminator, terminator_bits, sync_errors, identifier_errors, HasTerminator}
-use Rattle.p25_units.specs.Units.{unit_image_of, frame_length_of, image_of, IsWholeBody, IsSoundFrame, IsSendableBody, IsSendableUnit}
-use Rattle.p25_units.specs.WithinRadius.{IsBodyWithin, IsFrontWithin, IsWithinRadius}
-use Rattle.p25_units.proofs.UnitsLaws.{front_of-image_of, length-image_of}
-use Rattle.p25_units.proofs.FixesLaws.{fixes_of-parts, body_fixes_of-end}
+use Rattle.p25_units.specs.{declared.unit.Body.TheVariants.{Voice}, Fixes.{fixes_of}, Terminators.{terminator, terminator_bits, sync_errors, identifier_errors, HasTerminator}}
+use Rattle.p25_units.specs.{Units.{unit_image_of, frame_length_of, image_of, IsWholeBody, IsSoundFrame, IsSendableBody, IsSendableUnit}, WithinRadius.{IsBodyWithin, IsFrontWithin, IsWithinRadius}}
+use Rattle.p25_units.proofs.{UnitsLaws.{front_of-image_of, length-image_of}, FixesLaws.{fixes_of-parts, body_fixes_of-end}}
 
 -- a terminator has 144 bits as it is sent
 pub length-terminator : (nac : ℕ) (statuses : List Status) → frame_length_of (terminator nac statuses).unit ≡ 144

@@ -1,39 +1,20 @@
 -- What the readers of units answer: the bits of a unit among others, its kind by its length, and each answer as a case of
 -- the reading.
 use Rattle.std.proofs.Common.{◌≡◌, ◌≢◌, ℕ, ◌+◌, ◌-◌, ◌*◌, ◌/◌, ◌%◌, inl, inr, ◌<◌, ◌≤◌, Bool, List, length, drop, Some, None, option_map, Result, Ok, Err, refl, ap, ap₂, sym, ◌∙◌, arith, length-drop}
-use Rattle.std.proofs.lemmas.List.{length-take-le}
-use Rattle.std.proofs.lemmas.Bool.{cases_lt}
-use Rattle.p25_bits.specs.Bits.{part}
-use Rattle.p25_bits.specs.Distance.{distance_of}
-use Rattle.p25_status.specs.Sync.{sync_bits, sync_slack}
-use Rattle.p25_status.proofs.SyncLaws.{has_sync-no}
-use Rattle.p25_status.specs.Woven.{bare_of, statuses_of}
-use Rattle.p25_status.proofs.WovenLaws.{length-bare_of}
-use Rattle.p25_status.specs.declared.fields.Field.{Field}
-use Rattle.p25_status.specs.declared.symbols.Status.{Status}
+use Rattle.std.proofs.{lemmas.List.{length-take-le}, lemmas.Bool.{cases_lt}}
+use Rattle.p25_bits.specs.{Bits.{part}, Distance.{distance_of}}
+use Rattle.p25_status.specs.{Sync.{sync_bits, sync_slack}, Woven.{bare_of, statuses_of}, declared.fields.Field.{Field}, declared.symbols.Status.{Status}}
+use Rattle.p25_status.proofs.{SyncLaws.{has_sync-no}, WovenLaws.{length-bare_of}}
 use Rattle.p25_bch_nid.specs.declared.nid.Nid.{Nid as Identifier}
 use Rattle.p25_unit_front.specs.Front.{identifier_of}
 use Rattle.p25_unit_front.proofs.FrontLaws.{identifier_of-take}
 use Rattle.p25_voice_units.specs.Lengths.{voice_length_of}
-use Rattle.p25_packet_blocks.specs.Heads.{head_blocks}
-use Rattle.p25_packet_blocks.specs.Reading.{header_bits, read_head_of, HasItsLength}
-use Rattle.p25_packet_blocks.specs.UnitReading.{sent_read_of}
-use Rattle.p25_packet_blocks.proofs.OutcomeLaws.{head_reading_of-unread}
-use Rattle.p25_packet_blocks.proofs.SentLaws.{sent_read_of-bare_of}
-use Rattle.p25_packet_blocks.proofs.UnitLaws.{sent_read_of-take}
-use Rattle.p25_units.specs.Units.{frame_length_of, IsSoundFrame}
-use Rattle.p25_units.specs.Items.{item_from, unit_item_of}
-use Rattle.p25_units.specs.Needs.{need_of, kind_need}
-use Rattle.p25_units.specs.Readings.{body_reading_of, frame_from, reading_from, unit_reading_of}
-use Rattle.p25_units.specs.declared.unit.Body.{Body}
-use Rattle.p25_units.specs.declared.frame.Frame.{Frame}
-use Rattle.p25_units.specs.declared.item.Item.{Item}
-use Rattle.p25_units.specs.declared.needs.Need.TheVariants.{NoSync, Length}
-use Rattle.p25_units.proofs.UnitsLaws.{IsSentLength-voice}
-use Rattle.p25_units.proofs.NeedsLaws.{IsIdentified-from, IsHead-kind, need_of-there, need_of-unsynced}
-use Rattle.p25_units.proofs.KindsLaws.{IsUnitOf-need}
-use Rattle.p25_units.proofs.ReadingsLaws.{IsFrameOf-reading, reading_from-some, unit_reading_of-read}
-use Rattle.p25_units.proofs.ItemsLaws.{unit_item_of-some}
+use Rattle.p25_packet_blocks.specs.{Heads.{head_blocks}, Reading.{header_bits, read_head_of, HasItsLength}, UnitReading.{sent_read_of}}
+use Rattle.p25_packet_blocks.proofs.{OutcomeLaws.{head_reading_of-unread}, SentLaws.{sent_read_of-bare_of}, UnitLaws.{sent_read_of-take}}
+use Rattle.p25_units.specs.{Units.{frame_length_of, IsSoundFrame}, Items.{item_from, unit_item_of}, Needs.{need_of, kind_need}, Readings.{body_reading_of, frame_from, reading_from, unit_reading_of}}
+use Rattle.p25_units.specs.{declared.unit.Body.{Body}, declared.frame.Frame.{Frame}, declared.item.Item.{Item}, declared.needs.Need.TheVariants.{NoSync, Length}}
+use Rattle.p25_units.proofs.{UnitsLaws.{IsSentLength-voice}, NeedsLaws.{IsIdentified-from, IsHead-kind, need_of-there, need_of-unsynced}, KindsLaws.{IsUnitOf-need}}
+use Rattle.p25_units.proofs.{ReadingsLaws.{IsFrameOf-reading, reading_from-some, unit_reading_of-read}, ItemsLaws.{unit_item_of-some}}
 
 -- what is known of a unit whose length is known
 pub record IsUnitAt (bits : List Bool) (at count : ℕ) : Type 0 where

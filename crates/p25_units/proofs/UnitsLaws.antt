@@ -1,28 +1,18 @@
 -- The bits of units: each kind has its length and begins with its front.
-use Rattle.std.proofs.Common.{◌≡◌, List, ℕ, ◌*◌, ◌/◌, ◌%◌, ◌<◌, ◌≤◌, length, take, Some, ap, sym, ◌∙◌, arith}
+use Rattle.std.proofs.{Common.{◌≡◌, List, ℕ, ◌*◌, ◌/◌, ◌%◌, ◌<◌, ◌≤◌, length, take, Some, ap, sym, ◌∙◌, arith}, lemmas.List.{take_at}}
 use Rattle.std.specs.Option.{unwrap_or}
-use Rattle.p25_status.specs.Woven.{bare_of, statuses_of}
-use Rattle.std.proofs.lemmas.List.{take_at}
+use Rattle.p25_status.specs.{Woven.{bare_of, statuses_of}, declared.symbols.Status.{Status}}
 use Rattle.p25_status.proofs.WovenLaws.{length-woven, bare_of-woven, statuses_of-woven}
 use Rattle.p25_unit_front.specs.Front.{unit_front, front_of}
 use Rattle.p25_unit_front.proofs.FrontLaws.{length-unit_front, front_of-bare_of}
-use Rattle.p25_voice_units.specs.declared.unit.VoiceUnit.{VoiceUnit}
-use Rattle.p25_voice_units.specs.declared.unit.VoiceUnit.TheVariants.{Header, Link1, Link2, End, EndLink}
-use Rattle.p25_voice_units.specs.Images.{voice_body, voice_image_of}
+use Rattle.p25_voice_units.specs.{declared.unit.VoiceUnit.{VoiceUnit}, declared.unit.VoiceUnit.TheVariants.{Header, Link1, Link2, End, EndLink}, Images.{voice_body, voice_image_of}}
 use Rattle.p25_voice_units.specs.Lengths.{voice_duid, voice_length_of}
-use Rattle.p25_voice_units.proofs.ImagesLaws.{length-voice_image_of}
-use Rattle.p25_voice_units.proofs.LengthsLaws.{length-header, length-ldu1, length-ldu2, length-end, length-tdulc, voice_lengths}
-use Rattle.p25_packet_blocks.specs.Heads.{head_blocks}
-use Rattle.p25_packet_blocks.specs.Lengths.{packet_bare_length, packet_sent_length}
-use Rattle.p25_packet_blocks.specs.Whole.{packet_head}
-use Rattle.p25_packet_blocks.proofs.HeadLaws.{head_blocks-lt}
-use Rattle.p25_packet_blocks.proofs.PlacesLaws.{image_long, image_front}
-use Rattle.p25_status.specs.declared.symbols.Status.{Status}
+use Rattle.p25_voice_units.proofs.{ImagesLaws.{length-voice_image_of}, LengthsLaws.{length-header, length-ldu1, length-ldu2, length-end, length-tdulc, voice_lengths}}
+use Rattle.p25_packet_blocks.specs.{Heads.{head_blocks}, Lengths.{packet_bare_length, packet_sent_length}, Whole.{packet_head}}
+use Rattle.p25_packet_blocks.proofs.{HeadLaws.{head_blocks-lt}, PlacesLaws.{image_long, image_front}}
 use Rattle.p25_units.specs.UnitParts.{UnitParts}
 use Rattle.p25_units.specs.Units.{body_duid, body_length, body_image_of, unit_image_of, sent_length, frame_length_of, image_of, frame_as, IsSoundFrame, IsSendableBody, IsSendableUnit}
-use Rattle.p25_units.specs.declared.unit.Body.{Body}
-use Rattle.p25_units.specs.declared.unit.Body.TheVariants.{Voice, Packet}
-use Rattle.p25_units.specs.declared.frame.Frame.{Frame}
+use Rattle.p25_units.specs.{declared.unit.Body.{Body}, declared.unit.Body.TheVariants.{Voice, Packet}, declared.frame.Frame.{Frame}}
 
 -- what a length without status symbols is sent as
 pub record IsSentLength (bare : ℕ) : Type 0 where

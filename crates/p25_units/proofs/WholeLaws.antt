@@ -2,26 +2,16 @@
 -- identifier.
 use Rattle.std.proofs.Common.{◌≡◌, ℕ, ◌%◌, ◌<◌, ◌≤◌, Bool, true, List, length, take, Some, Result, Ok, Err, refl, ap, ap₂, sym, ◌∙◌, subst, arith}
 use Rattle.p25_bits.specs.Distance.{distance_of}
-use Rattle.p25_status.specs.Sync.{sync_slack, has_sync}
-use Rattle.p25_status.specs.declared.fields.Field.{Field}
+use Rattle.p25_status.specs.{Sync.{sync_slack, has_sync}, declared.fields.Field.{Field}}
 use Rattle.p25_status.proofs.SyncLaws.{has_sync-distance, has_sync-take}
 use Rattle.p25_bch_nid.specs.NidWord.{nid_word}
 use Rattle.p25_bch_nid.proofs.NidWordLaws.{nid_reading_of-near}
 use Rattle.p25_unit_front.specs.Front.{identifier_bits, identifier_of}
 use Rattle.p25_unit_front.proofs.FrontLaws.{front_of-sync, front_of-identifier, identifier_of-take, identifier_of-fits}
-use Rattle.p25_units.specs.Units.{body_duid, image_of, IsSendableUnit}
-use Rattle.p25_units.specs.Fixes.{fixes_of}
-use Rattle.p25_units.specs.Items.{item_from}
-use Rattle.p25_units.specs.Readings.{reading_from}
-use Rattle.p25_units.specs.WholeLaws.{WholeUnitIsRead}
-use Rattle.p25_units.specs.WithinRadius.{IsFrontWithin}
-use Rattle.p25_units.specs.declared.frame.Frame.{Frame}
-use Rattle.p25_units.specs.declared.item.Item.TheVariants.{Whole}
-use Rattle.p25_units.proofs.UnitsLaws.{front_of-image_of, length-image_of, length-image_of-blocks, blocks-sound}
-use Rattle.p25_units.proofs.NeedsLaws.{IsIdentified-from, need_of-there}
-use Rattle.p25_units.proofs.KindsLaws.{IsUnitOf-need}
-use Rattle.p25_units.proofs.ReadingsLaws.{IsFrameOf, IsFrameOf-reading}
-use Rattle.p25_units.proofs.ItemsLaws.{unit_item_of-some}
+use Rattle.p25_units.specs.{Units.{body_duid, image_of, IsSendableUnit}, Fixes.{fixes_of}, Items.{item_from}, Readings.{reading_from}, WholeLaws.{WholeUnitIsRead}, WithinRadius.{IsFrontWithin}}
+use Rattle.p25_units.specs.{declared.frame.Frame.{Frame}, declared.item.Item.TheVariants.{Whole}}
+use Rattle.p25_units.proofs.{UnitsLaws.{front_of-image_of, length-image_of, length-image_of-blocks, blocks-sound}, NeedsLaws.{IsIdentified-from, need_of-there}, KindsLaws.{IsUnitOf-need}}
+use Rattle.p25_units.proofs.{ReadingsLaws.{IsFrameOf, IsFrameOf-reading}, ItemsLaws.{unit_item_of-some}}
 
 -- a whole item is that of the frame that was read
 whole-from : (at : ℕ) (nid : ℕ × ℕ) (sent : List Bool) (reading : Result Frame (List Field)) (place : ℕ) (frame : Frame) (fixes : ℕ) → item_from at nid sent reading ≡ Whole place frame fixes

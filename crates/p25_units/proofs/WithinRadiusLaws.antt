@@ -2,39 +2,21 @@
 use Rattle.std.proofs.Common.{◌≡◌, ℕ, ◌*◌, ◌≤◌, Bool, true, List, ◌++◌, length, take, Some, Ok, refl, ap, ap₂, sym, ◌∙◌, subst, arith, length-append}
 use Rattle.p25_bits.specs.Distance.{distance_of}
 use Rattle.p25_bits.proofs.DistanceLaws.{distance_of-same}
-use Rattle.p25_status.specs.Sync.{sync_slack, has_sync}
-use Rattle.p25_status.specs.Woven.{bare_of, statuses_of}
-use Rattle.p25_status.proofs.SyncLaws.{has_sync-yes, has_sync-append}
+use Rattle.p25_status.specs.{Sync.{sync_slack, has_sync}, Woven.{bare_of, statuses_of}, declared.symbols.Status.{Status}}
+use Rattle.p25_status.proofs.{SyncLaws.{has_sync-yes, has_sync-append}, WovenLaws.{length-bare_of}}
 use Rattle.p25_unit_front.specs.Front.{identifier_bits, identifier_of}
 use Rattle.p25_unit_front.proofs.FrontLaws.{front_of-sync, front_of-identifier, identifier_of-near, identifier_of-append}
-use Rattle.p25_voice_units.specs.Images.{voice_image_of}
-use Rattle.p25_voice_units.specs.Lengths.{voice_duid}
+use Rattle.p25_voice_units.specs.{Images.{voice_image_of}, Lengths.{voice_duid}}
 use Rattle.p25_voice_units.proofs.RadiusLaws.{within_itself, received_itself}
-use Rattle.p25_packet_blocks.specs.Heads.{head_blocks}
-use Rattle.p25_packet_blocks.specs.Reading.{header_bits, block_bits}
-use Rattle.p25_packet_blocks.specs.Whole.{packet_head}
-use Rattle.p25_packet_blocks.specs.Within.{block_radius}
-use Rattle.p25_packet_blocks.proofs.SentLaws.{sent_head_of-bare_of}
-use Rattle.p25_packet_blocks.proofs.UnitLaws.{sent_head_of-append}
-use Rattle.p25_units.specs.Units.{body_duid, body_length, body_image_of, unit_image_of, sent_length, frame_length_of, image_of, IsSoundFrame, IsSendableBody, IsSendableUnit}
-use Rattle.p25_status.proofs.WovenLaws.{length-bare_of}
-use Rattle.p25_status.specs.declared.symbols.Status.{Status}
-use Rattle.p25_packet_blocks.specs.Image.{packet_image_of}
-use Rattle.p25_units.specs.UnitParts.{UnitParts}
-use Rattle.p25_units.specs.Fixes.{fixes_of}
-use Rattle.p25_units.specs.Items.{unit_item_of}
-use Rattle.p25_units.specs.Needs.{length_need, head_need, kind_need, need_of}
-use Rattle.p25_units.specs.Readings.{frame_from, reading_from, unit_reading_of}
-use Rattle.p25_units.specs.WithinRadius.{IsBodyWithin, IsWithinRadius, received_body, received_frame}
-use Rattle.p25_units.specs.declared.unit.Body.{Body}
-use Rattle.p25_units.specs.declared.unit.Body.TheVariants.{Voice, Packet}
-use Rattle.p25_units.specs.declared.frame.Frame.{Frame}
-use Rattle.p25_units.specs.declared.needs.Need.TheVariants.{Length}
-use Rattle.p25_units.specs.declared.item.Item.TheVariants.{Whole}
+use Rattle.p25_packet_blocks.specs.{Heads.{head_blocks}, Reading.{header_bits, block_bits}, Whole.{packet_head}, Within.{block_radius}, Image.{packet_image_of}}
+use Rattle.p25_packet_blocks.proofs.{SentLaws.{sent_head_of-bare_of}, UnitLaws.{sent_head_of-append}}
+use Rattle.p25_units.specs.{Units.{body_duid, body_length, body_image_of, unit_image_of, sent_length, frame_length_of, image_of, IsSoundFrame, IsSendableBody, IsSendableUnit}, UnitParts.{UnitParts}}
+use Rattle.p25_units.specs.{Fixes.{fixes_of}, Items.{unit_item_of}, Needs.{length_need, head_need, kind_need, need_of}, Readings.{frame_from, reading_from, unit_reading_of}}
+use Rattle.p25_units.specs.{WithinRadius.{IsBodyWithin, IsWithinRadius, received_body, received_frame}, declared.unit.Body.{Body}, declared.unit.Body.TheVariants.{Voice, Packet}}
+use Rattle.p25_units.specs.{declared.frame.Frame.{Frame}, declared.needs.Need.TheVariants.{Length}, declared.item.Item.TheVariants.{Whole}}
 use Rattle.p25_units.proofs.UnitsLaws.{body_duid-lt, body_length-known, sent_length-packet, symbols-sound, symbols-image, front_of-image_of, length-image_of, length-image_of-blocks, blocks-sound, bare_of-image_of, statuses_of-image_of}
 use Rattle.p25_units.proofs.NeedsLaws.{need_of-synced, synced_need-read, identified_need-some, kind_need-voice, kind_need-packet, packet_need-long, head_need-good, length_need-there}
-use Rattle.p25_units.proofs.ReadingsLaws.{IsVoiceImage-same, reading_from-some, unit_reading_of-read, body_reading_of-near, head_reading_of-near}
-use Rattle.p25_units.proofs.ItemsLaws.{unit_item_of-some}
+use Rattle.p25_units.proofs.{ReadingsLaws.{IsVoiceImage-same, reading_from-some, unit_reading_of-read, body_reading_of-near, head_reading_of-near}, ItemsLaws.{unit_item_of-some}}
 
 module _ (frame : Frame) (sound : IsSoundFrame frame) (sendable : IsSendableUnit frame.unit) where
   -- the sent bits of a sound frame are 144 at least

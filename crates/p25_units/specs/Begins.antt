@@ -2,8 +2,7 @@
 use Rattle.std.specs.Prelude.{◌≡◌, ◌≤◌, Bool, List, Option, Some, None, Ok, length}
 use Rattle.p25_bch_nid.specs.declared.nid.ReadNid.{ReadNid}
 use Rattle.p25_unit_front.specs.Front.{front_fixes_of, identifier_of}
-use Rattle.p25_packet_blocks.specs.declared.head.ReadHead.{ReadHead}
-use Rattle.p25_packet_blocks.specs.UnitReading.{sent_read_of}
+use Rattle.p25_packet_blocks.specs.{declared.head.ReadHead.{ReadHead}, UnitReading.{sent_read_of}}
 use Rattle.p25_units.specs.declared.begun.Begun.{Begun}
 
 -- nothing was read, or the network identifier (NID) that begins the unit, and how many bits of its front were wrong

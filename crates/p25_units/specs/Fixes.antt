@@ -1,15 +1,10 @@
 -- The fixes of a frame: the looked-at places in which the received bits differ from its image.
 use Rattle.std.specs.Prelude.{ℕ, ◌+◌, ◌*◌, Bool, List, ◌∷◌}
-use Rattle.p25_bits.specs.Distance.{distance_of}
-use Rattle.p25_bits.specs.Numbers.{each_below}
+use Rattle.p25_bits.specs.{Distance.{distance_of}, Numbers.{each_below}}
 use Rattle.p25_status.specs.Woven.{bare_of}
 use Rattle.p25_voice_units.specs.Fixes.{voice_looked, bits_at}
-use Rattle.p25_packet_blocks.specs.Heads.{head_blocks}
-use Rattle.p25_packet_blocks.specs.Whole.{packet_head}
-use Rattle.p25_units.specs.UnitParts.{UnitParts}
-use Rattle.p25_units.specs.Units.{unit_image_of}
-use Rattle.p25_units.specs.declared.unit.Body.{Body}
-use Rattle.p25_units.specs.declared.unit.Body.TheVariants.{Voice, Packet}
+use Rattle.p25_packet_blocks.specs.{Heads.{head_blocks}, Whole.{packet_head}}
+use Rattle.p25_units.specs.{UnitParts.{UnitParts}, Units.{unit_image_of}, declared.unit.Body.{Body}, declared.unit.Body.TheVariants.{Voice, Packet}}
 use Rattle.p25_units.specs.declared.frame.Frame.{Frame}
 
 -- the looked-at places of a packet (PDU) with n blocks to follow: its header block, and these

@@ -3,9 +3,7 @@ use Rattle.std.specs.Prelude.{ℕ, Bool, List}
 use Rattle.p25_status.specs.Woven.{StandsByPlaces}
 use Rattle.p25_voice_units.specs.Places.{IsVoiceImage}
 use Rattle.p25_packet_blocks.specs.Places.{IsPacketImage}
-use Rattle.p25_units.specs.declared.unit.Body.{Body}
-use Rattle.p25_units.specs.declared.unit.Body.TheVariants.{Voice, Packet}
-use Rattle.p25_units.specs.declared.frame.Frame.{Frame}
+use Rattle.p25_units.specs.{declared.unit.Body.{Body}, declared.unit.Body.TheVariants.{Voice, Packet}, declared.frame.Frame.{Frame}}
 
 -- bits are those of what a unit carries: the front, the words of each code at their places, and every other bit 0
 unfoldable pub IsBodyImage : ℕ → Body → List Bool → Type 0

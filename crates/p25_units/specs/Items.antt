@@ -1,14 +1,9 @@
 -- What a stream is divided into.
 use Rattle.std.specs.Prelude.{ℕ, ◌<◌, Bool, List, Option, Some, None, Result, Ok, Err, length}
-use Rattle.p25_status.specs.declared.fields.Field.{Field}
-use Rattle.p25_status.specs.declared.fields.Field.TheVariants.{Nid}
+use Rattle.p25_status.specs.{declared.fields.Field.{Field}, declared.fields.Field.TheVariants.{Nid}}
 use Rattle.p25_unit_front.specs.Front.{identifier_of}
-use Rattle.p25_units.specs.Fixes.{fixes_of}
-use Rattle.p25_units.specs.Readings.{reading_from}
-use Rattle.p25_units.specs.Units.{IsSoundFrame, frame_length_of}
-use Rattle.p25_units.specs.declared.frame.Frame.{Frame}
-use Rattle.p25_units.specs.declared.item.Item.{Item}
-use Rattle.p25_units.specs.declared.item.Item.TheVariants.{Whole, Broken, NoUnit, Gap, Cut}
+use Rattle.p25_units.specs.{Fixes.{fixes_of}, Readings.{reading_from}, Units.{IsSoundFrame, frame_length_of}, declared.frame.Frame.{Frame}}
+use Rattle.p25_units.specs.{declared.item.Item.{Item}, declared.item.Item.TheVariants.{Whole, Broken, NoUnit, Gap, Cut}}
 
 -- how many bits an item covers
 abbrev pub covered : Item → ℕ

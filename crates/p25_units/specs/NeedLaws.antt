@@ -1,12 +1,8 @@
 -- All that a scanner has to know of units: laws of what is needed at a place with a sync, and of the item of a unit.
 use Rattle.std.specs.Prelude.{◌≡◌, ℕ, ◌%◌, ◌<◌, ◌≤◌, Bool, true, List, ◌++◌, length, take}
 use Rattle.p25_status.specs.Sync.{has_sync}
-use Rattle.p25_units.specs.Begins.{IsBegun}
-use Rattle.p25_units.specs.Items.{IsSoundItem, covered, place_of, unit_item_of}
-use Rattle.p25_units.specs.Needs.{is_known, need_of}
-use Rattle.p25_units.specs.declared.begun.Begun.{Begun}
-use Rattle.p25_units.specs.declared.needs.Need.TheVariants.{NoSync, More, Length}
-use Rattle.p25_units.specs.declared.item.Item.TheVariants.{Gap}
+use Rattle.p25_units.specs.{Begins.{IsBegun}, Items.{IsSoundItem, covered, place_of, unit_item_of}, Needs.{is_known, need_of}, declared.begun.Begun.{Begun}}
+use Rattle.p25_units.specs.{declared.needs.Need.TheVariants.{NoSync, More, Length}, declared.item.Item.TheVariants.{Gap}}
 
 -- a place with a sync has one
 abbrev pub SyncIsSeen : Type 0

@@ -1,19 +1,12 @@
 -- What the bits from a place on say of a unit there. One rule stands for each kind of unit, joined where the network identifier
 -- (NID) was read.
 use Rattle.std.specs.Prelude.{ℕ, Bool, true, false, if◌then◌else◌, ◌==◌, nat_lt, List, Option, Some, None, Result, Ok, Err, length}
-use Rattle.p25_status.specs.Sync.{has_sync}
-use Rattle.p25_status.specs.declared.fields.Field.{Field}
-use Rattle.p25_status.specs.declared.fields.Field.TheVariants.{Nid, Duid}
+use Rattle.p25_status.specs.{Sync.{has_sync}, declared.fields.Field.{Field}, declared.fields.Field.TheVariants.{Nid, Duid}}
 use Rattle.p25_bch_nid.specs.Duids.{duid_pdu}
 use Rattle.p25_unit_front.specs.Front.{identifier_of}
 use Rattle.p25_voice_units.specs.Lengths.{voice_length_of}
-use Rattle.p25_packet_blocks.specs.declared.head.PacketHead.{PacketHead}
-use Rattle.p25_packet_blocks.specs.Heads.{head_blocks}
-use Rattle.p25_packet_blocks.specs.Lengths.{packet_sent_length}
-use Rattle.p25_packet_blocks.specs.UnitReading.{sent_head_of}
-use Rattle.p25_units.specs.Units.{sent_length}
-use Rattle.p25_units.specs.declared.needs.Need.{Need}
-use Rattle.p25_units.specs.declared.needs.Need.TheVariants.{NoSync, More, Length, NoLength}
+use Rattle.p25_packet_blocks.specs.{declared.head.PacketHead.{PacketHead}, Heads.{head_blocks}, Lengths.{packet_sent_length}, UnitReading.{sent_head_of}}
+use Rattle.p25_units.specs.{Units.{sent_length}, declared.needs.Need.{Need}, declared.needs.Need.TheVariants.{NoSync, More, Length, NoLength}}
 
 -- what a unit of a known length needs where so many bits are there
 unfoldable pub length_need : ℕ → ℕ → Need

@@ -1,20 +1,12 @@
 -- What the sent bits of a unit read as.
 use Rattle.std.specs.Prelude.{ℕ, Bool, if◌then◌else◌, ◌==◌, List, [], ◌∷◌, Option, Some, None, Result, Ok, Err}
-use Rattle.p25_status.specs.Woven.{bare_of, statuses_of}
-use Rattle.p25_status.specs.declared.fields.Field.{Field}
-use Rattle.p25_status.specs.declared.fields.Field.TheVariants.{Nid}
+use Rattle.p25_status.specs.{Woven.{bare_of, statuses_of}, declared.fields.Field.{Field}, declared.fields.Field.TheVariants.{Nid}}
 use Rattle.p25_status.specs.declared.symbols.Status.{Status}
 use Rattle.p25_bch_nid.specs.Duids.{duid_pdu}
 use Rattle.p25_unit_front.specs.Front.{identifier_of}
-use Rattle.p25_voice_units.specs.declared.unit.VoiceUnit.{VoiceUnit}
-use Rattle.p25_voice_units.specs.Readings.{voice_reading_of}
-use Rattle.p25_packet_blocks.specs.declared.packet.Packet.{Packet as packet_type}
-use Rattle.p25_packet_blocks.specs.Outcomes.{failing_blocks_of}
-use Rattle.p25_packet_blocks.specs.Reading.{packet_reading_of}
-use Rattle.p25_units.specs.UnitParts.{UnitParts}
-use Rattle.p25_units.specs.declared.unit.Body.{Body}
-use Rattle.p25_units.specs.declared.unit.Body.TheVariants.{Voice, Packet}
-use Rattle.p25_units.specs.declared.frame.Frame.{Frame}
+use Rattle.p25_voice_units.specs.{declared.unit.VoiceUnit.{VoiceUnit}, Readings.{voice_reading_of}}
+use Rattle.p25_packet_blocks.specs.{declared.packet.Packet.{Packet as packet_type}, Outcomes.{failing_blocks_of}, Reading.{packet_reading_of}}
+use Rattle.p25_units.specs.{UnitParts.{UnitParts}, declared.unit.Body.{Body}, declared.unit.Body.TheVariants.{Voice, Packet}, declared.frame.Frame.{Frame}}
 
 -- a voice unit (HDU, LDU1, LDU2, TDU or TDULC) that was read, as what a unit carries
 abbrev pub body_from : Result VoiceUnit (List Field) → Result Body (List Field)

@@ -1,17 +1,11 @@
 -- Terminators (TDU; TIA-102.BAAA, Simple Terminator Data Unit) as they are sent and as they are received.
 use Rattle.std.specs.Prelude.{◌≡◌, ◌↔◌, ℕ, ◌+◌, ◌<◌, ◌≤◌, Bool, false, List, ◌++◌, length, take, replicate}
 use Rattle.p25_bits.specs.Distance.{distance_of}
-use Rattle.p25_status.specs.Sync.{sync_bits}
-use Rattle.p25_status.specs.Woven.{woven}
-use Rattle.p25_status.specs.declared.symbols.Status.{Status}
-use Rattle.p25_bch_nid.specs.Duids.{duid_tdu}
-use Rattle.p25_bch_nid.specs.NidWord.{nid_word}
+use Rattle.p25_status.specs.{Sync.{sync_bits}, Woven.{woven}, declared.symbols.Status.{Status}}
+use Rattle.p25_bch_nid.specs.{Duids.{duid_tdu}, NidWord.{nid_word}}
 use Rattle.p25_unit_front.specs.Front.{identifier_bits}
 use Rattle.p25_voice_units.specs.declared.unit.VoiceUnit.TheVariants.{End}
-use Rattle.p25_units.specs.Fixes.{fixes_of}
-use Rattle.p25_units.specs.UnitParts.{UnitParts}
-use Rattle.p25_units.specs.WithinRadius.{IsWithinRadius}
-use Rattle.p25_units.specs.declared.unit.Body.TheVariants.{Voice}
+use Rattle.p25_units.specs.{Fixes.{fixes_of}, UnitParts.{UnitParts}, WithinRadius.{IsWithinRadius}, declared.unit.Body.TheVariants.{Voice}}
 use Rattle.p25_units.specs.declared.frame.Frame.{Frame}
 
 -- a terminator (TDU) with a network access code (NAC), and its status symbols

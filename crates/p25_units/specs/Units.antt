@@ -1,22 +1,12 @@
 -- The bits of units (HDU, LDU1, LDU2, TDU, TDULC and PDU), with and without status symbols.
-use Rattle.std.specs.Prelude.{◌≡◌, ◌≤◌, ℕ, ◌*◌, ◌/◌, Bool, List, length, replicate}
-use Rattle.std.specs.Option.{unwrap_or}
+use Rattle.std.specs.{Prelude.{◌≡◌, ◌≤◌, ℕ, ◌*◌, ◌/◌, Bool, List, length, replicate}, Option.{unwrap_or}}
 use Rattle.p25_bits.specs.Numbers.{octets_from}
-use Rattle.p25_status.specs.Woven.{woven}
-use Rattle.p25_status.specs.declared.symbols.Status.{Status}
+use Rattle.p25_status.specs.{Woven.{woven}, declared.symbols.Status.{Status}}
 use Rattle.p25_bch_nid.specs.Duids.{duid_pdu}
-use Rattle.p25_voice_units.specs.Images.{voice_image_of}
-use Rattle.p25_voice_units.specs.Lengths.{voice_duid, voice_length_of}
-use Rattle.p25_voice_units.specs.Sendable.{IsSendableVoice}
-use Rattle.p25_packet_blocks.specs.Heads.{head_blocks}
-use Rattle.p25_packet_blocks.specs.Whole.{packet_head, IsWholePacket}
-use Rattle.p25_packet_blocks.specs.Lengths.{packet_bare_length}
-use Rattle.p25_packet_blocks.specs.Image.{packet_image_of}
+use Rattle.p25_voice_units.specs.{Images.{voice_image_of}, Lengths.{voice_duid, voice_length_of}, Sendable.{IsSendableVoice}}
+use Rattle.p25_packet_blocks.specs.{Heads.{head_blocks}, Whole.{packet_head, IsWholePacket}, Lengths.{packet_bare_length}, Image.{packet_image_of}}
 use Rattle.p25_packet_blocks.specs.Sendable.{IsSendable}
-use Rattle.p25_units.specs.UnitParts.{UnitParts}
-use Rattle.p25_units.specs.declared.unit.Body.{Body}
-use Rattle.p25_units.specs.declared.unit.Body.TheVariants.{Voice, Packet}
-use Rattle.p25_units.specs.declared.frame.Frame.{Frame}
+use Rattle.p25_units.specs.{UnitParts.{UnitParts}, declared.unit.Body.{Body}, declared.unit.Body.TheVariants.{Voice, Packet}, declared.frame.Frame.{Frame}}
 
 -- the data unit identifier (DUID) of what a unit carries
 abbrev pub body_duid : Body → ℕ

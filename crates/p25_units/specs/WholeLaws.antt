@@ -1,19 +1,11 @@
 -- What the item of a whole unit says of its sent bits.
 use Rattle.std.specs.Prelude.{◌≡◌, ℕ, Bool, true, List, take}
-use Rattle.p25_status.specs.Sync.{has_sync}
-use Rattle.p25_status.specs.Woven.{bare_of, statuses_of}
+use Rattle.p25_status.specs.{Sync.{has_sync}, Woven.{bare_of, statuses_of}}
 use Rattle.p25_voice_units.specs.WithinRadius.{IsVoiceWithin}
 use Rattle.p25_packet_blocks.specs.WholeReading.{IsPacketRead}
-use Rattle.p25_units.specs.Fixes.{fixes_of}
-use Rattle.p25_units.specs.Items.{unit_item_of}
-use Rattle.p25_units.specs.Needs.{need_of}
-use Rattle.p25_units.specs.Units.{IsSendableUnit, IsSoundFrame, unit_image_of}
-use Rattle.p25_units.specs.WithinRadius.{IsFrontWithin}
-use Rattle.p25_units.specs.declared.unit.Body.{Body}
-use Rattle.p25_units.specs.declared.unit.Body.TheVariants.{Voice, Packet}
-use Rattle.p25_units.specs.declared.frame.Frame.{Frame}
-use Rattle.p25_units.specs.declared.needs.Need.TheVariants.{Length}
-use Rattle.p25_units.specs.declared.item.Item.TheVariants.{Whole}
+use Rattle.p25_units.specs.{Fixes.{fixes_of}, Items.{unit_item_of}, Needs.{need_of}, Units.{IsSendableUnit, IsSoundFrame, unit_image_of}}
+use Rattle.p25_units.specs.{WithinRadius.{IsFrontWithin}, declared.unit.Body.{Body}, declared.unit.Body.TheVariants.{Voice, Packet}}
+use Rattle.p25_units.specs.{declared.frame.Frame.{Frame}, declared.needs.Need.TheVariants.{Length}, declared.item.Item.TheVariants.{Whole}}
 
 -- the bits after the front, without status symbols, read as what the unit carries: of a voice unit they lie within radius of
 -- its own; of a packet, the first nearest paths to its header block and its other blocks carry it, with all its checks

@@ -1,15 +1,11 @@
 -- Sent bits that are a frame's but for few wrong ones.
 use Rattle.std.specs.Prelude.{◌≡◌, ◌≤◌, Bool, List, length, take}
 use Rattle.p25_bits.specs.Distance.{distance_of}
-use Rattle.p25_status.specs.Sync.{sync_slack}
-use Rattle.p25_status.specs.Woven.{bare_of, statuses_of}
+use Rattle.p25_status.specs.{Sync.{sync_slack}, Woven.{bare_of, statuses_of}}
 use Rattle.p25_unit_front.specs.Front.{identifier_bits}
 use Rattle.p25_voice_units.specs.WithinRadius.{IsVoiceWithin, received_voice}
 use Rattle.p25_packet_blocks.specs.Within.{AreBlocksWithin}
-use Rattle.p25_units.specs.UnitParts.{UnitParts}
-use Rattle.p25_units.specs.Units.{image_of, unit_image_of}
-use Rattle.p25_units.specs.declared.unit.Body.{Body}
-use Rattle.p25_units.specs.declared.unit.Body.TheVariants.{Voice, Packet}
+use Rattle.p25_units.specs.{UnitParts.{UnitParts}, Units.{image_of, unit_image_of}, declared.unit.Body.{Body}, declared.unit.Body.TheVariants.{Voice, Packet}}
 use Rattle.p25_units.specs.declared.frame.Frame.{Frame}
 
 -- bits are as many as a frame's, and of them at most 4 of the sync are wrong and 11 of the first 63 of the network identifier (NID)

@@ -1,10 +1,8 @@
 //! In how many bits a unit was received otherwise than its frame is sent.
 
 ghost use Rattle.std.specs.Prelude.{◌≡◌, ◌+◌, ◌≤◌, length};
-ghost use Rattle.p25_bits.specs.Bits.{part};
-ghost use Rattle.p25_bits.specs.Distance.{distance_of};
-ghost use Rattle.p25_units.specs.Fixes.{body_fixes_of, fixes_of};
-ghost use Rattle.p25_units.specs.Units.{IsSoundFrame, body_length, frame_length_of, unit_image_of};
+ghost use Rattle.p25_bits.specs.{Bits.{part}, Distance.{distance_of}};
+ghost use Rattle.p25_units.specs.{Fixes.{body_fixes_of, fixes_of}, Units.{IsSoundFrame, body_length, frame_length_of, unit_image_of}};
 
 use crate::frame::{Frame, frame_length};
 use crate::sending::unit_image;

@@ -3,12 +3,8 @@
 ghost use Rattle.std.specs.Prelude.{◌≡◌, ◌^◌, ◌<◌, ◌≤◌, Some, length, drop};
 ghost use Rattle.p25_bits.specs.Bits.{part};
 ghost use Rattle.p25_unit_front.specs.Front.{front_fixes_of};
-ghost use Rattle.p25_units.specs.Begins.{IsBegun};
-ghost use Rattle.p25_units.specs.Items.{IsSoundItem, covered, item_from, place_of, unit_item_of};
-ghost use Rattle.p25_units.specs.Needs.{kind_need, need_of};
-ghost use Rattle.p25_units.specs.declared.item.Item.TheVariants.{Broken};
-ghost use Rattle.p25_units.specs.declared.needs.Need.TheVariants.{Length};
-ghost use Rattle.p25_units.specs.Readings.{reading_from};
+ghost use Rattle.p25_units.specs.{Begins.{IsBegun}, Items.{IsSoundItem, covered, item_from, place_of, unit_item_of}, Needs.{kind_need, need_of}};
+ghost use Rattle.p25_units.specs.{declared.item.Item.TheVariants.{Broken}, declared.needs.Need.TheVariants.{Length}, Readings.{reading_from}};
 
 use crate::begun::Begun;
 use crate::frame::{Frame, frame_length};

@@ -2,21 +2,12 @@
 //! states what is proved, and makes no call.
 
 ghost use Rattle.std.specs.Prelude.{◌≡◌, ℕ, ◌<◌, Bool, List, ◌++◌, Ok, Err, length, take, ◌↔◌};
-ghost use Rattle.p25_status.specs.declared.fields.Field.{Field};
-ghost use Rattle.p25_units.specs.Fixes.{fixes_of};
-ghost use Rattle.p25_units.specs.ImagePlaces.{IsImage};
-ghost use Rattle.p25_units.specs.Items.{unit_item_of};
+ghost use Rattle.p25_status.specs.{declared.fields.Field.{Field}, declared.symbols.Status.{Status}};
+ghost use Rattle.p25_units.specs.{Fixes.{fixes_of}, ImagePlaces.{IsImage}, Items.{unit_item_of}};
 ghost use Rattle.p25_units.specs.NeedLaws.{BegunStays, ItemCovers, ItemHasPlace, ItemIsNoGap, ItemIsSound, KnownStays, LengthIsThere, MoreIsFew, MoreWaits, SyncIsSeen};
-ghost use Rattle.p25_units.specs.Needs.{need_of};
-ghost use Rattle.p25_units.specs.Readings.{unit_reading_of};
-ghost use Rattle.p25_units.specs.Units.{IsSendableUnit, IsSoundFrame, image_of};
-ghost use Rattle.p25_units.specs.WholeLaws.{WholeUnitIsRead};
-ghost use Rattle.p25_units.specs.WithinRadius.{IsWithinRadius, received_frame};
-ghost use Rattle.p25_units.specs.declared.frame.Frame.{Frame};
-ghost use Rattle.p25_units.specs.declared.needs.Need.TheVariants.{Length};
-ghost use Rattle.p25_units.specs.declared.item.Item.TheVariants.{Whole};
-ghost use Rattle.p25_status.specs.declared.symbols.Status.{Status};
-ghost use Rattle.p25_units.specs.Terminators.{ErrorsAreFixes, TerminatorIsNear, terminator, terminator_bits};
+ghost use Rattle.p25_units.specs.{Needs.{need_of}, Readings.{unit_reading_of}, Units.{IsSendableUnit, IsSoundFrame, image_of}, WholeLaws.{WholeUnitIsRead}};
+ghost use Rattle.p25_units.specs.{WithinRadius.{IsWithinRadius, received_frame}, declared.frame.Frame.{Frame}, declared.needs.Need.TheVariants.{Length}};
+ghost use Rattle.p25_units.specs.{declared.item.Item.TheVariants.{Whole}, Terminators.{ErrorsAreFixes, TerminatorIsNear, terminator, terminator_bits}};
 
 /// **Theorem.** All that a scanner has to know of units.
 ///

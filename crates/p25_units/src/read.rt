@@ -2,14 +2,9 @@
 
 ghost use Rattle.std.specs.Prelude.{◌≡◌, ◌+◌, ◌<◌, ◌≤◌, ℕ, IfErr, List, Some, length, drop};
 ghost use Rattle.p25_bits.specs.Bits.{part};
-ghost use Rattle.p25_status.specs.Outcomes.{IfRead, read_or};
-ghost use Rattle.p25_status.specs.declared.fields.Field.{Field};
-ghost use Rattle.p25_status.specs.declared.outcome.Outcome.TheVariants.{Read, Failing};
+ghost use Rattle.p25_status.specs.{Outcomes.{IfRead, read_or}, declared.fields.Field.{Field}, declared.outcome.Outcome.TheVariants.{Read, Failing}};
 ghost use Rattle.p25_unit_front.specs.Front.{front_fixes_of};
-ghost use Rattle.p25_units.specs.Begins.{IsBegun};
-ghost use Rattle.p25_units.specs.Fixes.{fixes_of};
-ghost use Rattle.p25_units.specs.Needs.{kind_need, need_of};
-ghost use Rattle.p25_units.specs.declared.needs.Need.TheVariants.{Length};
+ghost use Rattle.p25_units.specs.{Begins.{IsBegun}, Fixes.{fixes_of}, Needs.{kind_need, need_of}, declared.needs.Need.TheVariants.{Length}};
 ghost use Rattle.p25_units.specs.Readings.{reading_from, unit_reading_of};
 
 use crate::begun::Begun;

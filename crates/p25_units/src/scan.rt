@@ -2,8 +2,7 @@
 
 ghost use Rattle.std.specs.Prelude.{◌≡◌, ◌+◌, ◌≤◌, true, length, drop};
 ghost use Rattle.p25_status.specs.Sync.{has_sync};
-ghost use Rattle.p25_units.specs.Begins.{IsBegun};
-ghost use Rattle.p25_units.specs.Needs.{kind_need, length_need, need_of, packet_need};
+ghost use Rattle.p25_units.specs.{Begins.{IsBegun}, Needs.{kind_need, length_need, need_of, packet_need}};
 
 use crate::begun::Begun;
 use crate::needs::Need;

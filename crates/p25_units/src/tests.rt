@@ -1,8 +1,7 @@
 //! Units (HDU, LDU1, LDU2, TDU, TDULC and PDU) that a program apart from this code made: what they need at each number of bits,
 //! what they read as, damaged and not, and that they are written as the same bits.
 
-ghost use Rattle.p25_units.specs.Items.{IsSoundItem};
-ghost use Rattle.p25_units.specs.Units.{IsSoundFrame};
+ghost use Rattle.p25_units.specs.{Items.{IsSoundItem}, Units.{IsSoundFrame}};
 
 mod rows;
 

@@ -2,12 +2,9 @@
 
 ghost use Rattle.std.specs.Prelude.{◌≡◌, ℕ, ◌<◌, ◌≤◌, Ok, Some, length};
 ghost use Rattle.p25_status.specs.Outcomes.{IfRead, read_or};
-ghost use Rattle.p25_voice_units.specs.Lengths.{voice_length_of};
-ghost use Rattle.p25_voice_units.specs.Readings.{voice_reading_of};
+ghost use Rattle.p25_voice_units.specs.{Lengths.{voice_length_of}, Readings.{voice_reading_of}};
 ghost use Rattle.p25_packet_blocks.specs.Reading.{header_bits, packet_reading_of, read_head_of, HasItsLength};
-ghost use Rattle.p25_units.specs.Fixes.{body_fixes_of};
-ghost use Rattle.p25_units.specs.Readings.{body_from, packet_body_from};
-ghost use Rattle.p25_units.specs.Units.{body_duid, body_length};
+ghost use Rattle.p25_units.specs.{Fixes.{body_fixes_of}, Readings.{body_from, packet_body_from}, Units.{body_duid, body_length}};
 
 use p25_bch_nid::{Nid, PDU};
 use p25_bits::BitBuf;

@@ -1,25 +1,14 @@
 -- What units carry, from the parts that were drawn one after the other: the states between them add up.
 use Rattle.std.proofs.Common.{◌≡◌, ℕ, ◌+◌, ◌-◌, ◌*◌, ◌%◌, ◌<◌, ◌≢◌, inl, inr, List, [], ◌∷◌, ◌++◌, length, get_or, refl, ap, sym, ◌∙◌, arith}
 use Rattle.p25_bits.proofs.NumbersLaws.{length-each_below, each_below-more, each_below-zero, get_or-each_below}
-use Rattle.p25_link.specs.declared.link_control.LinkControl.{LinkControl}
-use Rattle.p25_link.specs.declared.encryption_sync.EncryptionSync.{EncryptionSync}
-use Rattle.p25_voice_units.specs.declared.voice.VoiceFrame.{VoiceFrame}
-use Rattle.p25_voice_units.specs.declared.unit.VoiceUnit.TheVariants.{Link1 as ldu1_unit, Link2 as ldu2_unit}
-use Rattle.p25_packet_blocks.specs.ConfirmedParts.{ConfirmedParts}
-use Rattle.p25_packet_blocks.specs.Parts.{PlainParts}
-use Rattle.p25_packet_blocks.specs.Heads.{head_format, head_blocks}
-use Rattle.p25_packet_blocks.specs.Kinds.{IsConfirmed, IsPlain}
-use Rattle.p25_packet_blocks.specs.Whole.{AreGood, IsWholePacket}
-use Rattle.p25_packet_blocks.specs.declared.head.PacketHead.{PacketHead}
-use Rattle.p25_packet_blocks.specs.declared.block.Slot.{Slot}
-use Rattle.p25_packet_blocks.specs.declared.block.Slot.TheVariants.{Bad}
+use Rattle.p25_link.specs.{declared.link_control.LinkControl.{LinkControl}, declared.encryption_sync.EncryptionSync.{EncryptionSync}}
+use Rattle.p25_voice_units.specs.{declared.voice.VoiceFrame.{VoiceFrame}, declared.unit.VoiceUnit.TheVariants.{Link1 as ldu1_unit, Link2 as ldu2_unit}}
+use Rattle.p25_packet_blocks.specs.{ConfirmedParts.{ConfirmedParts}, Parts.{PlainParts}, Heads.{head_format, head_blocks}, Kinds.{IsConfirmed, IsPlain}, Whole.{AreGood, IsWholePacket}}
+use Rattle.p25_packet_blocks.specs.{declared.head.PacketHead.{PacketHead}, declared.block.Slot.{Slot}, declared.block.Slot.TheVariants.{Bad}}
 use Rattle.p25_packet_blocks.specs.declared.packet.Packet.TheVariants.{Confirmed as confirmed_packet, Plain as plain_packet}
-use Rattle.p25_units.specs.Units.{IsWholeBody}
-use Rattle.p25_units.specs.declared.unit.Body.TheVariants.{Voice, Packet}
-use Rattle.p25_vectors.specs.Draws.{state_after, octets_drawn}
-use Rattle.p25_vectors.specs.Bodies.{link_of, sync_of, voice_frame_of, voice_drawn, head_of, blocks_drawn, block_of, slots_drawn, body_next}
-use Rattle.p25_vectors.specs.declared.kind.Kind.{Kind}
-use Rattle.p25_vectors.specs.declared.kind.Kind.TheVariants.{Link1, Link2, Confirmed, Plain, Response}
+use Rattle.p25_units.specs.{Units.{IsWholeBody}, declared.unit.Body.TheVariants.{Voice, Packet}}
+use Rattle.p25_vectors.specs.{Draws.{state_after, octets_drawn}, Bodies.{link_of, sync_of, voice_frame_of, voice_drawn, head_of, blocks_drawn, block_of, slots_drawn, body_next}}
+use Rattle.p25_vectors.specs.{declared.kind.Kind.{Kind}, declared.kind.Kind.TheVariants.{Link1, Link2, Confirmed, Plain, Response}}
 use Rattle.p25_vectors.proofs.DrawsLaws.{state_after-add}
 
 -- Lists of drawn things.

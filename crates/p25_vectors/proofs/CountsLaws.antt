@@ -1,15 +1,11 @@
 -- How many bits of each word are inverted, as a list that grows a word at a time; what is damaged and counted grows with it.
-use Rattle.std.proofs.Common.{◌≡◌, ℕ, ◌+◌, ◌-◌, ◌%◌, ◌<◌, ◌≤◌, inl, inr, Bool, cond, nat_lt, List, [], ◌∷◌, ◌++◌, length, take, map, get_or, sum, refl, ap, ap₂, sym, ◌∙◌, arith}
-use Rattle.std.proofs.Math.Nat.{mod-lt}
-use Rattle.std.proofs.lemmas.Bool.{cases_lt}
-use Rattle.std.proofs.lemmas.Bool.Decides.{nat_tests}
-use Rattle.std.proofs.lemmas.List.{take_more, map-append, length-map, get_or-map, length-take-le}
+use Rattle.std.proofs.{Common.{◌≡◌, ℕ, ◌+◌, ◌-◌, ◌%◌, ◌<◌, ◌≤◌, inl, inr, Bool, cond, nat_lt, List, [], ◌∷◌, ◌++◌, length, take, map, get_or, sum, refl, ap, ap₂, sym, ◌∙◌, arith}, Math.Nat.{mod-lt}}
+use Rattle.std.proofs.{lemmas.Bool.{cases_lt}, lemmas.Bool.Decides.{nat_tests}, lemmas.List.{take_more, map-append, length-map, get_or-map, length-take-le}}
 use Rattle.std.proofs.lemmas.List.Sums.{sum_by_push, sum_by-append, sum_by-cons}
 use Rattle.p25_bits.specs.Numbers.{each_below}
 use Rattle.p25_bits.proofs.NumbersLaws.{length-each_below, each_below-more, each_below-zero, get_or-each_below}
 use Rattle.p25_voice_units.specs.Fixes.{wide}
-use Rattle.p25_vectors.specs.Draws.{draw}
-use Rattle.p25_vectors.specs.Damage.{inverted, damaged, word_counts}
+use Rattle.p25_vectors.specs.{Draws.{draw}, Damage.{inverted, damaged, word_counts}}
 use Rattle.p25_vectors.proofs.DamageLaws.{no_word, AreCounts, AreCounts-from, damaged-none, damaged-append, damaged-one}
 
 -- the count of one word

@@ -2,11 +2,8 @@
 -- it, and what lies outside them is unchanged. By recursion on the words: a later word begins after an earlier one.
 use Rattle.std.proofs.Common.{◌≡◌, ℕ, zero, suc, ◌+◌, ◌<◌, ◌≤◌, ◌⊎◌, inl, inr, Bool, true, ◌&&◌, nat_le, List, [], ◌∷◌, ◌++◌, length, take, drop, get_or, refl, ap, sym, subst, ◌∙◌, arith}
 use Rattle.std.proofs.lemmas.Bool.{and_parts, leb-true}
-use Rattle.p25_bits.specs.Bits.{part, flipped}
-use Rattle.p25_bits.specs.Distance.{distance_of}
-use Rattle.p25_bits.proofs.BitsLaws.{length-flipped}
-use Rattle.p25_bits.proofs.PartLaws.{part-take}
-use Rattle.p25_bits.proofs.DistanceLaws.{distance_of-same, distance_of-triangle, distance_of-part, distance_of-flipped}
+use Rattle.p25_bits.specs.{Bits.{part, flipped}, Distance.{distance_of}}
+use Rattle.p25_bits.proofs.{BitsLaws.{length-flipped}, PartLaws.{part-take}, DistanceLaws.{distance_of-same, distance_of-triangle, distance_of-part, distance_of-flipped}}
 use Rattle.p25_vectors.specs.Damage.{inverted, damaged}
 
 -- One bit inverted.

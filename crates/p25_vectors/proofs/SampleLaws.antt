@@ -1,55 +1,30 @@
 -- Damaged sample units lie within radius of their frames and read as them: what is damaged lies in words that are read by their codes,
 -- so the voice frames and the status symbols come as they were sent.
 use Rattle.std.proofs.Common.{◌≡◌, ℕ, zero, suc, ◌+◌, ◌*◌, ◌/◌, ◌%◌, ◌<◌, ◌≤◌, ◌⊎◌, inl, inr, ◌&&◌, ◌||◌, Bool, true, nat_le, List, [], ◌∷◌, ◌++◌, length, take, drop, map, replicate, sum, Ok, refl, ap, ap₂, sym, subst, ◌∙◌, arith, length-drop, get_or}
-use Rattle.std.specs.List.{list_all}
-use Rattle.std.proofs.lemmas.Bool.{and_parts, or_cases, leb-true}
-use Rattle.std.proofs.lemmas.List.{length-replicate, length-take-le, take_at, drop_at, take-take, append-nil}
-use Rattle.std.proofs.lemmas.List.Sums.{sum_by_push}
-use Rattle.p25_bits.specs.Bits.{part}
-use Rattle.p25_bits.specs.Distance.{distance_of}
-use Rattle.p25_bits.specs.Numbers.{each_below, numbers_from}
-use Rattle.p25_bits.proofs.PartLaws.{drop-part, take-part}
-use Rattle.p25_bits.proofs.NumbersLaws.{numbers_from-take, each_below-zero, each_below-more}
-use Rattle.p25_status.specs.Woven.{bare_of, statuses_of}
-use Rattle.p25_status.specs.declared.symbols.Status.{Status}
+use Rattle.std.proofs.{lemmas.Bool.{and_parts, or_cases, leb-true}, lemmas.List.{length-replicate, length-take-le, take_at, drop_at, take-take, append-nil}, lemmas.List.Sums.{sum_by_push}}
+use Rattle.std.specs.{List.{list_all}, Option.{unwrap_or}}
+use Rattle.p25_bits.specs.{Bits.{part}, Distance.{distance_of}, Numbers.{each_below, numbers_from}}
+use Rattle.p25_bits.proofs.{PartLaws.{drop-part, take-part}, NumbersLaws.{numbers_from-take, each_below-zero, each_below-more}}
+use Rattle.p25_status.specs.{Woven.{bare_of, statuses_of}, declared.symbols.Status.{Status}, Status.{status_modulo}}
 use Rattle.p25_status.proofs.WovenLaws.{length-woven, bare_of-woven, statuses_of-woven}
 use Rattle.p25_unit_front.specs.Front.{front_of, identifier_bits}
 use Rattle.p25_unit_front.proofs.FrontLaws.{front_of-bare_of}
-use Rattle.p25_voice_units.specs.declared.voice.VoiceFrame.{VoiceFrame}
-use Rattle.p25_voice_units.specs.declared.unit.VoiceUnit.{VoiceUnit}
-use Rattle.p25_voice_units.specs.declared.unit.VoiceUnit.TheVariants.{Link1, Link2}
-use Rattle.p25_voice_units.specs.FieldLayouts.{word_places}
-use Rattle.p25_voice_units.specs.Fixes.{wide, voice_looked, link_looked}
-use Rattle.p25_voice_units.specs.Images.{voice_image_of}
-use Rattle.p25_voice_units.specs.Layouts.{ldu_rows}
-use Rattle.p25_voice_units.specs.Lengths.{voice_duid, voice_length_of}
-use Rattle.std.specs.Option.{unwrap_or}
-use Rattle.p25_units.specs.Fixes.{body_looked}
-use Rattle.p25_voice_units.specs.Readings.{frame_places, frame_in, low_places, voice_in}
-use Rattle.p25_voice_units.specs.Sendable.{IsSendableVoice}
+use Rattle.p25_voice_units.specs.{declared.voice.VoiceFrame.{VoiceFrame}, declared.unit.VoiceUnit.{VoiceUnit}, declared.unit.VoiceUnit.TheVariants.{Link1, Link2}, FieldLayouts.{word_places}}
+use Rattle.p25_voice_units.specs.{Fixes.{wide, voice_looked, link_looked}, Images.{voice_image_of}, Layouts.{ldu_rows}, Lengths.{voice_duid, voice_length_of}}
+use Rattle.p25_voice_units.specs.{Readings.{frame_places, frame_in, low_places, voice_in}, Sendable.{IsSendableVoice}}
+use Rattle.p25_units.specs.{Fixes.{body_looked}, Needs.{need_of}, Readings.{unit_reading_of}, UnitParts.{UnitParts}}
+use Rattle.p25_units.specs.Units.{body_image_of, body_length, frame_length_of, image_of, unit_image_of, IsSendableBody, IsSendableUnit, IsSoundFrame, IsWholeBody}
+use Rattle.p25_units.specs.{WithinRadius.{IsBodyWithin, IsFrontWithin, IsWithinRadius, received_body, received_frame}, declared.unit.Body.{Body}, declared.unit.Body.TheVariants.{Voice, Packet}}
+use Rattle.p25_units.specs.{declared.frame.Frame.{Frame}, declared.needs.Need.TheVariants.{Length}}
 use Rattle.p25_voice_units.proofs.RadiusLaws.{within_from_words, received_itself}
 use Rattle.p25_coded_fields.specs.Layouts.{places_from}
 use Rattle.p25_packet_blocks.specs.Image.{packet_image_of}
-use Rattle.p25_units.specs.Needs.{need_of}
-use Rattle.p25_units.specs.Readings.{unit_reading_of}
-use Rattle.p25_units.specs.UnitParts.{UnitParts}
-use Rattle.p25_units.specs.Units.{body_image_of, body_length, frame_length_of, image_of, unit_image_of, IsSendableBody, IsSendableUnit, IsSoundFrame, IsWholeBody}
-use Rattle.p25_units.specs.WithinRadius.{IsBodyWithin, IsFrontWithin, IsWithinRadius, received_body, received_frame}
-use Rattle.p25_units.specs.declared.unit.Body.{Body}
-use Rattle.p25_units.specs.declared.unit.Body.TheVariants.{Voice, Packet}
-use Rattle.p25_units.specs.declared.frame.Frame.{Frame}
-use Rattle.p25_units.specs.declared.needs.Need.TheVariants.{Length}
-use Rattle.p25_units.proofs.ReadingsLaws.{IsVoiceImage-same}
-use Rattle.p25_units.proofs.UnitsLaws.{length-body_image_of, blocks-sound, symbols-image, length-image_of-blocks, bare_of-image_of}
+use Rattle.p25_units.proofs.{ReadingsLaws.{IsVoiceImage-same}, UnitsLaws.{length-body_image_of, blocks-sound, symbols-image, length-image_of-blocks, bare_of-image_of}}
 use Rattle.p25_units.proofs.WithinRadiusLaws.{need_of-near, unit_reading_of-near}
-use Rattle.p25_status.specs.Status.{status_modulo}
-use Rattle.p25_vectors.specs.Draws.{draw, state_after}
-use Rattle.p25_vectors.specs.Damage.{damaged, body_counts, damaged_words, damage_counts, damage_draws}
+use Rattle.p25_vectors.specs.{Draws.{draw, state_after}, Damage.{damaged, body_counts, damaged_words, damage_counts, damage_draws}}
 use Rattle.p25_vectors.specs.Samples.{frame_of, frame_next, damaged_image, damage_state, flips_of, sample_bits, sample_flips, sample_frame, state_before, state_behind_unit}
-use Rattle.p25_vectors.specs.Bodies.{body_next, kind_of}
-use Rattle.p25_vectors.specs.declared.kind.Kind.{Kind}
-use Rattle.p25_vectors.proofs.BodiesLaws.{body_next-whole}
-use Rattle.p25_vectors.proofs.DamageLaws.{no_word, AreCounts, length-damaged, part-damaged}
+use Rattle.p25_vectors.specs.{Bodies.{body_next, kind_of}, declared.kind.Kind.{Kind}}
+use Rattle.p25_vectors.proofs.{BodiesLaws.{body_next-whole}, DamageLaws.{no_word, AreCounts, length-damaged, part-damaged}}
 use Rattle.p25_vectors.proofs.WithinLaws.{IsNearAt, voice-within, packet-within, words-fit, damaged-near, sync-near, identifier-near, body-near}
 
 -- Voice frames.

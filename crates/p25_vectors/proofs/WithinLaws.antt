@@ -1,35 +1,17 @@
 -- The damage of sample units lies within radius: each word differs in no more bits than are inverted of it. The inner words that are
 -- inverted whole are the only ones with more wrong bits than the radius, and there are so few that the outer code undoes them.
 use Rattle.std.proofs.Common.{◌≡◌, ℕ, zero, suc, ◌+◌, ◌*◌, ◌%◌, ◌<◌, ◌≤◌, Bool, true, false, cond, nat_le, List, [], ◌∷◌, ◌++◌, length, get_or, sum_by, refl, ap, sym, subst, ◌∙◌, arith, length-append}
-use Rattle.std.proofs.Math.Nat.{mod-lt}
-use Rattle.std.proofs.lemmas.Bool.{cond-true, le-leb}
-use Rattle.std.proofs.lemmas.List.{get_or_append_left, get_or_default}
-use Rattle.std.proofs.lemmas.List.Sums.{sum_by-cons}
-use Rattle.p25_bits.specs.Bits.{part}
-use Rattle.p25_bits.specs.Distance.{distance_of}
-use Rattle.p25_bits.specs.Numbers.{each_below}
-use Rattle.p25_bits.proofs.DistanceLaws.{distance_of-sym}
-use Rattle.p25_bits.proofs.NumbersLaws.{length-each_below, get_or-each_below}
-use Rattle.p25_coded_fields.specs.Layouts.{Layout, places_from}
-use Rattle.p25_coded_fields.specs.Within.{lost_symbols}
-use Rattle.p25_voice_units.specs.declared.unit.VoiceUnit.{VoiceUnit}
-use Rattle.p25_voice_units.specs.declared.unit.VoiceUnit.TheVariants.{Header, Link1, Link2, End, EndLink}
-use Rattle.p25_voice_units.specs.FieldLayouts.{word_places, header_layout, link_layout, sync_layout, tdulc_layout}
-use Rattle.p25_voice_units.specs.Fixes.{wide, voice_looked, link_looked}
-use Rattle.p25_voice_units.specs.Layouts.{hdu_rows, ldu_rows, tdulc_rows}
-use Rattle.p25_voice_units.specs.Readings.{low_places}
-use Rattle.p25_voice_units.specs.WithinRadius.{AreLowWithin, IsVoiceWithinByWords}
-use Rattle.p25_packet_blocks.specs.declared.packet.Packet.{Packet as packet_type}
-use Rattle.p25_packet_blocks.specs.declared.packet.Packet.TheVariants.{Confirmed as confirmed_packet, Plain as plain_packet}
-use Rattle.p25_packet_blocks.specs.Heads.{head_blocks}
-use Rattle.p25_packet_blocks.specs.Reading.{header_bits, block_bits}
-use Rattle.p25_packet_blocks.specs.Whole.{packet_head}
-use Rattle.p25_packet_blocks.specs.Within.{AreBlocksWithin, block_radius}
-use Rattle.p25_units.specs.Fixes.{body_looked, packet_looked}
-use Rattle.p25_units.specs.declared.unit.Body.{Body}
-use Rattle.p25_units.specs.declared.unit.Body.TheVariants.{Voice, Packet}
-use Rattle.p25_vectors.specs.Draws.{draw, state_after}
-use Rattle.p25_vectors.specs.Damage.{damaged, word_counts, field_counts, field_draws, link_counts, body_counts, damaged_words, damage_counts}
+use Rattle.std.proofs.{Math.Nat.{mod-lt}, lemmas.Bool.{cond-true, le-leb}, lemmas.List.{get_or_append_left, get_or_default}, lemmas.List.Sums.{sum_by-cons}}
+use Rattle.p25_bits.specs.{Bits.{part}, Distance.{distance_of}, Numbers.{each_below}}
+use Rattle.p25_bits.proofs.{DistanceLaws.{distance_of-sym}, NumbersLaws.{length-each_below, get_or-each_below}}
+use Rattle.p25_coded_fields.specs.{Layouts.{Layout, places_from}, Within.{lost_symbols}}
+use Rattle.p25_voice_units.specs.{declared.unit.VoiceUnit.{VoiceUnit}, declared.unit.VoiceUnit.TheVariants.{Header, Link1, Link2, End, EndLink}}
+use Rattle.p25_voice_units.specs.{FieldLayouts.{word_places, header_layout, link_layout, sync_layout, tdulc_layout}, Fixes.{wide, voice_looked, link_looked}, Layouts.{hdu_rows, ldu_rows, tdulc_rows}}
+use Rattle.p25_voice_units.specs.{Readings.{low_places}, WithinRadius.{AreLowWithin, IsVoiceWithinByWords}}
+use Rattle.p25_packet_blocks.specs.{declared.packet.Packet.{Packet as packet_type}, declared.packet.Packet.TheVariants.{Confirmed as confirmed_packet, Plain as plain_packet}, Heads.{head_blocks}}
+use Rattle.p25_packet_blocks.specs.{Reading.{header_bits, block_bits}, Whole.{packet_head}, Within.{AreBlocksWithin, block_radius}}
+use Rattle.p25_units.specs.{Fixes.{body_looked, packet_looked}, declared.unit.Body.{Body}, declared.unit.Body.TheVariants.{Voice, Packet}}
+use Rattle.p25_vectors.specs.{Draws.{draw, state_after}, Damage.{damaged, word_counts, field_counts, field_draws, link_counts, body_counts, damaged_words, damage_counts}}
 use Rattle.p25_vectors.proofs.DamageLaws.{no_word, AreApart, AreApart-cons, AreApart-none, AreApart-rising, rising, AreCounts, AreCounts-append, AreCounts-from, distance-damaged}
 use Rattle.p25_vectors.proofs.CountsLaws.{count_at-radius, count_at-size, length-word_counts, get_or-word_counts, length-wide, get_or-wide, AreCounts-word_counts}
 

@@ -1,19 +1,14 @@
 -- What sample units carry: their kinds in turn, and what each has of the draws after a state.
 use Rattle.std.specs.Prelude.{ℕ, ◌+◌, ◌-◌, ◌*◌, ◌%◌, List, [], ◌∷◌, ◌++◌, take, slice_index, slice_index_or}
 use Rattle.p25_bits.specs.Numbers.{each_below, pair_at}
-use Rattle.p25_link.specs.declared.link_control.LinkControl.{LinkControl}
-use Rattle.p25_link.specs.declared.encryption_sync.EncryptionSync.{EncryptionSync}
+use Rattle.p25_link.specs.{declared.link_control.LinkControl.{LinkControl}, declared.encryption_sync.EncryptionSync.{EncryptionSync}}
 use Rattle.p25_link.specs.declared.header_word.HeaderWord.{HeaderWord}
 use Rattle.p25_voice_units.specs.declared.voice.VoiceFrame.{VoiceFrame}
 use Rattle.p25_voice_units.specs.declared.unit.VoiceUnit.TheVariants.{Header as header_unit, Link1 as ldu1_unit, Link2 as ldu2_unit, End as end_unit, EndLink as tdulc_unit}
-use Rattle.p25_packet_blocks.specs.declared.head.PacketHead.{PacketHead}
-use Rattle.p25_packet_blocks.specs.declared.block.Slot.{Slot}
-use Rattle.p25_packet_blocks.specs.declared.block.Slot.TheVariants.{Good}
+use Rattle.p25_packet_blocks.specs.{declared.head.PacketHead.{PacketHead}, declared.block.Slot.{Slot}, declared.block.Slot.TheVariants.{Good}}
 use Rattle.p25_packet_blocks.specs.Reading.{confirmed_by_parts, plain_by_parts}
-use Rattle.p25_units.specs.declared.unit.Body.{Body}
-use Rattle.p25_units.specs.declared.unit.Body.TheVariants.{Voice, Packet}
-use Rattle.p25_vectors.specs.Draws.{Drawing, and_then, draw, drawn, octets_drawn, octets_next, state_after}
-use Rattle.p25_vectors.specs.declared.kind.Kind.{Kind}
+use Rattle.p25_units.specs.{declared.unit.Body.{Body}, declared.unit.Body.TheVariants.{Voice, Packet}}
+use Rattle.p25_vectors.specs.{Draws.{Drawing, and_then, draw, drawn, octets_drawn, octets_next, state_after}, declared.kind.Kind.{Kind}}
 use Rattle.p25_vectors.specs.declared.kind.Kind.TheVariants.{End, Header, EndLink, Link1, Link2, Confirmed, Plain, Response}
 
 -- the kinds, in turn

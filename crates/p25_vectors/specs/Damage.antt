@@ -1,15 +1,10 @@
 -- The damage of a sample unit: how many of the first bits of its sync, of its network identifier (NID) and of each of its code
 -- words and blocks are inverted, as the draws after a state say.
 use Rattle.std.specs.Prelude.{ℕ, zero, suc, ◌+◌, ◌-◌, ◌%◌, if◌then◌else◌, nat_lt, Bool, List, [], ◌∷◌, ◌++◌}
-use Rattle.p25_bits.specs.Bits.{flipped}
-use Rattle.p25_bits.specs.Numbers.{each_below}
+use Rattle.p25_bits.specs.{Bits.{flipped}, Numbers.{each_below}}
 use Rattle.p25_voice_units.specs.declared.unit.VoiceUnit.TheVariants.{Header, Link1, Link2, End, EndLink}
-use Rattle.p25_packet_blocks.specs.Heads.{head_blocks}
-use Rattle.p25_packet_blocks.specs.Whole.{packet_head}
-use Rattle.p25_packet_blocks.specs.Within.{block_radius}
-use Rattle.p25_units.specs.Fixes.{body_looked}
-use Rattle.p25_units.specs.declared.unit.Body.{Body}
-use Rattle.p25_units.specs.declared.unit.Body.TheVariants.{Voice, Packet}
+use Rattle.p25_packet_blocks.specs.{Heads.{head_blocks}, Whole.{packet_head}, Within.{block_radius}}
+use Rattle.p25_units.specs.{Fixes.{body_looked}, declared.unit.Body.{Body}, declared.unit.Body.TheVariants.{Voice, Packet}}
 use Rattle.p25_vectors.specs.Draws.{draw, state_after}
 
 -- bits with so many of them inverted, from a place on

@@ -1,17 +1,10 @@
 -- The sample units, in order, and what is counted of them.
 use Rattle.std.specs.Prelude.{ℕ, zero, suc, ◌/◌, ◌%◌, Bool, List, replicate, sum}
 use Rattle.p25_bits.specs.Numbers.{each_below}
-use Rattle.p25_status.specs.Status.{status_modulo}
-use Rattle.p25_status.specs.Woven.{woven}
-use Rattle.p25_status.specs.declared.symbols.Status.{Status}
-use Rattle.p25_units.specs.UnitParts.{UnitParts}
-use Rattle.p25_units.specs.Units.{body_length, unit_image_of}
-use Rattle.p25_units.specs.declared.frame.Frame.{Frame}
-use Rattle.p25_units.specs.declared.unit.Body.{Body}
-use Rattle.p25_vectors.specs.Draws.{Drawing, and_then, drawn, number_next, state_after}
-use Rattle.p25_vectors.specs.Bodies.{body_next, kind_of}
-use Rattle.p25_vectors.specs.Damage.{damage_counts, damage_draws, damaged, damaged_words}
-use Rattle.p25_vectors.specs.declared.kind.Kind.{Kind}
+use Rattle.p25_status.specs.{Status.{status_modulo}, Woven.{woven}, declared.symbols.Status.{Status}}
+use Rattle.p25_units.specs.{UnitParts.{UnitParts}, Units.{body_length, unit_image_of}, declared.frame.Frame.{Frame}, declared.unit.Body.{Body}}
+use Rattle.p25_vectors.specs.{Draws.{Drawing, and_then, drawn, number_next, state_after}, Bodies.{body_next, kind_of}}
+use Rattle.p25_vectors.specs.{Damage.{damage_counts, damage_draws, damaged, damaged_words}, declared.kind.Kind.{Kind}}
 
 -- the frame of a unit that carries a body, with one status symbol everywhere
 abbrev pub frame_of : ℕ → Status → Body → Frame

@@ -2,12 +2,8 @@
 
 ghost use Rattle.std.specs.Prelude.{◌≡◌, ◌+◌, ◌-◌, ◌*◌, ◌%◌, ◌<◌, ◌≤◌, All, length, sum};
 ghost use Rattle.p25_bits.specs.Numbers.{each_below};
-ghost use Rattle.p25_packet_blocks.specs.Heads.{head_blocks};
-ghost use Rattle.p25_packet_blocks.specs.Lengths.{packet_bits};
-ghost use Rattle.p25_packet_blocks.specs.Whole.{packet_head};
-ghost use Rattle.p25_packet_blocks.specs.Within.{block_radius};
-ghost use Rattle.p25_units.specs.Fixes.{body_looked, packet_looked};
-ghost use Rattle.p25_units.specs.Units.{body_length};
+ghost use Rattle.p25_packet_blocks.specs.{Heads.{head_blocks}, Lengths.{packet_bits}, Whole.{packet_head}, Within.{block_radius}};
+ghost use Rattle.p25_units.specs.{Fixes.{body_looked, packet_looked}, Units.{body_length}};
 ghost use Rattle.p25_units.specs.declared.unit.Body.TheVariants.{Packet as packet_in, Voice as voice_in};
 ghost use Rattle.p25_voice_units.specs.Fixes.{link_looked, voice_looked, wide};
 ghost use Rattle.p25_vectors.specs.Draws.{draw, state_after};

@@ -1,10 +1,7 @@
 //! A report on sample units.
 
 ghost use Rattle.std.specs.Prelude.{◌≡◌, ◌≤◌, ◌↔◌, Ok, length, true};
-ghost use Rattle.p25_units.specs.Needs.{need_of};
-ghost use Rattle.p25_units.specs.Readings.{unit_reading_of};
-ghost use Rattle.p25_units.specs.Units.{IsSoundFrame};
-ghost use Rattle.p25_units.specs.declared.needs.Need.TheVariants.{Length};
+ghost use Rattle.p25_units.specs.{Needs.{need_of}, Readings.{unit_reading_of}, Units.{IsSoundFrame}, declared.needs.Need.TheVariants.{Length}};
 ghost use Rattle.p25_vectors.specs.Samples.{flips_of};
 
 use crate::sampler::Sampler;

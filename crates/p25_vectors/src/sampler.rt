@@ -1,14 +1,10 @@
 //! The sample units, one after the other.
 
 ghost use Rattle.std.specs.Prelude.{◌≡◌, ◌+◌, ◌<◌, Ok, length, sum};
-ghost use Rattle.p25_units.specs.Needs.{need_of};
-ghost use Rattle.p25_units.specs.Readings.{unit_reading_of};
-ghost use Rattle.p25_units.specs.Units.{IsSendableUnit, IsSoundFrame};
-ghost use Rattle.p25_units.specs.WithinRadius.{IsWithinRadius};
+ghost use Rattle.p25_units.specs.{Needs.{need_of}, Readings.{unit_reading_of}, Units.{IsSendableUnit, IsSoundFrame}, WithinRadius.{IsWithinRadius}};
 ghost use Rattle.p25_units.specs.declared.needs.Need.TheVariants.{Length};
 ghost use Rattle.p25_status.specs.Status.{status_modulo};
-ghost use Rattle.p25_vectors.specs.Draws.{draw, state_after};
-ghost use Rattle.p25_vectors.specs.Damage.{damage_counts, damage_draws};
+ghost use Rattle.p25_vectors.specs.{Draws.{draw, state_after}, Damage.{damage_counts, damage_draws}};
 ghost use Rattle.p25_vectors.specs.Samples.{damaged_image, frame_next, sample_bits, sample_flips, sample_frame};
 
 use crate::bodies::draw_body;

@@ -1,15 +1,10 @@
 -- The words of the binary codes are the only ones that begin with their information: each code's own law of systematic words.
 use Rattle.std.proofs.Common.{◌≡◌, Bool, List, length, refl, sym, ◌∙◌, lit≤, lit<}
-use Rattle.p25_code.specs.Binary.{systematic}
-use Rattle.p25_code.specs.Words.{IsEncoding}
+use Rattle.p25_code.specs.{Binary.{systematic}, Words.{IsEncoding}}
 use Rattle.p25_code.proofs.BinaryLaws.{encodes}
-use Rattle.p25_hamming.specs.Hamming10.{IsHamming10, check_rows as hamming10_rows}
-use Rattle.p25_hamming.specs.Hamming10Laws.{code as hamming10_code, from_checked as hamming10_from}
-use Rattle.p25_hamming.specs.Lsd16.{IsLsd16}
+use Rattle.p25_hamming.specs.{Hamming10.{IsHamming10, check_rows as hamming10_rows}, Hamming10Laws.{code as hamming10_code, from_checked as hamming10_from}, Lsd16.{IsLsd16}}
 use Rattle.p25_hamming.specs.Lsd16Laws.{check_rows as lsd16_rows, code as lsd16_code, from_checked as lsd16_from, lsd16_is_code}
-use Rattle.p25_golay.specs.Golay18.{IsGolay18}
-use Rattle.p25_golay.specs.Golay18Laws.{short_rows as golay18_rows, short_code as golay18_code, from_short as golay18_from}
-use Rattle.p25_golay.specs.Golay24.{IsGolay24}
+use Rattle.p25_golay.specs.{Golay18.{IsGolay18}, Golay18Laws.{short_rows as golay18_rows, short_code as golay18_code, from_short as golay18_from}, Golay24.{IsGolay24}}
 use Rattle.p25_golay.specs.Golay24Laws.{check_rows as golay24_rows, code as golay24_code, from_checked as golay24_from}
 use Rattle.p25_reed_solomon.specs.Words.{IsCode}
 use Rattle.p25_coded_fields.specs.Written.{Encodes}

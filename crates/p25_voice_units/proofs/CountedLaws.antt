@@ -1,34 +1,20 @@
 -- The fixes of a unit by its parts: in the image the inner words are those of the unit's symbols, and the low speed words those of its
 -- octets, so the looked-at bits differ in so many places from them.
-use Rattle.std.proofs.Common.{◌≡◌, ℕ, ◌+◌, ◌≤◌, Bool, List, [], ◌++◌, length, slice_index, All, refl, ap, ap₂, sym, ◌∙◌, arith, lit<}
+use Rattle.std.proofs.{Common.{◌≡◌, ℕ, ◌+◌, ◌≤◌, Bool, List, [], ◌++◌, length, slice_index, All, refl, ap, ap₂, sym, ◌∙◌, arith, lit<}, lemmas.List.{append-nil}, lemmas.List.Folds.{flat_map-map}}
 use Rattle.std.specs.Bool.{beq}
-use Rattle.std.proofs.lemmas.List.{append-nil}
-use Rattle.std.proofs.lemmas.List.Folds.{flat_map-map}
-use Rattle.p25_bits.specs.Bits.{bits_of, part}
-use Rattle.p25_bits.specs.Distance.{distance_of}
-use Rattle.p25_bits.proofs.DistanceLaws.{distance_by-append, distance_of-same}
-use Rattle.p25_bits.proofs.PartLaws.{length-part}
+use Rattle.p25_bits.specs.{Bits.{bits_of, part}, Distance.{distance_of}}
+use Rattle.p25_bits.proofs.{DistanceLaws.{distance_by-append, distance_of-same}, PartLaws.{length-part}}
 use Rattle.p25_gf64.specs.declared.symbol.Sym.{Sym}
-use Rattle.p25_link.specs.declared.header_word.HeaderWord.{HeaderWord}
-use Rattle.p25_link.specs.declared.link_control.LinkControl.{LinkControl}
-use Rattle.p25_link.specs.Words.{header_symbols, link_symbols}
-use Rattle.p25_reed_solomon.specs.Encoding.{rs_word}
-use Rattle.p25_reed_solomon.specs.Words.{IsCode}
-use Rattle.p25_coded_fields.specs.Fixes.{inner_bits, field_fixes_of}
-use Rattle.p25_coded_fields.specs.Layouts.{field_bits, places_from}
+use Rattle.p25_link.specs.{declared.header_word.HeaderWord.{HeaderWord}, declared.link_control.LinkControl.{LinkControl}, Words.{header_symbols, link_symbols}}
+use Rattle.p25_reed_solomon.specs.{Encoding.{rs_word}, Words.{IsCode}}
+use Rattle.p25_coded_fields.specs.{Fixes.{inner_bits, field_fixes_of}, Layouts.{field_bits, places_from}}
 use Rattle.p25_coded_fields.proofs.CodesLaws.{all_end}
-use Rattle.p25_voice_units.specs.declared.layout.Piece.TheVariants.{Nulls}
-use Rattle.p25_voice_units.specs.declared.unit.VoiceUnit.{VoiceUnit, TheVariants.{Header, End, EndLink}}
-use Rattle.p25_unit_front.specs.Front.{unit_front}
-use Rattle.p25_voice_units.specs.declared.voice.VoiceFrame.{VoiceFrame}
-use Rattle.p25_voice_units.specs.FieldLayouts.{word_places}
-use Rattle.p25_voice_units.specs.Fixes.{wide, bits_at, link_looked, low_fixes_of, voice_looked, voice_fixes_of, AreFixes}
+use Rattle.p25_voice_units.specs.{declared.layout.Piece.TheVariants.{Nulls}, declared.unit.VoiceUnit.{VoiceUnit, TheVariants.{Header, End, EndLink}}, declared.voice.VoiceFrame.{VoiceFrame}}
+use Rattle.p25_voice_units.specs.{FieldLayouts.{word_places}, Fixes.{wide, bits_at, link_looked, low_fixes_of, voice_looked, voice_fixes_of, AreFixes}}
 use Rattle.p25_voice_units.specs.Images.{contents, golay18_word, golay24_word, hamming10_word, lsd16_word, piece_bits, rows_bits, voice_body, voice_image_of}
-use Rattle.p25_voice_units.specs.Layouts.{hdu_rows, ldu_rows, tdulc_rows}
-use Rattle.p25_voice_units.specs.Readings.{low_places}
-use Rattle.p25_voice_units.specs.Sendable.{IsSpeech}
-use Rattle.p25_voice_units.proofs.FixesLaws.{fixes-append}
-use Rattle.p25_voice_units.proofs.FormLaws.{length-unit, unit_parts, words_in_unit}
+use Rattle.p25_voice_units.specs.{Layouts.{hdu_rows, ldu_rows, tdulc_rows}, Readings.{low_places}, Sendable.{IsSpeech}}
+use Rattle.p25_unit_front.specs.Front.{unit_front}
+use Rattle.p25_voice_units.proofs.{FixesLaws.{fixes-append}, FormLaws.{length-unit, unit_parts, words_in_unit}}
 use Rattle.p25_voice_units.proofs.ImagesLaws.{golay18_carried, golay24_carried, hamming10_carried, header_suits, ldu_suits, tdulc_suits}
 
 -- places of one width

@@ -1,21 +1,13 @@
 -- The layouts of the coded fields are read as their codes read: each by the laws of its inner and its outer code; and where the words
 -- of a field stand within a unit.
 use Rattle.std.proofs.Common.{◌≡◌, ◌+◌, ◌≤◌, Bool, List, length, All, refl, arith}
-use Rattle.p25_golay.specs.Golay18.{IsGolay18}
-use Rattle.p25_golay.specs.Golay18Laws.{golay18_is_code}
-use Rattle.p25_golay.specs.Golay18Readings.{golay18_reading_of, golay18_reads_as}
-use Rattle.p25_golay.specs.Golay24.{IsGolay24}
-use Rattle.p25_golay.specs.Golay24Laws.{golay24_is_code}
+use Rattle.p25_golay.specs.{Golay18.{IsGolay18}, Golay18Laws.{golay18_is_code}, Golay18Readings.{golay18_reading_of, golay18_reads_as}, Golay24.{IsGolay24}, Golay24Laws.{golay24_is_code}}
 use Rattle.p25_golay.specs.Golay24Readings.{golay24_reading_of, golay24_reads_as}
-use Rattle.p25_hamming.specs.Hamming10.{IsHamming10}
-use Rattle.p25_hamming.specs.Hamming10Laws.{hamming10_is_code}
-use Rattle.p25_hamming.specs.Hamming10Readings.{hamming10_reading_of, hamming10_reads_as}
+use Rattle.p25_hamming.specs.{Hamming10.{IsHamming10}, Hamming10Laws.{hamming10_is_code}, Hamming10Readings.{hamming10_reading_of, hamming10_reads_as}}
 use Rattle.p25_reed_solomon.specs.Words.{IsWord}
-use Rattle.p25_coded_fields.specs.Layouts.{places_from}
-use Rattle.p25_coded_fields.specs.Within.{HasCodes}
+use Rattle.p25_coded_fields.specs.{Layouts.{places_from}, Within.{HasCodes}}
 use Rattle.p25_coded_fields.proofs.CodesLaws.{layout_codes, all_end}
-use Rattle.p25_voice_units.specs.Layouts.{hdu_rows, ldu_rows, tdulc_rows}
-use Rattle.p25_voice_units.specs.FieldLayouts.{word_places, header_layout, link_layout, sync_layout, tdulc_layout}
+use Rattle.p25_voice_units.specs.{Layouts.{hdu_rows, ldu_rows, tdulc_rows}, FieldLayouts.{word_places, header_layout, link_layout, sync_layout, tdulc_layout}}
 use Rattle.p25_voice_units.proofs.CodesLaws.{header_code, link_code, sync_code}
 
 pub header_codes : HasCodes IsGolay18 3 (IsWord 36 20) 16 header_layout

@@ -1,31 +1,19 @@
 -- The inner words of a coded field, by recursion on the rows of its layout: where each row has its piece, the words at all places carry
 -- the groups of symbols in order; and where they do, each row has its piece.
 use Rattle.std.proofs.Common.{◌≡◌, ℕ, suc, ◌+◌, ◌-◌, ◌*◌, ◌<◌, ◌≤◌, Bool, true, eqb, ◌&&◌, List, [], ◌∷◌, ◌++◌, length, get_or, All, refl, ap, sym, subst, ◌∙◌, inl, inr, arith, length-append}
-use Rattle.std.proofs.Math.Nat.{mul-add}
-use Rattle.std.proofs.lemmas.Bool.{and_parts, eqb-true, leb-true, cases_lt}
-use Rattle.std.proofs.lemmas.List.{get_or_append_left}
-use Rattle.std.proofs.Math.Seq.{get_or-append_right}
-use Rattle.std.proofs.lemmas.List.Concat.{flat_map-cons}
+use Rattle.std.proofs.{Math.Nat.{mul-add}, lemmas.Bool.{and_parts, eqb-true, leb-true, cases_lt}, lemmas.List.{get_or_append_left}, Math.Seq.{get_or-append_right}, lemmas.List.Concat.{flat_map-cons}}
 use Rattle.std.proofs.lemmas.List.Elements.{All-nil, All-cons}
 use Rattle.p25_bits.specs.Bits.{bits_of, part}
-use Rattle.p25_bits.proofs.BitsLaws.{length-bits_of}
-use Rattle.p25_bits.proofs.PartLaws.{length-part, part-part}
-use Rattle.p25_bits.proofs.NumbersLaws.{joined_below-parts, joined_below-same}
+use Rattle.p25_bits.proofs.{BitsLaws.{length-bits_of}, PartLaws.{length-part, part-part}, NumbersLaws.{joined_below-parts, joined_below-same}}
 use Rattle.p25_code.specs.Words.{IsEncoding}
 use Rattle.p25_hamming.specs.Lsd16.{IsLsd16}
 use Rattle.p25_gf64.specs.declared.symbol.Sym.{Sym}
 use Rattle.p25_link.specs.Symbols.{symbol_bits}
 use Rattle.p25_coded_fields.specs.Layouts.{field_bits}
-use Rattle.p25_coded_fields.proofs.SymbolsLaws.{room_at}
-use Rattle.p25_coded_fields.proofs.FieldLaws.{length-places_from, get_or-places_from, part-field_bits}
-use Rattle.p25_voice_units.specs.declared.layout.Piece.{Piece}
-use Rattle.p25_voice_units.specs.declared.layout.Piece.TheVariants.{Words, Frame, LowSpeed, Nulls}
-use Rattle.p25_voice_units.specs.FieldLayouts.{words_at, word_places}
-use Rattle.p25_voice_units.specs.Pieces.{piece_fits, piece_length}
-use Rattle.p25_voice_units.specs.Images.{Contents, piece_bits}
-use Rattle.p25_voice_units.specs.Places.{HasPiece}
-use Rattle.p25_voice_units.proofs.CodesLaws.{lsd16_encodes, lsd16_only}
-use Rattle.p25_voice_units.proofs.RowsLaws.{IsCarried, rows_supplied}
+use Rattle.p25_coded_fields.proofs.{SymbolsLaws.{room_at}, FieldLaws.{length-places_from, get_or-places_from, part-field_bits}}
+use Rattle.p25_voice_units.specs.{declared.layout.Piece.{Piece}, declared.layout.Piece.TheVariants.{Words, Frame, LowSpeed, Nulls}, FieldLayouts.{words_at, word_places}}
+use Rattle.p25_voice_units.specs.{Pieces.{piece_fits, piece_length}, Images.{Contents, piece_bits}, Places.{HasPiece}}
+use Rattle.p25_voice_units.proofs.{CodesLaws.{lsd16_encodes, lsd16_only}, RowsLaws.{IsCarried, rows_supplied}}
 
 -- how many inner words a piece has
 abbrev pub word_count : Piece → ℕ

@@ -1,16 +1,10 @@
 -- Fixes place by place: the bits at places joined differ in as many bits as those at each place together; the distance of two runs is
 -- the weight of the exclusive or of the numbers that they write.
 use Rattle.std.proofs.Common.{◌≡◌, ℕ, suc, ◌+◌, ◌*◌, ◌≤◌, Bool, List, [], ◌∷◌, ◌++◌, length, map, get_or, sum_by, All, bit_xor, ap, ap₂, sym, ◌∙◌, arith, length-append}
-use Rattle.std.specs.List.{flat_map}
-use Rattle.std.specs.Int.RustNames.{count_ones}
-use Rattle.std.proofs.Math.Nat.{mul_comm, mul-le-mul_left}
-use Rattle.std.proofs.lemmas.List.Concat.{flat_map-append}
-use Rattle.std.proofs.lemmas.List.Sums.{sum_by-cons, sum_by-le}
-use Rattle.std.specs.Bool.{beq}
-use Rattle.p25_bits.specs.Bits.{field_of, part}
-use Rattle.p25_bits.specs.Distance.{distance_of}
-use Rattle.p25_bits.proofs.DistanceLaws.{distance_by-append, distance_by-le, distance_of-same, ones-xor}
-use Rattle.p25_bits.proofs.PartLaws.{length-part}
+use Rattle.std.proofs.{Math.Nat.{mul_comm, mul-le-mul_left}, lemmas.List.Concat.{flat_map-append}, lemmas.List.Sums.{sum_by-cons, sum_by-le}}
+use Rattle.std.specs.{List.{flat_map}, Int.RustNames.{count_ones}, Bool.{beq}}
+use Rattle.p25_bits.specs.{Bits.{field_of, part}, Distance.{distance_of}}
+use Rattle.p25_bits.proofs.{DistanceLaws.{distance_by-append, distance_by-le, distance_of-same, ones-xor}, PartLaws.{length-part}}
 use Rattle.p25_coded_fields.proofs.SymbolsLaws.{one_more}
 use Rattle.p25_voice_units.specs.Fixes.{wide, bits_at}
 

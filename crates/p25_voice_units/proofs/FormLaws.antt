@@ -1,32 +1,20 @@
 -- A unit's bits by its places: a unit is laid out and carries its coded field exactly where its bits are its front and the pieces of its
 -- rows. One way goes from the words of the field to the pieces and then to the whole, the other way back.
 use Rattle.std.proofs.Common.{◌≡◌, ◌↔◌, ℕ, ◌+◌, ◌*◌, ◌<◌, ◌≤◌, Bool, true, List, ◌++◌, length, take, get_or, All, ap, ap₂, sym, subst, ◌∙◌, arith, length-append, take-append-drop, Option}
-use Rattle.std.specs.List.{list_all}
-use Rattle.std.specs.Prelude.{nat_le}
-use Rattle.std.proofs.lemmas.Bool.{leb-true}
-use Rattle.std.proofs.lemmas.List.Sums.{AllPass-from_list_all}
-use Rattle.std.proofs.lemmas.List.{get_or_default}
+use Rattle.std.proofs.{lemmas.Bool.{leb-true}, lemmas.List.Sums.{AllPass-from_list_all}, lemmas.List.{get_or_default, take_at}}
+use Rattle.std.specs.{List.{list_all}, Prelude.{nat_le}}
 use Rattle.p25_bits.specs.Bits.{part}
 use Rattle.p25_bits.proofs.NumbersLaws.{joined_below-same}
 use Rattle.p25_code.specs.Words.{IsEncoding}
-use Rattle.std.proofs.lemmas.List.{take_at}
 use Rattle.p25_gf64.specs.declared.symbol.Sym.{Sym}
 use Rattle.p25_link.specs.Symbols.{symbol_bits}
-use Rattle.p25_reed_solomon.specs.Encoding.{rs_word}
-use Rattle.p25_reed_solomon.specs.RsReadings.{rs_erased_reading_of}
-use Rattle.p25_reed_solomon.specs.Words.{IsCode, IsWord as IsOuterWord}
+use Rattle.p25_reed_solomon.specs.{Encoding.{rs_word}, RsReadings.{rs_erased_reading_of}, Words.{IsCode, IsWord as IsOuterWord}}
 use Rattle.p25_reed_solomon.proofs.EncodingLaws.{IsEncoding-rs_word, rs_word-only}
 use Rattle.p25_unit_front.specs.Front.{unit_front, IsFront}
 use Rattle.p25_unit_front.proofs.FrontLaws.{length-unit_front, IsFront-unit_front, unit_front-only}
-use Rattle.p25_coded_fields.specs.Fixes.{inner_bits}
-use Rattle.p25_coded_fields.specs.Layouts.{Layout, field_bits, field_layout, sent_in}
-use Rattle.p25_coded_fields.specs.Within.{HasField}
+use Rattle.p25_coded_fields.specs.{Fixes.{inner_bits}, Layouts.{Layout, field_bits, field_layout, sent_in}, Within.{HasField}}
 use Rattle.p25_coded_fields.proofs.FieldLaws.{field_there, field_word, field_word_there, flat_map_places}
-use Rattle.p25_voice_units.specs.declared.layout.Piece.{Piece}
-use Rattle.p25_voice_units.specs.FieldLayouts.{word_places}
-use Rattle.p25_voice_units.specs.Pieces.{piece_length}
-use Rattle.p25_voice_units.specs.Images.{Contents, piece_bits, rows_bits}
-use Rattle.p25_voice_units.specs.Places.{IsLaidOut}
+use Rattle.p25_voice_units.specs.{declared.layout.Piece.{Piece}, FieldLayouts.{word_places}, Pieces.{piece_length}, Images.{Contents, piece_bits, rows_bits}, Places.{IsLaidOut}}
 use Rattle.p25_voice_units.proofs.RowsLaws.{IsCarried, rows_length, rows_stand, rows_supplied, length-rows_bits, rows_parts, rows_only}
 use Rattle.p25_voice_units.proofs.FieldRowsLaws.{rows_counted, group_word, words_from_rows, rows_from_words, rows_have}
 

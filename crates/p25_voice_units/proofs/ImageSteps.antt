@@ -1,14 +1,9 @@
 -- The steps of the writer of voice units: a piece, by what it is, and one more piece after the others.
 use Rattle.std.proofs.Common.{◌≡◌, ℕ, zero, suc, eqb, append-nil, ◌+◌, ◌*◌, ◌<◌, ◌≤◌, Bool, true, false, List, [], ◌∷◌, ◌++◌, length, take, get_or, replicate, refl, ap, ap₂, sym, ◌∙◌}
+use Rattle.std.proofs.{lemmas.Bool.{leb-true}, lemmas.Nat.Bits.{bit_at-zero}, lemmas.List.{flat_map_more, take_more}}
 use Rattle.std.specs.List.{flat_map}
-use Rattle.std.proofs.lemmas.Bool.{leb-true}
-use Rattle.std.proofs.lemmas.Nat.Bits.{bit_at-zero}
-use Rattle.std.proofs.lemmas.List.{flat_map_more, take_more}
 use Rattle.p25_bits.specs.Bits.{bits_of}
-use Rattle.p25_voice_units.specs.declared.layout.Piece.{Piece}
-use Rattle.p25_voice_units.specs.declared.layout.Piece.TheVariants.{Words}
-use Rattle.p25_voice_units.specs.Pieces.{piece_fits}
-use Rattle.p25_voice_units.specs.Images.{Contents, piece_bits, rows_bits}
+use Rattle.p25_voice_units.specs.{declared.layout.Piece.{Piece}, declared.layout.Piece.TheVariants.{Words}, Pieces.{piece_fits}, Images.{Contents, piece_bits, rows_bits}}
 
 -- there are the symbols of some inner words
 pub words_fit : (each symbols low frames : ℕ) (piece : Piece) (first count : ℕ) → piece ≡ Words first count → piece_fits each symbols low frames piece ≡ true → each * first + each * count ≤ symbols

@@ -1,37 +1,20 @@
 -- The images of voice units, by their kinds: what each carries suits its rows, as tests of the layouts say, so a unit's bits are those
 -- that stand as its layout says and carry its field.
-use Rattle.std.proofs.Common.{◌≡◌, ◌↔◌, ℕ, Bool, List, [], length, Some, refl, ap, ap₂, sym, ◌∙◌, arith, lit≤}
-use Rattle.std.proofs.lemmas.List.Elements.{All-nil}
-use Rattle.p25_hamming.specs.Hamming10.{IsHamming10}
-use Rattle.p25_hamming.specs.Hamming10Laws.{hamming10_is_code}
-use Rattle.p25_hamming.specs.Hamming10Readings.{hamming10_reading_of}
-use Rattle.p25_golay.specs.Golay18.{IsGolay18}
-use Rattle.p25_golay.specs.Golay18Laws.{golay18_is_code}
-use Rattle.p25_golay.specs.Golay18Readings.{golay18_reading_of}
-use Rattle.p25_golay.specs.Golay24.{IsGolay24}
-use Rattle.p25_golay.specs.Golay24Laws.{golay24_is_code}
+use Rattle.std.proofs.{Common.{◌≡◌, ◌↔◌, ℕ, Bool, List, [], length, Some, refl, ap, ap₂, sym, ◌∙◌, arith, lit≤}, lemmas.List.Elements.{All-nil}}
+use Rattle.p25_hamming.specs.{Hamming10.{IsHamming10}, Hamming10Laws.{hamming10_is_code}, Hamming10Readings.{hamming10_reading_of}}
+use Rattle.p25_golay.specs.{Golay18.{IsGolay18}, Golay18Laws.{golay18_is_code}, Golay18Readings.{golay18_reading_of}, Golay24.{IsGolay24}, Golay24Laws.{golay24_is_code}}
 use Rattle.p25_golay.specs.Golay24Readings.{golay24_reading_of}
 use Rattle.p25_gf64.specs.declared.symbol.Sym.{Sym}
-use Rattle.p25_reed_solomon.specs.Words.{IsCode}
-use Rattle.p25_reed_solomon.specs.Encoding.{rs_word}
+use Rattle.p25_reed_solomon.specs.{Words.{IsCode}, Encoding.{rs_word}}
 use Rattle.p25_reed_solomon.proofs.EncodingLaws.{IsEncoding-rs_word}
-use Rattle.p25_link.specs.declared.link_control.LinkControl.{LinkControl}
-use Rattle.p25_link.specs.declared.header_word.HeaderWord.{HeaderWord}
-use Rattle.p25_link.specs.Words.{header_symbols, link_symbols, sync_symbols}
+use Rattle.p25_link.specs.{declared.link_control.LinkControl.{LinkControl}, declared.header_word.HeaderWord.{HeaderWord}, Words.{header_symbols, link_symbols, sync_symbols}}
 use Rattle.p25_link.proofs.WordsLaws.{length-header_symbols, length-link_symbols, length-sync_symbols}
 use Rattle.p25_coded_fields.specs.Layouts.{places_from}
-use Rattle.p25_voice_units.specs.declared.voice.VoiceFrame.{VoiceFrame}
-use Rattle.p25_voice_units.specs.declared.unit.VoiceUnit.{VoiceUnit}
-use Rattle.p25_voice_units.specs.declared.unit.VoiceUnit.TheVariants.{Header, Link1, Link2, End, EndLink}
-use Rattle.p25_voice_units.specs.Layouts.{hdu_rows, ldu_rows, tdu_rows, tdulc_rows}
-use Rattle.p25_voice_units.specs.FieldLayouts.{word_places}
-use Rattle.p25_voice_units.specs.Lengths.{voice_duid, voice_length_of}
-use Rattle.p25_voice_units.specs.Sendable.{IsVoiceFrame, IsSpeech, IsSendableVoice}
-use Rattle.p25_voice_units.specs.Images.{contents, golay18_word, golay24_word, hamming10_word, voice_body, voice_image_of}
-use Rattle.p25_voice_units.specs.Places.{IsVoiceImage}
+use Rattle.p25_voice_units.specs.{declared.voice.VoiceFrame.{VoiceFrame}, declared.unit.VoiceUnit.{VoiceUnit}, declared.unit.VoiceUnit.TheVariants.{Header, Link1, Link2, End, EndLink}}
+use Rattle.p25_voice_units.specs.{Layouts.{hdu_rows, ldu_rows, tdu_rows, tdulc_rows}, FieldLayouts.{word_places}, Lengths.{voice_duid, voice_length_of}}
+use Rattle.p25_voice_units.specs.{Sendable.{IsVoiceFrame, IsSpeech, IsSendableVoice}, Images.{contents, golay18_word, golay24_word, hamming10_word, voice_body, voice_image_of}, Places.{IsVoiceImage}}
 use Rattle.p25_voice_units.proofs.CodesLaws.{golay18_encodes, golay24_encodes, hamming10_encodes, header_code, link_code, sync_code}
-use Rattle.p25_voice_units.proofs.LengthsLaws.{length-header, length-ldu1, length-ldu2, length-end, length-tdulc}
-use Rattle.p25_voice_units.proofs.RowsLaws.{IsCarried, rows_supplied}
+use Rattle.p25_voice_units.proofs.{LengthsLaws.{length-header, length-ldu1, length-ldu2, length-end, length-tdulc}, RowsLaws.{IsCarried, rows_supplied}}
 use Rattle.p25_voice_units.proofs.FormLaws.{AreRows, length-unit, laid_out, laid_out-only, unit_form}
 
 -- what the codes of the inner words need

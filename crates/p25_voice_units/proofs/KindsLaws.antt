@@ -1,16 +1,10 @@
 -- The readings of voice units, kind by kind: at the DUID of a kind the definition computes to that kind's; and a unit with voice by which
 -- of its parts were read.
 use Rattle.std.proofs.Common.{◌≡◌, ℕ, Bool, List, [], Option, Some, None, option_map, ◌∷◌, ap₂, Ok, Err, Result, refl, ap, sym, ◌∙◌, ◌++◌, false, replicate}
-use Rattle.p25_status.specs.Outcomes.{read_or}
-use Rattle.p25_status.specs.declared.fields.Field.{Field}
-use Rattle.p25_status.specs.declared.outcome.Outcome.{Outcome}
+use Rattle.p25_status.specs.{Outcomes.{read_or}, declared.fields.Field.{Field}, declared.outcome.Outcome.{Outcome}}
 use Rattle.p25_unit_front.specs.Front.{unit_front}
-use Rattle.p25_voice_units.specs.declared.unit.VoiceUnit.{VoiceUnit}
-use Rattle.p25_voice_units.specs.declared.unit.VoiceUnit.TheVariants.{End}
-use Rattle.p25_voice_units.specs.declared.voice.VoiceFrame.{VoiceFrame}
-use Rattle.p25_voice_units.specs.FieldLayouts.{tdulc_layout}
-use Rattle.p25_voice_units.specs.Images.{piece_bits, rows_bits, voice_body, voice_image_of}
-use Rattle.p25_voice_units.specs.Lengths.{voice_length_of}
+use Rattle.p25_voice_units.specs.{declared.unit.VoiceUnit.{VoiceUnit}, declared.unit.VoiceUnit.TheVariants.{End}, declared.voice.VoiceFrame.{VoiceFrame}, FieldLayouts.{tdulc_layout}}
+use Rattle.p25_voice_units.specs.{Images.{piece_bits, rows_bits, voice_body, voice_image_of}, Lengths.{voice_length_of}}
 use Rattle.p25_voice_units.specs.Readings.{voice_in, low_in, missing, failing, header_in, header_from, link_in, ldu_from, ldu1_in, ldu2_in, tdulc_from, voice_reading_of}
 
 -- bits that have the length of their kind have so many

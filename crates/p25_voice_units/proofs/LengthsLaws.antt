@@ -1,6 +1,5 @@
 -- How many bits the kinds of voice units have, each by its data unit identifier.
-use Rattle.std.proofs.Common.{◌≡◌, ◌≢◌, ℕ, ◌%◌, ◌≤◌, eqb, cond, Some, None, refl, sym, subst, ◌∙◌, inl, inr, lit≤}
-use Rattle.std.proofs.lemmas.Bool.{cond-false, ne_eqb, cases_eq}
+use Rattle.std.proofs.{Common.{◌≡◌, ◌≢◌, ℕ, ◌%◌, ◌≤◌, eqb, cond, Some, None, refl, sym, subst, ◌∙◌, inl, inr, lit≤}, lemmas.Bool.{cond-false, ne_eqb, cases_eq}}
 use Rattle.p25_voice_units.specs.Lengths.{voice_length_of}
 
 pub length-header : voice_length_of 0 ≡ Some 770

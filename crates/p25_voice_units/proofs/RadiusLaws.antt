@@ -1,39 +1,22 @@
 -- Voice units within radius are read as sent: the coded field by the law of its layout, each low speed word by its code, and the words
 -- of symbols back from these. By whole inner words is within radius too; and a unit's own bits are within radius, and give its frames.
 use Rattle.std.proofs.Common.{◌≡◌, ℕ, zero, suc, ◌+◌, ◌*◌, ◌<◌, ◌≤◌, Bool, List, [], ◌∷◌, length, take, drop, map, slice_index, get_or, Option, Some, option_map, Ok, All, refl, ap, ap₂, sym, ◌∙◌, arith, lit<, length-drop}
-use Rattle.std.proofs.Math.Nat.{mod-eq_of_lt}
-use Rattle.std.proofs.lemmas.List.{ext_get_or, get_or-map, length-map}
-use Rattle.p25_bits.specs.Bits.{bits_of, field_of, octet_bits, part}
-use Rattle.p25_bits.specs.Numbers.{numbers_from}
-use Rattle.p25_bits.specs.Distance.{distance_of}
-use Rattle.p25_bits.proofs.BitsLaws.{field_of-bits_of}
-use Rattle.p25_bits.proofs.DistanceLaws.{distance_of-same}
-use Rattle.p25_bits.proofs.NumbersLaws.{number_bits-octets, numbers_from-take, numbers_from-number_bits}
-use Rattle.p25_bits.proofs.PartLaws.{length-part}
+use Rattle.std.proofs.{Math.Nat.{mod-eq_of_lt}, lemmas.List.{ext_get_or, get_or-map, length-map}}
+use Rattle.p25_bits.specs.{Bits.{bits_of, field_of, octet_bits, part}, Numbers.{numbers_from}, Distance.{distance_of}}
+use Rattle.p25_bits.proofs.{BitsLaws.{field_of-bits_of}, DistanceLaws.{distance_of-same}, NumbersLaws.{number_bits-octets, numbers_from-take, numbers_from-number_bits}, PartLaws.{length-part}}
 use Rattle.p25_code.specs.Words.{IsEncoding}
 use Rattle.p25_code.proofs.ReadingLaws.{read_as_sent}
-use Rattle.p25_hamming.specs.Lsd16.{IsLsd16}
-use Rattle.p25_hamming.specs.Lsd16Laws.{lsd16_is_code}
-use Rattle.p25_hamming.specs.Lsd16Readings.{lsd16_reading_of, lsd16_reads_as}
+use Rattle.p25_hamming.specs.{Lsd16.{IsLsd16}, Lsd16Laws.{lsd16_is_code}, Lsd16Readings.{lsd16_reading_of, lsd16_reads_as}}
 use Rattle.p25_link.specs.Words.{header_of_symbols, header_symbols, link_of_symbols, link_symbols, sync_of_symbols, sync_symbols}
 use Rattle.p25_link.proofs.WordsLaws.{header_back, link_back, sync_back}
 use Rattle.p25_coded_fields.proofs.WithinLaws.{field_within, near_from_lost, near_itself}
-use Rattle.p25_voice_units.specs.declared.layout.Piece.TheVariants.{Nulls}
-use Rattle.p25_voice_units.specs.declared.unit.VoiceUnit.{VoiceUnit}
-use Rattle.p25_voice_units.specs.declared.unit.VoiceUnit.TheVariants.{Header, Link1, Link2, End, EndLink}
-use Rattle.p25_voice_units.specs.declared.voice.VoiceFrame.{VoiceFrame}
-use Rattle.p25_voice_units.specs.Layouts.{ldu_rows}
-use Rattle.p25_voice_units.specs.FieldLayouts.{link_layout}
-use Rattle.p25_voice_units.specs.Images.{frame_at, voice_image_of}
-use Rattle.p25_voice_units.specs.Lengths.{voice_duid}
+use Rattle.p25_voice_units.specs.{declared.layout.Piece.TheVariants.{Nulls}, declared.unit.VoiceUnit.{VoiceUnit}, declared.unit.VoiceUnit.TheVariants.{Header, Link1, Link2, End, EndLink}}
+use Rattle.p25_voice_units.specs.{declared.voice.VoiceFrame.{VoiceFrame}, Layouts.{ldu_rows}, FieldLayouts.{link_layout}, Images.{frame_at, voice_image_of}, Lengths.{voice_duid}}
 use Rattle.p25_voice_units.specs.Places.{HasPiece, IsLaidOut, IsVoiceImage}
 use Rattle.p25_voice_units.specs.Readings.{ldu1_in, ldu2_in, frame_places, low_places, frame_in, voice_in, low_in, header_in, link_in, sync_in, header_from, ldu_from, tdulc_from, voice_reading_of}
-use Rattle.p25_voice_units.specs.Sendable.{IsVoiceFrame, IsSpeech, IsSendableVoice}
-use Rattle.p25_voice_units.specs.WithinRadius.{AreLowWithin, IsVoiceWithin, received_voice, IsVoiceWithinByWords}
+use Rattle.p25_voice_units.specs.{Sendable.{IsVoiceFrame, IsSpeech, IsSendableVoice}, WithinRadius.{AreLowWithin, IsVoiceWithin, received_voice, IsVoiceWithinByWords}}
 use Rattle.p25_status.specs.declared.fields.Field.{Field, TheVariants.{LinkControl as LinkField, EncryptionSync as SyncField}}
-use Rattle.p25_voice_units.proofs.ImagesLaws.{IsVoiceImage-iff}
-use Rattle.p25_voice_units.proofs.KindsLaws.{reading-header, reading-end, reading-ldu1, reading-ldu2, reading-tdulc, ldu_whole}
-use Rattle.p25_voice_units.proofs.ReadLaws.{nine_frames}
+use Rattle.p25_voice_units.proofs.{ImagesLaws.{IsVoiceImage-iff}, KindsLaws.{reading-header, reading-end, reading-ldu1, reading-ldu2, reading-tdulc, ldu_whole}, ReadLaws.{nine_frames}}
 use Rattle.p25_voice_units.proofs.FieldCodesLaws.{header_codes, link_codes, sync_codes, tdulc_codes, header_there, link_there, tdulc_there}
 
 -- a low speed word with at most two wrong bits is read as its octet

@@ -1,13 +1,11 @@
 -- The reader of voice units: each part that was read is the part that the definition names, by what the reader of the part answers.
 use Rattle.std.proofs.Common.{◌≡◌, ℕ, zero, suc, ◌+◌, ◌/◌, ◌%◌, ◌^◌, ◌<◌, ◌≤◌, Bool, true, false, List, [], ◌∷◌, ◌++◌, length, take, map, set, slice_index, Option, Some, None, IfSome, option_map, refl, subst, ap, ap₂, sym, ◌∙◌, arith, lit≤}
-use Rattle.std.specs.Option.{is_some}
 use Rattle.std.proofs.lemmas.List.{append-nil, map_more, take_all, take_more_set}
+use Rattle.std.specs.Option.{is_some}
 use Rattle.p25_bits.specs.Bits.{bits_of, field_of, part}
 use Rattle.p25_bits.proofs.BitsLaws.{field_of-bits_of, take-bits_of}
 use Rattle.p25_status.specs.declared.fields.Field.{Field}
-use Rattle.p25_voice_units.specs.declared.voice.VoiceFrame.{VoiceFrame}
-use Rattle.p25_voice_units.specs.Layouts.{ldu_rows}
-use Rattle.p25_voice_units.specs.Readings.{frame_places, low_places, frame_in, voice_in, missing}
+use Rattle.p25_voice_units.specs.{declared.voice.VoiceFrame.{VoiceFrame}, Layouts.{ldu_rows}, Readings.{frame_places, low_places, frame_in, voice_in, missing}}
 
 -- a part that was read is a function of its symbols, also where only how many bits of it were put right is answered beside them
 pub part_counted : {S W : Type 0} (f : S → W) (answer : Option ℕ) (value : Option S) (symbols : S) (word : W) → option_map (λ n. symbols) answer ≡ value → word ≡ f symbols → option_map (λ n. word) answer ≡ option_map f value

@@ -1,29 +1,21 @@
 -- What voice units are read as: a unit that was read is of the kind of its DUID, and keeps what its type keeps, since each part is made
 -- of so many bits.
 use Rattle.std.proofs.Common.{◌≡◌, ℕ, ◌<◌, Bool, List, [], ◌∷◌, length, take, drop, slice_index, get_or, Option, Some, None, option_map, Ok, Err, Result, All, refl, ◌∙◌, subst}
-use Rattle.std.proofs.lemmas.List.{length-map}
-use Rattle.std.proofs.lemmas.List.Elements.{All-nil, All-cons, All-map}
-use Rattle.p25_bits.specs.Bits.{field_of, part}
-use Rattle.p25_bits.specs.Numbers.{numbers_from}
+use Rattle.std.proofs.{lemmas.List.{length-map}, lemmas.List.Elements.{All-nil, All-cons, All-map}}
+use Rattle.p25_bits.specs.{Bits.{field_of, part}, Numbers.{numbers_from}}
 use Rattle.p25_bits.proofs.NumbersLaws.{All-numbers_from, field-lt, length-numbers_from}
 use Rattle.p25_gf64.specs.declared.symbol.Sym.{Sym}
 use Rattle.p25_hamming.specs.Lsd16Readings.{lsd16_reading_of}
 use Rattle.p25_link.specs.Symbols.{symbol_bits}
 use Rattle.p25_link.specs.Words.{header_of_bits, header_of_symbols, link_of_bits, link_of_symbols, sync_of_bits, sync_of_symbols, AreNineOctets, IsHeaderWord, IsLinkControl, IsEncryptionSync}
-use Rattle.p25_link.specs.declared.header_word.HeaderWord.{HeaderWord}
-use Rattle.p25_link.specs.declared.link_control.LinkControl.{LinkControl}
-use Rattle.p25_status.specs.declared.fields.Field.{Field}
-use Rattle.p25_status.specs.declared.fields.Field.TheVariants.{LinkControl as LinkField, EncryptionSync as SyncField}
+use Rattle.p25_link.specs.{declared.header_word.HeaderWord.{HeaderWord}, declared.link_control.LinkControl.{LinkControl}}
+use Rattle.p25_status.specs.{declared.fields.Field.{Field}, declared.fields.Field.TheVariants.{LinkControl as LinkField, EncryptionSync as SyncField}}
 use Rattle.p25_coded_fields.specs.Layouts.{field_reading_of}
-use Rattle.p25_voice_units.specs.declared.unit.VoiceUnit.{VoiceUnit}
-use Rattle.p25_voice_units.specs.declared.unit.VoiceUnit.TheVariants.{Header, Link1, Link2, End, EndLink}
-use Rattle.p25_voice_units.specs.Layouts.{ldu_rows}
-use Rattle.p25_voice_units.specs.FieldLayouts.{link_layout, sync_layout, header_layout, tdulc_layout}
-use Rattle.p25_voice_units.specs.Lengths.{voice_duid}
+use Rattle.p25_voice_units.specs.{declared.unit.VoiceUnit.{VoiceUnit}, declared.unit.VoiceUnit.TheVariants.{Header, Link1, Link2, End, EndLink}, Layouts.{ldu_rows}}
+use Rattle.p25_voice_units.specs.{FieldLayouts.{link_layout, sync_layout, header_layout, tdulc_layout}, Lengths.{voice_duid}}
 use Rattle.p25_voice_units.specs.Readings.{frame_places, low_places, frame_in, voice_in, low_in, header_in, link_in, sync_in, header_from, ldu_from, ldu1_in, ldu2_in, tdulc_from, voice_reading_of}
 use Rattle.p25_voice_units.specs.Sendable.{IsVoiceFrame, IsSpeech, IsSendableVoice}
-use Rattle.p25_voice_units.proofs.LengthsLaws.{by_duid-cases}
-use Rattle.p25_voice_units.proofs.ReadLaws.{nine_frames}
+use Rattle.p25_voice_units.proofs.{LengthsLaws.{by_duid-cases}, ReadLaws.{nine_frames}}
 
 -- words of symbols keep what their types keep
 nine_octets : (bits : List Bool) → AreNineOctets (numbers_from 8 9 bits)

@@ -1,21 +1,14 @@
 -- Pieces that stand end to end, by recursion on the rows of a layout: joined they have each piece at its place, and what has each piece
 -- at its place is the pieces joined.
 use Rattle.std.proofs.Common.{◌≡◌, ℕ, suc, ◌+◌, ◌*◌, ◌≤◌, Bool, true, false, eqb, ◌&&◌, List, [], ◌∷◌, ◌++◌, length, take, drop, get_or, All, refl, ap, ap₂, sym, ◌∙◌, arith, append_assoc, length-append, take-append-drop}
-use Rattle.std.proofs.lemmas.Bool.{and_parts, eqb-true, leb-true, ltb-true}
-use Rattle.std.proofs.lemmas.List.{drop_all, drop-drop, length-replicate}
-use Rattle.std.proofs.lemmas.List.Concat.{flat_map-cons}
+use Rattle.std.proofs.{lemmas.Bool.{and_parts, eqb-true, leb-true, ltb-true}, lemmas.List.{drop_all, drop-drop, length-replicate}, lemmas.List.Concat.{flat_map-cons}}
 use Rattle.std.proofs.lemmas.List.Elements.{All-nil, All-cons}
 use Rattle.p25_bits.specs.Bits.{bits_of, octet_bits, part}
-use Rattle.p25_bits.proofs.BitsLaws.{length-bits_of}
-use Rattle.p25_bits.proofs.NumbersLaws.{number_bits-octets, length-number_bits}
-use Rattle.p25_bits.proofs.PartLaws.{length-part, part_joined}
+use Rattle.p25_bits.proofs.{BitsLaws.{length-bits_of}, NumbersLaws.{number_bits-octets, length-number_bits}, PartLaws.{length-part, part_joined}}
 use Rattle.p25_hamming.specs.Lsd16Laws.{lsd16_is_code}
 use Rattle.p25_coded_fields.specs.Written.{Encodes}
 use Rattle.p25_coded_fields.proofs.FieldLaws.{length-field_bits}
-use Rattle.p25_voice_units.specs.declared.layout.Piece.{Piece}
-use Rattle.p25_voice_units.specs.declared.layout.Piece.TheVariants.{Words, Frame, LowSpeed, Nulls}
-use Rattle.p25_voice_units.specs.Pieces.{piece_fits, piece_length}
-use Rattle.p25_voice_units.specs.Sendable.{IsVoiceFrame}
+use Rattle.p25_voice_units.specs.{declared.layout.Piece.{Piece}, declared.layout.Piece.TheVariants.{Words, Frame, LowSpeed, Nulls}, Pieces.{piece_fits, piece_length}, Sendable.{IsVoiceFrame}}
 use Rattle.p25_voice_units.specs.Images.{Contents, frame_at, lsd16_word, piece_bits, rows_bits}
 use Rattle.p25_voice_units.proofs.CodesLaws.{lsd16_encodes}
 

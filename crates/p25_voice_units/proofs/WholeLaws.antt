@@ -1,40 +1,26 @@
 -- What a voice unit was read as lies within radius of its bits: each part that was read is the word of its code near to what was
 -- received, and the unit's own bits have the only word with this information.
 use Rattle.std.proofs.Common.{◌≡◌, ℕ, zero, suc, ◌≤◌, Bool, List, [], ◌∷◌, length, take, slice_index, Option, Some, None, option_map, Ok, All, refl, ap, sym, ◌∙◌, subst, arith, lit<}
-use Rattle.std.specs.Bool.{beq}
 use Rattle.std.proofs.lemmas.List.{length-take-le}
-use Rattle.p25_bits.specs.Bits.{bits_of, field_of, part}
-use Rattle.p25_bits.specs.Distance.{distance_of}
+use Rattle.std.specs.Bool.{beq}
+use Rattle.p25_bits.specs.{Bits.{bits_of, field_of, part}, Distance.{distance_of}}
 use Rattle.p25_bits.proofs.BitsLaws.{bits_of-field_of}
-use Rattle.p25_code.specs.Readings.{IsReadAs}
-use Rattle.p25_code.specs.Words.{IsEncoding}
+use Rattle.p25_code.specs.{Readings.{IsReadAs}, Words.{IsEncoding}}
 use Rattle.p25_gf64.specs.declared.symbol.Sym.{Sym}
-use Rattle.p25_golay.specs.Golay18Readings.{golay18_reading_of}
-use Rattle.p25_golay.specs.Golay24Readings.{golay24_reading_of}
-use Rattle.p25_hamming.specs.Hamming10Readings.{hamming10_reading_of}
-use Rattle.p25_hamming.specs.Lsd16.{IsLsd16}
-use Rattle.p25_hamming.specs.Lsd16Laws.{lsd16_is_code}
-use Rattle.p25_hamming.specs.Lsd16Readings.{lsd16_reading_of, lsd16_reads_as}
-use Rattle.p25_link.specs.Words.{header_of_symbols, header_symbols, link_of_symbols, link_symbols, sync_of_symbols, sync_symbols}
-use Rattle.p25_link.specs.declared.header_word.HeaderWord.{HeaderWord}
+use Rattle.p25_golay.specs.{Golay18Readings.{golay18_reading_of}, Golay24Readings.{golay24_reading_of}}
+use Rattle.p25_hamming.specs.{Hamming10Readings.{hamming10_reading_of}, Lsd16.{IsLsd16}, Lsd16Laws.{lsd16_is_code}, Lsd16Readings.{lsd16_reading_of, lsd16_reads_as}}
+use Rattle.p25_link.specs.{Words.{header_of_symbols, header_symbols, link_of_symbols, link_symbols, sync_of_symbols, sync_symbols}, declared.header_word.HeaderWord.{HeaderWord}}
 use Rattle.p25_link.specs.declared.link_control.LinkControl.{LinkControl}
 use Rattle.p25_link.proofs.WordsLaws.{header_symbols_back, link_symbols_back, sync_symbols_back}
 use Rattle.p25_coded_fields.specs.Layouts.{field_reading_of}
 use Rattle.p25_coded_fields.proofs.CodesLaws.{near_from_reading, field_information}
-use Rattle.p25_voice_units.specs.declared.layout.Piece.TheVariants.{Nulls}
-use Rattle.p25_voice_units.specs.declared.unit.VoiceUnit.{VoiceUnit}
-use Rattle.p25_voice_units.specs.declared.unit.VoiceUnit.TheVariants.{Header, Link1, Link2, End, EndLink}
-use Rattle.p25_voice_units.specs.declared.voice.VoiceFrame.{VoiceFrame}
-use Rattle.p25_voice_units.specs.Layouts.{hdu_rows, ldu_rows, tdulc_rows}
-use Rattle.p25_voice_units.specs.FieldLayouts.{word_places, header_layout, link_layout, sync_layout, tdulc_layout}
-use Rattle.p25_voice_units.specs.Lengths.{voice_duid}
-use Rattle.p25_voice_units.specs.Places.{HasPiece, IsVoiceImage}
-use Rattle.p25_status.specs.declared.fields.Field.{Field}
-use Rattle.p25_status.specs.declared.fields.Field.TheVariants.{LinkControl as LinkField, EncryptionSync as SyncField}
+use Rattle.p25_voice_units.specs.{declared.layout.Piece.TheVariants.{Nulls}, declared.unit.VoiceUnit.{VoiceUnit}, declared.unit.VoiceUnit.TheVariants.{Header, Link1, Link2, End, EndLink}}
+use Rattle.p25_voice_units.specs.{declared.voice.VoiceFrame.{VoiceFrame}, Layouts.{hdu_rows, ldu_rows, tdulc_rows}, FieldLayouts.{word_places, header_layout, link_layout, sync_layout, tdulc_layout}}
+use Rattle.p25_voice_units.specs.{Lengths.{voice_duid}, Places.{HasPiece, IsVoiceImage}}
 use Rattle.p25_voice_units.specs.Readings.{low_places, voice_in, low_in, header_in, link_in, sync_in, header_from, ldu_from, ldu1_in, ldu2_in, tdulc_from, voice_reading_of}
 use Rattle.p25_voice_units.specs.WithinRadius.{AreLowWithin, IsVoiceWithin}
-use Rattle.p25_voice_units.proofs.CodesLaws.{header_code, link_code, sync_code}
-use Rattle.p25_voice_units.proofs.KindsLaws.{reading-header, reading-ldu1, reading-ldu2, reading-tdulc}
+use Rattle.p25_status.specs.{declared.fields.Field.{Field}, declared.fields.Field.TheVariants.{LinkControl as LinkField, EncryptionSync as SyncField}}
+use Rattle.p25_voice_units.proofs.{CodesLaws.{header_code, link_code, sync_code}, KindsLaws.{reading-header, reading-ldu1, reading-ldu2, reading-tdulc}}
 
 -- a part that was read is that of the symbols that were read
 symbols_read : {W : Type 0} (of_symbols : List Sym → W) (symbols_of : W → List Sym) (n : ℕ) (reading : Option (List Sym)) (word : W) → ((symbols : List Sym) → length symbols ≡ n → symbols_of (of_symbols symbols) ≡ symbols)

@@ -1,13 +1,10 @@
 -- The coded fields of voice units: where their inner words stand, by the layouts of the units, and how they are read.
-use Rattle.std.specs.Prelude.{ℕ, List, []}
-use Rattle.std.specs.List.{flat_map}
-use Rattle.p25_golay.specs.Golay18Readings.{golay18_reading_of}
-use Rattle.p25_golay.specs.Golay24Readings.{golay24_reading_of}
+use Rattle.std.specs.{Prelude.{ℕ, List, []}, List.{flat_map}}
+use Rattle.p25_golay.specs.{Golay18Readings.{golay18_reading_of}, Golay24Readings.{golay24_reading_of}}
 use Rattle.p25_hamming.specs.Hamming10Readings.{hamming10_reading_of}
 use Rattle.p25_reed_solomon.specs.RsReadings.{rs_erased_reading_of}
 use Rattle.p25_coded_fields.specs.Layouts.{Layout, field_layout, places_from}
-use Rattle.p25_voice_units.specs.declared.layout.Piece.{Piece}
-use Rattle.p25_voice_units.specs.declared.layout.Piece.TheVariants.{Words, Frame, LowSpeed, Nulls}
+use Rattle.p25_voice_units.specs.{declared.layout.Piece.{Piece}, declared.layout.Piece.TheVariants.{Words, Frame, LowSpeed, Nulls}}
 use Rattle.p25_voice_units.specs.Layouts.{hdu_rows, ldu_rows, tdulc_rows}
 
 -- the places of the inner words that stand at a place, by how many bits each has

@@ -1,13 +1,8 @@
 -- The looked-at places of voice units after their front: there bits that differ from the unit's are counted as fixes.
-use Rattle.std.specs.Prelude.{◌≡◌, ℕ, Bool, List, [], ◌++◌, map, slice_index}
-use Rattle.std.specs.List.{flat_map}
-use Rattle.p25_bits.specs.Bits.{bits_of, part}
-use Rattle.p25_bits.specs.Distance.{distance_of}
-use Rattle.p25_voice_units.specs.declared.unit.VoiceUnit.{VoiceUnit}
-use Rattle.p25_voice_units.specs.declared.unit.VoiceUnit.TheVariants.{Header, Link1, Link2, End, EndLink}
-use Rattle.p25_voice_units.specs.Layouts.{hdu_rows, ldu_rows, tdulc_rows}
-use Rattle.p25_voice_units.specs.FieldLayouts.{word_places}
-use Rattle.p25_voice_units.specs.Images.{lsd16_word, voice_image_of}
+use Rattle.std.specs.{Prelude.{◌≡◌, ℕ, Bool, List, [], ◌++◌, map, slice_index}, List.{flat_map}}
+use Rattle.p25_bits.specs.{Bits.{bits_of, part}, Distance.{distance_of}}
+use Rattle.p25_voice_units.specs.{declared.unit.VoiceUnit.{VoiceUnit}, declared.unit.VoiceUnit.TheVariants.{Header, Link1, Link2, End, EndLink}}
+use Rattle.p25_voice_units.specs.{Layouts.{hdu_rows, ldu_rows, tdulc_rows}, FieldLayouts.{word_places}, Images.{lsd16_word, voice_image_of}}
 use Rattle.p25_voice_units.specs.Readings.{low_places}
 
 -- places with so many bits each

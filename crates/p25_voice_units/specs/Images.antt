@@ -1,23 +1,17 @@
 -- The bits of voice units (HDU, LDU1, LDU2, TDU and TDULC) without status symbols, as one list.
-use Rattle.std.specs.Prelude.{ℕ, ◌*◌, Bool, false, List, [], ◌++◌, replicate, slice_index, slice_index_or}
-use Rattle.std.specs.List.{flat_map}
+use Rattle.std.specs.{Prelude.{ℕ, ◌*◌, Bool, false, List, [], ◌++◌, replicate, slice_index, slice_index_or}, List.{flat_map}}
 use Rattle.p25_bits.specs.Bits.{bits_of, octet_bits, part}
 use Rattle.p25_code.specs.Binary.{systematic}
 use Rattle.p25_gf64.specs.declared.symbol.Sym.{Sym}
-use Rattle.p25_hamming.specs.Hamming10.{check_rows as hamming10_rows}
-use Rattle.p25_hamming.specs.Lsd16Laws.{check_rows as lsd16_rows}
-use Rattle.p25_golay.specs.Golay18Laws.{short_rows as golay18_rows}
-use Rattle.p25_golay.specs.Golay24Laws.{check_rows as golay24_rows}
+use Rattle.p25_hamming.specs.{Hamming10.{check_rows as hamming10_rows}, Lsd16Laws.{check_rows as lsd16_rows}}
+use Rattle.p25_golay.specs.{Golay18Laws.{short_rows as golay18_rows}, Golay24Laws.{check_rows as golay24_rows}}
 use Rattle.p25_reed_solomon.specs.Encoding.{rs_word}
 use Rattle.p25_link.specs.Words.{header_symbols, link_symbols, sync_symbols}
 use Rattle.p25_coded_fields.specs.Layouts.{field_bits}
 use Rattle.p25_unit_front.specs.Front.{unit_front}
-use Rattle.p25_voice_units.specs.declared.layout.Piece.{Piece}
-use Rattle.p25_voice_units.specs.declared.layout.Piece.TheVariants.{Words, Frame, LowSpeed, Nulls}
-use Rattle.p25_voice_units.specs.declared.voice.VoiceFrame.{VoiceFrame}
-use Rattle.p25_voice_units.specs.declared.unit.VoiceUnit.{VoiceUnit}
-use Rattle.p25_voice_units.specs.declared.unit.VoiceUnit.TheVariants.{Header, Link1, Link2, End, EndLink}
-use Rattle.p25_voice_units.specs.Layouts.{hdu_rows, ldu_rows, tdu_rows, tdulc_rows}
+use Rattle.p25_voice_units.specs.{declared.layout.Piece.{Piece}, declared.layout.Piece.TheVariants.{Words, Frame, LowSpeed, Nulls}}
+use Rattle.p25_voice_units.specs.{declared.voice.VoiceFrame.{VoiceFrame}, declared.unit.VoiceUnit.{VoiceUnit}}
+use Rattle.p25_voice_units.specs.{declared.unit.VoiceUnit.TheVariants.{Header, Link1, Link2, End, EndLink}, Layouts.{hdu_rows, ldu_rows, tdu_rows, tdulc_rows}}
 use Rattle.p25_voice_units.specs.Lengths.{voice_duid}
 
 -- the words of the binary codes: the information and its check bits

@@ -1,8 +1,7 @@
 -- Where the parts of voice units stand after their front, without status symbols, as the standard has it. A row is a place, counted
 -- from the first sync bit, and what stands there.
 use Rattle.std.specs.Prelude.{ℕ, List, [], ◌∷◌}
-use Rattle.p25_voice_units.specs.declared.layout.Piece.{Piece}
-use Rattle.p25_voice_units.specs.declared.layout.Piece.TheVariants.{Words, Frame, LowSpeed, Nulls}
+use Rattle.p25_voice_units.specs.{declared.layout.Piece.{Piece}, declared.layout.Piece.TheVariants.{Words, Frame, LowSpeed, Nulls}}
 
 -- an HDU, a header: 36 inner words of its coded field, and nulls
 abbrev pub hdu_rows : List (ℕ × Piece)

@@ -1,8 +1,7 @@
 -- The kinds of voice units (HDU, LDU1, LDU2, TDU and TDULC), by their data unit identifiers (DUID), and how many bits they have.
 use Rattle.std.specs.Prelude.{ℕ, if◌then◌else◌, ◌==◌, Option, Some, None}
 use Rattle.p25_bch_nid.specs.Duids.{duid_hdu, duid_tdu, duid_ldu1, duid_ldu2, duid_tdulc}
-use Rattle.p25_voice_units.specs.declared.unit.VoiceUnit.{VoiceUnit}
-use Rattle.p25_voice_units.specs.declared.unit.VoiceUnit.TheVariants.{Header, Link1, Link2, End, EndLink}
+use Rattle.p25_voice_units.specs.{declared.unit.VoiceUnit.{VoiceUnit}, declared.unit.VoiceUnit.TheVariants.{Header, Link1, Link2, End, EndLink}}
 
 -- the data unit identifier (DUID) of a unit's kind: of an HDU, an LDU1, an LDU2, a TDU or a TDULC
 abbrev pub voice_duid : VoiceUnit → ℕ

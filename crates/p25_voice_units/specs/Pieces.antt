@@ -1,7 +1,6 @@
 -- How many bits the pieces of a layout have, and which of them there is something for.
 use Rattle.std.specs.Prelude.{ℕ, ◌+◌, ◌*◌, Bool, nat_le, nat_lt}
-use Rattle.p25_voice_units.specs.declared.layout.Piece.{Piece}
-use Rattle.p25_voice_units.specs.declared.layout.Piece.TheVariants.{Words, Frame, LowSpeed, Nulls}
+use Rattle.p25_voice_units.specs.{declared.layout.Piece.{Piece}, declared.layout.Piece.TheVariants.{Words, Frame, LowSpeed, Nulls}}
 
 -- how many bits a piece has, where an inner word has `size` bits
 abbrev pub piece_length : ℕ → Piece → ℕ

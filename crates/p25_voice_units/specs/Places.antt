@@ -3,22 +3,16 @@ use Rattle.std.specs.Prelude.{◌≡◌, ℕ, Bool, false, List, [], length, tak
 use Rattle.p25_bits.specs.Bits.{bits_of, octet_bits, part}
 use Rattle.p25_bch_nid.specs.Duids.{duid_hdu, duid_tdu, duid_ldu1, duid_ldu2, duid_tdulc}
 use Rattle.p25_code.specs.Words.{IsEncoding}
-use Rattle.p25_hamming.specs.Hamming10.{IsHamming10}
-use Rattle.p25_hamming.specs.Lsd16.{IsLsd16}
-use Rattle.p25_golay.specs.Golay18.{IsGolay18}
-use Rattle.p25_golay.specs.Golay24.{IsGolay24}
+use Rattle.p25_hamming.specs.{Hamming10.{IsHamming10}, Lsd16.{IsLsd16}}
+use Rattle.p25_golay.specs.{Golay18.{IsGolay18}, Golay24.{IsGolay24}}
 use Rattle.p25_reed_solomon.specs.Words.{IsWord}
 use Rattle.p25_link.specs.Words.{header_symbols, link_symbols, sync_symbols}
 use Rattle.p25_coded_fields.specs.Within.{HasField}
 use Rattle.p25_unit_front.specs.Front.{IsFront}
-use Rattle.p25_voice_units.specs.declared.layout.Piece.{Piece}
-use Rattle.p25_voice_units.specs.declared.layout.Piece.TheVariants.{Words, Frame, LowSpeed, Nulls}
-use Rattle.p25_voice_units.specs.declared.voice.VoiceFrame.{VoiceFrame}
-use Rattle.p25_voice_units.specs.declared.unit.VoiceUnit.{VoiceUnit}
-use Rattle.p25_voice_units.specs.declared.unit.VoiceUnit.TheVariants.{Header, Link1, Link2, End, EndLink}
-use Rattle.p25_voice_units.specs.Layouts.{hdu_rows, ldu_rows, tdu_rows, tdulc_rows}
-use Rattle.p25_voice_units.specs.FieldLayouts.{header_layout, link_layout, sync_layout, tdulc_layout}
-use Rattle.p25_voice_units.specs.Images.{frame_at}
+use Rattle.p25_voice_units.specs.{declared.layout.Piece.{Piece}, declared.layout.Piece.TheVariants.{Words, Frame, LowSpeed, Nulls}}
+use Rattle.p25_voice_units.specs.{declared.voice.VoiceFrame.{VoiceFrame}, declared.unit.VoiceUnit.{VoiceUnit}}
+use Rattle.p25_voice_units.specs.{declared.unit.VoiceUnit.TheVariants.{Header, Link1, Link2, End, EndLink}, Layouts.{hdu_rows, ldu_rows, tdu_rows, tdulc_rows}}
+use Rattle.p25_voice_units.specs.{FieldLayouts.{header_layout, link_layout, sync_layout, tdulc_layout}, Images.{frame_at}}
 
 -- what stands at a place: the 144 bits of a voice frame, a low speed data (LSD) word with an octet, or nulls. Of the inner words of
 -- the coded field `HasField` speaks

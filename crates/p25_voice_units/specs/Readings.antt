@@ -1,23 +1,17 @@
 -- What voice units (HDU, LDU1, LDU2, TDU and TDULC) are read from.
 use Rattle.std.specs.Prelude.{ℕ, Bool, if◌then◌else◌, ◌==◌, List, [], ◌∷◌, ◌++◌, take, drop, map, slice_index, Option, Some, None, option_map, Result, Ok, Err}
 use Rattle.std.specs.List.{flat_map}
-use Rattle.p25_bits.specs.Bits.{field_of, part}
-use Rattle.p25_bits.specs.Numbers.{octets_from}
+use Rattle.p25_bits.specs.{Bits.{field_of, part}, Numbers.{octets_from}}
 use Rattle.p25_hamming.specs.Lsd16Readings.{lsd16_reading_of}
-use Rattle.p25_link.specs.Words.{header_of_symbols, link_of_symbols, sync_of_symbols}
-use Rattle.p25_link.specs.declared.encryption_sync.EncryptionSync.{EncryptionSync}
-use Rattle.p25_link.specs.declared.header_word.HeaderWord.{HeaderWord}
-use Rattle.p25_link.specs.declared.link_control.LinkControl.{LinkControl}
+use Rattle.p25_link.specs.{Words.{header_of_symbols, link_of_symbols, sync_of_symbols}, declared.encryption_sync.EncryptionSync.{EncryptionSync}}
+use Rattle.p25_link.specs.{declared.header_word.HeaderWord.{HeaderWord}, declared.link_control.LinkControl.{LinkControl}}
 use Rattle.p25_coded_fields.specs.Layouts.{Layout, field_reading_of}
 use Rattle.p25_status.specs.declared.fields.Field.{Field}
 use Rattle.p25_status.specs.declared.fields.Field.TheVariants.{HeaderWord as HeaderField, LinkControl as LinkField, EncryptionSync as SyncField, LowSpeed1, LowSpeed2}
 use Rattle.p25_bch_nid.specs.Duids.{duid_hdu, duid_tdu, duid_ldu1, duid_ldu2, duid_tdulc}
-use Rattle.p25_voice_units.specs.declared.layout.Piece.{Piece}
-use Rattle.p25_voice_units.specs.declared.layout.Piece.TheVariants.{Words, Frame, LowSpeed, Nulls}
-use Rattle.p25_voice_units.specs.declared.voice.VoiceFrame.{VoiceFrame}
-use Rattle.p25_voice_units.specs.declared.unit.VoiceUnit.{VoiceUnit}
-use Rattle.p25_voice_units.specs.declared.unit.VoiceUnit.TheVariants.{Header, Link1, Link2, End, EndLink}
-use Rattle.p25_voice_units.specs.Layouts.{ldu_rows}
+use Rattle.p25_voice_units.specs.{declared.layout.Piece.{Piece}, declared.layout.Piece.TheVariants.{Words, Frame, LowSpeed, Nulls}}
+use Rattle.p25_voice_units.specs.{declared.voice.VoiceFrame.{VoiceFrame}, declared.unit.VoiceUnit.{VoiceUnit}}
+use Rattle.p25_voice_units.specs.{declared.unit.VoiceUnit.TheVariants.{Header, Link1, Link2, End, EndLink}, Layouts.{ldu_rows}}
 use Rattle.p25_voice_units.specs.FieldLayouts.{header_layout, link_layout, sync_layout, tdulc_layout}
 
 -- the place of a voice frame, if that is what stands at a place

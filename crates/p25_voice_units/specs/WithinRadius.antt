@@ -1,14 +1,9 @@
 -- Bits that are a voice unit's but for so few wrong ones that they read as it. Voice frames and nulls are free.
 use Rattle.std.specs.Prelude.{ℕ, ◌≤◌, Bool, List, All}
-use Rattle.p25_bits.specs.Bits.{part}
-use Rattle.p25_bits.specs.Distance.{distance_of}
-use Rattle.p25_coded_fields.specs.Layouts.{Layout}
-use Rattle.p25_coded_fields.specs.Within.{IsFieldNear, lost_symbols}
-use Rattle.p25_voice_units.specs.declared.unit.VoiceUnit.{VoiceUnit}
-use Rattle.p25_voice_units.specs.declared.unit.VoiceUnit.TheVariants.{Header, Link1, Link2, End, EndLink}
-use Rattle.p25_voice_units.specs.Layouts.{ldu_rows}
-use Rattle.p25_voice_units.specs.FieldLayouts.{header_layout, link_layout, sync_layout, tdulc_layout}
-use Rattle.p25_voice_units.specs.Readings.{low_places, voice_in}
+use Rattle.p25_bits.specs.{Bits.{part}, Distance.{distance_of}}
+use Rattle.p25_coded_fields.specs.{Layouts.{Layout}, Within.{IsFieldNear, lost_symbols}}
+use Rattle.p25_voice_units.specs.{declared.unit.VoiceUnit.{VoiceUnit}, declared.unit.VoiceUnit.TheVariants.{Header, Link1, Link2, End, EndLink}}
+use Rattle.p25_voice_units.specs.{Layouts.{ldu_rows}, FieldLayouts.{header_layout, link_layout, sync_layout, tdulc_layout}, Readings.{low_places, voice_in}}
 
 -- at most two bits of each low speed data (LSD) word are wrong
 abbrev pub AreLowWithin : List Bool → List Bool → Type 0

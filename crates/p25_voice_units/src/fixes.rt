@@ -2,8 +2,7 @@
 
 ghost use Rattle.std.specs.Prelude.{◌≡◌, ◌+◌, ◌*◌, ◌≤◌, All, Some, length};
 ghost use Rattle.p25_bits.specs.Distance.{distance_of};
-ghost use Rattle.p25_voice_units.specs.Fixes.{wide, link_looked, bits_at, voice_fixes_of};
-ghost use Rattle.p25_voice_units.specs.Lengths.{voice_duid, voice_length_of};
+ghost use Rattle.p25_voice_units.specs.{Fixes.{wide, link_looked, bits_at, voice_fixes_of}, Lengths.{voice_duid, voice_length_of}};
 
 use crate::places::{HDU_WORDS, LDU_WORDS, LOW_WORDS, TDULC_WORDS};
 use crate::unit::VoiceUnit;

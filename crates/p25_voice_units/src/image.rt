@@ -1,16 +1,11 @@
 //! Voice units (HDU, LDU1, LDU2, TDU and TDULC) as bits.
 
-ghost use Rattle.std.specs.Prelude.{◌≡◌, ◌+◌, ◌*◌, ◌/◌, ◌<◌, ◌≤◌, ◌++◌, Bool, List, Ok, Some, true, length, sum_by};
-ghost use Rattle.std.specs.List.{list_all};
+ghost use Rattle.std.specs.{Prelude.{◌≡◌, ◌+◌, ◌*◌, ◌/◌, ◌<◌, ◌≤◌, ◌++◌, Bool, List, Ok, Some, true, length, sum_by}, List.{list_all}};
 ghost use Rattle.p25_coded_fields.specs.Written.{Encodes};
 ghost use Rattle.p25_bits.specs.Bits.{octet_bits};
-ghost use Rattle.p25_reed_solomon.specs.Encoding.{rs_word};
-ghost use Rattle.p25_reed_solomon.specs.Words.{IsCode};
-ghost use Rattle.p25_voice_units.specs.Images.{piece_bits, rows_bits, contents, voice_body, voice_image_of};
-ghost use Rattle.p25_voice_units.specs.Lengths.{voice_duid, voice_length_of};
-ghost use Rattle.p25_voice_units.specs.Readings.{voice_reading_of};
-ghost use Rattle.p25_voice_units.specs.Pieces.{piece_fits, piece_length};
-ghost use Rattle.p25_voice_units.specs.Sendable.{IsSendableVoice, IsSpeech};
+ghost use Rattle.p25_reed_solomon.specs.{Encoding.{rs_word}, Words.{IsCode}};
+ghost use Rattle.p25_voice_units.specs.{Images.{piece_bits, rows_bits, contents, voice_body, voice_image_of}, Lengths.{voice_duid, voice_length_of}};
+ghost use Rattle.p25_voice_units.specs.{Readings.{voice_reading_of}, Pieces.{piece_fits, piece_length}, Sendable.{IsSendableVoice, IsSpeech}};
 
 use crate::layout::{HDU_ROWS, LDU_ROWS, Piece, TDU_ROWS, TDULC_ROWS};
 use crate::unit::VoiceUnit;

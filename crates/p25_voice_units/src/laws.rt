@@ -2,13 +2,8 @@
 //! what is proved, and makes no call.
 
 ghost use Rattle.std.specs.Prelude.{◌≡◌, ◌↔◌, ◌+◌, ◌*◌, ◌%◌, ◌≤◌, ℕ, Bool, List, Some, length, Ok};
-ghost use Rattle.p25_voice_units.specs.declared.unit.VoiceUnit.{VoiceUnit};
-ghost use Rattle.p25_voice_units.specs.Layouts.{hdu_rows, ldu_rows, tdu_rows, tdulc_rows};
-ghost use Rattle.p25_voice_units.specs.FieldLayouts.{word_places};
-ghost use Rattle.p25_voice_units.specs.Images.{voice_image_of};
-ghost use Rattle.p25_voice_units.specs.Places.{IsVoiceImage};
-ghost use Rattle.p25_voice_units.specs.Lengths.{voice_duid, voice_length_of};
-ghost use Rattle.p25_voice_units.specs.Sendable.{IsSendableVoice};
+ghost use Rattle.p25_voice_units.specs.{declared.unit.VoiceUnit.{VoiceUnit}, Layouts.{hdu_rows, ldu_rows, tdu_rows, tdulc_rows}, FieldLayouts.{word_places}};
+ghost use Rattle.p25_voice_units.specs.{Images.{voice_image_of}, Places.{IsVoiceImage}, Lengths.{voice_duid, voice_length_of}, Sendable.{IsSendableVoice}};
 ghost use Rattle.p25_voice_units.specs.Readings.{voice_reading_of, frame_places, low_places};
 ghost use Rattle.p25_voice_units.specs.WithinRadius.{IsVoiceWithin, IsVoiceWithinByWords, received_voice};
 

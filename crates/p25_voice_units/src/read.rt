@@ -3,20 +3,13 @@
 ghost use Rattle.std.specs.Prelude.{◌≡◌, ◌+◌, ◌*◌, ◌/◌, ◌<◌, ◌≤◌, ◌++◌, All, Bool, List, Some, IfErr, IfSome, length, option_map, slice_index, ℕ};
 ghost use Rattle.p25_gf64.specs.declared.symbol.Sym.{Sym as symbol};
 ghost use Rattle.p25_hamming.specs.Hamming10Readings.{hamming10_reading_of};
-ghost use Rattle.p25_reed_solomon.specs.Encoding.{rs_word};
-ghost use Rattle.p25_reed_solomon.specs.Words.{IsCode};
-ghost use Rattle.p25_reed_solomon.specs.RsReadings.{rs_erased_reading_of};
-ghost use Rattle.p25_coded_fields.specs.Fixes.{field_fixes_of};
-ghost use Rattle.p25_coded_fields.specs.Layouts.{field_layout, field_reading_of};
-ghost use Rattle.p25_coded_fields.specs.Written.{Encodes};
-ghost use Rattle.p25_voice_units.specs.FieldLayouts.{tdulc_layout, word_places};
-ghost use Rattle.p25_voice_units.specs.Fixes.{AreFixes, low_fixes_of};
-ghost use Rattle.p25_voice_units.specs.Images.{hamming10_word};
-ghost use Rattle.p25_voice_units.specs.Layouts.{ldu_rows};
+ghost use Rattle.p25_reed_solomon.specs.{Encoding.{rs_word}, Words.{IsCode}, RsReadings.{rs_erased_reading_of}};
+ghost use Rattle.p25_coded_fields.specs.{Fixes.{field_fixes_of}, Layouts.{field_layout, field_reading_of}, Written.{Encodes}};
+ghost use Rattle.p25_voice_units.specs.{FieldLayouts.{tdulc_layout, word_places}, Fixes.{AreFixes, low_fixes_of}, Images.{hamming10_word}, Layouts.{ldu_rows}};
 ghost use Rattle.p25_voice_units.specs.Lengths.{voice_length_of};
 ghost use Rattle.p25_voice_units.specs.Readings.{voice_in, low_in, header_in, link_in, missing, failing, header_from, ldu_from, ldu1_in, ldu2_in, tdulc_from, voice_reading_of};
-ghost use Rattle.p25_status.specs.Outcomes.{read_or, IfRead};
 ghost use Rattle.p25_voice_units.specs.declared.unit.VoiceUnit.{VoiceUnit as voice_unit};
+ghost use Rattle.p25_status.specs.Outcomes.{read_or, IfRead};
 
 use crate::places::{FRAMES, HDU_WORDS, LDU_WORDS, LOW_WORDS, TDULC_WORDS};
 use crate::unit::VoiceUnit;

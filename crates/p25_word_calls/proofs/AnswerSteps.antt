@@ -3,11 +3,7 @@ use Rattle.std.proofs.Common.{◌≡◌, ℕ, ◌≤◌, Bool, List, length, Opt
 use Rattle.std.specs.Prelude.{unwrap_or}
 use Rattle.p25_bits.specs.Distance.{distance_by}
 use Rattle.p25_bits.proofs.DistanceLaws.{distance_by-le}
-use Rattle.p25_code.specs.declared.code.Reading.{Reading}
-use Rattle.p25_code.specs.declared.code.Reading.TheVariants.{Found, Beyond}
-use Rattle.p25_code.specs.Erasures.{IsErasedReading}
-use Rattle.p25_code.specs.Readings.{word_read}
-use Rattle.p25_code.specs.Words.{IsReading}
+use Rattle.p25_code.specs.{declared.code.Reading.{Reading}, declared.code.Reading.TheVariants.{Found, Beyond}, Erasures.{IsErasedReading}, Readings.{word_read}, Words.{IsReading}}
 use Rattle.p25_word_calls.specs.Answers.{fixes_answer, fixes_in, reading_answer}
 
 -- a reader counts the letters that it changed, or leaves what was received

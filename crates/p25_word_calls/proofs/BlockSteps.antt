@@ -1,9 +1,7 @@
 -- Bits in whole octets.
 use Rattle.std.proofs.Common.{◌≡◌, ℕ, Bool, List, length, ap, sym, ◌∙◌, arith}
-use Rattle.p25_bits.specs.Bits.{octet_bits}
-use Rattle.p25_bits.specs.Numbers.{number_bits, numbers_from}
-use Rattle.p25_bits.proofs.NumbersLaws.{number_bits-octets, number_bits-numbers_from}
-use Rattle.p25_bits.proofs.PartLaws.{part_whole}
+use Rattle.p25_bits.specs.{Bits.{octet_bits}, Numbers.{number_bits, numbers_from}}
+use Rattle.p25_bits.proofs.{NumbersLaws.{number_bits-octets, number_bits-numbers_from}, PartLaws.{part_whole}}
 
 -- octets that 200 bits write have those bits
 pub octets_written : (octets : List ℕ) (bits : List Bool) → length bits ≡ 200 → octets ≡ numbers_from 8 25 bits → octet_bits octets ≡ bits

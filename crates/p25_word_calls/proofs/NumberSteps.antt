@@ -1,17 +1,10 @@
 -- Words that are read as numbers, and identifiers.
 use Rattle.std.proofs.Common.{◌≡◌, ℕ, ◌^◌, ◌<◌, Bool, List, Option, Some, None, ℤ, pos, negsuc, take, bit_xor, ap, sym, ◌∙◌, arith, mod-eq_of_lt}
-use Rattle.std.specs.Bool.{beq}
-use Rattle.std.specs.Int.RustNames.{count_ones}
-use Rattle.std.specs.Option.{option_map}
-use Rattle.std.specs.Prelude.{unwrap_or}
-use Rattle.p25_bits.specs.Bits.{bits_of, field_of}
-use Rattle.p25_bits.specs.Distance.{distance_of}
-use Rattle.p25_bits.proofs.BitsLaws.{field_of-bits_of}
-use Rattle.p25_bits.proofs.DistanceLaws.{distance_of-bits_of}
-use Rattle.p25_bch_nid.specs.NidReading.{nid_reading_of}
-use Rattle.p25_bch_nid.specs.NidWord.{nid_word}
-use Rattle.p25_word_calls.specs.Answers.{fixes_answer}
-use Rattle.p25_word_calls.specs.Numbers.{IsIdentifierReading, IsNumberReading, identifier_answer}
+use Rattle.std.specs.{Bool.{beq}, Int.RustNames.{count_ones}, Option.{option_map}, Prelude.{unwrap_or}}
+use Rattle.p25_bits.specs.{Bits.{bits_of, field_of}, Distance.{distance_of}}
+use Rattle.p25_bits.proofs.{BitsLaws.{field_of-bits_of}, DistanceLaws.{distance_of-bits_of}}
+use Rattle.p25_bch_nid.specs.{NidReading.{nid_reading_of}, NidWord.{nid_word}}
+use Rattle.p25_word_calls.specs.{Answers.{fixes_answer}, Numbers.{IsIdentifierReading, IsNumberReading, identifier_answer}}
 
 -- the number that the bits of a number write
 same_number : (n number : ℕ) → number < 2 ^ n → number ≡ field_of (bits_of n number)

@@ -1,17 +1,11 @@
 -- Octets that name symbols.
-use Rattle.std.proofs.Common.{◌≡◌, ℕ, ◌<◌, List, [], ◌∷◌, All, length, map, take, get_or, Option, ℤ, pos, negsuc, refl, ap, ap₂, sym, ◌∙◌, subst}
+use Rattle.std.proofs.{Common.{◌≡◌, ℕ, ◌<◌, List, [], ◌∷◌, All, length, map, take, get_or, Option, ℤ, pos, negsuc, refl, ap, ap₂, sym, ◌∙◌, subst}, lemmas.List.Elements.{All-map}}
 use Rattle.std.specs.Prelude.{unwrap_or}
-use Rattle.std.proofs.lemmas.List.Elements.{All-map}
-use Rattle.p25_code.specs.declared.code.Reading.{Reading}
-use Rattle.p25_code.specs.Readings.{word_read}
-use Rattle.p25_code.specs.Words.{IsEncoding}
-use Rattle.p25_gf64.specs.declared.symbol.Sym.{Sym}
-use Rattle.p25_gf64.specs.Symbol.{number, same_symbol}
-use Rattle.p25_reed_solomon.specs.Encoding.{rs_word}
-use Rattle.p25_reed_solomon.specs.Words.{IsCode, IsWord, same_symbols}
+use Rattle.p25_code.specs.{declared.code.Reading.{Reading}, Readings.{word_read}, Words.{IsEncoding}}
+use Rattle.p25_gf64.specs.{declared.symbol.Sym.{Sym}, Symbol.{number, same_symbol}}
+use Rattle.p25_reed_solomon.specs.{Encoding.{rs_word}, Words.{IsCode, IsWord, same_symbols}}
 use Rattle.p25_reed_solomon.proofs.EncodingLaws.{rs_word-only}
-use Rattle.p25_word_calls.specs.Answers.{fixes_answer, reading_answer}
-use Rattle.p25_word_calls.specs.Symbols.{IsSymbolReading, IsSymbolWriting}
+use Rattle.p25_word_calls.specs.{Answers.{fixes_answer, reading_answer}, Symbols.{IsSymbolReading, IsSymbolWriting}}
 use Rattle.p25_word_calls.proofs.AnswerSteps.{IsChange, change_answer, change_word}
 
 -- symbols with the same numbers are the same

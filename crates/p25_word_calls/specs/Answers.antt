@@ -1,8 +1,7 @@
 -- The numbers that the calls on words answer: how many letters were wrong, and -1 where no word is near enough.
 use Rattle.std.specs.Prelude.{ℕ, Bool, List, Option, Some, None, ℤ, pos, negsuc}
 use Rattle.p25_bits.specs.Distance.{distance_by}
-use Rattle.p25_code.specs.declared.code.Reading.{Reading}
-use Rattle.p25_code.specs.declared.code.Reading.TheVariants.{Found, Beyond}
+use Rattle.p25_code.specs.{declared.code.Reading.{Reading}, declared.code.Reading.TheVariants.{Found, Beyond}}
 
 -- in how many letters a received word differs from the one that was read, or -1 where none was
 unfoldable pub fixes_answer : {L : Type 0} → (L → L → Bool) → List L → Option (List L) → ℤ

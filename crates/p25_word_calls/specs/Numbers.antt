@@ -1,11 +1,8 @@
 -- What the calls on words that are numbers do, and those on network identifiers (NID).
-use Rattle.std.specs.Prelude.{◌≡◌, ◌⊎◌, ℕ, ◌^◌, ◌-◌, ◌<◌, ◌≤◌, Bool, List, Option, Some, None, ℤ, pos, negsuc, take, unwrap_or}
-use Rattle.std.specs.Bool.{beq}
-use Rattle.p25_bits.specs.Bits.{bits_of, field_of}
-use Rattle.p25_bits.specs.Distance.{distance_of}
+use Rattle.std.specs.{Prelude.{◌≡◌, ◌⊎◌, ℕ, ◌^◌, ◌-◌, ◌<◌, ◌≤◌, Bool, List, Option, Some, None, ℤ, pos, negsuc, take, unwrap_or}, Bool.{beq}}
+use Rattle.p25_bits.specs.{Bits.{bits_of, field_of}, Distance.{distance_of}}
 use Rattle.p25_code.specs.Words.{IsEncoding}
-use Rattle.p25_bch_nid.specs.NidReading.{nid_reading_of}
-use Rattle.p25_bch_nid.specs.NidWord.{nid_word}
+use Rattle.p25_bch_nid.specs.{NidReading.{nid_reading_of}, NidWord.{nid_word}}
 use Rattle.p25_word_calls.specs.Answers.{fixes_answer}
 
 -- a number of n bits becomes that of the word that is read, and the answer says in how many bits the two differ; where no word is

@@ -1,9 +1,7 @@
 -- What the calls on Reed-Solomon words do to octets that name symbols.
 use Rattle.std.specs.Prelude.{◌≡◌, ℕ, ◌<◌, List, Option, ℤ, pos, negsuc, All, map, take, unwrap_or}
-use Rattle.p25_gf64.specs.declared.symbol.Sym.{Sym}
-use Rattle.p25_gf64.specs.Symbol.{number}
-use Rattle.p25_reed_solomon.specs.Words.{same_symbols}
-use Rattle.p25_reed_solomon.specs.Encoding.{rs_word}
+use Rattle.p25_gf64.specs.{declared.symbol.Sym.{Sym}, Symbol.{number}}
+use Rattle.p25_reed_solomon.specs.{Words.{same_symbols}, Encoding.{rs_word}}
 use Rattle.p25_word_calls.specs.Answers.{fixes_answer}
 
 -- octets that name symbols become those of the word that is read, and the answer says in how many symbols the two differ; where

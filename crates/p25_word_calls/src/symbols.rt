@@ -3,8 +3,7 @@
 ghost use Rattle.std.specs.Prelude.{◌≡◌, ◌<◌, ◌≤◌, All, length, map, IsTrue};
 ghost use Rattle.p25_code.specs.Erasures.{without_erased};
 ghost use Rattle.p25_gf64.specs.Symbol.{number};
-ghost use Rattle.p25_reed_solomon.specs.Words.{IsCode};
-ghost use Rattle.p25_reed_solomon.specs.RsReadings.{rs_erased_reading_of, rs_reading_of};
+ghost use Rattle.p25_reed_solomon.specs.{Words.{IsCode}, RsReadings.{rs_erased_reading_of, rs_reading_of}};
 ghost use Rattle.p25_word_calls.specs.Symbols.{IsSymbolReading, IsSymbolWriting};
 
 use crate::answers::{OUTSIDE, answer_of};

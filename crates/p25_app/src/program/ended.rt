@@ -1,7 +1,6 @@
 //! The end of a call of the program.
 
-ghost use Rattle.std.specs.Prelude.{◌≡◌};
-ghost use Rattle.std.specs.Process.{exit_status};
+ghost use Rattle.std.specs.{Prelude.{◌≡◌}, Process.{exit_status}};
 
 use std::io::Eprint;
 use std::marker::Model;

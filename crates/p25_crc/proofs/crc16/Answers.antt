@@ -1,10 +1,7 @@
 use Rattle.std.proofs.Common.{[], refl}
 use Rattle.p25_bits.specs.Bits.{octet_bits}
-use Rattle.p25_crc.specs.Checks.{header_divisor, IsCrc16}
-use Rattle.p25_crc.specs.Values.{crc16_of, IsCrc16-crc16_of}
-use Rattle.p25_crc.proofs.ChecksLaws.{IsCrc16-unique}
-use Rattle.p25_crc.proofs.RegisterLaws.{empty_register, IsCheck-register}
-use Rattle.p25_crc.proofs.RemaindersLaws.{header_remainders}
+use Rattle.p25_crc.specs.{Checks.{header_divisor, IsCrc16}, Values.{crc16_of, IsCrc16-crc16_of}}
+use Rattle.p25_crc.proofs.{ChecksLaws.{IsCrc16-unique}, RegisterLaws.{empty_register, IsCheck-register}, RemaindersLaws.{header_remainders}}
 use Rattle.p25_crc.proofs.crc16.Goals as goal
 
 pub returns-clause-check : goal.returns-clause-check

@@ -1,10 +1,7 @@
 use Rattle.std.proofs.Common.{◌≡◌, ℕ, ◌-◌, ◌/◌, ◌^◌, [], bit_xor, refl, subst, arith}
 use Rattle.p25_bits.specs.Bits.{octet_bits}
-use Rattle.p25_crc.specs.Checks.{packet_divisor, IsCheck, IsCrc32}
-use Rattle.p25_crc.specs.Values.{crc32_of, IsCrc32-crc32_of}
-use Rattle.p25_crc.proofs.ChecksLaws.{IsCrc32-unique}
-use Rattle.p25_crc.proofs.RegisterLaws.{empty_register, IsCheck-register}
-use Rattle.p25_crc.proofs.RemaindersLaws.{packet_remainders}
+use Rattle.p25_crc.specs.{Checks.{packet_divisor, IsCheck, IsCrc32}, Values.{crc32_of, IsCrc32-crc32_of}}
+use Rattle.p25_crc.proofs.{ChecksLaws.{IsCrc32-unique}, RegisterLaws.{empty_register, IsCheck-register}, RemaindersLaws.{packet_remainders}}
 use Rattle.p25_crc.proofs.crc32.Goals as goal
 
 pub returns-clause-check : goal.returns-clause-check

@@ -1,11 +1,7 @@
 use Rattle.std.proofs.Common.{ℕ, ◌*◌, ◌^◌, [], refl, subst}
-use Rattle.p25_bits.specs.Bits.{bits_of}
-use Rattle.p25_bits.specs.Divisible.{IsRemainder}
-use Rattle.p25_crc.specs.Checks.{block_divisor, block_message, IsCrc9}
-use Rattle.p25_crc.specs.Values.{crc9_of, IsCrc9-crc9_of}
-use Rattle.p25_crc.proofs.ChecksLaws.{IsCrc9-unique}
-use Rattle.p25_crc.proofs.RegisterLaws.{empty_register, serial_octet, IsCheck-register}
-use Rattle.p25_crc.proofs.RemaindersLaws.{block_remainders}
+use Rattle.p25_bits.specs.{Bits.{bits_of}, Divisible.{IsRemainder}}
+use Rattle.p25_crc.specs.{Checks.{block_divisor, block_message, IsCrc9}, Values.{crc9_of, IsCrc9-crc9_of}}
+use Rattle.p25_crc.proofs.{ChecksLaws.{IsCrc9-unique}, RegisterLaws.{empty_register, serial_octet, IsCheck-register}, RemaindersLaws.{block_remainders}}
 use Rattle.p25_crc.proofs.crc9.Goals as goal
 
 pub returns-clause-check : goal.returns-clause-check

@@ -1,9 +1,5 @@
 use Rattle.std.proofs.Common.{◌≡◌, ℕ, List, ◌∷◌, ap, sym, subst, ◌∙◌}
-use Rattle.p25_stations.specs.declared.step.Event.TheVariants.{ToReceiver, ToSender}
-use Rattle.p25_stations.specs.declared.step.Step.{Step}
-use Rattle.p25_stations.specs.WorldState.{WorldState}
-use Rattle.p25_stations.specs.Steps.{world_step}
-use Rattle.p25_stations.specs.Runs.{steps_of, world_run}
+use Rattle.p25_stations.specs.{declared.step.Event.TheVariants.{ToReceiver, ToSender}, declared.step.Step.{Step}, WorldState.{WorldState}, Steps.{world_step}, Runs.{steps_of, world_run}}
 use Rattle.p25_example_exchange.specs.Exchanges.{events_of}
 use Rattle.p25_example_exchange.proofs.RunSteps.{steps-cons, run-cons, steps-nil, run-nil}
 use Rattle.p25_example_exchange.proofs.exchange.Goals as goal

@@ -1,10 +1,6 @@
-use Rattle.std.proofs.Common.{◌≡◌, ◌++◌, ℕ, List, Option, Result, Ok, Err, ap, ap₂, sym, subst, ◌∙◌}
-use Rattle.std.specs.Prelude.{OnOk}
-use Rattle.std.specs.Io.KnownBytes.{Appends}
-use Rattle.std.proofs.KnownBytes.{Appends-trans}
-use Rattle.p25_stations.specs.Runs.{steps_of, world_run}
-use Rattle.p25_stations.specs.WorldState.{WorldState, first_world}
-use Rattle.p25_stations.specs.declared.step.Step.{Step}
+use Rattle.std.proofs.{Common.{◌≡◌, ◌++◌, ℕ, List, Option, Result, Ok, Err, ap, ap₂, sym, subst, ◌∙◌}, KnownBytes.{Appends-trans}}
+use Rattle.std.specs.{Prelude.{OnOk}, Io.KnownBytes.{Appends}}
+use Rattle.p25_stations.specs.{Runs.{steps_of, world_run}, WorldState.{WorldState, first_world}, declared.step.Step.{Step}}
 use Rattle.p25_example_exchange.specs.Exchanges.{counts_text, events_of, exchange_text, steps_text}
 use Rattle.p25_example_exchange.proofs.print_exchange.Goals as goal
 

@@ -1,5 +1,4 @@
-use Rattle.std.proofs.Common.{◌≡◌, ◌+◌, ◌*◌, ◌≤◌, [], ◌++◌, length, take, refl, ap, sym, ◌∙◌, arith, length-append, rules}
-use Rattle.std.proofs.KnownBytes.{Consumes-nil, Consumes-trans}
+use Rattle.std.proofs.{Common.{◌≡◌, ◌+◌, ◌*◌, ◌≤◌, [], ◌++◌, length, take, refl, ap, sym, ◌∙◌, arith, length-append, rules}, KnownBytes.{Consumes-nil, Consumes-trans}}
 use Rattle.p25_stream.specs.Scan.{Scan}
 use Rattle.p25_example_groups.proofs.PrintedLaws.{printed-first, printed-on}
 use Rattle.p25_example_groups.proofs.print_groups.Goals as goal

@@ -1,8 +1,7 @@
 use Rattle.std.proofs.Common.{◌+◌, [], length, Option, ap, subst, ◌∙◌, arith, length-drop}
 use Rattle.std.specs.Io.KnownBytes.{Appends}
 use Rattle.p25_units.specs.Items.{covered}
-use Rattle.p25_example_groups.specs.Printed.{talk_line}
-use Rattle.p25_example_groups.specs.declared.Talk.{Talk}
+use Rattle.p25_example_groups.specs.{Printed.{talk_line}, declared.Talk.{Talk}}
 use Rattle.p25_example_groups.proofs.PrintedLaws.{printed-item}
 use Rattle.p25_example_groups.proofs.print_talks.Goals as goal
 

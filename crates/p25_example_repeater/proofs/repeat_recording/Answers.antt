@@ -1,7 +1,6 @@
 use Rattle.std.proofs.Common.{◌≡◌, ◌+◌, ◌*◌, ◌≤◌, ◌<◌, ◌-◌, ◌^◌, [], ◌++◌, List, Option, Bool, Result, Ok, Err, ℕ, false, length, take, refl, ap, sym, subst, ◌∙◌, arith, append-nil, length-append, rules}
-use Rattle.std.specs.Prelude.{IfSome, OnOk}
-use Rattle.std.specs.Io.KnownBytes.{Appends, Consumes, IsAtEnd}
 use Rattle.std.proofs.KnownBytes.{Consumes-nil, Consumes-trans}
+use Rattle.std.specs.{Prelude.{IfSome, OnOk}, Io.KnownBytes.{Appends, Consumes, IsAtEnd}}
 use Rattle.p25_bits.specs.Bits.{octet_bits}
 use Rattle.p25_stream.specs.Scan.{Scan}
 use Rattle.p25_example_repeater.specs.Written.{AreWritten, HasRepeated, bits_due, recording_repeated}

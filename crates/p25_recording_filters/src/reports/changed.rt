@@ -1,8 +1,7 @@
 ghost use Rattle.std.specs.Prelude.{◌≡◌, ◌+◌, ◌-◌, ◌/◌, ◌<◌, ◌≤◌, ◌++◌, [], length, drop};
-ghost use Rattle.p25_units.specs.Items.{IsSoundItem, covered};
+ghost use Rattle.p25_units.specs.{Items.{IsSoundItem, covered}, Units.{whole_octets}};
 ghost use Rattle.p25_follow.specs.Relayed.{IsFitItem};
 ghost use Rattle.p25_recording_filters.specs.Commands.{IsSoundChange, change_of, unfilled};
-ghost use Rattle.p25_units.specs.Units.{whole_octets};
 
 use crate::report::Report;
 use p25_bits::BitBuf;

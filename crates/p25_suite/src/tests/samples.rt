@@ -1,10 +1,7 @@
 //! Sample units: the line that tells of them, the numbers that are refused, and each unit read from its damaged bits.
 
 ghost use Rattle.std.specs.Prelude.{◌≡◌, ◌≤◌, Ok, length};
-ghost use Rattle.p25_units.specs.Needs.{need_of};
-ghost use Rattle.p25_units.specs.Readings.{unit_reading_of};
-ghost use Rattle.p25_units.specs.Units.{IsSoundFrame};
-ghost use Rattle.p25_units.specs.declared.needs.Need.TheVariants.{Length};
+ghost use Rattle.p25_units.specs.{Needs.{need_of}, Readings.{unit_reading_of}, Units.{IsSoundFrame}, declared.needs.Need.TheVariants.{Length}};
 
 use super::words_of;
 use p25_bits::BitBuf;

@@ -1,8 +1,7 @@
 //! The texts of items.
 
 ghost use Rattle.std.specs.Prelude.{IfSome, IsTrue};
-ghost use Rattle.p25_units.specs.Items.{IsSoundItem};
-ghost use Rattle.p25_units.specs.Units.{IsWholeBody};
+ghost use Rattle.p25_units.specs.{Items.{IsSoundItem}, Units.{IsWholeBody}};
 
 use crate::{ItemText, item_text, read_line};
 use p25_line::Line;

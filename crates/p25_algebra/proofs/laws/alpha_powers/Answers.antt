@@ -1,7 +1,5 @@
-use Rattle.p25_gf64.specs.Symbol.{alpha}
-use Rattle.p25_gf64.specs.Gf64.{gf64}
-use Rattle.p25_gf64.proofs.PowerLaws.{power_ne_zero}
-use Rattle.p25_gf64.proofs.SymbolLaws.{alpha_exponents, alpha_ne_zero}
+use Rattle.p25_gf64.specs.{Symbol.{alpha}, Gf64.{gf64}}
+use Rattle.p25_gf64.proofs.{PowerLaws.{power_ne_zero}, SymbolLaws.{alpha_exponents, alpha_ne_zero}}
 use Rattle.p25_algebra.proofs.laws.alpha_powers.Goals as goal
 
 pub returns : goal.returns

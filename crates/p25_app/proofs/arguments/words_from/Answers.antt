@@ -1,6 +1,5 @@
 use Rattle.std.proofs.Common.{ℕ, List, map, string_bytes, ap, ap₂, sym, ◌∙◌}
-use Rattle.std.specs.Vec.Iter.{into_iter_items}
-use Rattle.std.specs.List.{fold}
+use Rattle.std.specs.{Vec.Iter.{into_iter_items}, List.{fold}}
 use Rattle.p25_tool.specs.Words.{added}
 use Rattle.p25_app.proofs.CallSteps.{none_of}
 use Rattle.p25_app.proofs.arguments.words_from.Goals as goal

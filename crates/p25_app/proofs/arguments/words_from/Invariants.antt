@@ -1,6 +1,5 @@
 use Rattle.std.proofs.Common.{◌≡◌, [], map, string_bytes}
-use Rattle.std.specs.List.{fold}
-use Rattle.std.specs.Vec.Iter.{into_iter_items}
+use Rattle.std.specs.{List.{fold}, Vec.Iter.{into_iter_items}}
 use Rattle.p25_tool.specs.Words.{added}
 use Rattle.p25_app.proofs.arguments.words_from.Given as goal
 

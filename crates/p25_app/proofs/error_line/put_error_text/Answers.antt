@@ -1,5 +1,4 @@
-use Rattle.std.proofs.Common.{◌≡◌, ℕ, ◌<◌, List, length, ap, sym, subst, ◌∙◌}
-use Rattle.std.proofs.lemmas.Bool.{eqb-true}
+use Rattle.std.proofs.{Common.{◌≡◌, ℕ, ◌<◌, List, length, ap, sym, subst, ◌∙◌}, lemmas.Bool.{eqb-true}}
 use Rattle.p25_app.specs.Calls.{error_text, with_end}
 use Rattle.p25_app.proofs.CallSteps.{with_end-some, with_end-none, filled}
 use Rattle.p25_app.proofs.error_line.put_error_text.Goals as goal

@@ -1,6 +1,5 @@
 use Rattle.std.proofs.Common.{◌≡◌, ℕ, List, ◌++◌, Option, ap, sym, subst, ◌∙◌}
-use Rattle.p25_io.specs.Events.{Event}
-use Rattle.p25_io.specs.Streams.{StreamsGo}
+use Rattle.p25_io.specs.{Events.{Event}, Streams.{StreamsGo}}
 use Rattle.p25_app.specs.Calls.{IsOneCall}
 use Rattle.p25_app.proofs.program.call.Goals as goal
 

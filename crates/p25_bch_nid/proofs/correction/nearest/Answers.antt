@@ -1,7 +1,5 @@
-use Rattle.std.proofs.Common.{Some, None, ap, inl, inr, arith}
-use Rattle.std.proofs.lemmas.Bool.{both_ways, cases_lt}
-use Rattle.p25_bits.specs.Bits.{bits_of}
-use Rattle.p25_bits.specs.Distance.{distance_of}
+use Rattle.std.proofs.{Common.{Some, None, ap, inl, inr, arith}, lemmas.Bool.{both_ways, cases_lt}}
+use Rattle.p25_bits.specs.{Bits.{bits_of}, Distance.{distance_of}}
 use Rattle.p25_bits.proofs.DistanceLaws.{distance_of-same}
 use Rattle.p25_code.specs.Readings.{IsReadAs}
 use Rattle.p25_bch_nid.proofs.CorrectionSteps.{word_of_number, number_of_word, read_as, numbers_apart}

@@ -1,7 +1,6 @@
 use Rattle.std.proofs.Common.{sym, subst}
 use Rattle.p25_bch_nid.specs.NidReading.{IsNidReading}
-use Rattle.p25_bch_nid.proofs.NidReadingLaws.{IsNidReading-nid_reading_of, IsNidReading-unique, nid_reading_of-word, nid_reading_of-first}
-use Rattle.p25_bch_nid.proofs.NidWordLaws.{nid_reading_of-nid_word, nid_reading_of-near}
+use Rattle.p25_bch_nid.proofs.{NidReadingLaws.{IsNidReading-nid_reading_of, IsNidReading-unique, nid_reading_of-word, nid_reading_of-first}, NidWordLaws.{nid_reading_of-nid_word, nid_reading_of-near}}
 use Rattle.p25_bch_nid.proofs.laws.reading_laws.Goals as goal
 
 pub returns : goal.returns

@@ -1,9 +1,7 @@
 use Rattle.std.proofs.Common.{◌≡◌, ℕ, ◌+◌, ◌*◌, ◌%◌, ◌^◌, ◌<◌, ap₂, subst, sym, ◌∙◌, arith, mod-eq_of_lt}
 use Rattle.p25_bits.specs.Divisible.{IsRemainder}
-use Rattle.p25_bch_nid.specs.Nid.{generator, IsSent}
-use Rattle.p25_bch_nid.specs.NidWord.{nid_word-sent}
-use Rattle.p25_bch_nid.proofs.NidSteps.{IsSent-from_parts, IsSent-unique}
-use Rattle.p25_bch_nid.proofs.SentSteps.{IsEncoding-from_sent, reading_of_sent}
+use Rattle.p25_bch_nid.specs.{Nid.{generator, IsSent}, NidWord.{nid_word-sent}}
+use Rattle.p25_bch_nid.proofs.{NidSteps.{IsSent-from_parts, IsSent-unique}, SentSteps.{IsEncoding-from_sent, reading_of_sent}}
 use Rattle.p25_bch_nid.proofs.sent.nid_bits.Goals as goal
 
 sent_of : goal.returns-clause-sent

@@ -1,12 +1,9 @@
-use Rattle.std.proofs.Common.{◌≡◌, take, length, arith}
+use Rattle.std.proofs.{Common.{◌≡◌, take, length, arith}, lemmas.List.{length-take-le}}
 use Rattle.std.specs.Bool.{beq}
-use Rattle.std.proofs.lemmas.List.{length-take-le}
 use Rattle.p25_bits.specs.Bits.{bits_of}
-use Rattle.p25_bits.proofs.BitsLaws.{length-bits_of}
-use Rattle.p25_bits.proofs.DistanceLaws.{distance_by-le}
+use Rattle.p25_bits.proofs.{BitsLaws.{length-bits_of}, DistanceLaws.{distance_by-le}}
 use Rattle.p25_bch_nid.specs.NidWord.{nid_word}
-use Rattle.p25_bch_nid.proofs.NidWordLaws.{nid_reading_of-near}
-use Rattle.p25_bch_nid.proofs.SentSteps.{weight-distance}
+use Rattle.p25_bch_nid.proofs.{NidWordLaws.{nid_reading_of-near}, SentSteps.{weight-distance}}
 use Rattle.p25_bch_nid.proofs.sent.nid_distance.Goals as goal
 
 is_distance : goal.returns-clause-distance

@@ -1,5 +1,4 @@
-use Rattle.std.proofs.Common.{arith}
-use Rattle.std.proofs.lemmas.List.{get_or_read}
+use Rattle.std.proofs.{Common.{arith}, lemmas.List.{get_or_read}}
 use Rattle.p25_gf64.specs.Gf64.{gf64}
 use Rattle.p25_bch_nid.proofs.ZerosSteps.{plane_none, plane_more}
 use Rattle.p25_bch_nid.proofs.zeros.plane.Goals as goal

@@ -1,7 +1,6 @@
 use Rattle.std.proofs.Common.{◌≡◌, ℕ, ◌<◌}
 use Rattle.std.specs.Int.{bit_at}
-use Rattle.p25_gf64.specs.Symbol.{number}
-use Rattle.p25_gf64.specs.Gf64.{gf64}
+use Rattle.p25_gf64.specs.{Symbol.{number}, Gf64.{gf64}}
 use Rattle.p25_algebra.specs.Series.{coefficient, value_at}
 use Rattle.p25_bch_nid.proofs.ZerosSteps.{point}
 use Rattle.p25_bch_nid.proofs.zeros.plane.Given as goal

@@ -1,8 +1,6 @@
-use Rattle.std.proofs.Common.{◌≡◌, ◌-◌, ◌<◌, inl, inr, ap, sym, ◌∙◌, arith}
-use Rattle.std.proofs.lemmas.Bool.{cases_lt}
+use Rattle.std.proofs.{Common.{◌≡◌, ◌-◌, ◌<◌, inl, inr, ap, sym, ◌∙◌, arith}, lemmas.Bool.{cases_lt}}
 use Rattle.std.specs.Int.{bit_at}
-use Rattle.p25_gf64.specs.Symbol.{number}
-use Rattle.p25_gf64.specs.Gf64.{gf64}
+use Rattle.p25_gf64.specs.{Symbol.{number}, Gf64.{gf64}}
 use Rattle.p25_algebra.specs.Series.{coefficient, value_at}
 use Rattle.p25_bch_nid.proofs.ZerosSteps.{point, or_none, none_or, vanishes_exactly}
 use Rattle.p25_bch_nid.proofs.zeros.zeros_of.Goals as goal

@@ -1,8 +1,6 @@
-use Rattle.std.proofs.Common.{ℕ, suc, ◌+◌, ◌*◌, ◌^◌, ◌<◌, bit_xor, subst, arith}
-use Rattle.std.proofs.Math.Nat.{pow-suc}
+use Rattle.std.proofs.{Common.{ℕ, suc, ◌+◌, ◌*◌, ◌^◌, ◌<◌, bit_xor, subst, arith}, Math.Nat.{pow-suc}}
 use Rattle.p25_bits.specs.Divisible.{IsRemainder}
-use Rattle.p25_bits.proofs.BitsLaws.{digit_of-byte, digit_of-le}
-use Rattle.p25_bits.proofs.DivisibleLaws.{remainder_kept, remainder_reduced, remainder_lower, reaches, stays_low}
+use Rattle.p25_bits.proofs.{BitsLaws.{digit_of-byte, digit_of-le}, DivisibleLaws.{remainder_kept, remainder_reduced, remainder_lower, reaches, stays_low}}
 use Rattle.p25_bits.proofs.division.next_remainder.Goals as goal
 
 pub returns-then-shifted-degree-eq1-clause-lower : goal.returns-then-shifted-degree-eq1-clause-lower

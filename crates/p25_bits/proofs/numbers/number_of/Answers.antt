@@ -1,5 +1,4 @@
-use Rattle.std.proofs.Common.{◌+◌, ◌*◌, ◌<◌, ◌≤◌, length, false, arith, drop, get_or, ap, sym, ◌∙◌, subst, ◌≡◌, ◌^◌}
-use Rattle.std.proofs.lemmas.List.{drop_all}
+use Rattle.std.proofs.{Common.{◌+◌, ◌*◌, ◌<◌, ◌≤◌, length, false, arith, drop, get_or, ap, sym, ◌∙◌, subst, ◌≡◌, ◌^◌}, lemmas.List.{drop_all}}
 use Rattle.p25_bits.specs.Bits.{field_after}
 use Rattle.p25_bits.proofs.BitsLaws.{digit_of-byte, digit_of-le, field_after-drop, field_after-nil, field_of-after, more-lt}
 use Rattle.p25_bits.proofs.numbers.number_of.Goals as goal

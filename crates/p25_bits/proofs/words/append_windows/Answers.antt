@@ -1,6 +1,5 @@
 use Rattle.std.proofs.Common.{take}
-use Rattle.p25_bits.specs.Bits.{bits_of}
-use Rattle.p25_bits.specs.Numbers.{number_bits}
+use Rattle.p25_bits.specs.{Bits.{bits_of}, Numbers.{number_bits}}
 use Rattle.p25_bits.proofs.WordsLaws.{append_more}
 use Rattle.p25_bits.proofs.words.append_windows.Goals as goal
 

@@ -1,7 +1,6 @@
 use Rattle.std.proofs.Common.{◌<◌, length, refl, arith, get_or}
 use Rattle.p25_bits.specs.Distance.{distance_by}
-use Rattle.p25_bits.proofs.DistanceLaws.{ones-xor-le}
-use Rattle.p25_bits.proofs.WordsLaws.{distance_more}
+use Rattle.p25_bits.proofs.{DistanceLaws.{ones-xor-le}, WordsLaws.{distance_more}}
 use Rattle.p25_bits.proofs.words.differing.Goals as goal
 
 pub loop-k-init : goal.loop-k-init

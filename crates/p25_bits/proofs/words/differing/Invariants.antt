@@ -1,6 +1,5 @@
 use Rattle.std.proofs.Common.{◌≡◌, ◌*◌, ◌≤◌, take}
-use Rattle.p25_bits.specs.Distance.{distance_of}
-use Rattle.p25_bits.specs.Numbers.{number_bits}
+use Rattle.p25_bits.specs.{Distance.{distance_of}, Numbers.{number_bits}}
 use Rattle.p25_bits.proofs.words.differing.Given as goal
 
 abbrev pub invariant-loop-k : goal.invariant-loop-k

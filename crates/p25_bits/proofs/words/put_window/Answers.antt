@@ -1,6 +1,5 @@
 use Rattle.p25_bits.specs.Bits.{bits_of}
-use Rattle.p25_bits.proofs.BitsLaws.{length-bits_of}
-use Rattle.p25_bits.proofs.WordsLaws.{take_put}
+use Rattle.p25_bits.proofs.{BitsLaws.{length-bits_of}, WordsLaws.{take_put}}
 use Rattle.p25_bits.proofs.words.put_window.Goals as goal
 
 pub returns : goal.returns

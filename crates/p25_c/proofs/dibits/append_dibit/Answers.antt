@@ -1,9 +1,7 @@
-use Rattle.std.proofs.Common.{◌≡◌, ◌+◌, ◌-◌, ◌*◌, ◌%◌, ◌/◌, ◌^◌, ◌<◌, ◌≤◌, ◌++◌, ℕ, length, drop, take, slice_set, refl, ap, subst, sym, ◌∙◌, arith}
-use Rattle.std.proofs.Math.Pow.{pow_mono}
+use Rattle.std.proofs.{Common.{◌≡◌, ◌+◌, ◌-◌, ◌*◌, ◌%◌, ◌/◌, ◌^◌, ◌<◌, ◌≤◌, ◌++◌, ℕ, length, drop, take, slice_set, refl, ap, subst, sym, ◌∙◌, arith}, Math.Pow.{pow_mono}}
 use Rattle.p25_bits.specs.Bits.{bits_of, octet_bits}
 use Rattle.p25_c.specs.declared.stream.Stream.{Stream}
-use Rattle.p25_c.proofs.DibitsSteps.{dibit-fits, octet-bits, waits-bits}
-use Rattle.p25_c.proofs.StreamsSteps.{fits-of, stream-of}
+use Rattle.p25_c.proofs.{DibitsSteps.{dibit-fits, octet-bits, waits-bits}, StreamsSteps.{fits-of, stream-of}}
 use Rattle.p25_c.proofs.dibits.append_dibit.Goals as goal
 
 pub returns-then-stream-lt3-clause-taken : goal.returns-then-stream-lt3-clause-taken

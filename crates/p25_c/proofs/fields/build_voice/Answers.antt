@@ -1,7 +1,5 @@
-use Rattle.std.proofs.Common.{◌≡◌, ◌*◌, rules, sym, subst, to_z, w32, ◌∙◌}
-use Rattle.std.proofs.lemmas.Int.{to_z-of_z}
-use Rattle.p25_units.specs.UnitParts.{UnitParts}
-use Rattle.p25_units.specs.Units.{IsWholeBody, frame_length_of}
+use Rattle.std.proofs.{Common.{◌≡◌, ◌*◌, rules, sym, subst, to_z, w32, ◌∙◌}, lemmas.Int.{to_z-of_z}}
+use Rattle.p25_units.specs.{UnitParts.{UnitParts}, Units.{IsWholeBody, frame_length_of}}
 use Rattle.p25_c.proofs.BoundsLaws.{voice-count}
 use Rattle.p25_c.proofs.fields.build_voice.Goals as goal
 use mir.Val.{SFits}

@@ -1,7 +1,6 @@
 use Rattle.std.proofs.Common.{◌≡◌, ◌+◌, ◌-◌, ◌*◌, ◌^◌, ◌<◌, ◌≤◌, ◌∙◌, ap, sym, arith, rules, length, Fits, w64}
 use Rattle.p25_bits.specs.Bits.{octet_bits}
-use Rattle.p25_bits.proofs.BitsLaws.{length-octet_bits}
-use Rattle.p25_bits.proofs.PartLaws.{length-part}
+use Rattle.p25_bits.proofs.{BitsLaws.{length-octet_bits}, PartLaws.{length-part}}
 use Rattle.p25_c.proofs.FollowersSteps.{can-follow}
 use Rattle.p25_c.proofs.followers.p25_follower_take.Goals as goal
 

@@ -1,5 +1,4 @@
-use Rattle.std.proofs.Common.{◌≡◌, ℤ, List, Option, Some, length, drop, ◌-◌, rules, refl, ap, sym, to_z, of_z, w32, ◌∙◌}
-use Rattle.std.proofs.lemmas.Int.{to_z-of_z}
+use Rattle.std.proofs.{Common.{◌≡◌, ℤ, List, Option, Some, length, drop, ◌-◌, rules, refl, ap, sym, to_z, of_z, w32, ◌∙◌}, lemmas.Int.{to_z-of_z}}
 use Rattle.p25_bits.specs.Bits.{octet_bits}
 use Rattle.p25_stream.specs.Items.{items_by}
 use Rattle.p25_units.specs.declared.item.Item.{Item}

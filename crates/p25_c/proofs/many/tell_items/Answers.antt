@@ -1,12 +1,9 @@
-use Rattle.std.proofs.Common.{◌≡◌, ◌<◌, ◌+◌, ◌-◌, [], ◌∷◌, pos, rules, to_z, of_z, w32, List, length, take, drop, map, min, slice_set, ap, sym, ◌∙◌, arith}
-use Rattle.std.proofs.lemmas.Int.{to_z-of_z}
+use Rattle.std.proofs.{Common.{◌≡◌, ◌<◌, ◌+◌, ◌-◌, [], ◌∷◌, pos, rules, to_z, of_z, w32, List, length, take, drop, map, min, slice_set, ap, sym, ◌∙◌, arith}, lemmas.Int.{to_z-of_z}}
 use Rattle.std.proofs.lemmas.List.{drop-drop, length-take-le}
 use Rattle.p25_bits.specs.Bits.{octet_bits}
 use Rattle.p25_stream.specs.Items.{items_by}
-use Rattle.p25_units.specs.Items.{covered}
-use Rattle.p25_units.specs.declared.item.Item.{Item}
-use Rattle.p25_c.specs.Many.{numbers_of, put_first}
-use Rattle.p25_c.specs.declared.items.ItemParts.{ItemParts}
+use Rattle.p25_units.specs.{Items.{covered}, declared.item.Item.{Item}}
+use Rattle.p25_c.specs.{Many.{numbers_of, put_first}, declared.items.ItemParts.{ItemParts}}
 use Rattle.p25_c.proofs.ManySteps.{left-next, left-none, left-some, told-more}
 use Rattle.p25_c.proofs.many.tell_items.Goals as goal
 use mir.Val.{SFits}

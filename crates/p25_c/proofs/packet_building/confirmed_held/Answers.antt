@@ -1,8 +1,5 @@
 use Rattle.std.proofs.Common.{◌≡◌, ℕ, ◌<◌, ◌++◌, [], ◌∷◌, List, Option, Some, refl, sym, ap, subst, ◌∙◌, arith}
-use Rattle.p25_packet_blocks.specs.ConfirmedParts.{ConfirmedParts}
-use Rattle.p25_packet_blocks.specs.Heads.{head_blocks}
-use Rattle.p25_packet_blocks.specs.Whole.{AreGood, IsWholePacket}
-use Rattle.p25_packet_blocks.specs.declared.block.Slot.{Slot}
+use Rattle.p25_packet_blocks.specs.{ConfirmedParts.{ConfirmedParts}, Heads.{head_blocks}, Whole.{AreGood, IsWholePacket}, declared.block.Slot.{Slot}}
 use Rattle.p25_c.specs.Packets.{confirmed_of}
 use Rattle.p25_c.proofs.PacketsLaws.{good-more, good-none, slots-more, slots-refused, slots-zero}
 use Rattle.p25_c.proofs.packet_building.confirmed_held.Goals as goal

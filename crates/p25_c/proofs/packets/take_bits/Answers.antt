@@ -1,5 +1,4 @@
-use Rattle.std.proofs.Common.{◌≡◌, ℕ, ◌-◌, ◌/◌, ◌%◌, List, length, take, drop, min, ap, ◌∙◌, arith}
-use Rattle.std.proofs.lemmas.List.{length-drop, take_all}
+use Rattle.std.proofs.{Common.{◌≡◌, ℕ, ◌-◌, ◌/◌, ◌%◌, List, length, take, drop, min, ap, ◌∙◌, arith}, lemmas.List.{length-drop, take_all}}
 use Rattle.p25_bits.specs.Bits.{octet_bits}
 use Rattle.p25_c.proofs.PacketsLaws.{bits-taken}
 use Rattle.p25_c.proofs.packets.take_bits.Goals as goal

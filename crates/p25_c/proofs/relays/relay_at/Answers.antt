@@ -1,15 +1,9 @@
-use Rattle.std.proofs.Common.{◌≡◌, ◌-◌, ◌∙◌, [], ℤ, List, Bool, true, Option, Ok, drop, rules, subst, sym, ap, to_z, of_z, w32}
-use Rattle.std.proofs.lemmas.Int.{to_z-of_z}
+use Rattle.std.proofs.{Common.{◌≡◌, ◌-◌, ◌∙◌, [], ℤ, List, Bool, true, Option, Ok, drop, rules, subst, sym, ap, to_z, of_z, w32}, lemmas.Int.{to_z-of_z}}
 use Rattle.p25_bits.specs.Bits.{octet_bits, part}
-use Rattle.p25_units.specs.Items.{covered}
-use Rattle.p25_units.specs.Units.{whole_octets}
-use Rattle.p25_units.specs.declared.item.Item.{Item}
+use Rattle.p25_units.specs.{Items.{covered}, Units.{whole_octets}, declared.item.Item.{Item}}
 use Rattle.p25_follow.specs.Relayed.{relayed}
-use Rattle.p25_c.specs.Places.{filled}
-use Rattle.p25_c.specs.Relays.{asked_relayed}
-use Rattle.p25_c.specs.Rooms.{IsWriting}
-use Rattle.p25_c.proofs.ItemsLaws.{items_asked-inside, items_asked-outside}
-use Rattle.p25_c.proofs.RelaysSteps.{found-at, relay-none, relay-outside}
+use Rattle.p25_c.specs.{Places.{filled}, Relays.{asked_relayed}, Rooms.{IsWriting}}
+use Rattle.p25_c.proofs.{ItemsLaws.{items_asked-inside, items_asked-outside}, RelaysSteps.{found-at, relay-none, relay-outside}}
 use Rattle.p25_c.proofs.relays.relay_at.Goals as goal
 use mir.Val.{SFits}
 

@@ -1,7 +1,6 @@
 use Rattle.std.proofs.Common.{◌∙◌, ◌*◌, ◌≤◌, ◌+◌, ap, arith, length}
 use Rattle.p25_bits.specs.Bits.{octet_bits}
-use Rattle.p25_bits.proofs.BitsLaws.{length-octet_bits}
-use Rattle.p25_bits.proofs.PartLaws.{length-part}
+use Rattle.p25_bits.proofs.{BitsLaws.{length-octet_bits}, PartLaws.{length-part}}
 use Rattle.p25_c.proofs.relays.relay_found.Goals as goal
 
 pub relay_item-requires-clause-raw : goal.relay_item-requires-clause-raw

@@ -2,8 +2,7 @@ use Rattle.std.proofs.Common.{[], Bool, List, sym, drop, ◌-◌, ◌∙◌, tru
 use Rattle.p25_bits.specs.Bits.{octet_bits}
 use Rattle.p25_stream.specs.Repeats.{bridged}
 use Rattle.p25_units.specs.declared.item.Item.{Item}
-use Rattle.p25_c.proofs.ItemsLaws.{items_asked-outside}
-use Rattle.p25_c.proofs.PlacesSteps.{outside-writing}
+use Rattle.p25_c.proofs.{ItemsLaws.{items_asked-outside}, PlacesSteps.{outside-writing}}
 use Rattle.p25_c.proofs.repeats.bridge_at.Goals as goal
 
 pub returns-then-not-is_inside : goal.returns-then-not-is_inside

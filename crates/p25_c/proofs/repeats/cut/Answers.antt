@@ -1,6 +1,5 @@
 use Rattle.std.proofs.Common.{◌+◌, ◌-◌, ◌/◌, ◌%◌, ◌++◌, Bool, List, take, drop, ap, ◌∙◌, arith}
-use Rattle.p25_bits.specs.Bits.{part}
-use Rattle.p25_bits.specs.Numbers.{number_bits}
+use Rattle.p25_bits.specs.{Bits.{part}, Numbers.{number_bits}}
 use Rattle.p25_c.proofs.PlacesSteps.{cut-bits}
 use Rattle.p25_c.proofs.repeats.cut.Goals as goal
 

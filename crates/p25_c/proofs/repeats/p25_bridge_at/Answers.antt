@@ -1,9 +1,6 @@
-use Rattle.std.proofs.Common.{◌≡◌, ℤ, rules, subst, sym, to_z, of_z, w32, ◌∙◌}
-use Rattle.std.proofs.lemmas.Int.{to_z-of_z}
-use Rattle.p25_c.specs.Places.{bridged_at}
-use Rattle.p25_c.specs.Rooms.{IsWriting}
-use Rattle.p25_status.specs.Status.{same_status}
-use Rattle.p25_status.specs.declared.symbols.Status.{Status}
+use Rattle.std.proofs.{Common.{◌≡◌, ℤ, rules, subst, sym, to_z, of_z, w32, ◌∙◌}, lemmas.Int.{to_z-of_z}}
+use Rattle.p25_c.specs.{Places.{bridged_at}, Rooms.{IsWriting}}
+use Rattle.p25_status.specs.{Status.{same_status}, declared.symbols.Status.{Status}}
 use Rattle.p25_c.proofs.repeats.p25_bridge_at.Goals as goal
 use mir.Val.{SFits}
 

@@ -1,8 +1,7 @@
 use Rattle.std.proofs.Common.{sym, drop, ◌-◌, ◌∙◌, true}
 use Rattle.p25_bits.specs.Bits.{octet_bits}
 use Rattle.p25_stream.specs.Repeats.{repaired}
-use Rattle.p25_c.proofs.ItemsLaws.{items_asked-outside}
-use Rattle.p25_c.proofs.PlacesSteps.{outside-writing}
+use Rattle.p25_c.proofs.{ItemsLaws.{items_asked-outside}, PlacesSteps.{outside-writing}}
 use Rattle.p25_c.proofs.repeats.p25_repair_at.Goals as goal
 
 pub returns-then-not-is_inside : goal.returns-then-not-is_inside

@@ -1,5 +1,4 @@
-use Rattle.std.proofs.Common.{refl, length, arith}
-use Rattle.std.proofs.lemmas.Bool.{cond_above}
+use Rattle.std.proofs.{Common.{refl, length, arith}, lemmas.Bool.{cond_above}}
 use Rattle.p25_c.proofs.RoomsLaws.{text_left-room}
 use Rattle.p25_c.proofs.room.write_text.Goals as goal
 

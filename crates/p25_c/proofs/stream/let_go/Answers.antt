@@ -1,5 +1,4 @@
-use Rattle.std.proofs.Common.{◌≡◌, ◌+◌, ◌-◌, ◌*◌, ◌/◌, ◌≤◌, ◌++◌, List, ℕ, length, take, drop, refl, ap, sym, ◌∙◌, arith, length-drop}
-use Rattle.std.proofs.lemmas.List.{length-take-le, take_at}
+use Rattle.std.proofs.{Common.{◌≡◌, ◌+◌, ◌-◌, ◌*◌, ◌/◌, ◌≤◌, ◌++◌, List, ℕ, length, take, drop, refl, ap, sym, ◌∙◌, arith, length-drop}, lemmas.List.{length-take-le, take_at}}
 use Rattle.p25_bits.specs.Bits.{bits_of, octet_bits}
 use Rattle.p25_c.specs.declared.stream.Stream.{Stream}
 use Rattle.p25_c.proofs.StreamsSteps.{fits-of, let-go-bits, stream-of}

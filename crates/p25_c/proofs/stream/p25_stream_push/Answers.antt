@@ -1,6 +1,5 @@
 use Rattle.std.proofs.Common.{◌≡◌, ℤ, ℕ, ◌+◌, ◌-◌, ◌*◌, ◌/◌, ◌≤◌, ◌++◌, Bool, List, pos, min, length, take, drop, true, false, refl, rules, ap, subst, sym, to_z, of_z, w32, ◌∙◌, arith}
-use Rattle.std.proofs.lemmas.Bool.{both_ways}
-use Rattle.std.proofs.lemmas.Int.{to_z-of_z}
+use Rattle.std.proofs.{lemmas.Bool.{both_ways}, lemmas.Int.{to_z-of_z}}
 use Rattle.p25_c.specs.Streams.{HasTaken, bits_left, is_stream, stream_room}
 use Rattle.p25_c.proofs.StreamsSteps.{appended-taken, take_alike}
 use Rattle.p25_c.proofs.stream.p25_stream_push.Goals as goal

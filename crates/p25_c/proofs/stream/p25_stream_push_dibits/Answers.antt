@@ -1,6 +1,4 @@
-use Rattle.std.proofs.Common.{◌≡◌, ℕ, List, ◌+◌, ◌-◌, ◌*◌, ◌/◌, pos, min, length, take, true, rules, ap, subst, sym, to_z, of_z, w32, ◌∙◌, arith}
-use Rattle.std.proofs.lemmas.Bool.{both_ways}
-use Rattle.std.proofs.lemmas.Int.{to_z-of_z}
+use Rattle.std.proofs.{Common.{◌≡◌, ℕ, List, ◌+◌, ◌-◌, ◌*◌, ◌/◌, pos, min, length, take, true, rules, ap, subst, sym, to_z, of_z, w32, ◌∙◌, arith}, lemmas.Bool.{both_ways}, lemmas.Int.{to_z-of_z}}
 use Rattle.p25_bits.specs.Numbers.{number_bits}
 use Rattle.p25_c.specs.Streams.{HasTaken, is_stream, stream_room}
 use Rattle.p25_c.proofs.StreamsSteps.{take_alike, taken-after}

@@ -1,7 +1,4 @@
-use Rattle.p25_calls.proofs.ClosedLaws.{closed-stay}
-use Rattle.p25_calls.proofs.AnswersLaws.{each-closed, last-open}
-use Rattle.p25_calls.proofs.DividedLaws.{break-between, no_break-inside, runs-join}
-use Rattle.p25_calls.proofs.TakingLaws.{answers-are-calls}
+use Rattle.p25_calls.proofs.{ClosedLaws.{closed-stay}, AnswersLaws.{each-closed, last-open}, DividedLaws.{break-between, no_break-inside, runs-join}, TakingLaws.{answers-are-calls}}
 use Rattle.p25_calls.proofs.laws.call_laws.Goals as goal
 
 pub returns : goal.returns

@@ -1,8 +1,6 @@
 use Rattle.std.proofs.Common.{◌≡◌, length, ◌∙◌}
-use Rattle.p25_code.specs.Readings.{word_read}
-use Rattle.p25_code.specs.Erasures.{without_erased}
-use Rattle.p25_code.proofs.ReadingLaws.{IsBlockCode}
-use Rattle.p25_code.proofs.ErasedLaws.{length-without_erased, one_erased_reading, erased_reading_sent, erased_word_read_as, reading_without_erasures}
+use Rattle.p25_code.specs.{Readings.{word_read}, Erasures.{without_erased}}
+use Rattle.p25_code.proofs.{ReadingLaws.{IsBlockCode}, ErasedLaws.{length-without_erased, one_erased_reading, erased_reading_sent, erased_word_read_as, reading_without_erasures}}
 use Rattle.p25_code.proofs.callers.read_with_erasures.Goals as goal
 
 pub returns : goal.returns

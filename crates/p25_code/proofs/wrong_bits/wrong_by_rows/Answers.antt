@@ -1,5 +1,4 @@
-use Rattle.std.proofs.Common.{◌≡◌, ◌+◌, ◌-◌, ◌*◌, ◌^◌, ◌<◌, ◌≤◌, ◌%◌, bit_or, bit_xor, get_or, length, refl, ap, sym, ◌∙◌, subst, arith}
-use Rattle.std.proofs.lemmas.Nat.{xor_lt}
+use Rattle.std.proofs.{Common.{◌≡◌, ◌+◌, ◌-◌, ◌*◌, ◌^◌, ◌<◌, ◌≤◌, ◌%◌, bit_or, bit_xor, get_or, length, refl, ap, sym, ◌∙◌, subst, arith}, lemmas.Nat.{xor_lt}}
 use Rattle.p25_code.proofs.WrongLaws.{row-lt, checks_wrong, row_wrong, row_bits, none_by_rows}
 use Rattle.p25_code.specs.WrongBits.{AreWrong}
 use Rattle.p25_code.proofs.wrong_bits.wrong_by_rows.Goals as goal

@@ -1,12 +1,9 @@
-use Rattle.std.proofs.Common.{◌≡◌, ◌+◌, ◌*◌, ◌/◌, ◌<◌, ◌≤◌, List, length, take, get_or, refl, subst, ap, ◌∙◌, arith}
-use Rattle.std.proofs.Math.Nat.{mul_comm}
-use Rattle.std.proofs.lemmas.List.{length-take-le}
+use Rattle.std.proofs.{Common.{◌≡◌, ◌+◌, ◌*◌, ◌/◌, ◌<◌, ◌≤◌, List, length, take, get_or, refl, subst, ap, ◌∙◌, arith}, Math.Nat.{mul_comm}, lemmas.List.{length-take-le}}
 use Rattle.p25_bits.specs.Bits.{part}
 use Rattle.p25_bits.proofs.PartLaws.{length-part}
 use Rattle.p25_gf64.specs.declared.symbol.Sym.{Sym}
 use Rattle.p25_coded_fields.specs.Fixes.{AreCounted, IsInnerCount}
-use Rattle.p25_coded_fields.proofs.FixesLaws.{counted_none, counted_more, all_groups, front_more}
-use Rattle.p25_coded_fields.proofs.SymbolsLaws.{group_is, room_at}
+use Rattle.p25_coded_fields.proofs.{FixesLaws.{counted_none, counted_more, all_groups, front_more}, SymbolsLaws.{group_is, room_at}}
 use Rattle.p25_coded_fields.proofs.fixes.field_fixes.Goals as goal
 
 pub loop-i-init : goal.loop-i-init

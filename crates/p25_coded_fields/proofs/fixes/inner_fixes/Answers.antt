@@ -1,7 +1,6 @@
 use Rattle.std.proofs.Common.{◌≡◌, ◌^◌, ◌<◌, length, sym, subst, ap₂, ◌∙◌, arith}
 use Rattle.p25_bits.specs.Bits.{bits_of, part}
-use Rattle.p25_bits.proofs.BitsLaws.{bits_of-field_of}
-use Rattle.p25_bits.proofs.DistanceLaws.{ones-xor-le}
+use Rattle.p25_bits.proofs.{BitsLaws.{bits_of-field_of}, DistanceLaws.{ones-xor-le}}
 use Rattle.p25_code.specs.Words.{IsEncoding}
 use Rattle.p25_link.specs.Symbols.{symbol_bits}
 use Rattle.p25_link.proofs.SymbolsLaws.{length-symbol_bits}

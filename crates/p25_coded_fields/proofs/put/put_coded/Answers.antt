@@ -1,8 +1,7 @@
 use Rattle.std.proofs.Common.{◌≡◌, ◌/◌, List, ap, subst, arith}
 use Rattle.p25_gf64.specs.declared.symbol.Sym.{Sym}
 use Rattle.p25_coded_fields.specs.Written.{IsPut, IsWritten}
-use Rattle.p25_coded_fields.proofs.SymbolsLaws.{group_is, one_more}
-use Rattle.p25_coded_fields.proofs.WrittenLaws.{written_next, written_by}
+use Rattle.p25_coded_fields.proofs.{SymbolsLaws.{group_is, one_more}, WrittenLaws.{written_next, written_by}}
 use Rattle.p25_coded_fields.proofs.put.put_coded.Goals as goal
 
 pub loop-i-preserved : goal.loop-i-preserved

@@ -1,13 +1,10 @@
-use Rattle.std.proofs.Common.{◌≡◌, ◌+◌, ◌-◌, ◌*◌, ◌/◌, ◌<◌, ◌≤◌, List, length, take, drop, get_or, IfSome, refl, sym, subst, ap, ◌∙◌, arith}
-use Rattle.std.proofs.Math.Nat.{mul_comm}
+use Rattle.std.proofs.{Common.{◌≡◌, ◌+◌, ◌-◌, ◌*◌, ◌/◌, ◌<◌, ◌≤◌, List, length, take, drop, get_or, IfSome, refl, sym, subst, ap, ◌∙◌, arith}, Math.Nat.{mul_comm}}
 use Rattle.p25_bits.specs.Bits.{part}
 use Rattle.p25_code.specs.Readings.{word_read}
 use Rattle.p25_gf64.specs.declared.symbol.Sym.{Sym}
 use Rattle.p25_gf64.proofs.SymbolLaws.{same_from_eq}
-use Rattle.p25_coded_fields.specs.Fixes.{AreCounted}
-use Rattle.p25_coded_fields.specs.Layouts.{field_layout, symbols_or_erasures}
-use Rattle.p25_coded_fields.proofs.SymbolsLaws.{length_group, room_at}
-use Rattle.p25_coded_fields.proofs.FixesLaws.{counted_all, counted_next, counted_none, all_groups}
+use Rattle.p25_coded_fields.specs.{Fixes.{AreCounted}, Layouts.{field_layout, symbols_or_erasures}}
+use Rattle.p25_coded_fields.proofs.{SymbolsLaws.{length_group, room_at}, FixesLaws.{counted_all, counted_next, counted_none, all_groups}}
 use Rattle.p25_coded_fields.proofs.ReadLaws.{cut_long, erased_before, erased_next, outer_read, unchanged}
 use Rattle.p25_coded_fields.proofs.read.read_field.Goals as goal
 

@@ -2,8 +2,7 @@ use Rattle.std.proofs.Common.{◌≡◌, ◌*◌, ◌/◌, take, IfSome}
 use Rattle.std.specs.List.{flat_map}
 use Rattle.p25_bits.specs.Bits.{part}
 use Rattle.p25_code.specs.Erasures.{without_erased}
-use Rattle.p25_coded_fields.specs.Fixes.{AreCounted}
-use Rattle.p25_coded_fields.specs.Layouts.{symbols_or_erasures}
+use Rattle.p25_coded_fields.specs.{Fixes.{AreCounted}, Layouts.{symbols_or_erasures}}
 use Rattle.p25_coded_fields.proofs.read.read_field.Given as goal
 
 abbrev pub invariant-loop-i : goal.invariant-loop-i

@@ -1,7 +1,5 @@
-use Rattle.std.proofs.Common.{ℕ, ◌*◌, ◌^◌, ◌<◌, ◌≤◌, ◌++◌, List, length, get_or, sym, subst, arith}
-use Rattle.std.proofs.lemmas.List.{take_all}
-use Rattle.p25_bits.specs.Bits.{field_of, octet_bits}
-use Rattle.p25_bits.specs.Divisible.{IsRemainder}
+use Rattle.std.proofs.{Common.{ℕ, ◌*◌, ◌^◌, ◌<◌, ◌≤◌, ◌++◌, List, length, get_or, sym, subst, arith}, lemmas.List.{take_all}}
+use Rattle.p25_bits.specs.{Bits.{field_of, octet_bits}, Divisible.{IsRemainder}}
 use Rattle.p25_crc.proofs.RegisterLaws.{octets_none, octets_more}
 use Rattle.p25_crc.proofs.register.take_each.Goals as goal
 

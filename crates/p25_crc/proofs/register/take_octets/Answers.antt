@@ -1,6 +1,5 @@
 use Rattle.std.proofs.Common.{◌≡◌, ℕ, ◌+◌, ◌*◌, ◌/◌, ◌^◌, ◌<◌, ◌≤◌, ◌++◌, Bool, List, length, take, get_or, ap, sym, ◌∙◌, subst, arith}
-use Rattle.p25_bits.specs.Bits.{field_of, octet_bits}
-use Rattle.p25_bits.specs.Divisible.{IsRemainder}
+use Rattle.p25_bits.specs.{Bits.{field_of, octet_bits}, Divisible.{IsRemainder}}
 use Rattle.p25_crc.proofs.RegisterLaws.{octets_none, word_more, octets_in_two}
 use Rattle.p25_crc.proofs.register.take_octets.Goals as goal
 

@@ -1,6 +1,5 @@
 use Rattle.std.proofs.Common.{ℕ, ◌*◌, ◌^◌, Bool, List, ◌++◌, take}
-use Rattle.p25_bits.specs.Bits.{field_of, octet_bits}
-use Rattle.p25_bits.specs.Divisible.{IsRemainder}
+use Rattle.p25_bits.specs.{Bits.{field_of, octet_bits}, Divisible.{IsRemainder}}
 use Rattle.p25_crc.specs.Remainders.{AreRemainders}
 use Rattle.p25_crc.proofs.register.take_octets.Given as goal
 

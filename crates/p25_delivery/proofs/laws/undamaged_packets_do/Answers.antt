@@ -1,5 +1,4 @@
-use Rattle.p25_delivery.proofs.AtOnceLaws.{opens-down}
-use Rattle.p25_delivery.proofs.DeliveryLaws.{run-delivers}
+use Rattle.p25_delivery.proofs.{AtOnceLaws.{opens-down}, DeliveryLaws.{run-delivers}}
 use Rattle.p25_delivery.proofs.laws.undamaged_packets_do.Goals as goal
 
 pub returns : goal.returns

@@ -1,7 +1,5 @@
 use Rattle.std.proofs.Common.{ℕ, ◌∙◌, ap, false}
-use Rattle.p25_packet_blocks.specs.ConfirmedParts.{ConfirmedParts}
-use Rattle.p25_packet_blocks.specs.Heads.{confirmed_head}
-use Rattle.p25_packet_blocks.specs.declared.packet.Packet.TheVariants.{Confirmed}
+use Rattle.p25_packet_blocks.specs.{ConfirmedParts.{ConfirmedParts}, Heads.{confirmed_head}, declared.packet.Packet.TheVariants.{Confirmed}}
 use Rattle.p25_delivery.proofs.SentPacketsLaws.{blocks_packet-is}
 use Rattle.p25_delivery.proofs.sent.blocks.Goals as goal
 

@@ -1,9 +1,7 @@
 use Rattle.std.proofs.Common.{◌≡◌, ℕ, ◌∙◌, ap, length, map, arith}
 use Rattle.p25_bits.specs.Numbers.{each_below}
-use Rattle.p25_packet_blocks.specs.ConfirmedParts.{ConfirmedParts}
-use Rattle.p25_packet_blocks.specs.declared.packet.Packet.TheVariants.{Confirmed}
-use Rattle.p25_delivery.specs.MessageBlocks.{message_block}
-use Rattle.p25_delivery.specs.SentPackets.{good_slot}
+use Rattle.p25_packet_blocks.specs.{ConfirmedParts.{ConfirmedParts}, declared.packet.Packet.TheVariants.{Confirmed}}
+use Rattle.p25_delivery.specs.{MessageBlocks.{message_block}, SentPackets.{good_slot}}
 use Rattle.p25_delivery.proofs.SentPacketsLaws.{block_of_octets, slots_more, message_packet-is}
 use Rattle.p25_delivery.proofs.sent.message.Goals as goal
 

@@ -1,7 +1,6 @@
 use Rattle.std.proofs.Common.{◌≡◌, length, map}
 use Rattle.p25_bits.specs.Numbers.{each_below}
-use Rattle.p25_delivery.specs.MessageBlocks.{message_block}
-use Rattle.p25_delivery.specs.SentPackets.{good_slot}
+use Rattle.p25_delivery.specs.{MessageBlocks.{message_block}, SentPackets.{good_slot}}
 use Rattle.p25_delivery.proofs.sent.message.Given as goal
 
 abbrev pub invariant-loop-serial : goal.invariant-loop-serial

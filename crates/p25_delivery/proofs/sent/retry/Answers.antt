@@ -1,7 +1,6 @@
 use Rattle.std.proofs.Common.{◌≡◌, ◌<◌, ◌≤◌, ◌-◌, ◌*◌, ℕ, length, ap, sym, ◌∙◌, inr, arith}
-use Rattle.p25_delivery.proofs.SentPacketsLaws.{length-flag_octets}
+use Rattle.p25_delivery.proofs.{SentPacketsLaws.{length-flag_octets}, sent.retry.Goals.{then-len-le64, else-len-le64}}
 use Rattle.p25_delivery.proofs.sent.retry.Goals as goal
-use Rattle.p25_delivery.proofs.sent.retry.Goals.{then-len-le64, else-len-le64}
 
 pub new-requires : goal.new-requires
 new-requires c =

@@ -2,9 +2,8 @@ use Rattle.std.proofs.Common.{◌≡◌, ℕ, ◌∙◌, ap, length, true, false
 use Rattle.std.specs.Prelude.{slice_get}
 use Rattle.p25_bits.specs.Numbers.{joined_below}
 use Rattle.p25_delivery.specs.SentPackets.{wanted_slots}
-use Rattle.p25_delivery.proofs.SentPacketsLaws.{wanted_slot, block_of_octets, wanted_more, wanted_same}
+use Rattle.p25_delivery.proofs.{SentPacketsLaws.{wanted_slot, block_of_octets, wanted_more, wanted_same}, sent.wanted_blocks.Goals.{then-get, else-get}}
 use Rattle.p25_delivery.proofs.sent.wanted_blocks.Goals as goal
-use Rattle.p25_delivery.proofs.sent.wanted_blocks.Goals.{then-get, else-get}
 
 pub loop-serial-init : goal.loop-serial-init
 unfolding joined_below

@@ -1,8 +1,5 @@
 use Rattle.std.proofs.Common.{List, refl}
-use Rattle.p25_duplex.specs.declared.side.Side.{Side}
-use Rattle.p25_duplex.specs.declared.event.DuplexEvent.{DuplexEvent}
-use Rattle.p25_duplex.specs.DuplexSteps.{other_side}
-use Rattle.p25_duplex.specs.DuplexRuns.{data_in, answer_in}
+use Rattle.p25_duplex.specs.{declared.side.Side.{Side}, declared.event.DuplexEvent.{DuplexEvent}, DuplexSteps.{other_side}, DuplexRuns.{data_in, answer_in}}
 use Rattle.p25_duplex.proofs.RunLaws.{run-clean, run-facts, run-newest}
 use Rattle.p25_duplex.proofs.laws.duplex_facts.Goals as goal
 

@@ -1,8 +1,5 @@
 use Rattle.std.proofs.Common.{◌≡◌, List, arith}
-use Rattle.p25_duplex.specs.declared.side.Side.{Side}
-use Rattle.p25_duplex.specs.declared.side.Side.TheVariants.{A, B}
-use Rattle.p25_duplex.specs.declared.event.DuplexEvent.{DuplexEvent}
-use Rattle.p25_duplex.specs.DuplexSteps.{first_duplex, other_side, station_at}
+use Rattle.p25_duplex.specs.{declared.side.Side.{Side}, declared.side.Side.TheVariants.{A, B}, declared.event.DuplexEvent.{DuplexEvent}, DuplexSteps.{first_duplex, other_side, station_at}}
 use Rattle.p25_duplex.specs.DuplexRuns.{duplex_run, duplex_steps, side_acknowledged_in, side_heard_in, side_sent_in}
 use Rattle.p25_duplex.proofs.DuplexListsLaws.{run-heard, run-sent, run-acknowledged}
 use Rattle.p25_duplex.proofs.laws.duplex_steps_tell_lists.Goals as goal

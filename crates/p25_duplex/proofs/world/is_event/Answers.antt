@@ -1,7 +1,6 @@
 use Rattle.std.proofs.Common.{◌≡◌, ℕ, List, subst}
 use Rattle.p25_delivery.specs.SoundHalves.{IsMessage}
-use Rattle.p25_duplex.specs.declared.side.Side.{Side}
-use Rattle.p25_duplex.specs.declared.event.DuplexEvent.TheVariants.{Send}
+use Rattle.p25_duplex.specs.{declared.side.Side.{Side}, declared.event.DuplexEvent.TheVariants.{Send}}
 use Rattle.p25_duplex.proofs.DuplexHistoryLaws.{event-kept}
 use Rattle.p25_duplex.proofs.world.is_event.Goals as goal
 

@@ -1,7 +1,6 @@
 use Rattle.std.proofs.Common.{[], refl, sym, subst, arith, ◌∙◌}
 use Rattle.p25_filter.specs.Futures.{Future, Moved}
-use Rattle.p25_filter.proofs.FuturesLaws.{Moved-none, Moved-trans, Moved-piece, IsCutOff-page}
-use Rattle.p25_filter.proofs.InputLaws.{piece-given, piece-none, piece-refused, stopped-fault, stopped-page}
+use Rattle.p25_filter.proofs.{FuturesLaws.{Moved-none, Moved-trans, Moved-piece, IsCutOff-page}, InputLaws.{piece-given, piece-none, piece-refused, stopped-fault, stopped-page}}
 use Rattle.p25_filter.proofs.input.drain.Goals as goal
 
 pub loop-page-preserved : goal.loop-page-preserved

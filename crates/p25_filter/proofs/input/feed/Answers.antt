@@ -1,9 +1,6 @@
-use Rattle.std.proofs.Common.{◌≡◌, ℕ, ◌+◌, ◌-◌, ◌≤◌, List, [], ◌++◌, length, take, drop, ap, sym, subst, ◌∙◌, arith, append-nil, length-drop}
-use Rattle.std.proofs.Math.Seq.{take-add}
-use Rattle.std.proofs.lemmas.List.{take_all}
+use Rattle.std.proofs.{Common.{◌≡◌, ℕ, ◌+◌, ◌-◌, ◌≤◌, List, [], ◌++◌, length, take, drop, ap, sym, subst, ◌∙◌, arith, append-nil, length-drop}, Math.Seq.{take-add}, lemmas.List.{take_all}}
 use Rattle.p25_filter.specs.Futures.{Moved, IsIdle, IsStopped}
-use Rattle.p25_filter.proofs.FuturesLaws.{Moved-none, Moved-push, Moved-trans, Moved-flush, IsCutOff-page}
-use Rattle.p25_filter.proofs.InputLaws.{stopped-after, stopped-fault}
+use Rattle.p25_filter.proofs.{FuturesLaws.{Moved-none, Moved-push, Moved-trans, Moved-flush, IsCutOff-page}, InputLaws.{stopped-after, stopped-fault}}
 use Rattle.p25_filter.proofs.input.feed.Goals as goal
 
 -- the first octets, and some of those after them

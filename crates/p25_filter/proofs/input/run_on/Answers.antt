@@ -1,8 +1,5 @@
 use Rattle.std.proofs.Common.{◌≡◌, ◌≤◌, ℕ, ◌-◌, List, [], ◌++◌, length, take, min, ap, sym, subst, ◌∙◌, arith, length-append, length-take}
-use Rattle.p25_filter.specs.declared.ending.FilterEnd.{FilterEnd}
-use Rattle.p25_filter.specs.Futures.{Moved}
-use Rattle.p25_filter.specs.Runs.{input_most}
-use Rattle.p25_filter.specs.Traces.{Going, standing_at}
+use Rattle.p25_filter.specs.{declared.ending.FilterEnd.{FilterEnd}, Futures.{Moved}, Runs.{input_most}, Traces.{Going, standing_at}}
 use Rattle.p25_filter.proofs.InputLaws.{on-blank_page}
 use Rattle.p25_filter.proofs.TracesLaws.{Came, Came-ended, Came-read_fault, Came-stopped, Came-too_long, Progress-moved, Progress-none, SoFar, SoFar-fed, SoFar-none, SoFar-over, SoFar-read, first-fed, first-read, settled}
 use Rattle.p25_filter.proofs.input.run_on.Goals as goal

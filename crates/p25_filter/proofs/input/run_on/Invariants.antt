@@ -1,6 +1,5 @@
 use Rattle.std.proofs.Common.{◌≡◌, ℕ, ◌-◌, ◌*◌, ◌≤◌, false, List, [], length}
-use Rattle.p25_filter.specs.Futures.{IsIdle, Progress}
-use Rattle.p25_filter.specs.Traces.{Going, standing_at}
+use Rattle.p25_filter.specs.{Futures.{IsIdle, Progress}, Traces.{Going, standing_at}}
 use Rattle.p25_filter.proofs.TracesLaws.{SoFar}
 use Rattle.p25_filter.proofs.input.run_on.Given as goal
 

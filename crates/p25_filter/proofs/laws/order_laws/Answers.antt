@@ -1,7 +1,6 @@
 use Rattle.std.proofs.Common.{arith, [], ◌∷◌}
 use Rattle.p25_io.specs.Events.{Read, Wrote}
-use Rattle.p25_filter.proofs.OrdersLaws.{no_read-ahead, no_read-after_end, nothing-after_read_fault, nothing-after_write_fault, read_fault-told, write_fault-told}
-use Rattle.p25_filter.proofs.TracesLaws.{IsLive-parts}
+use Rattle.p25_filter.proofs.{OrdersLaws.{no_read-ahead, no_read-after_end, nothing-after_read_fault, nothing-after_write_fault, read_fault-told, write_fault-told}, TracesLaws.{IsLive-parts}}
 use Rattle.p25_filter.specs.Traces.{at_first}
 use Rattle.p25_filter.proofs.laws.order_laws.Goals as goal
 

@@ -1,5 +1,4 @@
-use Rattle.std.proofs.Common.{◌==◌, ap, sym, arith}
-use Rattle.std.proofs.lemmas.List.Sums.{position_or_len_is}
+use Rattle.std.proofs.{Common.{◌==◌, ap, sym, arith}, lemmas.List.Sums.{position_or_len_is}}
 use Rattle.p25_filter.proofs.line_filter.line_length.Goals as goal
 
 pub returns-then-octets-i-eq10-clause-value : goal.returns-then-octets-i-eq10-clause-value

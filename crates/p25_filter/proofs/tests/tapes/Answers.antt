@@ -1,7 +1,5 @@
 use Rattle.std.proofs.Common.{false, refl, subst, sym}
-use Rattle.p25_filter.specs.Echoes.{echo_rules}
-use Rattle.p25_filter.specs.Futures.{IsIdle}
-use Rattle.p25_filter.specs.LineFilters.{LineFiltering, first_line, line_future}
+use Rattle.p25_filter.specs.{Echoes.{echo_rules}, Futures.{IsIdle}, LineFilters.{LineFiltering, first_line, line_future}}
 use Rattle.p25_filter.proofs.LineFiltersLaws.{step-idle}
 use Rattle.p25_filter.proofs.tests.tapes.Goals as goal
 

@@ -1,12 +1,8 @@
-use Rattle.std.proofs.Common.{◌≡◌, ℕ, ◌-◌, Bool, List, Option, Some, None, true, false, ◌++◌, ◌||◌, length, take, drop, ap, sym, subst, ◌∙◌, arith, length-drop}
+use Rattle.std.proofs.{Common.{◌≡◌, ℕ, ◌-◌, Bool, List, Option, Some, None, true, false, ◌++◌, ◌||◌, length, take, drop, ap, sym, subst, ◌∙◌, arith, length-drop}, Math.Seq.{take-length}}
 use Rattle.std.specs.Prelude.{IfSome, nat_le}
-use Rattle.std.proofs.Math.Seq.{take-length}
 use Rattle.p25_bch_nid.specs.declared.nid.Nid.{Nid}
-use Rattle.p25_follow.specs.Chains.{chain_by}
-use Rattle.p25_follow.specs.Expected.{name_of, names_of}
-use Rattle.p25_follow.specs.Following.{Follow, follow, left_of}
-use Rattle.p25_follow.proofs.ChainLaws.{left_of-none}
-use Rattle.p25_follow.proofs.ChainSteps.{chain-ended, chain-waits, left-waits}
+use Rattle.p25_follow.specs.{Chains.{chain_by}, Expected.{name_of, names_of}, Following.{Follow, follow, left_of}}
+use Rattle.p25_follow.proofs.{ChainLaws.{left_of-none}, ChainSteps.{chain-ended, chain-waits, left-waits}}
 use Rattle.p25_follow.proofs.chain.put_chain.Goals as goal
 
 -- what is written, and what is left, where the unit before is known

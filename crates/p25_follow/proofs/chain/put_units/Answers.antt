@@ -1,12 +1,8 @@
-use Rattle.std.proofs.Common.{◌≡◌, ℕ, ◌+◌, ◌-◌, Bool, List, Option, Some, None, true, false, ◌++◌, ◌||◌, length, drop, ap, ap₂, sym, subst, ◌∙◌, refl, arith, length-drop}
+use Rattle.std.proofs.{Common.{◌≡◌, ℕ, ◌+◌, ◌-◌, Bool, List, Option, Some, None, true, false, ◌++◌, ◌||◌, length, drop, ap, ap₂, sym, subst, ◌∙◌, refl, arith, length-drop}, lemmas.List.{drop-drop}}
 use Rattle.std.specs.Prelude.{nat_le}
-use Rattle.std.proofs.lemmas.List.{drop-drop}
 use Rattle.p25_bch_nid.specs.declared.nid.Nid.{Nid}
-use Rattle.p25_follow.specs.Chains.{chain_by}
-use Rattle.p25_follow.specs.Expected.{name_of, names_of}
-use Rattle.p25_follow.specs.Following.{Follow, left_of}
-use Rattle.p25_follow.proofs.ChainSteps.{chain-stepped, chain-stopped, left-stepped, left-stopped}
-use Rattle.p25_follow.proofs.StepLaws.{step_of-there}
+use Rattle.p25_follow.specs.{Chains.{chain_by}, Expected.{name_of, names_of}, Following.{Follow, left_of}}
+use Rattle.p25_follow.proofs.{ChainSteps.{chain-stepped, chain-stopped, left-stepped, left-stopped}, StepLaws.{step_of-there}}
 use Rattle.p25_follow.proofs.chain.put_units.Goals as goal
 
 abbrev pair : ℕ → ℕ → ℕ × ℕ

@@ -1,8 +1,6 @@
 use Rattle.std.proofs.Common.{◌≡◌, ◌+◌, ◌-◌, ◌*◌, ◌≤◌, ◌++◌, cond, drop, false, length}
 use Rattle.std.specs.Option.{is_some}
-use Rattle.p25_follow.specs.Chains.{chain_by}
-use Rattle.p25_follow.specs.Expected.{names_of}
-use Rattle.p25_follow.specs.Following.{left_of}
+use Rattle.p25_follow.specs.{Chains.{chain_by}, Expected.{names_of}, Following.{left_of}}
 use Rattle.p25_follow.proofs.chain.put_units.Given as goal
 
 abbrev pub invariant-loop-before : goal.invariant-loop-before

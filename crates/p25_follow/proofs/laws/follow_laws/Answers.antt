@@ -1,20 +1,9 @@
 use Rattle.std.proofs.Common.{◌≤◌, true, refl, arith}
 use Rattle.p25_follow.specs.Expected.{kind_length}
-use Rattle.p25_follow.proofs.ChainLaws.{chain-settles, chain_by-none, chain_by-step, chain_by-stop}
-use Rattle.p25_follow.proofs.CompleteLaws.{complete-in}
-use Rattle.p25_follow.proofs.FollowingLaws.{written-follows}
-use Rattle.p25_follow.proofs.FoundLaws.{written-found}
-use Rattle.p25_follow.proofs.FrontBitsLaws.{front-bits}
-use Rattle.p25_follow.proofs.KindLaws.{IsKind, expected-kinds, is_expected-all}
-use Rattle.p25_follow.proofs.LengthLaws.{length-follow_of}
-use Rattle.p25_follow.proofs.StepLaws.{step_of-append, step_of-there}
-use Rattle.p25_follow.proofs.StretchesLaws.{by-stretches}
-use Rattle.p25_follow.proofs.TellsLaws.{step-near, step-reads}
-use Rattle.p25_follow.proofs.NeverWorseLaws.{never-worse, second-nothing}
-use Rattle.p25_follow.proofs.PlaceLaws.{place-few}
-use Rattle.p25_follow.proofs.RepairLaws.{repair-before}
-use Rattle.p25_follow.proofs.SameUnitsLaws.{same-units}
-use Rattle.p25_follow.proofs.UnchangedLaws.{follow-untouched, rest-stays, symbol-stays}
+use Rattle.p25_follow.proofs.{ChainLaws.{chain-settles, chain_by-none, chain_by-step, chain_by-stop}, CompleteLaws.{complete-in}, FollowingLaws.{written-follows}, FoundLaws.{written-found}}
+use Rattle.p25_follow.proofs.{FrontBitsLaws.{front-bits}, KindLaws.{IsKind, expected-kinds, is_expected-all}, LengthLaws.{length-follow_of}, StepLaws.{step_of-append, step_of-there}}
+use Rattle.p25_follow.proofs.{StretchesLaws.{by-stretches}, TellsLaws.{step-near, step-reads}, NeverWorseLaws.{never-worse, second-nothing}, PlaceLaws.{place-few}, RepairLaws.{repair-before}}
+use Rattle.p25_follow.proofs.{SameUnitsLaws.{same-units}, UnchangedLaws.{follow-untouched, rest-stays, symbol-stays}}
 use Rattle.p25_follow.proofs.laws.follow_laws.Goals as goal
 
 pub returns-clause-length : goal.returns-clause-length

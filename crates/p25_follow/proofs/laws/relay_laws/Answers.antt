@@ -1,7 +1,4 @@
-use Rattle.p25_follow.proofs.FitLaws.{items-fit}
-use Rattle.p25_follow.proofs.RelayedLaws.{relayed-found}
-use Rattle.p25_follow.proofs.RelayedPlacesLaws.{relay-in-place, relay-keeps, relay-long}
-use Rattle.p25_follow.proofs.RelayedUnitsLaws.{relay-same}
+use Rattle.p25_follow.proofs.{FitLaws.{items-fit}, RelayedLaws.{relayed-found}, RelayedPlacesLaws.{relay-in-place, relay-keeps, relay-long}, RelayedUnitsLaws.{relay-same}}
 use Rattle.p25_follow.proofs.laws.relay_laws.Goals as goal
 
 pub returns : goal.returns

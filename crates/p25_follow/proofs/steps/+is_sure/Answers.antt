@@ -1,8 +1,6 @@
-use Rattle.std.proofs.Common.{◌≡◌, ◌∙◌, ◌-◌, ◌≤◌, ◌<◌, ℕ, Bool, List, ap, ap₂, sym, arith, drop, length, length-drop}
+use Rattle.std.proofs.{Common.{◌≡◌, ◌∙◌, ◌-◌, ◌≤◌, ◌<◌, ℕ, Bool, List, ap, ap₂, sym, arith, drop, length, length-drop}, lemmas.List.{drop-drop, drop_all}}
 use Rattle.std.specs.Option.{is_some}
-use Rattle.std.proofs.lemmas.List.{drop-drop, drop_all}
-use Rattle.p25_follow.specs.Expected.{name_of, names_of}
-use Rattle.p25_follow.specs.Steps.{is_sure}
+use Rattle.p25_follow.specs.{Expected.{name_of, names_of}, Steps.{is_sure}}
 use Rattle.p25_follow.proofs.LookSteps.{sure-after, sure-end, sure-fit, sure-no_links, sure-not_after, sure-short, sure-unfit, sure-unlinked}
 use Rattle.p25_follow.proofs.steps.+is_sure.Goals.{then-links-eq0-via-then-links-eq0, then-links-eq0-via-else-links-eq0+then-len-at-lt-LINK_LENGTH}
 use Rattle.p25_follow.proofs.steps.+is_sure.Goals as goal

@@ -1,10 +1,7 @@
-use Rattle.std.proofs.Common.{◌∙◌, ◌<◌, Bool, List, ap, sym, arith, drop, length, length-drop}
+use Rattle.std.proofs.{Common.{◌∙◌, ◌<◌, Bool, List, ap, sym, arith, drop, length, length-drop}, lemmas.List.{drop_all}}
 use Rattle.std.specs.Option.{is_some}
-use Rattle.std.proofs.lemmas.List.{drop_all}
-use Rattle.p25_follow.specs.Expected.{name_of, names_of}
-use Rattle.p25_follow.specs.Steps.{step_of}
-use Rattle.p25_follow.proofs.LookSteps.{step-fit, step-sure, step-unfit, step-unsure}
-use Rattle.p25_follow.proofs.StepLaws.{step_of-nil}
+use Rattle.p25_follow.specs.{Expected.{name_of, names_of}, Steps.{step_of}}
+use Rattle.p25_follow.proofs.{LookSteps.{step-fit, step-sure, step-unfit, step-unsure}, StepLaws.{step_of-nil}}
 use Rattle.p25_follow.proofs.steps.step.Goals as goal
 
 pub returns-then-len-at : goal.returns-then-len-at

@@ -1,9 +1,6 @@
 use Rattle.std.proofs.Common.{ℕ, ◌+◌, ◌≤◌, ◌&&◌, ◌∙◌, cond, true, false, refl, ap₂, arith, drop, length, length-drop}
 use Rattle.std.specs.Prelude.{nat_le}
-use Rattle.p25_follow.specs.declared.told.Look.{Look}
-use Rattle.p25_follow.specs.declared.told.Told.TheVariants.{Expected, Nothing}
-use Rattle.p25_follow.specs.Expected.{name_of}
-use Rattle.p25_follow.specs.Told.{told_near}
+use Rattle.p25_follow.specs.{declared.told.Look.{Look}, declared.told.Told.TheVariants.{Expected, Nothing}, Expected.{name_of}, Told.{told_near}}
 use Rattle.p25_follow.proofs.LookLaws.{look-far, look-near}
 use Rattle.p25_follow.proofs.told.look_among.Goals as goal
 

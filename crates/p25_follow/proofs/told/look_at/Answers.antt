@@ -1,9 +1,6 @@
 use Rattle.std.proofs.Common.{◌≤◌, ◌∙◌, true, false, refl, arith, drop, length, length-drop}
-use Rattle.p25_follow.specs.declared.told.Look.{Look}
-use Rattle.p25_follow.specs.declared.told.Told.TheVariants.{Nothing}
-use Rattle.p25_follow.specs.Expected.{name_of}
-use Rattle.p25_follow.proofs.LookLaws.{look-no_kinds, told-clear}
-use Rattle.p25_follow.proofs.ToldLaws.{told_of-short}
+use Rattle.p25_follow.specs.{declared.told.Look.{Look}, declared.told.Told.TheVariants.{Nothing}, Expected.{name_of}}
+use Rattle.p25_follow.proofs.{LookLaws.{look-no_kinds, told-clear}, ToldLaws.{told_of-short}}
 use Rattle.p25_follow.proofs.told.look_at.Goals as goal
 
 pub returns-then-len-at-lt-SENT_FRONT : goal.returns-then-len-at-lt-SENT_FRONT

@@ -1,5 +1,4 @@
-use Rattle.std.proofs.Common.{◌∙◌, ap, sym, arith, drop}
-use Rattle.std.proofs.lemmas.List.{take-take}
+use Rattle.std.proofs.{Common.{◌∙◌, ap, sym, arith, drop}, lemmas.List.{take-take}}
 use Rattle.p25_bits.specs.Distance.{distance_of}
 use Rattle.p25_status.specs.Sync.{sync_bits}
 use Rattle.p25_unit_front.proofs.FrontSteps.{window_bits}

@@ -1,5 +1,4 @@
-use Rattle.std.proofs.Common.{◌≡◌, length, ap, sym, ◌∙◌}
-use Rattle.std.proofs.lemmas.Bool.{eq-eqb, eqb-true, true≢false}
+use Rattle.std.proofs.{Common.{◌≡◌, length, ap, sym, ◌∙◌}, lemmas.Bool.{eq-eqb, eqb-true, true≢false}}
 use Rattle.p25_line.specs.LineReadings.{value_or_fault}
 use Rattle.p25_fragments.specs.declared.long_step.LongEvent.TheVariants.{Long}
 use Rattle.p25_fragment_script.proofs.LongReadSteps.{other_word, right_count, wrong_count}

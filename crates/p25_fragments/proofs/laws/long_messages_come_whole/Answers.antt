@@ -1,7 +1,5 @@
 use Rattle.p25_fragments.specs.LongState.{first_long}
-use Rattle.p25_fragments.proofs.LongRunLaws.{long-orderly, long-unrefused}
-use Rattle.p25_fragments.proofs.InnerRunLaws.{inner-run}
-use Rattle.p25_fragments.proofs.MarksLaws.{long-marked}
+use Rattle.p25_fragments.proofs.{LongRunLaws.{long-orderly, long-unrefused}, InnerRunLaws.{inner-run}, MarksLaws.{long-marked}}
 use Rattle.p25_fragments.proofs.laws.long_messages_come_whole.Goals as goal
 
 pub returns : goal.returns

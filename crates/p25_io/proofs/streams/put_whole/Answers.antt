@@ -1,5 +1,4 @@
-use Rattle.std.proofs.Common.{arith, length-drop}
-use Rattle.std.proofs.lemmas.List.{take_rest}
+use Rattle.std.proofs.{Common.{arith, length-drop}, lemmas.List.{take_rest}}
 use Rattle.p25_io.proofs.StreamsSteps.{Took-next}
 use Rattle.p25_io.proofs.streams.put_whole.Goals as goal
 

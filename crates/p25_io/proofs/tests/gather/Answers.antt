@@ -1,6 +1,4 @@
-use Rattle.std.proofs.Common.{◌≡◌, ℕ, ◌+◌, ◌-◌, ◌≤◌, List, ◌++◌, length, take, arith, sym, subst, ap, ◌∙◌, length-append, length-take}
-use Rattle.std.proofs.lemmas.List.{take-append-le}
-use Rattle.std.proofs.Math.Seq.{take-append-add}
+use Rattle.std.proofs.{Common.{◌≡◌, ℕ, ◌+◌, ◌-◌, ◌≤◌, List, ◌++◌, length, take, arith, sym, subst, ap, ◌∙◌, length-append, length-take}, lemmas.List.{take-append-le}, Math.Seq.{take-append-add}}
 use borrow.Rule.Slice.PartMut.{put_mid, post_of}
 use Rattle.p25_io.proofs.OctetsLaws.{Taken-same, Taken-trans}
 use Rattle.p25_io.proofs.tests.gather.Goals as goal

@@ -1,8 +1,6 @@
-use Rattle.std.proofs.Common.{◌≡◌, ℕ, ◌<◌, suc, List, ◌++◌, length, take, drop, get_or, arith, sym, ap, ◌∙◌, Result, Ok, Err, append_assoc, take-append-drop}
+use Rattle.std.proofs.{Common.{◌≡◌, ℕ, ◌<◌, suc, List, ◌++◌, length, take, drop, get_or, arith, sym, ap, ◌∙◌, Result, Ok, Err, append_assoc, take-append-drop}, lemmas.Grind.{flat_map-append}}
+use Rattle.std.proofs.{lemmas.List.Concat.{flat_map-cons}, Math.Seq.{drop-cons}}
 use Rattle.std.specs.Prelude.{flat_map, OnErr}
-use Rattle.std.proofs.lemmas.Grind.{flat_map-append}
-use Rattle.std.proofs.lemmas.List.Concat.{flat_map-cons}
-use Rattle.std.proofs.Math.Seq.{drop-cons}
 use Rattle.p25_io.proofs.OctetsLaws.{AppendedBeginning-same, AppendedBeginning-next, AppendedBeginning-longer}
 use Rattle.p25_io.proofs.tests.put_all.Goals as goal
 

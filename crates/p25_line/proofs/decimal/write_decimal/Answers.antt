@@ -1,7 +1,5 @@
-use Rattle.std.proofs.Common.{◌≡◌, ◌+◌, ◌-◌, decimal, arith, append_assoc, append-nil}
-use Rattle.std.proofs.lemmas.List.{drop_all}
-use Rattle.p25_line.proofs.PairLaws.{decimal_pair, length_pair}
-use Rattle.p25_line.proofs.DecimalLaws.{decimal_short}
+use Rattle.std.proofs.{Common.{◌≡◌, ◌+◌, ◌-◌, decimal, arith, append_assoc, append-nil}, lemmas.List.{drop_all}}
+use Rattle.p25_line.proofs.{PairLaws.{decimal_pair, length_pair}, DecimalLaws.{decimal_short}}
 use Rattle.p25_line.proofs.decimal.write_decimal.Goals as goal
 
 pub loop-left-init : goal.loop-left-init

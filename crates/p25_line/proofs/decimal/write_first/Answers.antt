@@ -1,6 +1,4 @@
-use Rattle.std.proofs.Common.{◌≡◌, ◌+◌, ◌-◌, arith}
-use Rattle.std.proofs.lemmas.Fmt.{decimal_digit}
-use Rattle.std.proofs.lemmas.List.{drop-set}
+use Rattle.std.proofs.{Common.{◌≡◌, ◌+◌, ◌-◌, arith}, lemmas.Fmt.{decimal_digit}, lemmas.List.{drop-set}}
 use Rattle.p25_line.proofs.PairLaws.{length_one, decimal_two, length_two}
 use Rattle.p25_line.proofs.decimal.write_first.Goals as goal
 

@@ -1,10 +1,9 @@
 use Rattle.std.proofs.Common.{◌≡◌, ◌*◌, true, length, sym, subst, ◌∙◌, arith}
 use Rattle.std.specs.List.{list_all}
 use Rattle.p25_line.specs.Values.{AllOctets, is_lower_digit}
-use Rattle.p25_line.proofs.HexLaws.{octets_of-facts}
-use Rattle.p25_line.proofs.ValuesSteps.{other-length, other-digits, decode_sized-word}
-use Rattle.p25_line.proofs.values.hex_value.Goals as goal
+use Rattle.p25_line.proofs.{HexLaws.{octets_of-facts}, ValuesSteps.{other-length, other-digits, decode_sized-word}}
 use Rattle.p25_line.proofs.values.hex_value.Goals.{then-word-out-via-then-word-out, then-word-out-via-else-word-out+then-not-is_lower_hex}
+use Rattle.p25_line.proofs.values.hex_value.Goals as goal
 
 pub returns-then-word-out-clause-refused : goal.returns-then-word-out-clause-refused
 returns-then-word-out-clause-refused c octets same fits text =

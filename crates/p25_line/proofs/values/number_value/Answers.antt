@@ -1,7 +1,6 @@
 use Rattle.std.proofs.Common.{◌≡◌, ◌^◌, ◌<◌, sym, ap, ◌∙◌, arith, decimal}
-use Rattle.p25_line.proofs.ValuesSteps.{decimal-utf8, parsed-number, equal-texts}
+use Rattle.p25_line.proofs.{ValuesSteps.{decimal-utf8, parsed-number, equal-texts}, values.number_value.Goals.{else-number-most-via-then-number-most+else-eq, else-number-most-via-else-number-most}}
 use Rattle.p25_line.proofs.values.number_value.Goals as goal
-use Rattle.p25_line.proofs.values.number_value.Goals.{else-number-most-via-then-number-most+else-eq, else-number-most-via-else-number-most}
 
 pub returns-in_default : goal.returns-in_default
 returns-in_default c number below text =

@@ -1,5 +1,4 @@
-use Rattle.std.proofs.Common.{◌≡◌, ◌/◌, ◌++◌, length, take, drop, Some, sym, ap, ◌∙◌, arith, length-take}
-use Rattle.std.proofs.lemmas.List.{take_all, take-append-le}
+use Rattle.std.proofs.{Common.{◌≡◌, ◌/◌, ◌++◌, length, take, drop, Some, sym, ap, ◌∙◌, arith, length-take}, lemmas.List.{take_all, take-append-le}}
 use Rattle.p25_line.proofs.OctetsLaws.{octets_up_to-digits, octets_up_to-none}
 use Rattle.p25_line.proofs.values.octets_or_dash.Goals as goal
 

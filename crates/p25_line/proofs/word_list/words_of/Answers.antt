@@ -1,7 +1,7 @@
 use Rattle.std.proofs.Common.{◌≡◌, ◌<◌, length, sym, ◌∙◌, arith}
 use Rattle.p25_line.proofs.WordsSteps.{Cut-space, Cut-printed, none-bad, none-end, answer-long, answer-form, answer-words}
-use Rattle.p25_line.proofs.word_list.words_of.Goals as goal
 use Rattle.p25_line.proofs.word_list.words_of.Goals.{then-octet-eq32+then-start-i, else-octet-eq32+else-not-is_ascii_graphic}
+use Rattle.p25_line.proofs.word_list.words_of.Goals as goal
 
 pub returns-then-line-gt-LINE_MOST : goal.returns-then-line-gt-LINE_MOST
 returns-then-line-gt-LINE_MOST c = answer-long c.args.line.now c.clear.new.self c.clear.ensures c.if-line-gt-LINE_MOST.true

@@ -1,7 +1,5 @@
-use Rattle.std.proofs.Common.{◌≡◌, take, rules, sym, ap, ◌∙◌, arith}
-use Rattle.std.proofs.lemmas.List.{take_all}
-use Rattle.p25_bits.specs.Bits.{bits_of}
-use Rattle.p25_bits.specs.Numbers.{octets_from}
+use Rattle.std.proofs.{Common.{◌≡◌, take, rules, sym, ap, ◌∙◌, arith}, lemmas.List.{take_all}}
+use Rattle.p25_bits.specs.{Bits.{bits_of}, Numbers.{octets_from}}
 use Rattle.p25_bits.proofs.NumbersLaws.{numbers_from-zero}
 use Rattle.p25_link.proofs.SymbolNumbersLaws.{octet_set}
 use Rattle.p25_link.proofs.symbols.first_octets.Goals as goal

@@ -1,6 +1,5 @@
 use Rattle.std.proofs.Common.{◌≡◌, length, take}
-use Rattle.p25_bits.specs.Bits.{bits_of}
-use Rattle.p25_bits.specs.Numbers.{octets_from}
+use Rattle.p25_bits.specs.{Bits.{bits_of}, Numbers.{octets_from}}
 use Rattle.p25_link.proofs.symbols.first_octets.Given as goal
 
 abbrev pub invariant-loop-i : goal.invariant-loop-i

@@ -1,5 +1,4 @@
-use Rattle.std.proofs.Common.{sym, subst, ap, ◌∙◌, ◌<◌, ◌^◌, ◌≡◌, take, arith}
-use Rattle.std.proofs.lemmas.List.{take_all}
+use Rattle.std.proofs.{Common.{sym, subst, ap, ◌∙◌, ◌<◌, ◌^◌, ◌≡◌, take, arith}, lemmas.List.{take_all}}
 use Rattle.p25_bits.specs.Bits.{field_of, octet_bits}
 use Rattle.p25_bits.proofs.BitsLaws.{field_of-nil, octet_bits-nil}
 use Rattle.p25_link.proofs.SymbolNumbersLaws.{octets-lt, octets_more, octets_small}

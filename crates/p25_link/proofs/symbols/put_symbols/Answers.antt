@@ -1,7 +1,6 @@
 use Rattle.std.proofs.Common.{◌≡◌, ◌*◌, false, true, arith, length, sym}
 use Rattle.p25_bits.specs.Bits.{bits_of}
-use Rattle.p25_link.proofs.SymbolsLaws.{symbols_in-none}
-use Rattle.p25_link.proofs.SymbolNumbersLaws.{symbol_made, symbol_number, symbol_set}
+use Rattle.p25_link.proofs.{SymbolsLaws.{symbols_in-none}, SymbolNumbersLaws.{symbol_made, symbol_number, symbol_set}}
 use Rattle.p25_link.proofs.symbols.put_symbols.Goals as goal
 
 pub loop-i-init : goal.loop-i-init

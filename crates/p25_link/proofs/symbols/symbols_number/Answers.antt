@@ -1,10 +1,8 @@
-use Rattle.std.proofs.Common.{length, refl, sym, subst, ap, ◌∙◌, ◌<◌, ◌^◌, ◌*◌, ◌≡◌, take, arith}
-use Rattle.std.proofs.lemmas.List.{take_all}
+use Rattle.std.proofs.{Common.{length, refl, sym, subst, ap, ◌∙◌, ◌<◌, ◌^◌, ◌*◌, ◌≡◌, take, arith}, lemmas.List.{take_all}}
 use Rattle.p25_bits.specs.Bits.{field_of}
 use Rattle.p25_bits.proofs.BitsLaws.{field_of-nil}
 use Rattle.p25_link.specs.Symbols.{symbol_bits}
-use Rattle.p25_link.proofs.SymbolsLaws.{symbol_bits-nil}
-use Rattle.p25_link.proofs.SymbolNumbersLaws.{number-lt, number_more, number_small}
+use Rattle.p25_link.proofs.{SymbolsLaws.{symbol_bits-nil}, SymbolNumbersLaws.{number-lt, number_more, number_small}}
 use Rattle.p25_link.proofs.symbols.symbols_number.Goals as goal
 
 pub loop-symbol-init : goal.loop-symbol-init

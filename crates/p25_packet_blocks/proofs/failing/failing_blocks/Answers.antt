@@ -1,6 +1,5 @@
 use Rattle.std.proofs.Common.{List, length, sym, ◌∙◌, ap}
-use Rattle.p25_packet_blocks.specs.declared.block.Slot.{Slot}
-use Rattle.p25_packet_blocks.specs.Outcomes.{failing_blocks_of, failing_slots_of}
+use Rattle.p25_packet_blocks.specs.{declared.block.Slot.{Slot}, Outcomes.{failing_blocks_of, failing_slots_of}}
 use Rattle.p25_packet_blocks.proofs.failing.failing_blocks.Goals as goal
 
 pub returns-in-Confirmed : goal.returns-in-Confirmed

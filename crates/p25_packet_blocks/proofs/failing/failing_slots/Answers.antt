@@ -1,8 +1,6 @@
-use Rattle.std.proofs.Common.{◌++◌, List, ap₂, sym, ◌∙◌, arith}
-use Rattle.std.proofs.lemmas.Option.{get_or_from_slice_get}
+use Rattle.std.proofs.{Common.{◌++◌, List, ap₂, sym, ◌∙◌, arith}, lemmas.Option.{get_or_from_slice_get}}
 use Rattle.p25_status.specs.declared.fields.Field.{Field}
-use Rattle.p25_packet_blocks.specs.declared.block.Slot.TheVariants.{Bad}
-use Rattle.p25_packet_blocks.specs.Outcomes.{failing_slot}
+use Rattle.p25_packet_blocks.specs.{declared.block.Slot.TheVariants.{Bad}, Outcomes.{failing_slot}}
 use Rattle.p25_packet_blocks.proofs.OutcomeLaws.{failing_slots_of-zero, failing_slots_of-more}
 use Rattle.p25_packet_blocks.proofs.failing.failing_slots.Goals as goal
 

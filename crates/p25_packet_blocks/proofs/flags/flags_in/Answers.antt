@@ -1,5 +1,4 @@
-use Rattle.std.proofs.Common.{◌≤◌, arith, Bool, List, ◌++◌, ap, sym, length, ◌∙◌, length-set}
-use Rattle.std.proofs.lemmas.List.{take_all}
+use Rattle.std.proofs.{Common.{◌≤◌, arith, Bool, List, ◌++◌, ap, sym, length, ◌∙◌, length-set}, lemmas.List.{take_all}}
 use Rattle.p25_bits.specs.Numbers.{number_bits}
 use Rattle.p25_bits.proofs.NumbersLaws.{number_bits-octets}
 use Rattle.p25_packet_blocks.proofs.FlagSteps.{same_flags_more}

@@ -1,10 +1,8 @@
-use Rattle.std.proofs.Common.{◌≡◌, ℕ, ◌/◌, ◌⊎◌, inl, inr, Bool, List, [], ◌∷◌, ◌++◌, length, ap, ap₂, sym, ◌∙◌, arith}
-use Rattle.std.proofs.lemmas.List.{length-take}
+use Rattle.std.proofs.{Common.{◌≡◌, ℕ, ◌/◌, ◌⊎◌, inl, inr, Bool, List, [], ◌∷◌, ◌++◌, length, ap, ap₂, sym, ◌∙◌, arith}, lemmas.List.{length-take}}
 use Rattle.p25_bits.specs.Numbers.{octets_from}
 use Rattle.p25_packet_blocks.specs.FlagOctets.{flags_of_octets}
-use Rattle.p25_packet_blocks.proofs.FlagLaws.{flag_octets-64, flag_octets-128, flags_of_octets-flag_octets}
+use Rattle.p25_packet_blocks.proofs.{FlagLaws.{flag_octets-64, flag_octets-128, flags_of_octets-flag_octets}, flags.flags_make.Goals.{After-len-2}}
 use Rattle.p25_packet_blocks.proofs.flags.flags_make.Goals as goal
-use Rattle.p25_packet_blocks.proofs.flags.flags_make.Goals.{After-len-2}
 
 -- the octets that were pushed, before any zeros
 pushed : (c : After-len-2) → c.push_octets.new.octets ≡ octets_from (length c.args.flags.now / 8) c.args.flags.now

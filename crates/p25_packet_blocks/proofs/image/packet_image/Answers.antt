@@ -2,10 +2,7 @@ use Rattle.std.proofs.Common.{◌≡◌, ◌-◌, ◌*◌, ◌++◌, Bool, false
 use Rattle.p25_bits.specs.Numbers.{joined_below}
 use Rattle.p25_unit_front.specs.Front.{unit_front}
 use Rattle.p25_trellis.specs.Nearest.{half_block}
-use Rattle.p25_packet_blocks.specs.Heads.{head_blocks}
-use Rattle.p25_packet_blocks.specs.Whole.{packet_head}
-use Rattle.p25_packet_blocks.specs.Lengths.{packet_bits, packet_bare_length}
-use Rattle.p25_packet_blocks.specs.Image.{header_octets, body_block, packet_image_of, packet_nulls}
+use Rattle.p25_packet_blocks.specs.{Heads.{head_blocks}, Whole.{packet_head}, Lengths.{packet_bits, packet_bare_length}, Image.{header_octets, body_block, packet_image_of, packet_nulls}}
 use Rattle.p25_packet_blocks.proofs.HeadLaws.{head_blocks-lt}
 use Rattle.p25_packet_blocks.proofs.image.packet_image.Goals as goal
 

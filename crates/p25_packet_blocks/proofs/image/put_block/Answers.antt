@@ -2,8 +2,7 @@ use Rattle.std.proofs.Common.{◌≡◌, ◌<◌, ◌^◌, ◌+◌, ◌*◌, Lis
 use Rattle.p25_crc.specs.Values.{crc9_of}
 use Rattle.p25_crc.proofs.ChecksLaws.{crc9_of-lt}
 use Rattle.p25_trellis.specs.Nearest.{three_quarter_block}
-use Rattle.p25_packet_blocks.proofs.ImageLaws.{confirmed_octets-is}
-use Rattle.p25_packet_blocks.proofs.ImageSteps.{put_two}
+use Rattle.p25_packet_blocks.proofs.{ImageLaws.{confirmed_octets-is}, ImageSteps.{put_two}}
 use Rattle.p25_packet_blocks.proofs.image.put_block.Goals as goal
 
 pub returns-clause-list : goal.returns-clause-list

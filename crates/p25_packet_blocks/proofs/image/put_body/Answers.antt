@@ -1,7 +1,5 @@
 use Rattle.std.proofs.Common.{sym, subst}
-use Rattle.p25_packet_blocks.specs.declared.packet.Packet.{Packet}
-use Rattle.p25_packet_blocks.specs.Whole.{packet_head, IsWholePacket}
-use Rattle.p25_packet_blocks.specs.Sendable.{IsHead, IsSendable}
+use Rattle.p25_packet_blocks.specs.{declared.packet.Packet.{Packet}, Whole.{packet_head, IsWholePacket}, Sendable.{IsHead, IsSendable}}
 use Rattle.p25_packet_blocks.proofs.image.put_body.Goals as goal
 
 pub put_confirmed-requires-clause-whole : goal.put_confirmed-requires-clause-whole

@@ -1,11 +1,6 @@
-use Rattle.std.proofs.Common.{◌<◌, length, ap, sym, ◌∙◌, arith}
-use Rattle.std.proofs.Common.{List, get_or}
-use Rattle.p25_packet_blocks.specs.declared.block.Slot.{Slot}
-use Rattle.p25_packet_blocks.specs.declared.block.Slot.TheVariants.{Bad}
-use Rattle.p25_packet_blocks.specs.declared.packet.Packet.TheVariants.{Confirmed}
-use Rattle.p25_packet_blocks.specs.Image.{body_block}
-use Rattle.p25_packet_blocks.proofs.ImageLaws.{body_block-confirmed}
-use Rattle.p25_packet_blocks.proofs.ImageSteps.{put_none, put_more, good_none, good_more, slot_at}
+use Rattle.std.proofs.Common.{◌<◌, length, ap, sym, ◌∙◌, arith, List, get_or}
+use Rattle.p25_packet_blocks.specs.{declared.block.Slot.{Slot}, declared.block.Slot.TheVariants.{Bad}, declared.packet.Packet.TheVariants.{Confirmed}, Image.{body_block}}
+use Rattle.p25_packet_blocks.proofs.{ImageLaws.{body_block-confirmed}, ImageSteps.{put_none, put_more, good_none, good_more, slot_at}}
 use Rattle.p25_packet_blocks.proofs.image.put_confirmed.Goals as goal
 
 pub loop-j-init : goal.loop-j-init

@@ -1,8 +1,6 @@
 use Rattle.std.proofs.Common.{◌≡◌, ◌++◌, ◌+◌, ◌*◌, length}
 use Rattle.p25_bits.specs.Numbers.{joined_below}
-use Rattle.p25_packet_blocks.specs.declared.packet.Packet.TheVariants.{Confirmed}
-use Rattle.p25_packet_blocks.specs.Image.{body_block}
-use Rattle.p25_packet_blocks.specs.Sendable.{AreDataBlocks}
+use Rattle.p25_packet_blocks.specs.{declared.packet.Packet.TheVariants.{Confirmed}, Image.{body_block}, Sendable.{AreDataBlocks}}
 use Rattle.p25_packet_blocks.proofs.image.put_confirmed.Given as goal
 
 abbrev pub invariant-loop-j : goal.invariant-loop-j

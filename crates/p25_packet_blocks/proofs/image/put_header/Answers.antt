@@ -1,8 +1,7 @@
 use Rattle.std.proofs.Common.{List, ℕ, ◌/◌, ◌%◌, [], ◌∷◌, ◌++◌, ap, ap₂, sym, ◌∙◌}
 use Rattle.p25_crc.proofs.ChecksLaws.{crc16_of-lt}
 use Rattle.p25_trellis.specs.Nearest.{half_block}
-use Rattle.p25_packet_blocks.proofs.ImageLaws.{header_octets-is}
-use Rattle.p25_packet_blocks.proofs.ImageSteps.{put_two}
+use Rattle.p25_packet_blocks.proofs.{ImageLaws.{header_octets-is}, ImageSteps.{put_two}}
 use Rattle.p25_crc.specs.Values.{crc16_of}
 use Rattle.p25_packet_blocks.proofs.image.put_header.Goals as goal
 

@@ -2,10 +2,8 @@ use Rattle.std.proofs.Common.{◌≡◌, ◌+◌, ◌-◌, ◌*◌, List, ℕ, �
 use Rattle.p25_crc.specs.Values.{crc32_of}
 use Rattle.p25_crc.proofs.ChecksLaws.{crc32_of-lt}
 use Rattle.p25_trellis.specs.Nearest.{half_block}
-use Rattle.p25_packet_blocks.specs.declared.packet.Packet.TheVariants.{Plain}
-use Rattle.p25_packet_blocks.specs.Image.{body_block}
-use Rattle.p25_packet_blocks.proofs.ImageLaws.{checked_octets-is, body_block-plain}
-use Rattle.p25_packet_blocks.proofs.ImageSteps.{put_four, put_none, put_more}
+use Rattle.p25_packet_blocks.specs.{declared.packet.Packet.TheVariants.{Plain}, Image.{body_block}}
+use Rattle.p25_packet_blocks.proofs.{ImageLaws.{checked_octets-is, body_block-plain}, ImageSteps.{put_four, put_none, put_more}}
 use Rattle.p25_packet_blocks.proofs.image.put_plain.Goals as goal
 
 pub loop-j-init : goal.loop-j-init

@@ -1,7 +1,6 @@
 use Rattle.std.proofs.Common.{◌≡◌, ◌++◌, ◌+◌, ◌*◌, length}
 use Rattle.p25_bits.specs.Numbers.{joined_below}
-use Rattle.p25_packet_blocks.specs.declared.packet.Packet.TheVariants.{Plain}
-use Rattle.p25_packet_blocks.specs.Image.{body_block}
+use Rattle.p25_packet_blocks.specs.{declared.packet.Packet.TheVariants.{Plain}, Image.{body_block}}
 use Rattle.p25_packet_blocks.proofs.image.put_plain.Given as goal
 
 abbrev pub invariant-loop-j : goal.invariant-loop-j

@@ -1,5 +1,4 @@
-use Rattle.p25_packet_blocks.proofs.RadiusLaws.{packet_within}
-use Rattle.p25_packet_blocks.proofs.SentLaws.{sent_within, sent_again}
+use Rattle.p25_packet_blocks.proofs.{RadiusLaws.{packet_within}, SentLaws.{sent_within, sent_again}}
 use Rattle.p25_packet_blocks.proofs.laws.packet_radius.Goals as goal
 
 pub returns-clause-plain : goal.returns-clause-plain

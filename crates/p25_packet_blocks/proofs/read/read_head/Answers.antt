@@ -1,5 +1,4 @@
-use Rattle.std.proofs.Common.{Err, ap, sym, ◌∙◌}
-use Rattle.std.proofs.lemmas.Result.{err_from_is_err_and}
+use Rattle.std.proofs.{Common.{Err, ap, sym, ◌∙◌}, lemmas.Result.{err_from_is_err_and}}
 use Rattle.p25_packet_blocks.proofs.OutcomeLaws.{head_reading_of-read, head_reading_of-unread}
 use Rattle.p25_packet_blocks.proofs.read.read_head.Goals as goal
 

@@ -1,13 +1,8 @@
 use Rattle.std.proofs.Common.{◌≡◌, ℕ, List, length, drop, Ok, ap, sym, ◌∙◌, arith}
-use Rattle.p25_bits.specs.Bits.{part}
-use Rattle.p25_bits.specs.Numbers.{octets_number}
+use Rattle.p25_bits.specs.{Bits.{part}, Numbers.{octets_number}}
 use Rattle.p25_crc.specs.Values.{crc16_of}
-use Rattle.p25_packet_blocks.specs.declared.head.PacketHead.{PacketHead}
-use Rattle.p25_packet_blocks.specs.declared.head.ReadHead.{ReadHead}
-use Rattle.p25_packet_blocks.specs.Reading.{head_from}
-use Rattle.p25_packet_blocks.proofs.OutcomeLaws.{IfOk-few, read_head_of-bad, read_head_of-good}
-use Rattle.p25_packet_blocks.proofs.ReadingLaws.{head_from-good, head_from-bad, length-half_octets}
-use Rattle.p25_packet_blocks.proofs.ReadingSteps.{number_of_two}
+use Rattle.p25_packet_blocks.specs.{declared.head.PacketHead.{PacketHead}, declared.head.ReadHead.{ReadHead}, Reading.{head_from}}
+use Rattle.p25_packet_blocks.proofs.{OutcomeLaws.{IfOk-few, read_head_of-bad, read_head_of-good}, ReadingLaws.{head_from-good, head_from-bad, length-half_octets}, ReadingSteps.{number_of_two}}
 use Rattle.p25_packet_blocks.proofs.read.read_header.Goals as goal
 
 pub returns-then-from_be_bytes-crc16-clause-read : goal.returns-then-from_be_bytes-crc16-clause-read

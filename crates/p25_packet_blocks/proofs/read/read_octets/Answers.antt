@@ -2,8 +2,7 @@ use Rattle.std.proofs.Common.{◌≡◌, ◌≤◌, ◌+◌, ◌*◌, ◌++◌, 
 use Rattle.p25_trellis.specs.Tables.{half_point}
 use Rattle.p25_trellis.proofs.NearestBlockLaws.{nearest_distance-le}
 use Rattle.p25_packet_blocks.specs.Reading.{octets_read, block_bits}
-use Rattle.p25_packet_blocks.proofs.FixesLaws.{blocks_distance-zero, blocks_distance-more, half_distance-le}
-use Rattle.p25_packet_blocks.proofs.ReadingLaws.{octets_read-zero, octets_read-more, length-half_octets}
+use Rattle.p25_packet_blocks.proofs.{FixesLaws.{blocks_distance-zero, blocks_distance-more, half_distance-le}, ReadingLaws.{octets_read-zero, octets_read-more, length-half_octets}}
 use Rattle.p25_packet_blocks.proofs.ReadingSteps.{octets_put}
 use Rattle.p25_packet_blocks.proofs.read.read_octets.Goals as goal
 

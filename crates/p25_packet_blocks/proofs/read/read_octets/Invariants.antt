@@ -1,6 +1,5 @@
 use Rattle.std.proofs.Common.{◌≡◌, ◌*◌, take}
-use Rattle.p25_packet_blocks.specs.Fixes.{half_distance}
-use Rattle.p25_packet_blocks.specs.Reading.{octets_read}
+use Rattle.p25_packet_blocks.specs.{Fixes.{half_distance}, Reading.{octets_read}}
 use Rattle.p25_packet_blocks.proofs.read.read_octets.Given as goal
 
 abbrev pub invariant-loop-j : goal.invariant-loop-j

@@ -1,9 +1,6 @@
-use Rattle.std.proofs.Common.{◌≤◌, Err, length, sym, ◌∙◌, arith, ap}
-use Rattle.std.proofs.lemmas.Result.{err_from_is_err_and}
-use Rattle.p25_packet_blocks.specs.Heads.{head_blocks}
-use Rattle.p25_packet_blocks.specs.Lengths.{packet_bits}
-use Rattle.p25_packet_blocks.proofs.OutcomeLaws.{head_reading_of-read, head_reading_of-unread}
-use Rattle.p25_packet_blocks.proofs.ReadingLaws.{packet_reading_of-bad, packet_reading_of-good, HasItsLength-head}
+use Rattle.std.proofs.{Common.{◌≤◌, Err, length, sym, ◌∙◌, arith, ap}, lemmas.Result.{err_from_is_err_and}}
+use Rattle.p25_packet_blocks.specs.{Heads.{head_blocks}, Lengths.{packet_bits}}
+use Rattle.p25_packet_blocks.proofs.{OutcomeLaws.{head_reading_of-read, head_reading_of-unread}, ReadingLaws.{packet_reading_of-bad, packet_reading_of-good, HasItsLength-head}}
 use Rattle.p25_packet_blocks.proofs.read.read_packet.Goals as goal
 
 pub returns-in_err-read : goal.returns-in_err-read

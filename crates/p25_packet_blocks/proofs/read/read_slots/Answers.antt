@@ -1,10 +1,8 @@
 use Rattle.std.proofs.Common.{◌++◌, ◌∷◌, [], List, refl, ap, ap₂, sym, ◌∙◌, arith}
-use Rattle.p25_packet_blocks.specs.declared.block.Slot.{Slot}
+use Rattle.p25_packet_blocks.specs.{declared.block.Slot.{Slot}, Reading.{slot_from, block_bits}}
 use Rattle.p25_trellis.specs.Tables.{three_quarter_point}
 use Rattle.p25_trellis.proofs.NearestBlockLaws.{nearest_distance-le}
-use Rattle.p25_packet_blocks.specs.Reading.{slot_from, block_bits}
-use Rattle.p25_packet_blocks.proofs.FixesLaws.{blocks_distance-zero, blocks_distance-more, three_quarter_distance-le}
-use Rattle.p25_packet_blocks.proofs.ReadingLaws.{slots_read-zero, slots_read-more}
+use Rattle.p25_packet_blocks.proofs.{FixesLaws.{blocks_distance-zero, blocks_distance-more, three_quarter_distance-le}, ReadingLaws.{slots_read-zero, slots_read-more}}
 use Rattle.p25_packet_blocks.proofs.read.read_slots.Goals as goal
 
 pub loop-j-init : goal.loop-j-init

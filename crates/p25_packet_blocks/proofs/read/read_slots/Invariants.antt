@@ -1,6 +1,5 @@
 use Rattle.std.proofs.Common.{◌≡◌, length}
-use Rattle.p25_packet_blocks.specs.Fixes.{three_quarter_distance}
-use Rattle.p25_packet_blocks.specs.Reading.{slots_read}
+use Rattle.p25_packet_blocks.specs.{Fixes.{three_quarter_distance}, Reading.{slots_read}}
 use Rattle.p25_packet_blocks.proofs.read.read_slots.Given as goal
 
 abbrev pub invariant-loop-j : goal.invariant-loop-j

@@ -1,8 +1,6 @@
-use Rattle.std.proofs.Common.{◌≡◌, ◌≤◌, ℕ, ◌+◌, ◌*◌, ◌/◌, ◌%◌, List, length, drop, slice_index, ap, ap₂, sym, ◌∙◌, arith, length-drop}
-use Rattle.std.proofs.lemmas.List.{take_all}
+use Rattle.std.proofs.{Common.{◌≡◌, ◌≤◌, ℕ, ◌+◌, ◌*◌, ◌/◌, ◌%◌, List, length, drop, slice_index, ap, ap₂, sym, ◌∙◌, arith, length-drop}, lemmas.List.{take_all}}
 use Rattle.p25_crc.specs.Values.{crc9_of}
-use Rattle.p25_packet_blocks.specs.Parts.{BlockParts}
-use Rattle.p25_packet_blocks.specs.declared.block.Slot.TheVariants.{Good}
+use Rattle.p25_packet_blocks.specs.{Parts.{BlockParts}, declared.block.Slot.TheVariants.{Good}}
 use Rattle.p25_packet_blocks.proofs.ReadingLaws.{slot_from-good, slot_from-bad}
 use Rattle.p25_packet_blocks.proofs.read.slot_in.Goals as goal
 

@@ -1,8 +1,5 @@
 use Rattle.std.proofs.Common.{◌≡◌, ◌≤◌, length, subst, arith}
-use Rattle.p25_packet_blocks.specs.declared.head.PacketHead.{PacketHead}
-use Rattle.p25_packet_blocks.specs.Heads.{head_blocks}
-use Rattle.p25_packet_blocks.specs.Lengths.{packet_bits}
-use Rattle.p25_packet_blocks.specs.Reading.{HasItsLength}
+use Rattle.p25_packet_blocks.specs.{declared.head.PacketHead.{PacketHead}, Heads.{head_blocks}, Lengths.{packet_bits}, Reading.{HasItsLength}}
 use Rattle.p25_packet_blocks.proofs.tests.read_whole.Goals as goal
 
 pub read_packet-requires-clause-blocks : goal.read_packet-requires-clause-blocks

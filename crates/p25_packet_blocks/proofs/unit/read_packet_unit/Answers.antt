@@ -1,5 +1,4 @@
-use Rattle.std.proofs.Common.{◌<◌, ◌≤◌, Err, take, ap, sym, ◌∙◌, arith}
-use Rattle.std.proofs.lemmas.Result.{err_from_is_err_and}
+use Rattle.std.proofs.{Common.{◌<◌, ◌≤◌, Err, take, ap, sym, ◌∙◌, arith}, lemmas.Result.{err_from_is_err_and}}
 use Rattle.p25_bits.specs.Distance.{distance_of}
 use Rattle.p25_status.specs.Sync.{sync_bits, sync_slack}
 use Rattle.p25_status.proofs.SyncLaws.{has_sync-yes, has_sync-no}

@@ -1,11 +1,6 @@
-use Rattle.std.proofs.Common.{◌≡◌, ℕ, ◌<◌, ◌≤◌, Bool, List, Ok, Err, length, take, ap, sym, subst, ◌∙◌, arith}
-use Rattle.std.proofs.lemmas.Result.{err_from_is_err_and}
+use Rattle.std.proofs.{Common.{◌≡◌, ℕ, ◌<◌, ◌≤◌, Bool, List, Ok, Err, length, take, ap, sym, subst, ◌∙◌, arith}, lemmas.Result.{err_from_is_err_and}}
 use Rattle.p25_status.specs.Woven.{bare_of}
-use Rattle.p25_packet_blocks.specs.Heads.{head_blocks}
-use Rattle.p25_packet_blocks.specs.Lengths.{packet_sent_length}
-use Rattle.p25_packet_blocks.specs.declared.head.ReadHead.{ReadHead}
-use Rattle.p25_packet_blocks.specs.Reading.{packet_of_head}
-use Rattle.p25_packet_blocks.specs.UnitReading.{sent_packet_of, sent_read_of}
+use Rattle.p25_packet_blocks.specs.{Heads.{head_blocks}, Lengths.{packet_sent_length}, declared.head.ReadHead.{ReadHead}, Reading.{packet_of_head}, UnitReading.{sent_packet_of, sent_read_of}}
 use Rattle.p25_packet_blocks.proofs.UnitLaws.{sent_head_of-read, sent_head_of-unread, sent_packet_of-bad, sent_packet_of-short, sent_packet_of-whole}
 use Rattle.p25_packet_blocks.proofs.unit.read_sent_packet.Goals as goal
 

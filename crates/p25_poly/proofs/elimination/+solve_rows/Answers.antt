@@ -1,5 +1,4 @@
-use Rattle.std.proofs.Common.{◌≡◌, length, arith}
-use Rattle.std.proofs.lemmas.List.{get_or_read, take_rest, length-set}
+use Rattle.std.proofs.{Common.{◌≡◌, length, arith}, lemmas.List.{get_or_read, take_rest, length-set}}
 use Rattle.p25_gf64.specs.Gf64.{gf64}
 use Rattle.p25_algebra.specs.Series.{coefficient}
 use Rattle.p25_poly.specs.LinearSystem.{blank_row}

@@ -1,9 +1,7 @@
-use Rattle.std.proofs.Common.{length, ◌∙◌, refl, arith}
-use Rattle.std.proofs.lemmas.List.{get_or-drop, take_rest}
+use Rattle.std.proofs.{Common.{length, ◌∙◌, refl, arith}, lemmas.List.{get_or-drop, take_rest}}
 use Rattle.p25_gf64.specs.Gf64.{gf64}
 use Rattle.p25_algebra.specs.Series.{coefficient}
-use Rattle.p25_poly.proofs.CoefficientLaws.{coefficient_past}
-use Rattle.p25_poly.proofs.EuclidSteps.{pair_first, pair_key}
+use Rattle.p25_poly.proofs.{CoefficientLaws.{coefficient_past}, EuclidSteps.{pair_first, pair_key}}
 use Rattle.p25_poly.proofs.key.key_solve.Goals as goal
 
 pub loop-back-init : goal.loop-back-init

@@ -1,5 +1,4 @@
-use Rattle.std.proofs.Common.{◌∙◌, arith}
-use Rattle.std.proofs.lemmas.Bool.{iff_false}
+use Rattle.std.proofs.{Common.{◌∙◌, arith}, lemmas.Bool.{iff_false}}
 use Rattle.p25_poly.proofs.EuclidSteps.{pair_reduced, pair_swapped}
 use Rattle.p25_poly.proofs.key.step.Goals as goal
 

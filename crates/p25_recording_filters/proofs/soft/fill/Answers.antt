@@ -1,8 +1,7 @@
 use Rattle.std.proofs.Common.{◌≡◌, ◌≢◌, ◌+◌, ◌-◌, ◌%◌, ◌^◌, ◌<◌, [], ◌∷◌, ◌++◌, List, length, replicate, refl, ap, sym, ◌∙◌, arith, append_assoc, append-nil, length-append, ℤ, pos}
 use Rattle.std.proofs.lemmas.List.{replicate-append-replicate}
 use Rattle.p25_stream.specs.Scan.{Scan, given}
-use Rattle.p25_recording_filters.specs.SoftLevels.{filled}
-use Rattle.p25_recording_filters.specs.Softs.{first_level}
+use Rattle.p25_recording_filters.specs.{SoftLevels.{filled}, Softs.{first_level}}
 use Rattle.p25_recording_filters.proofs.soft.fill.Goals as goal
 
 pub loop-filled-init : goal.loop-filled-init

@@ -1,5 +1,4 @@
-use Rattle.std.proofs.Common.{rules, get_or, refl, ap, ◌∙◌, FitsSigned, w8, pos}
-use Rattle.std.proofs.lemmas.Int.{to_z-of_z}
+use Rattle.std.proofs.{Common.{rules, get_or, refl, ap, ◌∙◌, FitsSigned, w8, pos}, lemmas.Int.{to_z-of_z}}
 use Rattle.p25_soft.specs.Levels.{hard_dibit}
 use Rattle.p25_recording_filters.proofs.SoftHearingLaws.{group-bits}
 use Rattle.p25_recording_filters.proofs.soft.group_octet.Goals as goal

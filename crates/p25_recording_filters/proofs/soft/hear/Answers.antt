@@ -2,9 +2,7 @@ use Rattle.std.proofs.Common.{◌≡◌, ◌≢◌, ◌-◌, ◌%◌, [], ◌∷
 use Rattle.p25_bits.specs.Bits.{bits_of, part}
 use Rattle.p25_soft.specs.Levels.{hard_bits}
 use Rattle.p25_recording_filters.specs.Softs.{IsHolding}
-use Rattle.p25_recording_filters.proofs.SoftLevelsLaws.{length-grouped}
-use Rattle.p25_recording_filters.proofs.SoftItemLaws.{length-held}
-use Rattle.p25_recording_filters.proofs.SoftHearingLaws.{holding-group, holding-open}
+use Rattle.p25_recording_filters.proofs.{SoftLevelsLaws.{length-grouped}, SoftItemLaws.{length-held}, SoftHearingLaws.{holding-group, holding-open}}
 use Rattle.p25_recording_filters.proofs.soft.hear.Goals as goal
 
 pub push-requires : goal.push-requires

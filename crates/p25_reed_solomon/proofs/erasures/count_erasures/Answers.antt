@@ -1,8 +1,7 @@
 use Rattle.std.proofs.Common.{◌≡◌, suc, ◌+◌, sym, subst, arith}
 use Rattle.p25_reed_solomon.specs.Errors.{erased_below}
-use Rattle.p25_reed_solomon.proofs.ErasuresLaws.{erased_below-none, erased_below-gone, erased_below-kept}
+use Rattle.p25_reed_solomon.proofs.{ErasuresLaws.{erased_below-none, erased_below-gone, erased_below-kept}, erasures.count_erasures.Goals.{then-gone, else-gone}}
 use Rattle.p25_reed_solomon.proofs.erasures.count_erasures.Goals as goal
-use Rattle.p25_reed_solomon.proofs.erasures.count_erasures.Goals.{then-gone, else-gone}
 
 pub loop-gone-init : goal.loop-gone-init
 loop-gone-init c = (sym (erased_below-none c.args.erased.now), omega arith)

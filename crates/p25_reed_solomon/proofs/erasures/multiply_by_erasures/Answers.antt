@@ -1,11 +1,10 @@
 use Rattle.std.proofs.Common.{◌≡◌, ℕ, suc, ◌+◌, List, length, ap, sym, ◌∙◌, arith}
-use Rattle.p25_gf64.specs.declared.symbol.Sym.{Sym}
-use Rattle.p25_gf64.specs.Gf64.{gf64}
+use Rattle.p25_gf64.specs.{declared.symbol.Sym.{Sym}, Gf64.{gf64}}
 use Rattle.p25_algebra.specs.Series.{coefficient, times_linear}
 use Rattle.p25_reed_solomon.specs.Locator.{times_erasures}
 use Rattle.p25_reed_solomon.proofs.ErasuresLaws.{times_erasures-without, times_erasures-none, times_erasures-gone, times_erasures-kept, times_linear_agree}
-use Rattle.p25_reed_solomon.proofs.erasures.multiply_by_erasures.Goals as goal
 use Rattle.p25_reed_solomon.proofs.erasures.multiply_by_erasures.Goals.{then-erased-j, else-erased-j}
+use Rattle.p25_reed_solomon.proofs.erasures.multiply_by_erasures.Goals as goal
 
 pub returns-then-count_erasures-eq0 : goal.returns-then-count_erasures-eq0
 returns-then-count_erasures-eq0 c =

@@ -1,6 +1,4 @@
-use Rattle.std.proofs.Common.{◌≡◌, ℕ, List, ◌+◌, ◌≤◌, ◌<◌, length, take, ap, sym, subst, ◌∙◌, arith}
-use Rattle.std.proofs.lemmas.Bool.{both_ways}
-use Rattle.std.proofs.lemmas.List.{get_or-take, length-take}
+use Rattle.std.proofs.{Common.{◌≡◌, ℕ, List, ◌+◌, ◌≤◌, ◌<◌, length, take, ap, sym, subst, ◌∙◌, arith}, lemmas.Bool.{both_ways}, lemmas.List.{get_or-take, length-take}}
 use Rattle.p25_gf64.specs.Gf64.{gf64}
 use Rattle.p25_algebra.specs.Series.{coefficient}
 use Rattle.p25_reed_solomon.specs.Errors.{AreZeros}

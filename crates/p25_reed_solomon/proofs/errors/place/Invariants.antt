@@ -1,7 +1,6 @@
 use Rattle.std.proofs.Common.{◌≡◌, ℕ, ◌<◌, cond, eqb, get_or, length}
 use Rattle.p25_gf64.specs.Gf64.{gf64}
-use Rattle.p25_algebra.specs.Sums.{sum_below}
-use Rattle.p25_algebra.specs.Series.{coefficient}
+use Rattle.p25_algebra.specs.{Sums.{sum_below}, Series.{coefficient}}
 use Rattle.p25_reed_solomon.proofs.errors.place.Given as goal
 
 abbrev pub invariant-loop-symbol : goal.invariant-loop-symbol

@@ -1,7 +1,5 @@
-use Rattle.std.proofs.Common.{◌≡◌, ℕ, ◌≤◌, [], ◌∷◌, length, ◌∙◌, sym, arith}
-use Rattle.std.proofs.lemmas.Bool.{eqb-true}
-use Rattle.p25_gf64.specs.declared.symbol.Sym.{Sym}
-use Rattle.p25_gf64.specs.Gf64.{gf64}
+use Rattle.std.proofs.{Common.{◌≡◌, ℕ, ◌≤◌, [], ◌∷◌, length, ◌∙◌, sym, arith}, lemmas.Bool.{eqb-true}}
+use Rattle.p25_gf64.specs.{declared.symbol.Sym.{Sym}, Gf64.{gf64}}
 use Rattle.p25_gf64.proofs.SymbolLaws.{one_made}
 use Rattle.p25_algebra.specs.Series.{coefficient}
 use Rattle.p25_poly.proofs.CoefficientLaws.{coefficient_past}

@@ -1,7 +1,5 @@
-use Rattle.std.proofs.Common.{◌≡◌, suc, ◌+◌, ◌-◌, ◌/◌, List, length, get_or, ap, ◌∙◌, refl, arith, ◌≤◌}
-use Rattle.std.proofs.lemmas.List.{get_or_default}
-use Rattle.p25_gf64.specs.declared.symbol.Sym.{Sym}
-use Rattle.p25_gf64.specs.Gf64.{gf64}
+use Rattle.std.proofs.{Common.{◌≡◌, suc, ◌+◌, ◌-◌, ◌/◌, List, length, get_or, ap, ◌∙◌, refl, arith, ◌≤◌}, lemmas.List.{get_or_default}}
+use Rattle.p25_gf64.specs.{declared.symbol.Sym.{Sym}, Gf64.{gf64}}
 use Rattle.p25_algebra.specs.Series.{coefficient}
 use Rattle.p25_reed_solomon.specs.Locator.{times_erasures, IsLocator}
 use Rattle.p25_reed_solomon.proofs.LocatorLaws.{located, located_first, evaluator_step}

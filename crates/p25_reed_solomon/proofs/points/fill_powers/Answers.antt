@@ -1,10 +1,6 @@
-use Rattle.std.proofs.Common.{◌≡◌, suc, ◌+◌, ap, ap₂, sym, ◌∙◌, inl, inr, arith}
-use Rattle.std.proofs.lemmas.Bool.{cases_eq}
-use Rattle.p25_gf64.specs.Field.{power}
-use Rattle.p25_gf64.specs.Symbol.{alpha}
-use Rattle.p25_gf64.specs.Gf64.{gf64}
-use Rattle.p25_gf64.proofs.FieldLaws.{mul_comm}
-use Rattle.p25_gf64.proofs.PowerLaws.{power-one, power-suc}
+use Rattle.std.proofs.{Common.{◌≡◌, suc, ◌+◌, ap, ap₂, sym, ◌∙◌, inl, inr, arith}, lemmas.Bool.{cases_eq}}
+use Rattle.p25_gf64.specs.{Field.{power}, Symbol.{alpha}, Gf64.{gf64}}
+use Rattle.p25_gf64.proofs.{FieldLaws.{mul_comm}, PowerLaws.{power-one, power-suc}}
 use Rattle.p25_poly.proofs.CoefficientLaws.{written_at, written_elsewhere}
 use Rattle.p25_reed_solomon.proofs.points.fill_powers.Goals as goal
 

@@ -1,7 +1,5 @@
 use Rattle.std.proofs.Common.{◌≡◌, ℕ, ◌+◌, ◌<◌}
-use Rattle.p25_gf64.specs.Field.{power}
-use Rattle.p25_gf64.specs.Symbol.{alpha}
-use Rattle.p25_gf64.specs.Gf64.{gf64}
+use Rattle.p25_gf64.specs.{Field.{power}, Symbol.{alpha}, Gf64.{gf64}}
 use Rattle.p25_algebra.specs.Series.{coefficient}
 use Rattle.p25_reed_solomon.proofs.points.fill_powers.Given as goal
 

@@ -1,15 +1,9 @@
-use Rattle.std.proofs.Common.{◌≡◌, ℕ, ◌-◌, length, ap, sym, ◌∙◌, subst, refl, inl, inr, arith}
-use Rattle.std.proofs.lemmas.Bool.{both_ways, cases_lt}
-use Rattle.std.proofs.lemmas.List.{get_or-take, length-take}
+use Rattle.std.proofs.{Common.{◌≡◌, ℕ, ◌-◌, length, ap, sym, ◌∙◌, subst, refl, inl, inr, arith}, lemmas.Bool.{both_ways, cases_lt}, lemmas.List.{get_or-take, length-take}}
 use Rattle.p25_bits.proofs.DistanceLaws.{distance_by-same}
-use Rattle.p25_gf64.specs.declared.symbol.Sym.{Sym}
-use Rattle.p25_gf64.specs.Gf64.{gf64}
-use Rattle.p25_algebra.specs.Sums.{nonzeros}
-use Rattle.p25_algebra.specs.Series.{coefficient}
+use Rattle.p25_gf64.specs.{declared.symbol.Sym.{Sym}, Gf64.{gf64}}
+use Rattle.p25_algebra.specs.{Sums.{nonzeros}, Series.{coefficient}}
 use Rattle.p25_code.specs.Erasures.{without_erased, erased_cost, IsErasedReading}
-use Rattle.p25_reed_solomon.specs.Words.{same_symbols}
-use Rattle.p25_reed_solomon.specs.Errors.{erased_below, Explains}
-use Rattle.p25_reed_solomon.specs.DistanceLaws.{same_symbols-same}
+use Rattle.p25_reed_solomon.specs.{Words.{same_symbols}, Errors.{erased_below, Explains}, DistanceLaws.{same_symbols-same}}
 use Rattle.p25_reed_solomon.proofs.ReaderLaws.{difference_explains, cost_of_errors, cost_of_received, cost_of_erasures, corrected, changed_letters, without_errors}
 use Rattle.p25_reed_solomon.proofs.reader.read_erased.Goals as goal
 

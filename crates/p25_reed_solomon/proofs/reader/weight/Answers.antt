@@ -1,11 +1,8 @@
-use Rattle.std.proofs.Common.{sym, ◌∙◌, arith}
-use Rattle.std.proofs.lemmas.Bool.{iff_false}
-use Rattle.std.proofs.lemmas.List.{get_or_default}
+use Rattle.std.proofs.{Common.{sym, ◌∙◌, arith}, lemmas.Bool.{iff_false}, lemmas.List.{get_or_default}}
 use Rattle.p25_gf64.specs.Gf64.{gf64}
 use Rattle.p25_algebra.specs.Series.{coefficient}
-use Rattle.p25_reed_solomon.proofs.ErrorsLaws.{nonzeros-none, nonzeros_some, nonzeros_skip}
+use Rattle.p25_reed_solomon.proofs.{ErrorsLaws.{nonzeros-none, nonzeros_some, nonzeros_skip}, reader.weight.Goals.{then-not-is_zero, else-not-is_zero}}
 use Rattle.p25_reed_solomon.proofs.reader.weight.Goals as goal
-use Rattle.p25_reed_solomon.proofs.reader.weight.Goals.{then-not-is_zero, else-not-is_zero}
 
 pub loop-symbol-init : goal.loop-symbol-init
 loop-symbol-init c = (sym (nonzeros-none (coefficient gf64 c.args.symbols.now)), omega arith)

@@ -1,12 +1,7 @@
-use Rattle.std.proofs.Common.{◌+◌, List, length, get_or, ap, ap₂, sym, ◌∙◌, inl, inr, arith}
-use Rattle.std.proofs.lemmas.Bool.{cases_eq, iff_false}
-use Rattle.std.proofs.lemmas.List.{get_or_default}
-use Rattle.p25_gf64.specs.declared.symbol.Sym.{Sym}
-use Rattle.p25_gf64.specs.Gf64.{gf64}
-use Rattle.p25_gf64.proofs.FieldLaws.{add_self, mul_one, same_from_sum}
-use Rattle.p25_gf64.proofs.PowerLaws.{power-zero}
-use Rattle.p25_algebra.specs.Sums.{power_sum}
-use Rattle.p25_algebra.specs.Series.{coefficient}
+use Rattle.std.proofs.{Common.{◌+◌, List, length, get_or, ap, ap₂, sym, ◌∙◌, inl, inr, arith}, lemmas.Bool.{cases_eq, iff_false}, lemmas.List.{get_or_default}}
+use Rattle.p25_gf64.specs.{declared.symbol.Sym.{Sym}, Gf64.{gf64}}
+use Rattle.p25_gf64.proofs.{FieldLaws.{add_self, mul_one, same_from_sum}, PowerLaws.{power-zero}}
+use Rattle.p25_algebra.specs.{Sums.{power_sum}, Series.{coefficient}}
 use Rattle.p25_reed_solomon.specs.Errors.{element_of}
 use Rattle.p25_reed_solomon.proofs.ListLaws.{sum_of_terms, term_next}
 use Rattle.p25_reed_solomon.proofs.sums.are_sums.Goals as goal

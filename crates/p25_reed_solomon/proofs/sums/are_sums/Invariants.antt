@@ -1,8 +1,6 @@
 use Rattle.std.proofs.Common.{◌≡◌, ℕ, ◌+◌, ◌<◌, get_or, length}
-use Rattle.p25_gf64.specs.Field.{power}
-use Rattle.p25_gf64.specs.Gf64.{gf64}
-use Rattle.p25_algebra.specs.Sums.{power_sum}
-use Rattle.p25_algebra.specs.Series.{coefficient}
+use Rattle.p25_gf64.specs.{Field.{power}, Gf64.{gf64}}
+use Rattle.p25_algebra.specs.{Sums.{power_sum}, Series.{coefficient}}
 use Rattle.p25_reed_solomon.specs.Errors.{element_of}
 use Rattle.p25_reed_solomon.proofs.sums.are_sums.Given as goal
 

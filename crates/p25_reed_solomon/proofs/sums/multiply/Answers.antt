@@ -1,5 +1,4 @@
-use Rattle.std.proofs.Common.{ap₂, sym, ◌∙◌, inl, inr, arith}
-use Rattle.std.proofs.lemmas.Bool.{cases_lt}
+use Rattle.std.proofs.{Common.{ap₂, sym, ◌∙◌, inl, inr, arith}, lemmas.Bool.{cases_lt}}
 use Rattle.p25_gf64.specs.Gf64.{gf64}
 use Rattle.p25_gf64.proofs.FieldLaws.{mul_zero}
 use Rattle.p25_poly.proofs.CoefficientLaws.{coefficient_past}

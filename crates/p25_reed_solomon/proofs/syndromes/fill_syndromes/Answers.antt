@@ -1,7 +1,5 @@
 use Rattle.std.proofs.Common.{◌≡◌, suc, ◌+◌, sym, ap, ap₂, ◌∙◌, arith}
-use Rattle.p25_gf64.specs.Field.{power}
-use Rattle.p25_gf64.specs.Symbol.{alpha}
-use Rattle.p25_gf64.specs.Gf64.{gf64}
+use Rattle.p25_gf64.specs.{Field.{power}, Symbol.{alpha}, Gf64.{gf64}}
 use Rattle.p25_algebra.specs.Series.{coefficient}
 use Rattle.p25_algebra.proofs.SumLaws.{sum-none}
 use Rattle.p25_poly.proofs.CoefficientLaws.{coefficient_read}

@@ -1,5 +1,4 @@
-use Rattle.std.proofs.Common.{◌-◌, length, ap₂, sym, ◌∙◌, arith}
-use Rattle.std.proofs.lemmas.List.{length-replicate}
+use Rattle.std.proofs.{Common.{◌-◌, length, ap₂, sym, ◌∙◌, arith}, lemmas.List.{length-replicate}}
 use Rattle.p25_gf64.specs.Gf64.{gf64}
 use Rattle.p25_algebra.specs.Series.{coefficient, rest_at}
 use Rattle.p25_poly.proofs.CoefficientLaws.{coefficient_blank, coefficient_read, horner_step}

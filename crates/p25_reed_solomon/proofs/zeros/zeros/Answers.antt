@@ -1,12 +1,9 @@
-use Rattle.std.proofs.Common.{◌+◌, ℕ, List, length, ap, sym, ◌∙◌, subst, arith}
-use Rattle.std.proofs.lemmas.Bool.{iff_false}
-use Rattle.std.proofs.lemmas.List.{get_or_default}
+use Rattle.std.proofs.{Common.{◌+◌, ℕ, List, length, ap, sym, ◌∙◌, subst, arith}, lemmas.Bool.{iff_false}, lemmas.List.{get_or_default}}
 use Rattle.p25_gf64.specs.Gf64.{gf64}
 use Rattle.p25_algebra.specs.Series.{coefficient, value_at}
 use Rattle.p25_reed_solomon.specs.Errors.{AreZeros}
-use Rattle.p25_reed_solomon.proofs.ZerosSteps.{AreZeros-few, AreZeros-none, AreZeros-push, AreZeros-skip}
+use Rattle.p25_reed_solomon.proofs.{ZerosSteps.{AreZeros-few, AreZeros-none, AreZeros-push, AreZeros-skip}, zeros.zeros.Goals.{then-is_zero, else-is_zero}}
 use Rattle.p25_reed_solomon.proofs.zeros.zeros.Goals as goal
-use Rattle.p25_reed_solomon.proofs.zeros.zeros.Goals.{then-is_zero, else-is_zero}
 
 pub loop-j-init : goal.loop-j-init
 loop-j-init c = subst (λ (ps : List ℕ). AreZeros c.args.n c.args.polynomial.now 0 ps) (sym c.new-places.ensures) (AreZeros-none c.args.n c.args.polynomial.now)

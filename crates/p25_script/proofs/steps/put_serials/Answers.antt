@@ -2,9 +2,8 @@ use Rattle.std.proofs.Common.{◌≡◌, ◌++◌, Some, length, decimal, sym, a
 use Rattle.p25_bits.specs.Numbers.{joined_below}
 use Rattle.p25_line.specs.CommaLists.{comma_text}
 use Rattle.p25_script.specs.StepTexts.{serial_at, serials_of}
-use Rattle.p25_script.proofs.TextSteps.{serial-stands, serial-text, serials-none, serials-same, stands}
+use Rattle.p25_script.proofs.{TextSteps.{serial-stands, serial-text, serials-none, serials-same, stands}, steps.put_serials.Goals.{then-get, else-get}}
 use Rattle.p25_script.proofs.steps.put_serials.Goals as goal
-use Rattle.p25_script.proofs.steps.put_serials.Goals.{then-get, else-get}
 
 pub loop-serial-init : goal.loop-serial-init
 loop-serial-init c = record {

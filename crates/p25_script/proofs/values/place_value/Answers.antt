@@ -1,5 +1,4 @@
-use Rattle.std.proofs.Common.{length, sym, ap, ◌∙◌, arith}
-use Rattle.std.proofs.lemmas.Fmt.{decimal_nonempty}
+use Rattle.std.proofs.{Common.{length, sym, ap, ◌∙◌, arith}, lemmas.Fmt.{decimal_nonempty}}
 use Rattle.p25_script.specs.Values.{place_in}
 use Rattle.p25_line.proofs.NumberLaws.{number_below-none}
 use Rattle.p25_script.proofs.ValueLaws.{place_in-decimal}

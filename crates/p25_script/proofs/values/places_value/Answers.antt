@@ -1,8 +1,7 @@
 use Rattle.std.proofs.Common.{◌≡◌, ◌+◌, ◌<◌, ◌≤◌, [], ◌∷◌, ◌++◌, length, sym, ap, subst, ◌∙◌, arith}
 use Rattle.p25_script.specs.Values.{is_ascending, place_in}
 use Rattle.p25_line.proofs.CommaReadLaws.{EntriesSoFar, EntriesSoFar-more, EntriesSoFar-start}
-use Rattle.p25_script.proofs.PlacesLaws.{below_next, is_ascending-push, next_place, next_place-push}
-use Rattle.p25_script.proofs.PlacesSteps.{places_in-end, places_in-low}
+use Rattle.p25_script.proofs.{PlacesLaws.{below_next, is_ascending-push, next_place, next_place-push}, PlacesSteps.{places_in-end, places_in-low}}
 use Rattle.p25_script.proofs.values.places_value.Goals as goal
 
 pub loop-start-init : goal.loop-start-init

@@ -1,5 +1,4 @@
-use Rattle.p25_trellis.specs.Nearest.{nearest_octets, nearest_distance}
-use Rattle.p25_trellis.specs.Tables.{half_point}
+use Rattle.p25_trellis.specs.{Nearest.{nearest_octets, nearest_distance}, Tables.{half_point}}
 use Rattle.p25_show.proofs.ReadingsLaws.{block-read}
 use Rattle.p25_show.proofs.laws.half_blocks.Goals as goal
 

@@ -1,5 +1,4 @@
-use Rattle.p25_show.proofs.NeedsLaws.{need-at}
-use Rattle.p25_show.proofs.ReadingsLaws.{checks-made, codes-read, identifier-read, unit-read}
+use Rattle.p25_show.proofs.{NeedsLaws.{need-at}, ReadingsLaws.{checks-made, codes-read, identifier-read, unit-read}}
 use Rattle.p25_show.proofs.laws.reading_laws.Goals as goal
 
 pub returns : goal.returns

@@ -1,5 +1,4 @@
-use Rattle.p25_trellis.specs.Nearest.{nearest_octets, nearest_distance}
-use Rattle.p25_trellis.specs.Tables.{three_quarter_point}
+use Rattle.p25_trellis.specs.{Nearest.{nearest_octets, nearest_distance}, Tables.{three_quarter_point}}
 use Rattle.p25_show.proofs.ReadingsLaws.{block-read}
 use Rattle.p25_show.proofs.laws.three_quarter_blocks.Goals as goal
 

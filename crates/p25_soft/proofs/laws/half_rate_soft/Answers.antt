@@ -1,9 +1,7 @@
 use Rattle.std.proofs.Common.{◌≡◌, ◌*◌, ◌<◌, length, refl, arith}
 use Rattle.p25_bits.proofs.DistanceLaws.{distance_of-same}
-use Rattle.p25_trellis.proofs.ApartLaws.{length-block}
-use Rattle.p25_trellis.proofs.NearestLaws.{IsBlock-block_from}
-use Rattle.p25_trellis.specs.Nearest.{half_block}
-use Rattle.p25_trellis.specs.Tables.{half_point}
+use Rattle.p25_trellis.proofs.{ApartLaws.{length-block}, NearestLaws.{IsBlock-block_from}}
+use Rattle.p25_trellis.specs.{Nearest.{half_block}, Tables.{half_point}}
 use Rattle.p25_soft.specs.Levels.{bits_deviation, nominal_levels}
 use Rattle.p25_soft.proofs.SoftLaws.{nominal_octets}
 use Rattle.p25_soft.proofs.laws.half_rate_soft.Goals as goal

@@ -1,5 +1,4 @@
-use Rattle.std.proofs.Common.{rules, ◌≡◌, ◌*◌, ◌≤◌, ap, ◌∙◌, ap₂, arith, FitsSigned, w8}
-use Rattle.std.proofs.Math.Nat.{mul-le-mul}
+use Rattle.std.proofs.{Common.{rules, ◌≡◌, ◌*◌, ◌≤◌, ap, ◌∙◌, ap₂, arith, FitsSigned, w8}, Math.Nat.{mul-le-mul}}
 use Rattle.std.specs.Prelude.{unsigned_abs, ◌-ℤ◌}
 use Rattle.p25_soft.specs.Levels.{nominal_level, squared_deviation}
 use Rattle.p25_soft.proofs.LevelSteps.{apart-is, apart-le}

@@ -1,5 +1,4 @@
-use Rattle.std.proofs.Common.{◌<◌, ◌≤◌, ℕ, ◌/◌, ◌%◌, ◌^◌, length, ap, ◌∙◌, arith, length-set, refl}
-use Rattle.std.proofs.lemmas.List.Elements.{All-from_get_or}
+use Rattle.std.proofs.{Common.{◌<◌, ◌≤◌, ℕ, ◌/◌, ◌%◌, ◌^◌, length, ap, ◌∙◌, arith, length-set, refl}, lemmas.List.Elements.{All-from_get_or}}
 use Rattle.p25_soft.specs.PointCosts.{point_deviation}
 use Rattle.p25_soft.proofs.PointLaws.{entries_more, IsPointTable-from}
 use Rattle.p25_soft.proofs.reading.level_costs.Goals as goal

@@ -1,7 +1,5 @@
-use Rattle.std.proofs.Common.{rules, ◌+◌, ◌*◌, ◌/◌, ◌%◌, ap, ap₂, ◌∙◌, get_or, FitsSigned, w8, pos}
-use Rattle.std.proofs.lemmas.Int.{to_z-of_z}
-use Rattle.p25_soft.specs.Levels.{squared_deviation}
-use Rattle.p25_soft.specs.PointCosts.{point_deviation}
+use Rattle.std.proofs.{Common.{rules, ◌+◌, ◌*◌, ◌/◌, ◌%◌, ap, ap₂, ◌∙◌, get_or, FitsSigned, w8, pos}, lemmas.Int.{to_z-of_z}}
+use Rattle.p25_soft.specs.{Levels.{squared_deviation}, PointCosts.{point_deviation}}
 use Rattle.p25_soft.proofs.reading.point_cost.Goals as goal
 
 pub returns-clause-cost : goal.returns-clause-cost

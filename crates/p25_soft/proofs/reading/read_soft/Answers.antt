@@ -1,9 +1,7 @@
 use Rattle.p25_trellis.specs.Costs.{path_cost, cost_in}
-use Rattle.p25_trellis.proofs.PathLaws.{power-pos}
-use Rattle.p25_trellis.proofs.DistanceLaws.{IsFirstLeastReading-same}
+use Rattle.p25_trellis.proofs.{PathLaws.{power-pos}, DistanceLaws.{IsFirstLeastReading-same}}
 use Rattle.p25_soft.specs.SoftPaths.{soft_cost}
-use Rattle.p25_soft.proofs.PointLaws.{path_cost-soft}
-use Rattle.p25_soft.proofs.SoftLaws.{same_soft}
+use Rattle.p25_soft.proofs.{PointLaws.{path_cost-soft}, SoftLaws.{same_soft}}
 use Rattle.p25_soft.proofs.reading.read_soft.Goals as goal
 
 pub returns-clause-least : goal.returns-clause-least

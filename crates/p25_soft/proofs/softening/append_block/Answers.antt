@@ -1,8 +1,7 @@
 use Rattle.std.proofs.Common.{◌++◌, ◌+◌, ◌*◌, List, Bool, ap, sym, ◌∙◌, ℤ}
 use Rattle.p25_bits.specs.Bits.{part}
 use Rattle.p25_trellis.specs.Tables.{half_point, three_quarter_point}
-use Rattle.p25_soft.specs.SoftPaths.{soft_block}
-use Rattle.p25_soft.specs.Softened.{block_levels}
+use Rattle.p25_soft.specs.{SoftPaths.{soft_block}, Softened.{block_levels}}
 use Rattle.p25_soft.proofs.SoftenedLaws.{softened_block-all, softened_block-named, softened_block-kept}
 use Rattle.p25_soft.proofs.softening.append_block.Goals as goal
 

@@ -1,5 +1,4 @@
-use Rattle.std.proofs.Common.{rules, ◌+◌, ◌*◌, ◌/◌, ◌<◌, length, get_or, length-set, ◌∙◌, arith, FitsSigned, w8, pos, to_z, of_z}
-use Rattle.std.proofs.lemmas.Int.{to_z-of_z}
+use Rattle.std.proofs.{Common.{rules, ◌+◌, ◌*◌, ◌/◌, ◌<◌, length, get_or, length-set, ◌∙◌, arith, FitsSigned, w8, pos, to_z, of_z}, lemmas.Int.{to_z-of_z}}
 use Rattle.p25_soft.specs.Softened.{sent_dibit}
 use Rattle.p25_soft.proofs.SoftenedLaws.{levels_more, block_levels-from}
 use Rattle.p25_soft.proofs.softening.levels_of.Goals as goal

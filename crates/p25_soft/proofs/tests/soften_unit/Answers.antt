@@ -1,7 +1,6 @@
 use Rattle.std.proofs.Common.{subst, sym, ap, ◌∙◌}
 use Rattle.p25_bits.proofs.PartLaws.{part_whole}
-use Rattle.p25_units.specs.Items.{unit_item_of}
-use Rattle.p25_units.specs.declared.item.Item.{Item}
+use Rattle.p25_units.specs.{Items.{unit_item_of}, declared.item.Item.{Item}}
 use Rattle.p25_soft.specs.Softened.{IsHeard}
 use Rattle.p25_soft.proofs.HeardLaws.{IsHeard-unit}
 use Rattle.p25_soft.proofs.tests.soften_unit.Goals as goal

@@ -1,9 +1,7 @@
 use Rattle.std.proofs.Common.{◌≡◌, ℕ, Bool, not, List, Ok, Err, Result, ap, sym, ◌∙◌}
 use Rattle.p25_status.specs.declared.fields.Field.{Field}
-use Rattle.p25_packet_blocks.specs.declared.packet.Packet.{Packet}
-use Rattle.p25_packet_blocks.specs.UnitReading.{packet_unit_of}
-use Rattle.p25_stations.specs.declared.air.Carried.TheVariants.{Heard}
-use Rattle.p25_stations.specs.Air.{received_bits, with_flips, transmission_of}
+use Rattle.p25_packet_blocks.specs.{declared.packet.Packet.{Packet}, UnitReading.{packet_unit_of}}
+use Rattle.p25_stations.specs.{declared.air.Carried.TheVariants.{Heard}, Air.{received_bits, with_flips, transmission_of}}
 use Rattle.p25_stations.proofs.AirLaws.{carried-lost, carried-foreign, carried-heard}
 use Rattle.p25_stations.proofs.air.carry.Goals as goal
 

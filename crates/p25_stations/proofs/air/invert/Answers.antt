@@ -1,7 +1,6 @@
 use Rattle.std.proofs.Common.{length, Some, refl, ap, sym, ◌∙◌, arith}
-use Rattle.p25_stations.proofs.AirLoopLaws.{with_flips-none, with_flips-more, flipped-past}
+use Rattle.p25_stations.proofs.{AirLoopLaws.{with_flips-none, with_flips-more, flipped-past}, air.invert.Goals.{then-place-len, else-place-len}}
 use Rattle.p25_stations.proofs.air.invert.Goals as goal
-use Rattle.p25_stations.proofs.air.invert.Goals.{then-place-len, else-place-len}
 
 pub loop-i-init : goal.loop-i-init
 loop-i-init c = record { bits = sym (with_flips-none c.args.bits.now); len = refl }

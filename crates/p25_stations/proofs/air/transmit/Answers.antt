@@ -1,10 +1,6 @@
 use Rattle.std.proofs.Common.{◌≡◌, ℕ, Bool, List, replicate, ap₂, ◌∙◌, ◌/◌, arith}
-use Rattle.p25_status.specs.declared.symbols.Status.{Status}
-use Rattle.p25_status.specs.Status.{same_status}
-use Rattle.p25_status.specs.Woven.{woven}
-use Rattle.p25_packet_blocks.specs.Heads.{head_blocks}
-use Rattle.p25_packet_blocks.specs.Whole.{packet_head}
-use Rattle.p25_packet_blocks.specs.Lengths.{packet_parts}
+use Rattle.p25_status.specs.{declared.symbols.Status.{Status}, Status.{same_status}, Woven.{woven}}
+use Rattle.p25_packet_blocks.specs.{Heads.{head_blocks}, Whole.{packet_head}, Lengths.{packet_parts}}
 use Rattle.p25_stations.specs.Air.{station_status, transmission_of}
 use Rattle.p25_packet_blocks.proofs.HeadLaws.{head_blocks-lt}
 use Rattle.p25_stations.proofs.air.transmit.Goals as goal

@@ -1,5 +1,4 @@
-use Rattle.p25_stations.proofs.AirLaws.{true-exactly, air-true, air-within}
-use Rattle.p25_stations.proofs.FewFlipsLaws.{few-arrive}
+use Rattle.p25_stations.proofs.{AirLaws.{true-exactly, air-true, air-within}, FewFlipsLaws.{few-arrive}}
 use Rattle.p25_stations.proofs.laws.air_is_true.Goals as goal
 
 pub returns : goal.returns

@@ -1,10 +1,6 @@
 use Rattle.std.proofs.Common.{◌≡◌, List, true}
-use Rattle.p25_stations.specs.declared.step.Event.{Event}
-use Rattle.p25_stations.specs.WorldState.{first_world}
-use Rattle.p25_stations.specs.Steps.{world_step}
-use Rattle.p25_stations.specs.Runs.{AreEvents, world_run, IsWithin}
-use Rattle.p25_stations.proofs.SoundLaws.{first-sound, run-sound}
-use Rattle.p25_stations.proofs.FalsePassLaws.{step-within, step-twice}
+use Rattle.p25_stations.specs.{declared.step.Event.{Event}, WorldState.{first_world}, Steps.{world_step}, Runs.{AreEvents, world_run, IsWithin}}
+use Rattle.p25_stations.proofs.{SoundLaws.{first-sound, run-sound}, FalsePassLaws.{step-within, step-twice}}
 use Rattle.p25_stations.proofs.laws.damage_within_radius.Goals as goal
 
 pub returns : goal.returns

@@ -1,6 +1,4 @@
-use Rattle.p25_stations.proofs.CleanLaws.{run-counted}
-use Rattle.p25_stations.proofs.TriesLaws.{run-sixteen}
-use Rattle.p25_stations.proofs.FalsePassLaws.{clean-from_none, none-from_clean}
+use Rattle.p25_stations.proofs.{CleanLaws.{run-counted}, TriesLaws.{run-sixteen}, FalsePassLaws.{clean-from_none, none-from_clean}}
 use Rattle.p25_stations.proofs.laws.runs_are_counted.Goals as goal
 
 pub returns : goal.returns

@@ -1,6 +1,5 @@
 use Rattle.std.proofs.Common.{◌≡◌, ℕ, ◌≤◌, List, Bool, ap, sym, subst, ◌∙◌}
-use Rattle.p25_bits.specs.Bits.{bits_of, part}
-use Rattle.p25_bits.specs.Distance.{distance_of}
+use Rattle.p25_bits.specs.{Bits.{bits_of, part}, Distance.{distance_of}}
 use Rattle.p25_bits.proofs.NumbersLaws.{bits_of-field}
 use Rattle.p25_status.specs.Sync.{sync_bits, sync_slack}
 use Rattle.p25_status.proofs.frame_sync.is_sync.Goals as goal

@@ -1,8 +1,7 @@
 use Rattle.std.proofs.Common.{sym, ◌∙◌, mod-eq_of_lt, arith}
 use Rattle.std.specs.Bool.{beq}
 use Rattle.p25_bits.specs.Bits.{bits_of}
-use Rattle.p25_bits.proofs.BitsLaws.{length-bits_of, field_of-bits_of}
-use Rattle.p25_bits.proofs.DistanceLaws.{distance_by-le}
+use Rattle.p25_bits.proofs.{BitsLaws.{length-bits_of, field_of-bits_of}, DistanceLaws.{distance_by-le}}
 use Rattle.p25_status.specs.Sync.{sync_bits}
 use Rattle.p25_status.proofs.SyncLaws.{sync_distance-is, sync_bits-is}
 use Rattle.p25_status.proofs.frame_sync.sync_distance.Goals as goal

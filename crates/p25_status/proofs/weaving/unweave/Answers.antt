@@ -1,13 +1,8 @@
-use Rattle.std.proofs.Common.{◌≡◌, ◌+◌, ◌*◌, ◌/◌, ◌<◌, ◌≤◌, ◌++◌, Bool, List, length, drop, get_or, false, ap, ap₂, sym, ◌∙◌, subst, arith}
-use Rattle.std.proofs.lemmas.List.{append-nil}
+use Rattle.std.proofs.{Common.{◌≡◌, ◌+◌, ◌*◌, ◌/◌, ◌<◌, ◌≤◌, ◌++◌, Bool, List, length, drop, get_or, false, ap, ap₂, sym, ◌∙◌, subst, arith}, lemmas.List.{append-nil}}
 use Rattle.p25_bits.specs.Bits.{field_of, part}
 use Rattle.p25_bits.proofs.PartLaws.{length-part, part-part}
-use Rattle.p25_status.specs.Status.{status_from_bits}
-use Rattle.p25_status.specs.declared.symbols.Status.{Status}
-use Rattle.p25_status.specs.Woven.{woven, bare_in, bare_of, statuses_in, statuses_of, StandsByPlaces}
-use Rattle.p25_status.proofs.PlacesSteps.{woven-places}
-use Rattle.p25_status.proofs.WovenLaws.{woven-of}
-use Rattle.p25_status.proofs.WeavingSteps.{bare_more, statuses_more, bare_none, statuses_none, status_read}
+use Rattle.p25_status.specs.{Status.{status_from_bits}, declared.symbols.Status.{Status}, Woven.{woven, bare_in, bare_of, statuses_in, statuses_of, StandsByPlaces}}
+use Rattle.p25_status.proofs.{PlacesSteps.{woven-places}, WovenLaws.{woven-of}, WeavingSteps.{bare_more, statuses_more, bare_none, statuses_none, status_read}}
 use Rattle.p25_status.proofs.weaving.unweave.Goals as goal
 
 pub loop-i-preserved : goal.loop-i-preserved

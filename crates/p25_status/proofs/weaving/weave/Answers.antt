@@ -1,11 +1,7 @@
-use Rattle.std.proofs.Common.{◌≡◌, ◌*◌, ◌≤◌, ◌++◌, Bool, List, length, drop, ap, ap₂, sym, ◌∙◌, subst, arith}
-use Rattle.std.proofs.lemmas.List.{drop_all, append-nil}
+use Rattle.std.proofs.{Common.{◌≡◌, ◌*◌, ◌≤◌, ◌++◌, Bool, List, length, drop, ap, ap₂, sym, ◌∙◌, subst, arith}, lemmas.List.{drop_all, append-nil}}
 use Rattle.p25_bits.specs.Bits.{bits_of}
-use Rattle.p25_status.specs.Status.{status_number}
-use Rattle.p25_status.specs.Woven.{bare_of, statuses_of, StandsByPlaces}
-use Rattle.p25_status.proofs.WovenLaws.{bare_of-woven, statuses_of-woven}
-use Rattle.p25_status.proofs.PlacesSteps.{woven-places, StandsByPlaces-unique}
-use Rattle.p25_status.proofs.WeavingSteps.{woven_none, woven_more}
+use Rattle.p25_status.specs.{Status.{status_number}, Woven.{bare_of, statuses_of, StandsByPlaces}}
+use Rattle.p25_status.proofs.{WovenLaws.{bare_of-woven, statuses_of-woven}, PlacesSteps.{woven-places, StandsByPlaces-unique}, WeavingSteps.{woven_none, woven_more}}
 use Rattle.p25_status.proofs.weaving.weave.Goals as goal
 
 pub loop-i-preserved : goal.loop-i-preserved

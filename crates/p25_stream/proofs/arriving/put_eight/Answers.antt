@@ -1,5 +1,4 @@
-use Rattle.std.proofs.Common.{Bool, List, ◌++◌, ◌<◌, ap, ◌∙◌}
-use Rattle.std.proofs.lemmas.List.Elements.{All-take}
+use Rattle.std.proofs.{Common.{Bool, List, ◌++◌, ◌<◌, ap, ◌∙◌}, lemmas.List.Elements.{All-take}}
 use Rattle.p25_stream.proofs.ArrivingLaws.{bits_of-eight}
 use Rattle.p25_stream.proofs.arriving.put_eight.Goals as goal
 

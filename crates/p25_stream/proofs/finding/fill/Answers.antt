@@ -1,6 +1,5 @@
 use Rattle.std.proofs.Common.{◌∙◌, sym, arith, length-drop}
-use Rattle.p25_stream.proofs.BeginningsLaws.{IsBeginning-few}
-use Rattle.p25_stream.proofs.FindingLaws.{filled, put-more}
+use Rattle.p25_stream.proofs.{BeginningsLaws.{IsBeginning-few}, FindingLaws.{filled, put-more}}
 use Rattle.p25_stream.proofs.finding.fill.Goals as goal
 
 pub wanted-wanted-requires : goal.wanted-wanted-requires

@@ -1,12 +1,10 @@
 use Rattle.std.proofs.Common.{◌≡◌, ℕ, ◌+◌, ◌-◌, ◌/◌, ◌%◌, ◌<◌, ◌||◌, Bool, List, ◌++◌, true, length, take, drop, refl, ap, ap₂, sym, subst, ◌∙◌, arith}
 use Rattle.p25_bits.specs.Bits.{bits_of, octet_bits}
 use Rattle.p25_units.specs.declared.item.Item.{Item}
-use Rattle.p25_stream.specs.Beginnings.{is_settled}
-use Rattle.p25_stream.specs.Finding.{IsFirst}
-use Rattle.p25_stream.specs.Items.{first_item, items_by}
+use Rattle.p25_stream.specs.{Beginnings.{is_settled}, Finding.{IsFirst}, Items.{first_item, items_by}}
 use Rattle.p25_stream.proofs.FindingLaws.{bits-at, first-found, held-some, none-at_end, none-found}
-use Rattle.p25_stream.proofs.finding.find_item_in.Goals as goal
 use Rattle.p25_stream.proofs.finding.find_item_in.Goals.{else-not-ended-via-then-not-ended+else-not-is_settled, else-not-ended-via-else-not-ended}
+use Rattle.p25_stream.proofs.finding.find_item_in.Goals as goal
 
 pub returns-then-first-octets-clause-none : goal.returns-then-first-octets-clause-none
 returns-then-first-octets-clause-none c = λ _. (none-at_end c.args.ended c.args.place c.args.at c.args.octets.now (omega (arith, c.if-first-octets.true)), refl)

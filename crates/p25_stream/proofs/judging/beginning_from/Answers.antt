@@ -1,7 +1,6 @@
 use Rattle.std.proofs.Common.{◌≡◌, ℕ, sym, ◌∙◌, subst, arith}
 use Rattle.p25_stream.specs.Beginnings.{IsKnownGap}
-use Rattle.p25_stream.proofs.BeginningsLaws.{beginning-gap, beginning-searching, gap-full}
-use Rattle.p25_stream.proofs.JudgingSteps.{places-free, window_in}
+use Rattle.p25_stream.proofs.{BeginningsLaws.{beginning-gap, beginning-searching, gap-full}, JudgingSteps.{places-free, window_in}}
 use Rattle.p25_stream.proofs.judging.beginning_from.Goals as goal
 
 pub beginning_before_sync-requires-clause-clear : goal.beginning_before_sync-requires-clause-clear

@@ -1,11 +1,9 @@
 use Rattle.std.proofs.Common.{Bool, List, length, refl, ap, sym, ◌∙◌, subst, arith}
 use Rattle.p25_status.specs.Sync.{has_sync}
 use Rattle.p25_status.proofs.SyncLaws.{has_sync-length, has_sync-append}
-use Rattle.p25_units.specs.Begins.{IsBegun}
-use Rattle.p25_units.specs.declared.needs.Need.TheVariants.{More}
+use Rattle.p25_units.specs.{Begins.{IsBegun}, declared.needs.Need.TheVariants.{More}}
 use Rattle.p25_units.proofs.BegunLaws.{IsBegun-append}
-use Rattle.p25_stream.specs.Beginnings.{Needs}
-use Rattle.p25_stream.specs.declared.beginning.Beginning.TheVariants.{Waiting}
+use Rattle.p25_stream.specs.{Beginnings.{Needs}, declared.beginning.Beginning.TheVariants.{Waiting}}
 use Rattle.p25_stream.proofs.BeginningsLaws.{beginning-waiting, was-waiting, waits-more}
 use Rattle.p25_stream.proofs.judging.beginning_waiting.Goals as goal
 

@@ -1,5 +1,4 @@
-use Rattle.std.proofs.Common.{◌≡◌, ◌+◌, false, arith, below_more}
-use Rattle.std.proofs.lemmas.Bool.{iff_false}
+use Rattle.std.proofs.{Common.{◌≡◌, ◌+◌, false, arith, below_more}, lemmas.Bool.{iff_false}}
 use Rattle.p25_bits.specs.Bits.{bits_of, part}
 use Rattle.p25_status.specs.Sync.{has_sync}
 use Rattle.p25_stream.proofs.JudgingSteps.{window_of, window-synced, window-unsynced}

@@ -1,9 +1,7 @@
 use Rattle.std.proofs.Common.{◌≡◌, ap, sym, ◌∙◌, arith}
-use Rattle.p25_units.specs.declared.needs.Need.TheVariants.{More, Length, NoLength}
-use Rattle.p25_units.specs.declared.item.Item.TheVariants.{Gap, Cut}
+use Rattle.p25_units.specs.{declared.needs.Need.TheVariants.{More, Length, NoLength}, declared.item.Item.TheVariants.{Gap, Cut}}
 use Rattle.p25_stream.specs.Items.{gap_of}
-use Rattle.p25_stream.proofs.BeginningsLaws.{was-searching, was-waiting, was-gap, was-ready, was-no_unit, searched-none, searched-all}
-use Rattle.p25_stream.proofs.ItemsLaws.{first_item-gap, first_item-synced}
+use Rattle.p25_stream.proofs.{BeginningsLaws.{was-searching, was-waiting, was-gap, was-ready, was-no_unit, searched-none, searched-all}, ItemsLaws.{first_item-gap, first_item-synced}}
 use Rattle.p25_stream.proofs.judging.set_item.Goals as goal
 
 pub overflow_cast-item-in-Gap : goal.overflow_cast-item-in-Gap

@@ -1,9 +1,7 @@
 use Rattle.std.proofs.Common.{ap, sym, subst, ◌∙◌}
-use Rattle.p25_stream.specs.Beginnings.{IsBeginning, is_settled, waits}
-use Rattle.p25_stream.specs.declared.beginning.Beginning.{Beginning}
-use Rattle.p25_stream.proofs.BeginningsLaws.{was-stays}
+use Rattle.p25_stream.specs.{Beginnings.{IsBeginning, is_settled, waits}, declared.beginning.Beginning.{Beginning}}
+use Rattle.p25_stream.proofs.{BeginningsLaws.{was-stays}, judging.settle.Goals.{else-not-waits-via-then-not-waits+else-not-passes, else-not-waits-via-else-not-waits}}
 use Rattle.p25_stream.proofs.judging.settle.Goals as goal
-use Rattle.p25_stream.proofs.judging.settle.Goals.{else-not-waits-via-then-not-waits+else-not-passes, else-not-waits-via-else-not-waits}
 
 pub judge_more-requires-clause-unsettled : goal.judge_more-requires-clause-unsettled
 judge_more-requires-clause-unsettled c = ap is_settled (c.passes.ensures.same c.if-not-passes.true) ∙ c.requires.unsettled

@@ -1,7 +1,6 @@
 use Rattle.p25_stream.proofs.SyncPlaceLaws.{sync_place-le, has_sync-before, has_sync-at_place}
 use Rattle.p25_stream.proofs.ItemsLaws.{items_by-nil, items_by-more, items_by-none, items_by-stay, first_item-append, enough-decide}
-use Rattle.p25_stream.proofs.ItemLaws.{covered-items_of, gaps_short, gaps_full, item-covers, item-sound, near-whole, whole-within, image-whole}
-use Rattle.p25_stream.proofs.ScanLaws.{gave-items}
+use Rattle.p25_stream.proofs.{ItemLaws.{covered-items_of, gaps_short, gaps_full, item-covers, item-sound, near-whole, whole-within, image-whole}, ScanLaws.{gave-items}}
 use Rattle.p25_stream.proofs.TerminatorLaws.{terminator-read, terminator-there, terminator-sent}
 use Rattle.p25_stream.proofs.laws.item_laws.Goals as goal
 

@@ -1,5 +1,4 @@
-use Rattle.std.proofs.Common.{List, length, replicate, ap, ◌∙◌}
-use Rattle.std.proofs.lemmas.List.{length-replicate}
+use Rattle.std.proofs.{Common.{List, length, replicate, ap, ◌∙◌}, lemmas.List.{length-replicate}}
 use Rattle.p25_status.specs.declared.symbols.Status.{Status}
 use Rattle.p25_units.specs.Units.{frame_as, image_of}
 use Rattle.p25_stream.proofs.repeats.bridge_frame.Goals as goal

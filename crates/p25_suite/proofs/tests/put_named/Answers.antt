@@ -1,5 +1,4 @@
-use Rattle.std.proofs.Common.{ℕ, ◌^◌, ◌≤◌, ◌<◌, length, decimal, arith}
-use Rattle.std.proofs.lemmas.Fmt.{length-decimal-le}
+use Rattle.std.proofs.{Common.{ℕ, ◌^◌, ◌≤◌, ◌<◌, length, decimal, arith}, lemmas.Fmt.{length-decimal-le}}
 use Rattle.p25_suite.proofs.tests.put_named.Goals as goal
 
 pub put_number-requires : goal.put_number-requires

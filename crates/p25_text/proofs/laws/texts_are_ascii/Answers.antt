@@ -1,6 +1,5 @@
 use Rattle.p25_calls.specs.CallTexts.{call_text_of}
-use Rattle.p25_text.specs.Grammar.{text_of}
-use Rattle.p25_text.specs.ItemTexts.{item_text_of}
+use Rattle.p25_text.specs.{Grammar.{text_of}, ItemTexts.{item_text_of}}
 use Rattle.p25_line.proofs.AsciiLaws.{IsAscii-tested}
 use Rattle.p25_text.proofs.AsciiTextLaws.{ascii-call_text_of, ascii-item_text_of, ascii-text_of}
 use Rattle.p25_text.proofs.laws.texts_are_ascii.Goals as goal

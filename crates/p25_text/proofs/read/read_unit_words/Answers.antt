@@ -1,11 +1,8 @@
 use Rattle.std.proofs.Common.{◌≡◌, ◌+◌, length, drop, sym, ap, ◌∙◌}
 use Rattle.std.specs.Prelude.{ok_or}
-use Rattle.p25_line.specs.LineReadings.{found_read}
-use Rattle.p25_line.specs.declared.fault.LineFault.TheVariants.{Key, Value}
-use Rattle.p25_text.specs.Grammar.{read_values, values_behind}
-use Rattle.p25_text.specs.Names.{keys_of}
-use Rattle.p25_text.proofs.ReadLaws.{right_kind, wrong_count, wrong_kind}
-use Rattle.p25_text.proofs.WordLaws.{keyed-values_behind}
+use Rattle.p25_line.specs.{LineReadings.{found_read}, declared.fault.LineFault.TheVariants.{Key, Value}}
+use Rattle.p25_text.specs.{Grammar.{read_values, values_behind}, Names.{keys_of}}
+use Rattle.p25_text.proofs.{ReadLaws.{right_kind, wrong_count, wrong_kind}, WordLaws.{keyed-values_behind}}
 use Rattle.p25_text.proofs.read.read_unit_words.Goals as goal
 
 pub returns-in_default : goal.returns-in_default

@@ -1,8 +1,6 @@
-use Rattle.std.proofs.Common.{◌+◌, ◌<◌, length, map, sym, ap, subst, ◌∙◌, arith}
+use Rattle.std.proofs.{Common.{◌+◌, ◌<◌, length, map, sym, ap, subst, ◌∙◌, arith}, lemmas.List.{map_push}}
 use Rattle.std.specs.Option.{option_and_then}
-use Rattle.std.proofs.lemmas.List.{map_push}
-use Rattle.p25_text.specs.Grammar.{behind}
-use Rattle.p25_text.specs.Names.{key_text}
+use Rattle.p25_text.specs.{Grammar.{behind}, Names.{key_text}}
 use Rattle.p25_text.proofs.ReadLaws.{SoFar, SoFar-more, SoFar-none}
 use Rattle.p25_text.proofs.values.values_of_words.Goals as goal
 

@@ -1,10 +1,6 @@
-use Rattle.std.proofs.Common.{◌∷◌, ◌++◌, ◌<◌, length, sym, ap, ◌∙◌, append-nil, append_assoc, arith}
-use Rattle.std.proofs.lemmas.List.{take_all}
-use Rattle.std.proofs.lemmas.Option.{slice_get-get_or}
+use Rattle.std.proofs.{Common.{◌∷◌, ◌++◌, ◌<◌, length, sym, ap, ◌∙◌, append-nil, append_assoc, arith}, lemmas.List.{take_all}, lemmas.Option.{slice_get-get_or}}
 use Rattle.hex.specs.Hex.{encode_lower}
-use Rattle.p25_text.specs.Names.{key_text}
-use Rattle.p25_text.specs.Voices.{frame_octets}
-use Rattle.p25_text.specs.declared.names.UnitKey.TheVariants.{Frames}
+use Rattle.p25_text.specs.{Names.{key_text}, Voices.{frame_octets}, declared.names.UnitKey.TheVariants.{Frames}}
 use Rattle.p25_text.proofs.WriteLaws.{frames-none, next-frame}
 use Rattle.p25_text.proofs.voice_texts.put_frames.Goals as goal
 

@@ -1,11 +1,9 @@
 use Rattle.std.proofs.Common.{sym, subst}
-use Rattle.p25_tool.specs.declared.command.Command.{Command}
-use Rattle.p25_tool.specs.declared.command.Command.TheVariants.{Show, Check, Repair, Bridge, Relay, Follow, Build, Stations, Calls, Duplex, Fragments, Soft}
+use Rattle.p25_tool.specs.{declared.command.Command.{Command}, declared.command.Command.TheVariants.{Show, Check, Repair, Bridge, Relay, Follow, Build, Stations, Calls, Duplex, Fragments, Soft}}
+use Rattle.p25_tool.specs.Outputs.{command_future}
 use Rattle.p25_recording_filters.specs.declared.reports.changed.Change.TheVariants.{Repaired, Bridged, Relayed}
 use Rattle.p25_filter.specs.Traces.{IsRun}
-use Rattle.p25_tool.specs.Outputs.{command_future}
-use Rattle.p25_tool.proofs.CommandsLaws.{calls-alike, changed-alike, check-alike, follow-alike, show-alike, soft-alike}
-use Rattle.p25_tool.proofs.ScriptRunsLaws.{build-alike, duplex-alike, fragments-alike, stations-alike}
+use Rattle.p25_tool.proofs.{CommandsLaws.{calls-alike, changed-alike, check-alike, follow-alike, show-alike, soft-alike}, ScriptRunsLaws.{build-alike, duplex-alike, fragments-alike, stations-alike}}
 use Rattle.p25_tool.proofs.CallRunsLaws.{alike-run}
 use Rattle.p25_tool.proofs.command_run.run_command.Goals as goal
 

@@ -1,6 +1,5 @@
 use Rattle.std.proofs.Common.{subst, sym, false, refl}
-use Rattle.p25_filter.specs.Futures.{IsIdle}
-use Rattle.p25_filter.specs.LineFilters.{LineFiltering, first_line, line_future}
+use Rattle.p25_filter.specs.{Futures.{IsIdle}, LineFilters.{LineFiltering, first_line, line_future}}
 use Rattle.p25_filter.proofs.LineFiltersLaws.{step-idle}
 use Rattle.p25_tool.proofs.command_run.run_lines.Goals as goal
 

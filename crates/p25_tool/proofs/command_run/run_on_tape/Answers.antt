@@ -1,7 +1,6 @@
 use Rattle.std.proofs.Common.{List, ◌++◌, ap, sym, subst, ◌∙◌}
 use Rattle.p25_io.specs.Events.{Event}
-use Rattle.p25_tool.specs.CallRuns.{IsCallRun}
-use Rattle.p25_tool.specs.Words.{command_of}
+use Rattle.p25_tool.specs.{CallRuns.{IsCallRun}, Words.{command_of}}
 use Rattle.p25_tool.proofs.command_run.run_on_tape.Goals as goal
 
 pub returns : goal.returns

@@ -1,8 +1,7 @@
 use Rattle.std.proofs.Common.{◌≡◌, subst, sym, false, []}
 use Rattle.p25_stream.specs.Scan.{given}
 use Rattle.p25_filter.specs.Futures.{IsIdle}
-use Rattle.p25_recording_filters.specs.declared.recording.Phase.TheVariants.{Ended}
-use Rattle.p25_recording_filters.specs.Recordings.{RecordingParts, recording_future}
+use Rattle.p25_recording_filters.specs.{declared.recording.Phase.TheVariants.{Ended}, Recordings.{RecordingParts, recording_future}}
 use Rattle.p25_recording_filters.proofs.RecordingsLaws.{fresh-idle, fresh-none}
 use Rattle.p25_tool.proofs.command_run.run_report.Goals as goal
 

@@ -1,11 +1,7 @@
-use Rattle.std.proofs.Common.{◌≡◌, ℕ, ◌*◌, ◌<◌, ◌++◌, List, Bool, length, ap, ◌∙◌, arith}
-use Rattle.p25_trellis.proofs.PathLaws.{same_block}
-use Rattle.p25_trellis.proofs.NearestLaws.{same_block_from}
-use Rattle.std.proofs.lemmas.List.Elements.{All-same}
-use Rattle.p25_trellis.specs.Interleave.{interleaved}
+use Rattle.std.proofs.{Common.{◌≡◌, ℕ, ◌*◌, ◌<◌, ◌++◌, List, Bool, length, ap, ◌∙◌, arith}, lemmas.List.Elements.{All-same}}
+use Rattle.p25_trellis.proofs.{PathLaws.{same_block}, NearestLaws.{same_block_from}, InterleaveLaws.{All-interleaved}}
+use Rattle.p25_trellis.specs.{Interleave.{interleaved}, Trellis.{sent_bits}}
 use Rattle.p25_bits.specs.Numbers.{number_bits}
-use Rattle.p25_trellis.specs.Trellis.{sent_bits}
-use Rattle.p25_trellis.proofs.InterleaveLaws.{All-interleaved}
 use Rattle.p25_trellis.proofs.block.encode_block.Goals as goal
 
 pub append_nibbles-requires-clause-small : goal.append_nibbles-requires-clause-small

@@ -1,15 +1,8 @@
-use Rattle.std.proofs.Common.{ℕ, ◌*◌, ◌<◌, ◌≤◌, Bool, List, length, drop, sym, ap, subst, ◌∙◌, arith, length-drop}
-use Rattle.std.proofs.lemmas.List.Elements.{All-same}
-use Rattle.p25_bits.specs.Bits.{part}
-use Rattle.p25_trellis.specs.Interleave.{interleaved}
-use Rattle.p25_bits.specs.Numbers.{number_bits, numbers_from}
-use Rattle.p25_bits.proofs.NumbersLaws.{All-numbers_from, number_bits-numbers_from}
-use Rattle.p25_trellis.specs.Trellis.{IsFirstLeastReading, distance_from}
-use Rattle.p25_trellis.proofs.InterleaveLaws.{All-from_interleaved}
-use Rattle.p25_trellis.proofs.PathLaws.{power-pos}
-use Rattle.p25_trellis.proofs.NearestLaws.{same_nearest}
-use Rattle.p25_bits.proofs.PartLaws.{length-part}
-use Rattle.p25_trellis.proofs.ApartLaws.{same_from_sent_bits, IsNearReading-from}
+use Rattle.std.proofs.{Common.{ℕ, ◌*◌, ◌<◌, ◌≤◌, Bool, List, length, drop, sym, ap, subst, ◌∙◌, arith, length-drop}, lemmas.List.Elements.{All-same}}
+use Rattle.p25_bits.specs.{Bits.{part}, Numbers.{number_bits, numbers_from}}
+use Rattle.p25_trellis.specs.{Interleave.{interleaved}, Trellis.{IsFirstLeastReading, distance_from}}
+use Rattle.p25_bits.proofs.{NumbersLaws.{All-numbers_from, number_bits-numbers_from}, PartLaws.{length-part}}
+use Rattle.p25_trellis.proofs.{InterleaveLaws.{All-from_interleaved}, PathLaws.{power-pos}, NearestLaws.{same_nearest}, ApartLaws.{same_from_sent_bits, IsNearReading-from}}
 use Rattle.p25_trellis.proofs.block.read_block.Goals as goal
 
 pub read_nibbles-requires-clause-nibbles : goal.read_nibbles-requires-clause-nibbles

@@ -1,15 +1,8 @@
 use Rattle.std.proofs.Common.{◌≡◌, ℕ, List, refl, sym, ap, ◌∙◌, arith}
 use Rattle.p25_bits.specs.Numbers.{number_bits}
-use Rattle.p25_trellis.specs.Costs.{path_cost, received_cost}
-use Rattle.p25_trellis.specs.Interleave.{interleaved}
-use Rattle.p25_trellis.specs.Least.{rest_in}
-use Rattle.p25_trellis.specs.Trellis.{sent_bits, IsFirstLeastReading, distance_from}
-use Rattle.p25_trellis.proofs.CostLaws.{rest_in-first}
-use Rattle.p25_trellis.proofs.DistanceLaws.{path_cost-distance, IsFirstLeastReading-same}
-use Rattle.p25_trellis.proofs.FirstPathLaws.{IsFirstLeast-total}
-use Rattle.p25_trellis.proofs.ApartLaws.{same_from_sent_bits}
-use Rattle.p25_trellis.proofs.ExactSteps.{IsFirstLeast-exact, at_no_distance}
-use Rattle.p25_trellis.proofs.PathLaws.{power-pos}
+use Rattle.p25_trellis.specs.{Costs.{path_cost, received_cost}, Interleave.{interleaved}, Least.{rest_in}, Trellis.{sent_bits, IsFirstLeastReading, distance_from}}
+use Rattle.p25_trellis.proofs.{CostLaws.{rest_in-first}, DistanceLaws.{path_cost-distance, IsFirstLeastReading-same}, FirstPathLaws.{IsFirstLeast-total}, ApartLaws.{same_from_sent_bits}}
+use Rattle.p25_trellis.proofs.{ExactSteps.{IsFirstLeast-exact, at_no_distance}, PathLaws.{power-pos}}
 use Rattle.p25_trellis.proofs.block.read_nibbles.Goals as goal
 
 pub returns-in-Some : goal.returns-in-Some

@@ -1,8 +1,5 @@
-use Rattle.std.proofs.Common.{◌≡◌, ℕ, ◌<◌, length, refl, sym, ◌∙◌, arith, length-set}
-use Rattle.std.proofs.lemmas.List.{drop-set-lt}
-use Rattle.std.proofs.lemmas.List.Elements.{All-replicate, All-set}
-use Rattle.p25_trellis.proofs.PathLaws.{power-pos}
-use Rattle.p25_trellis.proofs.ExactSteps.{sends_more, sends_all}
+use Rattle.std.proofs.{Common.{◌≡◌, ℕ, ◌<◌, length, refl, sym, ◌∙◌, arith, length-set}, lemmas.List.{drop-set-lt}, lemmas.List.Elements.{All-replicate, All-set}}
+use Rattle.p25_trellis.proofs.{PathLaws.{power-pos}, ExactSteps.{sends_more, sends_all}}
 use Rattle.p25_trellis.proofs.exact.path_along.Goals as goal
 
 pub loop-step-init : goal.loop-step-init

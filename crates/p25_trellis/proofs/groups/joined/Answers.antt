@@ -1,9 +1,6 @@
-use Rattle.std.proofs.Common.{◌≡◌, ℕ, ◌+◌, ◌*◌, ◌%◌, ◌^◌, ◌<◌, ◌≤◌, length, ap, sym, subst, ◌∙◌, arith}
-use Rattle.std.proofs.Math.Nat.{mul-zero}
-use Rattle.std.proofs.lemmas.Nat.{pow_pos}
+use Rattle.std.proofs.{Common.{◌≡◌, ℕ, ◌+◌, ◌*◌, ◌%◌, ◌^◌, ◌<◌, ◌≤◌, length, ap, sym, subst, ◌∙◌, arith}, Math.Nat.{mul-zero}, lemmas.Nat.{pow_pos}}
 use Rattle.p25_bits.specs.Bits.{bits_of}
-use Rattle.p25_bits.proofs.BitsLaws.{bits_of-zero}
-use Rattle.p25_bits.proofs.NumbersLaws.{number_bits-nil}
+use Rattle.p25_bits.proofs.{BitsLaws.{bits_of-zero}, NumbersLaws.{number_bits-nil}}
 use Rattle.p25_trellis.proofs.GroupSteps.{joined_more, joined_more-lt, joined-lt, moved_up}
 use Rattle.p25_trellis.proofs.groups.joined.Goals as goal
 

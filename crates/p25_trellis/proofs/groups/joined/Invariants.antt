@@ -1,6 +1,5 @@
 use Rattle.std.proofs.Common.{◌≡◌, ◌*◌, ◌^◌, ◌<◌, take}
-use Rattle.p25_bits.specs.Bits.{bits_of}
-use Rattle.p25_bits.specs.Numbers.{number_bits}
+use Rattle.p25_bits.specs.{Bits.{bits_of}, Numbers.{number_bits}}
 use Rattle.p25_trellis.proofs.groups.joined.Given as goal
 
 abbrev pub invariant-loop-number : goal.invariant-loop-number

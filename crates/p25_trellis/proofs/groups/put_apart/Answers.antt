@@ -1,6 +1,5 @@
 use Rattle.std.proofs.Common.{◌*◌, ◌≤◌, length, ap, ◌∙◌, arith}
-use Rattle.p25_bits.specs.Bits.{bits_of}
-use Rattle.p25_bits.specs.Numbers.{numbers_from}
+use Rattle.p25_bits.specs.{Bits.{bits_of}, Numbers.{numbers_from}}
 use Rattle.p25_trellis.proofs.GroupSteps.{apart_all}
 use Rattle.p25_trellis.proofs.groups.put_apart.Goals as goal
 

@@ -1,10 +1,7 @@
-use Rattle.std.proofs.Common.{◌≡◌, ◌+◌, ◌-◌, ◌*◌, ◌≤◌, length, take, drop, ap, sym, ◌∙◌, arith}
-use Rattle.std.proofs.Math.Nat.{mul-zero, mul-le-mul_left}
+use Rattle.std.proofs.{Common.{◌≡◌, ◌+◌, ◌-◌, ◌*◌, ◌≤◌, length, take, drop, ap, sym, ◌∙◌, arith}, Math.Nat.{mul-zero, mul-le-mul_left}}
 use borrow.Rule.Slice.PartMut.{mid_of}
-use Rattle.p25_bits.specs.Bits.{bits_of, part}
-use Rattle.p25_bits.specs.Numbers.{number_bits, numbers_from}
-use Rattle.p25_bits.proofs.NumbersLaws.{numbers_from-zero}
-use Rattle.p25_bits.proofs.PartLaws.{length-part}
+use Rattle.p25_bits.specs.{Bits.{bits_of, part}, Numbers.{number_bits, numbers_from}}
+use Rattle.p25_bits.proofs.{NumbersLaws.{numbers_from-zero}, PartLaws.{length-part}}
 use Rattle.p25_trellis.proofs.GroupSteps.{count_more, groups_more, group_anew}
 use Rattle.p25_trellis.proofs.groups.regroup.Goals as goal
 

@@ -1,7 +1,5 @@
-use Rattle.std.proofs.Common.{◌≡◌, ◌<◌, length, get_or, sym, ◌∙◌, arith, length-set}
-use Rattle.std.proofs.lemmas.List.{ext_get_or}
-use Rattle.p25_trellis.specs.Interleave.{interleaved}
-use Rattle.p25_trellis.specs.declared.interleave.TheConstants.{SENT_ORDER}
+use Rattle.std.proofs.{Common.{◌≡◌, ◌<◌, length, get_or, sym, ◌∙◌, arith, length-set}, lemmas.List.{ext_get_or}}
+use Rattle.p25_trellis.specs.{Interleave.{interleaved}, declared.interleave.TheConstants.{SENT_ORDER}}
 use Rattle.p25_trellis.proofs.InterleaveLaws.{length-interleaved, get_or-interleaved, order-lt, written_more, same_from_interleaved}
 use Rattle.p25_trellis.proofs.interleave.gather.Goals as goal
 

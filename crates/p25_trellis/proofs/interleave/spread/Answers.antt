@@ -1,7 +1,5 @@
-use Rattle.std.proofs.Common.{◌≡◌, ◌<◌, ◌≤◌, length, get_or, set, sym, ◌∙◌, arith, length-set}
-use Rattle.std.proofs.lemmas.List.{take_more_same, take-set, get_or-set_same}
-use Rattle.p25_trellis.specs.Interleave.{interleaved}
-use Rattle.p25_trellis.specs.declared.interleave.TheConstants.{SENT_ORDER}
+use Rattle.std.proofs.{Common.{◌≡◌, ◌<◌, ◌≤◌, length, get_or, set, sym, ◌∙◌, arith, length-set}, lemmas.List.{take_more_same, take-set, get_or-set_same}}
+use Rattle.p25_trellis.specs.{Interleave.{interleaved}, declared.interleave.TheConstants.{SENT_ORDER}}
 use Rattle.p25_trellis.proofs.InterleaveLaws.{length-interleaved, get_or-interleaved, order-lt, same_from_take}
 use Rattle.p25_trellis.proofs.interleave.spread.Goals as goal
 

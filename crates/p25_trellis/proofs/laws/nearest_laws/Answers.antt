@@ -1,8 +1,6 @@
 use Rattle.std.proofs.Common.{◌≡◌, ◌*◌, length, arith}
 use Rattle.p25_trellis.specs.Nearest.{nearest_octets, nearest_distance, block_from}
-use Rattle.p25_trellis.proofs.ApartLaws.{same_from_sent_bits, IsNearReading-from}
-use Rattle.p25_trellis.proofs.NearestLaws.{nearest_reading, same_nearest, IsBlock-block_from}
-use Rattle.p25_trellis.proofs.PathLaws.{power-pos}
+use Rattle.p25_trellis.proofs.{ApartLaws.{same_from_sent_bits, IsNearReading-from}, NearestLaws.{nearest_reading, same_nearest, IsBlock-block_from}, PathLaws.{power-pos}}
 use Rattle.p25_trellis.proofs.laws.nearest_laws.Goals as goal
 
 pub returns-clause-reading : goal.returns-clause-reading

@@ -1,5 +1,4 @@
-use Rattle.p25_trellis.proofs.ApartLaws.{same_from_sent_bits}
-use Rattle.p25_trellis.proofs.PathLaws.{power-pos}
+use Rattle.p25_trellis.proofs.{ApartLaws.{same_from_sent_bits}, PathLaws.{power-pos}}
 use Rattle.p25_trellis.proofs.laws.paths_apart.Goals as goal
 
 pub returns-clause-apart : goal.returns-clause-apart

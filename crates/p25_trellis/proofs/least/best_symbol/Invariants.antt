@@ -1,5 +1,4 @@
-use Rattle.p25_trellis.specs.Costs.{cost_in}
-use Rattle.p25_trellis.specs.Least.{IsLowestLeast, step_cost}
+use Rattle.p25_trellis.specs.{Costs.{cost_in}, Least.{IsLowestLeast, step_cost}}
 use Rattle.p25_trellis.proofs.least.best_symbol.Given as goal
 
 abbrev pub invariant-loop-symbol : goal.invariant-loop-symbol

@@ -1,6 +1,5 @@
 use Rattle.std.proofs.Common.{◌≡◌, ℕ, ◌<◌}
-use Rattle.p25_trellis.specs.Costs.{cost_in}
-use Rattle.p25_trellis.specs.Least.{rest_in}
+use Rattle.p25_trellis.specs.{Costs.{cost_in}, Least.{rest_in}}
 use Rattle.p25_trellis.proofs.least.fill_last.Given as goal
 
 abbrev pub invariant-loop-state : goal.invariant-loop-state

@@ -1,6 +1,5 @@
 use Rattle.std.proofs.Common.{◌≡◌, ℕ, suc, ◌+◌, ◌<◌}
-use Rattle.p25_trellis.specs.Costs.{cost_in, symbols_cost}
-use Rattle.p25_trellis.specs.Least.{rest_in, HasLeastFrom, IsLeastEnd}
+use Rattle.p25_trellis.specs.{Costs.{cost_in, symbols_cost}, Least.{rest_in, HasLeastFrom, IsLeastEnd}}
 use Rattle.p25_trellis.proofs.least.fill_step.Given as goal
 
 abbrev pub invariant-loop-state : goal.invariant-loop-state

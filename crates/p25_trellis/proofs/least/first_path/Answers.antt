@@ -1,9 +1,6 @@
-use Rattle.std.proofs.Common.{◌≡◌, ℕ, suc, ◌+◌, List, [], ◌∷◌, ◌++◌, take, sym, ap, subst, ◌∙◌, arith, length-set}
-use Rattle.std.proofs.lemmas.List.{take-append-drop, drop-set-lt}
+use Rattle.std.proofs.{Common.{◌≡◌, ℕ, suc, ◌+◌, List, [], ◌∷◌, ◌++◌, take, sym, ap, subst, ◌∙◌, arith, length-set}, lemmas.List.{take-append-drop, drop-set-lt}}
 use Rattle.p25_trellis.specs.Costs.{cost_in, path_cost, symbols_cost}
-use Rattle.p25_trellis.proofs.CostLaws.{step_cost-lt, HasLeastFrom-later}
-use Rattle.p25_trellis.proofs.PathLaws.{power-pos}
-use Rattle.p25_trellis.proofs.FirstPathLaws.{IsFirstLeastEnd, IsFirstLeastEnd-last, IsFirstLeast-from_end, completes_more}
+use Rattle.p25_trellis.proofs.{CostLaws.{step_cost-lt, HasLeastFrom-later}, PathLaws.{power-pos}, FirstPathLaws.{IsFirstLeastEnd, IsFirstLeastEnd-last, IsFirstLeast-from_end, completes_more}}
 use Rattle.p25_trellis.proofs.least.first_path.Goals as goal
 
 pub best_symbol-state-requires-clause-fits : goal.best_symbol-state-requires-clause-fits

@@ -1,6 +1,5 @@
 use Rattle.std.proofs.Common.{◌≡◌, length}
-use Rattle.p25_trellis.specs.Costs.{cost_in}
-use Rattle.p25_trellis.specs.Least.{HasLeastFrom}
+use Rattle.p25_trellis.specs.{Costs.{cost_in}, Least.{HasLeastFrom}}
 use Rattle.p25_trellis.proofs.least.least_rests.Given as goal
 
 abbrev pub invariant-loop-step : goal.invariant-loop-step

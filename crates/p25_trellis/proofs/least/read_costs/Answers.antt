@@ -1,9 +1,6 @@
 use Rattle.std.proofs.Common.{refl, sym, ◌∙◌, arith}
-use Rattle.p25_trellis.specs.Costs.{cost_in, path_cost}
-use Rattle.p25_trellis.specs.Least.{rest_in}
-use Rattle.p25_trellis.proofs.CostLaws.{rest_in-first}
-use Rattle.p25_trellis.proofs.PathLaws.{power-pos}
-use Rattle.p25_trellis.proofs.FirstPathLaws.{IsFirstLeast-total}
+use Rattle.p25_trellis.specs.{Costs.{cost_in, path_cost}, Least.{rest_in}}
+use Rattle.p25_trellis.proofs.{CostLaws.{rest_in-first}, PathLaws.{power-pos}, FirstPathLaws.{IsFirstLeast-total}}
 use Rattle.p25_trellis.proofs.least.read_costs.Goals as goal
 
 pub returns : goal.returns

@@ -1,7 +1,6 @@
 use Rattle.std.proofs.Common.{◌≡◌, ◌<◌, length, get_or, refl, arith}
 use Rattle.p25_trellis.specs.Costs.{received_cost}
-use Rattle.p25_trellis.proofs.CostLaws.{last_more, HasLeastFrom-last}
-use Rattle.p25_trellis.proofs.NearSteps.{received_cost-is}
+use Rattle.p25_trellis.proofs.{CostLaws.{last_more, HasLeastFrom-last}, NearSteps.{received_cost-is}}
 use Rattle.p25_trellis.proofs.near.fill_last.Goals as goal
 
 pub loop-state-preserved : goal.loop-state-preserved

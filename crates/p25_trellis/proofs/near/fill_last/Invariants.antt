@@ -1,6 +1,5 @@
 use Rattle.std.proofs.Common.{◌≡◌, ℕ, ◌<◌}
-use Rattle.p25_trellis.specs.Costs.{received_cost}
-use Rattle.p25_trellis.specs.Least.{rest_in}
+use Rattle.p25_trellis.specs.{Costs.{received_cost}, Least.{rest_in}}
 use Rattle.p25_trellis.proofs.near.fill_last.Given as goal
 
 abbrev pub invariant-loop-state : goal.invariant-loop-state

@@ -1,7 +1,6 @@
 use Rattle.std.proofs.Common.{◌≡◌, ◌<◌, length, get_or, refl, arith}
 use Rattle.p25_trellis.specs.Costs.{received_cost}
-use Rattle.p25_trellis.proofs.CostLaws.{IsLeastEnd-at, HasLeastFrom-write, here_more}
-use Rattle.p25_trellis.proofs.NearSteps.{near_rest-le, next_rest, IsLowestLeast-step}
+use Rattle.p25_trellis.proofs.{CostLaws.{IsLeastEnd-at, HasLeastFrom-write, here_more}, NearSteps.{near_rest-le, next_rest, IsLowestLeast-step}}
 use Rattle.p25_trellis.proofs.near.fill_step.Goals as goal
 
 pub least_at-least-requires-clause-low : goal.least_at-least-requires-clause-low

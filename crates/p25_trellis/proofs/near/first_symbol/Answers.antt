@@ -1,9 +1,6 @@
 use Rattle.std.proofs.Common.{◌≡◌, ◌≢◌, suc, ◌+◌, ◌-◌, ◌<◌, below_more, sym, ◌∙◌, arith}
-use Rattle.p25_trellis.specs.Costs.{received_cost}
-use Rattle.p25_trellis.specs.Least.{rest_in, step_cost}
-use Rattle.p25_trellis.proofs.CostLaws.{HasLeastFrom-later, IsLowestLeast-first, IsLowestLeast-last, rest-least, rest-reached}
-use Rattle.p25_trellis.proofs.NearSteps.{near_rest-le, rest_read}
-use Rattle.p25_trellis.proofs.PathLaws.{power-pos}
+use Rattle.p25_trellis.specs.{Costs.{received_cost}, Least.{rest_in, step_cost}}
+use Rattle.p25_trellis.proofs.{CostLaws.{HasLeastFrom-later, IsLowestLeast-first, IsLowestLeast-last, rest-least, rest-reached}, NearSteps.{near_rest-le, rest_read}, PathLaws.{power-pos}}
 use Rattle.p25_trellis.proofs.near.first_symbol.Goals as goal
 
 pub symbol_distance-requires-clause-low : goal.symbol_distance-requires-clause-low

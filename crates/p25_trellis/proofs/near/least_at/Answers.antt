@@ -1,8 +1,6 @@
 use Rattle.std.proofs.Common.{◌≡◌, ℕ, ◌+◌, ◌<◌, ◌≤◌, get_or, ap, ap₂, subst, arith}
-use Rattle.p25_trellis.specs.Least.{IsLowestLeast}
-use Rattle.p25_trellis.specs.Tables.{nibble_distance}
-use Rattle.p25_trellis.proofs.NearSteps.{lowered_more}
-use Rattle.p25_trellis.proofs.PathLaws.{power-pos}
+use Rattle.p25_trellis.specs.{Least.{IsLowestLeast}, Tables.{nibble_distance}}
+use Rattle.p25_trellis.proofs.{NearSteps.{lowered_more}, PathLaws.{power-pos}}
 use Rattle.p25_trellis.proofs.near.least_at.Goals as goal
 
 pub loop-symbol-preserved : goal.loop-symbol-preserved

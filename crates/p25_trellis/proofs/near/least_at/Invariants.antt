@@ -1,6 +1,5 @@
 use Rattle.std.proofs.Common.{◌≡◌, ℕ, ◌+◌, ◌<◌, length, get_or}
-use Rattle.p25_trellis.specs.Least.{IsLowestLeast}
-use Rattle.p25_trellis.specs.Tables.{nibble_distance}
+use Rattle.p25_trellis.specs.{Least.{IsLowestLeast}, Tables.{nibble_distance}}
 use Rattle.p25_trellis.proofs.near.least_at.Given as goal
 
 abbrev pub invariant-loop-symbol : goal.invariant-loop-symbol

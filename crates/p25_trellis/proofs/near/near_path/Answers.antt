@@ -1,9 +1,6 @@
-use Rattle.std.proofs.Common.{◌≡◌, ℕ, ◌+◌, List, [], ◌∷◌, ◌++◌, take, sym, ap, subst, ◌∙◌, arith, length-set}
-use Rattle.std.proofs.lemmas.List.{take-append-drop, drop-set-lt}
-use Rattle.p25_trellis.specs.Costs.{received_cost, path_cost, symbols_cost}
-use Rattle.p25_trellis.specs.Least.{rest_in}
-use Rattle.p25_trellis.proofs.PathLaws.{power-pos}
-use Rattle.p25_trellis.proofs.FirstPathLaws.{IsFirstLeastEnd, IsFirstLeastEnd-last, IsFirstLeast-from_end, completes_more}
+use Rattle.std.proofs.{Common.{◌≡◌, ℕ, ◌+◌, List, [], ◌∷◌, ◌++◌, take, sym, ap, subst, ◌∙◌, arith, length-set}, lemmas.List.{take-append-drop, drop-set-lt}}
+use Rattle.p25_trellis.specs.{Costs.{received_cost, path_cost, symbols_cost}, Least.{rest_in}}
+use Rattle.p25_trellis.proofs.{PathLaws.{power-pos}, FirstPathLaws.{IsFirstLeastEnd, IsFirstLeastEnd-last, IsFirstLeast-from_end, completes_more}}
 use Rattle.p25_trellis.proofs.near.near_path.Goals as goal
 
 pub loop-step-preserved : goal.loop-step-preserved

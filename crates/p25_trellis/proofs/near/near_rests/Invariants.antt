@@ -1,6 +1,5 @@
 use Rattle.std.proofs.Common.{◌≡◌, length}
-use Rattle.p25_trellis.specs.Costs.{received_cost}
-use Rattle.p25_trellis.specs.Least.{HasLeastFrom}
+use Rattle.p25_trellis.specs.{Costs.{received_cost}, Least.{HasLeastFrom}}
 use Rattle.p25_trellis.proofs.near.near_rests.Given as goal
 
 abbrev pub invariant-loop-step : goal.invariant-loop-step

@@ -1,9 +1,6 @@
-use Rattle.std.proofs.Common.{◌≡◌, ◌+◌, ◌-◌, ◌≤◌, ◌*◌, ◌++◌, Bool, List, length, take, drop, ap, sym, ◌∙◌, arith, append-nil}
-use Rattle.std.proofs.lemmas.List.{take_all}
-use Rattle.p25_bits.specs.Bits.{bits_of}
-use Rattle.p25_bits.specs.Numbers.{number_bits}
-use Rattle.p25_bits.proofs.NumbersLaws.{number_bits-nil}
-use Rattle.p25_bits.proofs.PartLaws.{length-part}
+use Rattle.std.proofs.{Common.{◌≡◌, ◌+◌, ◌-◌, ◌≤◌, ◌*◌, ◌++◌, Bool, List, length, take, drop, ap, sym, ◌∙◌, arith, append-nil}, lemmas.List.{take_all}}
+use Rattle.p25_bits.specs.{Bits.{bits_of}, Numbers.{number_bits}}
+use Rattle.p25_bits.proofs.{NumbersLaws.{number_bits-nil}, PartLaws.{length-part}}
 use Rattle.p25_trellis.proofs.NibbleSteps.{seven_written}
 use Rattle.p25_trellis.proofs.nibbles.append_nibbles.Goals as goal
 

@@ -1,12 +1,8 @@
-use Rattle.std.proofs.Common.{refl, ◌≡◌, ◌-◌, ◌*◌, ◌+◌, ◌≤◌, length, take, drop, ap, sym, ◌∙◌, arith}
-use Rattle.std.proofs.lemmas.List.{take_all}
+use Rattle.std.proofs.{Common.{refl, ◌≡◌, ◌-◌, ◌*◌, ◌+◌, ◌≤◌, length, take, drop, ap, sym, ◌∙◌, arith}, lemmas.List.{take_all}}
 use borrow.Rule.Slice.PartMut.{mid_of, same_len_mid}
-use Rattle.p25_bits.specs.Bits.{bits_of}
-use Rattle.p25_bits.specs.Numbers.{numbers_from}
-use Rattle.p25_bits.proofs.NumbersLaws.{numbers_from-zero, length-numbers_from}
-use Rattle.p25_bits.proofs.PartLaws.{length-part}
-use Rattle.p25_trellis.proofs.GroupSteps.{groups_more}
-use Rattle.p25_trellis.proofs.NibbleSteps.{seven_read}
+use Rattle.p25_bits.specs.{Bits.{bits_of}, Numbers.{numbers_from}}
+use Rattle.p25_bits.proofs.{NumbersLaws.{numbers_from-zero, length-numbers_from}, PartLaws.{length-part}}
+use Rattle.p25_trellis.proofs.{GroupSteps.{groups_more}, NibbleSteps.{seven_read}}
 use Rattle.p25_trellis.proofs.nibbles.take_nibbles.Goals as goal
 
 pub loop-j-init : goal.loop-j-init

@@ -1,5 +1,4 @@
-use Rattle.std.proofs.Common.{ℕ, ◌<◌, ◌≤◌, ◌++◌, List, length, refl, sym, ap, ap₂, ◌∙◌, append-nil, arith, length-set}
-use Rattle.std.proofs.lemmas.List.{take_all, drop_all}
+use Rattle.std.proofs.{Common.{ℕ, ◌<◌, ◌≤◌, ◌++◌, List, length, refl, sym, ap, ap₂, ◌∙◌, append-nil, arith, length-set}, lemmas.List.{take_all, drop_all}}
 use Rattle.std.proofs.lemmas.List.Elements.{All-replicate, All-set}
 use Rattle.p25_trellis.specs.Trellis.{nibbles_from}
 use Rattle.p25_trellis.proofs.PathLaws.{nibbles_more, nibbles_from-nil, power-pos}

@@ -1,6 +1,4 @@
-use Rattle.std.proofs.Common.{ℕ, ◌*◌, ◌^◌, ◌<◌, ◌≤◌, All, List, length, take, ap, sym, subst, ◌∙◌, arith}
-use Rattle.std.proofs.lemmas.List.{length-take-le}
-use Rattle.std.proofs.lemmas.List.Elements.{All-take}
+use Rattle.std.proofs.{Common.{ℕ, ◌*◌, ◌^◌, ◌<◌, ◌≤◌, All, List, length, take, ap, sym, subst, ◌∙◌, arith}, lemmas.List.{length-take-le}, lemmas.List.Elements.{All-take}}
 use Rattle.p25_bits.specs.Numbers.{number_bits, numbers_from}
 use Rattle.p25_trellis.specs.Trellis.{Carries}
 use Rattle.p25_trellis.proofs.NearestLaws.{Carries-octets_from}

@@ -1,10 +1,7 @@
-use Rattle.std.proofs.Common.{◌≡◌, ℕ, ◌*◌, ◌<◌, ◌++◌, [], ◌∷◌, List, length, ap, sym, subst, ◌∙◌, arith}
-use Rattle.std.proofs.lemmas.List.Elements.{All-from_get_or}
-use Rattle.p25_bits.specs.Bits.{octet_bits}
-use Rattle.p25_bits.specs.Numbers.{number_bits, numbers_from}
+use Rattle.std.proofs.{Common.{◌≡◌, ℕ, ◌*◌, ◌<◌, ◌++◌, [], ◌∷◌, List, length, ap, sym, subst, ◌∙◌, arith}, lemmas.List.Elements.{All-from_get_or}}
+use Rattle.p25_bits.specs.{Bits.{octet_bits}, Numbers.{number_bits, numbers_from}}
 use Rattle.p25_bits.proofs.NumbersLaws.{number_bits-octets}
-use Rattle.p25_trellis.specs.Nearest.{path_from}
-use Rattle.p25_trellis.specs.Trellis.{IsPath, Carries}
+use Rattle.p25_trellis.specs.{Nearest.{path_from}, Trellis.{IsPath, Carries}}
 use Rattle.p25_trellis.proofs.NearestLaws.{IsPath-path_from, Carries-path_from}
 use Rattle.p25_trellis.proofs.path.path_of.Goals as goal
 

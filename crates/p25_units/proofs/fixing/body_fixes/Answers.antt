@@ -1,15 +1,9 @@
 use Rattle.std.proofs.Common.{◌+◌, ◌*◌, Some, ap, sym, ◌∙◌}
-use Rattle.p25_bits.specs.Bits.{part}
-use Rattle.p25_bits.specs.Distance.{distance_of}
-use Rattle.p25_packet_blocks.specs.Heads.{head_blocks}
-use Rattle.p25_packet_blocks.specs.Whole.{packet_head}
+use Rattle.p25_bits.specs.{Bits.{part}, Distance.{distance_of}}
+use Rattle.p25_packet_blocks.specs.{Heads.{head_blocks}, Whole.{packet_head}}
 use Rattle.p25_voice_units.specs.Fixes.{voice_fixes_of}
-use Rattle.p25_units.specs.Fixes.{body_fixes_of}
-use Rattle.p25_units.specs.UnitParts.{UnitParts}
-use Rattle.p25_units.specs.Units.{body_length, unit_image_of}
-use Rattle.p25_units.specs.declared.unit.Body.{Body}
-use Rattle.p25_units.proofs.FixesLaws.{body_fixes_of-packet, body_fixes_of-voice}
-use Rattle.p25_units.proofs.UnitsLaws.{body_length-known}
+use Rattle.p25_units.specs.{Fixes.{body_fixes_of}, UnitParts.{UnitParts}, Units.{body_length, unit_image_of}, declared.unit.Body.{Body}}
+use Rattle.p25_units.proofs.{FixesLaws.{body_fixes_of-packet, body_fixes_of-voice}, UnitsLaws.{body_length-known}}
 use Rattle.p25_units.proofs.fixing.body_fixes.Goals as goal
 
 pub voice_fixes-requires-clause-received : goal.voice_fixes-requires-clause-received

@@ -2,8 +2,7 @@ use Rattle.std.proofs.Common.{ap, arith, ◌∙◌}
 use Rattle.p25_bits.specs.Bits.{part}
 use Rattle.p25_status.specs.Woven.{bare_of}
 use Rattle.p25_units.specs.Fixes.{body_fixes_of}
-use Rattle.p25_units.proofs.UnitsLaws.{blocks-sound, symbols-sound}
-use Rattle.p25_units.proofs.FixesLaws.{fixes_in}
+use Rattle.p25_units.proofs.{UnitsLaws.{blocks-sound, symbols-sound}, FixesLaws.{fixes_in}}
 use Rattle.p25_units.proofs.fixing.fixes.Goals as goal
 
 pub front_fixes-requires : goal.front_fixes-requires

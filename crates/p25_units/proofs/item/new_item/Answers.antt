@@ -1,6 +1,5 @@
 use Rattle.std.proofs.Common.{◌∙◌}
-use Rattle.p25_units.proofs.ItemSteps.{broken-is}
-use Rattle.p25_units.proofs.UnitPlaceLaws.{IsCountAt-kind}
+use Rattle.p25_units.proofs.{ItemSteps.{broken-is}, UnitPlaceLaws.{IsCountAt-kind}}
 use Rattle.p25_units.proofs.item.new_item.Goals as goal
 
 pub broken_item-requires : goal.broken_item-requires

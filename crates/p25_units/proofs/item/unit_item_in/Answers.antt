@@ -1,11 +1,7 @@
 use Rattle.std.proofs.Common.{sym, ap, arith, ◌∙◌, subst, drop}
 use Rattle.p25_bits.specs.Bits.{part}
-use Rattle.p25_units.specs.Items.{IsSoundItem, item_from}
-use Rattle.p25_units.specs.declared.item.Item.{Item}
-use Rattle.p25_units.specs.declared.item.Item.TheVariants.{Whole}
-use Rattle.p25_units.proofs.ItemSteps.{broken-is}
-use Rattle.p25_units.proofs.ItemsLaws.{IsSoundItem-unit_item_of}
-use Rattle.p25_units.proofs.UnitPlaceLaws.{IsCountAt-kind, IsUnitAt-from, item-is, kind-is, some_nid}
+use Rattle.p25_units.specs.{Items.{IsSoundItem, item_from}, declared.item.Item.{Item}, declared.item.Item.TheVariants.{Whole}}
+use Rattle.p25_units.proofs.{ItemSteps.{broken-is}, ItemsLaws.{IsSoundItem-unit_item_of}, UnitPlaceLaws.{IsCountAt-kind, IsUnitAt-from, item-is, kind-is, some_nid}}
 use Rattle.p25_units.proofs.item.unit_item_in.Goals as goal
 
 pub identify-requires-clause-there : goal.identify-requires-clause-there

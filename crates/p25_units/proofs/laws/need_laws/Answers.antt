@@ -1,5 +1,4 @@
-use Rattle.p25_units.proofs.BegunLaws.{IsBegun-append}
-use Rattle.p25_units.proofs.ItemsLaws.{covered-unit_item_of, place_of-unit_item_of, IsSoundItem-unit_item_of, unit_item_of-no_gap}
+use Rattle.p25_units.proofs.{BegunLaws.{IsBegun-append}, ItemsLaws.{covered-unit_item_of, place_of-unit_item_of, IsSoundItem-unit_item_of, unit_item_of-no_gap}}
 use Rattle.p25_units.proofs.NeedsLaws.{need_of-few, need_of-there, need_of-seen, need_of-stays, need_of-waits}
 use Rattle.p25_units.proofs.laws.need_laws.Goals as goal
 

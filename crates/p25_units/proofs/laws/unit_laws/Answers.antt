@@ -1,7 +1,4 @@
-use Rattle.p25_units.proofs.ImagePlacesLaws.{IsImage-iff}
-use Rattle.p25_units.proofs.FailuresLaws.{unit_fails}
-use Rattle.p25_units.proofs.FixesLaws.{fixes_of-image_of}
-use Rattle.p25_units.proofs.WholeLaws.{whole-near}
+use Rattle.p25_units.proofs.{ImagePlacesLaws.{IsImage-iff}, FailuresLaws.{unit_fails}, FixesLaws.{fixes_of-image_of}, WholeLaws.{whole-near}}
 use Rattle.p25_units.proofs.WithinRadiusLaws.{need_of-near, unit_reading_of-near, unit_item_of-near, IsWithinRadius-image_of, unit_reading_of-image_of}
 use Rattle.p25_units.proofs.laws.unit_laws.Goals as goal
 

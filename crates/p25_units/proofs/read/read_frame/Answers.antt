@@ -1,18 +1,11 @@
-use Rattle.std.proofs.Common.{ℕ, ◌≡◌, ◌*◌, ◌/◌, ◌≤◌, Bool, List, ap, sym, ◌∙◌, subst, arith, drop, length, length-drop}
-use Rattle.std.proofs.lemmas.List.{length-take-le}
+use Rattle.std.proofs.{Common.{ℕ, ◌≡◌, ◌*◌, ◌/◌, ◌≤◌, Bool, List, ap, sym, ◌∙◌, subst, arith, drop, length, length-drop}, lemmas.List.{length-take-le}}
 use Rattle.p25_bits.specs.Bits.{part}
-use Rattle.p25_status.specs.Outcomes.{IfRead}
-use Rattle.p25_status.specs.Woven.{bare_of}
+use Rattle.p25_status.specs.{Outcomes.{IfRead}, Woven.{bare_of}}
 use Rattle.p25_status.proofs.WovenLaws.{length-bare_of}
 use Rattle.p25_unit_front.proofs.FrontLaws.{front_fixes_of-le}
 use Rattle.p25_packet_blocks.specs.Reading.{header_bits, read_head_of, HasItsLength}
-use Rattle.p25_units.specs.Fixes.{body_fixes_of}
-use Rattle.p25_units.specs.Needs.{kind_need}
-use Rattle.p25_units.specs.Readings.{body_reading_of}
-use Rattle.p25_units.specs.declared.needs.Need.TheVariants.{Length}
-use Rattle.p25_units.proofs.OutcomeLaws.{most-le}
-use Rattle.p25_units.proofs.PacketItemLaws.{frame_outcome, frame_wrong}
-use Rattle.p25_units.proofs.ReadingsLaws.{body_reading_of-packet, body_reading_of-voice}
+use Rattle.p25_units.specs.{Fixes.{body_fixes_of}, Needs.{kind_need}, Readings.{body_reading_of}, declared.needs.Need.TheVariants.{Length}}
+use Rattle.p25_units.proofs.{OutcomeLaws.{most-le}, PacketItemLaws.{frame_outcome, frame_wrong}, ReadingsLaws.{body_reading_of-packet, body_reading_of-voice}}
 use Rattle.p25_units.proofs.UnitPlaceLaws.{IsCountAt-kind, IsPacketAt, IsPacketAt-kind, voice_long}
 use Rattle.p25_units.proofs.read.read_frame.Goals as goal
 

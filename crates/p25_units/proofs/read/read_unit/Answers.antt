@@ -1,9 +1,7 @@
 use Rattle.std.proofs.Common.{Some, Err, drop, sym, ◌∙◌}
 use Rattle.p25_bits.specs.Bits.{part}
 use Rattle.p25_units.specs.Readings.{reading_from}
-use Rattle.p25_units.proofs.FailuresLaws.{some_fields}
-use Rattle.p25_units.proofs.ItemSteps.{read_broken, read_other, read_whole}
-use Rattle.p25_units.proofs.UnitPlaceLaws.{IsUnitAt-from, item_of_unit, reading_of_unit}
+use Rattle.p25_units.proofs.{FailuresLaws.{some_fields}, ItemSteps.{read_broken, read_other, read_whole}, UnitPlaceLaws.{IsUnitAt-from, item_of_unit, reading_of_unit}}
 use Rattle.p25_units.proofs.read.read_unit.Goals as goal
 
 pub returns-in-Whole-clause-reading : goal.returns-in-Whole-clause-reading

@@ -1,8 +1,6 @@
 use Rattle.std.proofs.Common.{◌≡◌, ◌-◌, ap, sym, ◌∙◌, arith, drop, length, length-drop}
-use Rattle.p25_units.specs.Needs.{kind_need, length_need, voice_need}
-use Rattle.p25_units.specs.Units.{sent_length}
-use Rattle.p25_units.proofs.NeedsLaws.{kind_need-packet, kind_need-unpacked, voice_need-none, voice_need-some}
-use Rattle.p25_units.proofs.UnitsLaws.{IsSentLength-voice}
+use Rattle.p25_units.specs.{Needs.{kind_need, length_need, voice_need}, Units.{sent_length}}
+use Rattle.p25_units.proofs.{NeedsLaws.{kind_need-packet, kind_need-unpacked, voice_need-none, voice_need-some}, UnitsLaws.{IsSentLength-voice}}
 use Rattle.p25_units.proofs.scan.need_of_kind.Goals as goal
 
 pub returns-then-duid-eq-PDU-clause-need : goal.returns-then-duid-eq-PDU-clause-need

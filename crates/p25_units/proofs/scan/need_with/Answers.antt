@@ -1,8 +1,6 @@
-use Rattle.std.proofs.Common.{drop, sym, arith, length-drop}
-use Rattle.std.proofs.lemmas.Bool.{iff_false}
+use Rattle.std.proofs.{Common.{drop, sym, arith, length-drop}, lemmas.Bool.{iff_false}}
 use Rattle.p25_status.proofs.SyncLaws.{has_sync-yes}
-use Rattle.p25_units.proofs.NeedsLaws.{need_of-short}
-use Rattle.p25_units.proofs.UnitPlaceLaws.{need-unsynced}
+use Rattle.p25_units.proofs.{NeedsLaws.{need_of-short}, UnitPlaceLaws.{need-unsynced}}
 use Rattle.p25_units.proofs.scan.need_with.Goals as goal
 
 pub returns-then-len-at-lt48-clause-need : goal.returns-then-len-at-lt48-clause-need

@@ -1,9 +1,7 @@
 use Rattle.std.proofs.Common.{ap, ◌∙◌, length}
 use Rattle.p25_status.specs.Woven.{woven}
-use Rattle.p25_units.specs.Readings.{unit_reading_of}
-use Rattle.p25_units.specs.Units.{image_of}
-use Rattle.p25_units.proofs.UnitsLaws.{symbols-sound, length-image_of}
-use Rattle.p25_units.proofs.WithinRadiusLaws.{unit_reading_of-image_of}
+use Rattle.p25_units.specs.{Readings.{unit_reading_of}, Units.{image_of}}
+use Rattle.p25_units.proofs.{UnitsLaws.{symbols-sound, length-image_of}, WithinRadiusLaws.{unit_reading_of-image_of}}
 use Rattle.p25_units.proofs.sending.image.Goals as goal
 
 pub weave-requires : goal.weave-requires

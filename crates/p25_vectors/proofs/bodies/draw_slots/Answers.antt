@@ -1,11 +1,7 @@
 use Rattle.std.proofs.Common.{◌≡◌, ◌+◌, ◌*◌, ℕ, List, [], ◌∷◌, ◌++◌, length, ap, ap₂, sym, ◌∙◌}
-use Rattle.p25_vectors.specs.Draws.{octets_drawn, state_after}
-use Rattle.p25_vectors.proofs.DrawsLaws.{state_after-none}
-use Rattle.p25_packet_blocks.specs.declared.block.Slot.{Slot}
-use Rattle.p25_packet_blocks.specs.declared.block.Slot.TheVariants.{Good}
-use Rattle.p25_packet_blocks.specs.Parts.{BlockParts}
-use Rattle.p25_vectors.specs.Bodies.{block_of}
-use Rattle.p25_vectors.proofs.BodiesLaws.{slots_drawn-none, slots_drawn-more, state_after-more}
+use Rattle.p25_vectors.specs.{Draws.{octets_drawn, state_after}, Bodies.{block_of}}
+use Rattle.p25_vectors.proofs.{DrawsLaws.{state_after-none}, BodiesLaws.{slots_drawn-none, slots_drawn-more, state_after-more}}
+use Rattle.p25_packet_blocks.specs.{declared.block.Slot.{Slot}, declared.block.Slot.TheVariants.{Good}, Parts.{BlockParts}}
 use Rattle.p25_vectors.proofs.bodies.draw_slots.Goals as goal
 
 pub loop-serial-init : goal.loop-serial-init

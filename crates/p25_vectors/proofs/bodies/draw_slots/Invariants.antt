@@ -1,6 +1,5 @@
 use Rattle.std.proofs.Common.{◌≡◌, ◌*◌, length}
-use Rattle.p25_vectors.specs.Bodies.{slots_drawn}
-use Rattle.p25_vectors.specs.Draws.{state_after}
+use Rattle.p25_vectors.specs.{Bodies.{slots_drawn}, Draws.{state_after}}
 use Rattle.p25_vectors.proofs.bodies.draw_slots.Given as goal
 
 abbrev pub invariant-loop-serial : goal.invariant-loop-serial

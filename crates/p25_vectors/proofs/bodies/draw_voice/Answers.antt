@@ -1,10 +1,7 @@
-use Rattle.std.proofs.Common.{◌≡◌, ◌*◌, ◌<◌, List, [], ◌∷◌, ◌++◌, length, refl, ap, ap₂, sym, ◌∙◌, arith}
-use Rattle.p25_vectors.specs.Draws.{octets_drawn, state_after}
-use Rattle.p25_vectors.proofs.DrawsLaws.{state_after-none}
-use Rattle.std.proofs.lemmas.List.{take_more_set, length-set}
+use Rattle.std.proofs.{Common.{◌≡◌, ◌*◌, ◌<◌, List, [], ◌∷◌, ◌++◌, length, refl, ap, ap₂, sym, ◌∙◌, arith}, lemmas.List.{take_more_set, length-set}}
+use Rattle.p25_vectors.specs.{Draws.{octets_drawn, state_after}, Bodies.{voice_frame_of}}
+use Rattle.p25_vectors.proofs.{DrawsLaws.{state_after-none}, BodiesLaws.{voice_drawn-none, voice_drawn-more, state_after-more}}
 use Rattle.p25_voice_units.specs.declared.voice.VoiceFrame.{VoiceFrame}
-use Rattle.p25_vectors.specs.Bodies.{voice_frame_of}
-use Rattle.p25_vectors.proofs.BodiesLaws.{voice_drawn-none, voice_drawn-more, state_after-more}
 use Rattle.p25_vectors.proofs.bodies.draw_voice.Goals as goal
 
 pub loop-i-init : goal.loop-i-init

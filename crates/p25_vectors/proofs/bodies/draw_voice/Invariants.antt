@@ -1,6 +1,5 @@
 use Rattle.std.proofs.Common.{◌≡◌, ◌*◌, length, take}
-use Rattle.p25_vectors.specs.Bodies.{voice_drawn}
-use Rattle.p25_vectors.specs.Draws.{state_after}
+use Rattle.p25_vectors.specs.{Bodies.{voice_drawn}, Draws.{state_after}}
 use Rattle.p25_vectors.proofs.bodies.draw_voice.Given as goal
 
 abbrev pub invariant-loop-i : goal.invariant-loop-i

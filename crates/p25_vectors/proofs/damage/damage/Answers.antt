@@ -1,10 +1,8 @@
 use Rattle.std.proofs.Common.{◌≡◌, ◌%◌, ℕ, List, ◌∷◌, sum, Bool, ap, ap₂, ◌∙◌, arith}
-use Rattle.p25_vectors.specs.Draws.{draw, state_after}
-use Rattle.p25_vectors.proofs.DrawsLaws.{draw-after, state_after-add}
+use Rattle.p25_vectors.specs.{Draws.{draw, state_after}, Damage.{body_counts, body_damage_draws, damage_counts, damage_draws, damaged, damaged_words, inverted}}
+use Rattle.p25_vectors.proofs.{DrawsLaws.{draw-after, state_after-add}, CountsLaws.{sum-first}}
 use Rattle.p25_units.specs.Fixes.{body_looked}
 use Rattle.p25_units.proofs.UnitsLaws.{IsSentLength-body}
-use Rattle.p25_vectors.specs.Damage.{body_counts, body_damage_draws, damage_counts, damage_draws, damaged, damaged_words, inverted}
-use Rattle.p25_vectors.proofs.CountsLaws.{sum-first}
 use Rattle.p25_vectors.proofs.damage.damage.Goals as goal
 
 pub damage_word-sync-requires-clause-there : goal.damage_word-sync-requires-clause-there

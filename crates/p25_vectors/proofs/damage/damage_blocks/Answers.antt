@@ -1,8 +1,6 @@
 use Rattle.std.proofs.Common.{◌≡◌, ◌+◌, ◌*◌, ◌%◌, ℕ, refl, ap, sym, ◌∙◌, arith}
-use Rattle.p25_vectors.specs.Draws.{draw, state_after}
-use Rattle.p25_vectors.proofs.DrawsLaws.{draw-after, state_after-none, state_after-add}
-use Rattle.p25_vectors.specs.Damage.{inverted}
-use Rattle.p25_vectors.proofs.CountsLaws.{AreBlocksSoFar, blocks, blocks-none, blocks-more}
+use Rattle.p25_vectors.specs.{Draws.{draw, state_after}, Damage.{inverted}}
+use Rattle.p25_vectors.proofs.{DrawsLaws.{draw-after, state_after-none, state_after-add}, CountsLaws.{AreBlocksSoFar, blocks, blocks-none, blocks-more}}
 use Rattle.p25_vectors.proofs.damage.damage_blocks.Goals as goal
 
 place : ℕ → ℕ

@@ -1,13 +1,8 @@
 use Rattle.std.proofs.Common.{◌≡◌, ◌+◌, ◌%◌, ℕ, length, ap, ◌∙◌}
-use Rattle.p25_vectors.specs.Draws.{draw, state_after}
-use Rattle.p25_vectors.proofs.DrawsLaws.{state_after-add}
-use Rattle.p25_voice_units.specs.Fixes.{link_looked, wide}
-use Rattle.p25_voice_units.specs.FieldLayouts.{word_places}
-use Rattle.p25_voice_units.specs.Layouts.{ldu_rows}
-use Rattle.p25_voice_units.specs.Readings.{low_places}
+use Rattle.p25_vectors.specs.{Draws.{draw, state_after}, Damage.{damaged, field_counts, field_draws, word_counts}}
+use Rattle.p25_vectors.proofs.{DrawsLaws.{state_after-add}, CountsLaws.{length-word_counts, damaged-both}}
+use Rattle.p25_voice_units.specs.{Fixes.{link_looked, wide}, FieldLayouts.{word_places}, Layouts.{ldu_rows}, Readings.{low_places}}
 use Rattle.p25_coded_fields.specs.Layouts.{places_from}
-use Rattle.p25_vectors.specs.Damage.{damaged, field_counts, field_draws, word_counts}
-use Rattle.p25_vectors.proofs.CountsLaws.{length-word_counts, damaged-both}
 use Rattle.p25_vectors.proofs.damage.damage_link.Goals as goal
 
 pub returns-clause-list : goal.returns-clause-list

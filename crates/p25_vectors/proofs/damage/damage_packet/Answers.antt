@@ -1,14 +1,9 @@
 use Rattle.std.proofs.Common.{◌≡◌, ◌+◌, ◌*◌, ◌%◌, ℕ, List, [], ◌∷◌, length, sum, ap, ap₂, sym, ◌∙◌, arith}
-use Rattle.p25_vectors.specs.Draws.{draw, state_after}
-use Rattle.p25_vectors.proofs.DrawsLaws.{state_after-add}
+use Rattle.p25_vectors.specs.{Draws.{draw, state_after}, Damage.{body_counts, body_damage_draws, damaged, word_counts}}
+use Rattle.p25_vectors.proofs.{DrawsLaws.{state_after-add}, DamageLaws.{damaged-one}, CountsLaws.{word_counts-one, damaged-both, sum-both, sum-first}}
 use Rattle.p25_bits.specs.Numbers.{each_below}
-use Rattle.p25_packet_blocks.specs.Heads.{head_blocks}
-use Rattle.p25_packet_blocks.specs.Whole.{packet_head}
-use Rattle.p25_packet_blocks.specs.Within.{block_radius}
+use Rattle.p25_packet_blocks.specs.{Heads.{head_blocks}, Whole.{packet_head}, Within.{block_radius}}
 use Rattle.p25_units.specs.Fixes.{packet_looked}
-use Rattle.p25_vectors.specs.Damage.{body_counts, body_damage_draws, damaged, word_counts}
-use Rattle.p25_vectors.proofs.DamageLaws.{damaged-one}
-use Rattle.p25_vectors.proofs.CountsLaws.{word_counts-one, damaged-both, sum-both, sum-first}
 use Rattle.p25_vectors.proofs.damage.damage_packet.Goals as goal
 
 blocks : ℕ → List (ℕ × ℕ)

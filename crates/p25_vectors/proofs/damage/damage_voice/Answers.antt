@@ -1,17 +1,11 @@
 use Rattle.std.proofs.Common.{◌≡◌, ℕ, List, length, sum, Bool, refl, ap, sym, ◌∙◌}
-use Rattle.p25_vectors.specs.Draws.{state_after}
+use Rattle.p25_vectors.specs.{Draws.{state_after}, Damage.{body_counts, body_damage_draws, damaged}}
 use Rattle.p25_coded_fields.specs.Layouts.{places_from}
-use Rattle.p25_voice_units.specs.declared.unit.VoiceUnit.{VoiceUnit}
-use Rattle.p25_voice_units.specs.declared.unit.VoiceUnit.TheVariants.{Header, Link1, Link2, End, EndLink}
-use Rattle.p25_voice_units.specs.FieldLayouts.{word_places}
-use Rattle.p25_voice_units.specs.Fixes.{voice_looked}
+use Rattle.p25_voice_units.specs.{declared.unit.VoiceUnit.{VoiceUnit}, declared.unit.VoiceUnit.TheVariants.{Header, Link1, Link2, End, EndLink}, FieldLayouts.{word_places}, Fixes.{voice_looked}}
 use Rattle.p25_voice_units.specs.Lengths.{voice_length_of}
 use Rattle.p25_voice_units.proofs.FieldCodesLaws.{header_there, tdulc_there}
-use Rattle.p25_units.specs.Units.{body_length}
-use Rattle.p25_units.specs.declared.unit.Body.TheVariants.{Voice}
-use Rattle.p25_vectors.specs.Damage.{body_counts, body_damage_draws, damaged}
-use Rattle.p25_vectors.proofs.DrawsLaws.{state_after-none}
-use Rattle.p25_vectors.proofs.DamageLaws.{damaged-none}
+use Rattle.p25_units.specs.{Units.{body_length}, declared.unit.Body.TheVariants.{Voice}}
+use Rattle.p25_vectors.proofs.{DrawsLaws.{state_after-none}, DamageLaws.{damaged-none}}
 use Rattle.p25_vectors.proofs.damage.damage_voice.Goals as goal
 
 long : (voice is : VoiceUnit) (bits : List Bool) → length bits ≡ body_length (Voice voice) → voice ≡ is → length bits ≡ body_length (Voice is)

@@ -1,8 +1,6 @@
 use Rattle.std.proofs.Common.{◌≡◌, ◌+◌, ◌-◌, ◌%◌, ℕ, length, get_or, refl, ap, sym, ◌∙◌, arith}
-use Rattle.p25_vectors.specs.Draws.{draw, state_after}
-use Rattle.p25_vectors.proofs.DrawsLaws.{draw-after, state_after-none, state_after-add}
-use Rattle.p25_vectors.specs.Damage.{inverted}
-use Rattle.p25_vectors.proofs.CountsLaws.{count_at-whole, count_at-drawn, IsSoFar, so_far-none, so_far-more}
+use Rattle.p25_vectors.specs.{Draws.{draw, state_after}, Damage.{inverted}}
+use Rattle.p25_vectors.proofs.{DrawsLaws.{draw-after, state_after-none, state_after-add}, CountsLaws.{count_at-whole, count_at-drawn, IsSoFar, so_far-none, so_far-more}}
 use Rattle.p25_vectors.proofs.damage.damage_words.Goals.{then-i-whole, else-i-whole}
 use Rattle.p25_vectors.proofs.damage.damage_words.Goals as goal
 

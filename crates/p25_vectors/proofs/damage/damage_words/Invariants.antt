@@ -1,7 +1,6 @@
 use Rattle.std.proofs.Common.{◌≡◌, ◌-◌, ◌*◌, ◌≤◌, length, sum, take}
 use Rattle.p25_voice_units.specs.Fixes.{wide}
-use Rattle.p25_vectors.specs.Damage.{damaged, word_counts}
-use Rattle.p25_vectors.specs.Draws.{state_after}
+use Rattle.p25_vectors.specs.{Damage.{damaged, word_counts}, Draws.{state_after}}
 use Rattle.p25_vectors.proofs.damage.damage_words.Given as goal
 
 abbrev pub invariant-loop-i : goal.invariant-loop-i

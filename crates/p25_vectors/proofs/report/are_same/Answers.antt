@@ -1,11 +1,8 @@
-use Rattle.std.proofs.Common.{◌≡◌, List, length, Bool, ap, sym, ◌∙◌, arith, true, Result, Ok, nat_eq}
+use Rattle.std.proofs.{Common.{◌≡◌, List, length, Bool, ap, sym, ◌∙◌, arith, true, Result, Ok, nat_eq}, lemmas.Bool.Decides.{nat_tests}}
 use Rattle.p25_status.specs.declared.fields.Field.{Field}
-use Rattle.std.proofs.lemmas.Bool.Decides.{nat_tests}
 use Rattle.p25_bits.specs.Distance.{distance_of}
 use Rattle.p25_bits.proofs.DistanceLaws.{same_from_distance_of, distance_of-same}
-use Rattle.p25_units.specs.Readings.{unit_reading_of}
-use Rattle.p25_units.specs.Units.{image_of}
-use Rattle.p25_units.specs.declared.frame.Frame.{Frame}
+use Rattle.p25_units.specs.{Readings.{unit_reading_of}, Units.{image_of}, declared.frame.Frame.{Frame}}
 use Rattle.p25_vectors.proofs.report.are_same.Goals as goal
 
 same_frame : (a b : Frame) (reading : Result Frame (List Field)) → reading ≡ Ok a → reading ≡ Ok b → a ≡ b

@@ -2,8 +2,7 @@ use Rattle.std.proofs.Common.{List, Bool, ap, ap₂, ◌∙◌}
 use Rattle.p25_status.specs.Woven.{woven}
 use Rattle.p25_units.specs.declared.unit.Body.{Body}
 use Rattle.p25_units.proofs.UnitsLaws.{symbols-sound}
-use Rattle.p25_vectors.specs.Damage.{damage_counts, damaged, damaged_words}
-use Rattle.p25_vectors.specs.Samples.{damaged_image}
+use Rattle.p25_vectors.specs.{Damage.{damage_counts, damaged, damaged_words}, Samples.{damaged_image}}
 use Rattle.p25_vectors.proofs.sampler.put_damaged.Goals as goal
 
 pub weave-requires : goal.weave-requires

@@ -1,6 +1,4 @@
-use Rattle.std.proofs.Common.{◌+◌, ◌<◌, length, get_or, sum_by, ap, ap₂, sym, ◌∙◌, arith}
-use Rattle.std.proofs.lemmas.List.{take_all}
-use Rattle.std.proofs.lemmas.List.Sums.{sum_by_more, sum_by_more_le}
+use Rattle.std.proofs.{Common.{◌+◌, ◌<◌, length, get_or, sum_by, ap, ap₂, sym, ◌∙◌, arith}, lemmas.List.{take_all}, lemmas.List.Sums.{sum_by_more, sum_by_more_le}}
 use Rattle.p25_voice_units.proofs.FixesLaws.{differ_at, differ_at-ones, differ_at-all, differ_at-le, differ_at-small}
 use Rattle.p25_voice_units.proofs.fixes.differing.Goals as goal
 

@@ -1,10 +1,7 @@
 use Rattle.std.proofs.Common.{◌+◌, length, refl, ap₂, sym, ◌∙◌}
 use Rattle.p25_coded_fields.specs.Layouts.{places_from}
 use Rattle.p25_coded_fields.proofs.CodesLaws.{all_end}
-use Rattle.p25_voice_units.specs.Fixes.{link_looked}
-use Rattle.p25_voice_units.specs.Layouts.{ldu_rows}
-use Rattle.p25_voice_units.specs.FieldLayouts.{word_places}
-use Rattle.p25_voice_units.specs.Readings.{low_places}
+use Rattle.p25_voice_units.specs.{Fixes.{link_looked}, Layouts.{ldu_rows}, FieldLayouts.{word_places}, Readings.{low_places}}
 use Rattle.p25_voice_units.proofs.FixesLaws.{fixes-append}
 use Rattle.p25_voice_units.proofs.fixes.ldu_fixes.Goals as goal
 

@@ -1,12 +1,8 @@
 use Rattle.std.proofs.Common.{length, ap, sym, ◌∙◌, arith}
 use Rattle.p25_bits.specs.Distance.{distance_by}
 use Rattle.p25_coded_fields.specs.Layouts.{places_from}
-use Rattle.p25_voice_units.specs.Fixes.{bits_at, voice_looked, voice_fixes_of}
-use Rattle.p25_voice_units.specs.FieldLayouts.{word_places}
-use Rattle.p25_voice_units.specs.Lengths.{voice_duid}
-use Rattle.p25_voice_units.proofs.LengthsLaws.{length-header, length-ldu1, length-ldu2, length-tdulc}
-use Rattle.p25_voice_units.proofs.KindsLaws.{long_by_kind}
-use Rattle.p25_voice_units.proofs.FieldCodesLaws.{header_there, tdulc_there}
+use Rattle.p25_voice_units.specs.{Fixes.{bits_at, voice_looked, voice_fixes_of}, FieldLayouts.{word_places}, Lengths.{voice_duid}}
+use Rattle.p25_voice_units.proofs.{LengthsLaws.{length-header, length-ldu1, length-ldu2, length-tdulc}, KindsLaws.{long_by_kind}, FieldCodesLaws.{header_there, tdulc_there}}
 use Rattle.p25_voice_units.proofs.fixes.voice_fixes.Goals as goal
 
 pub differing-requires-clause-received : goal.differing-requires-clause-received

@@ -1,6 +1,5 @@
 use Rattle.std.proofs.Common.{◌<◌, ℕ, get_or}
-use Rattle.p25_voice_units.specs.declared.voice.VoiceFrame.{VoiceFrame}
-use Rattle.p25_voice_units.specs.Sendable.{IsVoiceFrame}
+use Rattle.p25_voice_units.specs.{declared.voice.VoiceFrame.{VoiceFrame}, Sendable.{IsVoiceFrame}}
 use Rattle.p25_voice_units.proofs.image.fit_speech.Given as goal
 
 abbrev pub invariant-loop-frame : goal.invariant-loop-frame

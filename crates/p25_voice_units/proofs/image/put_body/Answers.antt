@@ -1,8 +1,6 @@
 use Rattle.std.proofs.Common.{◌≡◌, ◌+◌, length, Some, ap, sym, ◌∙◌}
-use Rattle.p25_voice_units.specs.Images.{golay18_word, golay24_word, hamming10_word, voice_body}
-use Rattle.p25_voice_units.specs.Sendable.{IsSendableVoice}
-use Rattle.p25_voice_units.proofs.CodesLaws.{golay18_encodes, golay24_encodes, hamming10_encodes}
-use Rattle.p25_voice_units.proofs.LengthsLaws.{length-header, length-ldu1, length-ldu2, length-end, length-tdulc}
+use Rattle.p25_voice_units.specs.{Images.{golay18_word, golay24_word, hamming10_word, voice_body}, Sendable.{IsSendableVoice}}
+use Rattle.p25_voice_units.proofs.{CodesLaws.{golay18_encodes, golay24_encodes, hamming10_encodes}, LengthsLaws.{length-header, length-ldu1, length-ldu2, length-end, length-tdulc}}
 use Rattle.p25_voice_units.proofs.image.put_body.Goals as goal
 
 pub returns-in-Header : goal.returns-in-Header

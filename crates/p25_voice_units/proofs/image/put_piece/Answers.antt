@@ -4,8 +4,7 @@ use Rattle.p25_bits.proofs.BitsLaws.{length-bits_of}
 use Rattle.p25_gf64.specs.declared.symbol.Sym.{Sym}
 use Rattle.p25_coded_fields.specs.Layouts.{field_bits}
 use Rattle.p25_voice_units.specs.Images.{lsd16_word, piece_bits}
-use Rattle.p25_voice_units.proofs.CodesLaws.{lsd16_only}
-use Rattle.p25_voice_units.proofs.ImageSteps.{words_fit, bits_of-nulls}
+use Rattle.p25_voice_units.proofs.{CodesLaws.{lsd16_only}, ImageSteps.{words_fit, bits_of-nulls}}
 use Rattle.p25_voice_units.proofs.image.put_piece.Goals as goal
 
 pub slice_bounds-put_coded-end : goal.slice_bounds-put_coded-end

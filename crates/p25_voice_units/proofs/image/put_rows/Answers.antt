@@ -1,9 +1,5 @@
-use Rattle.std.proofs.Common.{ℕ, ◌/◌, arith}
-use Rattle.std.proofs.lemmas.List.Sums.{sum_by_more, sum_by_more_le}
-use Rattle.p25_voice_units.specs.declared.layout.Piece.{Piece}
-use Rattle.p25_voice_units.specs.declared.layout.Piece.TheVariants.{Words}
-use Rattle.p25_voice_units.specs.Images.{contents}
-use Rattle.p25_voice_units.specs.Pieces.{piece_length}
+use Rattle.std.proofs.{Common.{ℕ, ◌/◌, arith}, lemmas.List.Sums.{sum_by_more, sum_by_more_le}}
+use Rattle.p25_voice_units.specs.{declared.layout.Piece.{Piece}, declared.layout.Piece.TheVariants.{Words}, Images.{contents}, Pieces.{piece_length}}
 use Rattle.p25_voice_units.proofs.ImageSteps.{rows_none, rows_more}
 use Rattle.p25_voice_units.proofs.image.put_rows.Goals as goal
 

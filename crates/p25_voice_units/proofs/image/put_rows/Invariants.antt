@@ -1,7 +1,6 @@
 use Rattle.std.proofs.Common.{◌≡◌, ◌+◌, ◌/◌, ◌++◌, Bool, List, length, take, sum_by}
 use Rattle.p25_coded_fields.specs.Written.{Encodes}
-use Rattle.p25_voice_units.specs.Images.{contents, rows_bits}
-use Rattle.p25_voice_units.specs.Pieces.{piece_length}
+use Rattle.p25_voice_units.specs.{Images.{contents, rows_bits}, Pieces.{piece_length}}
 use Rattle.p25_voice_units.proofs.image.put_rows.Given as goal
 
 abbrev pub invariant-loop-row : goal.invariant-loop-row

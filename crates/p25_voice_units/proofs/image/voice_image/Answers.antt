@@ -1,8 +1,6 @@
 use Rattle.std.proofs.Common.{Bool, List, ◌++◌, ap, ap₂, ◌∙◌}
 use Rattle.p25_unit_front.specs.Front.{unit_front}
-use Rattle.p25_voice_units.specs.Images.{voice_body, voice_image_of}
-use Rattle.p25_voice_units.specs.Lengths.{voice_duid}
-use Rattle.p25_voice_units.specs.Readings.{voice_reading_of}
+use Rattle.p25_voice_units.specs.{Images.{voice_body, voice_image_of}, Lengths.{voice_duid}, Readings.{voice_reading_of}}
 use Rattle.p25_voice_units.proofs.RadiusLaws.{voice_reading_of-image}
 use Rattle.p25_voice_units.proofs.image.voice_image.Goals as goal
 

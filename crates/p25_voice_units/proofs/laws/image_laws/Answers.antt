@@ -1,5 +1,4 @@
-use Rattle.p25_voice_units.proofs.LengthsLaws.{voice_lengths}
-use Rattle.p25_voice_units.proofs.ImagesLaws.{length-voice_image_of, IsVoiceImage-iff}
+use Rattle.p25_voice_units.proofs.{LengthsLaws.{voice_lengths}, ImagesLaws.{length-voice_image_of, IsVoiceImage-iff}}
 use Rattle.p25_voice_units.proofs.laws.image_laws.Goals as goal
 
 pub returns : goal.returns

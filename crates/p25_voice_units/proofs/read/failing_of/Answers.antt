@@ -1,6 +1,5 @@
 use Rattle.std.proofs.Common.{List, ◌++◌, ap, ◌∙◌}
-use Rattle.p25_status.specs.declared.fields.Field.{Field}
-use Rattle.p25_status.specs.declared.fields.Field.TheVariants.{LowSpeed1, LowSpeed2}
+use Rattle.p25_status.specs.{declared.fields.Field.{Field}, declared.fields.Field.TheVariants.{LowSpeed1, LowSpeed2}}
 use Rattle.p25_voice_units.specs.Readings.{missing, failing}
 use Rattle.p25_voice_units.proofs.read.failing_of.Goals as goal
 

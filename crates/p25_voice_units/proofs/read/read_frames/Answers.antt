@@ -1,6 +1,5 @@
 use Rattle.std.proofs.Common.{ℕ, List, rules, arith, ap, ◌∙◌}
-use Rattle.p25_voice_units.specs.declared.voice.VoiceFrame.{VoiceFrame}
-use Rattle.p25_voice_units.specs.Readings.{frame_in, frame_places}
+use Rattle.p25_voice_units.specs.{declared.voice.VoiceFrame.{VoiceFrame}, Readings.{frame_in, frame_places}}
 use Rattle.p25_voice_units.proofs.ReadLaws.{frames_next, frames_all}
 use Rattle.p25_voice_units.proofs.read.read_frames.Goals as goal
 

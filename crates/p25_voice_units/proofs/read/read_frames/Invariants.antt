@@ -1,6 +1,5 @@
 use Rattle.std.proofs.Common.{◌≡◌, length, take, map}
-use Rattle.p25_voice_units.specs.Layouts.{ldu_rows}
-use Rattle.p25_voice_units.specs.Readings.{frame_places, frame_in}
+use Rattle.p25_voice_units.specs.{Layouts.{ldu_rows}, Readings.{frame_places, frame_in}}
 use Rattle.p25_voice_units.proofs.read.read_frames.Given as goal
 
 abbrev pub invariant-loop-i : goal.invariant-loop-i

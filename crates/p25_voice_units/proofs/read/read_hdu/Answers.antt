@@ -1,17 +1,11 @@
 use Rattle.std.proofs.Common.{Some, option_map, length, refl, ap, sym, ◌∙◌}
-use Rattle.p25_coded_fields.specs.Fixes.{field_fixes_of}
-use Rattle.p25_coded_fields.specs.Layouts.{field_reading_of, places_from}
+use Rattle.p25_coded_fields.specs.{Fixes.{field_fixes_of}, Layouts.{field_reading_of, places_from}}
 use Rattle.p25_coded_fields.proofs.CodesLaws.{all_end}
 use Rattle.p25_link.specs.Words.{header_of_symbols}
 use Rattle.p25_reed_solomon.specs.Encoding.{rs_word}
 use Rattle.p25_status.specs.Outcomes.{read_or}
-use Rattle.p25_voice_units.specs.FieldLayouts.{word_places, header_layout}
-use Rattle.p25_voice_units.specs.Images.{golay18_word}
-use Rattle.p25_voice_units.specs.Layouts.{hdu_rows}
-use Rattle.p25_voice_units.specs.Readings.{header_in, header_from}
-use Rattle.p25_voice_units.proofs.CodesLaws.{golay18_encodes}
-use Rattle.p25_voice_units.proofs.CountedLaws.{header_fixes}
-use Rattle.p25_voice_units.proofs.ReadLaws.{part_counted}
+use Rattle.p25_voice_units.specs.{FieldLayouts.{word_places, header_layout}, Images.{golay18_word}, Layouts.{hdu_rows}, Readings.{header_in, header_from}}
+use Rattle.p25_voice_units.proofs.{CodesLaws.{golay18_encodes}, CountedLaws.{header_fixes}, ReadLaws.{part_counted}}
 use Rattle.p25_voice_units.proofs.read.read_hdu.Goals as goal
 
 pub read_symbols-requires-clause-there : goal.read_symbols-requires-clause-there

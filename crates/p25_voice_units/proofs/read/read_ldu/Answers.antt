@@ -1,13 +1,9 @@
 use Rattle.std.proofs.Common.{option_map, Err, ap, ap₂, sym, ◌∙◌, arith}
 use Rattle.p25_coded_fields.specs.Layouts.{places_from}
-use Rattle.p25_voice_units.specs.FieldLayouts.{word_places}
-use Rattle.p25_voice_units.proofs.CodesLaws.{hamming10_encodes}
-use Rattle.p25_voice_units.specs.Images.{hamming10_word}
-use Rattle.p25_voice_units.specs.Readings.{ldu_from}
-use Rattle.p25_voice_units.proofs.KindsLaws.{ldu_whole, ldu_fails}
-use Rattle.p25_voice_units.proofs.ReadLaws.{some_at}
-use Rattle.p25_voice_units.proofs.read.read_ldu.Goals as goal
+use Rattle.p25_voice_units.specs.{FieldLayouts.{word_places}, Images.{hamming10_word}, Readings.{ldu_from}}
+use Rattle.p25_voice_units.proofs.{CodesLaws.{hamming10_encodes}, KindsLaws.{ldu_whole, ldu_fails}, ReadLaws.{some_at}}
 use Rattle.p25_voice_units.proofs.read.read_ldu.Goals.{in_default-via-in-Some+in-Some+in_default, in_default-via-in-Some+in_default, in_default-via-in_default}
+use Rattle.p25_voice_units.proofs.read.read_ldu.Goals as goal
 
 pub returns-in-Some-Some-Some-clause-value : goal.returns-in-Some-Some-Some-clause-value
 unfolding word_places places_from

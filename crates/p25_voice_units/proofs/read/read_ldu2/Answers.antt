@@ -1,22 +1,12 @@
 use Rattle.std.proofs.Common.{◌+◌, slice_index, refl, ap, sym, ◌∙◌}
-use Rattle.p25_coded_fields.specs.Fixes.{field_fixes_of}
-use Rattle.p25_coded_fields.specs.Layouts.{field_reading_of}
+use Rattle.p25_coded_fields.specs.{Fixes.{field_fixes_of}, Layouts.{field_reading_of}}
 use Rattle.p25_link.proofs.WordsLaws.{length-sync_symbols}
 use Rattle.p25_link.specs.Words.{sync_of_symbols, sync_symbols}
 use Rattle.p25_reed_solomon.specs.Encoding.{rs_word}
-use Rattle.p25_status.specs.declared.outcome.Outcome.TheVariants.{Read, Failing}
-use Rattle.p25_status.specs.declared.fields.Field.TheVariants.{EncryptionSync as Field_of}
-use Rattle.p25_voice_units.specs.FieldLayouts.{sync_layout, word_places}
-use Rattle.p25_voice_units.specs.Fixes.{low_fixes_of, voice_looked}
-use Rattle.p25_voice_units.specs.Images.{hamming10_word, voice_body, voice_image_of}
-use Rattle.p25_voice_units.specs.Layouts.{ldu_rows}
-use Rattle.p25_voice_units.specs.Readings.{voice_in, sync_in, ldu2_in}
-use Rattle.p25_voice_units.specs.Sendable.{IsSendableVoice}
-use Rattle.p25_voice_units.specs.declared.unit.VoiceUnit.TheVariants.{Link2}
-use Rattle.p25_voice_units.proofs.CodesLaws.{sync_code}
-use Rattle.p25_voice_units.proofs.CountedLaws.{ldu_fixes}
-use Rattle.p25_voice_units.proofs.KindsLaws.{ldu_read, reading-ldu2}
-use Rattle.p25_voice_units.proofs.ReadingLaws.{unit_read}
+use Rattle.p25_status.specs.{declared.outcome.Outcome.TheVariants.{Read, Failing}, declared.fields.Field.TheVariants.{EncryptionSync as Field_of}}
+use Rattle.p25_voice_units.specs.{FieldLayouts.{sync_layout, word_places}, Fixes.{low_fixes_of, voice_looked}, Images.{hamming10_word, voice_body, voice_image_of}, Layouts.{ldu_rows}}
+use Rattle.p25_voice_units.specs.{Readings.{voice_in, sync_in, ldu2_in}, Sendable.{IsSendableVoice}, declared.unit.VoiceUnit.TheVariants.{Link2}}
+use Rattle.p25_voice_units.proofs.{CodesLaws.{sync_code}, CountedLaws.{ldu_fixes}, KindsLaws.{ldu_read, reading-ldu2}, ReadingLaws.{unit_read}}
 use Rattle.p25_voice_units.proofs.read.read_ldu2.Goals as goal
 
 pub returns-in-Read-clause-value : goal.returns-in-Read-clause-value

@@ -1,18 +1,12 @@
 use Rattle.std.proofs.Common.{◌+◌, ◌/◌, ◌^◌, ◌≤◌, Bool, List, length, take, slice_index, Some, option_map, refl, ap, sym, ◌∙◌, arith, lit≤}
 use Rattle.std.specs.Bool.{beq}
 use Rattle.p25_bits.specs.Bits.{bits_of, field_of, part}
-use Rattle.p25_bits.proofs.BitsLaws.{length-bits_of, take-bits_of}
-use Rattle.p25_bits.proofs.DistanceLaws.{ones-xor-le}
+use Rattle.p25_bits.proofs.{BitsLaws.{length-bits_of, take-bits_of}, DistanceLaws.{ones-xor-le}}
 use Rattle.p25_code.specs.Words.{IsEncoding}
 use Rattle.p25_coded_fields.proofs.ReadLaws.{received_bits, received_reading, read_word_of_set, wrong_bits}
-use Rattle.p25_hamming.specs.Lsd16.{IsLsd16}
-use Rattle.p25_hamming.specs.Lsd16Laws.{lsd16_is_code}
-use Rattle.p25_hamming.specs.Lsd16Readings.{lsd16_reading_of, lsd16_reads_as}
-use Rattle.p25_voice_units.specs.Fixes.{low_fixes_of}
-use Rattle.p25_voice_units.specs.Layouts.{ldu_rows}
-use Rattle.p25_voice_units.specs.Readings.{low_in, low_places}
-use Rattle.p25_voice_units.proofs.CodesLaws.{lsd16_encodes}
-use Rattle.p25_voice_units.proofs.ReadLaws.{low_octet, low_place-le, some_at}
+use Rattle.p25_hamming.specs.{Lsd16.{IsLsd16}, Lsd16Laws.{lsd16_is_code}, Lsd16Readings.{lsd16_reading_of, lsd16_reads_as}}
+use Rattle.p25_voice_units.specs.{Fixes.{low_fixes_of}, Layouts.{ldu_rows}, Readings.{low_in, low_places}}
+use Rattle.p25_voice_units.proofs.{CodesLaws.{lsd16_encodes}, ReadLaws.{low_octet, low_place-le, some_at}}
 use Rattle.p25_voice_units.proofs.read.read_low.Goals as goal
 
 pub returns-in-Some : goal.returns-in-Some

@@ -1,16 +1,10 @@
 use Rattle.std.proofs.Common.{Some, option_map, ap, sym, ◌∙◌}
-use Rattle.p25_coded_fields.specs.Fixes.{field_fixes_of}
-use Rattle.p25_coded_fields.specs.Layouts.{field_reading_of, places_from}
+use Rattle.p25_coded_fields.specs.{Fixes.{field_fixes_of}, Layouts.{field_reading_of, places_from}}
 use Rattle.p25_link.specs.Words.{link_of_symbols}
 use Rattle.p25_reed_solomon.specs.Encoding.{rs_word}
 use Rattle.p25_status.specs.Outcomes.{read_or}
-use Rattle.p25_voice_units.specs.FieldLayouts.{word_places, tdulc_layout}
-use Rattle.p25_voice_units.specs.Images.{golay24_word}
-use Rattle.p25_voice_units.specs.Layouts.{tdulc_rows}
-use Rattle.p25_voice_units.specs.Readings.{link_in, tdulc_from}
-use Rattle.p25_voice_units.proofs.CodesLaws.{golay24_encodes}
-use Rattle.p25_voice_units.proofs.CountedLaws.{tdulc_fixes}
-use Rattle.p25_voice_units.proofs.ReadLaws.{part_counted}
+use Rattle.p25_voice_units.specs.{FieldLayouts.{word_places, tdulc_layout}, Images.{golay24_word}, Layouts.{tdulc_rows}, Readings.{link_in, tdulc_from}}
+use Rattle.p25_voice_units.proofs.{CodesLaws.{golay24_encodes}, CountedLaws.{tdulc_fixes}, ReadLaws.{part_counted}}
 use Rattle.p25_voice_units.proofs.read.read_tdulc.Goals as goal
 
 pub returns-in-Some-clause-value : goal.returns-in-Some-clause-value

@@ -1,7 +1,6 @@
 use Rattle.std.proofs.Common.{◌≡◌, length, Some, None, refl, sym, ◌∙◌, arith}
 use Rattle.p25_voice_units.specs.Lengths.{voice_length_of}
-use Rattle.p25_voice_units.proofs.LengthsLaws.{length-header, length-ldu1, length-ldu2, length-tdulc, length-other}
-use Rattle.p25_voice_units.proofs.CountedLaws.{end_fixes}
+use Rattle.p25_voice_units.proofs.{LengthsLaws.{length-header, length-ldu1, length-ldu2, length-tdulc, length-other}, CountedLaws.{end_fixes}}
 use Rattle.p25_voice_units.proofs.KindsLaws.{long_by_kind, reading-header, reading-end, reading-ldu1, reading-ldu2, reading-tdulc, reading_by_kind}
 use Rattle.p25_voice_units.proofs.read.read_voice_in.Goals as goal
 

@@ -1,6 +1,5 @@
 use Rattle.std.proofs.Common.{◌≡◌, ◌++◌, Bool, List, take, ap, ◌∙◌}
-use Rattle.p25_bits.specs.Bits.{octet_bits}
-use Rattle.p25_bits.specs.Numbers.{number_bits}
+use Rattle.p25_bits.specs.{Bits.{octet_bits}, Numbers.{number_bits}}
 use Rattle.p25_bits.proofs.NumbersLaws.{number_bits-octets}
 use Rattle.p25_trellis.specs.Nearest.{nearest_distance, nearest_octets}
 use Rattle.p25_word_calls.proofs.blocks.read_octet_block.Goals as goal

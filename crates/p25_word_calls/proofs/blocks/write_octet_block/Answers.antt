@@ -1,6 +1,5 @@
 use Rattle.std.proofs.Common.{◌≡◌, ◌++◌, Bool, List, length, ap, ◌∙◌, arith}
-use Rattle.p25_bits.specs.Bits.{bits_of}
-use Rattle.p25_bits.specs.Numbers.{numbers_from}
+use Rattle.p25_bits.specs.{Bits.{bits_of}, Numbers.{numbers_from}}
 use Rattle.p25_trellis.specs.Nearest.{block_from}
 use Rattle.p25_word_calls.proofs.BlockSteps.{octets_written}
 use Rattle.p25_word_calls.proofs.blocks.write_octet_block.Goals as goal

@@ -1,5 +1,4 @@
-use Rattle.std.proofs.Common.{arith, pos, w32, ap, ◌∙◌}
-use Rattle.std.proofs.lemmas.Int.{to_z_pos}
+use Rattle.std.proofs.{Common.{arith, pos, w32, ap, ◌∙◌}, lemmas.Int.{to_z_pos}}
 use Rattle.p25_bits.specs.Bits.{bits_of}
 use Rattle.p25_word_calls.proofs.NumberSteps.{identifier_read, identifier_beyond}
 use Rattle.p25_word_calls.proofs.numbers.read_identifier.Goals as goal

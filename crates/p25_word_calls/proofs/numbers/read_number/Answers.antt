@@ -1,5 +1,4 @@
-use Rattle.std.proofs.Common.{◌^◌, ◌<◌, ◌≤◌, rules, arith, w32, bit_xor}
-use Rattle.std.proofs.lemmas.Int.{to_z_pos}
+use Rattle.std.proofs.{Common.{◌^◌, ◌<◌, ◌≤◌, rules, arith, w32, bit_xor}, lemmas.Int.{to_z_pos}}
 use Rattle.std.specs.Int.RustNames.{count_ones}
 use Rattle.p25_bits.proofs.DistanceLaws.{ones-xor-le}
 use Rattle.p25_word_calls.proofs.NumberSteps.{number_read, number_beyond}

@@ -1,10 +1,7 @@
-use Rattle.std.proofs.Common.{◌≡◌, ◌≤◌, true, length, w32, to_z, of_z, arith}
-use Rattle.std.proofs.lemmas.Int.{to_z-of_z}
-use Rattle.p25_reed_solomon.specs.RsReadings.{rs_reading_of}
-use Rattle.p25_reed_solomon.specs.Words.{IsWord, radius_of, same_symbols}
+use Rattle.std.proofs.{Common.{◌≡◌, ◌≤◌, true, length, w32, to_z, of_z, arith}, lemmas.Int.{to_z-of_z}}
+use Rattle.p25_reed_solomon.specs.{RsReadings.{rs_reading_of}, Words.{IsWord, radius_of, same_symbols}}
 use Rattle.p25_word_calls.specs.Answers.{reading_answer}
-use Rattle.p25_word_calls.proofs.AnswerSteps.{IsChange-reading, change_few}
-use Rattle.p25_word_calls.proofs.SymbolSteps.{symbols_read, symbols_refused}
+use Rattle.p25_word_calls.proofs.{AnswerSteps.{IsChange-reading, change_few}, SymbolSteps.{symbols_read, symbols_refused}}
 use Rattle.p25_word_calls.proofs.symbols.read_symbols.Goals as goal
 
 pub returns-then-not-name_symbols : goal.returns-then-not-name_symbols

@@ -1,11 +1,8 @@
-use Rattle.std.proofs.Common.{◌≡◌, ◌-◌, ◌≤◌, true, length, w32, to_z, of_z, arith}
-use Rattle.std.proofs.lemmas.Int.{to_z-of_z}
+use Rattle.std.proofs.{Common.{◌≡◌, ◌-◌, ◌≤◌, true, length, w32, to_z, of_z, arith}, lemmas.Int.{to_z-of_z}}
 use Rattle.p25_code.specs.Erasures.{without_erased}
-use Rattle.p25_reed_solomon.specs.RsReadings.{rs_erased_reading_of}
-use Rattle.p25_reed_solomon.specs.Words.{IsWord, same_symbols}
+use Rattle.p25_reed_solomon.specs.{RsReadings.{rs_erased_reading_of}, Words.{IsWord, same_symbols}}
 use Rattle.p25_word_calls.specs.Answers.{reading_answer}
-use Rattle.p25_word_calls.proofs.AnswerSteps.{IsChange-erased, change_few}
-use Rattle.p25_word_calls.proofs.SymbolSteps.{symbols_read, symbols_refused}
+use Rattle.p25_word_calls.proofs.{AnswerSteps.{IsChange-erased, change_few}, SymbolSteps.{symbols_read, symbols_refused}}
 use Rattle.p25_word_calls.proofs.symbols.read_with_erased.Goals as goal
 
 pub returns-then-not-name_symbols : goal.returns-then-not-name_symbols

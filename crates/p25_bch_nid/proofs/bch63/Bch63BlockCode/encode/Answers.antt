@@ -1,11 +1,8 @@
 use Rattle.std.proofs.Common.{◌≡◌, ℕ, ◌*◌, ◌%◌, ◌^◌, ◌<◌, ◌++◌, length, ap, ap₂, sym, ◌∙◌, subst, arith, mod-eq_of_lt}
-use Rattle.p25_bits.specs.Bits.{bits_of, field_of}
-use Rattle.p25_bits.specs.Divisible.{IsRemainder}
+use Rattle.p25_bits.specs.{Bits.{bits_of, field_of}, Divisible.{IsRemainder}}
 use Rattle.p25_bits.proofs.BitsLaws.{field_of-lt}
 use Rattle.p25_code.specs.Words.{IsEncoding}
-use Rattle.p25_bch_nid.specs.Nid.{generator}
-use Rattle.p25_bch_nid.specs.Bch63.{IsBch63}
-use Rattle.p25_bch_nid.specs.Bch63Laws.{encoded_by, IsEncoding-encoded_by}
+use Rattle.p25_bch_nid.specs.{Nid.{generator}, Bch63.{IsBch63}, Bch63Laws.{encoded_by, IsEncoding-encoded_by}}
 use Rattle.p25_bch_nid.proofs.bch63.Bch63BlockCode.encode.Goals as goal
 
 pub returns : goal.returns

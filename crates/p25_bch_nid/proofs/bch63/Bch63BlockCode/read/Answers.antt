@@ -1,7 +1,6 @@
 use Rattle.std.proofs.Common.{◌^◌, ◌<◌, Some, None, refl, sym, subst}
 use Rattle.p25_code.proofs.NumberCodeLaws.{read_by_number, changed_bits}
-use Rattle.p25_bch_nid.specs.Bch63.{IsBch63}
-use Rattle.p25_bch_nid.specs.Bch63Readings.{bch63_reading_of, bch63_reads_as}
+use Rattle.p25_bch_nid.specs.{Bch63.{IsBch63}, Bch63Readings.{bch63_reading_of, bch63_reads_as}}
 use Rattle.p25_bch_nid.proofs.bch63.Bch63BlockCode.read.Goals as goal
 
 pub returns-in-Some : goal.returns-in-Some

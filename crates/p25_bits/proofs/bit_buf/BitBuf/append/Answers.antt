@@ -1,8 +1,6 @@
 use Rattle.std.proofs.Common.{◌+◌, ◌*◌, ◌≤◌, ◌++◌, List, Bool, length, ap, sym, ◌∙◌, arith}
-use Rattle.p25_bits.specs.Bits.{part}
-use Rattle.p25_bits.specs.Numbers.{number_bits}
-use Rattle.p25_bits.proofs.PartLaws.{part-take, take-part}
-use Rattle.p25_bits.proofs.BitBufSteps.{length-held, length-room, length-longer, take_appended}
+use Rattle.p25_bits.specs.{Bits.{part}, Numbers.{number_bits}}
+use Rattle.p25_bits.proofs.{PartLaws.{part-take, take-part}, BitBufSteps.{length-held, length-room, length-longer, take_appended}}
 use Rattle.p25_bits.proofs.bit_buf.BitBuf.append.Goals as goal
 
 pub append_windows-requires-clause-room : goal.append_windows-requires-clause-room

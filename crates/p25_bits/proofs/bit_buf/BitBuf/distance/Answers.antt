@@ -1,8 +1,7 @@
 use Rattle.std.proofs.Common.{◌≡◌, ◌+◌, ◌*◌, ◌≤◌, length, take, bit_xor, ap, sym, ◌∙◌, arith}
 use Rattle.std.specs.Int.RustNames.{count_ones}
 use Rattle.p25_bits.specs.Numbers.{number_bits}
-use Rattle.p25_bits.proofs.DistanceLaws.{ones-xor-le}
-use Rattle.p25_bits.proofs.BitBufSteps.{length-held, distance_held}
+use Rattle.p25_bits.proofs.{DistanceLaws.{ones-xor-le}, BitBufSteps.{length-held, distance_held}}
 use Rattle.p25_bits.proofs.bit_buf.BitBuf.distance.Goals as goal
 
 pub field-requires-clause-there : goal.field-requires-clause-there

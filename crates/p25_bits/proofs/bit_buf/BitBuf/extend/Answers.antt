@@ -1,5 +1,4 @@
-use Rattle.std.proofs.Common.{◌≡◌, ◌+◌, ◌-◌, ◌*◌, ◌/◌, ◌≤◌, ◌++◌, List, Bool, length, take, drop, refl, ap, ◌∙◌, arith, length-drop}
-use Rattle.std.proofs.lemmas.List.{take_all}
+use Rattle.std.proofs.{Common.{◌≡◌, ◌+◌, ◌-◌, ◌*◌, ◌/◌, ◌≤◌, ◌++◌, List, Bool, length, take, drop, refl, ap, ◌∙◌, arith, length-drop}, lemmas.List.{take_all}}
 use Rattle.p25_bits.specs.Bits.{bits_of}
 use Rattle.p25_bits.proofs.BitBufSteps.{extended_more, extended_all}
 use Rattle.p25_bits.proofs.bit_buf.BitBuf.extend.Goals as goal

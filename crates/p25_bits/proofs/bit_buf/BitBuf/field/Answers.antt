@@ -1,8 +1,6 @@
 use Rattle.std.proofs.Common.{◌+◌, ◌*◌, ◌≤◌, length, ap, sym, ◌∙◌, arith}
-use Rattle.p25_bits.specs.Bits.{field_of, part}
-use Rattle.p25_bits.specs.Numbers.{number_bits}
-use Rattle.p25_bits.proofs.BitsLaws.{field_of-nil}
-use Rattle.p25_bits.proofs.BitBufSteps.{length-held, field_is, first-lt}
+use Rattle.p25_bits.specs.{Bits.{field_of, part}, Numbers.{number_bits}}
+use Rattle.p25_bits.proofs.{BitsLaws.{field_of-nil}, BitBufSteps.{length-held, field_is, first-lt}}
 use Rattle.p25_bits.proofs.bit_buf.BitBuf.field.Goals as goal
 
 pub returns-then-width-eq0-clause-value : goal.returns-then-width-eq0-clause-value

@@ -1,6 +1,5 @@
 use Rattle.std.proofs.Common.{◌*◌, ◌/◌, ◌<◌, ◌≤◌, length, ap, ◌∙◌, arith}
-use Rattle.p25_bits.proofs.BitsLaws.{length-flipped}
-use Rattle.p25_bits.proofs.BitBufSteps.{length-held, held_flipped}
+use Rattle.p25_bits.proofs.{BitsLaws.{length-flipped}, BitBufSteps.{length-held, held_flipped}}
 use Rattle.p25_bits.proofs.bit_buf.BitBuf.flip.Goals as goal
 
 list : goal.returns-clause-list

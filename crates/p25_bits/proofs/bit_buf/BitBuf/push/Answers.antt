@@ -1,9 +1,6 @@
-use Rattle.std.proofs.Common.{◌+◌, ◌-◌, ◌*◌, ◌/◌, ◌%◌, ◌^◌, ◌<◌, ◌≤◌, ◌++◌, List, Bool, length, take, set, ap, sym, ◌∙◌, arith, length-set}
+use Rattle.std.proofs.{Common.{◌+◌, ◌-◌, ◌*◌, ◌/◌, ◌%◌, ◌^◌, ◌<◌, ◌≤◌, ◌++◌, List, Bool, length, take, set, ap, sym, ◌∙◌, arith, length-set}, lemmas.List.{take_all}}
 use Rattle.p25_bits.specs.Bits.{bits_of}
-use Rattle.std.proofs.lemmas.List.{take_all}
-use Rattle.p25_bits.proofs.BitsLaws.{digit_of-byte, length-bits_of}
-use Rattle.p25_bits.proofs.WordsLaws.{take_written}
-use Rattle.p25_bits.proofs.BitBufSteps.{length-held, take_appended, first_bit}
+use Rattle.p25_bits.proofs.{BitsLaws.{digit_of-byte, length-bits_of}, WordsLaws.{take_written}, BitBufSteps.{length-held, take_appended, first_bit}}
 use Rattle.p25_bits.proofs.bit_buf.BitBuf.push.Goals as goal
 
 long : goal.invariant_of-self

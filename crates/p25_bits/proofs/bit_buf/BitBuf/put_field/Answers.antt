@@ -1,8 +1,6 @@
 use Rattle.std.proofs.Common.{◌-◌, ◌*◌, ◌^◌, ◌%◌, ◌≤◌, ◌++◌, List, Bool, length, ap, sym, ◌∙◌, arith, append-nil}
-use Rattle.p25_bits.specs.Bits.{bits_of}
-use Rattle.p25_bits.specs.Numbers.{number_bits}
-use Rattle.p25_bits.proofs.BitsLaws.{bits_of-zero}
-use Rattle.p25_bits.proofs.BitBufSteps.{length-held, length-room, length-longer, take_appended, first_bits}
+use Rattle.p25_bits.specs.{Bits.{bits_of}, Numbers.{number_bits}}
+use Rattle.p25_bits.proofs.{BitsLaws.{bits_of-zero}, BitBufSteps.{length-held, length-room, length-longer, take_appended, first_bits}}
 use Rattle.p25_bits.proofs.bit_buf.BitBuf.put_field.Goals as goal
 
 pub returns-then-width-eq0-clause-list : goal.returns-then-width-eq0-clause-list

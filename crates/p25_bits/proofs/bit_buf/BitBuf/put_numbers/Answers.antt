@@ -1,8 +1,5 @@
-use Rattle.std.proofs.Common.{◌≡◌, ℕ, ◌+◌, ◌*◌, ◌≤◌, ◌++◌, List, Bool, length, take, sym, ap, ◌∙◌, append-nil, arith}
-use Rattle.std.proofs.Math.Nat.{mul-le-mul_left, mul-zero}
-use Rattle.std.proofs.lemmas.List.{take_all}
-use Rattle.p25_bits.specs.Bits.{bits_of}
-use Rattle.p25_bits.specs.Numbers.{number_bits}
+use Rattle.std.proofs.{Common.{◌≡◌, ℕ, ◌+◌, ◌*◌, ◌≤◌, ◌++◌, List, Bool, length, take, sym, ap, ◌∙◌, append-nil, arith}, Math.Nat.{mul-le-mul_left, mul-zero}, lemmas.List.{take_all}}
+use Rattle.p25_bits.specs.{Bits.{bits_of}, Numbers.{number_bits}}
 use Rattle.p25_bits.proofs.NumbersLaws.{more_bits, number_bits-nil, number_bits_more}
 use Rattle.p25_bits.proofs.bit_buf.BitBuf.put_numbers.Goals as goal
 

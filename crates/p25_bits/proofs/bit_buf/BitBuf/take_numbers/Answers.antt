@@ -1,10 +1,6 @@
-use Rattle.std.proofs.Common.{◌≡◌, ◌+◌, ◌<◌, ◌≤◌, length, drop, sym, ap, ◌∙◌, arith}
-use Rattle.std.proofs.Math.Nat.{mul-le-mul_left}
-use Rattle.std.proofs.Math.Pow.{pow_mono}
-use Rattle.std.proofs.lemmas.List.{take_all}
+use Rattle.std.proofs.{Common.{◌≡◌, ◌+◌, ◌<◌, ◌≤◌, length, drop, sym, ap, ◌∙◌, arith}, Math.Nat.{mul-le-mul_left}, Math.Pow.{pow_mono}, lemmas.List.{take_all}}
 use Rattle.p25_bits.specs.Numbers.{numbers_from}
-use Rattle.p25_bits.proofs.NumbersLaws.{more_bits, numbers_from-zero}
-use Rattle.p25_bits.proofs.LoopLaws.{take_more_read}
+use Rattle.p25_bits.proofs.{NumbersLaws.{more_bits, numbers_from-zero}, LoopLaws.{take_more_read}}
 use Rattle.p25_bits.proofs.bit_buf.BitBuf.take_numbers.Goals as goal
 
 pub loop-i-init : goal.loop-i-init

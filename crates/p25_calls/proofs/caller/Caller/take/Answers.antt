@@ -1,8 +1,6 @@
 use Rattle.std.proofs.Common.{◌≡◌, ℕ, ◌+◌, ◌<◌, Option, Some, sym, ap, ap₂, subst, ◌∙◌}
-use Rattle.std.specs.Prelude.{IfSome}
-use Rattle.std.specs.Option.{option_or}
-use Rattle.p25_calls.specs.declared.call.Call.{Call}
-use Rattle.p25_calls.specs.Taking.{CallerParts, answer_to, behind_item, ended_call, pending_run, terminated, unit_answer, unit_pending}
+use Rattle.std.specs.{Prelude.{IfSome}, Option.{option_or}}
+use Rattle.p25_calls.specs.{declared.call.Call.{Call}, Taking.{CallerParts, answer_to, behind_item, ended_call, pending_run, terminated, unit_answer, unit_pending}}
 use Rattle.p25_calls.proofs.CallerSteps.{ended-nac, pending-kept, pending-nac, unit-ends}
 use Rattle.p25_calls.proofs.caller.Caller.take.Goals as goal
 

@@ -1,6 +1,5 @@
 use Rattle.std.proofs.Common.{ℕ, ◌/◌, ◌%◌, ◌^◌, ◌<◌, ◌++◌, bit_xor, ap, sym, subst, ◌∙◌}
-use Rattle.p25_code.specs.Binary.{check_columns}
-use Rattle.p25_code.specs.WrongBits.{number_sum, AreWrong, NoneWrong}
+use Rattle.p25_code.specs.{Binary.{check_columns}, WrongBits.{number_sum, AreWrong, NoneWrong}}
 use Rattle.p25_code.proofs.NumberCodeLaws.{information_fits, one_place, sum_fits, read_clean, read_without, read_none, without_fits}
 use Rattle.p25_code.proofs.checked_code.AnyNumberCode.read_number.Goals as goal
 

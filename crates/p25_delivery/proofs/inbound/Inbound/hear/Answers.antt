@@ -1,16 +1,10 @@
 use Rattle.std.proofs.Common.{◌≡◌, sym, subst}
-use Rattle.p25_packet_blocks.specs.declared.packet.Packet.{Packet}
-use Rattle.p25_packet_blocks.specs.Sendable.{IsSendable}
-use Rattle.p25_delivery.specs.ReceiverRules.{receiver_heard}
-use Rattle.p25_messages.specs.declared.answers.Heard.{Heard}
-use Rattle.p25_messages.specs.declared.answers.Heard.TheVariants.{Delivered, Opened, Again, Kept, RefusedCrc, RefusedOrder}
-use Rattle.p25_messages.specs.declared.step_kind.StepKind.{StepKind}
-use Rattle.p25_delivery.specs.Halves.{Incoming}
-use Rattle.p25_delivery.specs.SoundHalves.{incoming_of, IsIncoming}
-use Rattle.p25_delivery.proofs.HalfLaws.{call-state, call-answer}
-use Rattle.p25_delivery.proofs.ReceivingLaws.{AnswersSendable, receiver-soundly, hears-soundly}
-use Rattle.p25_delivery.proofs.inbound.Inbound.hear.Goals as goal
+use Rattle.p25_packet_blocks.specs.{declared.packet.Packet.{Packet}, Sendable.{IsSendable}}
+use Rattle.p25_delivery.specs.{ReceiverRules.{receiver_heard}, Halves.{Incoming}, SoundHalves.{incoming_of, IsIncoming}}
+use Rattle.p25_messages.specs.{declared.answers.Heard.{Heard}, declared.answers.Heard.TheVariants.{Delivered, Opened, Again, Kept, RefusedCrc, RefusedOrder}, declared.step_kind.StepKind.{StepKind}}
+use Rattle.p25_delivery.proofs.{HalfLaws.{call-state, call-answer}, ReceivingLaws.{AnswersSendable, receiver-soundly, hears-soundly}}
 use Rattle.p25_delivery.proofs.inbound.Inbound.hear.Goals.{in-Delivered, in-Opened, in-Again, in-Kept, in-RefusedCrc, in-RefusedOrder}
+use Rattle.p25_delivery.proofs.inbound.Inbound.hear.Goals as goal
 
 -- the answer to a packet that is heard can be sent
 sendable : (i : Incoming) (packet : Packet) (given answer : Heard) → given ≡ (receiver_heard i.receiver packet).1 → given ≡ answer → IsIncoming i → AnswersSendable answer

@@ -1,6 +1,5 @@
-use Rattle.std.proofs.Common.{◌≡◌, ◌++◌, ◌∙◌, ap, length, refl, Some, None, sym, arith}
+use Rattle.std.proofs.{Common.{◌≡◌, ◌++◌, ◌∙◌, ap, length, refl, Some, None, sym, arith}, lemmas.Option.{slice_get_read}}
 use Rattle.std.specs.Prelude.{slice_get}
-use Rattle.std.proofs.lemmas.Option.{slice_get_read}
 use Rattle.p25_delivery.proofs.PlacesLaws.{all_octets-nil, all_octets-more, all_octets-empty}
 use Rattle.p25_delivery.proofs.message_octets.MessageOctets.joined.Goals as goal
 

@@ -1,11 +1,7 @@
 use Rattle.std.proofs.Common.{◌≡◌, ℕ, ◌+◌, arith}
 use Rattle.p25_packet_blocks.specs.declared.packet.Packet.{Packet}
-use Rattle.p25_delivery.specs.Halves.{Sending, Outgoing}
-use Rattle.p25_delivery.specs.SenderRules.{sender_heard}
-use Rattle.p25_messages.specs.declared.answers.SenderHeard.{SenderHeard}
-use Rattle.p25_messages.specs.declared.answers.SenderHeard.TheVariants.{Acknowledged, Opened, Retry, Repeat, Ignored, Down}
-use Rattle.p25_delivery.specs.SoundHalves.{outgoing_of, IsOutgoing}
-use Rattle.p25_delivery.specs.HalfRules.{after_answer}
+use Rattle.p25_delivery.specs.{Halves.{Sending, Outgoing}, SenderRules.{sender_heard}, SoundHalves.{outgoing_of, IsOutgoing}, HalfRules.{after_answer}}
+use Rattle.p25_messages.specs.{declared.answers.SenderHeard.{SenderHeard}, declared.answers.SenderHeard.TheVariants.{Acknowledged, Opened, Retry, Repeat, Ignored, Down}}
 use Rattle.p25_delivery.proofs.HalfLaws.{KeepsOutgoing, call-apart, outgoing-counts, answer-keeps}
 use Rattle.p25_delivery.proofs.outbound.Outbound.hear.Goals as goal
 

@@ -1,7 +1,5 @@
 use Rattle.std.proofs.Common.{List, [], ℕ, ap, ap₂, sym, subst, ◌∙◌}
-use Rattle.p25_delivery.specs.Halves.{Sending, first_sending, Outgoing}
-use Rattle.p25_delivery.specs.declared.outbound.Mark.{Mark}
-use Rattle.p25_delivery.specs.SoundHalves.{IsOutgoing}
+use Rattle.p25_delivery.specs.{Halves.{Sending, first_sending, Outgoing}, declared.outbound.Mark.{Mark}, SoundHalves.{IsOutgoing}}
 use Rattle.p25_delivery.proofs.HalfLaws.{first-outgoing}
 use Rattle.p25_delivery.proofs.outbound.Outbound.new.Goals as goal
 

@@ -1,11 +1,7 @@
 use Rattle.std.proofs.Common.{◌≡◌, ◌≤◌, List, ℕ, length, sym, subst}
 use Rattle.p25_packet_blocks.specs.Sendable.{AreOctets}
-use Rattle.p25_delivery.specs.Halves.{Sending, Outgoing}
-use Rattle.p25_delivery.specs.SenderRules.{offered}
-use Rattle.p25_messages.specs.declared.answers.Offer.{Offer}
-use Rattle.p25_messages.specs.declared.answers.Offer.TheVariants.{Taken, Busy, Down}
-use Rattle.p25_delivery.specs.SoundHalves.{outgoing_of, IsMessage, IsOutgoing}
-use Rattle.p25_delivery.specs.HalfRules.{after_offer}
+use Rattle.p25_delivery.specs.{Halves.{Sending, Outgoing}, SenderRules.{offered}, SoundHalves.{outgoing_of, IsMessage, IsOutgoing}, HalfRules.{after_offer}}
+use Rattle.p25_messages.specs.{declared.answers.Offer.{Offer}, declared.answers.Offer.TheVariants.{Taken, Busy, Down}}
 use Rattle.p25_delivery.proofs.HalfLaws.{KeepsOutgoing, call-apart, offer-keeps}
 use Rattle.p25_delivery.proofs.outbound.Outbound.offer.Goals as goal
 

@@ -1,16 +1,9 @@
 use Rattle.std.proofs.Common.{◌≡◌, ℕ, List, [], ◌∷◌, ◌++◌, Bool, true, false, ap, sym, subst, refl, ◌∙◌}
-use Rattle.p25_packet_blocks.specs.declared.packet.Packet.{Packet}
-use Rattle.p25_packet_blocks.specs.Sendable.{IsSendable}
-use Rattle.p25_delivery.specs.Halves.{Sending, Outgoing}
-use Rattle.p25_delivery.specs.SenderRules.{reopened, is_opening}
-use Rattle.p25_messages.specs.declared.answers.Reopen.{Reopen}
-use Rattle.p25_messages.specs.declared.answers.Reopen.TheVariants.{Sent, Up}
-use Rattle.p25_delivery.specs.declared.outbound.Mark.{Mark}
-use Rattle.p25_delivery.specs.SoundHalves.{outgoing_of, IsOutgoing}
-use Rattle.p25_delivery.specs.HalfRules.{after_reopening}
-use Rattle.p25_delivery.proofs.HalfLaws.{KeepsOutgoing, call-apart, reopen-keeps}
+use Rattle.p25_packet_blocks.specs.{declared.packet.Packet.{Packet}, Sendable.{IsSendable}}
+use Rattle.p25_delivery.specs.{Halves.{Sending, Outgoing}, SenderRules.{reopened, is_opening}, declared.outbound.Mark.{Mark}, SoundHalves.{outgoing_of, IsOutgoing}, HalfRules.{after_reopening}}
+use Rattle.p25_messages.specs.{declared.answers.Reopen.{Reopen}, declared.answers.Reopen.TheVariants.{Sent, Up}}
+use Rattle.p25_delivery.proofs.{HalfLaws.{KeepsOutgoing, call-apart, reopen-keeps}, outbound.Outbound.reopen.Goals.{then-not-is_opening, else-not-is_opening}}
 use Rattle.p25_delivery.proofs.outbound.Outbound.reopen.Goals as goal
-use Rattle.p25_delivery.proofs.outbound.Outbound.reopen.Goals.{then-not-is_opening, else-not-is_opening}
 
 -- the half after an answer of the sender
 keeps : (o : Outgoing) (delivered : ℕ) (again : Bool) (s : Sending) (given answer : Reopen) → again ≡ is_opening o.sender.outstanding → (s, given) ≡ reopened o.sender → given ≡ answer → IsOutgoing o →

@@ -1,17 +1,10 @@
 use Rattle.std.proofs.Common.{Option, sym, subst}
 use Rattle.std.specs.Prelude.{IfSome}
-use Rattle.p25_packet_blocks.specs.declared.packet.Packet.{Packet}
-use Rattle.p25_packet_blocks.specs.Sendable.{IsSendable}
-use Rattle.p25_delivery.specs.Halves.{Sending, Outgoing}
-use Rattle.p25_delivery.specs.SenderRules.{timed_out}
-use Rattle.p25_messages.specs.declared.answers.Resend.{Resend}
-use Rattle.p25_messages.specs.declared.answers.Resend.TheVariants.{Sent}
-use Rattle.p25_messages.specs.declared.step_kind.StepKind.{StepKind}
-use Rattle.p25_delivery.specs.SoundHalves.{outgoing_of, IsOutgoing}
-use Rattle.p25_delivery.specs.HalfRules.{after_timeout}
-use Rattle.p25_delivery.proofs.HalfLaws.{call-state, KeepsOutgoing, call-apart, timeout-keeps}
+use Rattle.p25_packet_blocks.specs.{declared.packet.Packet.{Packet}, Sendable.{IsSendable}}
+use Rattle.p25_delivery.specs.{Halves.{Sending, Outgoing}, SenderRules.{timed_out}, SoundHalves.{outgoing_of, IsOutgoing}, HalfRules.{after_timeout}}
+use Rattle.p25_messages.specs.{declared.answers.Resend.{Resend}, declared.answers.Resend.TheVariants.{Sent}, declared.step_kind.StepKind.{StepKind}}
+use Rattle.p25_delivery.proofs.{HalfLaws.{call-state, KeepsOutgoing, call-apart, timeout-keeps}, outbound.Outbound.time_out.Goals.{in-Sent, in-Idle, in-Down}}
 use Rattle.p25_delivery.proofs.outbound.Outbound.time_out.Goals as goal
-use Rattle.p25_delivery.proofs.outbound.Outbound.time_out.Goals.{in-Sent, in-Idle, in-Down}
 
 -- the half after a timeout, whatever its sender answers
 keeps : (o : Outgoing) (x : Sending × Resend) → KeepsOutgoing (after_timeout o x) → IsOutgoing (record o { sender = x.0 })

@@ -1,7 +1,6 @@
 use Rattle.std.proofs.Common.{subst}
 use Rattle.p25_delivery.specs.Halves.{Roomy}
-use Rattle.p25_duplex.specs.DuplexSteps.{DuplexState}
-use Rattle.p25_duplex.specs.DuplexRuns.{HasDuplexHistory}
+use Rattle.p25_duplex.specs.{DuplexSteps.{DuplexState}, DuplexRuns.{HasDuplexHistory}}
 use Rattle.p25_duplex.proofs.DuplexHistoryLaws.{history-facts, history-orderly}
 use Rattle.p25_duplex.proofs.world.DuplexWorld.facts.Goals as goal
 

@@ -1,6 +1,5 @@
 use Rattle.std.proofs.Common.{ap, refl, sym, ◌∙◌}
-use Rattle.p25_filter.specs.LineFilters.{LineFiltering}
-use Rattle.p25_filter.specs.LineRules.{both_pieces}
+use Rattle.p25_filter.specs.{LineFilters.{LineFiltering}, LineRules.{both_pieces}}
 use Rattle.p25_filter.proofs.LineFiltersLaws.{text-taken}
 use Rattle.p25_filter.proofs.line_filter.LineFilter.take_line.Goals as goal
 

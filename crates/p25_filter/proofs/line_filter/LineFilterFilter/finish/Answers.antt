@@ -1,7 +1,5 @@
 use Rattle.std.proofs.Common.{subst, ap, ◌∙◌, arith}
-use Rattle.p25_filter.specs.Futures.{IsClosed}
-use Rattle.p25_filter.specs.declared.line_filter.LinePhase.TheVariants.{Closing, ReadyLast}
-use Rattle.p25_filter.specs.LineFilters.{LineFiltering, is_ended_phase, line_future, line_filtering, pieces_of}
+use Rattle.p25_filter.specs.{Futures.{IsClosed}, declared.line_filter.LinePhase.TheVariants.{Closing, ReadyLast}, LineFilters.{LineFiltering, is_ended_phase, line_future, line_filtering, pieces_of}}
 use Rattle.p25_filter.proofs.LineFiltersLaws.{step-finish, step-finish_none}
 use Rattle.p25_filter.proofs.line_filter.LineFilterFilter.finish.Goals as goal
 

@@ -1,7 +1,5 @@
 use Rattle.std.proofs.Common.{◌≡◌, true, None, Ok, ap, sym, subst, ◌∙◌}
-use Rattle.p25_filter.specs.declared.line_filter.LinePhase.TheVariants.{Closed}
-use Rattle.p25_filter.specs.Futures.{NextPiece}
-use Rattle.p25_filter.specs.LineFilters.{LineFiltering, line_future, pieces_of}
+use Rattle.p25_filter.specs.{declared.line_filter.LinePhase.TheVariants.{Closed}, Futures.{NextPiece}, LineFilters.{LineFiltering, line_future, pieces_of}}
 use Rattle.p25_filter.proofs.LineFiltersLaws.{step-behind, step-close, step-idle, step-last, step-line, step-none}
 use Rattle.p25_filter.proofs.line_filter.LineFilterFilter.next.Goals as goal
 

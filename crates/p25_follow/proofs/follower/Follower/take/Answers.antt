@@ -1,10 +1,8 @@
 use Rattle.std.proofs.Common.{◌≡◌, false, not, Option, Some, None, refl, ap, sym, subst, ◌∙◌}
 use Rattle.std.specs.Option.{is_some}
 use Rattle.p25_bch_nid.specs.declared.nid.Nid.{Nid}
-use Rattle.p25_follow.specs.Expected.{names_of}
-use Rattle.p25_follow.specs.Following.{Follow, IsFollow}
-use Rattle.p25_follow.proofs.FollowingLaws.{IsFollow-left}
-use Rattle.p25_follow.proofs.FollowerSteps.{appended-all, none-behind, none-out, rest-behind, rest-out, unit-behind, unit-out}
+use Rattle.p25_follow.specs.{Expected.{names_of}, Following.{Follow, IsFollow}}
+use Rattle.p25_follow.proofs.{FollowingLaws.{IsFollow-left}, FollowerSteps.{appended-all, none-behind, none-out, rest-behind, rest-out, unit-behind, unit-out}}
 use Rattle.p25_follow.proofs.follower.Follower.take.Goals as goal
 
 pub invariant_of-self : goal.invariant_of-self

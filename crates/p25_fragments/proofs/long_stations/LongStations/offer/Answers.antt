@@ -1,9 +1,6 @@
 use Rattle.std.proofs.Common.{ap, ◌∙◌, arith}
 use Rattle.p25_delivery.proofs.HalfLaws.{call-state, call-answer}
-use Rattle.p25_fragments.specs.declared.long_step.LongStep.{LongStep}
-use Rattle.p25_fragments.specs.Inside.{state_of}
-use Rattle.p25_fragments.specs.LongState.{LongParts}
-use Rattle.p25_fragments.specs.LongSteps.{started}
+use Rattle.p25_fragments.specs.{declared.long_step.LongStep.{LongStep}, Inside.{state_of}, LongState.{LongParts}, LongSteps.{started}}
 use Rattle.p25_fragments.proofs.OfferLaws.{down-offer, busy-offer, taken-offer}
 use Rattle.p25_fragments.proofs.long_stations.LongStations.offer.Goals as goal
 

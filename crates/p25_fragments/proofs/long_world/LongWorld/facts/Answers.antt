@@ -1,6 +1,5 @@
 use Rattle.std.proofs.Common.{subst}
-use Rattle.p25_fragments.specs.LongState.{LongView}
-use Rattle.p25_fragments.specs.LongRuns.{HasLongHistory}
+use Rattle.p25_fragments.specs.{LongState.{LongView}, LongRuns.{HasLongHistory}}
 use Rattle.p25_fragments.proofs.LongHistoryLaws.{history-orderly}
 use Rattle.p25_fragments.proofs.long_world.LongWorld.facts.Goals as goal
 

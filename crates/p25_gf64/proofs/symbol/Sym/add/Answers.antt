@@ -1,7 +1,5 @@
 use Rattle.std.proofs.Common.{sym}
-use Rattle.p25_gf64.specs.ProductLaws.{xor_below}
-use Rattle.p25_gf64.specs.Symbol.{same_symbol}
-use Rattle.p25_gf64.specs.Gf64.{gf64}
+use Rattle.p25_gf64.specs.{ProductLaws.{xor_below}, Symbol.{same_symbol}, Gf64.{gf64}}
 use Rattle.p25_gf64.proofs.SymbolLaws.{number-add}
 use Rattle.p25_gf64.proofs.symbol.Sym.add.Goals as goal
 

@@ -1,9 +1,6 @@
 use Rattle.std.proofs.Common.{◌≡◌, ◌+◌, ◌-◌, ◌∙◌, sym, ap, arith}
-use Rattle.p25_gf64.specs.Field.{power}
-use Rattle.p25_gf64.specs.Symbol.{alpha}
-use Rattle.p25_gf64.specs.Gf64.{gf64}
-use Rattle.p25_gf64.proofs.FieldLaws.{zero_mul}
-use Rattle.p25_gf64.proofs.TableLaws.{quotient_by_logarithms, quotient_from_product, power_again}
+use Rattle.p25_gf64.specs.{Field.{power}, Symbol.{alpha}, Gf64.{gf64}}
+use Rattle.p25_gf64.proofs.{FieldLaws.{zero_mul}, TableLaws.{quotient_by_logarithms, quotient_from_product, power_again}}
 use Rattle.p25_gf64.proofs.symbol.Sym.div.Goals as goal
 
 pub returns-then-is_zero-clause-product : goal.returns-then-is_zero-clause-product

@@ -1,7 +1,6 @@
 use Rattle.std.proofs.Common.{◌∙◌, ap}
 use Rattle.p25_gf64.specs.Gf64.{gf64}
-use Rattle.p25_gf64.proofs.FieldLaws.{inverse_from_one}
-use Rattle.p25_gf64.proofs.TableLaws.{inverse_by_logarithm}
+use Rattle.p25_gf64.proofs.{FieldLaws.{inverse_from_one}, TableLaws.{inverse_by_logarithm}}
 use Rattle.p25_gf64.proofs.symbol.Sym.inv.Goals as goal
 
 pub returns-clause-one : goal.returns-clause-one

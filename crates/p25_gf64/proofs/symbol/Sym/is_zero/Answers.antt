@@ -1,5 +1,4 @@
-use Rattle.std.proofs.Common.{◌∙◌, ap}
-use Rattle.std.proofs.lemmas.Bool.{eqb-true, eq-eqb}
+use Rattle.std.proofs.{Common.{◌∙◌, ap}, lemmas.Bool.{eqb-true, eq-eqb}}
 use Rattle.p25_gf64.specs.Symbol.{number}
 use Rattle.p25_gf64.proofs.SymbolLaws.{number_zero, zero_from_number}
 use Rattle.p25_gf64.proofs.symbol.Sym.is_zero.Goals as goal

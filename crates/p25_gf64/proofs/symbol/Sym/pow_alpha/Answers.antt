@@ -1,8 +1,6 @@
 use Rattle.std.proofs.Common.{◌∙◌, sym, arith}
-use Rattle.p25_gf64.specs.Symbol.{alpha}
-use Rattle.p25_gf64.specs.Gf64.{gf64}
-use Rattle.p25_gf64.proofs.PowerLaws.{power-mod}
-use Rattle.p25_gf64.proofs.SymbolLaws.{alpha_to_63}
+use Rattle.p25_gf64.specs.{Symbol.{alpha}, Gf64.{gf64}}
+use Rattle.p25_gf64.proofs.{PowerLaws.{power-mod}, SymbolLaws.{alpha_to_63}}
 use Rattle.p25_gf64.proofs.symbol.Sym.pow_alpha.Goals as goal
 
 pub returns : goal.returns

@@ -28,9 +28,8 @@ use denote.Triple.Walked.{says, Stays, stay_dropped, walk_of, ends_at, walk_Meet
 use Rattle.p25_io.proofs.Walks.{none, none_made}
 use Rattle.p25_io.specs.contracts.history.History as History
 use Rattle.p25_io.specs.contracts.history.Note as Note
-use Rattle.p25_io.specs.Notes.{noted_event}
+use Rattle.p25_io.specs.{Notes.{noted_event}, contracts.history.History.then.Key.{name as #self}}
 use Rattle.p25_io.specs.contracts.history.History.then as F
-use Rattle.p25_io.specs.contracts.history.History.then.Key.{name as #self}
 use Rattle.p25_io.proofs.history.History.then.Statement as stated
 use Rattle.p25_io.proofs.history.History.then.Code as code
 

@@ -28,9 +28,8 @@ use denote.Triple.Walked.{says, Stays, stay_dropped, walk_of, ends_at, walk_Meet
 use Rattle.p25_io.proofs.Walks.{none, none_made}
 use Rattle.p25_io.specs.contracts.tally.Tally as Tally
 use Rattle.p25_io.specs.contracts.tally.Amount as Amount
-use Rattle.p25_io.specs.Amounts.{amount_of}
+use Rattle.p25_io.specs.{Amounts.{amount_of}, contracts.tally.Tally.more.Key.{name as #self}}
 use Rattle.p25_io.specs.contracts.tally.Tally.more as F
-use Rattle.p25_io.specs.contracts.tally.Tally.more.Key.{name as #self}
 use Rattle.p25_io.proofs.tally.Tally.more.Statement as stated
 use Rattle.p25_io.proofs.tally.Tally.more.Code as code
 

@@ -1,9 +1,7 @@
 use Rattle.std.proofs.Common.{◌-◌, [], ◌∷◌, ◌++◌, take, sym, ap, ◌∙◌}
-use Rattle.p25_line.specs.Marks.{Marks}
-use Rattle.p25_line.specs.declared.word_list.Place.{Place}
-use Rattle.p25_line.proofs.WordsSteps.{noted-room, noted-full}
+use Rattle.p25_line.specs.{Marks.{Marks}, declared.word_list.Place.{Place}}
+use Rattle.p25_line.proofs.{WordsSteps.{noted-room, noted-full}, word_list.WordList.note.Goals.{then-not-is_full, else-not-is_full}}
 use Rattle.p25_line.proofs.word_list.WordList.note.Goals as goal
-use Rattle.p25_line.proofs.word_list.WordList.note.Goals.{then-not-is_full, else-not-is_full}
 
 pub returns-clause-places : goal.returns-clause-places
 returns-clause-places c =

@@ -1,10 +1,7 @@
 use Rattle.std.proofs.Common.{◌+◌, ◌*◌, ◌++◌, ap, ap₂, ◌∙◌, arith}
 use Rattle.p25_bits.specs.Bits.{bits_of, octet_bits}
-use Rattle.p25_link.specs.Symbols.{symbols_in}
-use Rattle.p25_link.specs.Words.{sync_of_symbols}
-use Rattle.p25_link.proofs.SymbolNumbersLaws.{bits_joined, nine_octets_bits}
-use Rattle.p25_link.proofs.WordsLaws.{sync_back}
-use Rattle.p25_link.proofs.WordBitsLaws.{sync_put}
+use Rattle.p25_link.specs.{Symbols.{symbols_in}, Words.{sync_of_symbols}}
+use Rattle.p25_link.proofs.{SymbolNumbersLaws.{bits_joined, nine_octets_bits}, WordsLaws.{sync_back}, WordBitsLaws.{sync_put}}
 use Rattle.p25_link.proofs.encryption_sync.EncryptionSync.symbols.Goals as goal
 
 made : goal.returns-clause-value

@@ -1,9 +1,7 @@
 use Rattle.std.proofs.Common.{ap, ◌∙◌, arith, lit≤}
 use Rattle.p25_bits.specs.Bits.{bits_of}
 use Rattle.p25_link.specs.Words.{header_symbols}
-use Rattle.p25_link.proofs.SymbolNumbersLaws.{field_of-part, last_field, symbols_bits}
-use Rattle.p25_link.proofs.WordsLaws.{header_symbols_back}
-use Rattle.p25_link.proofs.WordBitsLaws.{header_taken}
+use Rattle.p25_link.proofs.{SymbolNumbersLaws.{field_of-part, last_field, symbols_bits}, WordsLaws.{header_symbols_back}, WordBitsLaws.{header_taken}}
 use Rattle.p25_link.proofs.header_word.HeaderWord.from_symbols.Goals as goal
 
 made : goal.returns-clause-value

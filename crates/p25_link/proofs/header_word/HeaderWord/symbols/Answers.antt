@@ -1,10 +1,7 @@
 use Rattle.std.proofs.Common.{◌+◌, ◌*◌, ◌++◌, ap, ap₂, ◌∙◌, arith}
 use Rattle.p25_bits.specs.Bits.{bits_of, octet_bits}
-use Rattle.p25_link.specs.Symbols.{symbols_in}
-use Rattle.p25_link.specs.Words.{header_of_symbols}
-use Rattle.p25_link.proofs.SymbolNumbersLaws.{bits_joined, nine_octets_bits}
-use Rattle.p25_link.proofs.WordsLaws.{header_back}
-use Rattle.p25_link.proofs.WordBitsLaws.{header_put}
+use Rattle.p25_link.specs.{Symbols.{symbols_in}, Words.{header_of_symbols}}
+use Rattle.p25_link.proofs.{SymbolNumbersLaws.{bits_joined, nine_octets_bits}, WordsLaws.{header_back}, WordBitsLaws.{header_put}}
 use Rattle.p25_link.proofs.header_word.HeaderWord.symbols.Goals as goal
 
 made : goal.returns-clause-value

@@ -1,9 +1,7 @@
 use Rattle.std.proofs.Common.{ap, ◌∙◌, arith}
 use Rattle.p25_bits.specs.Bits.{bits_of}
 use Rattle.p25_link.specs.Words.{link_symbols}
-use Rattle.p25_link.proofs.SymbolNumbersLaws.{symbols_bits}
-use Rattle.p25_link.proofs.WordsLaws.{link_symbols_back}
-use Rattle.p25_link.proofs.WordBitsLaws.{link_taken}
+use Rattle.p25_link.proofs.{SymbolNumbersLaws.{symbols_bits}, WordsLaws.{link_symbols_back}, WordBitsLaws.{link_taken}}
 use Rattle.p25_link.proofs.link_control.LinkControl.from_symbols.Goals as goal
 
 made : goal.returns-clause-value

@@ -1,8 +1,6 @@
 use Rattle.std.proofs.Common.{ap, ◌∙◌}
 use Rattle.p25_link.specs.Words.{link_of_symbols}
-use Rattle.p25_link.proofs.SymbolNumbersLaws.{nine_octets_bits}
-use Rattle.p25_link.proofs.WordsLaws.{link_back}
-use Rattle.p25_link.proofs.WordBitsLaws.{link_put}
+use Rattle.p25_link.proofs.{SymbolNumbersLaws.{nine_octets_bits}, WordsLaws.{link_back}, WordBitsLaws.{link_put}}
 use Rattle.p25_link.proofs.link_control.LinkControl.symbols.Goals as goal
 
 made : goal.returns-clause-value

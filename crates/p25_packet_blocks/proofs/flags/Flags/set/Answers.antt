@@ -1,6 +1,4 @@
-use Rattle.std.proofs.Common.{List, Bool, ◌<◌, ap, ◌∙◌, slice_set, length, arith}
-use Rattle.std.proofs.lemmas.List.{length-take}
-use Rattle.std.proofs.Math.Seq.{take-set-lt}
+use Rattle.std.proofs.{Common.{List, Bool, ◌<◌, ap, ◌∙◌, slice_set, length, arith}, lemmas.List.{length-take}, Math.Seq.{take-set-lt}}
 use Rattle.p25_packet_blocks.proofs.flags.Flags.set.Goals as goal
 
 pub returns : goal.returns

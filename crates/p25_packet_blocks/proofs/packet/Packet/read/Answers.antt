@@ -1,10 +1,7 @@
 use Rattle.std.proofs.Common.{◌≡◌, ℕ, ap, sym, subst, ◌∙◌}
-use Rattle.p25_status.specs.Outcomes.{IfRead, outcome_of}
-use Rattle.p25_status.specs.declared.outcome.Outcome.{Outcome}
-use Rattle.p25_packet_blocks.specs.Fixes.{packet_fixes_of}
-use Rattle.p25_packet_blocks.specs.Reading.{packet_of_head}
+use Rattle.p25_status.specs.{Outcomes.{IfRead, outcome_of}, declared.outcome.Outcome.{Outcome}}
+use Rattle.p25_packet_blocks.specs.{Fixes.{packet_fixes_of}, Reading.{packet_of_head, header_bits}}
 use Rattle.p25_packet_blocks.proofs.OutcomeLaws.{read_head_of-few, packet_outcome-bad, packet_outcome-good, packet_outcome-fixes, IfOk-same, IfOk-none}
-use Rattle.p25_packet_blocks.specs.Reading.{header_bits}
 use Rattle.p25_packet_blocks.proofs.packet.Packet.read.Goals as goal
 
 pub read_blocks-requires-clause-few : goal.read_blocks-requires-clause-few

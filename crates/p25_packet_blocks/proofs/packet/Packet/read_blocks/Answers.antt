@@ -1,10 +1,7 @@
 use Rattle.std.proofs.Common.{◌≢◌, Ok, ap, sym, ◌∙◌, arith, inl, inr}
-use Rattle.p25_packet_blocks.specs.ConfirmedParts.{ConfirmedParts}
-use Rattle.p25_packet_blocks.specs.declared.packet.Packet.TheVariants.{Confirmed}
-use Rattle.p25_packet_blocks.specs.Heads.{confirmed_format, plain_format, response_format, head_format}
+use Rattle.p25_packet_blocks.specs.{ConfirmedParts.{ConfirmedParts}, declared.packet.Packet.TheVariants.{Confirmed}, Heads.{confirmed_format, plain_format, response_format, head_format}}
 use Rattle.p25_packet_blocks.specs.Kinds.{IsPlainFormat}
-use Rattle.p25_packet_blocks.proofs.OutcomeLaws.{IfOk-plain, confirmed-set, confirmed-wrong}
-use Rattle.p25_packet_blocks.proofs.ReadingLaws.{packet_of_head-plain, packet_of_head-other}
+use Rattle.p25_packet_blocks.proofs.{OutcomeLaws.{IfOk-plain, confirmed-set, confirmed-wrong}, ReadingLaws.{packet_of_head-plain, packet_of_head-other}}
 use Rattle.p25_packet_blocks.proofs.packet.Packet.read_blocks.Goals as goal
 
 pub returns-in-Confirmed-clause-packet : goal.returns-in-Confirmed-clause-packet

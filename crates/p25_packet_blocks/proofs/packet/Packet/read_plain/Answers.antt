@@ -1,13 +1,10 @@
 use Rattle.std.proofs.Common.{◌≡◌, ◌≢◌, ℕ, ◌-◌, ◌*◌, List, Ok, eqb, take, drop, sym, ◌∙◌, arith, ap, ap₂}
 use Rattle.p25_bits.specs.Numbers.{octets_number}
 use Rattle.p25_crc.specs.Values.{crc32_of}
-use Rattle.p25_packet_blocks.specs.Parts.{PlainParts}
-use Rattle.p25_packet_blocks.specs.declared.packet.Packet.TheVariants.{Plain}
-use Rattle.p25_packet_blocks.specs.Heads.{head_blocks}
-use Rattle.p25_packet_blocks.specs.Reading.{octets_read}
+use Rattle.p25_packet_blocks.specs.{Parts.{PlainParts}, declared.packet.Packet.TheVariants.{Plain}, Heads.{head_blocks}, Reading.{octets_read}}
 use Rattle.p25_packet_blocks.proofs.ReadingLaws.{plain_from-none, plain_from-good, plain_from-bad}
-use Rattle.p25_packet_blocks.proofs.packet.Packet.read_plain.Goals as goal
 use Rattle.p25_packet_blocks.proofs.packet.Packet.read_plain.Goals.{else-blocks-gt0-via-then-blocks-gt0+else-not-check_agrees, else-blocks-gt0-via-else-blocks-gt0}
+use Rattle.p25_packet_blocks.proofs.packet.Packet.read_plain.Goals as goal
 
 pub returns-then-not-check_agrees-clause-packet : goal.returns-then-not-check_agrees-clause-packet
 returns-then-not-check_agrees-clause-packet c =

@@ -1,10 +1,7 @@
-use Rattle.std.proofs.Common.{◌-◌, ◌∙◌, refl, ap, ap₂, arith}
-use Rattle.std.proofs.lemmas.List.{get_or_default}
+use Rattle.std.proofs.{Common.{◌-◌, ◌∙◌, refl, ap, ap₂, arith}, lemmas.List.{get_or_default}}
 use Rattle.p25_gf64.specs.Gf64.{gf64}
 use Rattle.p25_poly.specs.Polynomial.{coefficient_of}
-use Rattle.p25_poly.proofs.CoefficientLaws.{coefficient_blank}
-use Rattle.p25_poly.proofs.DivisionLaws.{divided_none, divided_step}
-use Rattle.p25_poly.proofs.PolyLaws.{divided_all, unique_division}
+use Rattle.p25_poly.proofs.{CoefficientLaws.{coefficient_blank}, DivisionLaws.{divided_none, divided_step}, PolyLaws.{divided_all, unique_division}}
 use Rattle.p25_poly.proofs.polynomial.Poly.divide.Goals as goal
 
 pub loop-shift-init : goal.loop-shift-init

@@ -1,5 +1,4 @@
-use Rattle.std.proofs.Common.{◌∙◌, sym, ap, ap₂, arith}
-use Rattle.std.proofs.lemmas.List.{get_or_default}
+use Rattle.std.proofs.{Common.{◌∙◌, sym, ap, ap₂, arith}, lemmas.List.{get_or_default}}
 use Rattle.p25_gf64.specs.Gf64.{gf64}
 use Rattle.p25_algebra.proofs.ValueLaws.{value-none}
 use Rattle.p25_poly.specs.Polynomial.{coefficient_of}

@@ -1,7 +1,6 @@
 use Rattle.std.proofs.Common.{◌≡◌, ℕ, ◌<◌, length}
 use Rattle.p25_gf64.specs.Gf64.{gf64}
-use Rattle.p25_algebra.specs.Sums.{sum_below}
-use Rattle.p25_algebra.specs.Series.{coefficient, shifted}
+use Rattle.p25_algebra.specs.{Sums.{sum_below}, Series.{coefficient, shifted}}
 use Rattle.p25_poly.specs.Polynomial.{coefficient_of}
 use Rattle.p25_poly.proofs.polynomial.Poly.mul.Given as goal
 

@@ -1,8 +1,6 @@
-use Rattle.std.proofs.Common.{◌∙◌, ap, ap₂, arith}
-use Rattle.std.proofs.lemmas.List.{get_or_default}
+use Rattle.std.proofs.{Common.{◌∙◌, ap, ap₂, arith}, lemmas.List.{get_or_default}}
 use Rattle.p25_gf64.specs.Gf64.{gf64}
-use Rattle.p25_poly.proofs.CoefficientLaws.{multiple_everywhere}
-use Rattle.p25_poly.proofs.RowLaws.{cleared_row}
+use Rattle.p25_poly.proofs.{CoefficientLaws.{multiple_everywhere}, RowLaws.{cleared_row}}
 use Rattle.p25_poly.proofs.row.Row.cleared.Goals as goal
 
 pub returns : goal.returns

@@ -1,9 +1,7 @@
-use Rattle.std.proofs.Common.{◌∙◌, ap, ap₂, arith, length}
-use Rattle.std.proofs.lemmas.List.{get_or_default}
+use Rattle.std.proofs.{Common.{◌∙◌, ap, ap₂, arith, length}, lemmas.List.{get_or_default}}
 use Rattle.p25_gf64.specs.Gf64.{gf64}
 use Rattle.p25_algebra.specs.Series.{coefficient}
-use Rattle.p25_poly.proofs.CoefficientLaws.{coefficient_read, written_at, written_elsewhere}
-use Rattle.p25_poly.proofs.RowLaws.{corrected_row}
+use Rattle.p25_poly.proofs.{CoefficientLaws.{coefficient_read, written_at, written_elsewhere}, RowLaws.{corrected_row}}
 use Rattle.p25_poly.proofs.row.Row.correct.Goals as goal
 
 pub returns-clause-met : goal.returns-clause-met

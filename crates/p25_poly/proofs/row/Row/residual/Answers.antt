@@ -1,11 +1,9 @@
-use Rattle.std.proofs.Common.{◌∙◌, sym, ap, ap₂, arith}
-use Rattle.std.proofs.lemmas.List.{get_or_default}
+use Rattle.std.proofs.{Common.{◌∙◌, sym, ap, ap₂, arith}, lemmas.List.{get_or_default}}
 use Rattle.p25_gf64.specs.Gf64.{gf64}
 use Rattle.p25_gf64.proofs.FieldLaws.{add_zero, add_assoc}
 use Rattle.p25_algebra.proofs.SumLaws.{sum-none}
 use Rattle.p25_algebra.specs.Series.{coefficient}
-use Rattle.p25_poly.proofs.CoefficientLaws.{coefficient_read}
-use Rattle.p25_poly.proofs.DotLaws.{dot-next}
+use Rattle.p25_poly.proofs.{CoefficientLaws.{coefficient_read}, DotLaws.{dot-next}}
 use Rattle.p25_poly.proofs.row.Row.residual.Goals as goal
 
 pub loop-k-init : goal.loop-k-init

@@ -1,7 +1,6 @@
 use Rattle.std.proofs.Common.{◌≡◌}
 use Rattle.p25_gf64.specs.Gf64.{gf64}
-use Rattle.p25_algebra.specs.Sums.{dot}
-use Rattle.p25_algebra.specs.Series.{coefficient}
+use Rattle.p25_algebra.specs.{Sums.{dot}, Series.{coefficient}}
 use Rattle.p25_poly.proofs.row.Row.residual.Given as goal
 
 abbrev pub invariant-loop-k : goal.invariant-loop-k

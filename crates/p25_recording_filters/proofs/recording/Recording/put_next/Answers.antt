@@ -1,6 +1,5 @@
 use Rattle.std.proofs.Common.{◌≡◌, ℕ, ◌+◌, List, [], ◌∷◌, length, take, refl, ap, sym, subst, ◌∙◌, arith, length-drop, length-take}
-use Rattle.p25_units.specs.Items.{covered}
-use Rattle.p25_units.specs.declared.item.Item.{Item}
+use Rattle.p25_units.specs.{Items.{covered}, declared.item.Item.{Item}}
 use Rattle.p25_recording_filters.specs.Recordings.{PutItem, RecordingParts, recording}
 use Rattle.p25_recording_filters.proofs.RecordingsLaws.{gave-fits, gave-place, put-alike}
 use Rattle.p25_recording_filters.proofs.recording.Recording.put_next.Goals as goal

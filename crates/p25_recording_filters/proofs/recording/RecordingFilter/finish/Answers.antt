@@ -1,7 +1,6 @@
 use Rattle.std.proofs.Common.{ap, subst, ◌∙◌}
 use Rattle.p25_filter.specs.Futures.{IsClosed}
-use Rattle.p25_recording_filters.specs.declared.recording.Phase.TheVariants.{Ended}
-use Rattle.p25_recording_filters.specs.Recordings.{RecordingParts, has_ended, recording_future}
+use Rattle.p25_recording_filters.specs.{declared.recording.Phase.TheVariants.{Ended}, Recordings.{RecordingParts, has_ended, recording_future}}
 use Rattle.p25_recording_filters.proofs.RecordingsLaws.{step-finish}
 use Rattle.p25_recording_filters.proofs.recording.RecordingFilter.finish.Goals as goal
 

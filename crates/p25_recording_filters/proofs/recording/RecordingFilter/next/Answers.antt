@@ -1,9 +1,7 @@
 use Rattle.std.proofs.Common.{◌≡◌, Bool, true, false, [], Result, Ok, sym, subst}
 use Rattle.p25_stream.specs.Scan.{given}
-use Rattle.p25_filter.specs.Futures.{NextPiece}
-use Rattle.p25_filter.specs.declared.ending.Refusal.{Refusal}
-use Rattle.p25_recording_filters.specs.declared.recording.Phase.{Phase}
-use Rattle.p25_recording_filters.specs.Recordings.{HasClosed, RecordingParts, has_ended, recording, recording_future}
+use Rattle.p25_filter.specs.{Futures.{NextPiece}, declared.ending.Refusal.{Refusal}}
+use Rattle.p25_recording_filters.specs.{declared.recording.Phase.{Phase}, Recordings.{HasClosed, RecordingParts, has_ended, recording, recording_future}}
 use Rattle.p25_recording_filters.proofs.RecordingsLaws.{step-close, step-idle, step-item}
 use Rattle.p25_recording_filters.proofs.recording.RecordingFilter.next.Goals as goal
 

@@ -1,8 +1,6 @@
 use Rattle.std.proofs.Common.{ℕ, ◌*◌, [], ◌∷◌, ◌++◌, drop, ap, sym, ◌∙◌, arith}
-use Rattle.p25_bits.specs.Bits.{field_of}
-use Rattle.p25_bits.specs.Numbers.{octets_from}
-use Rattle.p25_bits.proofs.NumbersLaws.{numbers_from-more}
-use Rattle.p25_bits.proofs.PartLaws.{part-drop}
+use Rattle.p25_bits.specs.{Bits.{field_of}, Numbers.{octets_from}}
+use Rattle.p25_bits.proofs.{NumbersLaws.{numbers_from-more}, PartLaws.{part-drop}}
 use Rattle.p25_recording_filters.proofs.OctetsLaws.{octets-none, octets-on}
 use Rattle.p25_recording_filters.proofs.reports.changed.put_last_octets.Goals as goal
 

@@ -1,14 +1,9 @@
 use Rattle.std.proofs.Common.{◌≡◌, ◌++◌, ◌+◌, ◌-◌, [], List, Bool, Option, Some, drop, subst, sym, arith, ℕ, ℤ}
 use Rattle.std.specs.Prelude.{MatchOption}
-use Rattle.p25_units.specs.declared.item.Item.{Item}
-use Rattle.p25_units.specs.Items.{covered, place_of}
+use Rattle.p25_units.specs.{declared.item.Item.{Item}, Items.{covered, place_of}, Units.{whole_octets}}
 use Rattle.p25_stream.specs.Scan.{Scan, Gave, given}
-use Rattle.p25_recording_filters.specs.Commands.{unfilled}
-use Rattle.p25_units.specs.Units.{whole_octets}
-use Rattle.p25_recording_filters.specs.SoftLevels.{item_softened}
-use Rattle.p25_recording_filters.specs.Softs.{IsHolding, PutSoftItem, SoftParts, first_level}
-use Rattle.p25_recording_filters.proofs.SoftLevelsLaws.{length-grouped}
-use Rattle.p25_recording_filters.proofs.SoftItemLaws.{gone-given, heard-given, holding-next, length-held, place-given}
+use Rattle.p25_recording_filters.specs.{Commands.{unfilled}, SoftLevels.{item_softened}, Softs.{IsHolding, PutSoftItem, SoftParts, first_level}}
+use Rattle.p25_recording_filters.proofs.{SoftLevelsLaws.{length-grouped}, SoftItemLaws.{gone-given, heard-given, holding-next, length-held, place-given}}
 use Rattle.p25_recording_filters.proofs.SoftRecordingsLaws.{PutSoftItem-from, step-size}
 use Rattle.p25_recording_filters.proofs.soft.Soft.put_next.Goals as goal
 

@@ -2,8 +2,7 @@ use Rattle.std.proofs.Common.{rules, ◌≡◌, ℕ, ◌+◌, ◌*◌, ◌^◌, 
 use Rattle.std.proofs.lemmas.Int.{to_z-of_z}
 use Rattle.p25_stream.specs.Scan.{given}
 use Rattle.p25_filter.specs.Futures.{Progress}
-use Rattle.p25_recording_filters.specs.SoftLevels.{octet_level}
-use Rattle.p25_recording_filters.specs.Softs.{SoftParts, first_level, soft_future}
+use Rattle.p25_recording_filters.specs.{SoftLevels.{octet_level}, Softs.{SoftParts, first_level, soft_future}}
 use Rattle.p25_recording_filters.proofs.SoftRecordingsLaws.{step-push}
 use Rattle.p25_recording_filters.proofs.soft.SoftFilter.push_some.Goals as goal
 

@@ -1,7 +1,6 @@
 use Rattle.std.proofs.Common.{Option, subst}
 use Rattle.std.specs.Prelude.{IfSome}
-use Rattle.p25_packet_blocks.specs.declared.packet.Packet.{Packet}
-use Rattle.p25_packet_blocks.specs.Sendable.{IsSendable}
+use Rattle.p25_packet_blocks.specs.{declared.packet.Packet.{Packet}, Sendable.{IsSendable}}
 use Rattle.p25_stations.proofs.AirLaws.{sendable-whole}
 use Rattle.p25_stations.proofs.newest.Newest.deliver.Goals as goal
 

@@ -1,7 +1,6 @@
 use Rattle.std.proofs.Common.{subst}
 use Rattle.p25_delivery.specs.Halves.{Roomy}
-use Rattle.p25_stations.specs.WorldState.{WorldState}
-use Rattle.p25_stations.specs.Runs.{HasHistory}
+use Rattle.p25_stations.specs.{WorldState.{WorldState}, Runs.{HasHistory}}
 use Rattle.p25_stations.proofs.HistoryLaws.{history-facts, history-orderly, history-counted}
 use Rattle.p25_stations.proofs.world.World.facts.Goals as goal
 

@@ -1,7 +1,5 @@
 use Rattle.std.proofs.Common.{◌≡◌, ℕ, List, [], ◌∷◌, refl}
-use Rattle.p25_status.specs.Outcomes.{outcome_of}
-use Rattle.p25_status.specs.declared.fields.Field.{Field}
-use Rattle.p25_status.specs.declared.outcome.Outcome.TheVariants.{Read, Failing}
+use Rattle.p25_status.specs.{Outcomes.{outcome_of}, declared.fields.Field.{Field}, declared.outcome.Outcome.TheVariants.{Read, Failing}}
 use Rattle.p25_status.proofs.outcome.Outcome.of.Goals as goal
 
 some-failing : (fields : List Field) (wrong : ℕ) → ((fields ≡ []) → ⊥) → Failing fields ≡ outcome_of fields wrong

@@ -1,8 +1,6 @@
-use Rattle.std.proofs.Common.{◌≢◌, false, [], length, take, ap, ap₂, sym, ◌∙◌, arith}
-use Rattle.std.proofs.lemmas.Bool.{both_ways}
+use Rattle.std.proofs.{Common.{◌≢◌, false, [], length, take, ap, ap₂, sym, ◌∙◌, arith}, lemmas.Bool.{both_ways}}
 use Rattle.p25_units.specs.Items.{covered}
-use Rattle.p25_stream.specs.Items.{first_item}
-use Rattle.p25_stream.specs.Scan.{Scan, given}
+use Rattle.p25_stream.specs.{Items.{first_item}, Scan.{Scan, given}}
 use Rattle.p25_stream.proofs.ScanLaws.{gave-next, next-fits}
 use Rattle.p25_stream.proofs.scanner.Scanner.next_item_in.Goals as goal
 

@@ -1,8 +1,6 @@
-use Rattle.std.proofs.Common.{◌≡◌, ℕ, ◌*◌, ◌/◌, List, length, replicate, ap, ◌∙◌, arith}
-use Rattle.std.proofs.lemmas.List.{length-replicate}
+use Rattle.std.proofs.{Common.{◌≡◌, ℕ, ◌*◌, ◌/◌, List, length, replicate, ap, ◌∙◌, arith}, lemmas.List.{length-replicate}}
 use Rattle.p25_status.specs.declared.symbols.Status.{Status}
-use Rattle.p25_units.specs.UnitParts.{UnitParts}
-use Rattle.p25_units.specs.Units.{frame_length_of}
+use Rattle.p25_units.specs.{UnitParts.{UnitParts}, Units.{frame_length_of}}
 use Rattle.p25_units.proofs.ReadingsLaws.{IsWholeBody-sendable}
 use Rattle.p25_units.proofs.frame.Frame.filled.Goals as goal
 

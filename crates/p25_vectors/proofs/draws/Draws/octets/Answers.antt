@@ -1,7 +1,6 @@
-use Rattle.std.proofs.Common.{◌≡◌, ◌%◌, ◌<◌, ℕ, List, [], ◌∷◌, ◌++◌, length, refl, ap, ap₂, sym, ◌∙◌, arith}
+use Rattle.std.proofs.{Common.{◌≡◌, ◌%◌, ◌<◌, ℕ, List, [], ◌∷◌, ◌++◌, length, refl, ap, ap₂, sym, ◌∙◌, arith}, lemmas.List.{take_more_set, length-replicate, length-set}}
 use Rattle.p25_vectors.specs.Draws.{draw, state_after}
 use Rattle.p25_vectors.proofs.DrawsLaws.{octets_drawn-none, octets_drawn-more, state_after-none, state_after-add}
-use Rattle.std.proofs.lemmas.List.{take_more_set, length-replicate, length-set}
 use Rattle.p25_vectors.proofs.draws.Draws.octets.Goals as goal
 
 pub loop-i-init : goal.loop-i-init

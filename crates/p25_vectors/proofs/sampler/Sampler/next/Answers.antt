@@ -1,8 +1,5 @@
 use Rattle.std.proofs.Common.{◌≡◌, ◌+◌, List, length, Bool, ap, sym, ◌∙◌, subst, arith}
-use Rattle.p25_units.specs.Needs.{need_of}
-use Rattle.p25_units.specs.Readings.{unit_reading_of}
-use Rattle.p25_units.specs.WithinRadius.{IsWithinRadius}
-use Rattle.p25_units.specs.declared.needs.Need.TheVariants.{Length}
+use Rattle.p25_units.specs.{Needs.{need_of}, Readings.{unit_reading_of}, WithinRadius.{IsWithinRadius}, declared.needs.Need.TheVariants.{Length}}
 use Rattle.p25_vectors.specs.Samples.{sample_bits, sample_flips, sample_frame, state_before}
 use Rattle.p25_vectors.proofs.SampleLaws.{image-length, image-reads, image-within, sample-next}
 use Rattle.p25_vectors.proofs.sampler.Sampler.next.Goals as goal
