@@ -18,9 +18,9 @@
    A call checks all else itself, and answers by one of the numbers named below. That it takes no memory, keeps nothing, and calls
    nothing but memcpy and memset, so that calls from several threads on different octets do not meet, is looked at by a test, and not proved.
 
-   Stack, as stack.c measured it on x86-64 over recordings of all kinds of units: the calls that build, repair or bridge a unit take up to
-   47,000 octets; those that tell items, and p25_unit_fields, 38,000; p25_packet_read, p25_build_packet and p25_build_fields 24,000; and the
-   other calls 13,000. It is measured, and not proved: give a thread 160 KiB or more. */
+   Stack, as stack.c measured it on x86-64 over recordings of all kinds of units: p25_follower_take takes up to 54,000 octets; the calls
+   that build, repair, bridge or relay a unit, and p25_soften, 47,000; those that tell items, and p25_unit_fields, 38,000; p25_packet_read,
+   p25_build_packet and p25_build_fields 30,000; and the other calls 13,000. It is measured, and not proved: give a thread 160 KiB or more. */
 #ifndef P25_H
 #define P25_H
 

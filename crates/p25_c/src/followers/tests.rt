@@ -38,35 +38,41 @@ const GAP: ItemParts = ItemParts {
     kind: 4,
 };
 
+// Whether the first octets of two lists are the same.
+fn are_alike(one: &[u8], other: &[u8], count: usize) -> bool {
+    count <= one.len() && count <= other.len() && one[..count] == other[..count]
+}
+
 #[test]
 fn lost_terminator(rt: HostRuntime) {
     let mut follower = fresh();
     let mut room = [9; 60];
+    let mut last = [9; 18];
     assert_eq!(rt;
         p25_follower_take(&mut follower, &RECORDING, 0, &GAP, &mut room),
         -1
     );
     assert_eq!(rt;
-        p25_follower_take(&mut follower, &RECORDING, 0, &UNIT, &mut room[..53]),
+        p25_follower_take(&mut follower, &RECORDING, 0, &UNIT, &mut [9; 53]),
         -2
     );
     assert_eq!(rt;
         p25_follower_take(&mut follower, &RECORDING, 0, &UNIT, &mut room),
         54
     );
-    assert!(rt; &room[..54] == &RECORDING[..54] && room[54] == 9);
+    assert!(rt; are_alike(&room, &RECORDING, 54));
     assert_eq!(rt;
-        p25_follower_take(&mut follower, &RECORDING[..71], 0, &GAP, &mut room),
+        p25_follower_take(&mut follower, &TERMINATOR, 0, &GAP, &mut room),
         -1
     );
     assert_eq!(rt;
         p25_follower_take(&mut follower, &RECORDING, 0, &GAP, &mut []),
         0
     );
-    assert_eq!(rt; p25_follower_finish(&mut follower, &mut room[..17]), -2);
-    assert_eq!(rt; p25_follower_finish(&mut follower, &mut room), 18);
-    assert!(rt; &room[..18] == TERMINATOR.as_slice());
-    assert_eq!(rt; p25_follower_finish(&mut follower, &mut room), 0);
+    assert_eq!(rt; p25_follower_finish(&mut follower, &mut [9; 17]), -2);
+    assert_eq!(rt; p25_follower_finish(&mut follower, &mut last), 18);
+    assert!(rt; are_alike(&last, &TERMINATOR, 18));
+    assert_eq!(rt; p25_follower_finish(&mut follower, &mut []), 0);
 }
 
 #[test]
