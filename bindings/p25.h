@@ -382,7 +382,7 @@ typedef struct p25_packet {
     uint8_t response_class;     /* of a response its class, 0 to 3 */
     uint8_t response_type;      /* and its type, 0 to 7 */
     uint8_t response_status;    /* and its status, 0 to 7 */
-    uint8_t bad;                /* of a confirmed packet how many blocks fail, 0 to 127 */
+    uint8_t bad;                /* of a confirmed packet how many blocks fail */
     uint8_t good[127];          /* of a confirmed packet for each block whether its check (CRC-9) agrees */
     uint8_t serials[127];       /* and its serial number, 0 to 127, where it does */
     uint8_t octets[2032];       /* its data: of a confirmed packet 16 octets for each block, zeros for one that fails; of another packet the
@@ -398,7 +398,7 @@ enum {
 };
 
 /* Sets *packet to the packet (PDU) of the unit that begins at bit `from` of a recording, of which octets are given as to p25_next_item,
-   and answers how many of its blocks fail, 0 to 127: 0 of a whole unit, and more of a broken one whose blocks fail. What its kind of packet
+   and answers how many of its blocks fail: 0 of a whole unit, and more of a broken one whose blocks fail. What its kind of packet
    has not is 0. Answers P25_OUTSIDE as p25_next_item does; P25_NO_UNIT where no unit of a packet begins there, since its sync, its
    identifier or its DUID is another or fewer than 360 bits are left; or one of the numbers above. *packet stays then. */
 int32_t p25_packet_read(const uint8_t *octets, size_t n, uint64_t begin, uint64_t from, p25_packet *packet);
