@@ -80,6 +80,19 @@ def recordings_probed():
         yield '%d bits of a packet' % size, packet(0x16, 1)[:size]
 
 
+def answers_probed(lines, words):
+    """Scripts in which the answer after some lines has another octet 1."""
+    sent = stations.Stations()
+    for line in lines:
+        sent.step(stations.event_of(line.encode(), 'stations'))
+    kind, (nac, head, flags) = sent.sent['answer']
+    here = recordings.unit_bits((kind, [nac, head, flags]), 0)
+    for word in words:
+        there = recordings.unit_bits((kind, [nac, '23%02x' % word + head[4:], flags]), 0)
+        places = ','.join(str(place) for place in range(len(here)) if here[place] != there[place])
+        yield 'an answer whose octet 1 is %02x, after %s' % (word, lines[-2].split()[0]), 'stations', lines + ['deliver answer ' + (places or '-')]
+
+
 def scripts_probed():
     """Commands and scripts that their lines make."""
     for size in (0, 1, 11, 12, 13, 28, 1004, 1005, 1020, 1021, 1500, 2027, 2028, 2029):
@@ -90,16 +103,8 @@ def scripts_probed():
         yield 'a message of %d octets' % size, 'duplex', ['a send ' + text, 'deliver ab ' + damaged, 'deliver ba -', 'deliver ab -', 'deliver ba -']
     for size in (0, 1, 499, 500, 501, 1000, 3999, 4000, 4001):
         yield 'a long message of %d octets' % size, 'fragments', ['long ' + ('a5' * size or '-')] + ['deliver data -', 'deliver answer -'] * 9
-    sent = stations.Stations()
-    lines = ['send ' + '61' * 20, 'deliver data 320,330,340,350,360,370,380,390,400']
-    for line in lines:
-        sent.step(stations.event_of(line.encode(), 'stations'))
-    kind, (nac, head, flags) = sent.sent['answer']
-    here = recordings.unit_bits((kind, [nac, head, flags]), 0)
-    for word in list(range(0, 256, 8)) + list(range(129, 136)):
-        there = recordings.unit_bits((kind, [nac, '23%02x' % word + head[4:], flags]), 0)
-        places = ','.join(str(place) for place in range(len(here)) if here[place] != there[place])
-        yield 'an answer whose octet 1 is %02x' % word, 'stations', lines + ['deliver answer ' + (places or '-')]
+    yield from answers_probed(['send ' + '61' * 20, 'deliver data 320,330,340,350,360,370,380,390,400'], list(range(0, 256, 8)) + list(range(129, 136)))
+    yield from answers_probed(['send 61'] + ['timeout'] * 16 + ['reopen', 'deliver data -'], list(range(4, 256, 8)) + list(range(8, 16)))
     yield 'a sender that gives up', 'stations', ['send 61'] + ['timeout'] * 17 + ['reopen', 'reopen'] + ['deliver data -', 'deliver answer -'] * 2 + ['send 62']
     yield 'an opening that is given up', 'stations', ['send 61'] + ['timeout'] * 16 + ['reopen'] + ['timeout'] * 17 + ['reopen', 'deliver data -']
     yield 'numbers that go round', 'stations', ['send 61', 'deliver data -', 'deliver answer -', 'deliver data -'] * 10

@@ -82,6 +82,8 @@ class Sender:
             self.outstanding = None
             self.number = (number + 1) % 8
             return 'answer %s ns=%d' % ('acknowledged' if blocks else 'opened', number), None
+        if not blocks:
+            return 'answer ignored', None
         if word >> 6 == 2:
             missing = [serial for serial, flag in zip(range(len(blocks)), binary(packet.octets)) if flag == '0']
         if word >> 3 != 9 and not (missing and 4 * len(packet.octets) >= len(blocks)):
