@@ -6,7 +6,7 @@ import struct
 import sys
 from collections import deque
 from types import TracebackType
-from typing import TYPE_CHECKING, Any, AsyncIterator, BinaryIO, Deque, Iterator, List, Optional, Tuple, Type, Union
+from typing import TYPE_CHECKING, Any, AsyncIterator, BinaryIO, Callable, Deque, Iterator, List, Optional, Tuple, Type, Union
 
 from ._library import CAUSES, I32, READ, SIZE, U8, U16, U32, U64, WRITE, Cause, Error, View, call, checked, number_of, octets_of
 
@@ -287,8 +287,10 @@ class Stream:
             yield made.popleft()
 
     def read(self, file: BinaryIO, size: int = 65536) -> Iterator[Item]:
-        """Yields the items of an open file of octets as they are decided, up to its end, and finishes the stream."""
-        for piece in iter(lambda: file.read(size), b""):
+        """Yields the items of an open file of octets as they are decided, up to its end, and finishes the stream. Of a file that has `read1`,
+        as a buffered one, it takes what is there, so a live input waits for no further octets."""
+        take: Callable[[int], bytes] = getattr(file, "read1", file.read)
+        for piece in iter(lambda: take(size), b""):
             yield from self.feed(piece)
         yield from self.finish()
 

@@ -78,7 +78,8 @@ class Fields(NamedTuple):
 
 
 class Call(NamedTuple):
-    """A call: a longest run of voice units without a break inside, with voice in it, as `p25 calls` tells it."""
+    """A call: a longest run of voice units without a break inside, with voice in it, as `p25 calls` tells it. It ends at a
+    terminator, before a header, a packet or another network, and where more than 3,456 bits lie between two units; not by a new speaker."""
 
     place: int
     """The bit at which its first unit begins."""
@@ -97,7 +98,7 @@ class Call(NamedTuple):
     lc: Optional[bytes]
     """The link control (LC) of the first whole unit that carries one, nine octets."""
     algid: Optional[int]
-    """The algorithm (ALGID) of the first whole unit that names one."""
+    """The algorithm (ALGID) of the first whole unit that names one; 0x80 means that the voice is not encrypted."""
 
     @property
     def link(self) -> Optional[LinkControl]:
