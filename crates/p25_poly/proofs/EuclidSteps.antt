@@ -86,19 +86,19 @@ moved_part symbols s k padded fits low =
           ap (coefficient gf64 symbols) same ∙ sym (shifted_from gf64 s (behind symbols) k from)
     ]
 
-moved_everywhere : (c : Sym) (s p : ℕ) (old other new : List Sym) → length old ≡ 64 → length other ≡ 64 → length new ≡ 64 → IsPadded other → IsShort gf64 p (behind other) → s + p ≤ 32 → IsMoved c s old other new → (k : ℕ)
+moved_everywhere : (c : Sym) (s p places : ℕ) (old other new : List Sym) → IsPadded other → IsShort gf64 p (behind other) → s + p ≤ places → places ≤ 32 → IsMoved places c s old other new → (k : ℕ)
     → behind new k ≡ gf64.add (behind old k) (gf64.mul c (shifted gf64 s (behind other) k))
-moved_everywhere c s p old other new full_old full_other full_new padded short fits moved k =
-    elim (cases_lt k 32) [
-      | inl low ↦ moved.sum k low ∙ ap (λ w. gf64.add (behind old k) (gf64.mul c w)) (moved_part other s k padded (omega arith) low)
+moved_everywhere c s p places old other new padded short fits most moved k =
+    elim (cases_lt k places) [
+      | inl low ↦ moved.sum k low ∙ ap (λ w. gf64.add (behind old k) (gf64.mul c w)) (moved_part other s k padded (omega arith) (omega arith))
       | inr high ↦
-          behind_past new k full_new high
-          ∙ sym (ap₂ (λ a b. gf64.add a (gf64.mul c b)) (behind_past old k full_old high) (shifted_from gf64 s (behind other) k (omega arith) ∙ short.above (k - s) (omega arith))
-          ∙ ap (gf64.add gf64.zero) (mul_zero gf64 c) ∙ add_zero gf64 gf64.zero)
+          moved.after k high
+          ∙ sym (ap (λ w. gf64.add (behind old k) (gf64.mul c w)) (shifted_from gf64 s (behind other) k (omega arith) ∙ short.above (k - s) (omega arith))
+          ∙ ap (gf64.add (behind old k)) (mul_zero gf64 c) ∙ add_zero gf64 (behind old k))
     ]
 
-moved_padded : (c : Sym) (s : ℕ) (old other new : List Sym) → IsPadded old → IsMoved c s old other new → IsPadded new
-moved_padded c s old other new padded moved = record { blank = λ k low. moved.front k low ∙ padded.blank k low }
+moved_padded : (c : Sym) (s places : ℕ) (old other new : List Sym) → IsPadded old → IsMoved places c s old other new → IsPadded new
+moved_padded c s places old other new padded moved = record { blank = λ k low. moved.front k low ∙ padded.blank k low }
 
 -- ---- steps
 
@@ -115,7 +115,7 @@ pair_swapped count series front back most pair = record {
 }
 
 -- the front side loses its leading coefficient
-module _ (count : ℕ) (series : ℕ → Sym) (front back less : Side) (lower : back.degree ≤ front.degree) (live : behind back.rest back.degree ≢ gf64.zero) (pair : IsPair count series front back) (reduced : IsReduced front back less) where
+module _ (count : ℕ) (series : ℕ → Sym) (front back less : Side) (lower : back.degree ≤ front.degree) (half : count ≤ 2 * back.degree) (live : behind back.rest back.degree ≢ gf64.zero) (pair : IsPair count series front back) (reduced : IsReduced front back less) where
   shift : ℕ
   shift = front.degree - back.degree
 
@@ -125,13 +125,12 @@ module _ (count : ℕ) (series : ℕ → Sym) (front back less : Side) (lower : 
   rest_gained : (k : ℕ) → behind less.rest k ≡ gf64.add (behind front.rest k) (gf64.mul c (shifted gf64 shift (behind back.rest) k))
   unfolding c shift
   rest_gained =
-      moved_everywhere c shift (back.degree + 1) front.rest back.rest less.rest front.full_rest back.full_rest less.full_rest pair.back_side.rest_padded pair.back_side.short (omega (arith, pair.most, pair.few)) reduced.rest
+      moved_everywhere c shift (back.degree + 1) reduced.places front.rest back.rest less.rest pair.back_side.rest_padded pair.back_side.short (omega (arith, reduced.enough)) reduced.most reduced.rest
 
   factor_gained : (k : ℕ) → behind less.factor k ≡ gf64.add (behind front.factor k) (gf64.mul c (shifted gf64 shift (behind back.factor) k))
   unfolding c shift
   factor_gained =
-      moved_everywhere c shift (count + 1 - front.degree) front.factor back.factor less.factor front.full_factor back.full_factor less.full_factor pair.back_side.factor_padded pair.back_factor
-      (omega (arith, pair.most, pair.few)) reduced.factor
+      moved_everywhere c shift (count + 1 - front.degree) 16 front.factor back.factor less.factor pair.back_side.factor_padded pair.back_factor (omega (arith, pair.most, pair.few)) (omega arith) reduced.factor
 
   equation : (i : ℕ) → i < count → product_at gf64 (behind less.factor) series i ≡ behind less.rest i
   equation i low =
@@ -176,8 +175,8 @@ module _ (count : ℕ) (series : ℕ → Sym) (front back less : Side) (lower : 
     front_side = record {
       equation = equation;
       short = record { above = short };
-      rest_padded = moved_padded c shift front.rest back.rest less.rest pair.front_side.rest_padded reduced.rest;
-      factor_padded = moved_padded c shift front.factor back.factor less.factor pair.front_side.factor_padded reduced.factor;
+      rest_padded = moved_padded c shift reduced.places front.rest back.rest less.rest pair.front_side.rest_padded reduced.rest;
+      factor_padded = moved_padded c shift 16 front.factor back.factor less.factor pair.front_side.factor_padded reduced.factor;
     };
     back_side = pair.back_side;
     front_factor = short-gained gf64 (count + 1 - back.degree) (count + 1 - front.degree) shift (behind front.factor) (behind back.factor) (behind less.factor) c pair.front_factor pair.back_factor (omega (arith, pair.most)) factor_gained;

@@ -4,5 +4,4 @@ pub mod PolyLaws
 pub mod DotLaws
 pub mod RowLaws
 pub mod SystemSteps
-pub mod SideLaws
 pub mod EuclidSteps

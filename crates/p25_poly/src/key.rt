@@ -1,13 +1,12 @@
 //! The key equation of Reed-Solomon and BCH codes, by Euclid's algorithm on x^(2t) and the polynomial of the syndromes.
 
-ghost use Rattle.std.specs.Prelude.{◌≡◌, ◌≢◌, ℕ, ◌+◌, ◌*◌, ◌/◌, ◌≤◌, length};
+ghost use Rattle.std.specs.Prelude.{◌≡◌, ℕ, ◌+◌, ◌*◌, ◌/◌, ◌<◌, ◌≤◌, length};
 ghost use Rattle.p25_gf64.specs.declared.symbol.Sym.{Sym};
-ghost use Rattle.p25_poly.specs.{declared.side.Side.{Side}, Euclid.{IsPair}, Key.{IsKey}};
+ghost use Rattle.p25_poly.specs.{declared.side.Side.{Side}, Euclid.{behind, IsPair}, Key.{IsKey}, Polynomial.{coefficient_of}};
 
 use crate::polynomial::Poly;
 use crate::side::Side;
 use p25_gf64::Sym;
-use std::mem::swap;
 
 /// A solution of a key equation: a locator, and its product with the polynomial of the syndromes modulo x^(2t).
 #[derive(Clone, Copy, Debug, PartialEq, Eq)]
@@ -27,42 +26,78 @@ pub fn key_solve(syndromes: &[Sym]) -> Key
 {
     let mut front = Side::power(syndromes.len());
     let mut back = Side::series(syndromes);
-    while 2 * back.degree >= syndromes.len() {
-        step(&mut front, &mut back);
+    while 2 * back.degree >= syndromes.len() && 2 * front.degree >= syndromes.len() {
+        lower_both(&mut front, &mut back, syndromes.len());
     }
-    Key {
-        locator: Poly::from_symbols(&back.factor[32..]),
-        evaluator: Poly::from_symbols(&back.rest[32..]),
+    if 2 * back.degree < syndromes.len() {
+        key_of(&back)
+    } else {
+        key_of(&front)
     }
 }
 
-// A step: one of the sides loses the coefficient of its degree, and the side of the higher degree is in front.
+// The factor and the rest of a side.
+fn key_of(side: &Side) -> Key
+    ensures locator { (k : ℕ) → coefficient_of result.locator k ≡ behind side.now.factor k }
+    ensures evaluator { (k : ℕ) → coefficient_of result.evaluator k ≡ behind side.now.rest k }
+{
+    Key {
+        locator: Poly::from_symbols(&side.factor[32..]),
+        evaluator: Poly::from_symbols(&side.rest[32..]),
+    }
+}
+
+// Lowers the front side by the back one, and then the back side by the front one. Where a degree comes below half, it stops.
+fn lower_both(front: &mut Side, back: &mut Side, count: usize)
+    requires some { 2 ≤ count }
+    requires lower { back.old.degree ≤ front.old.degree }
+    requires half { count ≤ 2 * back.old.degree }
+    requires inside { front.old.degree ≤ 22 }
+    ensures pair { (series : ℕ → Sym) → IsPair count series front.old back.old → IsPair count series front.new back.new }
+    ensures less { front.new.degree + back.new.degree < front.old.degree + back.old.degree }
+    ensures lower { count ≤ 2 * front.new.degree → back.new.degree ≤ front.new.degree }
+    ensures half { 2 * front.new.degree < count → count ≤ 2 * back.new.degree }
+    ensures front_inside { front.new.degree ≤ 22 }
+    ensures back_inside { back.new.degree ≤ back.old.degree }
+{
+    lower(front, back, count);
+    if 2 * back.degree >= count {
+        lower(back, front, count);
+    }
+}
+
+// Lowers the front side by the back one, until its degree is the lower one or that of the back side is below half.
+fn lower(front: &mut Side, back: &mut Side, count: usize)
+    requires some { 2 ≤ count }
+    requires lower { back.old.degree ≤ front.old.degree }
+    requires half { 2 * back.old.degree < count → count ≤ 2 * front.old.degree }
+    requires inside { front.old.degree ≤ 22 }
+    ensures pair { (series : ℕ → Sym) → IsPair count series front.old back.old → IsPair count series front.new back.new }
+    ensures less { count ≤ 2 * back.old.degree → front.new.degree + back.new.degree < front.old.degree + back.old.degree }
+    ensures lower { count ≤ 2 * back.new.degree → front.new.degree < back.new.degree }
+    ensures half { 2 * back.new.degree < count → count ≤ 2 * front.new.degree }
+    ensures front_most { front.new.degree ≤ front.old.degree }
+    ensures back_most { back.new.degree ≤ back.old.degree }
+{
+    while back.degree <= front.degree && 2 * back.degree >= count {
+        step(front, back);
+    }
+}
+
+// A step: one of the sides loses the coefficient of its degree.
 fn step(front: &mut Side, back: &mut Side)
     requires positive { 1 ≤ back.old.degree }
     requires lower { back.old.degree ≤ front.old.degree }
     requires inside { front.old.degree ≤ 22 }
-    ensures pair { (count : ℕ) (series : ℕ → Sym) → IsPair count series front.old back.old → IsPair count series front.new back.new }
+    ensures pair { (count : ℕ) (series : ℕ → Sym) → count ≤ 2 * back.old.degree → IsPair count series front.old back.old
+        → IsPair count series front.new back.new }
     ensures less { front.new.degree + back.new.degree + 1 ≡ front.old.degree + back.old.degree }
-    ensures lower { back.new.degree ≤ front.new.degree }
-    ensures kept { back.old.degree ≤ front.new.degree }
-    ensures inside { front.new.degree ≤ 22 }
+    ensures front_most { front.new.degree ≤ front.old.degree }
+    ensures back_most { back.new.degree ≤ back.old.degree }
 {
     if back.leading().is_zero() {
         back.degree -= 1;
-        return;
+    } else {
+        front.reduce(back);
     }
-    front.reduce(back);
-    if front.degree < back.degree {
-        exchange(front, back);
-    }
-}
-
-// Lets two sides change places, part by part, since small parts are moved in registers.
-fn exchange(front: &mut Side, back: &mut Side)
-    ensures front { front.new ≡ back.old }
-    ensures back { back.new ≡ front.old }
-{
-    swap(&mut front.rest, &mut back.rest);
-    swap(&mut front.factor, &mut back.factor);
-    swap(&mut front.degree, &mut back.degree);
 }

@@ -18,15 +18,23 @@ pub(crate) fn add_multiple(into: &mut [Sym], factor: Sym, other: &[Sym], shift: 
     }
 }
 
-/// Adds the multiple of the other list's last 32 symbols, moved up by the shift, to the last 32. What the other list has in front
-/// of them moves in.
-pub(crate) fn add_moved(into: &mut [Sym], multiple: Sym, other: &[Sym], shift: usize)
+/// Adds the multiple of the other list's symbols that stand behind the first 32, moved up by the shift, to as many of these as are
+/// told. What the other list has in front of them moves in.
+#[inline(always)]
+pub(crate) fn add_moved(
+    into: &mut [Sym],
+    multiple: Sym,
+    other: &[Sym],
+    shift: usize,
+    places: usize,
+)
     requires into { length into.old ≡ 64 }
     requires other { length other.now ≡ 64 }
     requires shift { shift ≤ 32 }
-    ensures { IsMoved multiple shift into.old other.now into.new }
+    requires places { places ≤ 32 }
+    ensures { IsMoved places multiple shift into.old other.now into.new }
 {
-    for i in 0..32 {
+    for i in 0..places {
         into[32 + i] = into[32 + i].add(multiple.mul(other[32 + i - shift]));
     }
 }

@@ -6,8 +6,8 @@ use crate::multiples::add_moved;
 use p25_gf64::Sym;
 
 /// A side: a rest, the factor whose product with the series gives it, and a bound on the degree of the rest. Both are
-/// coefficients, lowest first, after 32 zeros: so a side moved up by some places is a part of its list, and each step goes over
-/// 32 places, which a compiler makes two vectors of.
+/// coefficients, lowest first, after 32 zeros: so a side moved up by some places is a part of its list. Each step goes over 16 places
+/// of the factor, and over 16 or 32 of the rest: so many can be other than zero, and a compiler makes a vector of 16.
 #[derive(Clone, Copy, Debug)]
 pub(crate) struct Side {
     pub(crate) rest: [Sym; 64],
@@ -80,9 +80,19 @@ impl Side {
         ensures { IsReduced self.old other.now self.new }
     {
         let shift = self.degree - other.degree;
+        let places = places_to(self.degree);
         let multiple = self.leading().div(other.leading());
-        add_moved(&mut self.rest, multiple, &other.rest, shift);
-        add_moved(&mut self.factor, multiple, &other.factor, shift);
+        add_moved(&mut self.factor, multiple, &other.factor, shift, 16);
+        add_moved(&mut self.rest, multiple, &other.rest, shift, places);
         self.degree -= 1;
     }
+}
+
+// How many places, a multiple of 16, hold the coefficients up to a degree.
+fn places_to(degree: usize) -> usize
+    requires { degree ≤ 22 }
+    ensures all { degree < result }
+    ensures most { result ≤ 32 }
+{
+    if degree < 16 { 16 } else { 32 }
 }

@@ -1,7 +1,8 @@
-use Rattle.std.proofs.{Common.{length, ◌∙◌, refl, arith}, lemmas.List.{get_or-drop, take_rest}}
+use Rattle.std.proofs.{Common.{◌*◌, length, refl, inl, inr, arith}, lemmas.Bool.{cases_lt}}
 use Rattle.p25_gf64.specs.Gf64.{gf64}
 use Rattle.p25_algebra.specs.Series.{coefficient}
-use Rattle.p25_poly.proofs.{CoefficientLaws.{coefficient_past}, EuclidSteps.{pair_first, pair_key}}
+use Rattle.p25_poly.proofs.{CoefficientLaws.{coefficient_past}, EuclidSteps.{pair_first, pair_key, pair_swapped}}
+use Rattle.p25_poly.proofs.key.key_solve.Goals.{then-loop-back-test+else-front-syndromes, else-loop-back-test}
 use Rattle.p25_poly.proofs.key.key_solve.Goals as goal
 
 pub loop-back-init : goal.loop-back-init
@@ -11,22 +12,37 @@ loop-back-init c = record {
       c.power-front.ensures.at c.power-front.ensures.others c.power-front.ensures.factor c.power-front.ensures.degree
       c.series-back.ensures.rest c.series-back.ensures.front (λ k high. coefficient_past gf64 c.args.syndromes.now k high)
       c.series-back.ensures.at c.series-back.ensures.others c.series-back.ensures.degree;
-  lower = omega (arith, c.power-front.ensures.degree, c.series-back.ensures.degree);
-  half = omega (arith, c.power-front.ensures.degree);
-  inside = omega (arith, c.power-front.ensures.degree, c.requires.few);
+  lower = λ high. omega (arith, c.power-front.ensures.degree, c.series-back.ensures.degree);
+  half = λ low. absurd (omega (arith, low, c.power-front.ensures.degree));
+  front_inside = omega (arith, c.power-front.ensures.degree, c.requires.few);
+  back_inside = omega (arith, c.series-back.ensures.degree);
 }
 
 pub loop-back-preserved : goal.loop-back-preserved
 loop-back-preserved c = record {
-  pair = c.step.ensures.pair (length c.args.syndromes.now) (coefficient gf64 c.args.syndromes.now) c.loop-back.invariant.pair;
-  lower = c.step.ensures.lower;
-  half = omega (arith, c.step.ensures.kept, c.loop-back-test.true);
-  inside = c.step.ensures.inside;
+  pair = c.lower_both.ensures.pair (coefficient gf64 c.args.syndromes.now) c.loop-back.invariant.pair;
+  lower = c.lower_both.ensures.lower;
+  half = c.lower_both.ensures.half;
+  front_inside = c.lower_both.ensures.front_inside;
+  back_inside = omega (arith, c.lower_both.ensures.back_inside, c.loop-back.invariant.back_inside);
 }
 
-pub returns : goal.returns
-returns c =
-    pair_key (length c.args.syndromes.now) c.args.syndromes.now c.loop-back.front c.loop-back.back c.from_symbols.result c.from_symbols-2.result refl c.requires.some c.requires.even c.loop-back.invariant.pair
-    (omega arith) c.loop-back.invariant.half
-    (λ k. rw take_rest at (c.from_symbols.ensures k) ∙ get_or-drop 32 c.loop-back.back.factor k gf64.zero)
-    (λ k. rw take_rest at (c.from_symbols-2.ensures k) ∙ get_or-drop 32 c.loop-back.back.rest k gf64.zero)
+pub returns-then-back-syndromes : goal.returns-then-back-syndromes
+returns-then-back-syndromes c =
+    let count = length c.args.syndromes.now in
+    pair_key count c.args.syndromes.now c.loop-back.front c.loop-back.back c.key_of.result.locator c.key_of.result.evaluator refl c.requires.some c.requires.even c.loop-back.invariant.pair
+    (omega (arith, c.if-back-syndromes.true))
+    (elim (cases_lt (2 * c.loop-back.front.degree) count) [ | inl low ↦ absurd (omega (arith, c.loop-back.invariant.half low, c.if-back-syndromes.true)) | inr high ↦ high ])
+    c.key_of.ensures.locator c.key_of.ensures.evaluator
+
+pub returns-else-back-syndromes : goal.returns-else-back-syndromes
+returns-else-back-syndromes c =
+    let key = c.key_of-else-back-syndromes in
+    pair_key (length c.args.syndromes.now) c.args.syndromes.now c.loop-back.back c.loop-back.front key.result.locator key.result.evaluator refl c.requires.some c.requires.even
+    (pair_swapped (length c.args.syndromes.now) (coefficient gf64 c.args.syndromes.now) c.loop-back.front c.loop-back.back c.loop-back.invariant.back_inside c.loop-back.invariant.pair)
+    (elim c.loop-back-test.branch [
+      | then-loop-back-test+else-front-syndromes w ↦ omega (arith, w.if-front-syndromes.false)
+      | else-loop-back-test w ↦ absurd (omega (arith, w.loop-back-test.false, c.if-back-syndromes.false))
+    ])
+    (omega (arith, c.if-back-syndromes.false))
+    key.ensures.locator key.ensures.evaluator
