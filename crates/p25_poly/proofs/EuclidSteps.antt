@@ -86,19 +86,31 @@ moved_part symbols s k padded fits low =
           ap (coefficient gf64 symbols) same ∙ sym (shifted_from gf64 s (behind symbols) k from)
     ]
 
-moved_everywhere : (c : Sym) (s p places : ℕ) (old other new : List Sym) → IsPadded other → IsShort gf64 p (behind other) → s + p ≤ places → places ≤ 32 → IsMoved places c s old other new → (k : ℕ)
+moved_everywhere : (c : Sym) (s p last : ℕ) (old other new : List Sym) → IsPadded other → IsShort gf64 p (behind other) → s + p ≤ last → last ≤ 32 → IsMoved 0 last c s old other new → (k : ℕ)
     → behind new k ≡ gf64.add (behind old k) (gf64.mul c (shifted gf64 s (behind other) k))
-moved_everywhere c s p places old other new padded short fits most moved k =
-    elim (cases_lt k places) [
-      | inl low ↦ moved.sum k low ∙ ap (λ w. gf64.add (behind old k) (gf64.mul c w)) (moved_part other s k padded (omega arith) (omega arith))
+moved_everywhere c s p last old other new padded short fits most moved k =
+    elim (cases_lt k last) [
+      | inl low ↦ moved.sum k (omega arith) low ∙ ap (λ w. gf64.add (behind old k) (gf64.mul c w)) (moved_part other s k padded (omega arith) (omega arith))
       | inr high ↦
           moved.after k high
           ∙ sym (ap (λ w. gf64.add (behind old k) (gf64.mul c w)) (shifted_from gf64 s (behind other) k (omega arith) ∙ short.above (k - s) (omega arith))
           ∙ ap (gf64.add (behind old k)) (mul_zero gf64 c) ∙ add_zero gf64 (behind old k))
     ]
 
-moved_padded : (c : Sym) (s places : ℕ) (old other new : List Sym) → IsPadded old → IsMoved places c s old other new → IsPadded new
-moved_padded c s places old other new padded moved = record { blank = λ k low. moved.front k low ∙ padded.blank k low }
+moved_padded : (c : Sym) (s last : ℕ) (old other new : List Sym) → IsPadded old → IsMoved 0 last c s old other new → IsPadded new
+moved_padded c s last old other new padded moved = record { blank = λ k low. moved.before k (omega arith) ∙ padded.blank k low }
+
+-- 16 places, and 16 more
+pub moved_twice : (c : Sym) (s : ℕ) (old other mid new : List Sym) → IsMoved 0 16 c s old other mid → IsMoved 16 32 c s mid other new → IsMoved 0 32 c s old other new
+moved_twice c s old other mid new first second = record {
+  sum = λ k from low.
+      elim (cases_lt k 16) [
+        | inl below ↦ second.before (32 + k) (omega arith) ∙ first.sum k from below
+        | inr above ↦ second.sum k above low ∙ ap (λ w. gf64.add w (gf64.mul c (coefficient gf64 other (32 + k - s)))) (first.after k above)
+      ];
+  before = λ k low. second.before k (omega arith) ∙ first.before k low;
+  after = λ k high. second.after k high ∙ first.after k (omega arith);
+}
 
 -- ---- steps
 
@@ -125,7 +137,7 @@ module _ (count : ℕ) (series : ℕ → Sym) (front back less : Side) (lower : 
   rest_gained : (k : ℕ) → behind less.rest k ≡ gf64.add (behind front.rest k) (gf64.mul c (shifted gf64 shift (behind back.rest) k))
   unfolding c shift
   rest_gained =
-      moved_everywhere c shift (back.degree + 1) reduced.places front.rest back.rest less.rest pair.back_side.rest_padded pair.back_side.short (omega (arith, reduced.enough)) reduced.most reduced.rest
+      moved_everywhere c shift (back.degree + 1) reduced.rest.last front.rest back.rest less.rest pair.back_side.rest_padded pair.back_side.short (omega (arith, reduced.rest.enough)) reduced.rest.most reduced.rest.moved
 
   factor_gained : (k : ℕ) → behind less.factor k ≡ gf64.add (behind front.factor k) (gf64.mul c (shifted gf64 shift (behind back.factor) k))
   unfolding c shift
@@ -175,7 +187,7 @@ module _ (count : ℕ) (series : ℕ → Sym) (front back less : Side) (lower : 
     front_side = record {
       equation = equation;
       short = record { above = short };
-      rest_padded = moved_padded c shift reduced.places front.rest back.rest less.rest pair.front_side.rest_padded reduced.rest;
+      rest_padded = moved_padded c shift reduced.rest.last front.rest back.rest less.rest pair.front_side.rest_padded reduced.rest.moved;
       factor_padded = moved_padded c shift 16 front.factor back.factor less.factor pair.front_side.factor_padded reduced.factor;
     };
     back_side = pair.back_side;

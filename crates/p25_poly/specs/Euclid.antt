@@ -31,20 +31,23 @@ pub record IsPair (count : ℕ) (series : ℕ → Sym) (front back : Side) : Typ
   pub crosswise : (x : Sym) → gf64.add (gf64.mul (value_at gf64 32 (behind back.factor) x) (value_at gf64 32 (behind front.rest) x))
       (gf64.mul (value_at gf64 32 (behind front.factor) x) (value_at gf64 32 (behind back.rest) x)) ≡ power gf64 x count
 
--- a list with a multiple of another, moved up, added after its front, at so many places
-pub record IsMoved (places : ℕ) (multiple : Sym) (shift : ℕ) (old other new : List Sym) : Type 0 where
-  pub sum : (k : ℕ) → k < places → behind new k ≡ gf64.add (behind old k) (gf64.mul multiple (coefficient gf64 other (32 + k - shift)))
-  pub front : (k : ℕ) → k < 32 → coefficient gf64 new k ≡ coefficient gf64 old k
-  pub after : (k : ℕ) → places ≤ k → behind new k ≡ behind old k
+-- a list with a multiple of another, moved up, added after its front, at the places from the first up to the last
+pub record IsMoved (first last : ℕ) (multiple : Sym) (shift : ℕ) (old other new : List Sym) : Type 0 where
+  pub sum : (k : ℕ) → first ≤ k → k < last → behind new k ≡ gf64.add (behind old k) (gf64.mul multiple (coefficient gf64 other (32 + k - shift)))
+  pub before : (k : ℕ) → k < 32 + first → coefficient gf64 new k ≡ coefficient gf64 old k
+  pub after : (k : ℕ) → last ≤ k → behind new k ≡ behind old k
 
--- the side with the multiple of the other taken from it that takes its leading coefficient; of the factor at 16 places, of the rest at
--- more than its degree
+-- at the places from 0 to a degree, and more
+pub record IsMovedTo (degree : ℕ) (multiple : Sym) (shift : ℕ) (old other new : List Sym) : Type 0 where
+  pub last : ℕ
+  pub enough : degree < last
+  pub most : last ≤ 32
+  pub moved : IsMoved 0 last multiple shift old other new
+
+-- the side with the multiple of the other taken from it that takes its leading coefficient; of the factor at 16 places
 pub record IsReduced (old other new : Side) : Type 0 where
   pub multiple : Sym
   pub is_multiple : multiple ≡ gf64.mul (behind old.rest old.degree) (gf64.inverse (behind other.rest other.degree))
-  pub places : ℕ
-  pub enough : old.degree < places
-  pub most : places ≤ 32
-  pub rest : IsMoved places multiple (old.degree - other.degree) old.rest other.rest new.rest
-  pub factor : IsMoved 16 multiple (old.degree - other.degree) old.factor other.factor new.factor
+  pub rest : IsMovedTo old.degree multiple (old.degree - other.degree) old.rest other.rest new.rest
+  pub factor : IsMoved 0 16 multiple (old.degree - other.degree) old.factor other.factor new.factor
   pub degree : new.degree + 1 ≡ old.degree

@@ -1,9 +1,9 @@
 //! Multiples of lists of symbols.
 
-ghost use Rattle.std.specs.Prelude.{◌≡◌, ℕ, ◌<◌, ◌≤◌, length};
+ghost use Rattle.std.specs.Prelude.{◌≡◌, ℕ, ◌+◌, ◌<◌, ◌≤◌, length};
 ghost use Rattle.p25_gf64.specs.Gf64.{gf64};
 ghost use Rattle.p25_algebra.specs.Series.{coefficient, shifted};
-ghost use Rattle.p25_poly.specs.Euclid.{IsMoved};
+ghost use Rattle.p25_poly.specs.Euclid.{IsMoved, IsMovedTo};
 
 use p25_gf64::Sym;
 
@@ -18,23 +18,46 @@ pub(crate) fn add_multiple(into: &mut [Sym], factor: Sym, other: &[Sym], shift: 
     }
 }
 
-/// Adds the multiple of the other list's symbols that stand behind the first 32, moved up by the shift, to as many of these as are
-/// told. What the other list has in front of them moves in.
+/// Adds to 16 symbols behind the first 32, from a place on, the multiple of the other list's, moved up by the shift. These are copied
+/// first: so nothing is written of what is still to be read, and a compiler makes vector operations of the loop.
 #[inline(always)]
 pub(crate) fn add_moved(
     into: &mut [Sym],
     multiple: Sym,
     other: &[Sym],
     shift: usize,
-    places: usize,
+    place: usize,
 )
     requires into { length into.old ≡ 64 }
     requires other { length other.now ≡ 64 }
     requires shift { shift ≤ 32 }
-    requires places { places ≤ 32 }
-    ensures { IsMoved places multiple shift into.old other.now into.new }
+    requires place { place ≤ 16 }
+    ensures { IsMoved place (place + 16) multiple shift into.old other.now into.new }
 {
-    for i in 0..places {
-        into[32 + i] = into[32 + i].add(multiple.mul(other[32 + i - shift]));
+    let mut moved = [Sym::default(); 16];
+    moved.copy_from_slice(&other[32 + place - shift..48 + place - shift]);
+    for i in 0..16 {
+        into[32 + place + i] = into[32 + place + i].add(multiple.mul(moved[i]));
+    }
+}
+
+/// Adds the multiple of the other list's symbols behind the first 32, moved up by the shift, at 16 or 32 places: the degree is among them.
+#[inline(always)]
+pub(crate) fn add_moved_to(
+    into: &mut [Sym],
+    multiple: Sym,
+    other: &[Sym],
+    shift: usize,
+    degree: usize,
+)
+    requires into { length into.old ≡ 64 }
+    requires other { length other.now ≡ 64 }
+    requires shift { shift ≤ 32 }
+    requires degree { degree < 32 }
+    ensures { IsMovedTo degree multiple shift into.old other.now into.new }
+{
+    add_moved(into, multiple, other, shift, 0);
+    if degree >= 16 {
+        add_moved(into, multiple, other, shift, 16);
     }
 }

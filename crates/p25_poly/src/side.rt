@@ -2,7 +2,7 @@
 
 ghost use Rattle.std.specs.Prelude.{◌≡◌, ◌≢◌, ℕ, ◌+◌, ◌-◌, ◌<◌, ◌≤◌, length};
 
-use crate::multiples::add_moved;
+use crate::multiples::{add_moved, add_moved_to};
 use p25_gf64::Sym;
 
 /// A side: a rest, the factor whose product with the series gives it, and a bound on the degree of the rest. Both are
@@ -80,19 +80,9 @@ impl Side {
         ensures { IsReduced self.old other.now self.new }
     {
         let shift = self.degree - other.degree;
-        let places = places_to(self.degree);
         let multiple = self.leading().div(other.leading());
-        add_moved(&mut self.factor, multiple, &other.factor, shift, 16);
-        add_moved(&mut self.rest, multiple, &other.rest, shift, places);
+        add_moved(&mut self.factor, multiple, &other.factor, shift, 0);
+        add_moved_to(&mut self.rest, multiple, &other.rest, shift, self.degree);
         self.degree -= 1;
     }
-}
-
-// How many places, a multiple of 16, hold the coefficients up to a degree.
-fn places_to(degree: usize) -> usize
-    requires { degree ≤ 22 }
-    ensures all { degree < result }
-    ensures most { result ≤ 32 }
-{
-    if degree < 16 { 16 } else { 32 }
 }

@@ -22,14 +22,16 @@ pub(crate) fn count_erasures(erased: &[bool]) -> usize
     count
 }
 
-// Multiplies a polynomial of 32 coefficients by 1 + x times the element of each erased place, as far as there is room.
-pub(crate) fn multiply_by_erasures(polynomial: &mut [Sym], erased: &[bool])
+// Multiplies a polynomial of 32 coefficients by 1 + x times the element of each erased place, of which there are so many, as far as there
+// is room.
+pub(crate) fn multiply_by_erasures(polynomial: &mut [Sym], erased: &[bool], erasures: usize)
     requires room { length polynomial.old ≡ 32 }
+    requires count { erasures ≡ erased_below erased.now (length erased.now) }
     requires places { length erased.now ≤ 63 }
     ensures { (k : ℕ) → k < 32 → coefficient gf64 polynomial.new k
         ≡ times_erasures (length erased.now) erased.now (length erased.now) (coefficient gf64 polynomial.old) k }
 {
-    if count_erasures(erased) == 0 {
+    if erasures == 0 {
         return;
     }
     for j in 0..erased.len() {

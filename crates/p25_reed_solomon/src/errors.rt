@@ -5,6 +5,7 @@ ghost use Rattle.p25_gf64.specs.{declared.symbol.Sym.{Sym}, Gf64.{gf64}};
 ghost use Rattle.p25_algebra.specs.Series.{coefficient};
 ghost use Rattle.p25_reed_solomon.specs.Errors.{Explains, erased_below, placed};
 
+use crate::erasures::count_erasures;
 use crate::locator::locate;
 use crate::sums::are_sums;
 use crate::values::fill_errors;
@@ -31,7 +32,14 @@ pub(crate) fn find_errors(
     let n = erased.len();
     let mut locator = [Sym::default(); 32];
     let mut evaluator = [Sym::default(); 32];
-    let most = locate(syndromes, checks, erased, &mut locator, &mut evaluator);
+    let most = locate(
+        syndromes,
+        checks,
+        erased,
+        count_erasures(erased),
+        &mut locator,
+        &mut evaluator,
+    );
     let locator = &locator[..most + 1];
     let listed = zeros(locator, n);
     let places = listed.as_slice();

@@ -6,21 +6,24 @@ ghost use Rattle.p25_algebra.specs.Series.{coefficient, IsShort};
 ghost use Rattle.p25_poly.specs.{Key.{IsKey}, Polynomial.{coefficient_of}};
 ghost use Rattle.p25_reed_solomon.specs.{Errors.{erased_below}, Locator.{IsLocator}};
 
-use crate::erasures::{count_erasures, multiply_by_erasures, multiply_by_x_and_add};
+use crate::erasures::{multiply_by_erasures, multiply_by_x_and_add};
 use p25_gf64::Sym;
 use p25_poly::{Key, Poly, key_solve};
 
-// Sets `locator` and `evaluator` to a locator of the first `checks` syndromes of a word with erasures, and its evaluator: the solution
-// of the key equation of the syndromes times the factor of each erasure, and this factor again. Answers the locator's degree, or 1.
+// Sets `locator` and `evaluator` to a locator of the first `checks` syndromes of a word with so many erasures, and its evaluator: the
+// solution of the key equation of the syndromes times the factor of each erasure, and this factor again. Answers the locator's degree,
+// or 1.
 pub(crate) fn locate(
     syndromes: &[Sym],
     checks: usize,
     erased: &[bool],
+    erasures: usize,
     locator: &mut [Sym],
     evaluator: &mut [Sym],
 ) -> usize
     requires places { length erased.now ≤ 63 }
-    requires erasures { erased_below erased.now (length erased.now) ≤ checks }
+    requires count { erasures ≡ erased_below erased.now (length erased.now) }
+    requires erasures { erasures ≤ checks }
     requires some { 2 ≤ checks }
     requires few { checks ≤ 22 }
     requires syndromes { length syndromes.now ≡ 32 }
@@ -29,18 +32,17 @@ pub(crate) fn locate(
     ensures locator { IsLocator (length erased.now) checks syndromes.now erased.now result (coefficient gf64 locator.new) (coefficient gf64 evaluator.new) }
     ensures most { 2 * result ≤ checks + erased_below erased.now (length erased.now) }
 {
-    let erasures = count_erasures(erased);
     let half = (checks - erasures) / 2;
     let mut lowered = [Sym::default(); 32];
     lowered.copy_from_slice(syndromes);
-    multiply_by_erasures(&mut lowered, erased);
+    multiply_by_erasures(&mut lowered, erased, erasures);
     let key = key_of(&lowered[erasures..erasures + 2 * half]);
     fill_front(&key.locator, locator);
     fill_front(&key.evaluator, evaluator);
     for i in (0..erasures).rev() {
         multiply_by_x_and_add(evaluator, lowered[i], locator);
     }
-    multiply_by_erasures(locator, erased);
+    multiply_by_erasures(locator, erased, erasures);
     degree_bound(locator)
 }
 

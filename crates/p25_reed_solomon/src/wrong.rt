@@ -27,6 +27,7 @@ pub fn wrong_locator(syndromes: &[Sym], checks: usize, n: usize) -> [Sym; 12]
         syndromes,
         checks,
         &[false; 63][..n],
+        0,
         &mut locator,
         &mut evaluator,
     );

@@ -6,7 +6,7 @@ use Rattle.p25_poly.proofs.multiples.add_moved.Given as goal
 
 abbrev pub invariant-loop-i : goal.invariant-loop-i
 invariant-loop-i l = record {
-  sum : (k : ℕ) → k < l.i → behind l.into k ≡ gf64.add (behind l.fn.into k) (gf64.mul l.multiple (coefficient gf64 l.other (32 + k - l.shift)));
-  rest : (k : ℕ) → 32 + l.i ≤ k → coefficient gf64 l.into k ≡ coefficient gf64 l.fn.into k;
-  front : (k : ℕ) → k < 32 → coefficient gf64 l.into k ≡ coefficient gf64 l.fn.into k;
+  sum : (k : ℕ) → l.place ≤ k → k < l.place + l.i → behind l.into k ≡ gf64.add (behind l.fn.into k) (gf64.mul l.multiple (coefficient gf64 l.other (32 + k - l.shift)));
+  after : (k : ℕ) → l.place + l.i ≤ k → behind l.into k ≡ behind l.fn.into k;
+  before : (k : ℕ) → k < 32 + l.place → coefficient gf64 l.into k ≡ coefficient gf64 l.fn.into k;
 }

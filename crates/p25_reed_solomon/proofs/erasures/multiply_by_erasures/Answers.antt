@@ -6,11 +6,11 @@ use Rattle.p25_reed_solomon.proofs.ErasuresLaws.{times_erasures-without, times_e
 use Rattle.p25_reed_solomon.proofs.erasures.multiply_by_erasures.Goals.{then-erased-j, else-erased-j}
 use Rattle.p25_reed_solomon.proofs.erasures.multiply_by_erasures.Goals as goal
 
-pub returns-then-count_erasures-eq0 : goal.returns-then-count_erasures-eq0
-returns-then-count_erasures-eq0 c =
+pub returns-then-erasures-eq0 : goal.returns-then-erasures-eq0
+returns-then-erasures-eq0 c =
     let n = length c.args.erased.now in
     let old = coefficient gf64 c.args.polynomial.now in
-    let without = times_erasures-without n c.args.erased.now n old (omega (arith, c.count_erasures.ensures.count, c.if-count_erasures-eq0.true)) in
+    let without = times_erasures-without n c.args.erased.now n old (omega (arith, c.requires.count, c.if-erasures-eq0.true)) in
     λ k low. sym (ap (λ (g : ℕ → Sym). g k) without)
 
 pub loop-j-init : goal.loop-j-init

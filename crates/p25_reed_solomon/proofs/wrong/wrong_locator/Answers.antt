@@ -1,12 +1,12 @@
-use Rattle.std.proofs.{Common.{◌≡◌, length, take, replicate, false, arith, subst}, lemmas.List.{length-take, length-replicate}}
+use Rattle.std.proofs.{Common.{◌≡◌, length, take, replicate, false, sym, arith, subst}, lemmas.List.{length-take, length-replicate}}
 use Rattle.p25_gf64.specs.Gf64.{gf64}
 use Rattle.p25_algebra.specs.Series.{coefficient}
 use Rattle.p25_reed_solomon.specs.Locator.{IsLocator}
 use Rattle.p25_reed_solomon.proofs.WrongLaws.{wrong_exactly, none_erased}
 use Rattle.p25_reed_solomon.proofs.wrong.wrong_locator.Goals as goal
 
-pub locate-requires-clause-erasures : goal.locate-requires-clause-erasures
-locate-requires-clause-erasures c = omega (arith, none_erased c.args.n (length (take c.args.n (replicate 63 false))))
+pub locate-requires-clause-count : goal.locate-requires-clause-count
+locate-requires-clause-count c = sym (none_erased c.args.n (length (take c.args.n (replicate 63 false))))
 
 pub returns-clause-zeros : goal.returns-clause-zeros
 returns-clause-zeros c = λ errors are j inside.

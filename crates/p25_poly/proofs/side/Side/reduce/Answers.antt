@@ -6,10 +6,7 @@ pub returns : goal.returns
 returns c = record {
   multiple = c.div-multiple.result;
   is_multiple = c.div-multiple.ensures.quotient ∙ ap₂ (λ a b. gf64.mul a (gf64.inverse b)) c.leading.ensures c.leading-2.ensures;
-  places = c.places_to-places.result;
-  enough = c.places_to-places.ensures.all;
-  most = c.places_to-places.ensures.most;
-  rest = c.add_moved-2.ensures;
+  rest = c.add_moved_to.ensures;
   factor = c.add_moved.ensures;
   degree = omega arith;
 }
