@@ -84,7 +84,8 @@ fn lower(front: &mut Side, back: &mut Side, count: usize)
     }
 }
 
-// A step: one of the sides loses the coefficient of its degree.
+// A step: one of the sides loses the coefficient of its degree. Where that is zero nothing has to be taken: so it is at every second
+// step of the syndromes of a word of bits, the last first.
 fn step(front: &mut Side, back: &mut Side)
     requires positive { 1 ≤ back.old.degree }
     requires lower { back.old.degree ≤ front.old.degree }
@@ -97,6 +98,8 @@ fn step(front: &mut Side, back: &mut Side)
 {
     if back.leading().is_zero() {
         back.degree -= 1;
+    } else if front.leading().is_zero() {
+        front.degree -= 1;
     } else {
         front.reduce(back);
     }

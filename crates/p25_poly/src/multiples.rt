@@ -21,13 +21,7 @@ pub(crate) fn add_multiple(into: &mut [Sym], factor: Sym, other: &[Sym], shift: 
 /// Adds to 16 symbols behind the first 32, from a place on, the multiple of the other list's, moved up by the shift. These are copied
 /// first: so nothing is written of what is still to be read, and a compiler makes vector operations of the loop.
 #[inline(always)]
-pub(crate) fn add_moved(
-    into: &mut [Sym],
-    multiple: Sym,
-    other: &[Sym],
-    shift: usize,
-    place: usize,
-)
+pub(crate) fn add_moved(into: &mut [Sym], multiple: Sym, other: &[Sym], shift: usize, place: usize)
     requires into { length into.old ≡ 64 }
     requires other { length other.now ≡ 64 }
     requires shift { shift ≤ 32 }

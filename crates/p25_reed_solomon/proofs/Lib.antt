@@ -9,4 +9,5 @@ pub mod ListLaws
 pub mod ErrorsSteps
 pub mod CostLaws
 pub mod WrongLaws
+pub mod TurnedLaws
 pub mod EncodingLaws

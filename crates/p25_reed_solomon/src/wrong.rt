@@ -1,17 +1,21 @@
 //! The wrong places of a received word, for codes whose errors are known once their places are.
 
-ghost use Rattle.std.specs.Prelude.{◌≡◌, ◌≢◌, ◌↔◌, ℕ, ◌*◌, ◌/◌, ◌<◌, ◌≤◌, length};
+ghost use Rattle.std.specs.Prelude.{◌≡◌, ◌≢◌, ◌↔◌, ℕ, ◌-◌, ◌<◌, ◌≤◌, length};
 ghost use Rattle.p25_gf64.specs.{declared.symbol.Sym.{Sym}, Gf64.{gf64}};
 ghost use Rattle.p25_algebra.specs.Series.{coefficient, value_at};
+ghost use Rattle.p25_poly.specs.Polynomial.{coefficient_of};
 ghost use Rattle.p25_reed_solomon.specs.Errors.{AreErrors, point_of};
 
-use crate::locator::locate;
 use p25_gf64::Sym;
+use p25_poly::{Poly, key_solve};
 
 /// Answers a polynomial of degree 11 at most, its lowest coefficient first, that vanishes at the point of a place, the inverse of α to
 /// the exponent of its coefficient, exactly where the received word of n symbols is wrong there: for any errors that explain its first
 /// `checks` syndromes and are half as many at most. Where no errors do, nothing is said of it. There are at most 63 places, the
 /// first that of the highest coefficient, and `syndromes` are 32 as `fill_syndromes` sets them.
+///
+/// The key equation of the syndromes is solved with the last of them first, whose locator vanishes at the elements of the places in
+/// place of their points: for a word of bits that takes half of the steps.
 pub fn wrong_locator(syndromes: &[Sym], checks: usize, n: usize) -> [Sym; 12]
     requires places { n ≤ 63 }
     requires some { 2 ≤ checks }
@@ -21,17 +25,33 @@ pub fn wrong_locator(syndromes: &[Sym], checks: usize, n: usize) -> [Sym; 12]
         → (j : ℕ) → j < n → (value_at gf64 12 (coefficient gf64 result) (point_of n j) ≡ gf64.zero) ↔ (errors j ≢ gf64.zero) }
     ensures full { length result ≡ 12 }
 {
-    let mut locator = [Sym::default(); 32];
-    let mut evaluator = [Sym::default(); 32];
-    locate(
-        syndromes,
-        checks,
-        &[false; 63][..n],
-        0,
-        &mut locator,
-        &mut evaluator,
-    );
-    let mut lowest = [Sym::default(); 12];
-    lowest.copy_from_slice(&locator[..12]);
-    lowest
+    let count = checks / 2 * 2;
+    let turned = turned(&syndromes[..count]);
+    let key = key_solve(&turned[..count]);
+    turned_front(&key.locator)
+}
+
+// Answers these symbols, the last first, and zeros after them.
+fn turned(symbols: &[Sym]) -> [Sym; 22]
+    requires { length symbols.now ≤ 22 }
+    ensures turned { (i : ℕ) → i < length symbols.now → coefficient gf64 result i ≡ coefficient gf64 symbols.now (length symbols.now - 1 - i) }
+    ensures full { length result ≡ 22 }
+{
+    let mut turned = [Sym::default(); 22];
+    for i in 0..symbols.len() {
+        turned[i] = symbols[symbols.len() - 1 - i];
+    }
+    turned
+}
+
+// Answers the first twelve coefficients of a polynomial, the highest first.
+fn turned_front(polynomial: &Poly) -> [Sym; 12]
+    ensures turned { (i : ℕ) → i < 12 → coefficient gf64 result i ≡ coefficient_of polynomial.now (11 - i) }
+    ensures full { length result ≡ 12 }
+{
+    let mut turned = [Sym::default(); 12];
+    for i in 0..12 {
+        turned[i] = polynomial.coefficient(11 - i);
+    }
+    turned
 }

@@ -32,7 +32,7 @@ returns-then-back-syndromes c =
     let count = length c.args.syndromes.now in
     pair_key count c.args.syndromes.now c.loop-back.front c.loop-back.back c.key_of.result.locator c.key_of.result.evaluator refl c.requires.some c.requires.even c.loop-back.invariant.pair
     (omega (arith, c.if-back-syndromes.true))
-    (elim (cases_lt (2 * c.loop-back.front.degree) count) [ | inl low ↦ absurd (omega (arith, c.loop-back.invariant.half low, c.if-back-syndromes.true)) | inr high ↦ high ])
+    (elim (cases_lt (2 * c.loop-back.front.degree) count) [ inl low ↦ absurd (omega (arith, c.loop-back.invariant.half low, c.if-back-syndromes.true)) | inr high ↦ high ])
     c.key_of.ensures.locator c.key_of.ensures.evaluator
 
 pub returns-else-back-syndromes : goal.returns-else-back-syndromes
