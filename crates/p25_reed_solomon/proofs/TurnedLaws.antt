@@ -5,7 +5,8 @@ use Rattle.p25_gf64.specs.{declared.symbol.Sym.{Sym}, Field.{power}, Gf64.{gf64}
 use Rattle.p25_gf64.proofs.FieldLaws.{mul_comm, mul_assoc, mul_left_comm, mul_one, mul_zero, zero_mul, mul_inverse, mul_ne_zero, other_zero, inverse_ne_zero}
 use Rattle.p25_gf64.proofs.PowerLaws.{power-add, power_of_one, power_of_mul, power_ne_zero}
 use Rattle.p25_algebra.specs.{Sums.{power_sum, nonzeros, AreApart}, Series.{coefficient, value_at, product_at, slope_at, IsShort}}
-use Rattle.p25_algebra.proofs.{SumLaws.{sum_same, sum-mul, sum_reverse}, ValueLaws.{value_same}, ProductValueLaws.{value_longer}, VanishingLaws.{nonzeros_mono}, LocatorLaws.{locator_vanishes}, ForneyLaws.{forney}}
+use Rattle.p25_algebra.proofs.{SumLaws.{sum_same, sum-mul, sum_reverse}, ValueLaws.{value_same}, ProductValueLaws.{value_longer}, VanishingLaws.{nonzeros_mono}, LocatorLaws.{locator_vanishes}}
+use Rattle.p25_algebra.proofs.ForneyLaws.{forney}
 use Rattle.p25_poly.specs.{declared.polynomial.Poly.{Poly}, Polynomial.{coefficient_of}, Key.{IsKey}}
 use Rattle.p25_reed_solomon.specs.{ElementLaws.{element_ne_zero, element-point, same_point}, Errors.{element_of, point_of, AreErrors}}
 

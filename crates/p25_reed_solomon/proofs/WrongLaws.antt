@@ -1,11 +1,10 @@
 -- The errors between a received word and a word of the code.
-use Rattle.std.proofs.{Common.{◌≡◌, ℕ, ◌+◌, ◌-◌, ◌*◌, ◌<◌, ◌≤◌, List, length, ap, sym, ◌∙◌, arith}}
+use Rattle.std.proofs.Common.{◌≡◌, ℕ, ◌+◌, ◌-◌, ◌*◌, ◌<◌, ◌≤◌, List, length, ap, sym, ◌∙◌, arith}
 use Rattle.p25_bits.specs.Distance.{distance_by}
 use Rattle.p25_gf64.specs.{declared.symbol.Sym.{Sym}, Gf64.{gf64}}
 use Rattle.p25_gf64.proofs.FieldLaws.{add_zero}
 use Rattle.p25_algebra.specs.{Sums.{nonzeros}, Series.{coefficient}}
-use Rattle.p25_reed_solomon.specs.{Words.{IsCode, IsWord, value_of, same_symbols}, DistanceLaws.{distance-nonzeros}, ValueLaws.{value-power_sum, front_value-add}}
-use Rattle.p25_reed_solomon.specs.{Errors.{AreErrors}}
+use Rattle.p25_reed_solomon.specs.{Words.{IsCode, IsWord, value_of, same_symbols}, DistanceLaws.{distance-nonzeros}, ValueLaws.{value-power_sum, front_value-add}, Errors.{AreErrors}}
 
 -- the errors between a received word and a word of the code within the radius
 pub difference_errors : (n k : ℕ) (received word syndromes : List Sym) → IsCode n k → length received ≡ n → IsWord n k word → ((r : ℕ) → r < n - k → coefficient gf64 syndromes r ≡ value_of n received (r + 1))

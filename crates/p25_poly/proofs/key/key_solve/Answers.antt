@@ -1,8 +1,7 @@
 use Rattle.std.proofs.{Common.{◌*◌, length, refl, inl, inr, arith}, lemmas.Bool.{cases_lt}}
 use Rattle.p25_gf64.specs.Gf64.{gf64}
 use Rattle.p25_algebra.specs.Series.{coefficient}
-use Rattle.p25_poly.proofs.{CoefficientLaws.{coefficient_past}, EuclidSteps.{pair_first, pair_key, pair_swapped}}
-use Rattle.p25_poly.proofs.key.key_solve.Goals.{then-loop-back-test+else-front-syndromes, else-loop-back-test}
+use Rattle.p25_poly.proofs.{CoefficientLaws.{coefficient_past}, EuclidSteps.{pair_first, pair_key, pair_swapped}, key.key_solve.Goals.{then-loop-back-test+else-front-syndromes, else-loop-back-test}}
 use Rattle.p25_poly.proofs.key.key_solve.Goals as goal
 
 pub loop-back-init : goal.loop-back-init
