@@ -5,6 +5,7 @@
                                their numbers alone, by p25_items and by a stream
 
    Words are 64 of random information, with random wrong letters at random places; the least of 400 rounds counts. */
+#include "../bench/measures/words.h"
 #include "p25.h"
 
 #include <stdio.h>
@@ -14,22 +15,7 @@
 
 enum { ROUNDS = 400, WORDS = 64, LONGEST = 36, BLOCKS = 98 };
 
-static uint64_t state = 0x9E3779B97F4A7C15u;
-
-static uint64_t next(void) {
-    state ^= state << 13;
-    state ^= state >> 7;
-    state ^= state << 17;
-    return state;
-}
-
 static unsigned below(unsigned limit) { return (unsigned)(next() >> 20) % limit; }
-
-static uint64_t nanoseconds(void) {
-    struct timespec now;
-    clock_gettime(CLOCK_MONOTONIC, &now);
-    return (uint64_t)now.tv_sec * 1000000000u + (uint64_t)now.tv_nsec;
-}
 
 /* A Reed-Solomon code. */
 struct code {
@@ -45,13 +31,6 @@ static const struct code codes[3] = {
     {"Reed-Solomon (36,20)", 36, 20, p25_rs_36_20_read, p25_rs_36_20_read_erased, p25_rs_36_20_write},
     {"Reed-Solomon (24,12)", 24, 12, p25_rs_24_12_read, p25_rs_24_12_read_erased, p25_rs_24_12_write},
     {"Reed-Solomon (24,16)", 24, 16, p25_rs_24_16_read, p25_rs_24_16_read_erased, p25_rs_24_16_write}};
-
-/* How many symbols are marked, how many more are wrong, and how that is called. */
-struct row {
-    int marks;
-    int wrong;
-    const char *label;
-};
 
 static uint8_t symbols[WORDS][LONGEST];
 static bool erased[WORDS][LONGEST];
@@ -171,25 +150,16 @@ static int time_items(const char *path) {
 }
 
 int main(int count, char **words) {
-    static const struct row rows[3][9] = {
-        {{0, 0, "0"}, {0, 1, "1"}, {0, 4, "4"}, {0, 8, "8, the radius"}, {0, 9, "9, beyond"},
-         {1, 0, "1 marked"}, {8, 0, "8 marked"}, {8, 4, "8 marked, 4 more"}, {16, 0, "16 marked"}},
-        {{0, 0, "0"}, {0, 1, "1"}, {0, 3, "3"}, {0, 6, "6, the radius"}, {0, 7, "7, beyond"},
-         {1, 0, "1 marked"}, {6, 0, "6 marked"}, {6, 3, "6 marked, 3 more"}, {12, 0, "12 marked"}},
-        {{0, 0, "0"}, {0, 1, "1"}, {0, 2, "2"}, {0, 4, "4, the radius"}, {0, 5, "5, beyond"},
-         {1, 0, "1 marked"}, {4, 0, "4 marked"}, {4, 2, "4 marked, 2 more"}, {8, 0, "8 marked"}}};
-    static const struct row bits[5] = {
-        {0, 0, "0"}, {0, 1, "1"}, {0, 3, "3"}, {0, 11, "11, the radius"}, {0, 12, "12, beyond"}};
     if (count > 1) {
         return time_items(words[1]);
     }
     for (int code = 0; code < 3; code++) {
         for (int i = 0; i < 9; i++) {
-            time_symbols(&codes[code], &rows[code][i]);
+            time_symbols(&codes[code], &symbol_rows[code][i]);
         }
     }
     for (int i = 0; i < 5; i++) {
-        time_identifiers(&bits[i]);
+        time_identifiers(&bit_rows[i]);
     }
     return 0;
 }

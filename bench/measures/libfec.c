@@ -1,28 +1,13 @@
 /* Times libfec on the words that coders/words.rt.txt and coders/marks.rt.txt time: Reed-Solomon words over GF(64), and
    identifiers as Reed-Solomon words of 63 symbols with 22 check symbols, which is how libfec can read them. The lines are of the
    same form. */
+#include "words.h"
+
 #include <fec.h>
-#include <stdint.h>
 #include <stdio.h>
 #include <string.h>
-#include <time.h>
 
 enum { ROUNDS = 400, WORDS = 64, LONGEST = 63 };
-
-static uint64_t state = 0x9E3779B97F4A7C15u;
-
-static uint64_t next(void) {
-    state ^= state << 13;
-    state ^= state >> 7;
-    state ^= state << 17;
-    return state;
-}
-
-static uint64_t nanoseconds(void) {
-    struct timespec now;
-    clock_gettime(CLOCK_MONOTONIC, &now);
-    return (uint64_t)now.tv_sec * 1000000000u + (uint64_t)now.tv_nsec;
-}
 
 static unsigned char words[WORDS][LONGEST];
 static int marked[WORDS][LONGEST];
@@ -68,13 +53,6 @@ static void damage(int j, int n, int marks, int wrong, int bits) {
     }
 }
 
-/* What is timed of a code: how many symbols are marked, how many more are wrong, and how that is called. */
-struct row {
-    int marks;
-    int wrong;
-    const char *label;
-};
-
 /* Reed-Solomon words. */
 static void symbols(const char *name, int n, int k, const struct row *row) {
     void *code = init_rs_char(6, 0x43, 1, 1, n - k, 63 - n);
@@ -109,22 +87,13 @@ static void identifiers(const struct row *row) {
 }
 
 int main(void) {
-    static const struct row rows[3][9] = {
-        {{0, 0, "0"}, {0, 1, "1"}, {0, 4, "4"}, {0, 8, "8, the radius"}, {0, 9, "9, beyond"},
-         {1, 0, "1 erased"}, {8, 0, "8 erased"}, {8, 4, "8 erased, 4 more"}, {16, 0, "16 erased"}},
-        {{0, 0, "0"}, {0, 1, "1"}, {0, 3, "3"}, {0, 6, "6, the radius"}, {0, 7, "7, beyond"},
-         {1, 0, "1 erased"}, {6, 0, "6 erased"}, {6, 3, "6 erased, 3 more"}, {12, 0, "12 erased"}},
-        {{0, 0, "0"}, {0, 1, "1"}, {0, 2, "2"}, {0, 4, "4, the radius"}, {0, 5, "5, beyond"},
-         {1, 0, "1 erased"}, {4, 0, "4 erased"}, {4, 2, "4 erased, 2 more"}, {8, 0, "8 erased"}}};
-    static const struct row bits[5] = {
-        {0, 0, "0"}, {0, 1, "1"}, {0, 3, "3"}, {0, 11, "11, the radius"}, {0, 12, "12, beyond"}};
     for (int i = 0; i < 9; i++) {
-        symbols("Reed-Solomon (36,20)", 36, 20, &rows[0][i]);
-        symbols("Reed-Solomon (24,12)", 24, 12, &rows[1][i]);
-        symbols("Reed-Solomon (24,16)", 24, 16, &rows[2][i]);
+        symbols("Reed-Solomon (36,20)", 36, 20, &symbol_rows[0][i]);
+        symbols("Reed-Solomon (24,12)", 24, 12, &symbol_rows[1][i]);
+        symbols("Reed-Solomon (24,16)", 24, 16, &symbol_rows[2][i]);
     }
     for (int i = 0; i < 5; i++) {
-        identifiers(&bits[i]);
+        identifiers(&bit_rows[i]);
     }
     return 0;
 }

@@ -1,6 +1,6 @@
 //! Systematic binary codes by their check bits.
 
-ghost use Rattle.std.specs.Prelude.{◌≡◌, ℕ, ◌^◌, ◌<◌, ◌++◌, List, Bool, Option, MatchOption};
+ghost use Rattle.std.specs.Prelude.{◌≡◌, ℕ, ◌+◌, ◌^◌, ◌<◌, ◌++◌, List, Bool, Option, MatchOption};
 
 use crate::code::{BlockCode, Reading};
 use crate::number_code::{NumberCode, put_reading};
@@ -12,19 +12,14 @@ use p25_bits::{number_of, put_number};
 pub trait CheckedCode {
     ghost use Rattle.p25_code.specs.{Binary.{check_columns}, CodeLaws.{IsCheckedCode}, WrongBits.{number_sum, AreWrong, NoneWrong}};
 
-    /// The number of bits of a word.
-    const LENGTH: usize;
-
     /// The number of bits of the information, with which a word begins.
     const INFORMATION: usize;
 
-    /// The number of check bits.
+    /// The number of check bits, with which it ends.
     const CHECKS: u32;
 
     /// The radius: the most wrong bits that are corrected.
     const RADIUS: u32;
-
-    ghost LENGTH: { ℕ };
 
     ghost INFORMATION: { ℕ };
 
@@ -58,19 +53,19 @@ pub trait CheckedCode {
             (AreWrong (rows ++ check_columns CHECKS) RADIUS syndrome) };
 
     // The words are those whose check bits are the sums of the rows, and they make a code that is read by that function.
-    ghost is_code: { IsCheckedCode IsWord rows LENGTH INFORMATION CHECKS RADIUS apart reading_is };
+    ghost is_code: { IsCheckedCode IsWord rows (INFORMATION + CHECKS) INFORMATION CHECKS RADIUS apart reading_is };
 }
 
 impl<C: CheckedCode> BlockCode for C {
     ghost use Rattle.p25_code.specs.Letters.{same_bit};
 
-    const N: usize = C::LENGTH;
+    const N: usize = C::INFORMATION + C::CHECKS as usize;
 
     const K: usize = C::INFORMATION;
 
     type Letter = bool;
 
-    ghost N = { C.LENGTH };
+    ghost N = { C.INFORMATION + C.CHECKS };
 
     ghost K = { C.INFORMATION };
 

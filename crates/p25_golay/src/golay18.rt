@@ -12,15 +12,11 @@ use p25_code::CheckedCode;
 pub struct Golay18;
 
 impl CheckedCode for Golay18 {
-    const LENGTH: usize = 18;
-
     const INFORMATION: usize = 6;
 
     const CHECKS: u32 = 12;
 
     const RADIUS: u32 = 3;
-
-    ghost LENGTH = { 18 };
 
     ghost INFORMATION = { 6 };
 

@@ -37,15 +37,11 @@ static MESSAGES: [[u16; 64]; 2] = [
 pub struct Golay24;
 
 impl CheckedCode for Golay24 {
-    const LENGTH: usize = 24;
-
     const INFORMATION: usize = 12;
 
     const CHECKS: u32 = 12;
 
     const RADIUS: u32 = 3;
-
-    ghost LENGTH = { 24 };
 
     ghost INFORMATION = { 12 };
 

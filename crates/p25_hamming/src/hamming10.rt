@@ -20,15 +20,11 @@ static CHECKS: [u16; 64] = sums! {
 pub struct Hamming10;
 
 impl CheckedCode for Hamming10 {
-    const LENGTH: usize = 10;
-
     const INFORMATION: usize = 6;
 
     const CHECKS: u32 = 4;
 
     const RADIUS: u32 = 1;
-
-    ghost LENGTH = { 10 };
 
     ghost INFORMATION = { 6 };
 

@@ -32,15 +32,11 @@ static MESSAGES: [u16; 256] = sums! {
 pub struct Lsd16;
 
 impl CheckedCode for Lsd16 {
-    const LENGTH: usize = 16;
-
     const INFORMATION: usize = 8;
 
     const CHECKS: u32 = 8;
 
     const RADIUS: u32 = 2;
-
-    ghost LENGTH = { 16 };
 
     ghost INFORMATION = { 8 };
 

@@ -34,3 +34,8 @@ pub record IsLowestLeast (states : ℕ) (value : ℕ → ℕ) (symbol least : �
 -- the cost of a symbol and what follows it
 unfoldable pub step_cost : (ℕ → ℕ → ℕ) → (ℕ → ℕ → ℕ) → List ℕ → ℕ → ℕ → ℕ → ℕ
 step_cost point cost rests step state symbol = cost step (point state symbol) + rest_in rests (suc step) symbol
+
+-- what answers, at each step and from each state, the lowest of the symbols that cost least with what follows them
+pub record Chooses (states : ℕ) (point cost : ℕ → ℕ → ℕ) (rests : List ℕ) (answers : ℕ → ℕ → ℕ → Type 0) : Type 0 where
+  pub at : (step state symbol : ℕ) → step < 48 → state < states → answers step state symbol
+      → (least : ℕ) × IsLowestLeast states (step_cost point cost rests step state) symbol least

@@ -7,9 +7,9 @@ ghost use Rattle.p25_trellis.specs.Nearest.{nearest_octets, nearest_distance, bl
 
 use super::exact::path_along;
 use super::interleave::{gather, spread};
-use super::near::{near_path, near_rests};
+use super::near::{first_symbol, near_rests};
 use super::nibbles::{append_nibbles, take_nibbles};
-use super::path::{nibbles_of, octets_of, path_of};
+use super::path::{nibbles_of, octets_of, path_of, take_path};
 use super::rate::Rate;
 use p25_bits::BitBuf;
 
@@ -56,8 +56,10 @@ fn read_nibbles<R: Rate>(received: &[u8; 49], octets: &mut [u8]) -> u32
         }
         None => {
             let rests = near_rests::<R>(received);
-            let path = near_path::<R>(received, &rests);
-            octets_of::<R>(&path, octets);
+            take_path::<R, _>(
+                |step, state| first_symbol::<R>(received, &rests, step, state),
+                octets,
+            );
             u32::from(rests[0])
         }
     }

@@ -2,10 +2,9 @@
 //! state, and then forward the lowest symbol that attains it.
 
 ghost use Rattle.std.specs.Prelude.{◌≡◌, ℕ, suc, ◌+◌, ◌*◌, ◌^◌, ◌<◌, ◌≤◌, All, length, take, drop};
-ghost use Rattle.p25_trellis.specs.{Trellis.{IsFirstLeast, IsFirstLeastReading}, Costs.{cost_in, path_cost}};
-ghost use Rattle.p25_trellis.specs.Least.{rest_in, step_cost, HasLeastFrom, IsLowestLeast};
+ghost use Rattle.p25_trellis.specs.{Trellis.{IsFirstLeastReading}, Costs.{cost_in, path_cost}, Least.{rest_in, step_cost, HasLeastFrom, IsLowestLeast}};
 
-use super::path::octets_of;
+use super::path::take_path;
 use super::rate::Rate;
 
 /// The number of costs of a block: 16 for each of 49 steps, one for each nibble.
@@ -97,24 +96,6 @@ fn least_rests<R: Rate>(costs: &[u32]) -> [u32; BLOCK_RESTS]
     rests
 }
 
-// The first least path.
-fn first_path<R: Rate>(costs: &[u32], rests: &[u32]) -> [u8; 49]
-    requires costs { length costs.now ≡ 784 }
-    requires low { All (λ cost. cost ≤ 2 ^ 24) costs.now }
-    requires rests { length rests.now ≡ 392 }
-    requires least { HasLeastFrom R.STATES R.point_of (cost_in costs.now) rests.now 0 }
-    ensures first { IsFirstLeast R.STATES (path_cost R.point_of (cost_in costs.now)) result }
-    ensures len { length result ≡ 49 }
-{
-    let mut path = [0; 49];
-    let mut state = 0;
-    for step in 0..48 {
-        state = best_symbol::<R>(costs, rests, step, state).symbol;
-        path[step] = state;
-    }
-    path
-}
-
 /// Sets `octets` to those of the first least path by a table of costs, and answers what that path costs: no path costs
 /// less, and of several that cost as little it is the first in dictionary order of symbols.
 ///
@@ -128,7 +109,9 @@ pub fn read_costs<R: Rate>(costs: &[u32], octets: &mut [u8]) -> u32
     ensures { IsFirstLeastReading R.STATES R.BITS_PER_SYMBOL (path_cost R.point_of (cost_in costs.now)) octets.new result }
 {
     let rests = least_rests::<R>(costs);
-    let path = first_path::<R>(costs, &rests);
-    octets_of::<R>(&path, octets);
+    take_path::<R, _>(
+        |step, state| best_symbol::<R>(costs, &rests, step, state).symbol,
+        octets,
+    );
     rests[0]
 }

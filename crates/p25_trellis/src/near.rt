@@ -1,9 +1,8 @@
-//! The first nearest path to nibbles that were received: from the last step to the first the least distance of what follows each
-//! state, all states of a step side by side, and then forward the lowest symbol that attains it.
+//! The search of the first nearest path to nibbles that were received: from the last step to the first the least distance of what
+//! follows each state, all states of a step side by side, and then for each state the lowest symbol that attains it.
 
 ghost use Rattle.std.specs.Prelude.{◌≡◌, ℕ, suc, ◌+◌, ◌<◌, ◌≤◌, All, length, min, slice_index};
-ghost use Rattle.p25_trellis.specs.{Tables.{nibble_distance}, Trellis.{IsFirstLeast}, Costs.{path_cost, received_cost}};
-ghost use Rattle.p25_trellis.specs.Least.{rest_in, step_cost, HasLeastFrom, IsLowestLeast};
+ghost use Rattle.p25_trellis.specs.{Tables.{nibble_distance}, Costs.{received_cost}, Least.{rest_in, step_cost, HasLeastFrom, IsLowestLeast}};
 
 use super::rate::Rate;
 
@@ -108,7 +107,7 @@ fn symbol_distance<R: Rate>(
 }
 
 // The lowest of the symbols that lead from a state to the least that can follow it.
-fn first_symbol<R: Rate>(received: &[u8; 49], rests: &[u8], step: usize, state: u8) -> u8
+pub(crate) fn first_symbol<R: Rate>(received: &[u8; 49], rests: &[u8], step: usize, state: u8) -> u8
     requires nibbles { All (λ n. n < 16) received.now }
     requires rests { length rests.now ≡ 392 }
     requires step { step < 48 }
@@ -123,21 +122,4 @@ fn first_symbol<R: Rate>(received: &[u8; 49], rests: &[u8], step: usize, state: 
         }
     }
     R::STATES - 1
-}
-
-// The first nearest path.
-pub(crate) fn near_path<R: Rate>(received: &[u8; 49], rests: &[u8]) -> [u8; 49]
-    requires nibbles { All (λ n. n < 16) received.now }
-    requires rests { length rests.now ≡ 392 }
-    requires least { HasLeastFrom R.STATES R.point_of (received_cost received.now) rests.now 0 }
-    ensures first { IsFirstLeast R.STATES (path_cost R.point_of (received_cost received.now)) result }
-    ensures len { length result ≡ 49 }
-{
-    let mut path = [0; 49];
-    let mut state = 0;
-    for step in 0..48 {
-        state = first_symbol::<R>(received, rests, step, state);
-        path[step] = state;
-    }
-    path
 }

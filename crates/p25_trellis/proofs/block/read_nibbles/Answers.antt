@@ -1,8 +1,8 @@
-use Rattle.std.proofs.Common.{◌≡◌, ℕ, List, refl, sym, ap, ◌∙◌, arith}
+use Rattle.std.proofs.Common.{rules, ◌≡◌, ℕ, List, refl, sym, ap, subst, ◌∙◌}
 use Rattle.p25_bits.specs.Numbers.{number_bits}
 use Rattle.p25_trellis.specs.{Costs.{path_cost, received_cost}, Interleave.{interleaved}, Least.{rest_in}, Trellis.{sent_bits, IsFirstLeastReading, distance_from}}
-use Rattle.p25_trellis.proofs.{CostLaws.{rest_in-first}, DistanceLaws.{path_cost-distance, IsFirstLeastReading-same}, FirstPathLaws.{IsFirstLeast-total}, ApartLaws.{same_from_sent_bits}}
-use Rattle.p25_trellis.proofs.{ExactSteps.{IsFirstLeast-exact, at_no_distance}, PathLaws.{power-pos}}
+use Rattle.p25_trellis.proofs.{CostLaws.{rest_in-first}, DistanceLaws.{path_cost-distance, IsFirstLeastReading-same}, ApartLaws.{same_from_sent_bits}, ExactSteps.{IsFirstLeast-exact, at_no_distance}}
+use Rattle.p25_trellis.proofs.PathLaws.{power-pos}
 use Rattle.p25_trellis.proofs.block.read_nibbles.Goals as goal
 
 pub returns-in-Some : goal.returns-in-Some
@@ -24,19 +24,18 @@ returns-in-Some g c =
 pub returns-in-None : goal.returns-in-None
 returns-in-None g c =
     let states = g.R.Rate.STATES in
+    let width = g.R.Rate.BITS_PER_SYMBOL in
     let point = g.R.Rate.point_of in
     let received = c.args.received.now in
     let bits = number_bits 4 (interleaved received) in
-    let some = power-pos g.R.Rate.BITS_PER_SYMBOL states g.met.R.Rate.table.states_of_bits in
+    let some = power-pos width states g.met.R.Rate.table.states_of_bits in
     let rests = c.near_rests-rests.result in
-    let first = c.near_path-path.ensures.first in
-    let total
-    = c.from.ensures
-    ∙ sym (rest_in-first rests)
-    ∙ IsFirstLeast-total states (path_cost point (received_cost received)) c.near_path-path.result (rest_in rests 0 0) some (c.near_rests-rests.ensures.least.at 0 48 0 (omega arith) refl some)
-    first in
-    let reading : IsFirstLeastReading states g.R.Rate.BITS_PER_SYMBOL (path_cost point (received_cost received)) c.octets_of-in-None.new.octets c.from.result
-    = record { path = c.near_path-path.result; first_least = first; carries = c.octets_of-in-None.ensures; total_is = total } in
-    IsFirstLeastReading-same states g.R.Rate.BITS_PER_SYMBOL (path_cost point (received_cost received)) (distance_from point bits) c.octets_of-in-None.new.octets c.from.result
+    let octets = c.take_path.new.octets in
+    let reading
+    = subst (λ (total : ℕ). IsFirstLeastReading states width (path_cost point (received_cost received)) octets total)
+    (rest_in-first rests ∙ sym c.from.ensures)
+    (c.take_path.ensures (received_cost received) rests c.near_rests-rests.ensures.least
+    (record { at = λ step state symbol early row answers. (rest_in rests step state, search rules) })) in
+    IsFirstLeastReading-same states width (path_cost point (received_cost received)) (distance_from point bits) octets c.from.result
     (path_cost-distance states point received bits some g.met.R.Rate.table.nibbles c.told-received refl)
     reading

@@ -1,18 +1,19 @@
-use Rattle.std.proofs.Common.{refl, sym, ◌∙◌, arith}
-use Rattle.p25_trellis.specs.{Costs.{cost_in, path_cost}, Least.{rest_in}}
-use Rattle.p25_trellis.proofs.{CostLaws.{rest_in-first}, PathLaws.{power-pos}, FirstPathLaws.{IsFirstLeast-total}}
+use Rattle.std.proofs.Common.{rules, ℕ, suc, ◌^◌, ◌<◌, subst, arith}
+use Rattle.p25_trellis.specs.{Trellis.{IsFirstLeastReading}, Costs.{cost_in, path_cost}, Least.{step_cost}}
+use Rattle.p25_trellis.proofs.CostLaws.{step_cost-lt, HasLeastFrom-later, rest_in-first}
 use Rattle.p25_trellis.proofs.least.read_costs.Goals as goal
+
+pub take_path-requires-clause-callable : goal.take_path-requires-clause-callable
+take_path-requires-clause-callable g c = λ step state early row.
+    let fits : (symbol : ℕ) → symbol < g.R.Rate.STATES → step_cost g.R.Rate.point_of (cost_in c.args.costs.now) c.least_rests-rests.result step state symbol < 2 ^ 32
+    = λ symbol below. step_cost-lt g.R.Rate.STATES g.R.Rate.point_of c.args.costs.now c.least_rests-rests.result step state symbol c.requires.low
+    (HasLeastFrom-later g.R.Rate.STATES g.R.Rate.point_of (cost_in c.args.costs.now) c.least_rests-rests.result 0 (suc step) (omega arith) c.least_rests-rests.ensures.least) early below in
+    search rules
 
 pub returns : goal.returns
 returns g c =
-    let states = g.R.Rate.STATES in
-    let some = power-pos g.R.Rate.BITS_PER_SYMBOL states g.met.R.Rate.table.states_of_bits in
     let rests = c.least_rests-rests.result in
-    let first = c.first_path-path.ensures.first in record {
-      path = c.first_path-path.result;
-      first_least = first;
-      carries = c.octets_of.ensures;
-      total_is
-          = sym (rest_in-first rests)
-          ∙ IsFirstLeast-total states (path_cost g.R.Rate.point_of (cost_in c.args.costs.now)) c.first_path-path.result (rest_in rests 0 0) some (c.least_rests-rests.ensures.least.at 0 48 0 (omega arith) refl some) first;
-    }
+    subst
+    (λ (total : ℕ). IsFirstLeastReading g.R.Rate.STATES g.R.Rate.BITS_PER_SYMBOL (path_cost g.R.Rate.point_of (cost_in c.args.costs.now)) c.take_path.new.octets total)
+    (rest_in-first rests)
+    (c.take_path.ensures (cost_in c.args.costs.now) rests c.least_rests-rests.ensures.least (record { at = λ step state symbol early row answers. search rules }))

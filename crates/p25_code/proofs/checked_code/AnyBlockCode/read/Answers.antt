@@ -1,7 +1,10 @@
+use Rattle.std.proofs.Common.{◌+◌}
 use Rattle.p25_code.proofs.NumberCodeLaws.{read_by_number}
 use Rattle.p25_code.proofs.checked_code.AnyBlockCode.read.Goals as goal
 
 pub returns : goal.returns
 returns g c =
-    read_by_number g.C.CheckedCode.IsWord g.C.CheckedCode.RADIUS g.C.CheckedCode.LENGTH g.C.CheckedCode.reading_is g.met.C.CheckedCode.is_code.reads c.args.word.now c.put_reading.new.word
-    c.number_of-received.result c.read_number.result c.put_reading.result c.requires.word c.number_of-received.ensures.value c.read_number.ensures.reading c.put_reading.ensures
+    let code = g.C.CheckedCode in
+    read_by_number code.IsWord code.RADIUS (code.INFORMATION + code.CHECKS) code.reading_is g.met.C.CheckedCode.is_code.reads
+    c.args.word.now c.put_reading.new.word c.number_of-received.result c.read_number.result c.put_reading.result
+    c.requires.word c.number_of-received.ensures.value c.read_number.ensures.reading c.put_reading.ensures
