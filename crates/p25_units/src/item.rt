@@ -2,8 +2,8 @@
 
 ghost use Rattle.std.specs.Prelude.{◌≡◌, ◌^◌, ◌<◌, ◌≤◌, ℕ, length, drop};
 ghost use Rattle.p25_bits.specs.Bits.{part};
-ghost use Rattle.p25_units.specs.{Begins.{IsBegun}, Items.{IsSoundItem, covered, place_of, unit_item_of}, Needs.{need_of}};
-ghost use Rattle.p25_units.specs.{declared.frame.Frame.{Frame}, declared.item.Item.TheVariants.{Whole}, declared.needs.Need.TheVariants.{Length}};
+ghost use Rattle.p25_units.specs.{Begins.{IsBegun}, Items.{IsSoundItem, covered, place_of, unit_item_of}, Needs.{need_of}, declared.frame.Frame.{Frame}};
+ghost use Rattle.p25_units.specs.{declared.item.Item.TheVariants.{Whole}, declared.needs.Need.TheVariants.{Length}};
 
 use crate::begun::Begun;
 use crate::frame::{Frame, frame_length};

@@ -3,8 +3,8 @@ use Rattle.p25_status.specs.Sync.{has_sync}
 use Rattle.p25_unit_front.specs.Front.{identifier_of}
 use Rattle.p25_packet_blocks.proofs.UnitLaws.{sent_head_of-read, sent_head_of-unread}
 use Rattle.p25_units.specs.{Needs.{head_need, kind_need, length_need, need_of, packet_need, voice_need}, Units.{sent_length}}
-use Rattle.p25_units.proofs.NeedsLaws.{head_need-bad, head_need-good, identified_need-none, identified_need-some, kind_need-packet, kind_need-unpacked, need_of-synced, packet_need-long}
-use Rattle.p25_units.proofs.{NeedsLaws.{packet_need-short, synced_need-read, synced_need-short, voice_need-none, voice_need-some}, UnitsLaws.{IsSentLength-voice}}
+use Rattle.p25_units.proofs.NeedsLaws.{head_need-bad, head_need-good, identified_need-none, identified_need-some, kind_need-packet, kind_need-unpacked, need_of-synced, packet_need-long, packet_need-short, synced_need-read, synced_need-short, voice_need-none, voice_need-some}
+use Rattle.p25_units.proofs.UnitsLaws.{IsSentLength-voice}
 use Rattle.p25_units.proofs.scan.need_synced.Goals as goal
 
 -- what is needed where the identifier was read: what the unit of its DUID needs
