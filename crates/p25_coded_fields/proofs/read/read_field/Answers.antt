@@ -6,8 +6,7 @@ use Rattle.p25_gf64.specs.{declared.symbol.Sym.{Sym}, Symbol.{number}}
 use Rattle.p25_gf64.proofs.SymbolLaws.{same_from_eq}
 use Rattle.p25_coded_fields.specs.{Fixes.{AreCounted}, Layouts.{field_layout, symbols_or_erasures}}
 use Rattle.p25_coded_fields.proofs.{SymbolsLaws.{length_group, room_at}, FixesLaws.{counted_all, counted_next, counted_none, all_groups}}
-use Rattle.p25_coded_fields.proofs.ReadLaws.{cut_long, erased_before, erased_next, outer_read, unchanged}
-use Rattle.p25_coded_fields.proofs.read.read_field.Goals.{After-read_erased}
+use Rattle.p25_coded_fields.proofs.{ReadLaws.{cut_long, erased_before, erased_next, outer_read, unchanged}, read.read_field.Goals.{After-read_erased}}
 use Rattle.p25_coded_fields.proofs.read.read_field.Goals as goal
 use Rattle.p25_coded_fields.proofs.read.read_field.Given as given
 

@@ -4,12 +4,10 @@ use Rattle.p25_link.proofs.WordsLaws.{length-link_symbols, length-sync_symbols}
 use Rattle.p25_link.specs.Words.{link_of_symbols, link_symbols, sync_of_symbols, sync_symbols}
 use Rattle.p25_reed_solomon.specs.Encoding.{rs_word}
 use Rattle.p25_status.specs.{declared.fields.Field.TheVariants.{EncryptionSync as SyncField, LinkControl as LinkField}, declared.outcome.Outcome.TheVariants.{Read, Failing}}
-use Rattle.p25_voice_units.specs.{FieldLayouts.{link_layout, sync_layout, word_places}, Fixes.{low_fixes_of, voice_looked}, Images.{hamming10_word, voice_body, voice_image_of}}
-use Rattle.p25_voice_units.specs.{Layouts.{ldu_rows}, Lengths.{voice_length_of}, Readings.{voice_in, link_in, sync_in, ldu1_in, ldu2_in}, Sendable.{IsSendableVoice}}
-use Rattle.p25_voice_units.specs.declared.unit.VoiceUnit.TheVariants.{Link1, Link2}
+use Rattle.p25_voice_units.specs.{FieldLayouts.{link_layout, sync_layout, word_places}, Fixes.{low_fixes_of, voice_looked}, Images.{hamming10_word, voice_body, voice_image_of}, Layouts.{ldu_rows}}
+use Rattle.p25_voice_units.specs.{Lengths.{voice_length_of}, Readings.{voice_in, link_in, sync_in, ldu1_in, ldu2_in}, Sendable.{IsSendableVoice}, declared.unit.VoiceUnit.TheVariants.{Link1, Link2}}
 use Rattle.p25_voice_units.proofs.{CodesLaws.{link_code, sync_code}, CountedLaws.{end_fixes, ldu_fixes}, LengthsLaws.{length-header, length-ldu1, length-ldu2, length-tdulc, length-other}}
-use Rattle.p25_voice_units.proofs.KindsLaws.{ldu_read, long_by_kind, reading-header, reading-end, reading-ldu1, reading-ldu2, reading-tdulc, reading_by_kind}
-use Rattle.p25_voice_units.proofs.ReadingLaws.{unit_read}
+use Rattle.p25_voice_units.proofs.{KindsLaws.{ldu_read, long_by_kind, reading-header, reading-end, reading-ldu1, reading-ldu2, reading-tdulc, reading_by_kind}, ReadingLaws.{unit_read}}
 use Rattle.p25_voice_units.proofs.read.read_voice_in.Goals as goal
 
 -- so many bits as a unit with voice has
