@@ -7,7 +7,7 @@ ghost use Rattle.p25_coded_fields.specs.{Fixes.{field_fixes_of, IsInnerCount}, L
 
 use crate::fixes::{field_fixes, total_known};
 use p25_bits::BitBuf;
-use p25_code::{ErasedCode, NumberCode, Reading, read_with_erasures};
+use p25_code::{ErasedCode, NumberCode, Reading};
 use p25_gf64::Sym;
 use p25_link::put_symbols;
 
@@ -83,7 +83,7 @@ pub fn read_field<I: NumberCode, O: ErasedCode<Letter = Sym>>(
         let more = read_inner::<I>(bare, *at, &mut word[start..end], &mut erased[start..end]);
         counted = total_known(counted, more);
     }
-    match read_with_erasures::<O>(word, erased) {
+    match O::read_erased(word, erased) {
         Reading::Found { fixes } => Reading::Found {
             fixes: field_fixes::<I>(bare, places, word, fixes, counted),
         },

@@ -52,7 +52,11 @@ fn beginning_from(held: &BitBuf, clear: usize) -> Beginning
         let free = places_before_sync(held.field(k, (BEHIND + count) as u32), count);
         k += free;
         if free < count {
-            return beginning_before_sync(held, k);
+            return if k == 0 {
+                beginning_at_sync(held, Begun::new())
+            } else {
+                Beginning::Gap(k)
+            };
         }
     }
     if k == GAP_MOST {
@@ -89,21 +93,6 @@ fn none_of_eight(number: u64) -> bool
 {
     (number & ONES_AT_EVEN).count_ones() < ONES_LEAST
         && (number & ONES_AT_ODD).count_ones() < ONES_LEAST
-}
-
-// What is known of bits whose first sync is at a place.
-fn beginning_before_sync(held: &BitBuf, place: usize) -> Beginning
-    requires clear { place ≤ sync_place held.now }
-    requires few { place < 4096 }
-    requires there { place + 48 ≤ length held.now }
-    requires synced { has_sync (drop place held.now) ≡ true }
-    ensures { IsBeginning result held.now }
-{
-    if place == 0 {
-        beginning_at_sync(held, Begun::new())
-    } else {
-        Beginning::Gap(place)
-    }
 }
 
 // What is known of bits that begin with a sync.
@@ -180,33 +169,16 @@ fn judge_more(beginning: &mut Beginning, held: &BitBuf)
     requires unsettled { is_settled beginning.old ≡ false }
     ensures { IsBeginning beginning.new held.now }
 {
-    *beginning = beginning_after(*beginning, held);
-}
-
-// What is known once more bits have come.
-fn beginning_after(beginning: Beginning, held: &BitBuf) -> Beginning
-    requires was { WasBeginning beginning held.now }
-    requires unsettled { is_settled beginning ≡ false }
-    ensures { IsBeginning result held.now }
-{
-    match beginning {
-        Beginning::Searching(clear) => beginning_from(held, clear),
-        Beginning::Waiting(count, begun) => beginning_waiting(held, count, begun),
+    match *beginning {
+        Beginning::Searching(clear) => *beginning = beginning_from(held, clear),
+        Beginning::Waiting(count, begun) => {
+            if held.len() >= count {
+                *beginning = beginning_at_sync(held, begun);
+            }
+        }
         Beginning::Gap(_) => unreachable!(),
         Beginning::Ready(_, _) => unreachable!(),
         Beginning::NoUnit(_) => unreachable!(),
-    }
-}
-
-// What begins at a sync after which so many bits were waited for.
-fn beginning_waiting(held: &BitBuf, count: usize, begun: Begun) -> Beginning
-    requires { WasBeginning (Beginning.Waiting count begun) held.now }
-    ensures { IsBeginning result held.now }
-{
-    if held.len() < count {
-        Beginning::Waiting(count, begun)
-    } else {
-        beginning_at_sync(held, begun)
     }
 }
 

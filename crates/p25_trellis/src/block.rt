@@ -1,8 +1,8 @@
 //! Blocks: octets to sent bits, and received bits to the octets of the first nearest path.
 
-ghost use Rattle.std.specs.Prelude.{◌≡◌, ℕ, ◌+◌, ◌*◌, ◌^◌, ◌<◌, ◌≤◌, List, Bool, ◌++◌, All, length, take, drop};
-ghost use Rattle.p25_bits.specs.{Bits.{part}, Numbers.{number_bits}};
-ghost use Rattle.p25_trellis.specs.{Interleave.{interleaved}, Trellis.{IsBlock, IsFirstLeastReading, IsNearReading, distance_from}};
+ghost use Rattle.std.specs.Prelude.{◌≡◌, ◌+◌, ◌≤◌, List, Bool, ◌++◌, length};
+ghost use Rattle.p25_bits.specs.Bits.{part};
+ghost use Rattle.p25_trellis.specs.Trellis.{IsBlock, IsFirstLeastReading, IsNearReading, distance_from};
 ghost use Rattle.p25_trellis.specs.Nearest.{nearest_octets, nearest_distance, block_from};
 
 use super::exact::path_along;
@@ -39,25 +39,17 @@ pub fn read_block<R: Rate>(bits: &BitBuf, at: usize, octets: &mut [u8]) -> u32
     ensures distance { result ≡ nearest_distance R.STATES R.point_of (part at 196 bits.now) }
     ensures near { IsNearReading R.STATES R.BITS_PER_SYMBOL R.point_of R.APART (part at 196 bits.now) octets.new result }
 {
-    read_nibbles::<R>(&gather(&take_nibbles(bits, at)), octets)
-}
-
-// Reads a block by the nibbles that were received, as they are before they are interleaved. Mostly they are those of a path: then
-// no other is as near.
-fn read_nibbles<R: Rate>(received: &[u8; 49], octets: &mut [u8]) -> u32
-    requires nibbles { All (λ n. n < 16) received.now }
-    requires octets { length octets.old ≡ R.OCTETS }
-    ensures { IsFirstLeastReading R.STATES R.BITS_PER_SYMBOL (distance_from R.point_of (number_bits 4 (interleaved received.now))) octets.new result }
-{
-    match path_along::<R>(received) {
+    let received = gather(&take_nibbles(bits, at));
+    // Mostly they are the nibbles of a path: then no other is as near.
+    match path_along::<R>(&received) {
         Some(path) => {
             octets_of::<R>(&path, octets);
             0
         }
         None => {
-            let rests = near_rests::<R>(received);
+            let rests = near_rests::<R>(&received);
             take_path::<R, _>(
-                |step, state| first_symbol::<R>(received, &rests, step, state),
+                |step, state| first_symbol::<R>(&received, &rests, step, state),
                 octets,
             );
             u32::from(rests[0])

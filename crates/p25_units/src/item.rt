@@ -1,15 +1,13 @@
 //! What a stream is divided into.
 
-ghost use Rattle.std.specs.Prelude.{◌≡◌, ◌^◌, ◌<◌, ◌≤◌, Some, length, drop};
+ghost use Rattle.std.specs.Prelude.{◌≡◌, ◌^◌, ◌<◌, ◌≤◌, ℕ, length, drop};
 ghost use Rattle.p25_bits.specs.Bits.{part};
-ghost use Rattle.p25_unit_front.specs.Front.{front_fixes_of};
-ghost use Rattle.p25_units.specs.{Begins.{IsBegun}, Items.{IsSoundItem, covered, item_from, place_of, unit_item_of}, Needs.{kind_need, need_of}};
-ghost use Rattle.p25_units.specs.{declared.item.Item.TheVariants.{Broken}, declared.needs.Need.TheVariants.{Length}, Readings.{reading_from}};
+ghost use Rattle.p25_units.specs.{Begins.{IsBegun}, Items.{IsSoundItem, covered, place_of, unit_item_of}, Needs.{need_of}, declared.frame.Frame.{Frame}};
+ghost use Rattle.p25_units.specs.{declared.item.Item.TheVariants.{Whole}, declared.needs.Need.TheVariants.{Length}};
 
 use crate::begun::Begun;
 use crate::frame::{Frame, frame_length};
 use crate::read::read_frame;
-use p25_bch_nid::{Nid, ReadNid};
 use p25_bits::BitBuf;
 use p25_status::{Field, FieldList, Outcome};
 
@@ -75,6 +73,23 @@ impl Item {
             Item::Cut { place, .. } => *place,
         }
     }
+
+    // Makes it a whole unit, unless it is one: room into which a unit is read. It is large, so it is made apart from its caller.
+    #[inline(never)]
+    fn make_whole(&mut self)
+        ensures { (place : ℕ) × (frame : Frame) × (fixes : ℕ) × (self.new ≡ Whole place frame fixes) }
+    {
+        match self {
+            Item::Whole { .. } => {}
+            _ => {
+                *self = Item::Whole {
+                    place: 0,
+                    frame: Frame::blank(),
+                    fixes: 0,
+                };
+            }
+        }
+    }
 }
 
 /// Answers the item of the unit whose `count` sent bits begin at place `at`, where `need` answers that length there and
@@ -113,65 +128,30 @@ pub fn unit_item_in(
     let mut begun = begun;
     match begun.identify(bits, at) {
         None => unreachable!(),
-        Some(read) => match item {
-            // Where it is a whole unit, no room is moved.
-            Item::Whole {
-                place: held_place,
-                frame,
-                fixes,
-            } => {
-                *held_place = place;
-                match read_frame(bits, at, count, &read, &mut begun, room, frame) {
-                    Outcome::Read { wrong } => *fixes = wrong,
-                    Outcome::Failing { fields } => *item = broken_item(
-                        place, count, &read.nid, fields,
-                    ),
+        Some(read) => {
+            item.make_whole();
+            match item {
+                Item::Whole {
+                    place: held_place,
+                    frame,
+                    fixes,
+                } => {
+                    *held_place = place;
+                    match read_frame(bits, at, count, &read, &mut begun, room, frame) {
+                        Outcome::Read { wrong } => *fixes = wrong,
+                        Outcome::Failing { fields } => {
+                            *item = Item::Broken {
+                                place,
+                                length: count as u32,
+                                nac: read.nid.nac,
+                                duid: read.nid.duid,
+                                fields,
+                            };
+                        }
+                    }
                 }
+                _ => unreachable!(),
             }
-            _ => *item = new_item(bits, at, count, &read, &mut begun, place, room),
-        },
-    }
-}
-
-// The item of a unit whose network identifier (NID) was read. An item takes room, so it is made apart from its caller.
-#[inline(never)]
-fn new_item(
-    bits: &BitBuf,
-    at: usize,
-    count: usize,
-    read: &ReadNid,
-    begun: &mut Begun,
-    place: u64,
-    room: &mut BitBuf,
-) -> Item
-    requires there { at ≤ length bits.now }
-    requires kind { kind_need read.now.nid.duid (drop at bits.now) ≡ Length count }
-    requires front { read.now.wrong ≡ front_fixes_of (read.now.nid.nac, read.now.nid.duid) (drop at bits.now) }
-    requires begun { IsBegun begun.old (drop at bits.now) }
-    ensures { result ≡ item_from place (read.now.nid.nac, read.now.nid.duid) (part at count bits.now)
-        (reading_from (Some (read.now.nid.nac, read.now.nid.duid)) (part at count bits.now)) }
-{
-    let mut frame = Frame::blank();
-    match read_frame(bits, at, count, read, begun, room, &mut frame) {
-        Outcome::Read { wrong } => Item::Whole {
-            place,
-            frame,
-            fixes: wrong,
-        },
-        Outcome::Failing { fields } => broken_item(place, count, &read.nid, fields),
-    }
-}
-
-// The item of a unit some fields of which fail.
-fn broken_item(place: u64, count: usize, nid: &Nid, fields: FieldList) -> Item
-    requires { count ≤ 25920 }
-    ensures { result ≡ Broken place count nid.now.nac nid.now.duid fields }
-{
-    Item::Broken {
-        place,
-        length: count as u32,
-        nac: nid.nac,
-        duid: nid.duid,
-        fields,
+        }
     }
 }

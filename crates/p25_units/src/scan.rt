@@ -2,7 +2,7 @@
 
 ghost use Rattle.std.specs.Prelude.{◌≡◌, ◌+◌, ◌≤◌, true, length, drop};
 ghost use Rattle.p25_status.specs.Sync.{has_sync};
-ghost use Rattle.p25_units.specs.{Begins.{IsBegun}, Needs.{kind_need, length_need, need_of, packet_need}};
+ghost use Rattle.p25_units.specs.{Begins.{IsBegun}, Needs.{length_need, need_of}};
 
 use crate::begun::Begun;
 use crate::needs::Need;
@@ -57,39 +57,16 @@ pub fn need_synced(bits: &BitBuf, at: usize, begun: &mut Begun) -> Need
     if bits.len() - at < IDENTIFIED {
         return Need::More(IDENTIFIED);
     }
-    match begun.identify(bits, at) {
-        None => Need::NoLength(Field::Nid),
-        Some(read) => need_of_kind(read.nid.duid, bits, at, begun),
-    }
-}
-
-// What the unit of a DUID (HDU, LDU1, LDU2, TDU, TDULC or PDU) needs.
-fn need_of_kind(duid: u8, bits: &BitBuf, at: usize, begun: &mut Begun) -> Need
-    requires there { at ≤ length bits.now }
-    requires begun { IsBegun begun.old (drop at bits.now) }
-    ensures need { result ≡ kind_need duid (drop at bits.now) }
-    ensures begun { IsBegun begun.new (drop at bits.now) }
-{
-    if duid == PDU {
-        return need_of_packet(bits, at, begun);
-    }
-    match voice_length(duid) {
-        None => Need::NoLength(Field::Duid),
-        Some(bare) => need_of_length(
-            bare / BARE_BLOCK_LENGTH * SENT_BLOCK_LENGTH,
-            bits.len() - at,
-        ),
-    }
-}
-
-// What a packet (PDU) needs.
-fn need_of_packet(bits: &BitBuf, at: usize, begun: &mut Begun) -> Need
-    requires there { at ≤ length bits.now }
-    requires begun { IsBegun begun.old (drop at bits.now) }
-    ensures need { result ≡ packet_need (drop at bits.now) }
-    ensures begun { IsBegun begun.new (drop at bits.now) }
-{
+    let Some(read) = begun.identify(bits, at) else {
+        return Need::NoLength(Field::Nid);
+    };
     let have = bits.len() - at;
+    if read.nid.duid != PDU {
+        return match voice_length(read.nid.duid) {
+            None => Need::NoLength(Field::Duid),
+            Some(bare) => need_of_length(bare / BARE_BLOCK_LENGTH * SENT_BLOCK_LENGTH, have),
+        };
+    }
     if have < HEADED {
         return Need::More(HEADED);
     }

@@ -2,7 +2,7 @@
 use Rattle.std.proofs.Common.{◌≡◌, ℕ, zero, suc, ◌+◌, ◌/◌, ◌%◌, ◌^◌, ◌<◌, ◌≤◌, Bool, true, false, List, [], ◌∷◌, ◌++◌, length, take, map, set, slice_index, Option, Some, None, IfSome, option_map, refl, subst, ap, ap₂, sym, ◌∙◌, arith, lit≤}
 use Rattle.std.proofs.lemmas.List.{append-nil, map_more, take_all, take_more_set}
 use Rattle.std.specs.Option.{is_some}
-use Rattle.p25_bits.specs.Bits.{bits_of, field_of, part}
+use Rattle.p25_bits.specs.Bits.{bits_of, field_of}
 use Rattle.p25_bits.proofs.BitsLaws.{field_of-bits_of, take-bits_of}
 use Rattle.p25_status.specs.declared.fields.Field.{Field}
 use Rattle.p25_voice_units.specs.{declared.voice.VoiceFrame.{VoiceFrame}, Layouts.{ldu_rows}, Readings.{frame_places, low_places, frame_in, voice_in, missing}}

@@ -7,7 +7,7 @@ ghost use Rattle.p25_reed_solomon.specs.{Encoding.{rs_word}, Words.{IsCode}, RsR
 ghost use Rattle.p25_coded_fields.specs.{Fixes.{field_fixes_of}, Layouts.{field_layout, field_reading_of}, Written.{Encodes}};
 ghost use Rattle.p25_voice_units.specs.{FieldLayouts.{tdulc_layout, word_places}, Fixes.{AreFixes, low_fixes_of}, Images.{hamming10_word}, Layouts.{ldu_rows}};
 ghost use Rattle.p25_voice_units.specs.Lengths.{voice_length_of};
-ghost use Rattle.p25_voice_units.specs.Readings.{voice_in, low_in, header_in, link_in, missing, failing, header_from, ldu_from, ldu1_in, ldu2_in, tdulc_from, voice_reading_of};
+ghost use Rattle.p25_voice_units.specs.Readings.{voice_in, low_in, header_in, link_in, missing, failing, header_from, ldu_from, tdulc_from, voice_reading_of};
 ghost use Rattle.p25_voice_units.specs.declared.unit.VoiceUnit.{VoiceUnit as voice_unit};
 ghost use Rattle.p25_status.specs.Outcomes.{read_or, IfRead};
 
@@ -161,48 +161,6 @@ fn read_hdu(bare: &BitBuf, unit: &mut VoiceUnit) -> Outcome
     }
 }
 
-// Sets `unit` to an LDU1, voice with link control (LC).
-fn read_ldu1(bare: &BitBuf, unit: &mut VoiceUnit) -> Outcome
-    requires { 1680 ≤ length bare.now }
-    ensures value { read_or result unit.new ≡ ldu1_in bare.now }
-    ensures wrong { IfRead result (λ wrong. AreFixes unit.new bare.now wrong) }
-    ensures most { IfRead result (λ wrong. wrong ≤ 864) }
-{
-    let (mut symbols, mut low) = ([Sym::ZERO; 12], [0; 2]);
-    match read_ldu::<12>(bare, Field::LinkControl, &mut symbols, &mut low) {
-        Outcome::Read { wrong } => {
-            *unit = VoiceUnit::Link1 {
-                link: LinkControl::from_symbols(&symbols),
-                low,
-                voice: read_frames(bare),
-            };
-            Outcome::Read { wrong }
-        }
-        Outcome::Failing { fields } => Outcome::Failing { fields },
-    }
-}
-
-// Sets `unit` to an LDU2, voice with encryption sync (ES).
-fn read_ldu2(bare: &BitBuf, unit: &mut VoiceUnit) -> Outcome
-    requires { 1680 ≤ length bare.now }
-    ensures value { read_or result unit.new ≡ ldu2_in bare.now }
-    ensures wrong { IfRead result (λ wrong. AreFixes unit.new bare.now wrong) }
-    ensures most { IfRead result (λ wrong. wrong ≤ 864) }
-{
-    let (mut symbols, mut low) = ([Sym::ZERO; 16], [0; 2]);
-    match read_ldu::<16>(bare, Field::EncryptionSync, &mut symbols, &mut low) {
-        Outcome::Read { wrong } => {
-            *unit = VoiceUnit::Link2 {
-                sync: EncryptionSync::from_symbols(&symbols),
-                low,
-                voice: read_frames(bare),
-            };
-            Outcome::Read { wrong }
-        }
-        Outcome::Failing { fields } => Outcome::Failing { fields },
-    }
-}
-
 // Sets `unit` to a TDULC, a terminator with link control (LC).
 fn read_tdulc(bare: &BitBuf, unit: &mut VoiceUnit) -> Outcome
     requires { 420 ≤ length bare.now }
@@ -251,14 +209,35 @@ pub fn read_voice_in(duid: u8, bare: &BitBuf, unit: &mut VoiceUnit) -> Outcome
     ensures wrong { IfRead result (λ wrong. AreFixes unit.new bare.now wrong) }
     ensures most { IfRead result (λ wrong. wrong ≤ 864) }
 {
+    let (mut link, mut sync, mut low) = ([Sym::ZERO; 12], [Sym::ZERO; 16], [0; 2]);
     match duid {
         HDU => read_hdu(bare, unit),
         TDU => {
             *unit = VoiceUnit::End;
             Outcome::Read { wrong: 0 }
         }
-        LDU1 => read_ldu1(bare, unit),
-        LDU2 => read_ldu2(bare, unit),
+        LDU1 => match read_ldu::<12>(bare, Field::LinkControl, &mut link, &mut low) {
+            Outcome::Read { wrong } => {
+                *unit = VoiceUnit::Link1 {
+                    link: LinkControl::from_symbols(&link),
+                    low,
+                    voice: read_frames(bare),
+                };
+                Outcome::Read { wrong }
+            }
+            Outcome::Failing { fields } => Outcome::Failing { fields },
+        },
+        LDU2 => match read_ldu::<16>(bare, Field::EncryptionSync, &mut sync, &mut low) {
+            Outcome::Read { wrong } => {
+                *unit = VoiceUnit::Link2 {
+                    sync: EncryptionSync::from_symbols(&sync),
+                    low,
+                    voice: read_frames(bare),
+                };
+                Outcome::Read { wrong }
+            }
+            Outcome::Failing { fields } => Outcome::Failing { fields },
+        },
         TDULC => read_tdulc(bare, unit),
         _ => Outcome::Failing {
             fields: FieldList::new(),

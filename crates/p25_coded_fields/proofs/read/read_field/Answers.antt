@@ -1,12 +1,35 @@
-use Rattle.std.proofs.{Common.{◌≡◌, ◌+◌, ◌-◌, ◌*◌, ◌/◌, ◌<◌, ◌≤◌, List, length, take, drop, get_or, IfSome, refl, sym, subst, ap, ◌∙◌, arith}, Math.Nat.{mul_comm}}
+use Rattle.std.proofs.{Common.{◌≡◌, ◌+◌, ◌-◌, ◌*◌, ◌/◌, ◌<◌, ◌≤◌, List, length, take, drop, get_or, IfSome, refl, sym, subst, ap, ◌∙◌, arith}, Math.Nat.{mul_comm}, lemmas.Cmp.{on_equiv, nat_eq_equiv}}
 use Rattle.p25_bits.specs.Bits.{part}
-use Rattle.p25_code.specs.Readings.{word_read}
-use Rattle.p25_gf64.specs.declared.symbol.Sym.{Sym}
+use Rattle.p25_code.specs.{Erasures.{without_erased}, Readings.{word_read}}
+use Rattle.p25_code.proofs.{ReadingLaws.{IsBlockCode}, ErasedLaws.{erased_word_read_as, length-without_erased, one_erased_reading}}
+use Rattle.p25_gf64.specs.{declared.symbol.Sym.{Sym}, Symbol.{number}}
 use Rattle.p25_gf64.proofs.SymbolLaws.{same_from_eq}
 use Rattle.p25_coded_fields.specs.{Fixes.{AreCounted}, Layouts.{field_layout, symbols_or_erasures}}
 use Rattle.p25_coded_fields.proofs.{SymbolsLaws.{length_group, room_at}, FixesLaws.{counted_all, counted_next, counted_none, all_groups}}
-use Rattle.p25_coded_fields.proofs.ReadLaws.{cut_long, erased_before, erased_next, outer_read, unchanged}
+use Rattle.p25_coded_fields.proofs.{ReadLaws.{cut_long, erased_before, erased_next, outer_read, unchanged}, read.read_field.Goals.{After-read_erased}}
 use Rattle.p25_coded_fields.proofs.read.read_field.Goals as goal
+use Rattle.p25_coded_fields.proofs.read.read_field.Given as given
+
+-- what the outer code reads is its word within the cost
+outer_value : (g : given.Over) (c : After-read_erased g)
+    → word_read c.read_erased.result c.read_erased.new.word ≡ g.O.ErasedCode.erased_reading_is (without_erased c.loop-i.word c.loop-i.erased)
+outer_value g c =
+    let m = g.met.O.BlockCode in
+    let o = g.O.BlockCode in
+    let code = c.requires.outer in
+    let list = without_erased c.loop-i.word c.loop-i.erased in
+    let laws : IsBlockCode _ o.IsWord o.N o.K o.radius_is o.distance_is = record {
+      compares = on_equiv number nat_eq_equiv;
+      alike = same_from_eq;
+      long = m.length_of_word code;
+      one_word = m.one_word code;
+      far_apart = m.far_apart code;
+      close = m.within code;
+      begins = m.begins code;
+    } in
+    let long : length list ≡ o.N = length-without_erased c.loop-i.word c.loop-i.erased ∙ c.loop-i.auto.word ∙ c.requires.word in
+    one_erased_reading laws (g.met.O.ErasedCode.erasures_within code) list (word_read c.read_erased.result c.read_erased.new.word) (g.O.ErasedCode.erased_reading_is list) long
+    (erased_word_read_as _ o.IsWord _ list c.loop-i.word c.read_erased.new.word c.read_erased.result c.read_erased.ensures) (g.met.O.ErasedCode.erased_reads_as code list)
 
 pub loop-i-init : goal.loop-i-init
 loop-i-init g c =
@@ -48,8 +71,8 @@ pub field_fixes-requires-clause-counted : goal.field_fixes-requires-clause-count
 field_fixes-requires-clause-counted g c = λ none.
     let b = g.I.BlockCode in
     let places = c.args.places.now in
-    let word = c.read_with_erasures.new.word in
-    let same : c.loop-i.word ≡ word = unchanged _ _ _ _ c.loop-i.word word c.in-Found.fixes same_from_eq c.in-Found.ensures.reading (omega arith) none in
+    let word = c.read_erased.new.word in
+    let same : c.loop-i.word ≡ word = unchanged _ _ _ _ c.loop-i.word word c.in-Found.fixes same_from_eq c.in-Found.ensures (omega arith) none in
     subst (λ (xs : List Sym). IfSome c.loop-i.counted (AreCounted b.IsWord b.N b.K (b.K / 6) (length places) places xs c.args.bare.now)) same
     (all_groups (λ each i xs. IfSome c.loop-i.counted (AreCounted b.IsWord b.N b.K each i places xs c.args.bare.now)) (c.K-each.result / 6) (b.K / 6) c.loop-i.i (length places) c.loop-i.word
     (ap (λ n. n / 6) c.K-each.ensures) (omega arith) (omega arith) (c.requires.places ∙ omega arith) c.loop-i.invariant.counted)
@@ -60,11 +83,11 @@ returns-in-Beyond-clause-value g c =
     let b = g.I.BlockCode in
     let places = c.args.places.now in
     let layout = field_layout places b.N (b.K / 6) b.reading_is g.O.ErasedCode.erased_reading_is g.O.BlockCode.K in
-    sym (ap (λ a. word_read a c.read_with_erasures.new.word) c.in-Beyond.is)
-    ∙ outer_read layout c.args.bare.now (c.K-each.result / 6) c.loop-i.i c.loop-i.word c.loop-i.erased (word_read c.read_with_erasures.result c.read_with_erasures.new.word)
+    sym (ap (λ a. word_read a c.read_erased.new.word) c.in-Beyond.is)
+    ∙ outer_read layout c.args.bare.now (c.K-each.result / 6) c.loop-i.i c.loop-i.word c.loop-i.erased (word_read c.read_erased.result c.read_erased.new.word)
     (ap (λ n. n / 6) c.K-each.ensures) (omega arith) (mul_comm (b.K / 6) (length places) ∙ c.requires.places ∙ omega arith)
     (cut_long (length c.args.word.now) _ c.loop-i.erased c.loop-i.auto.erased (omega arith) ∙ sym c.loop-i.auto.word)
-    c.loop-i.invariant.erasures c.read_with_erasures.ensures.value
+    c.loop-i.invariant.erasures (outer_value g (goal.at.returns-in-Beyond-clause-value g c).After-read_erased)
 
 pub returns-in-Found-clause-value : goal.returns-in-Found-clause-value
 unfolding word_read
@@ -72,18 +95,18 @@ returns-in-Found-clause-value g c =
     let b = g.I.BlockCode in
     let places = c.args.places.now in
     let layout = field_layout places b.N (b.K / 6) b.reading_is g.O.ErasedCode.erased_reading_is g.O.BlockCode.K in
-    sym (ap (λ a. word_read a c.read_with_erasures.new.word) c.in-Found.is)
-    ∙ outer_read layout c.args.bare.now (c.K-each.result / 6) c.loop-i.i c.loop-i.word c.loop-i.erased (word_read c.read_with_erasures.result c.read_with_erasures.new.word)
+    sym (ap (λ a. word_read a c.read_erased.new.word) c.in-Found.is)
+    ∙ outer_read layout c.args.bare.now (c.K-each.result / 6) c.loop-i.i c.loop-i.word c.loop-i.erased (word_read c.read_erased.result c.read_erased.new.word)
     (ap (λ n. n / 6) c.K-each.ensures) (omega arith) (mul_comm (b.K / 6) (length places) ∙ c.requires.places ∙ omega arith)
     (cut_long (length c.args.word.now) _ c.loop-i.erased c.loop-i.auto.erased (omega arith) ∙ sym c.loop-i.auto.word)
-    c.loop-i.invariant.erasures c.read_with_erasures.ensures.value
+    c.loop-i.invariant.erasures (outer_value g (goal.at.returns-in-Found-clause-value g c).After-read_erased)
 
 pub returns-in-Found-clause-fixes : goal.returns-in-Found-clause-fixes
 returns-in-Found-clause-fixes g c = λ some encoding encodes fixes found.
     let b = g.I.BlockCode in
     let information : 0 < b.K / 6 = omega (arith, c.requires.sixes) in
     let same : c.field_fixes.result ≡ fixes = cc in
-    sym same ∙ counted_all (b.K / 6) c.args.places.now c.read_with_erasures.new.word c.args.bare.now c.field_fixes.result c.field_fixes.ensures information encoding encodes
+    sym same ∙ counted_all (b.K / 6) c.args.places.now c.read_erased.new.word c.args.bare.now c.field_fixes.result c.field_fixes.ensures information encoding encodes
 
 pub returns-in-Found-clause-most : goal.returns-in-Found-clause-most
 returns-in-Found-clause-most g c = λ some fixes found.

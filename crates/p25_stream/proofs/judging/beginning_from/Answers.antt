@@ -1,17 +1,29 @@
-use Rattle.std.proofs.Common.{◌≡◌, ℕ, sym, ◌∙◌, subst, arith}
-use Rattle.p25_stream.specs.Beginnings.{IsKnownGap}
-use Rattle.p25_stream.proofs.{BeginningsLaws.{beginning-gap, beginning-searching, gap-full}, JudgingSteps.{places-free, window_in}}
+use Rattle.std.proofs.Common.{◌≡◌, ◌+◌, ◌≤◌, ℕ, Bool, List, true, drop, ap, sym, ◌∙◌, subst, arith}
+use Rattle.p25_status.specs.Sync.{has_sync}
+use Rattle.p25_stream.specs.{Beginnings.{IsKnownGap}, Items.{sync_place}}
+use Rattle.p25_stream.proofs.{BeginningsLaws.{beginning-gap, beginning-searching, gap-before_sync, gap-full}, JudgingSteps.{places-free, window_in}}
 use Rattle.p25_stream.proofs.judging.beginning_from.Goals as goal
 
-pub beginning_before_sync-requires-clause-clear : goal.beginning_before_sync-requires-clause-clear
-beginning_before_sync-requires-clause-clear c =
-    let free = c.places_before_sync-free.ensures in
-    places-free c.args.held.now c.loop-k.k c.min-count.result c.places_before_sync-free.result c.field.result (omega arith) free.most c.field.ensures.value c.loop-k.invariant.0 free.none
+-- a sync at the first place is one at the beginning
+first-synced : (held : List Bool) (place : ℕ) → place ≡ 0 → has_sync (drop place held) ≡ true → has_sync held ≡ true
+first-synced held place first synced = ap (λ n. has_sync (drop n held)) (sym first) ∙ synced
 
-pub beginning_before_sync-requires-clause-synced : goal.beginning_before_sync-requires-clause-synced
-beginning_before_sync-requires-clause-synced c =
-    sym (window_in c.args.held.now c.loop-k.k c.min-count.result c.places_before_sync-free.result c.field.result (omega arith) c.if-free-count.true c.field.ensures.value)
-    ∙ c.places_before_sync-free.ensures.sync c.if-free-count.true
+pub beginning_at_sync-requires-clause-synced : goal.beginning_at_sync-requires-clause-synced
+beginning_at_sync-requires-clause-synced c = first-synced c.args.held.now _ (omega arith)
+    (sym (window_in c.args.held.now c.loop-k.k c.min-count.result c.places_before_sync-free.result c.field.result (omega arith) c.if-free-count.true c.field.ensures.value)
+    ∙ c.places_before_sync-free.ensures.sync c.if-free-count.true)
+
+pub returns-else-k-eq0 : goal.returns-else-k-eq0
+returns-else-k-eq0 c =
+    let free = c.places_before_sync-free.ensures in
+    let held = c.args.held.now in
+    let place = c.loop-k.k + c.places_before_sync-free.result in
+    let clear : place ≤ sync_place held =
+    places-free held c.loop-k.k c.min-count.result c.places_before_sync-free.result c.field.result (omega arith) free.most c.field.ensures.value c.loop-k.invariant.0 free.none in
+    let synced : has_sync (drop place held) ≡ true =
+    sym (window_in held c.loop-k.k c.min-count.result c.places_before_sync-free.result c.field.result (omega arith) c.if-free-count.true c.field.ensures.value)
+    ∙ free.sync c.if-free-count.true in
+    beginning-gap held place (gap-before_sync held place (omega arith) (omega arith) clear (omega arith) synced)
 
 pub loop-k-preserved : goal.loop-k-preserved
 loop-k-preserved c =

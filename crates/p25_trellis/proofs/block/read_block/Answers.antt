@@ -1,40 +1,97 @@
-use Rattle.std.proofs.{Common.{ℕ, ◌*◌, ◌<◌, ◌≤◌, Bool, List, length, drop, sym, ap, subst, ◌∙◌, arith, length-drop}, lemmas.List.Elements.{All-same}}
+use Rattle.std.proofs.{Common.{rules, ◌≡◌, ℕ, ◌+◌, ◌*◌, ◌<◌, ◌≤◌, All, Bool, List, length, drop, refl, sym, ap, subst, ◌∙◌, arith, length-drop}, lemmas.List.Elements.{All-same}}
+use Rattle.std.proofs.iter.Serving.{serving}
 use Rattle.p25_bits.specs.{Bits.{part}, Numbers.{number_bits, numbers_from}}
-use Rattle.p25_trellis.specs.{Interleave.{interleaved}, Trellis.{IsFirstLeastReading, distance_from}}
+use Rattle.p25_trellis.specs.{Costs.{path_cost, received_cost}, Interleave.{interleaved}, Least.{rest_in}, TableLaws.{IsRate}, Trellis.{IsFirstLeastReading, IsNearReading, distance_from, sent_bits}}
+use Rattle.p25_trellis.specs.Nearest.{nearest_octets, nearest_distance}
 use Rattle.p25_bits.proofs.{NumbersLaws.{All-numbers_from, number_bits-numbers_from}, PartLaws.{length-part}}
-use Rattle.p25_trellis.proofs.{InterleaveLaws.{All-from_interleaved}, PathLaws.{power-pos}, NearestLaws.{same_nearest}, ApartLaws.{same_from_sent_bits, IsNearReading-from}}
+use Rattle.p25_trellis.proofs.{CostLaws.{rest_in-first}, DistanceLaws.{path_cost-distance, IsFirstLeastReading-same}}
+use Rattle.p25_trellis.proofs.{ApartLaws.{same_from_sent_bits, IsNearReading-from}, ExactSteps.{IsFirstLeast-exact, at_no_distance}, InterleaveLaws.{All-from_interleaved}, NearestLaws.{same_nearest}}
+use Rattle.p25_trellis.proofs.PathLaws.{power-pos}
 use Rattle.p25_trellis.proofs.block.read_block.Goals as goal
 
-pub read_nibbles-requires-clause-nibbles : goal.read_nibbles-requires-clause-nibbles
-read_nibbles-requires-clause-nibbles g c =
-    let P : ℕ → Type 0 = λ n. n < 16 in
-    All-from_interleaved P c.gather.result
-    (All-same P (interleaved c.gather.result) (numbers_from 4 49 (drop c.args.at c.args.bits.now)) (c.gather.ensures.sent ∙ c.take_nibbles.ensures.value) (All-numbers_from 4 49 (drop c.args.at c.args.bits.now)))
+-- the nibbles of a block, as they are before they are interleaved
+are_nibbles : (bits : List Bool) (at : ℕ) (received : List ℕ) → interleaved received ≡ numbers_from 4 49 (drop at bits) → All (λ n. n < 16) received
+are_nibbles bits at received is =
+    All-from_interleaved (λ n. n < 16) received (All-same (λ n. n < 16) (interleaved received) (numbers_from 4 49 (drop at bits)) is (All-numbers_from 4 49 (drop at bits)))
 
-pub returns-clause-nearest : goal.returns-clause-nearest
-returns-clause-nearest g c =
-    let there : 4 * 49 ≤ length (drop c.args.at c.args.bits.now) = omega (arith, length-drop c.args.at c.args.bits.now, c.requires.there) in
-    let are = sym (number_bits-numbers_from 4 49 (drop c.args.at c.args.bits.now) there) ∙ ap (number_bits 4) (sym c.take_nibbles.ensures.value ∙ sym c.gather.ensures.sent) in
-    subst (λ (bits : List Bool). IsFirstLeastReading g.R.Rate.STATES g.R.Rate.BITS_PER_SYMBOL (distance_from g.R.Rate.point_of bits) c.read_nibbles.new.octets c.read_nibbles.result)
-    (sym are) c.read_nibbles.ensures
+-- and the bits that they write
+are_bits : (bits : List Bool) (at : ℕ) (received : List ℕ) → interleaved received ≡ numbers_from 4 49 (drop at bits) → at + 196 ≤ length bits
+    → part at 196 bits ≡ number_bits 4 (interleaved received)
+are_bits bits at received is there =
+    let long : 4 * 49 ≤ length (drop at bits) = omega (arith, length-drop at bits, there) in
+    sym (number_bits-numbers_from 4 49 (drop at bits) long) ∙ ap (number_bits 4) (sym is)
 
-pub returns-clause-octets : goal.returns-clause-octets
-returns-clause-octets g c =
-    let received = part c.args.at 196 c.args.bits.now in
-    let some = power-pos g.R.Rate.BITS_PER_SYMBOL g.R.Rate.STATES g.met.R.Rate.table.states_of_bits in
-    (same_nearest g.R.Rate.STATES g.R.Rate.BITS_PER_SYMBOL g.R.Rate.point_of received c.read_nibbles.new.octets c.read_nibbles.result some (returns-clause-nearest g c)).0
+-- all that a reading comes to, where it is the first nearest
+record IsReadBlock (states width apart : ℕ) (point : ℕ → ℕ → ℕ) (received : List Bool) (octets : List ℕ) (distance : ℕ) : Type 0 where
+  nearest : IsFirstLeastReading states width (distance_from point received) octets distance
+  octets_are : octets ≡ nearest_octets states width point received
+  distance_is : distance ≡ nearest_distance states point received
+  near : IsNearReading states width point apart received octets distance
 
-pub returns-clause-distance : goal.returns-clause-distance
-returns-clause-distance g c =
-    let received = part c.args.at 196 c.args.bits.now in
-    let some = power-pos g.R.Rate.BITS_PER_SYMBOL g.R.Rate.STATES g.met.R.Rate.table.states_of_bits in
-    (same_nearest g.R.Rate.STATES g.R.Rate.BITS_PER_SYMBOL g.R.Rate.point_of received c.read_nibbles.new.octets c.read_nibbles.result some (returns-clause-nearest g c)).1
+read_from : {states width count apart : ℕ} {point parted : ℕ → ℕ → ℕ} → IsRate states width count apart point parted → (bits : List Bool) (at : ℕ) (received : List ℕ) (octets : List ℕ) (distance : ℕ)
+    → interleaved received ≡ numbers_from 4 49 (drop at bits) → at + 196 ≤ length bits
+    → IsFirstLeastReading states width (distance_from point (number_bits 4 (interleaved received))) octets distance
+    → IsReadBlock states width apart point (part at 196 bits) octets distance
+read_from {states} {width} {apart = apart} {point} {parted} law bits at received octets distance is there reading =
+    let some = power-pos width states law.states_of_bits in
+    let nearest = subst (λ (xs : List Bool). IsFirstLeastReading states width (distance_from point xs) octets distance) (sym (are_bits bits at received is there)) reading in
+    let same = same_nearest states width point (part at 196 bits) octets distance some nearest in
+    let far = same_from_sent_bits states apart point parted some law.together law.stays_parted law.parts in
+    record {
+      nearest = nearest;
+      octets_are = same.0;
+      distance_is = same.1;
+      near = IsNearReading-from states width apart point (part at 196 bits) octets distance far (length-part at 196 bits there) nearest;
+    }
 
-pub returns-clause-near : goal.returns-clause-near
-returns-clause-near g c =
+pub path_along-requires : goal.path_along-requires
+path_along-requires g c = are_nibbles c.args.bits.now c.args.at c.gather-received.result (c.gather-received.ensures.sent ∙ c.take_nibbles.ensures.value)
+
+pub near_rests-rests-requires : goal.near_rests-rests-requires
+near_rests-rests-requires g c = are_nibbles c.args.bits.now c.args.at c.gather-received.result (c.gather-received.ensures.sent ∙ c.take_nibbles.ensures.value)
+
+pub take_path-requires-clause-callable : goal.take_path-requires-clause-callable
+take_path-requires-clause-callable g c =
+    let small = are_nibbles c.args.bits.now c.args.at c.gather-received.result (c.gather-received.ensures.sent ∙ c.take_nibbles.ensures.value) in
+    grind (serving, small)
+
+pub returns-in-Some : goal.returns-in-Some
+unfolding sent_bits
+returns-in-Some g c =
     let law = g.met.R.Rate.table in
-    let bits = part c.args.at 196 c.args.bits.now in
-    IsNearReading-from g.R.Rate.STATES g.R.Rate.BITS_PER_SYMBOL g.R.Rate.APART g.R.Rate.point_of bits c.read_nibbles.new.octets c.read_nibbles.result
-    (same_from_sent_bits g.R.Rate.STATES g.R.Rate.APART g.R.Rate.point_of g.R.Rate.parted (power-pos g.R.Rate.BITS_PER_SYMBOL g.R.Rate.STATES law.states_of_bits) law.together law.stays_parted law.parts)
-    (length-part c.args.at 196 c.args.bits.now c.requires.there)
-    (returns-clause-nearest g c)
+    let point = g.R.Rate.point_of in
+    let path = c.in-Some.path in
+    let received = c.gather-received.result in
+    let sent = number_bits 4 (interleaved received) in
+    let sends : sent_bits point path ≡ sent = ap (λ (nibbles : List ℕ). number_bits 4 (interleaved nibbles)) c.in-Some.ensures.1 in
+    let some = power-pos g.R.Rate.BITS_PER_SYMBOL g.R.Rate.STATES law.states_of_bits in
+    let far = same_from_sent_bits g.R.Rate.STATES g.R.Rate.APART point g.R.Rate.parted some law.together law.stays_parted law.parts in
+    let reading : IsFirstLeastReading g.R.Rate.STATES g.R.Rate.BITS_PER_SYMBOL (distance_from point sent) c.octets_of.new.octets 0 = record {
+      path = path;
+      first_least = IsFirstLeast-exact g.R.Rate.STATES g.R.Rate.APART point sent path law.some_apart far c.in-Some.ensures.0 sends;
+      carries = c.octets_of.ensures;
+      total_is = sym (at_no_distance point sent path sends);
+    } in
+    let read = read_from law c.args.bits.now c.args.at received c.octets_of.new.octets 0 (c.gather-received.ensures.sent ∙ c.take_nibbles.ensures.value) c.requires.there reading in
+    record { nearest = read.nearest; octets = read.octets_are; distance = read.distance_is; near = read.near }
+
+pub returns-in-None : goal.returns-in-None
+returns-in-None g c =
+    let states = g.R.Rate.STATES in
+    let width = g.R.Rate.BITS_PER_SYMBOL in
+    let point = g.R.Rate.point_of in
+    let received = c.gather-received.result in
+    let bits = number_bits 4 (interleaved received) in
+    let some = power-pos width states g.met.R.Rate.table.states_of_bits in
+    let rests = c.near_rests-rests.result in
+    let octets = c.take_path.new.octets in
+    let costs
+    = subst (λ (total : ℕ). IsFirstLeastReading states width (path_cost point (received_cost received)) octets total)
+    (rest_in-first rests ∙ sym c.from.ensures)
+    (c.take_path.ensures (received_cost received) rests c.near_rests-rests.ensures.least
+    (record { at = λ step state symbol early row answers. (rest_in rests step state, search rules) })) in
+    let reading = IsFirstLeastReading-same states width (path_cost point (received_cost received)) (distance_from point bits) octets c.from.result
+    (path_cost-distance states point received bits some g.met.R.Rate.table.nibbles c.gather-received.ensures.len refl)
+    costs in
+    let read = read_from g.met.R.Rate.table c.args.bits.now c.args.at received octets c.from.result (c.gather-received.ensures.sent ∙ c.take_nibbles.ensures.value) c.requires.there reading in
+    record { nearest = read.nearest; octets = read.octets_are; distance = read.distance_is; near = read.near }
