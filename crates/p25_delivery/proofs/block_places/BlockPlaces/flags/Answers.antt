@@ -1,7 +1,7 @@
 use Rattle.std.proofs.{Common.{◌≡◌, ◌<◌, length, ap, ◌∙◌, arith, refl}, lemmas.Option.{slice_get_read}}
 use Rattle.std.specs.Prelude.{is_some}
-use Rattle.p25_delivery.proofs.{ListLaws.{flags_set, flags_length}, kept.Kept.flags.Goals.{then-len-le64, else-len-le64}}
-use Rattle.p25_delivery.proofs.kept.Kept.flags.Goals as goal
+use Rattle.p25_delivery.proofs.{ListLaws.{flags_set, flags_length}, block_places.BlockPlaces.flags.Goals.{then-len-le64, else-len-le64}}
+use Rattle.p25_delivery.proofs.block_places.BlockPlaces.flags.Goals as goal
 
 pub loop-i-preserved : goal.loop-i-preserved
 loop-i-preserved c =

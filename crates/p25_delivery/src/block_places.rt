@@ -8,12 +8,12 @@ use std::marker::Model;
 
 // The places of a message's blocks, from 1 to 127 of them, each empty or with its block, and the number of pad octets.
 #[derive(Clone, Debug, PartialEq, Eq, Drop)]
-pub(crate) struct Kept {
+pub(crate) struct BlockPlaces {
     places: ArrayVec<Option<Block>, 127>,
     pad: u8,
 }
 
-impl Model for Kept {
+impl Model for BlockPlaces {
     ghost Value = { Keeping };
 
     ghost view = { λ kept. record { places = kept.places.items; pad = kept.pad } };
@@ -23,9 +23,9 @@ impl Model for Kept {
     ghost inverse = { λ kept. record { places = record { items = kept.places }; pad = kept.pad } };
 }
 
-impl Kept {
+impl BlockPlaces {
     // So many empty places, and a pad.
-    pub(crate) fn new(blocks: u8, pad: u8) -> Kept
+    pub(crate) fn new(blocks: u8, pad: u8) -> BlockPlaces
         requires some { 0 < blocks }
         requires most { blocks ≤ 127 }
         ensures { result ≡ empty_places blocks pad }
@@ -34,7 +34,7 @@ impl Kept {
         for _place in 0..blocks {
             places.push(None);
         }
-        Kept { places, pad }
+        BlockPlaces { places, pad }
     }
 
     // Whether there are so many places and this pad.

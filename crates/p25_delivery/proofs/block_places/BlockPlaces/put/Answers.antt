@@ -1,9 +1,9 @@
 use Rattle.std.proofs.Common.{◌≡◌, ◌∙◌, length, take, refl, ap, sym, arith, Some}
 use Rattle.std.specs.Prelude.{slice_get}
 use Rattle.p25_packet_blocks.specs.declared.block.Slot.TheVariants.{Good}
-use Rattle.p25_delivery.specs.{Places.{put_block}, declared.kept.Kept.TheInside.{Inside}}
-use Rattle.p25_delivery.proofs.{PlacesLaws.{put_slots-nil, length-put_slots, put_slots-good, put_slots-bad}, kept.Kept.put.Goals.{in-Good, in_default}}
-use Rattle.p25_delivery.proofs.kept.Kept.put.Goals as goal
+use Rattle.p25_delivery.specs.{Places.{put_block}, declared.block_places.BlockPlaces.TheInside.{Inside}}
+use Rattle.p25_delivery.proofs.{PlacesLaws.{put_slots-nil, length-put_slots, put_slots-good, put_slots-bad}, block_places.BlockPlaces.put.Goals.{in-Good, in_default}}
+use Rattle.p25_delivery.proofs.block_places.BlockPlaces.put.Goals as goal
 
 pub loop-j-init : goal.loop-j-init
 loop-j-init c = record { list = sym (put_slots-nil c.self.inside.places.items); pad = refl }
