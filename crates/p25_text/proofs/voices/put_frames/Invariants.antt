@@ -1,7 +1,7 @@
 use Rattle.std.proofs.Common.{◌≡◌, ◌+◌, ◌*◌, ◌++◌, length, take}
 use Rattle.hex.specs.Hex.{encode_lower}
 use Rattle.p25_text.specs.Voices.{frame_octets}
-use Rattle.p25_text.proofs.voice_texts.put_frames.Given as goal
+use Rattle.p25_text.proofs.voices.put_frames.Given as goal
 
 abbrev pub invariant-loop-frame : goal.invariant-loop-frame
 invariant-loop-frame l = record {

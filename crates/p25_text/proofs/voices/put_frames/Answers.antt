@@ -2,7 +2,7 @@ use Rattle.std.proofs.{Common.{◌∷◌, ◌++◌, ◌<◌, length, sym, ap, �
 use Rattle.hex.specs.Hex.{encode_lower}
 use Rattle.p25_text.specs.{Names.{key_text}, Voices.{frame_octets}, declared.names.UnitKey.TheVariants.{Frames}}
 use Rattle.p25_text.proofs.WriteLaws.{frames-none, next-frame}
-use Rattle.p25_text.proofs.voice_texts.put_frames.Goals as goal
+use Rattle.p25_text.proofs.voices.put_frames.Goals as goal
 
 pub loop-frame-init : goal.loop-frame-init
 loop-frame-init c = record {
