@@ -4,7 +4,7 @@
 _p25() {
     local word=${COMP_WORDS[COMP_CWORD]} words=''
     if [ "$COMP_CWORD" -eq 1 ]; then
-        words='show check repair bridge relay follow calls soft build stations fragments duplex sample'
+        words='show check repair follow calls soft stations fragments duplex build sample bridge relay'
     else
         case ${COMP_WORDS[1]}:$COMP_CWORD in
             build:2 | bridge:3 | relay:3) words='0 1 2 3' ;;

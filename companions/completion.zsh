@@ -5,7 +5,7 @@ _p25() {
     local -a found
     if [[ ${words[1]:t} == p25 ]]; then
         if ((CURRENT == 2)); then
-            found=(show check repair bridge relay follow calls soft build stations fragments duplex sample)
+            found=(show check repair follow calls soft stations fragments duplex build sample bridge relay)
         elif [[ ${words[2]}:$CURRENT == (build:3|bridge:4|relay:4) ]]; then
             found=(0 1 2 3)
         fi

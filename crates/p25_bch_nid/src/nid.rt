@@ -1,6 +1,6 @@
 ghost use Rattle.std.specs.Prelude.{◌≡◌, ◌≤◌, ◌<◌, ◌↔◌, ◌+◌, ◌*◌, ◌/◌, ◌%◌, IsSome, IfSome};
 
-/// A network identifier (NID): whose traffic it is, and which kind of unit follows.
+/// A network identifier (NID): whose traffic it is, and which kind of unit follows. TIA-102.BAAA, Network Identifier.
 #[derive(Clone, Copy, Debug, PartialEq, Eq)]
 pub struct Nid {
     /// The network access code (NAC), below 4,096.

@@ -10,7 +10,7 @@ use crate::duid::{LDU1, LDU2};
 use crate::nid::Nid;
 
 /// Answers the 64 bits of a network identifier (NID), the first bit highest: NAC 12, DUID 4, the 47 check bits of the BCH code
-/// (63,16), and P, which is 1 for an LDU1 and an LDU2 and 0 for every other unit.
+/// (63,16), and P, which is 1 for an LDU1 and an LDU2 and 0 for every other unit. TIA-102.BAAA, Network Identifier.
 pub fn nid_bits(nid: &Nid) -> u64
     ensures sent { IsSent nid.now.nac nid.now.duid result }
     ensures word { IsEncoding IsBch63 16 (bits_of 12 nid.now.nac ++ bits_of 4 nid.now.duid) (take 63 (bits_of 64 result)) }

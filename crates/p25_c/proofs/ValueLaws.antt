@@ -7,8 +7,8 @@ use Rattle.p25_calls.specs.{Taking.{CallerParts, IsPending, answer_to, answers_b
 use Rattle.p25_calls.specs.declared.seen.UnitSeen.{UnitSeen}
 use Rattle.p25_calls.proofs.{CallerSteps.{pending-kept, unit-ends}, TakingLaws.{answers-are-calls}}
 use Rattle.p25_units.specs.{Items.{covered, place_of}, declared.frame.Frame.{Frame}, declared.item.Item.{Item}, declared.item.Item.TheVariants.{Whole, Broken, NoUnit, Gap, Cut}}
-use Rattle.p25_units.specs.{declared.unit.Body.{Body}, declared.unit.Body.TheVariants.{Voice, Packet}, Units.{body_duid, frame_length_of}}
-use Rattle.p25_voice_units.specs.{declared.unit.VoiceUnit.{VoiceUnit}, declared.unit.VoiceUnit.TheVariants.{Header, Link1, Link2, End, EndLink}, declared.voice.VoiceFrame.{VoiceFrame}}
+use Rattle.p25_units.specs.{declared.unit.Body.{Body}, declared.unit.Body.TheVariants.{Voice}, Units.{body_duid, frame_length_of}}
+use Rattle.p25_voice_units.specs.{declared.unit.VoiceUnit.{VoiceUnit}, declared.unit.VoiceUnit.TheVariants.{Header, Link1, Link2}, declared.voice.VoiceFrame.{VoiceFrame}}
 use Rattle.p25_text.specs.ItemTexts.{item_text_of}
 use Rattle.p25_c.specs.{Fields.{body_fields, frame_octets, frames_held}, Items.{parts_of}, ValueLaws.{CallsAreTold, FieldsComeBack, UnitsAreTold, fields_with, told, told_by}}
 use Rattle.p25_c.specs.{VoiceCalls.{call_asked, caller_left, is_kept, last_asked, may_take, pending_held, state_told, unit_told}, declared.calls.CallerState.{CallerState}}
@@ -21,11 +21,7 @@ whole-told : (place bits fixes text nac : ℕ) (body : Body)
     → unit_told (record { place = place; bits = bits; fixes = fixes; text_length = text; nac = nac; duid = body_duid body; kind = 1 }) (body_fields nac body)
     ≡ Some (record { place = place; bits = bits; nac = nac; duid = body_duid body; broken = false; link = link_in body; algid = algid_in body })
 whole-told place bits fixes text nac (Voice (Header word)) = refl
-whole-told place bits fixes text nac (Voice (Link1 link low frames)) = refl
-whole-told place bits fixes text nac (Voice (Link2 sync low frames)) = refl
-whole-told place bits fixes text nac (Voice End) = refl
-whole-told place bits fixes text nac (Voice (EndLink link)) = refl
-whole-told place bits fixes text nac (Packet packet) = refl
+whole-told place bits fixes text nac body = refl
 
 pub units-told : UnitsAreTold
 units-told (Whole place frame fixes) others =
@@ -40,11 +36,9 @@ frames-back [] = refl
 frames-back (frame ∷ frames) = ap (λ (xs : List VoiceFrame). frame ∷ xs) (frames-back frames)
 
 pub fields-back : FieldsComeBack
-fields-back nac (Header word) = refl
 fields-back nac (Link1 link low frames) = ap (λ (xs : List VoiceFrame). Some (Link1 link low xs)) (frames-back frames)
 fields-back nac (Link2 sync low frames) = ap (λ (xs : List VoiceFrame). Some (Link2 sync low xs)) (frames-back frames)
-fields-back nac End = refl
-fields-back nac (EndLink link) = refl
+fields-back nac unit = refl
 
 -- ---- calls
 

@@ -115,9 +115,7 @@ fn link_in(body: &Body) -> Option<LinkControl>
     ensures { result ≡ link_in body.now }
 {
     match body {
-        Body::Voice(VoiceUnit::Link1 { link, .. }) | Body::Voice(VoiceUnit::EndLink { link }) => {
-            Some(*link)
-        }
+        Body::Voice(VoiceUnit::Link1 { link, .. } | VoiceUnit::EndLink { link }) => Some(*link),
         Body::Voice(VoiceUnit::Header(_) | VoiceUnit::Link2 { .. } | VoiceUnit::End)
         | Body::Packet(_) => None,
     }

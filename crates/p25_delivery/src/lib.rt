@@ -17,8 +17,8 @@
 #![tactic(auto)]
 
 mod asked;
+mod block_places;
 mod inbound;
-mod kept;
 pub mod laws;
 mod message_octets;
 mod outbound;

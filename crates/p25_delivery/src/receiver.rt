@@ -4,7 +4,7 @@ ghost use Rattle.std.specs.Prelude.{◌≡◌, ◌<◌, IfNone};
 ghost use Rattle.p25_delivery.specs.Halves.{Receiving, first_receiving};
 ghost use Rattle.p25_delivery.specs.ReceiverRules.{keeping_for, finished, filled, opening_heard, data_heard, receiver_heard};
 
-use crate::kept::Kept;
+use crate::block_places::BlockPlaces;
 use crate::{LLID, sent};
 use p25_messages::{Heard, Message};
 use p25_packet_blocks::{Confirmed, Packet, PacketHead};
@@ -15,7 +15,7 @@ use std::marker::Model;
 pub struct Receiver {
     // V(R), the number of the last message that was delivered
     last: u8,
-    kept: Option<Kept>,
+    kept: Option<BlockPlaces>,
 }
 
 impl Model for Receiver {
@@ -122,7 +122,7 @@ impl Receiver {
     // What is kept while a packet of the next message is heard, taken out; or None where the packet is ignored, and then
     // nothing is taken out.
     #[tactic(auto, unfolding(crate::specs::ReceiverRules::keeping_for, crate::specs::ReceiverRules::keeping_full))]
-    fn take_kept(&mut self, head: PacketHead) -> Option<Kept>
+    fn take_kept(&mut self, head: PacketHead) -> Option<BlockPlaces>
         ensures kept { result ≡ keeping_for self.old.kept head }
         ensures last { self.new.last ≡ self.old.last }
         ensures ignored { IfNone result (self.new ≡ self.old) }
@@ -137,7 +137,7 @@ impl Receiver {
         }
         match self.kept.take() {
             Some(kept) if kept.is_of(blocks, pad) => Some(kept),
-            _ => Some(Kept::new(blocks, pad)),
+            _ => Some(BlockPlaces::new(blocks, pad)),
         }
     }
 

@@ -2,7 +2,7 @@
 use Rattle.std.specs.Prelude.{ℕ, List, ◌++◌, Option, Some, None, codes, decimal}
 use Rattle.p25_link.specs.{Kinds.{link_kind_of}, declared.link_control.LinkKind.{LinkKind}}
 use Rattle.p25_link.specs.declared.link_control.LinkKind.TheVariants.{Group, Individual, Other}
-use Rattle.p25_voice_units.specs.{declared.unit.VoiceUnit.{VoiceUnit}, declared.unit.VoiceUnit.TheVariants.{Header, Link1, Link2, End, EndLink}}
+use Rattle.p25_voice_units.specs.{declared.unit.VoiceUnit.{VoiceUnit}, declared.unit.VoiceUnit.TheVariants.{Link1}}
 use Rattle.p25_units.specs.{declared.unit.Body.{Body}, declared.unit.Body.TheVariants.{Voice, Packet}, declared.item.Item.{Item}}
 use Rattle.p25_units.specs.declared.item.Item.TheVariants.{Whole, Broken, NoUnit, Gap, Cut}
 use Rattle.p25_example_groups.specs.declared.Talk.{Talk}
@@ -17,13 +17,10 @@ link_talk (Group mfid emergency group source) = Some (record { group = group; ra
 link_talk (Individual mfid destination source) = None
 link_talk Other = None
 
--- what an LDU1, voice with link control (LC), says
+-- what an LDU1, voice with link control (LC), says; no other unit says anything
 abbrev pub voice_talk : VoiceUnit → Option Talk
-voice_talk (Header word) = None
 voice_talk (Link1 link low voice) = link_talk (link_kind_of link)
-voice_talk (Link2 sync low voice) = None
-voice_talk End = None
-voice_talk (EndLink link) = None
+voice_talk unit = None
 
 abbrev pub body_talk : Body → Option Talk
 body_talk (Voice unit) = voice_talk unit

@@ -4,23 +4,20 @@ ghost use Rattle.std.specs.Prelude.{◌≡◌, ◌≤◌, IfSome, MatchOption, [
 ghost use Rattle.p25_follow.specs.Expected.{expected_after, is_expected, kind_length, next_link};
 
 use p25_bch_nid::{HDU, LDU1, LDU2, TDU, TDULC};
+use p25_status::{BARE_BLOCK_LENGTH, SENT_BLOCK_LENGTH};
+use p25_voice_units::laws::image_laws;
+use p25_voice_units::voice_length;
 
 /// Answers how many bits are sent for a voice unit of a kind (HDU, LDU1, LDU2, TDU or TDULC): none where it is another kind.
-#[tactic(auto, unfolding(crate::specs::Expected::kind_length, p25_voice_units::specs::Lengths::voice_length_of))]
+#[tactic(auto, unfolding(crate::specs::Expected::kind_length))]
 pub fn kind_length(kind: u8) -> usize
     ensures value { result ≡ kind_length kind }
     ensures most { result ≤ 1728 }
 {
-    if kind == HDU {
-        792
-    } else if kind == TDU {
-        144
-    } else if kind == LDU1 || kind == LDU2 {
-        1728
-    } else if kind == TDULC {
-        432
-    } else {
-        0
+    image_laws();
+    match voice_length(kind) {
+        Some(bare) => bare / BARE_BLOCK_LENGTH * SENT_BLOCK_LENGTH,
+        None => 0,
     }
 }
 

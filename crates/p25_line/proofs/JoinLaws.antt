@@ -69,14 +69,14 @@ pub record Known (line : List ℕ) (list : Marks) (words : List (List ℕ)) : Ty
   pub found : words_or_fault line ≡ Ok words
   pub some : 0 < length words
   pub count : list.count ≡ length words
-  pub places : marked line list.places ≡ take 16 words
-  pub lies : All (LiesIn line) list.places
+  pub spans : marked line list.spans ≡ take 16 words
+  pub lies : All (LiesIn line) list.spans
 
 known : (line : List ℕ) (list : Marks) (answer : Result (List (List ℕ)) LineFault) → words_or_fault line ≡ answer → WordsFound line list (Ok tt) answer
     → (words : List (List ℕ)) × Known line list words
 known line list (Ok words) same facts =
     let accepted = Accepted-words line words same in
-    (words, record { found = same; some = accepted.some; count = facts.1; places = facts.2; lies = facts.3 })
+    (words, record { found = same; some = accepted.some; count = facts.1; spans = facts.2; lies = facts.3 })
 known line list (Err fault) same facts = cc facts.0
 
 pub Known-words : (line : List ℕ) (list : Marks) → WordsAnswer line list (Ok tt) → (words : List (List ℕ)) × Known line list words

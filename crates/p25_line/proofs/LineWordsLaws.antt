@@ -1,9 +1,9 @@
--- What is kept of the words of a line: the places of the first 16, and how many there are.
+-- What is kept of the words of a line: the spans of the first 16, and how many there are.
 use Rattle.std.proofs.Common.{◌≡◌, ℕ, zero, suc, ◌<◌, ◌≤◌, List, [], ◌∷◌, length, take, drop, slice_get, Option, Some, None, Result, Ok, Err, inl, inr, refl, sym, ap, ap₂, ◌∙◌, arith, length-take, length-drop}
 use Rattle.std.proofs.{lemmas.Bool.{cases_lt}, lemmas.List.{length-map}}
 use Rattle.std.specs.Prelude.{◌↔◌, ok_or}
 use Rattle.p25_line.specs.{Marks.{Marks}, Words.{AreWordsOf, marked, parts_of, word_at, words_in, words_or_fault, WordsAnswer, WordsFound}, declared.fault.LineFault.{LineFault}}
-use Rattle.p25_line.specs.{declared.fault.LineFault.TheVariants.{Form, Long}, declared.word_list.Place.{Place}}
+use Rattle.p25_line.specs.{declared.fault.LineFault.TheVariants.{Form, Long}, declared.word_list.Span.{Span}}
 use Rattle.p25_line.proofs.{JoinLaws.{Accepted-words, Known, Known-words}, WordsLaws.{words_or_fault-long, words_or_fault-words}}
 
 -- a line that has words has what stands between its spaces
@@ -13,7 +13,7 @@ are-words line list words known =
     record {
       found = known.found ∙ ap Ok (sym parts);
       count = known.count ∙ ap length (sym parts);
-      places = known.places ∙ ap (take 16) (sym parts);
+      spans = known.spans ∙ ap (take 16) (sym parts);
       lies = known.lies;
     }
 
@@ -47,28 +47,28 @@ words_or_fault-Long line = (
 pub some_words : (line : List ℕ) (list : Marks) → AreWordsOf line list → 0 < length (parts_of line)
 some_words line list are = (Accepted-words line (parts_of line) are.found).some
 
--- the place of each of the first 16 words is kept
-pub places_kept : (line : List ℕ) (list : Marks) (i : ℕ) → AreWordsOf line list → i < length (parts_of line) → i < 16 → i < length list.places
-places_kept line list i are held kept = omega (arith, length-map list.places (word_at line), ap length are.places, length-take 16 (parts_of line))
+-- the span of each of the first 16 words is kept
+pub spans_kept : (line : List ℕ) (list : Marks) (i : ℕ) → AreWordsOf line list → i < length (parts_of line) → i < 16 → i < length list.spans
+spans_kept line list i are held kept = omega (arith, length-map list.spans (word_at line), ap length are.spans, length-take 16 (parts_of line))
 
 slice_get-take : {X : Type 0} (n : ℕ) (xs : List X) (i : ℕ) → i < n → slice_get (take n xs) i ≡ slice_get xs i
 slice_get-take zero xs i below = absurd (omega arith)
 slice_get-take (suc n) (x ∷ xs) (suc i) below = slice_get-take n xs i (omega arith)
 slice_get-take (suc n) xs i below = refl
 
-pub word_kept : (line : List ℕ) (list : Marks) (i : ℕ) (word : List ℕ) → AreWordsOf line list → i < 16 → slice_get (marked line list.places) i ≡ Some word → slice_get (parts_of line) i ≡ Some word
-word_kept line list i word are kept at = sym (slice_get-take 16 (parts_of line) i kept) ∙ ap (λ (l : List (List ℕ)). slice_get l i) (sym are.places) ∙ at
+pub word_kept : (line : List ℕ) (list : Marks) (i : ℕ) (word : List ℕ) → AreWordsOf line list → i < 16 → slice_get (marked line list.spans) i ≡ Some word → slice_get (parts_of line) i ≡ Some word
+word_kept line list i word are kept at = sym (slice_get-take 16 (parts_of line) i kept) ∙ ap (λ (l : List (List ℕ)). slice_get l i) (sym are.spans) ∙ at
 
 -- a word is no longer than its line
-short_word : (line : List ℕ) (places : List Place) (i : ℕ) (word : List ℕ) → slice_get (marked line places) i ≡ Some word → length word ≤ length line
+short_word : (line : List ℕ) (spans : List Span) (i : ℕ) (word : List ℕ) → slice_get (marked line spans) i ≡ Some word → length word ≤ length line
 short_word line [] i word at = cc at
-short_word line (place ∷ places) zero word at =
-    let same : word_at line place ≡ word = cc at in
-    omega (arith, ap length same, length-take place.len (drop place.start line), length-drop place.start line)
-short_word line (place ∷ places) (suc i) word at = short_word line places i word at
+short_word line (span ∷ spans) zero word at =
+    let same : word_at line span ≡ word = cc at in
+    omega (arith, ap length same, length-take span.len (drop span.start line), length-drop span.start line)
+short_word line (span ∷ spans) (suc i) word at = short_word line spans i word at
 
-pub word_short : (line : List ℕ) (list : Marks) (i : ℕ) (word : List ℕ) → AreWordsOf line list → slice_get (marked line list.places) i ≡ Some word → length word ≤ 8192
-word_short line list i word are at = omega (arith, short_word line list.places i word at, (Accepted-words line (parts_of line) are.found).short)
+pub word_short : (line : List ℕ) (list : Marks) (i : ℕ) (word : List ℕ) → AreWordsOf line list → slice_get (marked line list.spans) i ≡ Some word → length word ≤ 8192
+word_short line list i word are at = omega (arith, short_word line list.spans i word at, (Accepted-words line (parts_of line) are.found).short)
 
 -- ---- the words after the first
 

@@ -4,30 +4,30 @@ use Rattle.std.proofs.{lemmas.Bool.{cases_Bool, eqb-true, lt-ltb, true≢false},
 use Rattle.std.proofs.{lemmas.List.Elements.{All-push, All-take}, lemmas.List.Folds.{list_all-append, list_all_more, list_all_at}, lemmas.List.Splits.{slice_split_none, slice_split_at}}
 use Rattle.std.specs.{Prelude.{ok_or}, List.{list_all, All}}
 use Rattle.p25_line.specs.{Marks.{Marks}, Words.{is_printed, is_word, parts_of, words_in, LiesIn, word_at, marked, WordsFound, WordsAnswer}, declared.fault.LineFault.TheVariants.{Long, Form}}
-use Rattle.p25_line.specs.declared.word_list.Place.{Place}
+use Rattle.p25_line.specs.declared.word_list.Span.{Span}
 use Rattle.p25_line.proofs.WordsLaws.{printed-spaces, printed-parts, words-printed, words_in-words, words_in-none, words_or_fault-long, words_or_fault-words, is_allowed}
 
--- the list of places has room, or is full
-pub noted-room : (places : List Place) (place : Place) → (length places == 16) ≡ false → length places ≤ 16 → places ++ place ∷ [] ≡ take 16 (places ++ place ∷ [])
-noted-room places place other most =
-    let room : length places < 16 = grind arith in
-    sym (take_all 16 (places ++ place ∷ []) (omega (arith, length-append places (place ∷ []))))
+-- the list of spans has room, or is full
+pub noted-room : (spans : List Span) (span : Span) → (length spans == 16) ≡ false → length spans ≤ 16 → spans ++ span ∷ [] ≡ take 16 (spans ++ span ∷ [])
+noted-room spans span other most =
+    let room : length spans < 16 = grind arith in
+    sym (take_all 16 (spans ++ span ∷ []) (omega (arith, length-append spans (span ∷ []))))
 
-pub noted-full : (places : List Place) (place : Place) → (length places == 16) ≡ true → places ≡ take 16 (places ++ place ∷ [])
-noted-full places place full = sym (take_at places (place ∷ []) 16 (eqb-true (length places) 16 full))
+pub noted-full : (spans : List Span) (span : Span) → (length spans == 16) ≡ true → spans ≡ take 16 (spans ++ span ∷ [])
+noted-full spans span full = sym (take_at spans (span ∷ []) 16 (eqb-true (length spans) 16 full))
 
 -- the first elements of a list, some of which were cut off before
 take-take_append : {X : Type 0} (n : ℕ) (xs ys : List X) → take n (take n xs ++ ys) ≡ take n (xs ++ ys)
 take-take_append (suc n) (x ∷ xs) ys = ap (λ l. x ∷ l) (take-take_append n xs ys)
 take-take_append n xs ys = refl
 
--- the words at the places, after one more place
-marked-noted : (line : List ℕ) (places : List Place) (place : Place) (found : List (List ℕ)) → marked line places ≡ take 16 found
-    → marked line (take 16 (places ++ place ∷ [])) ≡ take 16 (found ++ word_at line place ∷ [])
-marked-noted line places place found same =
-    sym (take-map (word_at line) 16 (places ++ place ∷ []))
-    ∙ ap (take 16) (map-append (word_at line) places (place ∷ []) ∙ ap (λ l. l ++ word_at line place ∷ []) same)
-    ∙ take-take_append 16 found (word_at line place ∷ [])
+-- the words at the spans, after one more span
+marked-noted : (line : List ℕ) (spans : List Span) (span : Span) (found : List (List ℕ)) → marked line spans ≡ take 16 found
+    → marked line (take 16 (spans ++ span ∷ [])) ≡ take 16 (found ++ word_at line span ∷ [])
+marked-noted line spans span found same =
+    sym (take-map (word_at line) 16 (spans ++ span ∷ []))
+    ∙ ap (take 16) (map-append (word_at line) spans (span ∷ []) ∙ ap (λ l. l ++ word_at line span ∷ []) same)
+    ∙ take-take_append 16 found (word_at line span ∷ [])
 
 -- what the loop keeps
 pub record Cut (line : List ℕ) (list : Marks) (start i : ℕ) : Type 0 where
@@ -36,8 +36,8 @@ pub record Cut (line : List ℕ) (list : Marks) (start i : ℕ) : Type 0 where
   pub few : list.count ≤ start
   pub rest : drop list.count (parts_of line) ≡ parts_of (drop start line)
   pub words : list_all is_word (take list.count (parts_of line)) ≡ true
-  pub places : marked line list.places ≡ take 16 (take list.count (parts_of line))
-  pub lies : All (LiesIn line) list.places
+  pub spans : marked line list.spans ≡ take 16 (take list.count (parts_of line))
+  pub lies : All (LiesIn line) list.spans
   pub printed : list_all is_printed (take (i - start) (drop start line)) ≡ true
 
 -- one more printed octet
@@ -46,16 +46,16 @@ pub Cut-printed : (line : List ℕ) (list : Marks) (start i : ℕ) → Cut line 
 Cut-printed line list start i cut inside octet =
     let order : start ≤ i = cut.order in
     let more : (i + 1) - start ≡ (i - start) + 1 = omega arith in
-    let place : start + (i - start) ≡ i = omega arith in
+    let span : start + (i - start) ≡ i = omega arith in
     let there : i - start < length (drop start line) = omega (arith, length-drop start line) in
-    let same : get_or (drop start line) (i - start) 0 ≡ get_or line i 0 = get_or-drop start line (i - start) 0 ∙ ap (λ n. get_or line n 0) place in
+    let same : get_or (drop start line) (i - start) 0 ≡ get_or line i 0 = get_or-drop start line (i - start) 0 ∙ ap (λ n. get_or line n 0) span in
     record {
       order = omega arith;
       within = omega arith;
       few = cut.few;
       rest = cut.rest;
       words = cut.words;
-      places = cut.places;
+      spans = cut.spans;
       lies = cut.lies;
       printed =
           ap (λ n. list_all is_printed (take n (drop start line))) more
@@ -67,10 +67,10 @@ Cut-printed line list start i cut inside octet =
 rest-space : (line : List ℕ) (start i : ℕ) → start ≤ i → i < length line → get_or line i 0 ≡ 32
     → drop start line ≡ take (i - start) (drop start line) ++ 32 ∷ drop (i + 1) line
 rest-space line start i order inside space =
-    let place : start + (i - start) ≡ i = omega arith in
+    let span : start + (i - start) ≡ i = omega arith in
     sym (take-append-drop (i - start) (drop start line))
     ∙ ap (λ l. take (i - start) (drop start line) ++ l)
-    (drop-drop (i - start) start line ∙ ap (λ n. drop n line) place ∙ drop_more line i 0 inside ∙ ap (λ x. x ∷ drop (i + 1) line) space)
+    (drop-drop (i - start) start line ∙ ap (λ n. drop n line) span ∙ drop_more line i 0 inside ∙ ap (λ x. x ∷ drop (i + 1) line) space)
 
 -- the parts of the rest at a space
 parts-space : (line : List ℕ) (list : Marks) (start i : ℕ) → Cut line list start i → i < length line → get_or line i 0 ≡ 32
@@ -105,31 +105,31 @@ words-more : (found : List (List ℕ)) (word : List ℕ) → list_all is_word fo
 words-more found word all one = list_all-append is_word found (word ∷ []) ∙ ap₂ ◌&&◌ all (ap (λ b. b && true) one)
 
 noted_word : (line : List ℕ) (list noted : Marks) (start i : ℕ) → Cut line list start i → start < i
-    → noted.places ≡ take 16 (list.places ++ record { start = start; len = i - start } ∷ []) → (others : List (List ℕ))
+    → noted.spans ≡ take 16 (list.spans ++ record { start = start; len = i - start } ∷ []) → (others : List (List ℕ))
     → drop list.count (parts_of line) ≡ take (i - start) (drop start line) ∷ others
     → (list_all is_word (take (list.count + 1) (parts_of line)) ≡ true)
-    × (marked line noted.places ≡ take 16 (take (list.count + 1) (parts_of line)))
-    × (All (LiesIn line) noted.places)
+    × (marked line noted.spans ≡ take 16 (take (list.count + 1) (parts_of line)))
+    × (All (LiesIn line) noted.spans)
     × (drop (list.count + 1) (parts_of line) ≡ others)
-noted_word line list noted start i cut some places others rest =
-    let place : Place = record { start = start; len = i - start } in
+noted_word line list noted start i cut some spans others rest =
+    let span : Span = record { start = start; len = i - start } in
     let within : i ≤ length line = cut.within in
     let order : start ≤ i = cut.order in
-    let inside : LiesIn line place = omega arith in
+    let inside : LiesIn line span = omega arith in
     let word = take (i - start) (drop start line) in
     let more = more-parts (parts_of line) list.count word others rest in (
       ap (list_all is_word) more.0 ∙ words-more (take list.count (parts_of line)) word cut.words (word-part line start i some within cut.printed),
-      ap (marked line) places ∙ marked-noted line list.places place (take list.count (parts_of line)) cut.places ∙ ap (take 16) (sym more.0),
-      subst (All (LiesIn line)) (sym places) (All-take (LiesIn line) 16 (list.places ++ place ∷ []) (All-push (LiesIn line) list.places place cut.lies inside)),
+      ap (marked line) spans ∙ marked-noted line list.spans span (take list.count (parts_of line)) cut.spans ∙ ap (take 16) (sym more.0),
+      subst (All (LiesIn line)) (sym spans) (All-take (LiesIn line) 16 (list.spans ++ span ∷ []) (All-push (LiesIn line) list.spans span cut.lies inside)),
       more.1,
     )
 
 -- a word that ends before a space
 pub Cut-space : (line : List ℕ) (list noted : Marks) (start i : ℕ) → Cut line list start i → i < length line → start < i → get_or line i 0 ≡ 32
-    → noted.count ≡ list.count + 1 → noted.places ≡ take 16 (list.places ++ record { start = start; len = i - start } ∷ []) → Cut line noted (i + 1) (i + 1)
-Cut-space line list noted start i cut inside some space count places =
+    → noted.count ≡ list.count + 1 → noted.spans ≡ take 16 (list.spans ++ record { start = start; len = i - start } ∷ []) → Cut line noted (i + 1) (i + 1)
+Cut-space line list noted start i cut inside some space count spans =
     let few : list.count ≤ start = cut.few in
-    let facts = noted_word line list noted start i cut some places (parts_of (drop (i + 1) line)) (cut.rest ∙ parts-space line list start i cut inside space) in
+    let facts = noted_word line list noted start i cut some spans (parts_of (drop (i + 1) line)) (cut.rest ∙ parts-space line list start i cut inside space) in
     let none : (i + 1) - (i + 1) ≡ 0 = omega arith in
     record {
       order = omega arith;
@@ -137,7 +137,7 @@ Cut-space line list noted start i cut inside some space count places =
       few = omega arith;
       rest = ap (λ n. drop n (parts_of line)) count ∙ facts.3;
       words = ap (λ n. list_all is_word (take n (parts_of line))) count ∙ facts.0;
-      places = facts.1 ∙ ap (λ n. take 16 (take n (parts_of line))) (sym count);
+      spans = facts.1 ∙ ap (λ n. take 16 (take n (parts_of line))) (sym count);
       lies = facts.2;
       printed = ap (λ n. list_all is_printed (take n (drop (i + 1) line))) none;
     }
@@ -151,13 +151,13 @@ rest-decides line list start i cut =
 
 -- the last word of a line
 pub Cut-end : (line : List ℕ) (list noted : Marks) (start i : ℕ) → Cut line list start i → i ≡ length line → start < i
-    → noted.count ≡ list.count + 1 → noted.places ≡ take 16 (list.places ++ record { start = start; len = i - start } ∷ [])
-    → (words_in line ≡ Some (parts_of line)) × (noted.count ≡ length (parts_of line)) × (marked line noted.places ≡ take 16 (parts_of line)) × All (LiesIn line) noted.places
-Cut-end line list noted start i cut end some count places =
+    → noted.count ≡ list.count + 1 → noted.spans ≡ take 16 (list.spans ++ record { start = start; len = i - start } ∷ [])
+    → (words_in line ≡ Some (parts_of line)) × (noted.count ≡ length (parts_of line)) × (marked line noted.spans ≡ take 16 (parts_of line)) × All (LiesIn line) noted.spans
+Cut-end line list noted start i cut end some count spans =
     let whole : take (i - start) (drop start line) ≡ drop start line = take_all (i - start) (drop start line) (omega (arith, length-drop start line)) in
     let last : parts_of (drop start line) ≡ take (i - start) (drop start line) ∷ [] =
     slice_split_none (λ octet. octet == 32) (drop start line) (printed-spaces (drop start line) (ap (list_all is_printed) (sym whole) ∙ cut.printed)) ∙ ap (λ w. w ∷ []) (sym whole) in
-    let facts = noted_word line list noted start i cut some places [] (cut.rest ∙ last) in
+    let facts = noted_word line list noted start i cut some spans [] (cut.rest ∙ last) in
     let all : take (list.count + 1) (parts_of line) ≡ parts_of line =
     sym (append-nil (take (list.count + 1) (parts_of line))) ∙ ap (λ l. take (list.count + 1) (parts_of line) ++ l) (sym facts.3) ∙ take-append-drop (list.count + 1) (parts_of line) in
     let one : length (parts_of line) - list.count ≡ 1 = sym (length-drop list.count (parts_of line)) ∙ ap length (cut.rest ∙ last) in (
@@ -183,9 +183,9 @@ none-space line list start i cut inside space same =
 space-words : (line : List ℕ) (start i : ℕ) → start ≤ i → i < length line → is_printed (get_or line i 0) ≡ false
     → list_all is_word (parts_of (drop start line)) ≡ true → get_or line i 0 ≡ 32
 space-words line start i order inside bad all =
-    let place : start + (i - start) ≡ i = omega arith in
+    let span : start + (i - start) ≡ i = omega arith in
     let there : i - start < length (drop start line) = omega (arith, length-drop start line) in
-    let octet : get_or (drop start line) (i - start) 0 ≡ get_or line i 0 = get_or-drop start line (i - start) 0 ∙ ap (λ n. get_or line n 0) place in
+    let octet : get_or (drop start line) (i - start) 0 ≡ get_or line i 0 = get_or-drop start line (i - start) 0 ∙ ap (λ n. get_or line n 0) span in
     let allowed : list_all is_allowed (drop start line) ≡ true = sym (printed-parts (drop start line)) ∙ words-printed (parts_of (drop start line)) all in
     elim (cases_Bool (get_or line i 0 == 32)) [
       | inl equal ↦ eqb-true (get_or line i 0) 32 equal
@@ -210,18 +210,18 @@ none-bad line list start i cut inside bad other =
     ]
 
 -- a line that is too long
-pub answer-long : (line : List ℕ) (list : Marks) → list ≡ record { places = []; count = 0 } → 8192 < length line → WordsAnswer line list (Err Long)
+pub answer-long : (line : List ℕ) (list : Marks) → list ≡ record { spans = []; count = 0 } → 8192 < length line → WordsAnswer line list (Err Long)
 answer-long line list none long =
-    subst (WordsFound line list (Err Long)) (sym (words_or_fault-long line long)) (refl, ap (λ (m : Marks). m.count) none, ap (λ (m : Marks). m.places) none)
+    subst (WordsFound line list (Err Long)) (sym (words_or_fault-long line long)) (refl, ap (λ (m : Marks). m.count) none, ap (λ (m : Marks). m.spans) none)
 
 -- a line of another form
-pub answer-form : (line : List ℕ) (list : Marks) → list ≡ record { places = []; count = 0 } → length line ≤ 8192 → words_in line ≡ None → WordsAnswer line list (Err Form)
+pub answer-form : (line : List ℕ) (list : Marks) → list ≡ record { spans = []; count = 0 } → length line ≤ 8192 → words_in line ≡ None → WordsAnswer line list (Err Form)
 answer-form line list none short other =
-    subst (WordsFound line list (Err Form)) (sym (words_or_fault-words line short ∙ ap (λ (words : Option (List (List ℕ))). ok_or words Form) other)) (refl, ap (λ (m : Marks). m.count) none, ap (λ (m : Marks). m.places) none)
+    subst (WordsFound line list (Err Form)) (sym (words_or_fault-words line short ∙ ap (λ (words : Option (List (List ℕ))). ok_or words Form) other)) (refl, ap (λ (m : Marks). m.count) none, ap (λ (m : Marks). m.spans) none)
 
 -- a line of words
 pub answer-words : (line : List ℕ) (list noted : Marks) (start i : ℕ) → Cut line list start i → i ≡ length line → start < i → length line ≤ 8192
-    → noted.count ≡ list.count + 1 → noted.places ≡ take 16 (list.places ++ record { start = start; len = i - start } ∷ []) → WordsAnswer line noted (Ok tt)
-answer-words line list noted start i cut end some short count places =
-    let facts = Cut-end line list noted start i cut end some count places in
+    → noted.count ≡ list.count + 1 → noted.spans ≡ take 16 (list.spans ++ record { start = start; len = i - start } ∷ []) → WordsAnswer line noted (Ok tt)
+answer-words line list noted start i cut end some short count spans =
+    let facts = Cut-end line list noted start i cut end some count spans in
     subst (WordsFound line noted (Ok tt)) (sym (words_or_fault-words line short ∙ ap (λ (words : Option (List (List ℕ))). ok_or words Form) facts.0)) (refl, facts.1, facts.2, facts.3)

@@ -2,7 +2,7 @@
 use Rattle.std.specs.Prelude.{◌≡◌, ℕ, ◌+◌, ◌≤◌, ◌==◌, ◌&&◌, nat_lt, nat_le, Bool, if◌then◌else◌, List, [], length, take, drop, map, All, Option, Some, None, ok_or, Result, Ok, Err}
 use Rattle.std.specs.List.{slice_split, list_all}
 use Rattle.p25_line.specs.{Marks.{Marks}, declared.fault.LineFault.{LineFault}, declared.fault.LineFault.TheVariants.{Long, Form}}
-use Rattle.p25_line.specs.declared.word_list.Place.{Place}
+use Rattle.p25_line.specs.declared.word_list.Span.{Span}
 
 -- an octet that may stand in a word: 21 to 7E hex
 abbrev pub is_printed : ℕ → Bool
@@ -24,24 +24,24 @@ words_in line = if list_all is_word (parts_of line) then Some (parts_of line) el
 unfoldable pub words_or_fault : List ℕ → Result (List (List ℕ)) LineFault
 words_or_fault line = if nat_lt 8192 (length line) then Err Long else ok_or (words_in line) Form
 
--- a place lies within a line
-abbrev pub LiesIn : List ℕ → Place → Type 0
-LiesIn line place = place.start + place.len ≤ length line
+-- a span lies within a line
+abbrev pub LiesIn : List ℕ → Span → Type 0
+LiesIn line span = span.start + span.len ≤ length line
 
--- the octets of a line at a place
-abbrev pub word_at : List ℕ → Place → List ℕ
-word_at line place = take place.len (drop place.start line)
+-- the octets of a line at a span
+abbrev pub word_at : List ℕ → Span → List ℕ
+word_at line span = take span.len (drop span.start line)
 
--- the octets of a line at each of some places
-abbrev pub marked : List ℕ → List Place → List (List ℕ)
-marked line places = map (word_at line) places
+-- the octets of a line at each of some spans
+abbrev pub marked : List ℕ → List Span → List (List ℕ)
+marked line spans = map (word_at line) spans
 
--- what is answered and kept for the words of a line: their number, and the places of the first 16. Where there is a
+-- what is answered and kept for the words of a line: their number, and the spans of the first 16. Where there is a
 -- fault it is answered, and nothing is kept
 abbrev pub WordsFound : List ℕ → Marks → Result (Unit {0}) LineFault → Result (List (List ℕ)) LineFault → Type 0
 WordsFound line list result (Ok words) =
-    (result ≡ Ok tt) × (list.count ≡ length words) × (marked line list.places ≡ take 16 words) × All (LiesIn line) list.places
-WordsFound line list result (Err fault) = (result ≡ Err fault) × (list.count ≡ 0) × (list.places ≡ [])
+    (result ≡ Ok tt) × (list.count ≡ length words) × (marked line list.spans ≡ take 16 words) × All (LiesIn line) list.spans
+WordsFound line list result (Err fault) = (result ≡ Err fault) × (list.count ≡ 0) × (list.spans ≡ [])
 
 -- the answer to a line
 abbrev pub WordsAnswer : List ℕ → Marks → Result (Unit {0}) LineFault → Type 0
@@ -51,5 +51,5 @@ WordsAnswer line list result = WordsFound line list result (words_or_fault line)
 pub record AreWordsOf (line : List ℕ) (list : Marks) : Type 0 where
   pub found : words_or_fault line ≡ Ok (parts_of line)
   pub count : list.count ≡ length (parts_of line)
-  pub places : marked line list.places ≡ take 16 (parts_of line)
-  pub lies : All (LiesIn line) list.places
+  pub spans : marked line list.spans ≡ take 16 (parts_of line)
+  pub lies : All (LiesIn line) list.spans

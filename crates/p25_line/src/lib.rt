@@ -2,7 +2,7 @@
 //! words that are lists.
 //!
 //! A line has at most 8,192 octets. Its words are octets 21 to 7E hex with single spaces between them. Contracts see a
-//! `Line` as the list of its octets, first to last, a `WordList` as the places of the first 16 words with the number of all,
+//! `Line` as the list of its octets, first to last, a `WordList` as the spans of the first 16 words with the number of all,
 //! and `LineWords` as the list of all words of the line that was read. What the words of a line are is `words_or_fault line`,
 //! and `line_read read line` what a line is read as, where `read` tells what its words are read as: `read_whole` reads lines of
 //! any form, which a `LineReader` tells. A value is told by the text that it has in the line.

@@ -6,22 +6,22 @@ use super::line::LINE_MOST;
 use arrayvec::ArrayVec;
 use std::marker::Model;
 
-/// The most words of a line whose places are kept.
+/// The most words of a line whose spans are kept.
 pub const WORDS_MOST: usize = 16;
 
 /// Where a word stands in its line.
 #[derive(Clone, Copy, Debug, Default, PartialEq, Eq)]
-pub struct Place {
-    /// The place of its first octet.
+pub struct Span {
+    /// Where its first octet stands, counted from 0.
     pub start: usize,
     /// The number of its octets.
     pub len: usize,
 }
 
-/// The places of the first 16 words of a line, and the number of all its words. The line itself is not kept.
+/// The spans of the first 16 words of a line, and the number of all its words. The line itself is not kept.
 #[derive(Clone, Debug, Drop)]
 pub struct WordList {
-    places: ArrayVec<Place, 16>,
+    spans: ArrayVec<Span, 16>,
     count: usize,
 }
 
@@ -30,21 +30,21 @@ impl Model for WordList {
 
     ghost Value = { Marks };
 
-    ghost view = { λ s. record { places = s.places.items; count = s.count } };
+    ghost view = { λ s. record { spans = s.spans.items; count = s.count } };
 }
 
 impl WordList {
     /// Answers a list of no words.
     pub fn new() -> WordList
-        ensures { result ≡ record { places = []; count = 0 } }
+        ensures { result ≡ record { spans = []; count = 0 } }
     {
         WordList {
-            places: ArrayVec::new(),
+            spans: ArrayVec::new(),
             count: 0,
         }
     }
 
-    /// Answers the number of all words, also of those whose places are not kept.
+    /// Answers the number of all words, also of those whose spans are not kept.
     pub fn count(&self) -> usize
         ensures { result ≡ self.now.count }
     {
@@ -53,31 +53,31 @@ impl WordList {
 
     /// Answers word `i`, counted from 0, of the line whose words are kept.
     pub fn word<'a>(&self, line: &'a [u8], i: usize) -> &'a [u8]
-        requires held { i < length self.now.places }
-        requires lies { All (LiesIn line.now) self.now.places }
-        ensures { slice_get (marked line.now self.now.places) i ≡ Some result.now }
+        requires held { i < length self.now.spans }
+        requires lies { All (LiesIn line.now) self.now.spans }
+        ensures { slice_get (marked line.now self.now.spans) i ≡ Some result.now }
     {
-        let place = self.places.as_slice()[i];
-        &line[place.start..place.start + place.len]
+        let span = self.spans.as_slice()[i];
+        &line[span.start..span.start + span.len]
     }
 
     // Empties the list.
     fn clear(&mut self)
-        ensures { self.new ≡ record { places = []; count = 0 } }
+        ensures { self.new ≡ record { spans = []; count = 0 } }
     {
-        self.places.clear();
+        self.spans.clear();
         self.count = 0;
     }
 
-    // Counts one more word, and keeps its place where there is room.
+    // Counts one more word, and keeps its span where there is room.
     fn note(&mut self, start: usize, end: usize)
         requires order { start ≤ end }
         requires count { self.old.count < 8193 }
         ensures count { self.new.count ≡ self.old.count + 1 }
-        ensures places { self.new.places ≡ take 16 (self.old.places ++ record { start = start; len = end - start } ∷ []) }
+        ensures spans { self.new.spans ≡ take 16 (self.old.spans ++ record { start = start; len = end - start } ∷ []) }
     {
-        if !self.places.is_full() {
-            self.places.push(Place {
+        if !self.spans.is_full() {
+            self.spans.push(Span {
                 start,
                 len: end - start,
             });
@@ -88,7 +88,7 @@ impl WordList {
 
 /// The list of no words.
 impl Default for WordList {
-    ghost is_default = { λ list. list ≡ record { places = []; count = 0 } };
+    ghost is_default = { λ list. list ≡ record { spans = []; count = 0 } };
 
     fn default() -> WordList {
         WordList::new()

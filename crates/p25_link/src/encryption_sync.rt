@@ -18,7 +18,8 @@ pub struct EncryptionSync {
 }
 
 impl EncryptionSync {
-    /// Answers the sixteen symbols of encryption sync (ES): those of message indicator, algorithm and key.
+    /// Answers the sixteen symbols of encryption sync (ES): those of message indicator, algorithm and key. TIA-102.BAAA,
+    /// Encryption Sync Word.
     pub fn symbols(&self) -> [Sym; 16]
         ensures value { result ≡ sync_symbols self.now }
         ensures len { length result ≡ 16 }
@@ -32,7 +33,7 @@ impl EncryptionSync {
         symbols
     }
 
-    /// Answers the encryption sync (ES) whose symbols these are.
+    /// Answers the encryption sync (ES) whose symbols these are. TIA-102.BAAA, Encryption Sync Word.
     pub fn from_symbols(symbols: &[Sym; 16]) -> EncryptionSync
         ensures value { result ≡ sync_of_symbols symbols.now }
         ensures back { sync_symbols result ≡ symbols.now }

@@ -23,7 +23,7 @@ pub struct HeaderWord {
 
 impl HeaderWord {
     /// Answers the twenty symbols of the header word of an HDU: those of message indicator, manufacturer, algorithm, key and talk
-    /// group.
+    /// group. TIA-102.BAAA, Header Code Word.
     pub fn symbols(&self) -> [Sym; 20]
         ensures value { result ≡ header_symbols self.now }
         ensures len { length result ≡ 20 }
@@ -38,7 +38,7 @@ impl HeaderWord {
         symbols
     }
 
-    /// Answers the header word of an HDU whose symbols these are.
+    /// Answers the header word of an HDU whose symbols these are. TIA-102.BAAA, Header Code Word.
     pub fn from_symbols(symbols: &[Sym; 20]) -> HeaderWord
         ensures value { result ≡ header_of_symbols symbols.now }
         ensures back { header_symbols result ≡ symbols.now }

@@ -40,7 +40,7 @@ pub enum LinkKind {
 }
 
 impl LinkControl {
-    /// Answers the twelve symbols of the nine octets of link control (LC).
+    /// Answers the twelve symbols of the nine octets of link control (LC). TIA-102.BAAA, Link Control Word.
     pub fn symbols(&self) -> [Sym; 12]
         ensures value { result ≡ link_symbols self.now }
         ensures len { length result ≡ 12 }
@@ -52,7 +52,7 @@ impl LinkControl {
         symbols
     }
 
-    /// Answers the link control (LC) whose symbols these are.
+    /// Answers the link control (LC) whose symbols these are. TIA-102.BAAA, Link Control Word.
     pub fn from_symbols(symbols: &[Sym; 12]) -> LinkControl
         ensures value { result ≡ link_of_symbols symbols.now }
         ensures back { link_symbols result ≡ symbols.now }
@@ -61,6 +61,7 @@ impl LinkControl {
     }
 
     /// Answers what link control (LC) says of the call. Other comes exactly where the first octet is neither 00 nor 03 hex.
+    /// TIA-102.BAAA, Link Control Word, Formats.
     pub fn kind(&self) -> LinkKind
         ensures value { result ≡ link_kind_of self.now }
         ensures other { (result ≡ LinkKind.Other) ↔ ((slice_index self.now.0 0 ≢ 0) × (slice_index self.now.0 0 ≢ 3)) }

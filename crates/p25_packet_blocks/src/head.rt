@@ -28,6 +28,7 @@ pub struct ReadHead {
 
 impl PacketHead {
     /// Answers the format, five bits: 16 hex of a confirmed packet, 15 hex of an unconfirmed one and 03 hex of a response.
+    /// TIA-102.BAAA, Packet Data, Header Block.
     #[tactic(auto, unfolding(crate::specs::Heads::head_format))]
     pub fn format(&self) -> u8
         ensures value { result ≡ head_format self.now }
@@ -36,7 +37,7 @@ impl PacketHead {
         self.0[0] % 32
     }
 
-    /// Answers the full message flag.
+    /// Answers the full message flag. TIA-102.BAAA, Packet Data, Header Block.
     #[tactic(auto, unfolding(crate::specs::Heads::head_is_full))]
     pub fn is_full(&self) -> bool
         ensures { result ≡ head_is_full self.now }
@@ -44,7 +45,7 @@ impl PacketHead {
         self.0[6] / 128 == 1
     }
 
-    /// Answers the number of blocks to follow, seven bits.
+    /// Answers the number of blocks to follow, seven bits. TIA-102.BAAA, Packet Data, Header Block.
     #[tactic(auto, unfolding(crate::specs::Heads::head_blocks))]
     pub fn blocks(&self) -> u8
         ensures value { result ≡ head_blocks self.now }
@@ -53,7 +54,7 @@ impl PacketHead {
         self.0[6] % 128
     }
 
-    /// Answers the number of pad octets, five bits.
+    /// Answers the number of pad octets, five bits. TIA-102.BAAA, Packet Data, Header Block.
     #[tactic(auto, unfolding(crate::specs::Heads::head_pad))]
     pub fn pad(&self) -> u8
         ensures value { result ≡ head_pad self.now }
@@ -62,7 +63,7 @@ impl PacketHead {
         self.0[7] % 32
     }
 
-    /// Answers the number N(S) of a confirmed packet, three bits.
+    /// Answers the number N(S) of a confirmed packet, three bits. TIA-102.BAAA, Packet Data, Header Block.
     #[tactic(auto, unfolding(crate::specs::Heads::head_number))]
     pub fn number(&self) -> u8
         ensures value { result ≡ head_number self.now }
@@ -71,7 +72,7 @@ impl PacketHead {
         self.0[8] / 16 % 8
     }
 
-    /// Answers Syn, the flag of a confirmed packet that opens a link.
+    /// Answers Syn, the flag of a confirmed packet that opens a link. TIA-102.BAAA, Packet Data, Header Block.
     #[tactic(auto, unfolding(crate::specs::Heads::head_syn))]
     pub fn syn(&self) -> bool
         ensures { result ≡ head_syn self.now }
@@ -79,7 +80,7 @@ impl PacketHead {
         self.0[8] / 128 == 1
     }
 
-    /// Answers the logical link identifier, LLID, 24 bits.
+    /// Answers the logical link identifier, LLID, 24 bits. TIA-102.BAAA, Packet Data, Header Block.
     #[tactic(auto, unfolding(crate::specs::Heads::head_llid))]
     pub fn llid(&self) -> u32
         ensures value { result ≡ head_llid self.now }
@@ -88,7 +89,7 @@ impl PacketHead {
         triple_at(&self.0, 3)
     }
 
-    /// Answers the class of a response, two bits.
+    /// Answers the class of a response, two bits. TIA-102.BAAA, Packet Data, Header Block.
     #[tactic(auto, unfolding(crate::specs::Heads::response_class))]
     pub fn class(&self) -> u8
         ensures value { result ≡ response_class self.now }
@@ -97,7 +98,7 @@ impl PacketHead {
         self.0[1] / 64
     }
 
-    /// Answers the type of a response, three bits.
+    /// Answers the type of a response, three bits. TIA-102.BAAA, Packet Data, Header Block.
     #[tactic(auto, unfolding(crate::specs::Heads::response_kind))]
     pub fn kind(&self) -> u8
         ensures value { result ≡ response_kind self.now }
@@ -106,7 +107,7 @@ impl PacketHead {
         self.0[1] / 8 % 8
     }
 
-    /// Answers the status of a response, three bits.
+    /// Answers the status of a response, three bits. TIA-102.BAAA, Packet Data, Header Block.
     #[tactic(auto, unfolding(crate::specs::Heads::response_status))]
     pub fn status(&self) -> u8
         ensures value { result ≡ response_status self.now }
@@ -117,7 +118,7 @@ impl PacketHead {
 }
 
 impl PacketHead {
-    /// Answers the header of a confirmed packet of data: format 16 hex, and Syn 0.
+    /// Answers the header of a confirmed packet of data: format 16 hex, and Syn 0. TIA-102.BAAA, Packet Data, Header Block.
     pub fn confirmed(llid: u32, full: bool, blocks: u8, pad: u8, number: u8) -> PacketHead
         requires llid { llid < 2 ^ 24 }
         requires blocks { blocks < 128 }
@@ -136,7 +137,7 @@ impl PacketHead {
         head_by_octets(0x56, 0xC0, llid, sixth, pad, 16 * number + 8)
     }
 
-    /// Answers the header of a response: format 03 hex, with the full message flag.
+    /// Answers the header of a response: format 03 hex, with the full message flag. TIA-102.BAAA, Packet Data, Header Block.
     pub fn response(llid: u32, class: u8, kind: u8, status: u8, blocks: u8) -> PacketHead
         requires llid { llid < 2 ^ 24 }
         requires class { class < 4 }
@@ -156,7 +157,8 @@ impl PacketHead {
         head_by_octets(0x23, second, llid, 128 + blocks, 0, 0)
     }
 
-    /// Answers the header of the packet that opens a link anew: a confirmed packet of no blocks with Syn 1.
+    /// Answers the header of the packet that opens a link anew: a confirmed packet of no blocks with Syn 1. TIA-102.BAAA,
+    /// Packet Data, Header Block.
     pub fn opening(llid: u32, number: u8) -> PacketHead
         requires llid { llid < 2 ^ 24 }
         requires number { number < 8 }

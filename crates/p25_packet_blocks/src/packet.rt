@@ -16,7 +16,7 @@ use std::marker::Model;
 /// A list of at most 1,520 octets, as many as a packet (PDU) of 127 blocks that is not confirmed has before its CRC.
 pub type Octets = BoundedList<u8, 1520>;
 
-/// A confirmed packet (PDU): a header of format 16 hex, and a slot for each block to follow.
+/// A confirmed packet (PDU): a header of format 16 hex, and a slot for each block to follow. TIA-102.BAAA, Packet Data.
 #[derive(Clone, Debug, Drop, PartialEq, Eq)]
 pub struct Confirmed {
     head: PacketHead,
@@ -65,7 +65,7 @@ impl Confirmed {
 }
 
 /// A packet (PDU) that is not confirmed, or a response: a header of format 15 or 03 hex, and its octets before the packet CRC,
-/// twelve for each block to follow less those four, or none where there is no block to follow.
+/// twelve for each block to follow less those four, or none where there is no block to follow. TIA-102.BAAA, Packet Data.
 #[derive(Clone, Debug, Drop, PartialEq, Eq)]
 pub struct Plain {
     head: PacketHead,

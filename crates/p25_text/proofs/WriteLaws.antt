@@ -104,10 +104,11 @@ joined-tail (key ∷ keys) (octets ∷ fields) out =
 joined-tail keys fields out = sym (append-nil out)
 
 -- a line is put by its beginning and then each field
-pub voice-put : (nac : ℕ) (unit : VoiceUnit) (out : List ℕ)
-    → joined (out ++ start_text (voice_kind unit) nac) (fields_text (other_keys (voice_kind unit)) (voice_octets unit)) ≡ out ++ text_of (record { nac = nac; body = Voice unit })
-voice-put nac unit out =
-    joined-tail (other_keys (voice_kind unit)) (voice_octets unit) (out ++ start_text (voice_kind unit) nac)
+pub voice-put : (nac : ℕ) (unit : VoiceUnit) (out now : List ℕ) → now ≡ joined (out ++ start_text (voice_kind unit) nac) (fields_text (other_keys (voice_kind unit)) (voice_octets unit))
+    → now ≡ out ++ text_of (record { nac = nac; body = Voice unit })
+voice-put nac unit out now is =
+    is
+    ∙ joined-tail (other_keys (voice_kind unit)) (voice_octets unit) (out ++ start_text (voice_kind unit) nac)
     ∙ append_assoc out (start_text (voice_kind unit) nac) (tail_text (other_keys (voice_kind unit)) (voice_values unit))
     ∙ ap (λ l. out ++ l) (sym (text-voice nac unit))
 

@@ -44,7 +44,6 @@ mod shown;
 #[cfg(test)]
 mod tests;
 mod values;
-mod voice_texts;
 mod voices;
 mod write;
 

@@ -7,7 +7,7 @@ ghost use Rattle.p25_line.specs.Values.{three_digits};
 
 use super::names::{UnitKey, UnitKind};
 use super::packet_texts::put_packet;
-use super::voice_texts::put_voice;
+use super::voices::put_voice;
 use p25_line::Line;
 use p25_units::{Body, Unit};
 

@@ -25,7 +25,8 @@ pub fn spread(nibbles: &[u8; 49]) -> [u8; 49]
     sent
 }
 
-/// Answers the nibbles of a path from those that were sent. It undoes `spread`, and `spread` undoes it.
+/// Answers the nibbles of a path from those that were sent. It undoes `spread`, and `spread` undoes it. TIA-102.BAAA, Data
+/// Interleaving.
 pub fn gather(nibbles: &[u8; 49]) -> [u8; 49]
     ensures sent { interleaved result ≡ nibbles.now }
     ensures undone { (gathered : List ℕ) → interleaved gathered ≡ nibbles.now → result ≡ gathered }

@@ -86,11 +86,11 @@ pub(crate) const THREE_QUARTER_POINTS: [u8; 64] = [
     6, 14, 0, 8, 4, 12, 2, 10,
 ];
 
-/// Half rate: 12 octets as 48 symbols of two bits.
+/// Half rate: 12 octets as 48 symbols of two bits. TIA-102.BAAA, Trellis Coding.
 #[derive(Clone, Copy, Debug, PartialEq, Eq)]
 pub struct Half;
 
-/// Three-quarter rate: 18 octets as 48 symbols of three bits.
+/// Three-quarter rate: 18 octets as 48 symbols of three bits. TIA-102.BAAA, Trellis Coding.
 #[derive(Clone, Copy, Debug, PartialEq, Eq)]
 pub struct ThreeQuarter;
 

@@ -19,7 +19,7 @@ const BEFORE_STATUS: u32 = 22;
 const AFTER_STATUS: u32 = 42;
 
 /// Appends the front of a unit: the 48 bits of the frame sync and the 64 bits of the network identifier (NID), first to last,
-/// without a status symbol.
+/// without a status symbol. TIA-102.BAAA, Frame Synchronization, Network Identifier.
 pub fn put_front(nid: &Nid, out: &mut BitBuf)
     requires { length out.old + 112 ≤ 25928 }
     ensures list { out.new ≡ out.old ++ unit_front nid.now.nac nid.now.duid }

@@ -8,7 +8,7 @@ use Rattle.p25_status.proofs.WovenLaws.{length-statuses_of}
 use Rattle.p25_unit_front.specs.Front.{identifier_of}
 use Rattle.p25_voice_units.specs.{declared.unit.VoiceUnit.{VoiceUnit}, Lengths.{voice_duid, voice_length_of}, Readings.{voice_reading_of}, Images.{voice_image_of}, WithinRadius.{IsVoiceWithin}}
 pub use Rattle.p25_voice_units.proofs.RadiusLaws.{IsVoiceImage-same}
-use Rattle.p25_voice_units.proofs.{RadiusLaws.{voice_within}, ReadingLaws.{IsUnitOf as IsVoiceOf, unit_read}, WholeLaws.{voice_whole}}
+use Rattle.p25_voice_units.proofs.{RadiusLaws.{voice_within, voice_whole}, ReadingLaws.{IsUnitOf as IsVoiceOf, unit_read}}
 use Rattle.p25_packet_blocks.specs.{declared.head.PacketHead.{PacketHead}, declared.block.Slot.TheVariants.{Good, Bad}, declared.packet.Packet.{Packet as packet_type}}
 use Rattle.p25_packet_blocks.specs.{declared.packet.Packet.TheVariants.{Confirmed, Plain}, Heads.{head_blocks}, Lengths.{packet_sent_length}, Outcomes.{failing_blocks_of}}
 use Rattle.p25_packet_blocks.specs.{Reading.{head_reading_of, packet_reading_of}, Sendable.{IsSendable}, Whole.{packet_head, IsWholePacket}}

@@ -5,9 +5,8 @@ use Rattle.p25_status.specs.{Woven.{bare_of, statuses_of}, declared.symbols.Stat
 use Rattle.p25_status.proofs.WovenLaws.{length-woven, bare_of-woven, statuses_of-woven}
 use Rattle.p25_unit_front.specs.Front.{unit_front, front_of}
 use Rattle.p25_unit_front.proofs.FrontLaws.{length-unit_front, front_of-bare_of}
-use Rattle.p25_voice_units.specs.{declared.unit.VoiceUnit.{VoiceUnit}, declared.unit.VoiceUnit.TheVariants.{Header, Link1, Link2, End, EndLink}, Images.{voice_body, voice_image_of}}
-use Rattle.p25_voice_units.specs.Lengths.{voice_duid, voice_length_of}
-use Rattle.p25_voice_units.proofs.{ImagesLaws.{length-voice_image_of}, LengthsLaws.{length-header, length-ldu1, length-ldu2, length-end, length-tdulc, voice_lengths}}
+use Rattle.p25_voice_units.specs.{declared.unit.VoiceUnit.{VoiceUnit}, declared.unit.VoiceUnit.TheVariants.{Header}, Images.{voice_body, voice_image_of}, Lengths.{voice_duid, voice_length_of}}
+use Rattle.p25_voice_units.proofs.{ImagesLaws.{length-voice_image_of}, LengthsLaws.{length-known, voice_lengths}}
 use Rattle.p25_packet_blocks.specs.{Heads.{head_blocks}, Lengths.{packet_bare_length, packet_sent_length}, Whole.{packet_head}}
 use Rattle.p25_packet_blocks.proofs.{HeadLaws.{head_blocks-lt}, PlacesLaws.{image_long, image_front}}
 use Rattle.p25_units.specs.UnitParts.{UnitParts}
@@ -35,19 +34,12 @@ IsSentLength-from bare least most whole = record {
 pub IsSentLength-voice : (duid bare : ℕ) → voice_length_of duid ≡ Some bare → IsSentLength bare
 IsSentLength-voice duid bare is = let bounds = voice_lengths duid bare is in IsSentLength-from bare bounds.0 (omega (arith, bounds.1)) bounds.2
 
--- the length of a voice unit, by its kind
-voice_some : (voice : VoiceUnit) → (bare : ℕ) × (voice_length_of (voice_duid voice) ≡ Some bare)
-voice_some (Header word) = (770, length-header)
-voice_some (Link1 link low voice) = (1680, length-ldu1)
-voice_some (Link2 sync low voice) = (1680, length-ldu2)
-voice_some End = (140, length-end)
-voice_some (EndLink link) = (420, length-tdulc)
-
 pub body_length-voice : (voice : VoiceUnit) (bare : ℕ) → voice_length_of (voice_duid voice) ≡ Some bare → body_length (Voice voice) ≡ bare
 body_length-voice voice bare is = ap (λ found. unwrap_or found 0) is
 
+-- each kind of voice unit has a length
 pub body_length-known : (voice : VoiceUnit) → voice_length_of (voice_duid voice) ≡ Some (body_length (Voice voice))
-body_length-known voice = let some = voice_some voice in some.1 ∙ ap Some (sym (body_length-voice voice some.0 some.1))
+body_length-known voice = length-known voice
 
 -- the length of a packet as it is sent
 pub sent_length-packet : (n : ℕ) → sent_length (packet_bare_length n) ≡ packet_sent_length n
@@ -64,11 +56,7 @@ IsSentLength-body (Packet packet) =
 -- DUIDs have 4 bits
 pub body_duid-lt : (body : Body) → body_duid body < 16
 body_duid-lt (Voice (Header word)) = omega arith
-body_duid-lt (Voice (Link1 link low voice)) = omega arith
-body_duid-lt (Voice (Link2 sync low voice)) = omega arith
-body_duid-lt (Voice End) = omega arith
-body_duid-lt (Voice (EndLink link)) = omega arith
-body_duid-lt (Packet packet) = omega arith
+body_duid-lt body = omega arith
 
 -- the bits of a unit have its length
 pub length-body_image_of : (nac : ℕ) (body : Body) → IsSendableBody body → length (body_image_of nac body) ≡ body_length body

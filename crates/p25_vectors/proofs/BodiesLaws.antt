@@ -8,7 +8,7 @@ use Rattle.p25_packet_blocks.specs.{declared.head.PacketHead.{PacketHead}, decla
 use Rattle.p25_packet_blocks.specs.declared.packet.Packet.TheVariants.{Confirmed as confirmed_packet, Plain as plain_packet}
 use Rattle.p25_units.specs.{Units.{IsWholeBody}, declared.unit.Body.TheVariants.{Voice, Packet}}
 use Rattle.p25_vectors.specs.{Draws.{state_after, octets_drawn}, Bodies.{link_of, sync_of, voice_frame_of, voice_drawn, head_of, blocks_drawn, block_of, slots_drawn, body_next}}
-use Rattle.p25_vectors.specs.{declared.kind.Kind.{Kind}, declared.kind.Kind.TheVariants.{Link1, Link2, Confirmed, Plain, Response}}
+use Rattle.p25_vectors.specs.{declared.bodies.Kind.{Kind}, declared.bodies.Kind.TheVariants.{Link1, Link2, Confirmed, Plain, Response}}
 use Rattle.p25_vectors.proofs.DrawsLaws.{state_after-add}
 
 -- Lists of drawn things.

@@ -23,7 +23,7 @@ use Rattle.p25_units.proofs.{ReadingsLaws.{IsVoiceImage-same}, UnitsLaws.{length
 use Rattle.p25_units.proofs.WithinRadiusLaws.{need_of-near, unit_reading_of-near}
 use Rattle.p25_vectors.specs.{Draws.{draw, state_after}, Damage.{damaged, body_counts, damaged_words, damage_counts, damage_draws}}
 use Rattle.p25_vectors.specs.Samples.{frame_of, frame_next, damaged_image, damage_state, flips_of, sample_bits, sample_flips, sample_frame, state_before, state_behind_unit}
-use Rattle.p25_vectors.specs.{Bodies.{body_next, kind_of}, declared.kind.Kind.{Kind}}
+use Rattle.p25_vectors.specs.{Bodies.{body_next, kind_of}, declared.bodies.Kind.{Kind}}
 use Rattle.p25_vectors.proofs.{BodiesLaws.{body_next-whole}, DamageLaws.{no_word, AreCounts, length-damaged, part-damaged}}
 use Rattle.p25_vectors.proofs.WithinLaws.{IsNearAt, voice-within, packet-within, words-fit, damaged-near, sync-near, identifier-near, body-near}
 

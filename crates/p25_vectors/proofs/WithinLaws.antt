@@ -12,7 +12,7 @@ use Rattle.p25_packet_blocks.specs.{declared.packet.Packet.{Packet as packet_typ
 use Rattle.p25_packet_blocks.specs.{Reading.{header_bits, block_bits}, Whole.{packet_head}, Within.{AreBlocksWithin, block_radius}}
 use Rattle.p25_units.specs.{Fixes.{body_looked, packet_looked}, declared.unit.Body.{Body}, declared.unit.Body.TheVariants.{Voice, Packet}}
 use Rattle.p25_vectors.specs.{Draws.{draw, state_after}, Damage.{damaged, word_counts, field_counts, field_draws, link_counts, body_counts, damaged_words, damage_counts}}
-use Rattle.p25_vectors.proofs.DamageLaws.{no_word, AreApart, AreApart-cons, AreApart-none, AreApart-rising, rising, AreCounts, AreCounts-append, AreCounts-from, distance-damaged}
+use Rattle.p25_vectors.proofs.DamageLaws.{no_word, AreApart, AreApart-cons, AreApart-rising, rising, AreCounts, AreCounts-append, AreCounts-from, distance-damaged}
 use Rattle.p25_vectors.proofs.CountsLaws.{count_at-radius, count_at-size, length-word_counts, get_or-word_counts, length-wide, get_or-wide, AreCounts-word_counts}
 
 -- Bits that came of bits by the damage of words: what is known of each word.
@@ -209,12 +209,10 @@ blocks-apart n = record { behind = behind; apart = apart }
 body-apart : (body : Body) → AreApart 111 (body_looked body)
 unfolding voice_looked link_looked packet_looked wide word_places places_from low_places rising
 body-apart (Voice (Header word)) = AreApart-rising 111 (wide 18 (word_places 18 hdu_rows)) refl
-body-apart (Voice End) = AreApart-none 111
-body-apart (Voice (EndLink link)) = AreApart-rising 111 (wide 24 (word_places 24 tdulc_rows)) refl
 body-apart (Packet packet) =
     let n = head_blocks (packet_head packet) in
     AreApart-cons 111 112 196 (each_below n (λ j. (308 + 196 * j, 196))) (omega arith) (blocks-apart n)
-body-apart body = AreApart-rising 111 link_looked refl
+body-apart body = AreApart-rising 111 (body_looked body) refl
 
 words-apart : (body : Body) → AreApart 0 (damaged_words body)
 unfolding damaged_words

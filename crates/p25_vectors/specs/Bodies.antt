@@ -8,8 +8,8 @@ use Rattle.p25_voice_units.specs.declared.unit.VoiceUnit.TheVariants.{Header as 
 use Rattle.p25_packet_blocks.specs.{declared.head.PacketHead.{PacketHead}, declared.block.Slot.{Slot}, declared.block.Slot.TheVariants.{Good}}
 use Rattle.p25_packet_blocks.specs.Reading.{confirmed_by_parts, plain_by_parts}
 use Rattle.p25_units.specs.{declared.unit.Body.{Body}, declared.unit.Body.TheVariants.{Voice, Packet}}
-use Rattle.p25_vectors.specs.{Draws.{Drawing, and_then, draw, drawn, octets_drawn, octets_next, state_after}, declared.kind.Kind.{Kind}}
-use Rattle.p25_vectors.specs.declared.kind.Kind.TheVariants.{End, Header, EndLink, Link1, Link2, Confirmed, Plain, Response}
+use Rattle.p25_vectors.specs.{Draws.{Drawing, and_then, draw, drawn, octets_drawn, octets_next, state_after}, declared.bodies.Kind.{Kind}}
+use Rattle.p25_vectors.specs.declared.bodies.Kind.TheVariants.{End, Header, EndLink, Link1, Link2, Confirmed, Plain, Response}
 
 -- the kinds, in turn
 unfoldable pub kinds : List Kind

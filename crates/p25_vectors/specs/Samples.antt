@@ -4,7 +4,7 @@ use Rattle.p25_bits.specs.Numbers.{each_below}
 use Rattle.p25_status.specs.{Status.{status_modulo}, Woven.{woven}, declared.symbols.Status.{Status}}
 use Rattle.p25_units.specs.{UnitParts.{UnitParts}, Units.{body_length, unit_image_of}, declared.frame.Frame.{Frame}, declared.unit.Body.{Body}}
 use Rattle.p25_vectors.specs.{Draws.{Drawing, and_then, drawn, number_next, state_after}, Bodies.{body_next, kind_of}}
-use Rattle.p25_vectors.specs.{Damage.{damage_counts, damage_draws, damaged, damaged_words}, declared.kind.Kind.{Kind}}
+use Rattle.p25_vectors.specs.{Damage.{damage_counts, damage_draws, damaged, damaged_words}, declared.bodies.Kind.{Kind}}
 
 -- the frame of a unit that carries a body, with one status symbol everywhere
 abbrev pub frame_of : ℕ → Status → Body → Frame

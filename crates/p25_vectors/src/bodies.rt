@@ -1,19 +1,58 @@
-//! What sample units carry.
+//! The kinds of sample units, and what each carries.
 
 ghost use Rattle.std.specs.Prelude.{◌≡◌, ◌+◌, ◌-◌, ◌*◌, ◌<◌, ◌≤◌, length, take};
 ghost use Rattle.p25_packet_blocks.specs.Reading.{confirmed_by_parts, plain_by_parts};
 ghost use Rattle.p25_vectors.specs.Draws.{octets_drawn, state_after};
-ghost use Rattle.p25_vectors.specs.Bodies.{blocks_drawn, body_next, head_of, header_of, link_of, slots_drawn, sync_of, voice_drawn};
-ghost use Rattle.p25_vectors.specs.declared.kind.Kind.TheVariants.{Confirmed as confirmed_kind, Plain as plain_kind, Response as response_kind};
+ghost use Rattle.p25_vectors.specs.Bodies.{blocks_drawn, body_next, head_of, header_of, kind_of, kinds, link_of, slots_drawn, sync_of, voice_drawn};
+ghost use Rattle.p25_vectors.specs.declared.bodies.Kind.TheVariants.{Confirmed as confirmed_kind, Plain as plain_kind, Response as response_kind};
 ghost use Rattle.p25_units.specs.declared.unit.Body.TheVariants.{Packet as packet_in};
 
 use crate::draws::Draws;
-use crate::kind::Kind;
 use p25_bits::pair_at;
 use p25_link::{EncryptionSync, HeaderWord, LinkControl};
 use p25_packet_blocks::{Block, Confirmed, Octets, Packet, PacketHead, Plain, Slot, Slots};
 use p25_units::Body;
 use p25_voice_units::{Voice, VoiceFrame, VoiceUnit};
+
+// What a sample unit is.
+#[derive(Clone, Copy, Debug, PartialEq, Eq)]
+pub(crate) enum Kind {
+    // A TDU: a terminator without link control.
+    End,
+    // A header data unit (HDU).
+    Header,
+    // A TDULC: a terminator with link control.
+    EndLink,
+    // An LDU1: voice with link control.
+    Link1,
+    // An LDU2: voice with encryption sync.
+    Link2,
+    // A confirmed packet (PDU).
+    Confirmed,
+    // A packet (PDU) that is not confirmed.
+    Plain,
+    // A response to a packet (PDU).
+    Response,
+}
+
+// The kinds, in turn.
+const KINDS: [Kind; 8] = [
+    Kind::End,
+    Kind::Header,
+    Kind::EndLink,
+    Kind::Link1,
+    Kind::Link2,
+    Kind::Confirmed,
+    Kind::Plain,
+    Kind::Response,
+];
+
+// The kind of the unit of a number, from 0.
+pub(crate) fn kind_at(number: u32) -> Kind
+    ensures { result ≡ kind_of number }
+{
+    KINDS[number as usize % KINDS.len()]
+}
 
 // The first nine octets.
 fn nine<const N: usize>(octets: &[u8; N]) -> [u8; 9]
@@ -156,6 +195,7 @@ fn draw_response(draws: &mut Draws) -> Packet
 }
 
 // What a unit of a kind carries.
+#[tactic(auto, unfolding(crate::specs::Bodies::body_next))]
 pub(crate) fn draw_body(kind: Kind, draws: &mut Draws) -> Body
     ensures body { result ≡ (body_next kind draws.old).0 }
     ensures state { draws.new ≡ (body_next kind draws.old).1 }

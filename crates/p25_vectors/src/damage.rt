@@ -142,6 +142,7 @@ fn damage_link(most: usize, draws: &mut Draws, bits: &mut BitBuf) -> u32
 }
 
 // Damages the words of a voice unit after its front: of an HDU, a TDULC, an LDU1 or an LDU2. A TDU has none.
+#[tactic(auto, unfolding(crate::specs::Damage::body_counts, crate::specs::Damage::body_damage_draws, p25_voice_units::specs::Fixes::voice_looked, p25_voice_units::specs::Lengths::voice_length_of))]
 fn damage_voice(voice: &VoiceUnit, draws: &mut Draws, bits: &mut BitBuf) -> u32
     requires { length bits.old ≡ body_length (voice_in voice.now) }
     ensures list { bits.new ≡ damaged (voice_looked voice.now) (body_counts (voice_in voice.now) draws.old) bits.old }

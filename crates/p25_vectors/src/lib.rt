@@ -21,7 +21,6 @@
 mod bodies;
 mod damage;
 mod draws;
-mod kind;
 mod report;
 mod sampler;
 #[cfg(test)]

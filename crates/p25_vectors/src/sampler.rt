@@ -7,10 +7,9 @@ ghost use Rattle.p25_status.specs.Status.{status_modulo};
 ghost use Rattle.p25_vectors.specs.{Draws.{draw, state_after}, Damage.{damage_counts, damage_draws}};
 ghost use Rattle.p25_vectors.specs.Samples.{damaged_image, frame_next, sample_bits, sample_flips, sample_frame};
 
-use crate::bodies::draw_body;
+use crate::bodies::{Kind, draw_body, kind_at};
 use crate::damage::damage;
 use crate::draws::Draws;
-use crate::kind::{Kind, kind_at};
 use p25_bits::BitBuf;
 use p25_status::{SENT_BLOCK_LENGTH, Status, Statuses, weave};
 use p25_units::{Frame, Unit, frame_length, unit_image};

@@ -5,17 +5,14 @@ use Rattle.std.specs.Bool.{beq}
 use Rattle.p25_bits.specs.{Bits.{bits_of, part}, Distance.{distance_of}}
 use Rattle.p25_bits.proofs.{DistanceLaws.{distance_by-append, distance_of-same}, PartLaws.{length-part}}
 use Rattle.p25_gf64.specs.declared.symbol.Sym.{Sym}
-use Rattle.p25_link.specs.{declared.header_word.HeaderWord.{HeaderWord}, declared.link_control.LinkControl.{LinkControl}, Words.{header_symbols, link_symbols}}
 use Rattle.p25_reed_solomon.specs.{Encoding.{rs_word}, Words.{IsCode}}
 use Rattle.p25_coded_fields.specs.{Fixes.{inner_bits, field_fixes_of}, Layouts.{field_bits, places_from}}
 use Rattle.p25_coded_fields.proofs.CodesLaws.{all_end}
-use Rattle.p25_voice_units.specs.{declared.layout.Piece.TheVariants.{Nulls}, declared.unit.VoiceUnit.{VoiceUnit, TheVariants.{Header, End, EndLink}}, declared.voice.VoiceFrame.{VoiceFrame}}
-use Rattle.p25_voice_units.specs.{FieldLayouts.{word_places}, Fixes.{wide, bits_at, link_looked, low_fixes_of, voice_looked, voice_fixes_of, AreFixes}}
-use Rattle.p25_voice_units.specs.Images.{contents, golay18_word, golay24_word, hamming10_word, lsd16_word, piece_bits, rows_bits, voice_body, voice_image_of}
-use Rattle.p25_voice_units.specs.{Layouts.{hdu_rows, ldu_rows, tdulc_rows}, Readings.{low_places}, Sendable.{IsSpeech}}
+use Rattle.p25_voice_units.specs.{declared.layout.Piece.TheVariants.{Nulls}, declared.unit.VoiceUnit.{VoiceUnit, TheVariants.{End}}, declared.voice.VoiceFrame.{VoiceFrame}, FieldLayouts.{word_places}}
+use Rattle.p25_voice_units.specs.Fixes.{wide, bits_at, link_looked, low_fixes_of, voice_looked, voice_fixes_of, AreFixes}
+use Rattle.p25_voice_units.specs.{Images.{contents, hamming10_word, lsd16_word, piece_bits, rows_bits, voice_image_of}, Layouts.{ldu_rows}, Readings.{low_places}, Sendable.{IsSpeech}}
 use Rattle.p25_unit_front.specs.Front.{unit_front}
-use Rattle.p25_voice_units.proofs.{FixesLaws.{fixes-append}, FormLaws.{length-unit, unit_parts, words_in_unit}}
-use Rattle.p25_voice_units.proofs.ImagesLaws.{golay18_carried, golay24_carried, hamming10_carried, header_suits, ldu_suits, tdulc_suits}
+use Rattle.p25_voice_units.proofs.{FixesLaws.{fixes-append}, FormLaws.{length-unit, unit_parts, words_in_unit}, ImagesLaws.{hamming10_carried, ldu_suits}}
 
 -- places of one width
 bits_at-inner : (width : ℕ) (places : List ℕ) (bits : List Bool) → bits_at (wide width places) bits ≡ inner_bits width places bits
@@ -62,21 +59,16 @@ link_distance symbols first second received image there there_image is is_first 
     fixes-append 10 16 places (low_places ldu_rows) received image (link_words_there received there) (link_words_there image there_image)
     ∙ ap₂ (λ m n. m + n) (field_distance hamming10_word 10 1 places symbols received image is) (low_distance first second received image there there_image is_first is_second)
 
--- the fixes of each kind
-pub header_fixes : (word : HeaderWord) (received : List Bool) (fixes : ℕ) → fixes ≡ field_fixes_of golay18_word 18 1 (word_places 18 hdu_rows) (rs_word 36 20 (header_symbols word)) received → AreFixes (Header word) received fixes
-unfolding voice_fixes_of voice_looked voice_image_of voice_body
-header_fixes word received fixes is = record {
+-- the fixes of a unit by its coded field alone, as its looked-at places and its image have it
+pub coded_fixes : (unit : VoiceUnit) (encoding : List Bool → List Bool) (width each : ℕ) (places : List ℕ) (symbols : List Sym) (received : List Bool) (fixes : ℕ) → voice_looked unit ≡ wide width places
+    → ((nac : ℕ) → inner_bits width places (voice_image_of nac unit) ≡ field_bits encoding each (length places) symbols)
+    → fixes ≡ field_fixes_of encoding width each places symbols received → AreFixes unit received fixes
+unfolding voice_fixes_of
+coded_fixes unit encoding width each places symbols received fixes looked carried count = record {
   value = λ nac.
-      let symbols = rs_word 36 20 (header_symbols word) in
-      is ∙ sym (field_distance golay18_word 18 1 (word_places 18 hdu_rows) symbols received (voice_image_of nac (Header word)) (words_in_unit (golay18_carried symbols) (header_suits word) nac 0 _ refl));
-}
-
-pub tdulc_fixes : (link : LinkControl) (received : List Bool) (fixes : ℕ) → fixes ≡ field_fixes_of golay24_word 24 2 (word_places 24 tdulc_rows) (rs_word 24 12 (link_symbols link)) received → AreFixes (EndLink link) received fixes
-unfolding voice_fixes_of voice_looked voice_image_of voice_body
-tdulc_fixes link received fixes is = record {
-  value = λ nac.
-      let symbols = rs_word 24 12 (link_symbols link) in
-      is ∙ sym (field_distance golay24_word 24 2 (word_places 24 tdulc_rows) symbols received (voice_image_of nac (EndLink link)) (words_in_unit (golay24_carried symbols) (tdulc_suits link) nac 15 _ refl));
+      let image = voice_image_of nac unit in
+      count
+      ∙ sym (ap (λ found. distance_of (bits_at found received) (bits_at found image)) looked ∙ field_distance encoding width each places symbols received image (carried nac));
 }
 
 -- of a unit with voice by the information of its coded field, as its image and its looked-at places have it

@@ -1,6 +1,7 @@
 -- How many bits the kinds of voice units have, each by its data unit identifier.
 use Rattle.std.proofs.{Common.{◌≡◌, ◌≢◌, ℕ, ◌%◌, ◌≤◌, eqb, cond, Some, None, refl, sym, subst, ◌∙◌, inl, inr, lit≤}, lemmas.Bool.{cond-false, ne_eqb, cases_eq}}
-use Rattle.p25_voice_units.specs.Lengths.{voice_length_of}
+use Rattle.std.specs.Option.{unwrap_or}
+use Rattle.p25_voice_units.specs.{declared.unit.VoiceUnit.{VoiceUnit}, declared.unit.VoiceUnit.TheVariants.{Header}, Lengths.{voice_duid, voice_length_of}}
 
 pub length-header : voice_length_of 0 ≡ Some 770
 unfolding voice_length_of
@@ -77,3 +78,9 @@ pub voice_lengths : (duid count : ℕ) → voice_length_of duid ≡ Some count �
 voice_lengths =
     length-cases (λ duid count. (112 ≤ count) × (count ≤ 1680) × (count % 70 ≡ 0))
     (lit≤ tt, lit≤ tt, refl) (lit≤ tt, lit≤ tt, refl) (lit≤ tt, lit≤ tt, refl) (lit≤ tt, lit≤ tt, refl) (lit≤ tt, lit≤ tt, refl)
+
+-- each voice unit has a length
+pub length-known : (unit : VoiceUnit) → voice_length_of (voice_duid unit) ≡ Some (unwrap_or (voice_length_of (voice_duid unit)) 0)
+unfolding voice_length_of
+length-known (Header word) = refl
+length-known unit = refl

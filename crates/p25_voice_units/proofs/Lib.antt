@@ -12,5 +12,4 @@ pub mod FieldCodesLaws
 pub mod ReadingLaws
 pub mod RadiusLaws
 pub mod FixesLaws
-pub mod WholeLaws
 pub mod CountedLaws

@@ -11,7 +11,7 @@ use Rattle.p25_link.specs.Words.{header_of_bits, header_of_symbols, link_of_bits
 use Rattle.p25_link.specs.{declared.header_word.HeaderWord.{HeaderWord}, declared.link_control.LinkControl.{LinkControl}}
 use Rattle.p25_status.specs.{declared.fields.Field.{Field}, declared.fields.Field.TheVariants.{LinkControl as LinkField, EncryptionSync as SyncField}}
 use Rattle.p25_coded_fields.specs.Layouts.{field_reading_of}
-use Rattle.p25_voice_units.specs.{declared.unit.VoiceUnit.{VoiceUnit}, declared.unit.VoiceUnit.TheVariants.{Header, Link1, Link2, End, EndLink}, Layouts.{ldu_rows}}
+use Rattle.p25_voice_units.specs.{declared.unit.VoiceUnit.{VoiceUnit}, declared.unit.VoiceUnit.TheVariants.{Link1, Link2, End}, Layouts.{ldu_rows}}
 use Rattle.p25_voice_units.specs.{FieldLayouts.{link_layout, sync_layout, header_layout, tdulc_layout}, Lengths.{voice_duid}}
 use Rattle.p25_voice_units.specs.Readings.{frame_places, low_places, frame_in, voice_in, low_in, header_in, link_in, sync_in, header_from, ldu_from, ldu1_in, ldu2_in, tdulc_from, voice_reading_of}
 use Rattle.p25_voice_units.specs.Sendable.{IsVoiceFrame, IsSpeech, IsSendableVoice}
@@ -68,20 +68,22 @@ pub record IsUnitOf (duid : ℕ) (unit : VoiceUnit) : Type 0 where
   pub kind : voice_duid unit ≡ duid
   pub sendable : IsSendableVoice unit
 
+-- what is read is the unit
+ok_same : {A E : Type 0} {read unit : A} → ◌≡◌ {A = Result A E} (Ok read) (Ok unit) → read ≡ unit
+ok_same is = cc
+
 -- what was read is such a unit, by kinds
 header_read : (bare : List Bool) (answer : Option HeaderWord) (unit : VoiceUnit) → header_in bare ≡ answer → header_from answer ≡ Ok unit → IsUnitOf 0 unit
 unfolding header_in header_from IsSendableVoice
 header_read bare None unit is read = absurd (cc)
 header_read bare (Some word) unit is read =
-    let same : Header word ≡ unit = cc in
-    subst (IsUnitOf 0) same (record { kind = refl; sendable = read_keeps IsHeaderWord header_of_symbols (field_reading_of header_layout bare) word header_keeps is })
+    subst (IsUnitOf 0) (ok_same read) (record { kind = refl; sendable = read_keeps IsHeaderWord header_of_symbols (field_reading_of header_layout bare) word header_keeps is })
 
 tdulc_read : (bare : List Bool) (answer : Option LinkControl) (unit : VoiceUnit) → link_in tdulc_layout bare ≡ answer → tdulc_from answer ≡ Ok unit → IsUnitOf 15 unit
 unfolding link_in tdulc_from IsSendableVoice
 tdulc_read bare None unit is read = absurd (cc)
 tdulc_read bare (Some link) unit is read =
-    let same : EndLink link ≡ unit = cc in
-    subst (IsUnitOf 15) same (record { kind = refl; sendable = read_keeps IsLinkControl link_of_symbols (field_reading_of tdulc_layout bare) link link_keeps is })
+    subst (IsUnitOf 15) (ok_same read) (record { kind = refl; sendable = read_keeps IsLinkControl link_of_symbols (field_reading_of tdulc_layout bare) link link_keeps is })
 
 ldu_read : {X : Type 0} (duid : ℕ) (field : Field) (make : X → List ℕ → VoiceUnit) (bare : List Bool) (answer : Option X) (first second : Option ℕ) (unit : VoiceUnit) → low_in 0 bare ≡ first → low_in 1 bare ≡ second
     → ((word : X) (low : List ℕ) → answer ≡ Some word → IsSpeech low (voice_in bare) → IsUnitOf duid (make word low)) → ldu_from field make answer first second ≡ Ok unit → IsUnitOf duid unit
@@ -90,12 +92,11 @@ ldu_read duid field make bare None first second unit a b made read = absurd (cc)
 ldu_read duid field make bare (Some word) None second unit a b made read = absurd (cc)
 ldu_read duid field make bare (Some word) (Some first) None unit a b made read = absurd (cc)
 ldu_read duid field make bare (Some word) (Some first) (Some second) unit a b made read =
-    let same : make word (first ∷ second ∷ []) ≡ unit = cc in
-    subst (IsUnitOf duid) same (made word (first ∷ second ∷ []) refl (speech_keeps first second bare a b))
+    subst (IsUnitOf duid) (ok_same read) (made word (first ∷ second ∷ []) refl (speech_keeps first second bare a b))
 
 end_read : (unit : VoiceUnit) → ◌≡◌ {A = Result VoiceUnit (List Field)} (Ok End) (Ok unit) → IsUnitOf 3 unit
 unfolding IsSendableVoice
-end_read unit read = let same : End ≡ unit = cc in subst (IsUnitOf 3) same (record { kind = refl; sendable = tt })
+end_read unit read = subst (IsUnitOf 3) (ok_same read) (record { kind = refl; sendable = tt })
 
 -- what is read for a DUID is a unit of it
 pub unit_read : (duid : ℕ) (bare : List Bool) (unit : VoiceUnit) → voice_reading_of duid bare ≡ Ok unit → IsUnitOf duid unit

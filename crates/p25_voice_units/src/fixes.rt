@@ -4,22 +4,24 @@ ghost use Rattle.std.specs.Prelude.{◌≡◌, ◌+◌, ◌*◌, ◌≤◌, All,
 ghost use Rattle.p25_bits.specs.Distance.{distance_of};
 ghost use Rattle.p25_voice_units.specs.{Fixes.{wide, link_looked, bits_at, voice_fixes_of}, Lengths.{voice_duid, voice_length_of}};
 
+use crate::laws::part_places;
 use crate::places::{HDU_WORDS, LDU_WORDS, LOW_WORDS, TDULC_WORDS};
 use crate::unit::VoiceUnit;
 use p25_bits::BitBuf;
 
 /// Answers in how many of a unit's looked-at places after its front received bits differ from the unit's image, both
 /// without status symbols: in its inner words and its low speed words. TIA-102.BAAA, Voice Data Units.
+#[tactic(auto, unfolding(crate::specs::Fixes::voice_fixes_of, crate::specs::Fixes::voice_looked, crate::specs::Lengths::voice_length_of))]
 pub fn voice_fixes(unit: &VoiceUnit, received: &BitBuf, image: &BitBuf) -> u32
     requires received { voice_length_of (voice_duid unit.now) ≡ Some (length received.now) }
     requires image { voice_length_of (voice_duid unit.now) ≡ Some (length image.now) }
     ensures value { result ≡ voice_fixes_of unit.now received.now image.now }
     ensures most { result ≤ 1680 }
 {
+    part_places();
     match unit {
         VoiceUnit::Header(_) => differing(&HDU_WORDS, 18, received, image),
-        VoiceUnit::Link1 { .. } => ldu_fixes(received, image),
-        VoiceUnit::Link2 { .. } => ldu_fixes(received, image),
+        VoiceUnit::Link1 { .. } | VoiceUnit::Link2 { .. } => ldu_fixes(received, image),
         VoiceUnit::End => 0,
         VoiceUnit::EndLink { .. } => differing(&TDULC_WORDS, 24, received, image),
     }

@@ -55,17 +55,11 @@ impl VoiceUnit {
     }
 
     /// Answers how many bits the unit has without status symbols.
-    #[tactic(auto, unfolding(crate::specs::Lengths::voice_length_of))]
     pub fn length(&self) -> usize
         ensures value { voice_length_of (voice_duid self.now) ≡ Some result }
         ensures most { result ≤ 1680 }
     {
-        match self {
-            VoiceUnit::Header(_) => 770,
-            VoiceUnit::Link1 { .. } | VoiceUnit::Link2 { .. } => 1680,
-            VoiceUnit::End => 140,
-            VoiceUnit::EndLink { .. } => 420,
-        }
+        voice_length(self.duid()).unwrap_or(0)
     }
 }
 

@@ -18,7 +18,7 @@ loop-i-preserved c =
     let line = c.args.line.now in
     elim c.if-octet-eq32.branch [
       | then-octet-eq32+then-start-i w ↦ rw (w.out-is, w.start-is)
-          (Cut-space line c.loop-i.out w.note.new.self c.loop-i.start c.loop-i.i c.loop-i.invariant c.loop-i-test.true w.if-start-i.true w.if-octet-eq32.true w.note.ensures.count w.note.ensures.places)
+          (Cut-space line c.loop-i.out w.note.new.self c.loop-i.start c.loop-i.i c.loop-i.invariant c.loop-i-test.true w.if-start-i.true w.if-octet-eq32.true w.note.ensures.count w.note.ensures.spans)
       | else-octet-eq32+else-not-is_ascii_graphic w ↦ rw (w.out-is, w.start-is)
           (Cut-printed line c.loop-i.out c.loop-i.start c.loop-i.i c.loop-i.invariant c.loop-i-test.true (sym w.is_ascii_graphic.ensures.value ∙ w.if-not-is_ascii_graphic.false))
     ]
@@ -35,4 +35,4 @@ returns c =
     let end : c.loop-i.i ≡ length line = omega (arith, cut.within) in
     let some : c.loop-i.start < c.loop-i.i = omega (arith, cut.order) in
     answer-words line c.loop-i.out c.note-2.new.self c.loop-i.start c.loop-i.i cut end some c.if-line-gt-LINE_MOST.false c.note-2.ensures.count
-    (rw end c.note-2.ensures.places)
+    (rw end c.note-2.ensures.spans)

@@ -1,29 +1,7 @@
 use Rattle.std.proofs.Common.{ap, sym, ◌∙◌}
-use Rattle.p25_voice_units.specs.declared.unit.VoiceUnit.TheVariants.{Header as header_unit, EndLink as tdulc_unit}
-use Rattle.p25_units.specs.declared.unit.Body.TheVariants.{Voice}
 use Rattle.p25_vectors.specs.Bodies.{body_next}
 use Rattle.p25_vectors.proofs.BodiesLaws.{ldu1-drawn, ldu2-drawn}
 use Rattle.p25_vectors.proofs.bodies.draw_body.Goals as goal
-
-pub returns-in-End : goal.returns-in-End
-unfolding body_next
-returns-in-End c = record { body = sym (ap (λ k. (body_next k c.args.draws.now).0) c.in-End.is); state = sym (ap (λ k. (body_next k c.args.draws.now).1) c.in-End.is) }
-
-pub returns-in-Header-clause-body : goal.returns-in-Header-clause-body
-unfolding body_next
-returns-in-Header-clause-body c = ap (λ w. Voice (header_unit w)) c.draw_header.ensures.word ∙ sym (ap (λ k. (body_next k c.args.draws.now).0) c.in-Header.is)
-
-pub returns-in-Header-clause-state : goal.returns-in-Header-clause-state
-unfolding body_next
-returns-in-Header-clause-state c = c.draw_header.ensures.state ∙ sym (ap (λ k. (body_next k c.args.draws.now).1) c.in-Header.is)
-
-pub returns-in-EndLink-clause-body : goal.returns-in-EndLink-clause-body
-unfolding body_next
-returns-in-EndLink-clause-body c = ap (λ l. Voice (tdulc_unit l)) c.draw_link.ensures.link ∙ sym (ap (λ k. (body_next k c.args.draws.now).0) c.in-EndLink.is)
-
-pub returns-in-EndLink-clause-state : goal.returns-in-EndLink-clause-state
-unfolding body_next
-returns-in-EndLink-clause-state c = c.draw_link.ensures.state ∙ sym (ap (λ k. (body_next k c.args.draws.now).1) c.in-EndLink.is)
 
 pub returns-in-Link1-clause-body : goal.returns-in-Link1-clause-body
 returns-in-Link1-clause-body c = (ldu1-drawn c.args.draws.now c.draw_link-in-Link1.new.draws c.octets.new.self c.draw_voice.new.draws c.draw_link-in-Link1.result c.octets.result

@@ -1,6 +1,6 @@
 use Rattle.std.proofs.Common.{ap, ◌∙◌}
 use Rattle.p25_voice_units.specs.{Images.{voice_image_of}, Readings.{voice_reading_of}}
-use Rattle.p25_voice_units.proofs.{ReadingLaws.{unit_read}, RadiusLaws.{voice_within, within_from_words, within_itself, IsVoiceImage-same, voice_reading_of-image}, WholeLaws.{voice_whole}}
+use Rattle.p25_voice_units.proofs.{ReadingLaws.{unit_read}, RadiusLaws.{voice_within, within_from_words, within_itself, IsVoiceImage-same, voice_reading_of-image, voice_whole}}
 use Rattle.p25_voice_units.proofs.laws.radius_laws.Goals as goal
 
 pub returns : goal.returns

@@ -1,11 +1,12 @@
 use Rattle.std.proofs.Common.{Some, option_map, length, refl, ap, sym, ◌∙◌}
 use Rattle.p25_coded_fields.specs.{Fixes.{field_fixes_of}, Layouts.{field_reading_of, places_from}}
 use Rattle.p25_coded_fields.proofs.CodesLaws.{all_end}
-use Rattle.p25_link.specs.Words.{header_of_symbols}
+use Rattle.p25_link.specs.Words.{header_of_symbols, header_symbols}
 use Rattle.p25_reed_solomon.specs.Encoding.{rs_word}
 use Rattle.p25_status.specs.Outcomes.{read_or}
-use Rattle.p25_voice_units.specs.{FieldLayouts.{word_places, header_layout}, Images.{golay18_word}, Layouts.{hdu_rows}, Readings.{header_in, header_from}}
-use Rattle.p25_voice_units.proofs.{CodesLaws.{golay18_encodes}, CountedLaws.{header_fixes}, ReadLaws.{part_counted}}
+use Rattle.p25_voice_units.specs.{FieldLayouts.{word_places, header_layout}, Fixes.{voice_looked}, Images.{golay18_word, voice_body, voice_image_of}, Layouts.{hdu_rows}}
+use Rattle.p25_voice_units.specs.Readings.{header_in, header_from}
+use Rattle.p25_voice_units.proofs.{CodesLaws.{golay18_encodes}, CountedLaws.{coded_fixes}, FormLaws.{words_in_unit}, ImagesLaws.{golay18_carried, header_suits}, ReadLaws.{part_counted}}
 use Rattle.p25_voice_units.proofs.read.read_hdu.Goals as goal
 
 pub read_symbols-requires-clause-there : goal.read_symbols-requires-clause-there
@@ -18,9 +19,11 @@ returns-in-Some-clause-value c =
     ap header_from (part_counted header_of_symbols (Some c.in-Some.wrong) (field_reading_of header_layout c.args.bare.now) c.read_symbols.new.symbols c.from_symbols.result c.in-Some.ensures.value c.from_symbols.ensures.value)
 
 pub returns-in-Some-clause-wrong : goal.returns-in-Some-clause-wrong
-unfolding word_places places_from
+unfolding word_places places_from voice_looked voice_image_of voice_body
 returns-in-Some-clause-wrong c =
-    header_fixes c.from_symbols.result c.args.bare.now c.in-Some.wrong
+    let places = word_places 18 hdu_rows in
+    let symbols = rs_word 36 20 (header_symbols c.from_symbols.result) in
+    coded_fixes _ golay18_word 18 1 places symbols c.args.bare.now c.in-Some.wrong refl (λ nac. words_in_unit (golay18_carried symbols) (header_suits c.from_symbols.result) nac 0 _ refl)
     (c.in-Some.ensures.wrong golay18_word golay18_encodes ∙ ap (λ symbols. field_fixes_of golay18_word 18 1 (word_places 18 hdu_rows) (rs_word 36 20 symbols) c.args.bare.now) (sym c.from_symbols.ensures.back))
 
 pub returns-in-None-clause-value : goal.returns-in-None-clause-value
