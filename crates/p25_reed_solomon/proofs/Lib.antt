@@ -8,5 +8,6 @@ pub mod LocatorLaws
 pub mod ListLaws
 pub mod ErrorsSteps
 pub mod CostLaws
+pub mod PackedSteps
 pub mod WrongLaws
 pub mod EncodingLaws
