@@ -8,6 +8,7 @@ pub mod LocatorLaws
 pub mod ListLaws
 pub mod ErrorsSteps
 pub mod CostLaws
+pub mod PackedSteps
 pub mod WrongLaws
 pub mod TurnedLaws
 pub mod EncodingLaws

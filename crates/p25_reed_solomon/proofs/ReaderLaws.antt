@@ -74,17 +74,12 @@ changed_letters n received word errors long_received long is =
     ∙ ap (λ m. nonzeros gf64 m (λ j. gf64.add (coefficient gf64 received j) (coefficient gf64 word j))) long_received
     ∙ nonzeros_same n _ errors (λ j below. ap (gf64.add (coefficient gf64 received j)) (is j below) ∙ add_twice gf64 (coefficient gf64 received j) (errors j))
 
--- a word whose syndromes are all zero is a word of the code
-pub without_errors : (n k : ℕ) (received syndromes : List Sym) → length received ≡ n → ((r : ℕ) → r < n - k → coefficient gf64 syndromes r ≡ value_of n received (r + 1)) → ((r : ℕ) → r < n - k → coefficient gf64 syndromes r ≡ gf64.zero)
-    → IsWord n k received
-without_errors n k received syndromes long are zeros =
-    record {
-      long = long;
-      vanishes = λ i low high.
-          let r : ℕ = i - 1 in
-          let place : r + 1 ≡ i = omega arith in
-          ap (value_of n received) (sym place) ∙ sym (are r (omega arith)) ∙ zeros r (omega arith);
-    }
+-- a word whose syndromes are all zero vanishes at the powers of α from the first on
+pub vanishes_at : (n checks : ℕ) (received : List Sym) → ((r : ℕ) → r < checks → value_of n received (r + 1) ≡ gf64.zero) → (i : ℕ) → 1 ≤ i → i ≤ checks → value_of n received i ≡ gf64.zero
+vanishes_at n checks received zeros i low high =
+    let r : ℕ = i - 1 in
+    let place : r + 1 ≡ i = omega arith in
+    ap (value_of n received) (sym place) ∙ zeros r (omega arith)
 
 -- a list without an erasure
 pub no_erasures : (n : ℕ) → All (λ gone. gone ≡ false) (take n (replicate 63 false))

@@ -48,6 +48,7 @@ mod erasures;
 mod errors;
 pub mod laws;
 mod locator;
+mod packed;
 mod points;
 mod reader;
 mod sums;

@@ -8,7 +8,7 @@ ghost use Rattle.p25_reed_solomon.specs.Words.{IsCode, IsWord, radius_of, same_s
 
 use crate::erasures::count_erasures;
 use crate::errors::find_errors;
-use crate::syndromes::{all_zero, fill_syndromes};
+use crate::syndromes::are_syndromes_zero;
 use p25_code::Reading;
 use p25_gf64::Sym;
 
@@ -33,8 +33,7 @@ pub(crate) fn read_erased(word: &mut [Sym], k: usize, erased: &[bool]) -> Readin
         return Reading::Beyond;
     }
     let mut syndromes = [Sym::default(); 32];
-    fill_syndromes(word, &mut syndromes);
-    if all_zero(&syndromes[..checks]) {
+    if are_syndromes_zero(word, checks, &mut syndromes) {
         return Reading::Found { fixes: 0 };
     }
     let mut errors = [Sym::default(); 63];

@@ -1,10 +1,11 @@
 //! Syndromes: the values of a received word at the powers of α at which each word of the code vanishes.
 
-ghost use Rattle.std.specs.Prelude.{◌≡◌, ℕ, ◌+◌, ◌<◌, ◌≤◌, ◌↔◌, length, IsTrue};
+ghost use Rattle.std.specs.Prelude.{◌≡◌, ℕ, ◌+◌, ◌<◌, ◌≤◌, ◌↔◌, length, true, false, IsTrue};
 ghost use Rattle.p25_gf64.specs.Gf64.{gf64};
 ghost use Rattle.p25_algebra.specs.Series.{coefficient};
 ghost use Rattle.p25_reed_solomon.specs.Words.{value_of};
 
+use crate::packed::{SYMBOLS_MOST, VALUES_MOST, are_zero, put_values, values_of};
 use crate::points::{fill_powers, horner_step};
 use p25_gf64::Sym;
 
@@ -25,8 +26,29 @@ pub fn fill_syndromes(word: &[Sym], out: &mut [Sym])
     }
 }
 
+// Whether the first `checks` syndromes of a word are zero. Where they are not, the first of `out` are set to them.
+pub(crate) fn are_syndromes_zero(word: &[Sym], checks: usize, out: &mut [Sym]) -> bool
+    requires word { length word.now ≤ 63 }
+    requires few { checks ≤ 32 }
+    requires room { length out.old ≡ 32 }
+    ensures clean { result ≡ true → (r : ℕ) → r < checks → value_of (length word.now) word.now (r + 1) ≡ gf64.zero }
+    ensures values { result ≡ false → (r : ℕ) → r < checks → coefficient gf64 out.new r ≡ value_of (length word.now) word.now (r + 1) }
+    ensures full { length out.new ≡ 32 }
+{
+    if word.len() > SYMBOLS_MOST || checks > VALUES_MOST {
+        fill_syndromes(word, out);
+        return all_zero(&out[..checks]);
+    }
+    let values = values_of(word);
+    if are_zero(values, checks) {
+        return true;
+    }
+    put_values(values, out);
+    false
+}
+
 // Whether every symbol is zero.
-pub(crate) fn all_zero(symbols: &[Sym]) -> bool
+fn all_zero(symbols: &[Sym]) -> bool
     ensures { IsTrue result ↔ ((r : ℕ) → r < length symbols.now → coefficient gf64 symbols.now r ≡ gf64.zero) }
 {
     for symbol in symbols {

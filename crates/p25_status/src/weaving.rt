@@ -48,7 +48,7 @@ pub fn unweave(bits: &BitBuf, at: usize, len: usize, out: &mut BitBuf, statuses:
     // The number of bits held bounds every place below.
     let _ = bits.len();
     out.clear();
-    *statuses = Statuses::new();
+    statuses.clear();
     for i in 0..len / SENT_BLOCK_LENGTH {
         let start = at + SENT_BLOCK_LENGTH * i;
         out.append(bits, start, BARE_BLOCK_LENGTH);
