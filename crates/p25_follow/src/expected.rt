@@ -11,16 +11,12 @@ pub fn kind_length(kind: u8) -> usize
     ensures value { result ≡ kind_length kind }
     ensures most { result ≤ 1728 }
 {
-    if kind == HDU {
-        792
-    } else if kind == TDU {
-        144
-    } else if kind == LDU1 || kind == LDU2 {
-        1728
-    } else if kind == TDULC {
-        432
-    } else {
-        0
+    match kind {
+        HDU => 792,
+        TDU => 144,
+        LDU1 | LDU2 => 1728,
+        TDULC => 432,
+        _ => 0,
     }
 }
 
@@ -31,16 +27,11 @@ pub fn first_expected(before: u8) -> Option<u8>
     ensures list { MatchOption result (expected_after before ≡ []) (λ kind. expected_after before ≡ kind ∷ 0xF ∷ 0x3 ∷ []) }
     ensures fits { IfSome result (λ kind. kind ≤ 15) }
 {
-    if before == HDU {
-        Some(LDU1)
-    } else if before == LDU1 {
-        Some(LDU2)
-    } else if before == LDU2 {
-        Some(LDU1)
-    } else if before == TDULC {
-        Some(HDU)
-    } else {
-        None
+    match before {
+        HDU | LDU2 => Some(LDU1),
+        LDU1 => Some(LDU2),
+        TDULC => Some(HDU),
+        _ => None,
     }
 }
 
@@ -61,13 +52,9 @@ pub fn next_link(kind: u8) -> Option<u8>
     ensures value { result ≡ next_link kind }
     ensures fits { IfSome result (λ next. next ≤ 15) }
 {
-    if kind == HDU {
-        Some(LDU1)
-    } else if kind == LDU1 {
-        Some(LDU2)
-    } else if kind == LDU2 {
-        Some(LDU1)
-    } else {
-        None
+    match kind {
+        HDU | LDU2 => Some(LDU1),
+        LDU1 => Some(LDU2),
+        _ => None,
     }
 }
