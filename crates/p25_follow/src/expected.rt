@@ -28,16 +28,11 @@ pub fn first_expected(before: u8) -> Option<u8>
     ensures list { MatchOption result (expected_after before ≡ []) (λ kind. expected_after before ≡ kind ∷ 0xF ∷ 0x3 ∷ []) }
     ensures fits { IfSome result (λ kind. kind ≤ 15) }
 {
-    if before == HDU {
-        Some(LDU1)
-    } else if before == LDU1 {
-        Some(LDU2)
-    } else if before == LDU2 {
-        Some(LDU1)
-    } else if before == TDULC {
-        Some(HDU)
-    } else {
-        None
+    match before {
+        HDU | LDU2 => Some(LDU1),
+        LDU1 => Some(LDU2),
+        TDULC => Some(HDU),
+        _ => None,
     }
 }
 
@@ -58,13 +53,9 @@ pub fn next_link(kind: u8) -> Option<u8>
     ensures value { result ≡ next_link kind }
     ensures fits { IfSome result (λ next. next ≤ 15) }
 {
-    if kind == HDU {
-        Some(LDU1)
-    } else if kind == LDU1 {
-        Some(LDU2)
-    } else if kind == LDU2 {
-        Some(LDU1)
-    } else {
-        None
+    match kind {
+        HDU | LDU2 => Some(LDU1),
+        LDU1 => Some(LDU2),
+        _ => None,
     }
 }

@@ -32,9 +32,7 @@ pub fn relay_item(item: &Item, nac: u16, status: Status, raw: &mut BitBuf)
             let _ = bridge_item(item, nac, status, raw);
         }
         Item::Broken { duid, .. } => relay_broken(nac, *duid, status, raw),
-        Item::NoUnit { .. } => {}
-        Item::Gap { .. } => {}
-        Item::Cut { .. } => {}
+        Item::NoUnit { .. } | Item::Gap { .. } | Item::Cut { .. } => {}
     }
 }
 

@@ -29,8 +29,7 @@ fn if_fits(told: Told, bits: &BitBuf, at: usize) -> Option<u8>
                 None
             }
         }
-        Told::Other => None,
-        Told::Nothing => None,
+        Told::Other | Told::Nothing => None,
     }
 }
 
@@ -51,8 +50,7 @@ fn is_nothing(told: Told) -> bool
 {
     match told {
         Told::Nothing => true,
-        Told::Expected(_) => false,
-        Told::Other => false,
+        Told::Expected(_) | Told::Other => false,
     }
 }
 

@@ -1,5 +1,5 @@
 -- What a tape tells of the calls that were made on it.
-use Rattle.std.specs.Prelude.{◌≡◌, ℕ, Bool, false, List, ◌++◌, map, Option, Some, None}
+use Rattle.std.specs.Prelude.{◌≡◌, Bool, false, List, [], ◌∷◌, ◌++◌, map, Some}
 use Rattle.p25_io.specs.declared.tape.Call.{Call}
 use Rattle.p25_io.specs.declared.tape.Call.TheVariants.{Read as ReadCall, ReadFailed as ReadFailedCall, Wrote as WroteCall, WriteFailed as WriteFailedCall}
 use Rattle.p25_io.specs.{declared.tape.Tape.{Tape}, Events.{Event, Read, ReadFailed, Wrote, WriteFailed}, Pairs.{SourceGoes, SinkGoes}}
@@ -14,17 +14,18 @@ event_of (WriteFailedCall piece count) = WriteFailed piece.items count
 abbrev pub events_of : List Call → List Event
 events_of calls = map event_of calls
 
--- the write of a piece, of which so many octets were written where it failed
-abbrev pub written_as : List ℕ → Option ℕ → Event
-written_as piece (Some count) = WriteFailed piece count
-written_as piece None = Wrote piece
-
 -- the calls that a tape tells of, as events, and whether it is torn
 abbrev pub calls_on : Tape → List Event
 calls_on tape = events_of tape.calls.items
 
 abbrev pub is_torn : Tape → Bool
 is_torn tape = tape.torn
+
+-- a call was kept, or the tape was torn
+pub record IsKept (event : Event) (before after : Tape) : Type 0 where
+  pub source : after.source ≡ before.source
+  pub sink : after.sink ≡ before.sink
+  pub told : is_torn after ≡ false → (is_torn before ≡ false) × (calls_on after ≡ calls_on before ++ event ∷ [])
 
 -- the source and the sink went through these events, also where the tape is torn; and unless it is, they stand after those before
 pub record TapeGoes (first : Tape) (events : List Event) (last : Tape) : Type 0 where

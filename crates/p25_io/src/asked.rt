@@ -63,13 +63,9 @@ impl<W: Write> AskedWriter<W> {
         ensures ok { IfOk result (λ count. (count ≤ length piece.now) × Took W.contents self.old (take count piece.now) 0 self.new) }
         ensures err { OnErr result (Took W.contents self.old [] 0 self.new) }
     {
-        match self.inner.write(piece) {
-            Ok(count) => {
-                self.octets = self.octets.more(&Amount::Octets(&piece[..count]));
-                Ok(count)
-            }
-            Err(_) => Err(Failed),
-        }
+        let count = self.inner.write(piece).map_err(|_| Failed)?;
+        self.octets = self.octets.more(&Amount::Octets(&piece[..count]));
+        Ok(count)
     }
 
     // One flush of the writer.
@@ -77,12 +73,8 @@ impl<W: Write> AskedWriter<W> {
         ensures ok { OnOk result (Took W.contents self.old [] 1 self.new) }
         ensures err { OnErr result (Took W.contents self.old [] 0 self.new) }
     {
-        match self.inner.flush() {
-            Ok(()) => {
-                self.flushes = self.flushes.more(&Amount::One);
-                Ok(())
-            }
-            Err(_) => Err(Failed),
-        }
+        self.inner.flush().map_err(|_| Failed)?;
+        self.flushes = self.flushes.more(&Amount::One);
+        Ok(())
     }
 }

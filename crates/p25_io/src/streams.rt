@@ -91,8 +91,5 @@ fn put_whole<W: Write>(writer: &mut AskedWriter<W>, piece: &[u8]) -> Result<(), 
             Ok(count) => done += count,
         }
     }
-    match writer.flush() {
-        Ok(()) => Ok(()),
-        Err(_) => Err(done),
-    }
+    writer.flush().map_err(|_| done)
 }

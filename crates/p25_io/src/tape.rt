@@ -1,10 +1,11 @@
 //! A port in memory that tells every call.
 
-ghost use Rattle.std.specs.Prelude.{◌≡◌, false, List, [], ◌∷◌, ◌++◌};
-ghost use Rattle.p25_io.specs.{Events.{Read}, Tapes.{TapeGoes, events_of, written_as}};
+ghost use Rattle.std.specs.Prelude.{◌≡◌, false, [], IfOk};
+ghost use Rattle.p25_io.specs.{Notes.{noted_event}, Tapes.{IsKept, TapeGoes, event_of}};
 
+use super::history::Note;
 use crate::{Failed, MemorySource, Port, Sink, SliceSink, Source};
-use std::alloc::Global;
+use std::alloc::{AllocError, Global};
 
 /// A call of a port.
 #[derive(Debug, Drop, PartialEq, Eq)]
@@ -61,44 +62,26 @@ impl<'a> Tape<'a> {
     }
 
     // Puts a call at the end, or tears the tape.
-    fn keep(&mut self, call: Call)
-        ensures source { self.new.source ≡ self.old.source }
-        ensures sink { self.new.sink ≡ self.old.sink }
-        ensures told { self.new.torn ≡ false → (self.old.torn ≡ false) × (self.new.calls.items ≡ self.old.calls.items ++ call ∷ []) }
+    fn keep(&mut self, note: &Note<'_>)
+        ensures { IsKept (noted_event note.now) self.old self.new }
     {
-        if self.calls.push(call).is_err() {
-            self.torn = true;
-        }
-    }
-
-    // Keeps a read that gave these octets.
-    fn keep_read(&mut self, octets: &[u8])
-        ensures source { self.new.source ≡ self.old.source }
-        ensures sink { self.new.sink ≡ self.old.sink }
-        ensures told { self.new.torn ≡ false → (self.old.torn ≡ false)
-            × (events_of self.new.calls.items ≡ events_of self.old.calls.items ++ Read octets.now ∷ []) }
-    {
-        match Vec::from_slice(self.alloc, octets) {
-            Ok(octets) => self.keep(Call::Read(octets)),
+        match call_of(self.alloc, note) {
+            Ok(call) => self.torn |= self.calls.push(call).is_err(),
             Err(_) => self.torn = true,
         }
     }
+}
 
-    // Keeps a write of a piece, of which so many octets were written where it failed.
-    fn keep_write(&mut self, piece: &[u8], failed: Option<usize>)
-        ensures source { self.new.source ≡ self.old.source }
-        ensures sink { self.new.sink ≡ self.old.sink }
-        ensures told { self.new.torn ≡ false → (self.old.torn ≡ false)
-            × (events_of self.new.calls.items ≡ events_of self.old.calls.items ++ written_as piece.now failed ∷ []) }
-    {
-        match Vec::from_slice(self.alloc, piece) {
-            Ok(piece) => self.keep(match failed {
-                Some(count) => Call::WriteFailed(piece, count),
-                None => Call::Wrote(piece),
-            }),
-            Err(_) => self.torn = true,
-        }
-    }
+// The call of a note, where there is enough memory for it.
+fn call_of(alloc: Global, note: &Note<'_>) -> Result<Call, AllocError>
+    ensures { IfOk result (λ call. event_of call ≡ noted_event note.now) }
+{
+    Ok(match *note {
+        Note::Read(octets) => Call::Read(Vec::from_slice(alloc, octets)?),
+        Note::ReadFailed => Call::ReadFailed,
+        Note::Wrote(piece) => Call::Wrote(Vec::from_slice(alloc, piece)?),
+        Note::WriteFailed(piece, count) => Call::WriteFailed(Vec::from_slice(alloc, piece)?, count),
+    })
 }
 
 impl Port for Tape<'_> {
@@ -113,8 +96,8 @@ impl Port for Tape<'_> {
     fn read(&mut self, buf: &mut [u8]) -> Result<usize, Failed> {
         let result = self.source.read(buf);
         match result {
-            Ok(count) => self.keep_read(&buf[..count]),
-            Err(_) => self.keep(Call::ReadFailed),
+            Ok(count) => self.keep(&Note::Read(&buf[..count])),
+            Err(_) => self.keep(&Note::ReadFailed),
         }
         result
     }
@@ -123,12 +106,12 @@ impl Port for Tape<'_> {
         let before = self.sink.written().len();
         match self.sink.write(piece) {
             Ok(()) => {
-                self.keep_write(piece, None);
+                self.keep(&Note::Wrote(piece));
                 Ok(())
             }
             Err(failed) => {
                 let count = self.sink.written().len() - before;
-                self.keep_write(piece, Some(count));
+                self.keep(&Note::WriteFailed(piece, count));
                 Err(failed)
             }
         }

@@ -21,7 +21,7 @@ pub trait Report {
     ghost reporting: { Reporting Self };
 
     /// How many items it has counted, at most.
-    ghost counted: { Self → ℕ };
+    ghost counted: { Self → ℕ } = { λ _. 0 };
 
     /// It has taken the items of a recording that end at a place.
     ghost HasReached: { Self → ℕ → Type 0 } = { λ _ _. Unit {0} };

@@ -1,6 +1,6 @@
 ghost use Rattle.std.specs.Prelude.{◌≡◌, ◌+◌, ◌<◌, ◌≤◌, ◌++◌, [], flat_map, length, option_to_list, IfSome};
 ghost use Rattle.p25_calls.specs.Taking.{fresh_caller};
-ghost use Rattle.p25_recording_filters.specs.ItemOutputs.{call_line, calls_line};
+ghost use Rattle.p25_recording_filters.specs.ItemOutputs.{call_line};
 
 use crate::report::Report;
 use p25_bits::BitBuf;
@@ -77,7 +77,8 @@ impl Report for Calls {
         let mut caller = self.caller;
         let call = caller.finish();
         let last = put_call(&call, out);
-        put_count(self.count + last, out);
+        out.put_labelled(b"calls=", self.count + last);
+        out.put(b"\n");
     }
 
     fn ending(&self) -> Ending {
@@ -103,13 +104,4 @@ fn put_call(call: &Option<Call>, out: &mut Line) -> u64
         }
         None => 0,
     }
-}
-
-// Appends the last line: how many calls there were.
-fn put_count(count: u64, out: &mut Line)
-    requires { length out.old ≤ 401 }
-    ensures { out.new ≡ out.old ++ calls_line count }
-{
-    out.put_labelled(b"calls=", count);
-    out.put(b"\n");
 }

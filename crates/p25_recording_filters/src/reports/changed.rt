@@ -70,8 +70,6 @@ impl Report for Changed {
 
     ghost reporting = { changed_reporting };
 
-    ghost counted = { λ report. 0 };
-
     ghost ignores_bits = { λ blind. absurd (true≢false blind) };
 
     fn put(&mut self, item: &Item, raw: &mut BitBuf, out: &mut Line) {

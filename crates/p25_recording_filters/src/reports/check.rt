@@ -1,5 +1,4 @@
 ghost use Rattle.std.specs.Prelude.{◌≡◌, ◌+◌, ◌^◌, ◌<◌, ◌≤◌, length};
-ghost use Rattle.p25_recording_filters.specs.ItemOutputs.{check_line};
 
 use super::show::put_item_line;
 use crate::report::Report;
@@ -74,7 +73,10 @@ impl Report for Check {
     }
 
     fn close(&self, out: &mut Line) {
-        put_check_line(self.units, self.faults, out);
+        out.clear();
+        out.put_labelled(b"check units=", self.units);
+        out.put_labelled(b" faults=", self.faults);
+        out.put(b"\n");
     }
 
     fn ending(&self) -> Ending {
@@ -86,14 +88,4 @@ impl Report for Check {
             }
         }
     }
-}
-
-// Sets `out` to the last line of a check.
-fn put_check_line(units: u64, faults: u64, out: &mut Line)
-    ensures { out.new ≡ check_line units faults }
-{
-    out.clear();
-    out.put_labelled(b"check units=", units);
-    out.put_labelled(b" faults=", faults);
-    out.put(b"\n");
 }

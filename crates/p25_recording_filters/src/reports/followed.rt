@@ -36,11 +36,7 @@ impl Followed {
     pub fn new() -> Followed
         ensures { result ≡ record { follower = fresh_follow; kept = [] } }
     {
-        Followed {
-            follower: Follower::new(),
-            room: BitBuf::new(),
-            kept: BitBuf::new(),
-        }
+        Followed::of(Follower::new(), BitBuf::new())
     }
 
     /// Answers a report by its follower and the bits, at most seven, that fill no octet.
@@ -90,8 +86,6 @@ impl Report for Followed {
     ghost LOOKS_AT_BITS = { true };
 
     ghost reporting = { followed_reporting };
-
-    ghost counted = { λ report. 0 };
 
     ghost ignores_bits = { λ blind. absurd (true≢false blind) };
 

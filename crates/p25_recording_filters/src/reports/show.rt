@@ -23,8 +23,6 @@ impl Report for Show {
 
     ghost reporting = { show_reporting };
 
-    ghost counted = { λ report. 0 };
-
     ghost ignores_bits = { λ _. record { piece = λ report item bits others. refl; behind = λ report item bits others. refl } };
 
     fn put(&mut self, item: &Item, raw: &mut BitBuf, out: &mut Line) {

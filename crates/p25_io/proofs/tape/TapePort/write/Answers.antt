@@ -4,7 +4,7 @@ use Rattle.p25_io.proofs.tape.TapePort.write.Goals as goal
 
 pub returns-in-Err-clause-err : goal.returns-in-Err-clause-err
 returns-in-Err-clause-err c =
-    let kept = c.keep_write-in-Err.ensures in
+    let kept = c.keep-in-Err.ensures in
     let count = length c.written.result.now - length c.written-before.result.now in
     let grown = beginning-grown _ c.args.piece.now _ count (omega (arith, ap length c.written.ensures, ap length c.written-before.ensures)) c.in-Err.ensures.err in (
       count,
