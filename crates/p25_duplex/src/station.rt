@@ -13,8 +13,8 @@ use std::marker::Model;
 /// A station that sends messages and answers those of the other, with the newest transmission of its direction.
 #[derive(Debug, Drop)]
 pub(crate) struct Station {
-    outbound: Outbound,
-    inbound: Inbound,
+    pub(crate) outbound: Outbound,
+    pub(crate) inbound: Inbound,
     newest: Newest,
 }
 
@@ -41,20 +41,6 @@ impl Station {
             inbound: Inbound::new(alloc),
             newest: Newest::new(),
         }
-    }
-
-    // Answers its half that sends.
-    pub(crate) fn outbound(&self) -> &Outbound
-        ensures { result.now.state ≡ self.now.state.outbound }
-    {
-        &self.outbound
-    }
-
-    // Answers its half that receives.
-    pub(crate) fn inbound(&self) -> &Inbound
-        ensures { result.now.state ≡ self.now.state.inbound }
-    {
-        &self.inbound
     }
 
     // Makes room for one more step. Answers AllocError where there is not enough memory, which comes only where no room was

@@ -1,10 +1,9 @@
-ghost use Rattle.std.specs.Prelude.{◌≡◌, ◌+◌, ◌<◌, ◌≤◌, length, OnOk, OnErr, IfOk};
-ghost use Rattle.p25_duplex.specs.DuplexSteps.{other_side, station_step, duplex_step, first_duplex, station_at, with_station, delivery_at};
+ghost use Rattle.std.specs.Prelude.{◌≡◌, ◌<◌, OnErr, IfOk};
+ghost use Rattle.p25_duplex.specs.DuplexSteps.{other_side, station_step, duplex_step, first_duplex, station_at, with_station};
 
 use crate::event::{DuplexEvent, DuplexStep};
 use crate::side::Side;
 use crate::station::Station;
-use p25_messages::MessageList;
 use p25_stations::Step;
 use std::alloc::{AllocError, Global};
 use std::marker::Model;
@@ -14,7 +13,7 @@ use std::marker::Model;
 pub(crate) struct DuplexStations {
     a: Station,
     b: Station,
-    false_passes: u64,
+    pub(crate) false_passes: u64,
 }
 
 impl Model for DuplexStations {
@@ -42,49 +41,14 @@ impl DuplexStations {
         }
     }
 
-    // The station of a side.
-    fn station(&self, side: Side) -> &Station
+    /// Answers the station of a side.
+    pub(crate) fn station(&self, side: Side) -> &Station
         ensures { result.now.state ≡ station_at side self.now.state }
     {
         match side {
             Side::A => &self.a,
             Side::B => &self.b,
         }
-    }
-
-    /// Answers the messages that a side sent, in order.
-    pub(crate) fn sent(&self, side: Side) -> &MessageList
-        ensures { result.now.list ≡ (delivery_at side self.now.state).outbound.sent }
-    {
-        self.station(side).outbound().sent()
-    }
-
-    /// Answers the messages of a side that were delivered to the other, in order.
-    pub(crate) fn delivered(&self, side: Side) -> &MessageList
-        ensures { result.now.list ≡ (delivery_at side self.now.state).inbound.received }
-    {
-        self.station(side.other()).inbound().received()
-    }
-
-    /// Answers how many messages of a side were acknowledged.
-    pub(crate) fn acknowledged(&self, side: Side) -> u64
-        ensures { result ≡ (delivery_at side self.now.state).outbound.acknowledged }
-    {
-        self.station(side).outbound().acknowledged()
-    }
-
-    /// Answers the number of sessions of a side's messages: one more than it gave messages up.
-    pub(crate) fn sessions(&self, side: Side) -> u64
-        ensures { result ≡ length (delivery_at side self.now.state).outbound.marks + 1 }
-    {
-        self.station(side).outbound().sessions()
-    }
-
-    /// Answers how many deliveries of either direction were false passes; the number stays at 2^64 - 1 once it stands there.
-    pub(crate) fn false_passes(&self) -> u64
-        ensures { result ≡ self.now.state.false_passes }
-    {
-        self.false_passes
     }
 
     // Has an event happen at the station of a side, and answers that station's step. There is room for it.

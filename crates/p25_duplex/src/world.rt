@@ -64,35 +64,35 @@ impl DuplexWorld {
     pub fn sent(&self, side: Side) -> &MessageList
         ensures { result.now.list ≡ (delivery_at side self.now.state).outbound.sent }
     {
-        self.stations.sent(side)
+        self.stations.station(side).outbound.sent()
     }
 
     /// Answers the messages of a side that were delivered to the other, in order.
     pub fn delivered(&self, side: Side) -> &MessageList
         ensures { result.now.list ≡ (delivery_at side self.now.state).inbound.received }
     {
-        self.stations.delivered(side)
+        self.stations.station(side.other()).inbound.received()
     }
 
     /// Answers how many messages of a side were acknowledged.
     pub fn acknowledged(&self, side: Side) -> u64
         ensures { result ≡ (delivery_at side self.now.state).outbound.acknowledged }
     {
-        self.stations.acknowledged(side)
+        self.stations.station(side).outbound.acknowledged()
     }
 
     /// Answers the number of sessions of a side's messages: one more than it gave messages up.
     pub fn sessions(&self, side: Side) -> u64
         ensures { result ≡ length (delivery_at side self.now.state).outbound.marks + 1 }
     {
-        self.stations.sessions(side)
+        self.stations.station(side).outbound.sessions()
     }
 
     /// Answers how many deliveries of either direction were false passes; the number stays at 2^64 - 1 once it stands there.
     pub fn false_passes(&self) -> u64
         ensures { result ≡ self.now.state.false_passes }
     {
-        self.stations.false_passes()
+        self.stations.false_passes
     }
 
     /// Answers the step that an event is, and has it happen. AllocError comes where there is not enough memory for it, and

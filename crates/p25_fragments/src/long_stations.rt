@@ -23,13 +23,13 @@ pub(crate) struct OutstandingPart {
 /// The world of two stations, and the long messages that it carries in parts. What a world keeps of its history is not known here.
 #[derive(Debug, Drop)]
 pub(crate) struct LongStations {
-    inner: World,
+    pub(crate) inner: World,
     // the long message of which a part is outstanding
     outstanding: Option<OutstandingPart>,
     joiner: Joiner,
-    taken: LongList,
-    whole: LongList,
-    acknowledged: u64,
+    pub(crate) taken: LongList,
+    pub(crate) whole: LongList,
+    pub(crate) acknowledged: u64,
     // the ends of the sessions before the present one
     marks: Vec<Mark>,
 }
@@ -67,34 +67,6 @@ impl LongStations {
             acknowledged: 0,
             marks: Vec::new(alloc),
         }
-    }
-
-    /// Answers the world of the two stations, whose messages are the parts.
-    pub(crate) fn inner(&self) -> &World
-        ensures { result.now.state ≡ self.now.state.inner }
-    {
-        &self.inner
-    }
-
-    /// Answers the long messages that were taken, in order.
-    pub(crate) fn taken(&self) -> &LongList
-        ensures { result.now.list ≡ self.now.state.taken }
-    {
-        &self.taken
-    }
-
-    /// Answers the long messages of which all parts were delivered, in order.
-    pub(crate) fn whole(&self) -> &LongList
-        ensures { result.now.list ≡ self.now.state.whole }
-    {
-        &self.whole
-    }
-
-    /// Answers how many long messages were acknowledged.
-    pub(crate) fn acknowledged(&self) -> u64
-        ensures { result ≡ self.now.state.acknowledged }
-    {
-        self.acknowledged
     }
 
     /// Makes room for 1 to 8 more steps: for each, two steps of the inner world, one long message in each list and one mark.

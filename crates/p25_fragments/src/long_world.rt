@@ -94,28 +94,28 @@ impl LongWorld {
     pub fn inner(&self) -> &World
         ensures { result.now.state ≡ self.now.state.inner }
     {
-        self.stations.inner()
+        &self.stations.inner
     }
 
     /// Answers the long messages that were taken, in order.
     pub fn taken(&self) -> &LongList
         ensures { result.now.list ≡ self.now.state.taken }
     {
-        self.stations.taken()
+        &self.stations.taken
     }
 
     /// Answers the long messages of which all parts were delivered, in order.
     pub fn whole(&self) -> &LongList
         ensures { result.now.list ≡ self.now.state.whole }
     {
-        self.stations.whole()
+        &self.stations.whole
     }
 
     /// Answers how many long messages were acknowledged.
     pub fn acknowledged(&self) -> u64
         ensures { result ≡ self.now.state.acknowledged }
     {
-        self.stations.acknowledged()
+        self.stations.acknowledged
     }
 
     /// Makes room for 1 to 8 more steps: for each, two steps of the inner world, one long message in each list and one mark.

@@ -1,13 +1,13 @@
 #![tactic(auto, unfolding(p25_delivery::specs::Delivery::happens, p25_delivery::specs::Delivery::with_outbound, p25_delivery::specs::Delivery::with_inbound))]
 
-ghost use Rattle.std.specs.Prelude.{◌≡◌, ◌+◌, ◌<◌, ◌≤◌, length, OnOk, OnErr};
+ghost use Rattle.std.specs.Prelude.{◌≡◌, ◌+◌, ◌<◌, ◌≤◌, OnOk, OnErr};
 ghost use Rattle.p25_stations.specs.{Steps.{world_step, heard_by, delivery_step}, WorldState.{first_world}};
 ghost use Rattle.p25_delivery.specs.Delivery.{happens};
 
 use crate::newest::Newest;
 use crate::step::{Event, Step};
 use p25_delivery::{Inbound, Outbound, StepKind, Way};
-use p25_messages::{Flips, MessageList};
+use p25_messages::Flips;
 use p25_packet_blocks::Packet;
 use std::alloc::{AllocError, Global};
 use std::marker::Model;
@@ -15,11 +15,11 @@ use std::marker::Model;
 /// The two stations of a world and the air between them. What a world keeps of its history is not known here.
 #[derive(Debug, Drop)]
 pub(crate) struct Stations {
-    outbound: Outbound,
-    inbound: Inbound,
+    pub(crate) outbound: Outbound,
+    pub(crate) inbound: Inbound,
     packet_sent: Newest,
     answer: Newest,
-    false_passes: u64,
+    pub(crate) false_passes: u64,
 }
 
 impl Model for Stations {
@@ -50,41 +50,6 @@ impl Stations {
             answer: Newest::new(),
             false_passes: 0,
         }
-    }
-
-    /// Answers the messages that were sent, in order.
-    pub(crate) fn sent(&self) -> &MessageList
-        ensures { result.now.list ≡ self.now.state.delivery.outbound.sent }
-    {
-        self.outbound.sent()
-    }
-
-    /// Answers the messages that were delivered, in order.
-    pub(crate) fn delivered(&self) -> &MessageList
-        ensures { result.now.list ≡ self.now.state.delivery.inbound.received }
-    {
-        self.inbound.received()
-    }
-
-    /// Answers how many messages were acknowledged.
-    pub(crate) fn acknowledged(&self) -> u64
-        ensures { result ≡ self.now.state.delivery.outbound.acknowledged }
-    {
-        self.outbound.acknowledged()
-    }
-
-    /// Answers how many deliveries were false passes; the number stays at 2^64 - 1 once it stands there.
-    pub(crate) fn false_passes(&self) -> u64
-        ensures { result ≡ self.now.state.false_passes }
-    {
-        self.false_passes
-    }
-
-    /// Answers the number of sessions: one more than a message was given up.
-    pub(crate) fn sessions(&self) -> u64
-        ensures { result ≡ length self.now.state.delivery.outbound.marks + 1 }
-    {
-        self.outbound.sessions()
     }
 
     /// Makes room for 1 to 16 more steps. Answers AllocError where there is not enough memory, which comes only where there

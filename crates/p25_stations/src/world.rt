@@ -64,35 +64,35 @@ impl World {
     pub fn sent(&self) -> &MessageList
         ensures { result.now.list ≡ self.now.state.delivery.outbound.sent }
     {
-        self.stations.sent()
+        self.stations.outbound.sent()
     }
 
     /// Answers the messages that were delivered, in order.
     pub fn delivered(&self) -> &MessageList
         ensures { result.now.list ≡ self.now.state.delivery.inbound.received }
     {
-        self.stations.delivered()
+        self.stations.inbound.received()
     }
 
     /// Answers how many messages were acknowledged.
     pub fn acknowledged(&self) -> u64
         ensures { result ≡ self.now.state.delivery.outbound.acknowledged }
     {
-        self.stations.acknowledged()
+        self.stations.outbound.acknowledged()
     }
 
     /// Answers how many deliveries were false passes; the number stays at 2^64 - 1 once it stands there.
     pub fn false_passes(&self) -> u64
         ensures { result ≡ self.now.state.false_passes }
     {
-        self.stations.false_passes()
+        self.stations.false_passes
     }
 
     /// Answers the number of sessions: one more than a message was given up.
     pub fn sessions(&self) -> u64
         ensures { result ≡ length self.now.state.delivery.outbound.marks + 1 }
     {
-        self.stations.sessions()
+        self.stations.outbound.sessions()
     }
 
     /// Makes room for 1 to 16 more steps. Answers AllocError where there is not enough memory, which comes only where there
