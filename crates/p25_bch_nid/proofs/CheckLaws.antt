@@ -2,7 +2,8 @@
 use Rattle.std.proofs.Common.{◌≡◌, ℕ, List, [], get_or, ◌+◌, ◌*◌, ◌/◌, ◌%◌, ◌^◌, ◌<◌, bit_xor, refl, ap, sym, ◌∙◌, subst, arith}
 use Rattle.std.specs.Int.Bits.{xor_zero_r}
 use Rattle.p25_bits.specs.{Divisible.{IsDivisible, IsRemainder}, Numbers.{each_below}}
-use Rattle.p25_bits.proofs.{DivisibleLaws.{IsRemainder-unique, remainder_from_divisible, xor_apart}, DivisionLaws.{times_x, times_power, IsRemainder-sum, IsRemainder-times_power}, NumbersLaws.{get_or-each_below}}
+use Rattle.p25_bits.proofs.{DivisibleLaws.{IsRemainder-unique, remainder_from_divisible, xor_apart}, DivisionLaws.{times_x, times_power, IsRemainder-sum, IsRemainder-times_power}}
+use Rattle.p25_bits.proofs.NumbersLaws.{get_or-each_below}
 use Rattle.p25_bch_nid.specs.{Bch63FormLaws.{generator_degree}, Nid.{generator}, declared.checks.TheConstants.{REMAINDERS}}
 
 -- the table as the checker makes it
