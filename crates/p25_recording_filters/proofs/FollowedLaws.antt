@@ -1,5 +1,5 @@
 -- The octets that `follow` writes as an item comes: those that the bits before its own fill, and then its own.
-use Rattle.std.proofs.Common.{◌≡◌, ℕ, ◌+◌, ◌-◌, ◌*◌, ◌/◌, ◌≤◌, Bool, true, false, cond, List, [], ◌++◌, length, drop, ap, ap₂, sym, ◌∙◌, arith, append_assoc, append-nil, length-append, length-drop}
+use Rattle.std.proofs.Common.{◌≡◌, ℕ, ◌+◌, ◌*◌, ◌/◌, ◌≤◌, Bool, true, false, cond, List, [], ◌++◌, length, drop, ap, ap₂, sym, ◌∙◌, arith, append_assoc, append-nil, length-append, length-drop}
 use Rattle.std.proofs.lemmas.List.{drop-append-le, drop-drop}
 use Rattle.p25_units.specs.{Units.{whole_octets}, declared.item.Item.{Item}}
 use Rattle.p25_follow.specs.{Followed.{is_rest}, Following.{Follow, written_before, written_item}}

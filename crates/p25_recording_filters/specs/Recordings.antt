@@ -1,8 +1,7 @@
 -- A report at work on a recording: what it still writes, for any bits that may still come.
 use Rattle.std.specs.Prelude.{◌≡◌, ℕ, Bool, true, false, if◌then◌else◌, List, [], ◌++◌, Option, Some, None}
 use Rattle.p25_bits.specs.Bits.{octet_bits}
-use Rattle.p25_stream.specs.{Items.{items_by}, Scan.{Scan, Gave, given}}
-use Rattle.p25_units.specs.declared.item.Item.{Item}
+use Rattle.p25_stream.specs.{Items.{items_by}, Scan.{Scan, given}}
 use Rattle.p25_filter.specs.{Futures.{Future}, declared.ending.Ending.{Ending}}
 use Rattle.p25_recording_filters.specs.{declared.recording.Phase.{Phase}, declared.recording.Phase.TheVariants.{Reading, Ended, Closed}}
 use Rattle.p25_recording_filters.specs.Reports.{Reporting, reported, report_behind}
@@ -63,15 +62,6 @@ phase_future reporting report scan Closed = record {
 
 unfoldable pub recording_future : {R : Type 0} → Reporting R → RecordingParts R → Future
 recording_future reporting work = phase_future reporting work.report work.scan work.phase
-
--- the next item was given, what is written of it was put, and the report went on after it
-pub record PutItem {R : Type 0} (reporting : Reporting R) (before : RecordingParts R) (out : List ℕ) (now : RecordingParts R) : Type 0 where
-  pub item : Item
-  pub raw : List Bool
-  pub gave : Gave before.scan item raw now.scan
-  pub piece : out ≡ reporting.piece before.report item raw
-  pub behind : now.report ≡ reporting.behind before.report item raw
-  pub phase : now.phase ≡ before.phase
 
 -- what asking for the piece at the end answers: once the input has ended and before it was given, it is given
 abbrev pub IsClosingBy : {R : Type 0} → Reporting R → Phase → RecordingParts R → Bool → List ℕ → RecordingParts R → Type 0

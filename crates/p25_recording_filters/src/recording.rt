@@ -1,9 +1,9 @@
 //! The work of a command on a recording: its items, as they are decided, and what a report writes of them.
 
-ghost use Rattle.std.specs.Prelude.{◌≡◌, ◌≢◌, [], true, false, take, Result, Ok};
+ghost use Rattle.std.specs.Prelude.{◌≡◌, [], true, false, take, Result, Ok};
 ghost use Rattle.p25_stream.specs.Scan.{Gave, given};
 ghost use Rattle.p25_units.specs.Items.{IsSoundItem, covered};
-ghost use Rattle.p25_recording_filters.specs.Recordings.{fresh, IsClosing, PutItem};
+ghost use Rattle.p25_recording_filters.specs.Recordings.{fresh, IsClosing};
 
 use crate::report::Report;
 use p25_bits::BitBuf;
@@ -52,11 +52,17 @@ impl<R: Report> Model for Recording<R> {
 }
 
 impl<R: Report> Recording<R> {
+    ghost use Rattle.std.specs.Prelude.{◌≢◌, false};
+    ghost use Rattle.p25_filter.specs.Futures.{IsIdle};
+    ghost use Rattle.p25_recording_filters.specs.{declared.recording.Phase.TheVariants.{Ended}, Recordings.{recording_future}};
+
     /// Answers a report before the first octet. It has counted nothing.
     pub fn new(report: R) -> Recording<R>
         requires counted { R.counted report ≡ 0 }
         requires reached { R.HasReached report 0 }
-        ensures { result ≡ fresh report }
+        ensures value { result ≡ fresh report }
+        ensures drained { (given result.scan ≡ []) × (result.phase ≢ Ended) }
+        ensures idle { IsIdle false (recording_future R.reporting result) }
     {
         Recording {
             report,
@@ -64,18 +70,6 @@ impl<R: Report> Recording<R> {
             item: Item::Cut { place: 0, have: 0 },
             raw: BitBuf::new(),
             phase: Phase::Reading,
-        }
-    }
-
-    // Sets `out` to what is written of the next item. There is one.
-    fn put_next(&mut self, out: &mut Line)
-        requires { given self.old.scan ≢ [] }
-        ensures { PutItem R.reporting self.old out.new self.new }
-    {
-        if take_item::<R>(&mut self.scanner, &mut self.item, &mut self.raw) {
-            self.report.put(&self.item, &mut self.raw, out);
-        } else {
-            unreachable!();
         }
     }
 
@@ -142,7 +136,10 @@ impl<R: Report> Filter for Recording<R> {
             return Ok(self.close(out));
         }
         item_laws();
-        self.put_next(out);
+        if !take_item::<R>(&mut self.scanner, &mut self.item, &mut self.raw) {
+            unreachable!();
+        }
+        self.report.put(&self.item, &mut self.raw, out);
         Ok(true)
     }
 
