@@ -47,7 +47,7 @@ def in_pieces(octets, size):
     stream, found = p25.Stream(), []
     for place in range(0, len(octets), size):
         found += stream.feed(octets[place : place + size])
-        assert stream._size <= max(65536, 4 * (3241 + size)), stream._size
+        assert len(stream._octets) <= 3241 + size, len(stream._octets)
     return found + list(stream.finish())
 
 

@@ -4,11 +4,11 @@ import ctypes
 import enum
 import struct
 import sys
-from collections import deque
+from functools import partial
 from types import TracebackType
-from typing import TYPE_CHECKING, Any, AsyncIterator, BinaryIO, Callable, Deque, Iterator, List, Optional, Tuple, Type, Union
+from typing import TYPE_CHECKING, Any, AsyncIterator, BinaryIO, Callable, Iterator, List, Optional, Tuple, Type, Union
 
-from ._library import CAUSES, I32, READ, SIZE, U8, U16, U32, U64, WRITE, Cause, Error, View, call, checked, number_of, octets_of
+from ._library import CAUSES, I32, READ, SIZE, U8, U16, U32, U64, WRITE, Cause, Error, View, call, checked, library, number_of, octets_of
 
 if TYPE_CHECKING:
     from ._library import Octets
@@ -70,7 +70,6 @@ class _Parts(ctypes.Structure):
 
 
 _next_item = call("p25_next_item", I32, WRITE, SIZE, U64, U64, ctypes.c_bool, ctypes.POINTER(_Parts), WRITE, SIZE)
-_many_items = call("p25_items", I32, WRITE, SIZE, U64, U64, ctypes.c_bool, WRITE, SIZE)
 _build = call("p25_build", I32, READ, SIZE, U8, WRITE, SIZE)
 _repair = call("p25_repair", I32, READ, SIZE, WRITE, SIZE)
 _bridge = call("p25_bridge", I32, READ, SIZE, U16, U8, WRITE, SIZE)
@@ -179,44 +178,18 @@ def _text_at(address: Any, length: int, begin: int, place: int, ended: bool) -> 
 
 def _text_of(octets: bytes, place: int) -> str:
     """Answers the text of the item at a place, by the octets that hold its bits and those that decide it."""
-    return _text_at(ctypes.cast(ctypes.c_char_p(octets), ctypes.c_void_p), len(octets), place - place % 8, place, True)
+    return _text_at(octets, len(octets), place - place % 8, place, True)
 
 
 # The numbers of an item as p25_items writes them, and how many items one call is asked for.
 _ROW = struct.Struct("=QIIIHBB")
-_AT_ONCE = 1024
-# The octets for which a stream has room at first.
-_ROOM_FIRST = 65536
-_ONE: Any = ctypes.c_char.from_buffer
-_address_of = ctypes.addressof
-
-
-class _Reader:
-    """Tells items of octets at an address, many with one call of the library, and makes them values."""
-
-    def __init__(self) -> None:
-        self._rows = ctypes.create_string_buffer(_AT_ONCE * _ROW.size)
-        self._numbers = memoryview(self._rows)
-
-    def next(self, octets: "Union[bytes, memoryview]", length: int, address: int, begin: int, place: int, ended: bool) -> List[Item]:
-        """Answers the next items from a place on of so many octets at an address, the first of which stands at `begin`: at most 1,024, and none
-        where none is decided. Each has its octets copied."""
-        told = _many_items(address, length, begin, place, ended, self._rows, _AT_ONCE)
-        if told < 0:
-            raise ValueError("outside")
-        new, kinds, duids, made = Item.__new__, _KIND, _DUID, []
-        for at, bits, fixes, _, nac, duid, kind in _ROW.iter_unpack(self._numbers[: _ROW.size * told]):
-            item = new(Item)
-            item.kind_id, item.place, item.bits, item.fixes = kinds[kind], at, bits, fixes  # type: ignore[assignment]
-            item._octets = bytes(octets[(at - begin) >> 3 : (at + bits - begin + 7) >> 3])
-            if kind < 3:
-                item.nac, item.duid, item._text = nac, duids[duid], None
-            else:
-                # Further octets decide these, so the text is taken while they are there. It is short.
-                item.nac = item.duid = None
-                item._text = _text_at(address, length, begin, at, ended)
-            made.append(item)
-        return made
+_rows_of, _AT_ONCE = _ROW.iter_unpack, 1024
+# What p25_items is given is made ready here: to convert all of it anew costs more than to tell a few items.
+_many_items: Any = library["p25_items"]
+_length_of, _place_of, _flag_of = SIZE.from_param, U64.from_param, ctypes.c_bool.from_param
+_FIRST, _WITHIN, _ROOM = _place_of(0), tuple(map(_place_of, range(8))), _length_of(_AT_ONCE)
+_OPEN, _ENDED = _flag_of(False), _flag_of(True)
+_joined, _new = b"".join, Item.__new__
 
 
 class Stream:
@@ -230,67 +203,74 @@ class Stream:
     """
 
     def __init__(self) -> None:
-        # Items that are made and not taken; there may be more where `fed` is true.
-        self._made: Deque[Item] = deque()
-        self._fed = self._ended = False
-        # Octets from a bit on, a multiple of 8, up to `end` of the room; the next item to be made begins at `from`.
-        self._begin = self._from = self._end = 0
-        self._next = _Reader().next
-        self._set_room(_ROOM_FIRST)
-
-    def _set_room(self, size: int) -> None:
-        # Room that stays where it is: its address is asked for once.
-        room = bytearray(size)
-        self._view, self._size, self._first = memoryview(room), size, _ONE(room)
-        self._address = _address_of(self._first)
-
-    def _make_room(self, count: int) -> None:
-        """Lets go what no item needs any more, and takes larger room where so many octets do not fit."""
-        past = (self._from - self._begin) >> 3
-        held = bytes(self._view[past : self._end])
-        self._begin, self._end = self._begin + (past << 3), len(held)
-        if len(held) + count > self._size:
-            self._set_room(2 * (len(held) + count))
-        self._view[: len(held)] = held
+        # Octets from bit `begin` of the recording on, of which the next item begins at bit `at`; `address` is what a call is given for them,
+        # and `last` whether no more follow.
+        self._octets: "Union[bytes, memoryview]" = b""
+        self._address: Any = b""
+        self._begin, self._at, self._last = 0, 0, _OPEN
+        # Pieces that came since they were looked at, the end as an empty one.
+        self._pieces: List[bytes] = []
+        self._ended = False
+        # The numbers of items that are told and not taken, and whether these octets may have more.
+        self._told: Iterator[Any] = iter(())
+        self._more = False
+        self._rows = ctypes.create_string_buffer(_AT_ONCE * _ROW.size)
+        self._into, numbers = ctypes.byref(self._rows), memoryview(self._rows)
+        self._numbers = [numbers[: it * _ROW.size] for it in range(16)] + [numbers]
 
     def feed(self, octets: "Octets") -> Iterator[Item]:
         """Takes octets, of any number, and answers an iterator over the items that are decided. Error(finished) after `finish`."""
         if self._ended:
             raise Error(Cause.FINISHED)
-        given = octets if isinstance(octets, (bytes, bytearray)) else octets_of(octets)
-        end = self._end + len(given)
-        if end > self._size:
-            self._make_room(len(given))
-            end = self._end + len(given)
-        self._view[self._end : end] = given
-        self._end, self._fed = end, True
+        self._pieces.append(octets if type(octets) is bytes else octets_of(octets))
         return self._items()
 
     def finish(self) -> Iterator[Item]:
         """Answers an iterator over all items that are left, the last of which ends where the recording does."""
-        self._ended = self._fed = True
+        if not self._ended:
+            self._pieces.append(b"")
+            self._ended = True
         return self._items()
 
-    def _make(self) -> bool:
-        """Makes the next items, and answers whether there are any."""
-        made = self._next(self._view, self._end, self._address, self._begin, self._from, self._ended)
-        self._fed = len(made) == _AT_ONCE
-        if not made:
-            return False
-        self._from = made[-1].place + made[-1].bits
-        self._made.extend(made)
-        return True
-
     def _items(self) -> Iterator[Item]:
-        made = self._made
-        while made or (self._fed and self._make()):
-            yield made.popleft()
+        while True:
+            told = self._told
+            for at, bits, fixes, _, nac, duid, kind in told:
+                item, octets = _new(Item), self._octets
+                item.kind_id, item.place, item.bits, item.fixes = _KIND[kind], self._begin + at, bits, fixes  # type: ignore[assignment]
+                self._at = end = at + bits
+                item._octets = bytes(octets[at >> 3 : (end + 7) >> 3])
+                if kind < 3:
+                    item.nac, item.duid, item._text = nac, _DUID[duid], None
+                else:
+                    # Further octets decide these, so the text is taken while they are there. It is short.
+                    item.nac = item.duid = None
+                    item._text = _text_at(self._address, len(octets), self._begin, item.place, self._last is _ENDED)
+                yield item
+            if told is self._told:
+                at, pieces, octets = self._at, self._pieces, self._octets
+                if not self._more:
+                    if not pieces:
+                        return
+                    # What no item needs any more is let go.
+                    self._octets = self._address = octets = _joined((octets[at >> 3 :], *pieces))
+                    self._begin += at & -8
+                    self._at = at = at & 7
+                    pieces.clear()
+                    if self._ended:
+                        self._last = _ENDED
+                place = _WITHIN[at] if at < 8 else _place_of(at)
+                count = _many_items(self._address, _length_of(len(octets)), _FIRST, place, self._last, self._into, _ROOM)
+                if count < 0:
+                    raise ValueError("outside")
+                self._more = count == _AT_ONCE
+                self._told = _rows_of(self._numbers[count] if count < 16 else self._numbers[16][: count * _ROW.size])
 
     def read(self, file: BinaryIO, size: int = 65536) -> Iterator[Item]:
         """Yields the items of an open file of octets as they are decided, up to its end, and finishes the stream. Of a file that has `read1`,
         as a buffered one, it takes what is there, so a live input waits for no further octets."""
         take: Callable[[int], bytes] = getattr(file, "read1", file.read)
-        for piece in iter(lambda: take(size), b""):
+        for piece in iter(partial(take, size), b""):
             yield from self.feed(piece)
         yield from self.finish()
 
@@ -310,11 +290,11 @@ class Stream:
         return self
 
     def __exit__(self, kind: Optional[Type[BaseException]], error: Optional[BaseException], trace: Optional[TracebackType]) -> None:
-        self._ended = self._fed = True
+        self.finish()
 
     def __repr__(self) -> str:
-        place = self._made[0].place if self._made else self._from
-        return f"<p25.Stream at bit {place}, {self._end - (self._from - self._begin) // 8} octets held{', finished' if self._ended else ''}>"
+        held = len(self._octets) - self._at // 8 + sum(map(len, self._pieces))
+        return f"<p25.Stream at bit {self._begin + self._at}, {held} octets held{', finished' if self._ended else ''}>"
 
 
 def items(octets: "Octets") -> Iterator[Item]:
@@ -322,14 +302,10 @@ def items(octets: "Octets") -> Iterator[Item]:
     given = checked(octets)
     if len(given) == 0:
         return
-    view, following, place = View(given), _Reader().next, 0
-    source = given if isinstance(given, bytes) else memoryview(given).cast("B")
-    while True:
-        made = following(source, view.length, view.address, 0, place, True)
-        if not made:
-            return
-        place = made[-1].place + made[-1].bits
-        yield from made
+    view, stream = View(given), Stream()
+    stream._octets = given if isinstance(given, bytes) else memoryview(given).cast("B")
+    stream._address, stream._more, stream._ended, stream._last = WRITE(view.address), True, True, _ENDED
+    yield from stream._items()
 
 
 def _unit(function: Any, *arguments: Any) -> bytes:

@@ -1,7 +1,7 @@
 //! Numbers and the bits that write them, the first bit highest: one number in a slice of bits, and numbers of one width in
 //! a list of bits.
 
-ghost use Rattle.std.specs.Prelude.{◌≡◌, ◌+◌, ◌*◌, ◌^◌, ◌<◌, ◌≤◌, ◌++◌, All, length, drop};
+ghost use Rattle.std.specs.Prelude.{◌≡◌, ◌+◌, ◌*◌, ◌^◌, ◌<◌, ◌≤◌, ◌++◌, All, length, take, drop};
 ghost use Rattle.p25_bits.specs.{Bits.{bits_of, field_of}, Numbers.{number_bits, numbers_from, pair_at, triple_at}};
 
 use super::bit_buf::BitBuf;
@@ -67,10 +67,59 @@ impl BitBuf {
         requires there { at + width * length numbers.old ≤ length self.now }
         ensures { numbers.new ≡ numbers_from width (length numbers.old) (drop at self.now) }
     {
+        let first = if width == 8 {
+            self.take_eights(at, numbers)
+        } else {
+            0
+        };
+        self.take_from(at, width, first, numbers);
+    }
+
+    // Sets the numbers from a place in their list on, where those before it are set.
+    fn take_from(&self, at: usize, width: u32, first: usize, numbers: &mut [u8])
+        requires width { width ≤ 8 }
+        requires there { at + width * length numbers.old ≤ length self.now }
+        requires first { first ≤ length numbers.old }
+        requires before { take first numbers.old ≡ numbers_from width first (drop at self.now) }
+        ensures { numbers.new ≡ numbers_from width (length numbers.old) (drop at self.now) }
+    {
         // The number of bits held bounds every place below.
         let _ = self.len();
-        for i in 0..numbers.len() {
+        for i in first..numbers.len() {
             numbers[i] = self.field(at + width as usize * i, width) as u8;
+        }
+    }
+
+    // Sets octets, eight at once, as long as there are eight, and answers how many.
+    fn take_eights(&self, at: usize, octets: &mut [u8]) -> usize
+        requires there { at + 8 * length octets.old ≤ length self.now }
+        ensures most { result ≤ length octets.old }
+        ensures long { length octets.new ≡ length octets.old }
+        ensures taken { take result octets.new ≡ numbers_from 8 result (drop at self.now) }
+    {
+        // The number of bits held bounds every place below.
+        let _ = self.len();
+        let whole = octets.len() / 8;
+        for g in 0..whole {
+            self.take_eight(at, 8 * g, octets);
+        }
+        8 * whole
+    }
+
+    // Sets the eight octets from a place in their list on, where those before it are set.
+    #[inline]
+    fn take_eight(&self, at: usize, first: usize, octets: &mut [u8])
+        requires there { at + 8 * (first + 8) ≤ length self.now }
+        requires room { first + 8 ≤ length octets.old }
+        requires before { take first octets.old ≡ numbers_from 8 first (drop at self.now) }
+        ensures long { length octets.new ≡ length octets.old }
+        ensures taken { take (first + 8) octets.new ≡ numbers_from 8 (first + 8) (drop at self.now) }
+    {
+        // The number of bits held bounds every place below.
+        let _ = self.len();
+        let eight = self.field(at + 8 * first, 64);
+        for k in 0..8 {
+            octets[first + k] = ((eight >> (56 - 8 * k)) % 256) as u8;
         }
     }
 }

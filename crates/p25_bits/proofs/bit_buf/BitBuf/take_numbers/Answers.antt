@@ -1,40 +1,15 @@
-use Rattle.std.proofs.{Common.{◌≡◌, ◌+◌, ◌<◌, ◌≤◌, length, drop, sym, ap, ◌∙◌, arith}, Math.Nat.{mul-le-mul_left}, Math.Pow.{pow_mono}, lemmas.List.{take_all}}
+use Rattle.std.proofs.Common.{take, drop, ap, ap₂, sym, ◌∙◌}
 use Rattle.p25_bits.specs.Numbers.{numbers_from}
-use Rattle.p25_bits.proofs.{NumbersLaws.{more_bits, numbers_from-zero}, LoopLaws.{take_more_read}}
+use Rattle.p25_bits.proofs.NumbersLaws.{numbers_from-zero}
+use Rattle.p25_bits.proofs.bit_buf.BitBuf.take_numbers.Goals.{then-width-eq8, else-width-eq8}
 use Rattle.p25_bits.proofs.bit_buf.BitBuf.take_numbers.Goals as goal
 
-pub loop-i-init : goal.loop-i-init
-loop-i-init c = sym (numbers_from-zero c.args.width (drop c.args.at c.args.self.now))
-
-pub overflow_mul-width : goal.overflow_mul-width
-overflow_mul-width c =
-    let more : c.loop-i.i ≤ length c.args.numbers.now = omega arith in
-    let most : length c.args.self.now ≤ 25928 = omega (arith, c.len.ensures) in
-    omega (arith, mul-le-mul_left c.args.width more)
-
-pub overflow_add-at : goal.overflow_add-at
-overflow_add-at c =
-    let more : c.loop-i.i ≤ length c.args.numbers.now = omega arith in
-    let most : length c.args.self.now ≤ 25928 = omega (arith, c.len.ensures) in
-    omega (arith, mul-le-mul_left c.args.width more)
-
-pub field-requires : goal.field-requires
-field-requires c =
-    let more : c.loop-i.i + 1 ≤ length c.args.numbers.now = omega arith in record {
-      width = omega arith;
-      there = omega (arith, more_bits c.args.at c.args.width c.loop-i.i, mul-le-mul_left c.args.width more);
-    }
-
-pub overflow_cast-numbers : goal.overflow_cast-numbers
-overflow_cast-numbers c = omega (arith, pow_mono c.requires.width, c.field.ensures.fits)
-
-pub loop-i-preserved : goal.loop-i-preserved
-loop-i-preserved c =
-    let inside : c.loop-i.i < length c.loop-i.numbers = omega arith in
-    take_more_read c.args.self.now c.args.at c.args.width c.loop-i.numbers c.loop-i.i c.field.result inside c.field.ensures.value c.loop-i.invariant
-
-pub returns : goal.returns
-returns c =
-    let done : c.loop-i.i ≡ length c.args.numbers.now = omega arith in
-    let all : length c.loop-i.numbers ≤ c.loop-i.i = omega arith in
-    sym (take_all c.loop-i.i c.loop-i.numbers all) ∙ c.loop-i.invariant ∙ ap (λ n. numbers_from c.args.width n (drop c.args.at c.args.self.now)) done
+pub take_from-requires-clause-before : goal.take_from-requires-clause-before
+take_from-requires-clause-before c =
+    let bits = drop c.args.at c.args.self.now in
+    elim c.if-width-eq8.branch [
+      | then-width-eq8 w ↦
+          ap₂ take w.first-is w.numbers-is ∙ w.take_eights-first.ensures.taken ∙ ap₂ (λ width n. numbers_from width n bits) (sym w.if-width-eq8.true) (sym w.first-is)
+      | else-width-eq8 w ↦
+          ap (λ n. take n c.if-width-eq8.numbers) w.first-is ∙ sym (numbers_from-zero c.args.width bits) ∙ ap (λ n. numbers_from c.args.width n bits) (sym w.first-is)
+    ]
