@@ -2,6 +2,12 @@ pub mod PlacesLaws
 pub mod ValueLaws
 pub mod ScriptLaws
 pub mod ReadLaws
+pub mod LongReadSteps
+pub mod LongScriptLaws
+pub mod DuplexReadSteps
+pub mod DuplexLineLaws
 pub mod TextSteps
 pub mod PlacesSteps
 pub mod AsciiStepLaws
+pub mod AsciiLongLaws
+pub mod AsciiDuplexLaws

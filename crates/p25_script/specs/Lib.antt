@@ -1,5 +1,10 @@
 pub mod Values
 pub mod Script
+pub mod LongScript
+pub mod DuplexLines
 pub mod StepTexts
+pub mod LongTexts
 -- laws of impls: nothing to believe
 pub mod ScriptReadLaws
+pub mod LongReadLaws
+pub mod DuplexReadLaws

@@ -6,6 +6,7 @@ use Rattle.p25_text.specs.ItemTexts.{field_name}
 use Rattle.p25_stations.specs.{SessionTexts.{sessions_text}, WorldState.{WorldState}, declared.step.Step.{Step}}
 use Rattle.p25_messages.specs.declared.step_kind.StepKind.{StepKind}
 use Rattle.p25_messages.specs.declared.step_kind.StepKind.TheVariants.{Taken, Busy, OfferDown, Resent, Idle, TimeoutDown, Reopened, Up, Nothing, Lost, Ignored, Delivered, SynHeard, Again, Kept, RefusedCrc, RefusedOrder, Acknowledged, LinkOpened, Retry, Repeat, AnswerDown}
+use Rattle.p25_duplex.specs.{declared.event.DuplexStep.{DuplexStep}, DuplexSteps.{side_word}}
 use Rattle.p25_line.specs.{CommaLists.{comma_text}, Octets.{octets_text}}
 use Rattle.p25_script.specs.Script.{way_word}
 
@@ -55,6 +56,10 @@ false_text false = []
 -- the text of a step, without the end of its line
 unfoldable pub step_text_of : Step → List ℕ
 step_text_of step = kind_text step.kind ++ false_text step.false_pass
+
+-- the text of a step of stations that both send, without the end of its line: the letter of the side that acts or hears, and what the step was
+unfoldable pub duplex_step_text_of : DuplexStep → List ℕ
+duplex_step_text_of step = side_word step.side ++ codes " " ++ step_text_of step.step
 
 -- the text that closes a run, without the end of its line
 unfoldable pub closing_text_of : WorldState → List ℕ

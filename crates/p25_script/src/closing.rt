@@ -1,8 +1,9 @@
-//! The text that closes a run.
+//! The texts that close a run.
 
 ghost use Rattle.std.specs.Prelude.{◌≡◌, ◌≤◌, length};
-ghost use Rattle.p25_script.specs.StepTexts.{closing_text_of};
+ghost use Rattle.p25_script.specs.{LongTexts.{long_closing_text_of}, StepTexts.{closing_text_of}};
 
+use p25_fragments::LongWorld;
 use p25_line::Line;
 use p25_stations::World;
 use p25_stations::parts::put_sessions;
@@ -20,4 +21,20 @@ pub fn closing_text(world: &World, out: &mut Line)
     out.put_labelled(b" acknowledged=", world.acknowledged());
     out.put_labelled(b" false=", world.false_passes());
     put_sessions(world.sessions(), out);
+}
+
+/// Sets `out` to the text that closes a run of long messages, without the end of its line: how many long messages were taken,
+/// whole and acknowledged, how many deliveries were false passes, and how many sessions there were, where there was more than
+/// one.
+#[tactic(auto, unfolding(crate::specs::LongTexts::long_closing_text_of))]
+pub fn long_closing_text(world: &LongWorld, out: &mut Line)
+    ensures text { out.new ≡ long_closing_text_of world.now.state }
+    ensures short { length out.new ≤ 200 }
+{
+    out.clear();
+    out.put_labelled(b"taken=", world.taken().len() as u64);
+    out.put_labelled(b" whole=", world.whole().len() as u64);
+    out.put_labelled(b" acknowledged=", world.acknowledged());
+    out.put_labelled(b" false=", world.inner().false_passes());
+    put_sessions(world.inner().sessions(), out);
 }

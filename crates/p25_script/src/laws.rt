@@ -4,7 +4,11 @@ ghost use Rattle.std.specs.Prelude.{◌≡◌, ◌≢◌, ℕ, ◌<◌, ◌≤�
 ghost use Rattle.p25_stations.specs.{Runs.{IsEvent}, WorldState.{WorldState}, declared.step.Event.{Event as event_type}};
 ghost use Rattle.p25_stations.specs.{declared.step.Event.TheVariants.{Send, ToReceiver, ToSender}, declared.step.Step.{Step as step_type}};
 ghost use Rattle.p25_delivery.specs.SoundHalves.{IsMessage};
-ghost use Rattle.p25_script.specs.{Script.{IsScripted, event_of, event_text}, StepTexts.{closing_text_of, step_text_of}, Values.{ArePlaces}};
+ghost use Rattle.p25_duplex.specs.{ClosingTexts.{duplex_closing_of}, DuplexSteps.{DuplexState}, declared.event.DuplexStep.{DuplexStep}};
+ghost use Rattle.p25_duplex.specs.declared.side.Side.{Side};
+ghost use Rattle.p25_fragments.specs.{LongState.{LongState}, declared.long_step.LongStep.{LongStep}};
+ghost use Rattle.p25_script.specs.{LongTexts.{long_closing_text_of, long_step_text_of}, Script.{IsScripted, event_of, event_text}, Values.{ArePlaces}};
+ghost use Rattle.p25_script.specs.StepTexts.{closing_text_of, duplex_step_text_of, step_text_of};
 
 /// **Theorem.** That lines and events tell each other. The line of each event that is not too long is
 /// read as that event; a line that is read is the line of its event, which a script can tell of, and no line is read as an
@@ -21,8 +25,12 @@ pub fn script_laws()
 {}
 
 /// **Theorem.** Each octet of the text of a step, and of the text that closes a run, is below 128, whatever the step and the world
-/// are. So these texts are always UTF-8.
+/// are. So these texts are always UTF-8. The same holds of long messages and of stations that both send.
 pub fn texts_are_ascii()
     ensures steps { (step : step_type) → IsAscii (step_text_of step) }
     ensures closing { (world : WorldState) → IsAscii (closing_text_of world) }
+    ensures long_steps { (step : LongStep) → IsAscii (long_step_text_of step) }
+    ensures long_closing { (world : LongState) → IsAscii (long_closing_text_of world) }
+    ensures duplex_steps { (step : DuplexStep) → IsAscii (duplex_step_text_of step) }
+    ensures duplex_closing { (side : Side) (d : DuplexState) → IsAscii (duplex_closing_of side d) }
 {}

@@ -15,13 +15,23 @@
 //! assert_eq!(rt; line.octets(), b"send taken ns=0 blocks=1".as_slice());
 //! ```
 //!
-//! `StepText` is a step whose `{}` writes its text, and `EventLine` an event that `parse` reads as `read_event` does.
+//! Two other forms of scripts have their words from this one, and their calls have the names of these beside `long` or `duplex`:
+//!
+//! - A script of long messages has `long` with a long message in place of `send`. The text of its step is one or two lines, each
+//!   with its end, in two pieces.
+//! - In a script in which both stations send, a line is a side, `a` or `b`, with what it does, or `deliver` with a direction, `ab` or
+//!   `ba`, and the places. The text of its step begins with the letter of the side that acts or hears.
+//!
+//! `StepText`, `LongStepText` and `DuplexStepText` are a step whose `{}` writes its text; `EventLine`, `LongEventLine` and
+//! `DuplexEventLine` are an event that `parse` reads as `read_event` and its kin do.
 #![tactic(auto)]
 
 mod closing;
+mod duplex_read;
 pub mod laws;
+mod long_read;
+mod long_steps;
 mod names;
-pub mod parts;
 mod read;
 mod shown;
 mod steps;
@@ -29,9 +39,15 @@ mod steps;
 mod tests;
 mod values;
 
-pub use closing::closing_text;
+pub use closing::{closing_text, long_closing_text};
+pub use duplex_read::read_duplex_event;
+pub use long_read::read_long_event;
+pub use long_steps::long_step_text;
+pub use p25_duplex::duplex_closing;
 pub use p25_line::{Line, LineFault};
 pub use p25_stations::{Event, Step, StepKind, Way, World};
 pub use read::read_event;
-pub use shown::{EventLine, StepText};
-pub use steps::step_text;
+pub use shown::{
+    DuplexEventLine, DuplexStepText, EventLine, LongEventLine, LongStepText, StepText,
+};
+pub use steps::{duplex_step_text, step_text};

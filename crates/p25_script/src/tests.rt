@@ -1,5 +1,7 @@
 //! Lines of scripts that are read and refused, the texts of steps, and short scripts with what comes of them, written by hand.
 
+mod duplex_scripts;
+mod long_scripts;
 mod script_lines;
 mod scripts;
 mod steps;

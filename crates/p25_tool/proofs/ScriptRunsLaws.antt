@@ -8,11 +8,9 @@ use Rattle.p25_text.specs.Grammar.{read_line_of}
 use Rattle.p25_units.specs.{UnitParts.{UnitParts}, Units.{image_octets}}
 use Rattle.p25_delivery.specs.Runs.{run_by, steps_by}
 use Rattle.p25_stations.specs.{Steps.{world_step}, WorldState.{WorldState, first_world}}
-use Rattle.p25_script.specs.Script.{event_of}
+use Rattle.p25_script.specs.{Script.{event_of}, LongScript.{long_event_of}, LongTexts.{long_step_text_of}, DuplexLines.{duplex_event_of}}
 use Rattle.p25_fragments.specs.{LongState.{LongState, first_long}, LongSteps.{long_step}}
-use Rattle.p25_fragment_script.specs.{LongScript.{long_event_of}, LongTexts.{long_step_text_of}}
 use Rattle.p25_duplex.specs.DuplexSteps.{DuplexState, first_duplex, duplex_step}
-use Rattle.p25_duplex_script.specs.DuplexLines.{duplex_event_of}
 use Rattle.p25_filter.specs.{Lines.{closing_by, lines_future, lines_in, read_of, refusal_in, texts_before}, LineRules.{machine_after, texts_of, told_by, written_before, written_for}}
 use Rattle.p25_filter.specs.LineFilters.{first_line, line_future}
 use Rattle.p25_filter.proofs.{LinesLaws.{each_behind-none}, SameLaws.{same-future}}

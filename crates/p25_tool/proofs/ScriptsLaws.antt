@@ -9,19 +9,15 @@ use Rattle.p25_io.proofs.OctetsLaws.{Appended-same}
 use Rattle.p25_line.specs.declared.fault.LineFault.{LineFault}
 use Rattle.p25_stations.specs.{Runs.{IsCleanRun, IsEvent, steps_of, world_run}, WorldState.{first_world}, declared.step.Event.{Event}}
 use Rattle.p25_stations.proofs.{CleanLaws.{run-orderly}, FalsePassLaws.{clean-from_none}, StepListsLaws.{run-acknowledged, run-delivered, run-sent}}
-use Rattle.p25_script.specs.Script.{event_of}
-use Rattle.p25_script.proofs.ScriptLaws.{IsEvent-IsScripted, IsLineOf-event_of}
+use Rattle.p25_script.specs.{Script.{event_of}, LongScript.{IsLongScripted, long_event_of}, LongTexts.{long_step_text_of}, DuplexLines.{duplex_event_of}}
+use Rattle.p25_script.proofs.{ScriptLaws.{IsEvent-IsScripted, IsLineOf-event_of}, LongScriptLaws.{IsLineOf-long_event_of}, DuplexLineLaws.{read-event}}
 use Rattle.p25_fragments.specs.{LongState.{first_long}, LongRuns.{IsCleanLongRun, IsLongEvent, long_run, long_steps_of}, declared.long_step.LongEvent.{LongEvent}}
 use Rattle.p25_fragments.specs.declared.long_step.LongEvent.TheVariants.{Long, Inner}
 use Rattle.p25_fragments.proofs.{LongHistoryLaws.{long-clean}, LongListsLaws.{run-finished, run-taken, run-whole}, LongRunLaws.{long-orderly, long-unrefused}}
-use Rattle.p25_fragment_script.specs.{LongScript.{IsLongScripted, long_event_of}, LongTexts.{long_step_text_of}}
-use Rattle.p25_fragment_script.proofs.LongScriptLaws.{IsLineOf-long_event_of}
 use Rattle.p25_duplex.specs.{declared.event.DuplexEvent.{DuplexEvent}, declared.side.Side.{Side}, declared.side.Side.TheVariants.{A, B}, DuplexSteps.{first_duplex}}
 use Rattle.p25_duplex.specs.DuplexRuns.{IsCleanDuplex, IsDuplexEvent, duplex_run, duplex_steps}
 use Rattle.p25_duplex.proofs.{CountLaws.{clean-from_none as duplex-clean}, DuplexListsLaws.{run-acknowledged as duplex-acknowledged, run-heard, run-sent as duplex-sent}}
 use Rattle.p25_duplex.proofs.RunLaws.{run-orderly as duplex-orderly}
-use Rattle.p25_duplex_script.specs.DuplexLines.{duplex_event_of}
-use Rattle.p25_duplex_script.proofs.DuplexLineLaws.{read-event}
 use Rattle.p25_filter.specs.{declared.ending.Ending.{Ending}, declared.ending.Ending.TheVariants.{Done as EndDone}, declared.ending.FilterEnd.{FilterEnd}}
 use Rattle.p25_filter.specs.{declared.ending.FilterEnd.TheVariants.{Ended}, Futures.{Future}, Lines.{closing_by, lines_ending, lines_future, lines_in, read_of, refusal_in}}
 use Rattle.p25_filter.specs.Runs.{IsFinal, Filtered, input_most}

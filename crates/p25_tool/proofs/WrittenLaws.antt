@@ -5,14 +5,12 @@ use Rattle.p25_io.specs.Octets.{Appended}
 use Rattle.p25_io.proofs.OctetsLaws.{Appended-same}
 use Rattle.p25_line.specs.declared.fault.LineFault.{LineFault}
 use Rattle.p25_text.specs.Grammar.{read_line_of}
-use Rattle.p25_script.specs.Script.{event_of}
-use Rattle.p25_fragment_script.specs.LongScript.{long_event_of}
+use Rattle.p25_script.specs.{Script.{event_of}, LongScript.{long_event_of}, DuplexLines.{duplex_event_of}}
 use Rattle.p25_filter.specs.{Lines.{lines_ending, lines_in, refusal_in}, Runs.{IsFinal, Filtered, input_most}, declared.ending.Ending.{Ending}, declared.ending.Ending.TheVariants.{BadLine}}
 use Rattle.p25_filter.specs.{declared.ending.FilterEnd.{FilterEnd}, declared.ending.FilterEnd.TheVariants.{Ended}}
 use Rattle.p25_filter.proofs.{LinesLaws.{refusal_in-err, refusal_in-nil, refusal_in-ok}, RunsLaws.{ended-input}}
 use Rattle.p25_tool.specs.{declared.command.Command.{Command}, declared.command.Command.TheVariants.{Build, Stations, Fragments, Duplex, Sample}, Outcomes.{ending_outcome, filter_outcome}}
 use Rattle.p25_tool.specs.{Outputs.{command_future, ending_by, output_by}, Written.{AllIsWritten, HasEnded}}
-use Rattle.p25_duplex_script.specs.DuplexLines.{duplex_event_of}
 
 -- a line that is refused is no end of the input, whatever lines are read as
 module _ {E : Type 0} (read : List ℕ → Result E LineFault) where

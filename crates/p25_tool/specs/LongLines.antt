@@ -3,9 +3,7 @@ use Rattle.std.specs.Prelude.{◌≡◌, ℕ, ◌<◌, List, length, Err}
 use Rattle.p25_line.specs.declared.fault.LineFault.TheVariants.{Long}
 use Rattle.p25_line.proofs.LineReadLaws.{line_read-long}
 use Rattle.p25_text.specs.Grammar.{read_line_of, read_words}
-use Rattle.p25_script.specs.Script.{event_by_words, event_of}
-use Rattle.p25_fragment_script.specs.LongScript.{long_event_by_words, long_event_of}
-use Rattle.p25_duplex_script.specs.DuplexLines.{duplex_by_words, duplex_event_of}
+use Rattle.p25_script.specs.{Script.{event_by_words, event_of}, LongScript.{long_event_by_words, long_event_of}, DuplexLines.{duplex_by_words, duplex_event_of}}
 
 pub build_long : (line : List ℕ) → 8192 < length line → read_line_of line ≡ Err Long
 unfolding read_line_of

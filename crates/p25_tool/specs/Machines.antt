@@ -3,11 +3,9 @@ use Rattle.std.specs.Prelude.{true, false, []}
 use Rattle.p25_text.specs.Grammar.{read_line_of}
 use Rattle.p25_units.specs.{UnitParts.{UnitParts}, Units.{image_octets}}
 use Rattle.p25_stations.specs.{Steps.{world_step}, WorldState.{WorldState}, declared.step.Event.{Event}}
-use Rattle.p25_script.specs.Script.{event_of}
+use Rattle.p25_script.specs.{Script.{event_of}, LongScript.{long_event_of}, LongTexts.{long_step_text_of}, DuplexLines.{duplex_event_of}}
 use Rattle.p25_fragments.specs.{LongState.{LongState}, LongSteps.{long_step}, declared.long_step.LongEvent.{LongEvent}}
-use Rattle.p25_fragment_script.specs.{LongScript.{long_event_of}, LongTexts.{long_step_text_of}}
 use Rattle.p25_duplex.specs.{DuplexSteps.{DuplexState, duplex_step}, declared.event.DuplexEvent.{DuplexEvent}}
-use Rattle.p25_duplex_script.specs.DuplexLines.{duplex_event_of}
 use Rattle.p25_filter.specs.LineRules.{LineRules, told_by}
 use Rattle.p25_tool.specs.{declared.build.Build.{Build}, Outputs.{closing_line, duplex_closing_lines, duplex_step_line, long_closing_line, step_line}}
 

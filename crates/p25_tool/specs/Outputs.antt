@@ -10,14 +10,13 @@ use Rattle.p25_calls.specs.Calls.{calls_by}
 use Rattle.p25_vectors.specs.Samples.{flips_of}
 use Rattle.p25_filter.specs.{declared.ending.Ending.{Ending}, declared.ending.Ending.TheVariants.{Done}, Futures.{Future}, Lines.{lines_future}}
 use Rattle.p25_stations.specs.{Runs.{steps_of, world_run}, WorldState.{WorldState, first_world}, declared.step.Step.{Step}}
-use Rattle.p25_script.specs.{Script.{event_of}, StepTexts.{closing_text_of, step_text_of}}
+use Rattle.p25_script.specs.{DuplexLines.{duplex_event_of}, Script.{event_of}, StepTexts.{closing_text_of, duplex_step_text_of, step_text_of}}
+use Rattle.p25_script.specs.{LongScript.{long_event_of}, LongTexts.{long_closing_text_of, long_step_text_of}}
 use Rattle.p25_duplex.specs.{declared.side.Side.TheVariants.{A, B}, declared.event.DuplexStep.{DuplexStep}, DuplexSteps.{DuplexState, first_duplex}}
 use Rattle.p25_duplex.specs.{DuplexRuns.{duplex_run, duplex_steps}, ClosingTexts.{duplex_closing_of}}
-use Rattle.p25_duplex_script.specs.{DuplexTexts.{duplex_step_text_of}, DuplexLines.{duplex_event_of}}
 use Rattle.p25_tool.specs.declared.command.Command.{Command}
 use Rattle.p25_tool.specs.declared.command.Command.TheVariants.{Show, Check, Repair, Bridge, Relay, Follow, Build, Stations, Calls, Duplex, Fragments, Soft, Sample}
 use Rattle.p25_fragments.specs.{LongState.{LongState, first_long}, LongRuns.{long_run, long_steps_of}}
-use Rattle.p25_fragment_script.specs.{LongScript.{long_event_of}, LongTexts.{long_closing_text_of, long_step_text_of}}
 use Rattle.p25_recording_filters.specs.ItemOutputs.{shown, faulty, units_in, faults_in, check_line, check_ending, changed_bits, call_line, calls_line, soft_output}
 
 -- the text of a step, and the text that closes a run, each with the end of its line

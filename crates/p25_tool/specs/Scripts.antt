@@ -5,14 +5,12 @@ use Rattle.p25_line.specs.declared.fault.LineFault.{LineFault}
 use Rattle.p25_delivery.specs.{Orderly.{AreOrderly}, Delivery.{sessions_of}}
 use Rattle.p25_stations.specs.{Runs.{IsCleanRun, acknowledged_in, delivered_in, sent_in, steps_of, world_run}, WorldState.{first_world}}
 use Rattle.p25_stations.specs.declared.step.Event.{Event}
-use Rattle.p25_script.specs.Script.{event_of}
+use Rattle.p25_script.specs.{Script.{event_of}, LongScript.{long_event_of}, LongTexts.{long_step_text_of}, DuplexLines.{duplex_event_of}}
 use Rattle.p25_fragments.specs.LongState.{first_long}
 use Rattle.p25_fragments.specs.LongRuns.{AreUnrefused, IsCleanLongRun, finished_in, long_run, long_sessions_of, long_steps_of, taken_in, whole_in}
 use Rattle.p25_fragments.specs.declared.long_step.LongEvent.{LongEvent}
-use Rattle.p25_fragment_script.specs.{LongScript.{long_event_of}, LongTexts.{long_step_text_of}}
 use Rattle.p25_duplex.specs.{declared.side.Side.{Side}, declared.event.DuplexEvent.{DuplexEvent}, DuplexSteps.{first_duplex, delivery_at, other_side}}
 use Rattle.p25_duplex.specs.DuplexRuns.{IsCleanDuplex, duplex_run, duplex_steps, side_acknowledged_in, side_heard_in, side_sent_in}
-use Rattle.p25_duplex_script.specs.DuplexLines.{duplex_event_of}
 use Rattle.p25_filter.specs.{Lines.{lines_in}, Runs.{input_most}}
 use Rattle.p25_tool.specs.{declared.outcome.Outcome.{Outcome}, declared.outcome.Outcome.TheVariants.{Done, Memory}}
 use Rattle.p25_tool.specs.Outputs.{closing_line, duplex_closing_lines, duplex_step_line, long_closing_line, step_line}

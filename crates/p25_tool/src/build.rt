@@ -15,16 +15,7 @@ use std::alloc::AllocError;
 // The units that the lines of an input describe, with one status symbol everywhere.
 #[derive(Drop)]
 pub(crate) struct Build {
-    status: Status,
-}
-
-impl Build {
-    // Before the first line.
-    pub(crate) fn new(status: Status) -> Build
-        ensures { result ≡ record { status = status } }
-    {
-        Build { status }
-    }
+    pub(crate) status: Status,
 }
 
 impl LineMachine for Build {

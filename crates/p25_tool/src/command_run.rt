@@ -9,17 +9,18 @@ ghost use Rattle.p25_recording_filters.specs.{Recordings.{fresh, recording_futur
 
 use super::build::Build;
 use super::command::Command;
-use super::duplex::Duplex;
-use super::fragments::Fragments;
 use super::outcome::{Outcome, outcome_of};
 use super::sampling::run_sample;
-use super::stations::Stations;
+use super::scripts::{Duplex, Fragments, Stations};
 use super::words::Words;
+use p25_duplex::DuplexWorld;
 use p25_filter::{FilterEnd, LineFilter, LineMachine};
+use p25_fragments::LongWorld;
 use p25_io::{Pair, Port, Sink, Source, Tape};
 use p25_recording_filters::{
     Calls, Change, Changed, Check, Followed, Recording, Report, Show, Soft,
 };
+use p25_stations::World;
 use std::alloc::Global;
 
 /// Does what the words say: reads the source to its end, at most 16,777,216 octets, and writes the answer to the sink.
@@ -113,11 +114,11 @@ fn run_command<P: Port>(alloc: Global, command: Command, port: &mut P) -> Filter
             run_report(Changed::new(Change::Relayed { nac, status }), port)
         }
         Command::Follow => run_report(Followed::new(), port),
-        Command::Build { status } => run_lines(Build::new(status), port),
-        Command::Stations => run_lines(Stations::new(alloc), port),
+        Command::Build { status } => run_lines(Build { status }, port),
+        Command::Stations => run_lines(Stations(World::new(alloc)), port),
         Command::Calls => run_report(Calls::new(), port),
-        Command::Duplex => run_lines(Duplex::new(alloc), port),
-        Command::Fragments => run_lines(Fragments::new(alloc), port),
+        Command::Duplex => run_lines(Duplex(DuplexWorld::new(alloc)), port),
+        Command::Fragments => run_lines(Fragments(LongWorld::new(alloc)), port),
         Command::Soft => run_soft(port),
         Command::Sample { count } => run_sample(count, port),
     }

@@ -23,12 +23,10 @@
 mod build;
 mod command;
 mod command_run;
-mod duplex;
-mod fragments;
 pub mod laws;
 mod outcome;
 mod sampling;
-mod stations;
+mod scripts;
 #[cfg(test)]
 mod tests;
 mod words;
@@ -36,7 +34,6 @@ mod words;
 pub use command::Command;
 pub use command_run::{run, run_on, run_on_tape};
 pub use outcome::{Outcome, outcome_status, outcome_text};
-pub use p25_duplex_script::read_duplex_event;
-pub use p25_fragment_script::read_long_event;
 pub use p25_line::Line;
+pub use p25_script::{read_duplex_event, read_long_event};
 pub use words::Words;

@@ -1,4 +1,4 @@
-use Rattle.std.proofs.Common.{sym, subst}
+use Rattle.std.proofs.Common.{refl, sym, subst}
 use Rattle.p25_tool.specs.{declared.command.Command.{Command}, declared.command.Command.TheVariants.{Show, Check, Repair, Bridge, Relay, Follow, Build, Stations, Calls, Duplex, Fragments, Soft}}
 use Rattle.p25_tool.specs.Outputs.{command_future}
 use Rattle.p25_recording_filters.specs.declared.reports.changed.Change.TheVariants.{Repaired, Bridged, Relayed}
@@ -30,9 +30,7 @@ pub returns-in-Follow : goal.returns-in-Follow
 returns-in-Follow g c = alike-run g.P.Port.moves _ _ _ Follow _ _ c.in-Follow.is (follow-alike _ c.new-in-Follow.ensures) (λ count is. cc) c.run_report-in-Follow.ensures
 
 pub returns-in-Build : goal.returns-in-Build
-returns-in-Build g c =
-    alike-run g.P.Port.moves _ _ _ (Build c.in-Build.status) _ _ c.in-Build.is
-    (build-alike c.in-Build.status _ c.new-in-Build.ensures) (λ count is. cc) c.run_lines.ensures
+returns-in-Build g c = alike-run g.P.Port.moves _ _ _ (Build c.in-Build.status) _ _ c.in-Build.is (build-alike c.in-Build.status _ refl) (λ count is. cc) c.run_lines.ensures
 
 pub returns-in-Stations : goal.returns-in-Stations
 returns-in-Stations g c = alike-run g.P.Port.moves _ _ _ Stations _ _ c.in-Stations.is (stations-alike _ c.new-in-Stations.ensures) (λ count is. cc) c.run_lines-in-Stations.ensures
@@ -46,7 +44,7 @@ returns-in-Duplex g c = alike-run g.P.Port.moves _ _ _ Duplex _ _ c.in-Duplex.is
 pub returns-in-Fragments : goal.returns-in-Fragments
 returns-in-Fragments g c =
     alike-run g.P.Port.moves _ _ _ Fragments _ _ c.in-Fragments.is
-    (fragments-alike _ c.new-in-Fragments.ensures) (λ count is. cc) c.run_lines-in-Fragments.ensures
+    (fragments-alike _ c.new-in-Fragments.ensures.state) (λ count is. cc) c.run_lines-in-Fragments.ensures
 
 pub returns-in-Soft : goal.returns-in-Soft
 returns-in-Soft g c = alike-run g.P.Port.moves _ _ _ Soft _ _ c.in-Soft.is soft-alike (λ count is. cc) c.run_soft.ensures

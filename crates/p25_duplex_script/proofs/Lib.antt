@@ -1,3 +1,0 @@
-pub mod DuplexReadSteps
-pub mod DuplexLineLaws
-pub mod AsciiDuplexLaws

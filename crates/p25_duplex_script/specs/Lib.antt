@@ -1,4 +1,0 @@
-pub mod DuplexLines
-pub mod DuplexTexts
--- laws of impls: nothing to believe
-pub mod DuplexReadLaws

@@ -1,3 +1,0 @@
-pub mod LongReadSteps
-pub mod LongScriptLaws
-pub mod AsciiLongLaws

@@ -1,0 +1,161 @@
+//! Events of the duplex world read from lines.
+
+ghost use Rattle.std.specs.Prelude.{◌≡◌, ◌↔◌, ◌<◌, ◌≤◌, [], ◌∷◌, IfOk, Err, length};
+ghost use Rattle.p25_line.specs.declared.fault.LineFault.TheVariants.{Long};
+ghost use Rattle.p25_duplex.specs.{DuplexRuns.{IsDuplexEvent}, declared.event.DuplexEvent.{DuplexEvent as event_type}};
+ghost use Rattle.p25_script.specs.DuplexLines.{IsDuplexScripted, direction_word, duplex_by_words, duplex_event_of, duplex_text, event_behind, hearer_named, start_named, start_word};
+
+use super::names::EventKind;
+use super::values::{message_value, places_value};
+use p25_duplex::{DuplexEvent, Side};
+use p25_line::{LineFault, LineReader, LineWords, read_whole};
+
+/// What the first word of a line tells.
+#[derive(Clone, Copy)]
+enum DuplexStart {
+    /// A side acts.
+    Acts(Side),
+    /// A transmission is delivered.
+    Delivery,
+}
+
+// All that a first word tells.
+const STARTS: [DuplexStart; 3] = [
+    DuplexStart::Acts(Side::A),
+    DuplexStart::Acts(Side::B),
+    DuplexStart::Delivery,
+];
+
+impl DuplexStart {
+    // Answers the kind of event that the first word of a line names. None comes exactly where it names none.
+    fn named(word: &[u8]) -> Option<DuplexStart>
+        ensures { result ≡ start_named word.now }
+    {
+        STARTS.iter().copied().find(|start| word == start.word())
+    }
+
+    // Answers the word that tells it.
+    fn word(self) -> &'static [u8]
+        ensures { result.now ≡ start_word self }
+    {
+        match self {
+            DuplexStart::Acts(side) => side.word(),
+            DuplexStart::Delivery => EventKind::Deliver.word(),
+        }
+    }
+}
+
+// The side to which a word tells the direction.
+fn hearer(word: &[u8]) -> Option<Side>
+    ensures { result ≡ hearer_named word.now }
+{
+    let sides = [Side::A, Side::B];
+    sides.iter().copied().find(|to| word == direction(*to))
+}
+
+// The word for the direction to a side.
+fn direction(to: Side) -> &'static [u8]
+    ensures { result.now ≡ direction_word to }
+{
+    match to {
+        Side::A => b"ba",
+        Side::B => b"ab",
+    }
+}
+
+/// Answers the event whose line this is. Each line that is accepted is the line of its event, and the line of each event,
+/// where it is not too long, is accepted. The first of these causes that applies is answered: Long, above 8,192 octets; Form,
+/// not one or more words of octets 21 to 7E hex with single spaces between them; Kind, the first word is none of `a`, `b` and
+/// `deliver`; Key, the second word is none that may stand there, or the number of words is not that of the kind; Value, the
+/// message or the places are not of their form. The laws of the duplex world speak of each event that is read.
+pub fn read_duplex_event(line: &[u8]) -> Result<DuplexEvent, LineFault>
+    ensures event { result ≡ duplex_event_of line.now }
+    ensures long { (result ≡ Err Long) ↔ (8192 < length line.now) }
+    ensures text { IfOk result (λ event. duplex_text event ≡ line.now) }
+    ensures fits { IfOk result (λ event. IsDuplexScripted event) }
+    ensures kept { IfOk result (λ event. IsDuplexEvent event) }
+    ensures each { (event : event_type) → IsDuplexScripted event → length line.now ≤ 8192 → duplex_text event ≡ line.now → result ≡ Ok event }
+{
+    read_whole::<DuplexLines>(line)
+}
+
+// Lines of a script of both stations.
+struct DuplexLines;
+
+impl LineReader for DuplexLines {
+    ghost use Rattle.p25_script.specs.DuplexReadLaws.{duplex_not_long};
+
+    type Value = DuplexEvent;
+
+    ghost words_read = { duplex_by_words };
+
+    ghost not_long = { duplex_not_long };
+
+    fn read_words(words: &LineWords) -> Result<DuplexEvent, LineFault> {
+        read_duplex_words(words)
+    }
+}
+
+// The event of the words of a line.
+fn read_duplex_words(words: &LineWords) -> Result<DuplexEvent, LineFault>
+    ensures { result ≡ duplex_by_words words.now }
+{
+    let Some(start) = DuplexStart::named(words.first()) else {
+        return Err(LineFault::Kind);
+    };
+    match words.count() {
+        2 => read_two(start, words.get(1)),
+        3 => read_three(start, words.get(1), words.get(2)),
+        _ => Err(LineFault::Key),
+    }
+}
+
+// The event of a line of two words.
+fn read_two(start: DuplexStart, second: &[u8]) -> Result<DuplexEvent, LineFault>
+    ensures { result ≡ event_behind start (second.now ∷ []) }
+{
+    match (start, EventKind::named(second)) {
+        (DuplexStart::Acts(side), Some(EventKind::Timeout)) => Ok(DuplexEvent::Timeout(side)),
+        (DuplexStart::Acts(side), Some(EventKind::Reopen)) => Ok(DuplexEvent::Reopen(side)),
+        _ => Err(LineFault::Key),
+    }
+}
+
+// The event of a line of three words.
+fn read_three(start: DuplexStart, second: &[u8], third: &[u8]) -> Result<DuplexEvent, LineFault>
+    requires { length third.now ≤ 8192 }
+    ensures { result ≡ event_behind start (second.now ∷ third.now ∷ []) }
+{
+    match start {
+        DuplexStart::Acts(side) => read_message(side, second, third),
+        DuplexStart::Delivery => read_delivery(second, third),
+    }
+}
+
+// The message that a side sends.
+fn read_message(side: Side, second: &[u8], message: &[u8]) -> Result<DuplexEvent, LineFault>
+    ensures { result ≡ event_behind (DuplexStart.Acts side) (second.now ∷ message.now ∷ []) }
+{
+    match EventKind::named(second) {
+        Some(EventKind::Send) => {}
+        _ => return Err(LineFault::Key),
+    }
+    match message_value(message) {
+        Some(message) => Ok(DuplexEvent::Send(side, message)),
+        None => Err(LineFault::Value),
+    }
+}
+
+// The delivery of a direction and of places.
+fn read_delivery(second: &[u8], places: &[u8]) -> Result<DuplexEvent, LineFault>
+    requires { length places.now ≤ 8192 }
+    ensures { result ≡ event_behind DuplexStart.Delivery (second.now ∷ places.now ∷ []) }
+{
+    let Some(to) = hearer(second) else {
+        return Err(LineFault::Key);
+    };
+    match places_value(places) {
+        Some(flips) => Ok(DuplexEvent::Deliver { to, flips }),
+        None => Err(LineFault::Value),
+    }
+}

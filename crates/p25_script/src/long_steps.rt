@@ -1,0 +1,93 @@
+//! The texts of the steps of long messages.
+
+ghost use Rattle.std.specs.Prelude.{◌≡◌, ◌+◌, ◌≤◌, ◌++◌, [], codes, decimal, length};
+ghost use Rattle.p25_script.specs.{StepTexts.{step_text_of}, LongTexts.{ended_line, first_line_of, line_before, line_behind, long_step_text_of}};
+ghost use Rattle.p25_line.specs.Octets.{octets_text};
+
+use super::steps::step_text;
+use p25_fragments::{LongMessage, LongStep, Then};
+use p25_line::Line;
+use p25_stations::Step;
+
+/// Sets `out` and `behind` to the two pieces of the text of a step, one after the other: its lines, each with its end. A long
+/// message that is taken is told before the step of its part 0; all else is told after the step of the inner world.
+#[tactic(auto, unfolding(crate::specs::LongTexts::long_step_text_of, crate::specs::LongTexts::line_before, crate::specs::LongTexts::line_behind))]
+pub fn long_step_text(step: &LongStep, out: &mut Line, behind: &mut Line)
+    ensures { out.new ++ behind.new ≡ long_step_text_of step.now }
+{
+    match &step.then {
+        Then::Started { parts } => {
+            put_line(b"long taken parts=", u64::from(*parts), out);
+            put_first(&step.first, behind);
+        }
+        then => {
+            put_first(&step.first, out);
+            put_behind(then, behind);
+        }
+    }
+}
+
+// Sets `out` to the line of the step of the inner world, or to nothing where there is none.
+#[tactic(auto, unfolding(crate::specs::LongTexts::first_line_of))]
+fn put_first(first: &Option<Step>, out: &mut Line)
+    ensures { out.new ≡ first_line_of first.now }
+{
+    match first {
+        Some(step) => put_step(step, out),
+        None => out.clear(),
+    }
+}
+
+// Sets `out` to the line after the step of the inner world.
+#[tactic(auto, unfolding(crate::specs::LongTexts::line_behind))]
+fn put_behind(then: &Then, out: &mut Line)
+    ensures { out.new ≡ line_behind then.now }
+{
+    match then {
+        Then::Plain | Then::Started { .. } => out.clear(),
+        Then::Busy => put_word(b"long busy\n", out),
+        Then::Down => put_word(b"long down\n", out),
+        Then::Part { number } => put_line(b"part ", u64::from(*number), out),
+        Then::Whole(message) => put_whole(message, out),
+        Then::Refused => put_word(b"part refused\n", out),
+        Then::Next(step) => put_step(step, out),
+        Then::Finished => put_word(b"long acknowledged\n", out),
+    }
+}
+
+// Sets `out` to the line of a step of the inner world.
+fn put_step(step: &Step, out: &mut Line)
+    ensures { out.new ≡ ended_line (step_text_of step.now) }
+{
+    step_text(step, out);
+    out.put(b"\n");
+}
+
+// Sets `out` to a line as it is.
+fn put_word(line: &[u8], out: &mut Line)
+    requires { length line.now ≤ 8192 }
+    ensures { out.new ≡ line.now }
+{
+    out.clear();
+    out.put(line);
+}
+
+// Sets `out` to the line of a label and a number in decimal.
+fn put_line(label: &[u8], number: u64, out: &mut Line)
+    requires { length label.now ≤ 20 }
+    ensures { out.new ≡ ended_line (label.now ++ decimal number) }
+{
+    out.clear();
+    out.put_labelled(label, number);
+    out.put(b"\n");
+}
+
+// Sets `out` to the line of a long message that is whole.
+fn put_whole(message: &LongMessage, out: &mut Line)
+    ensures { out.new ≡ ended_line (codes "whole message=" ++ octets_text message.now) }
+{
+    out.clear();
+    out.put(b"whole message=");
+    out.put_octets(message.octets());
+    out.put(b"\n");
+}
