@@ -95,6 +95,18 @@ fn writes(alloc: Global, words: &[&[u8]], input: &[u8], output: &[u8]) -> bool {
     true
 }
 
+// Whether a sent unit whose bits were changed is shown so, its line after it where it is whole, and then repaired.
+fn reads_as(alloc: Global, line: &[u8], said: &[u8], sent: &[u8], changed: &[u8]) -> bool {
+    let whole = said.starts_with(b"unit");
+    let mut text = Line::new();
+    put_short(&mut text, said);
+    put_short(&mut text, if whole { line } else { b"" });
+    put_short(&mut text, b"\n");
+    let repaired = if whole { sent } else { changed };
+    writes(alloc, &[b"show"], changed, text.octets())
+        && writes(alloc, &[b"repair"], changed, repaired)
+}
+
 // Makes the bit of a sent unit that stands at a place without status symbols the bit that is told, or the other one.
 fn change_bit(octets: &mut [u8], place: usize, told: Option<bool>)
     requires { place < 100000 }

@@ -1,8 +1,8 @@
 //! The order of reads and writes of a call, as a tape tells it: a call of each kind of command, words that name none, and faults.
 
-use super::words_of;
+use super::{put_named, words_of};
 use p25_io::{Call, MemorySource, SliceSink, Tape};
-use p25_line::LineFault;
+use p25_line::{Line, LineFault};
 use p25_tool::{Outcome, run_on};
 use std::alloc::Global;
 
@@ -23,11 +23,10 @@ struct Row {
     words: &'static [&'static [u8]],
     input: &'static [u8],
     piece: usize,
-    failing_read: u64,
-    failing_write: u64,
+    fails: (u64, u64),
     outcome: Outcome,
     // Each read and write, by a letter and how many octets it read or was to write; a fault has a capital letter.
-    tape: &'static [(u8, usize)],
+    tape: &'static [u8],
 }
 
 const ROWS: [Row; 14] = [
@@ -35,168 +34,116 @@ const ROWS: [Row; 14] = [
         words: &[b"show"],
         input: RECORDING,
         piece: 20,
-        failing_read: 0,
-        failing_write: 0,
+        fails: (0, 0),
         outcome: Outcome::Done,
-        tape: &[
-            (b'r', 20),
-            (b'w', 47),
-            (b'r', 20),
-            (b'w', 68),
-            (b'r', 16),
-            (b'w', 49),
-            (b'r', 0),
-        ],
+        tape: b" r20 w47 r20 w68 r16 w49 r0",
     },
     Row {
         words: &[b"follow"],
         input: RECORDING,
         piece: 20,
-        failing_read: 0,
-        failing_write: 0,
+        fails: (0, 0),
         outcome: Outcome::Done,
-        tape: &[
-            (b'r', 20),
-            (b'w', 18),
-            (b'r', 20),
-            (b'w', 20),
-            (b'r', 16),
-            (b'w', 18),
-            (b'r', 0),
-        ],
+        tape: b" r20 w18 r20 w20 r16 w18 r0",
     },
     Row {
         words: &[b"relay", b"123", b"0"],
         input: RECORDING,
         piece: 20,
-        failing_read: 0,
-        failing_write: 0,
+        fails: (0, 0),
         outcome: Outcome::Done,
-        tape: &[
-            (b'r', 20),
-            (b'w', 18),
-            (b'r', 20),
-            (b'w', 20),
-            (b'r', 16),
-            (b'w', 18),
-            (b'r', 0),
-        ],
+        tape: b" r20 w18 r20 w20 r16 w18 r0",
     },
     Row {
         words: &[b"soft"],
         input: LEVELS,
         piece: 72,
-        failing_read: 0,
-        failing_write: 0,
+        fails: (0, 0),
         outcome: Outcome::Done,
-        tape: &[(b'r', 72), (b'w', 18), (b'r', 0)],
+        tape: b" r72 w18 r0",
     },
     Row {
         words: &[b"build", b"1"],
         input: b"tdu nac=293\ntdu nac=293\n",
         piece: 12,
-        failing_read: 0,
-        failing_write: 0,
+        fails: (0, 0),
         outcome: Outcome::Done,
-        tape: &[(b'r', 12), (b'w', 18), (b'r', 12), (b'w', 18), (b'r', 0)],
+        tape: b" r12 w18 r12 w18 r0",
     },
     Row {
         words: &[b"stations"],
         input: b"send 6162\ndeliver data -\ndeliver answer -\n",
         piece: 21,
-        failing_read: 0,
-        failing_write: 0,
+        fails: (0, 0),
         outcome: Outcome::Done,
-        tape: &[
-            (b'r', 21),
-            (b'w', 25),
-            (b'r', 21),
-            (b'w', 58),
-            (b'r', 0),
-            (b'w', 42),
-        ],
+        tape: b" r21 w25 r21 w58 r0 w42",
     },
     Row {
         words: &[b"fragments"],
         input: b"long -\ndeliver data -\ndeliver answer -\n",
         piece: 22,
-        failing_read: 0,
-        failing_write: 0,
+        fails: (0, 0),
         outcome: Outcome::Done,
-        tape: &[
-            (b'r', 22),
-            (b'w', 91),
-            (b'r', 17),
-            (b'w', 43),
-            (b'r', 0),
-            (b'w', 39),
-        ],
+        tape: b" r22 w91 r17 w43 r0 w39",
     },
     Row {
         words: &[b"duplex"],
         input: b"a send 6162\nb send 6364\ndeliver ab -\ndeliver ba -\n",
         piece: 50,
-        failing_read: 0,
-        failing_write: 0,
+        fails: (0, 0),
         outcome: Outcome::Done,
-        tape: &[(b'r', 50), (b'w', 116), (b'r', 0), (b'w', 80)],
+        tape: b" r50 w116 r0 w80",
     },
     Row {
         words: &[b"sample", b"1"],
         input: b"octets",
         piece: 4,
-        failing_read: 0,
-        failing_write: 0,
+        fails: (0, 0),
         outcome: Outcome::Done,
-        tape: &[(b'w', 24)],
+        tape: b" w24",
     },
     Row {
         words: &[b"nothing"],
         input: b"octets",
         piece: 4,
-        failing_read: 0,
-        failing_write: 0,
+        fails: (0, 0),
         outcome: Outcome::Usage,
-        tape: &[],
+        tape: b"",
     },
     Row {
         words: &[b"stations"],
         input: b"send 6162\nsend 6x\nsend 6364\n",
         piece: 10,
-        failing_read: 0,
-        failing_write: 0,
+        fails: (0, 0),
         outcome: Outcome::BadLine {
             line: 2,
             fault: LineFault::Value,
         },
-        tape: &[(b'r', 10), (b'w', 25), (b'r', 10)],
+        tape: b" r10 w25 r10",
     },
     Row {
         words: &[b"show"],
         input: RECORDING,
         piece: 20,
-        failing_read: 2,
-        failing_write: 0,
+        fails: (2, 0),
         outcome: Outcome::ReadFault,
-        tape: &[(b'r', 20), (b'w', 47), (b'R', 0)],
+        tape: b" r20 w47 R0",
     },
     Row {
         words: &[b"show"],
         input: RECORDING,
         piece: 20,
-        failing_read: 0,
-        failing_write: 2,
+        fails: (0, 2),
         outcome: Outcome::WriteFault,
-        tape: &[(b'r', 20), (b'w', 47), (b'r', 20), (b'W', 68)],
+        tape: b" r20 w47 r20 W68",
     },
     Row {
         words: &[b"sample", b"1"],
         input: b"octets",
         piece: 4,
-        failing_read: 1,
-        failing_write: 1,
+        fails: (1, 1),
         outcome: Outcome::WriteFault,
-        tape: &[(b'W', 24)],
+        tape: b" W24",
     },
 ];
 
@@ -209,24 +156,25 @@ fn told(call: &Call) -> (u8, usize) {
     }
 }
 
-// Whether the reads and writes are those of a row's tape.
-fn are_told(calls: &[Call], tape: &[(u8, usize)]) -> bool {
-    let mut all = calls.len() == tape.len();
-    for (call, want) in calls.iter().zip(tape) {
-        all = all && told(call) == *want;
+// The reads and writes of a tape, each after a blank.
+fn text_of(calls: &[Call]) -> Line {
+    let mut text = Line::new();
+    for call in calls {
+        let (letter, count) = told(call);
+        put_named(&mut text, &[b' ', letter], count as u64);
     }
-    all
+    text
 }
 
 // Whether a call ends as its row says, and reads and writes so.
 fn holds(alloc: Global, row: &Row) -> bool {
-    let (reads, writes) = ([row.failing_read], [row.failing_write]);
+    let (reads, writes) = ([row.fails.0], [row.fails.1]);
     let source = MemorySource::new(row.input, row.piece.max(1), &reads);
     let mut room = [0; 512];
     let sink = SliceSink::new(&mut room, &writes);
     let mut tape = Tape::new(alloc, source, sink);
     let outcome = run_on(alloc, &words_of(row.words), &mut tape);
-    outcome == row.outcome && !tape.is_torn() && are_told(tape.calls(), row.tape)
+    outcome == row.outcome && !tape.is_torn() && text_of(tape.calls()).octets() == row.tape
 }
 
 #[test]

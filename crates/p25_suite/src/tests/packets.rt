@@ -3,7 +3,7 @@
 
 ghost use Rattle.std.specs.Prelude.{◌<◌};
 
-use super::{build, change_bit, put_named, writes};
+use super::{build, change_bit, put_named, reads_as, writes};
 use p25_line::Line;
 use std::alloc::Global;
 
@@ -18,14 +18,13 @@ enum Change {
 
 use Change::{Inverted, Zeroed};
 
-// A packet (PDU): what its row shows, its line, what becomes of its bits, what `show` writes, and whether the line follows that,
-// since the packet is whole.
+// A packet (PDU): what its row shows, its line, what becomes of its bits, and what `show` writes, which the line follows where the
+// packet is whole.
 type Row = (
     &'static str,
     &'static [u8],
     &'static [Change],
     &'static [u8],
-    bool,
 );
 
 const CONFIRMED: &[u8] =
@@ -41,84 +40,72 @@ const ROWS: [Row; 12] = [
         RESPONSE,
         &[],
         b"unit at=0 bits=360 fix=0 status=00000 ",
-        true,
     ),
     (
         "a confirmed packet without blocks, whose free bits are ones",
         b"confirmed nac=293 head=f6ffffffffff80ffffff blocks=-",
         &[],
         b"unit at=0 bits=360 fix=0 status=00000 ",
-        true,
     ),
     (
         "a confirmed packet of a block with the highest serial",
         b"confirmed nac=293 head=56c00000000181000800 blocks=7f:ffffffffffffffffffffffffffffffff",
         &[],
         b"unit at=0 bits=576 fix=0 status=00000000 ",
-        true,
     ),
     (
         "a plain packet of two blocks",
         b"plain nac=fff head=35c00000000102000000 octets=000102030405060708090a0b0c0d0e0f10111213",
         &[],
         b"unit at=0 bits=720 fix=0 status=0000000000 ",
-        true,
     ),
     (
         "a plain packet with two wrong bits in its header and in its block",
         PLAIN,
         &[Inverted(112, 2), Inverted(308, 2)],
         b"unit at=0 bits=576 fix=4 status=00000000 ",
-        true,
     ),
     (
         "a confirmed packet with a wrong bit in its block, and its nulls inverted",
         CONFIRMED,
         &[Inverted(308, 1), Inverted(504, 56)],
         b"unit at=0 bits=576 fix=1 status=00000000 ",
-        true,
     ),
     (
         "a confirmed packet whose block is replaced",
         CONFIRMED,
         &[Zeroed(308)],
         b"broken at=0 bits=576 nac=293 duid=c fields=block.0",
-        false,
     ),
     (
         "a confirmed packet of two blocks, both of which are replaced",
         b"confirmed nac=293 head=56c00000000182000800 blocks=00:00000000000000000000000000000000,01:00000000000000000000000000000001",
         &[Zeroed(308), Zeroed(504)],
         b"broken at=0 bits=720 nac=293 duid=c fields=block.0,block.1",
-        false,
     ),
     (
         "a confirmed packet of two blocks, the second of which is replaced",
         b"confirmed nac=293 head=56c00000000182000800 blocks=05:00000000000000000000000000000000,01:00000000000000000000000000000001",
         &[Zeroed(504)],
         b"broken at=0 bits=720 nac=293 duid=c fields=block.1",
-        false,
     ),
     (
         "a plain packet whose block is replaced",
         PLAIN,
         &[Zeroed(308)],
         b"broken at=0 bits=576 nac=293 duid=c fields=packet_crc",
-        false,
     ),
     (
         "a response whose block is replaced",
         b"response nac=293 head=23800000000181000000 octets=f000000000000000",
         &[Zeroed(308)],
         b"broken at=0 bits=576 nac=293 duid=c fields=packet_crc",
-        false,
     ),
     (
         "a response whose header is replaced",
         RESPONSE,
         &[Zeroed(112)],
         b"nounit at=0 field=packet_header\ngap at=1 bits=359",
-        false,
     ),
 ];
 
@@ -157,19 +144,6 @@ fn changed(octets: &mut [u8], change: Change) {
     }
 }
 
-// What `show` writes of a row.
-fn text_of(row: &Row) -> Line {
-    let mut text = Line::new();
-    if row.3.len() <= 200 {
-        text.put(row.3);
-        if row.4 && row.1.len() <= 1_000 {
-            text.put(row.1);
-        }
-        text.put(b"\n");
-    }
-    text
-}
-
 // Whether a row holds: its packet is shown as it says, and repaired where it is whole.
 fn holds(alloc: Global, row: &Row) -> bool {
     let mut room = [0; 128];
@@ -178,12 +152,7 @@ fn holds(alloc: Global, row: &Row) -> bool {
     for change in row.2 {
         changed(&mut room, *change);
     }
-    if size > 128 || size == 0 {
-        return false;
-    }
-    let repaired = if row.4 { &sent } else { &room };
-    writes(alloc, &[b"show"], &room[..size], text_of(row).octets())
-        && writes(alloc, &[b"repair"], &room[..size], &repaired[..size])
+    size > 0 && size <= 128 && reads_as(alloc, row.1, row.3, &sent[..size], &room[..size])
 }
 
 #[test]

@@ -1,13 +1,13 @@
 //! Voice units (HDU, LDU1, LDU2 and TDULC): built from a line, damaged, shown in pieces of 1, of 2, of 7 and of all octets, and
 //! repaired.
 
-use super::{Inverted, build, invert, writes};
+use super::{Inverted, build, invert, reads_as, writes};
 use p25_line::Line;
 use p25_link::{LinkControl, LinkKind};
 use std::alloc::Global;
 
 // A unit: what its row shows, its status symbols, its line, the nine voice frames' digit where it has them, the bits that
-// are inverted, what `show` writes, and whether the line follows that, since the unit is whole.
+// are inverted, and what `show` writes, which the line follows where the unit is whole.
 type Row = (
     &'static str,
     &'static [u8],
@@ -15,7 +15,6 @@ type Row = (
     Option<u8>,
     &'static [Inverted],
     &'static [u8],
-    bool,
 );
 
 const ZERO_HEADER: &[u8] = b"hdu nac=000 mi=000000000000000000 mfid=00 algid=00 kid=0000 tgid=0000";
@@ -35,7 +34,6 @@ const HEADERS: [Row; 6] = [
         None,
         &[],
         b"unit at=0 bits=792 fix=0 status=00000000000 ",
-        true,
     ),
     (
         "a header with eight words inverted whole, and three wrong bits in each other",
@@ -44,7 +42,6 @@ const HEADERS: [Row; 6] = [
         None,
         &[(112, 18, 8, 18), (256, 18, 28, 3)],
         b"unit at=0 bits=792 fix=228 status=00000000000 ",
-        true,
     ),
     (
         "a header with sixteen words that are marks",
@@ -53,7 +50,6 @@ const HEADERS: [Row; 6] = [
         None,
         &[(112, 18, 16, 4)],
         b"unit at=0 bits=792 fix=64 status=00000000000 ",
-        true,
     ),
     (
         "a header with seventeen",
@@ -62,7 +58,6 @@ const HEADERS: [Row; 6] = [
         None,
         &[(112, 18, 17, 4)],
         b"broken at=0 bits=792 nac=000 duid=0 fields=header_word",
-        false,
     ),
     (
         "a header with fourteen words that are marks, and another word of the Golay code",
@@ -77,7 +72,6 @@ const HEADERS: [Row; 6] = [
             (380, 0, 1, 2),
         ],
         b"unit at=0 bits=792 fix=64 status=00000000000 ",
-        true,
     ),
     (
         "a header of ones",
@@ -86,7 +80,6 @@ const HEADERS: [Row; 6] = [
         None,
         &[],
         b"unit at=0 bits=792 fix=0 status=33333333333 ",
-        true,
     ),
 ];
 
@@ -106,7 +99,6 @@ const LINK_UNITS: [Row; 11] = [
             (1320, 10, 4, 1),
         ],
         b"unit at=0 bits=1728 fix=24 status=333333333333333333333333 ",
-        true,
     ),
     (
         "a link unit 1 with two wrong bits in each low speed word",
@@ -115,7 +107,6 @@ const LINK_UNITS: [Row; 11] = [
         Some(b'0'),
         &[(1504, 16, 2, 2)],
         b"unit at=0 bits=1728 fix=4 status=000000000000000000000000 ",
-        true,
     ),
     (
         "a link unit 1 with twelve Hamming words inverted, which are marks",
@@ -124,7 +115,6 @@ const LINK_UNITS: [Row; 11] = [
         Some(b'0'),
         &[(400, 10, 4, 10), (584, 10, 4, 10), (768, 10, 4, 10)],
         b"unit at=0 bits=1728 fix=120 status=000000000000000000000000 ",
-        true,
     ),
     (
         "a link unit 1 with six Hamming words that are others of their code",
@@ -133,7 +123,6 @@ const LINK_UNITS: [Row; 11] = [
         Some(b'0'),
         &[(405, 10, 4, 3), (589, 10, 2, 3)],
         b"unit at=0 bits=1728 fix=18 status=000000000000000000000000 ",
-        true,
     ),
     (
         "a link unit 1 with seven",
@@ -142,7 +131,6 @@ const LINK_UNITS: [Row; 11] = [
         Some(b'0'),
         &[(405, 10, 4, 3), (589, 10, 3, 3)],
         b"broken at=0 bits=1728 nac=000 duid=5 fields=link_control",
-        false,
     ),
     (
         "a link unit 1 each of whose fields fails",
@@ -156,7 +144,6 @@ const LINK_UNITS: [Row; 11] = [
             (1518, 16, 2, 2),
         ],
         b"broken at=0 bits=1728 nac=000 duid=5 fields=link_control,low_speed_1,low_speed_2",
-        false,
     ),
     (
         "a link unit 1 of ones",
@@ -165,7 +152,6 @@ const LINK_UNITS: [Row; 11] = [
         Some(b'f'),
         &[],
         b"unit at=0 bits=1728 fix=0 status=111111111111111111111111 ",
-        true,
     ),
     (
         "a link unit 2 whose first low speed word is far from each word of its code",
@@ -174,7 +160,6 @@ const LINK_UNITS: [Row; 11] = [
         Some(b'0'),
         &[(1516, 0, 1, 1), (1518, 0, 1, 2)],
         b"broken at=0 bits=1728 nac=000 duid=a fields=low_speed_1",
-        false,
     ),
     (
         "a link unit 2 whose second is",
@@ -183,7 +168,6 @@ const LINK_UNITS: [Row; 11] = [
         Some(b'0'),
         &[(1532, 0, 1, 1), (1534, 0, 1, 2)],
         b"broken at=0 bits=1728 nac=000 duid=a fields=low_speed_2",
-        false,
     ),
     (
         "a link unit 2 with five Hamming words that are others of their code, and the second low speed word beyond",
@@ -197,7 +181,6 @@ const LINK_UNITS: [Row; 11] = [
             (1534, 0, 1, 2),
         ],
         b"broken at=0 bits=1728 nac=000 duid=a fields=encryption_sync,low_speed_2",
-        false,
     ),
     (
         "a link unit 2 of ones",
@@ -206,7 +189,6 @@ const LINK_UNITS: [Row; 11] = [
         Some(b'f'),
         &[],
         b"unit at=0 bits=1728 fix=0 status=222222222222222222222222 ",
-        true,
     ),
 ];
 
@@ -219,7 +201,6 @@ const TERMINATORS: [Row; 5] = [
         None,
         &[(112, 24, 3, 24)],
         b"unit at=0 bits=432 fix=72 status=000000 ",
-        true,
     ),
     (
         "a terminator with six words that are marks",
@@ -228,7 +209,6 @@ const TERMINATORS: [Row; 5] = [
         None,
         &[(116, 24, 6, 4)],
         b"unit at=0 bits=432 fix=24 status=000000 ",
-        true,
     ),
     (
         "a terminator with seven",
@@ -237,7 +217,6 @@ const TERMINATORS: [Row; 5] = [
         None,
         &[(116, 24, 7, 4)],
         b"broken at=0 bits=432 nac=000 duid=f fields=link_control",
-        false,
     ),
     (
         "a terminator of ones with its nulls inverted",
@@ -246,7 +225,6 @@ const TERMINATORS: [Row; 5] = [
         None,
         &[(400, 0, 1, 20)],
         b"unit at=0 bits=432 fix=0 status=333333 ",
-        true,
     ),
     (
         "a terminator with 4 wrong sync bits, 11 wrong identifier bits and the bit P inverted",
@@ -255,7 +233,6 @@ const TERMINATORS: [Row; 5] = [
         None,
         &[(0, 0, 1, 4), (48, 0, 1, 11), (111, 0, 1, 1)],
         b"unit at=0 bits=432 fix=15 status=222222 ",
-        true,
     ),
 ];
 
@@ -271,19 +248,6 @@ fn line_of(row: &Row) -> Line {
     line
 }
 
-// What `show` writes of a row.
-fn text_of(row: &Row, line: &Line) -> Line {
-    let mut text = Line::new();
-    if row.5.len() <= 200 {
-        text.put(row.5);
-        if row.6 && line.octets().len() <= 1_000 {
-            text.put(line.octets());
-        }
-        text.put(b"\n");
-    }
-    text
-}
-
 // Whether a row holds: its unit is shown as it says, and repaired where it is whole.
 fn holds(alloc: Global, row: &Row) -> bool {
     let line = line_of(row);
@@ -293,13 +257,7 @@ fn holds(alloc: Global, row: &Row) -> bool {
     for inverted in row.4 {
         invert(&mut room, inverted);
     }
-    let text = text_of(row, &line);
-    if size > 256 || size == 0 {
-        return false;
-    }
-    let repaired = if row.6 { &sent } else { &room };
-    writes(alloc, &[b"show"], &room[..size], text.octets())
-        && writes(alloc, &[b"repair"], &room[..size], &repaired[..size])
+    size > 0 && size <= 256 && reads_as(alloc, line.octets(), row.5, &sent[..size], &room[..size])
 }
 
 // The HDU of zeros, but its 36 symbols are 20 zeros and the coefficients of (x - α)(x - α^2)..(x - α^15): in at least 16
