@@ -1,7 +1,7 @@
 //! The work of a command on the lines of its input.
 
 ghost use Rattle.std.specs.{Prelude.{◌≡◌, ◌+◌, ◌^◌, ◌≤◌, ◌++◌, ◌==◌, true, false, Some, None, length, take}, List.{position_or_len}};
-ghost use Rattle.p25_filter.specs.{Futures.{IsIdle}, LineFilters.{first_line, line_future, lines_ready, IsLineGiven}};
+ghost use Rattle.p25_filter.specs.LineFilters.{first_line, lines_ready, IsLineGiven};
 
 use super::ending::{Ending, Refusal};
 use super::filter::Filter;
@@ -54,8 +54,7 @@ impl<M: LineMachine> Model for LineFilter<M> {
 impl<M: LineMachine> LineFilter<M> {
     /// Answers the work of a machine before the first octet.
     pub fn new(machine: M) -> LineFilter<M>
-        ensures value { result ≡ first_line machine }
-        ensures idle { IsIdle false (line_future M.rules result) }
+        ensures { result ≡ first_line machine }
     {
         LineFilter {
             machine,

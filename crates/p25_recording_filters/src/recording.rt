@@ -52,17 +52,11 @@ impl<R: Report> Model for Recording<R> {
 }
 
 impl<R: Report> Recording<R> {
-    ghost use Rattle.std.specs.Prelude.{◌≢◌, false};
-    ghost use Rattle.p25_filter.specs.Futures.{IsIdle};
-    ghost use Rattle.p25_recording_filters.specs.{declared.recording.Phase.TheVariants.{Ended}, Recordings.{recording_future}};
-
     /// Answers a report before the first octet. It has counted nothing.
     pub fn new(report: R) -> Recording<R>
         requires counted { R.counted report ≡ 0 }
         requires reached { R.HasReached report 0 }
-        ensures value { result ≡ fresh report }
-        ensures drained { (given result.scan ≡ []) × (result.phase ≢ Ended) }
-        ensures idle { IsIdle false (recording_future R.reporting result) }
+        ensures { result ≡ fresh report }
     {
         Recording {
             report,

@@ -6,8 +6,7 @@ ghost use Rattle.p25_stream.specs.Scan.{given};
 ghost use Rattle.p25_units.specs.{Items.{covered, place_of}, Units.{whole_octets}};
 ghost use Rattle.p25_soft.specs.Levels.{hard_bits};
 ghost use Rattle.p25_recording_filters.specs.{Commands.{unfilled}, SoftLevels.{filled, item_softened}};
-ghost use Rattle.p25_recording_filters.specs.Softs.{IsHeardAmong, IsHolding, PutSoftItem, first_level, fresh_soft, is_even_packet, soft_future};
-ghost use Rattle.p25_filter.specs.Futures.{IsIdle};
+ghost use Rattle.p25_recording_filters.specs.Softs.{IsHeardAmong, IsHolding, PutSoftItem, first_level, fresh_soft, is_even_packet};
 
 use crate::held_levels::HeldLevels;
 use crate::reports::put_behind;
@@ -146,9 +145,7 @@ fn put_item(
 impl Soft {
     /// Answers the work before the first octet.
     pub fn new() -> Soft
-        ensures value { result ≡ fresh_soft }
-        ensures drained { given result.scan ≡ [] }
-        ensures idle { IsIdle false (soft_future result) }
+        ensures { result ≡ fresh_soft }
     {
         Soft {
             scanner: Scanner::new(),
