@@ -88,13 +88,24 @@ impl Unit {
         self.nac = nid.nac;
         match &mut self.body {
             Body::Voice(held) => read_voice_in(nid.duid, bare, held),
-            Body::Packet(_) => {
-                let mut voice = VoiceUnit::End;
-                let outcome = read_voice_in(nid.duid, bare, &mut voice);
-                self.body = Body::Voice(voice);
-                outcome
-            }
+            Body::Packet(_) => self.read_voice_anew(nid, bare),
         }
+    }
+
+    // Does what `read_voice` does, where the unit was a packet. A body takes room, which is cleared, so it is made apart from its caller.
+    #[inline(never)]
+    fn read_voice_anew(&mut self, nid: &Nid, bare: &BitBuf) -> Outcome
+        requires { voice_length_of nid.now.duid ≡ Some (length bare.now) }
+        ensures nac { self.new.nac ≡ nid.now.nac }
+        ensures body { read_or result self.new.body ≡ body_from (voice_reading_of nid.now.duid bare.now) }
+        ensures wrong { IfRead result (λ wrong. wrong ≡ body_fixes_of self.new bare.now) }
+        ensures most { IfRead result (λ wrong. wrong ≤ 864) }
+    {
+        self.nac = nid.nac;
+        let mut voice = VoiceUnit::End;
+        let outcome = read_voice_in(nid.duid, bare, &mut voice);
+        self.body = Body::Voice(voice);
+        outcome
     }
 
     // Becomes the packet (PDU) of a unit without status symbols whose header was read, under a network access code, and answers what

@@ -1,7 +1,6 @@
 use Rattle.std.proofs.Common.{take, drop, ap, ap₂, sym, ◌∙◌}
 use Rattle.p25_bits.specs.Numbers.{numbers_from}
-use Rattle.p25_bits.proofs.NumbersLaws.{numbers_from-zero}
-use Rattle.p25_bits.proofs.bit_buf.BitBuf.take_numbers.Goals.{then-width-eq8, else-width-eq8}
+use Rattle.p25_bits.proofs.{NumbersLaws.{numbers_from-zero}, bit_buf.BitBuf.take_numbers.Goals.{then-width-eq8, else-width-eq8}}
 use Rattle.p25_bits.proofs.bit_buf.BitBuf.take_numbers.Goals as goal
 
 pub take_from-requires-clause-before : goal.take_from-requires-clause-before

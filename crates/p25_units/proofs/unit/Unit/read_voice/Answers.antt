@@ -3,7 +3,3 @@ use Rattle.p25_units.proofs.unit.Unit.read_voice.Goals as goal
 
 pub returns-in-Voice-clause-wrong : goal.returns-in-Voice-clause-wrong
 returns-in-Voice-clause-wrong c = voice-wrong c.read_voice_in.result c.args.nid.now.nac c.read_voice_in.new.unit c.args.bare.now c.read_voice_in.ensures.wrong
-
-pub returns-in-Packet-clause-wrong : goal.returns-in-Packet-clause-wrong
-returns-in-Packet-clause-wrong c =
-    voice-wrong c.read_voice_in-outcome.result c.args.nid.now.nac c.read_voice_in-outcome.new.unit c.args.bare.now c.read_voice_in-outcome.ensures.wrong
