@@ -19,27 +19,14 @@ use Rattle.p25_units.proofs.UnitsLaws.{IsSoundFrame-frame_as, blocks-sound, body
 use Rattle.p25_voice_units.specs.{Lengths.{voice_duid}, declared.unit.VoiceUnit.{VoiceUnit}}
 use Rattle.p25_voice_units.proofs.LengthsLaws.{voice_lengths}
 use Rattle.p25_stream.specs.{Items.{first_item, gap_of, is_decided, items_by}, Repeats.{bridged, bridged_frame, repaired}}
-use Rattle.p25_stream.proofs.{ItemLaws.{whole-within}, ItemsLaws.{IsSoundItem-first_item, covered-first_item, first_item-cases, is_decided-gap, is_decided-synced, items_by-first, items_by-more}}
+use Rattle.p25_stream.proofs.ItemLaws.{whole-within}
+use Rattle.p25_stream.proofs.ItemsLaws.{IsSoundItem-first_item, covered-first_item, first_item-cases, is_decided-gap, is_decided-synced, items_by-first, items_by-more, enough-decide as long-decide}
 use Rattle.p25_c.specs.BoundsLaws.{AreUnitOctets, BridgedAreUnits, BuiltAreUnits, CutsAreShort, EnoughDecide, IsBoundedItem, ItemsAreBounded, RepairedAreUnits, StreamsHaveRoom, octets_there}
 use Rattle.p25_c.specs.{Building.{first_changed, unit_built}, Items.{is_inside, items_asked}, Places.{asked_changed, filled, has_item, outside}, Rooms.{IsWriting, no_room}}
 use Rattle.p25_c.specs.{Streams.{has_ended, is_stream, octets_held, stream_asked}, declared.stream.Stream.{Stream}}
-use Rattle.p25_c.proofs.{CallsLaws.{inside-bounds}, ItemsLaws.{items_asked-inside, items_asked-some}, StreamCallsLaws.{stream-asked}, StreamsSteps.{fits-of}}
+use Rattle.p25_c.proofs.{CallsLaws.{inside-bounds}, ItemsLaws.{items_asked-inside, items_asked-some}, StreamCallsLaws.{stream-asked}, StreamsSteps.{fits-of}, RelaysSteps.{covered-few}}
 
 -- ---- what decides an item
-
--- a need is known where the bits of the longest unit are there
-need-known : (bits : List Bool) (need : Need) → need_of bits ≡ need → 25920 ≤ length bits → is_known need ≡ true
-need-known bits NoSync is long = refl
-need-known bits (More count) is long = let few = need_of-few bits count is in absurd (omega (arith, few.0, few.1, long))
-need-known bits (Length count) is long = refl
-need-known bits (NoLength field) is long = refl
-
-many-decide : (bits : List Bool) → 25920 ≤ length bits → is_decided bits ≡ true
-many-decide bits long =
-    elim (cases_Bool (has_sync bits)) [
-      | inr no' ↦ is_decided-gap bits no' ∙ le-leb (min (gap_of bits + 48) (4096 + 47)) (length bits) (omega (arith, long))
-      | inl yes' ↦ is_decided-synced bits (need_of bits) yes' refl ∙ need-known bits (need_of bits) refl long
-    ]
 
 either-true : (ended decided : Bool) → decided ≡ true → (ended || decided) ≡ true
 either-true true decided is = refl
@@ -51,7 +38,7 @@ enough-decide ended begin from octets inside enough =
     let long : 25920 ≤ length bits = omega (arith, length-drop (from - begin) (octet_bits octets), length-octet_bits octets, enough) in
     let first = first_item from bits in
     let later = items_by ended (from + covered first) (drop (covered first) bits) in
-    let goes = either-true ended (is_decided bits) (many-decide bits long) in
+    let goes = either-true ended (is_decided bits) (long-decide bits long) in
     (first, later, items_asked-inside ended begin from octets (first ∷ later) inside (items_by-more ended from bits (omega (arith, long)) goes))
 
 -- ---- the room of a stream
@@ -72,14 +59,6 @@ streams-room stream full asked =
 
 -- ---- the parts of an item
 
-first-short : (at : ℕ) (bits : List Bool) → covered (first_item at bits) ≤ 25920
-first-short at bits =
-    first_item-cases (λ item. covered item ≤ 25920) at bits
-    (λ no'. omega arith)
-    (λ count yes' is. let few = need_of-few bits count is in omega (arith, few.0, few.1))
-    (λ count yes' is. omega (arith, covered-unit_item_of at bits count is, (need_of-there bits count is).1))
-    (λ field yes' is. omega arith)
-
 first-bounded : (at : ℕ) (bits : List Bool) (item : Item) → item ≡ first_item at bits → 1 ≤ covered item → covered item ≤ 25920 → IsBoundedItem item
 first-bounded at bits (Whole place frame fixes) is some most =
     let read = whole-within at bits place frame fixes (sym is) in
@@ -99,7 +78,7 @@ items-bounded ended begin from octets item items asked =
     let fits = covered-first_item from bits first.0 in
     first-bounded from bits item first.1
     (subst (λ (i : Item). 1 ≤ covered i) (sym first.1) (omega (arith, fits.0)))
-    (subst (λ (i : Item). covered i ≤ 25920) (sym first.1) (first-short from bits))
+    (subst (λ (i : Item). covered i ≤ 25920) (sym first.1) (covered-few from bits))
 
 -- ---- the octets of a unit
 

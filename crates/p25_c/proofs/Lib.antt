@@ -1,6 +1,7 @@
 pub mod RoomsLaws
 pub mod ItemsLaws
 pub mod CallsLaws
+pub mod BuildingSteps
 pub mod ManySteps
 pub mod PlacesSteps
 pub mod RelaysSteps

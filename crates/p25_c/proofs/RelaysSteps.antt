@@ -29,7 +29,7 @@ placed-of begin from count yes' =
     }
 
 -- a first item covers no more bits than the longest unit has
-covered-few : (at : ℕ) (bits : List Bool) → covered (first_item at bits) ≤ 25920
+pub covered-few : (at : ℕ) (bits : List Bool) → covered (first_item at bits) ≤ 25920
 covered-few at bits =
     first_item-cases (λ item. covered item ≤ 25920) at bits
     (λ no'. omega arith)

@@ -1,11 +1,12 @@
 -- The octets of units: built from lines, repaired, and under another network access code (NAC).
-use Rattle.std.specs.Prelude.{ℕ, ℤ, negsuc, Bool, if◌then◌else◌, List, [], ◌∷◌, take, Result, Ok, Err}
+use Rattle.std.specs.Prelude.{◌≡◌, ℕ, ℤ, negsuc, ◌<◌, ◌≤◌, ◌⊎◌, Bool, if◌then◌else◌, List, [], ◌∷◌, take, Result, Ok, Err}
 use Rattle.p25_bits.specs.Bits.{octet_bits}
 use Rattle.p25_line.specs.{declared.fault.LineFault.{LineFault}, declared.fault.LineFault.TheVariants.{Long, Form, Kind, Key, Value}}
-use Rattle.p25_status.specs.declared.symbols.Status.{Status}
+use Rattle.p25_status.specs.{Status.{status_number}, declared.symbols.Status.{Status}}
 use Rattle.p25_stream.specs.{Items.{items_of}, Repeats.{bridged, is_whole_item, repaired}}
 use Rattle.p25_text.specs.Grammar.{read_line_of}
 use Rattle.p25_units.specs.{Items.{covered}, UnitParts.{UnitParts}, Units.{image_octets, whole_octets}, declared.item.Item.{Item}}
+use Rattle.p25_c.specs.Rooms.{IsWriting}
 
 -- -3: no whole unit begins there; -4: a network access code (NAC) has 12 bits; -5: a status symbol is 0 to 3
 abbrev pub no_unit : ℤ
@@ -16,6 +17,17 @@ wrong_nac = negsuc 3
 
 abbrev pub wrong_status : ℤ
 wrong_status = negsuc 4
+
+-- a call writes under a network access code (NAC) and with a status symbol that it is given as numbers; where one of them is too large, the
+-- answer says so
+pub record IsWritingUnder (nac status : ℕ) (what : Status → Result (List ℕ) ℤ) (room left : List ℕ) (answer : ℤ) : Type 0 where
+  pub strange_code : 4096 ≤ nac → IsWriting (Err wrong_nac) room left answer
+  pub strange_symbol : nac < 4096 → 4 ≤ status → IsWriting (Err wrong_status) room left answer
+  pub sent : nac < 4096 → (symbol : Status) → status_number symbol ≡ status → IsWriting (what symbol) room left answer
+
+-- one of the two is too large, and this is the answer that says so
+abbrev pub IsRefused : ℕ → ℕ → ℤ → Type 0
+IsRefused nac status answer = ((4096 ≤ nac) × (answer ≡ wrong_nac)) ⊎ ((nac < 4096) × (4 ≤ status) × (answer ≡ wrong_status))
 
 -- -11 to -15: why a line is refused
 abbrev pub fault_answer : LineFault → ℤ

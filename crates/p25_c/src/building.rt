@@ -1,25 +1,24 @@
 //! Octets of units: built from lines, repaired, and under another network access code (NAC).
 
-ghost use Rattle.std.specs.Prelude.{◌≡◌, ◌<◌, ◌≤◌, pos, Ok, Err};
-ghost use Rattle.p25_c.specs.{Building.{built, fault_answer, unit_bridged, unit_repaired, wrong_nac, wrong_status}, Rooms.{IsWriting}};
+ghost use Rattle.std.specs.Prelude.{◌≡◌, ℕ, ◌*◌, ◌<◌, ◌≤◌, pos, Ok, Err, IfOk, IfErr};
+ghost use Rattle.p25_c.specs.{Building.{IsRefused, IsWritingUnder, built, fault_answer, unit_bridged, unit_repaired, wrong_status}, Rooms.{IsWriting}};
 ghost use Rattle.p25_status.specs.{Status.{status_number}, declared.symbols.Status.{Status as Symbol}};
-ghost use Rattle.p25_stream.specs.Repeats.{is_whole_item};
-ghost use Rattle.p25_units.specs.Units.{IsSendableBody, image_octets, whole_octets};
+ghost use Rattle.p25_units.specs.Units.{IsWholeBody, frame_length_of, image_octets, whole_octets};
 
-use crate::room::NO_ROOM;
+use crate::repeats::{p25_bridge_at, p25_repair_at};
+use crate::room::{NO_ROOM, counted};
 use p25_bits::BitBuf;
 use p25_line::LineFault;
 use p25_status::Status;
-use p25_stream::{bridge_item, find_item, repair_item};
 use p25_text::read_line;
-use p25_units::{Frame, Item, Unit, image};
+use p25_units::{Frame, Unit, image};
 
 // No whole unit begins there; a network access code (NAC) has 12 bits; a status symbol is 0 to 3.
 pub(crate) const NO_UNIT: i32 = -3;
 
-pub(crate) const WRONG_NAC: i32 = -4;
+const WRONG_NAC: i32 = -4;
 
-pub(crate) const WRONG_STATUS: i32 = -5;
+const WRONG_STATUS: i32 = -5;
 
 /// Writes the octets of the unit of a line into `octets`, as the command `build` writes them, with one status symbol everywhere,
 /// and answers how many. The octets of `octets` after them stay.
@@ -42,7 +41,7 @@ fn build_line(line: &[u8], status: Status, octets: &mut [u8]) -> i32
     ensures { IsWriting (built status line.now) octets.old octets.new result }
 {
     match read_line(line) {
-        Ok(unit) => write_unit(unit, status, octets),
+        Ok(unit) => write_whole(unit, status, octets),
         Err(fault) => fault_answer(fault),
     }
 }
@@ -61,9 +60,10 @@ fn fault_answer(fault: LineFault) -> i32
 }
 
 // Writes the octets of a unit's image with one status symbol everywhere. No slot of a packet (PDU) is Bad.
-fn write_unit(unit: Unit, status: Status, octets: &mut [u8]) -> i32
-    requires { IsSendableBody unit.body }
-    ensures { IsWriting (Ok (image_octets status unit)) octets.old octets.new result }
+pub(crate) fn write_whole(unit: Unit, status: Status, octets: &mut [u8]) -> i32
+    requires { IsWholeBody unit.body }
+    ensures value { IsWriting (Ok (image_octets status unit)) octets.old octets.new result }
+    ensures count { (count : ℕ) → result ≡ pos count → 8 * count ≡ frame_length_of unit }
 {
     let mut bits = BitBuf::new();
     image(&Frame::filled(unit, status), &mut bits);
@@ -79,15 +79,7 @@ pub(crate) fn write_bits(bits: &BitBuf, room: &mut [u8]) -> i32
         return NO_ROOM;
     }
     bits.take_numbers(0, 8, &mut room[..count]);
-    written(count)
-}
-
-// The number of octets that were written.
-pub(crate) fn written(count: usize) -> i32
-    requires { count ≤ 8192 }
-    ensures { result ≡ pos count }
-{
-    count as i32
+    counted(count)
 }
 
 /// Writes the whole unit that `octets` begin with into `into` as it was sent, as the command `repair` writes it, and answers how
@@ -99,26 +91,7 @@ pub(crate) fn written(count: usize) -> i32
 pub extern "C" fn p25_repair(octets: &[u8], into: &mut [u8]) -> i32
     ensures { IsWriting (unit_repaired octets.now) into.old into.new result }
 {
-    let mut found = Item::Cut { place: 0, have: 0 };
-    if !find_item(octets, 0, 0, true, &mut found) {
-        return NO_UNIT;
-    }
-    if !is_whole(&found) {
-        return NO_UNIT;
-    }
-    let mut bits = BitBuf::new();
-    repair_item(&found, &mut bits);
-    write_bits(&bits, into)
-}
-
-// Whether an item is a whole unit.
-pub(crate) fn is_whole(item: &Item) -> bool
-    ensures { result ≡ is_whole_item item.now }
-{
-    match item {
-        Item::Whole { .. } => true,
-        Item::Broken { .. } | Item::NoUnit { .. } | Item::Gap { .. } | Item::Cut { .. } => false,
-    }
+    p25_repair_at(octets, 0, 0, into)
 }
 
 /// Writes the whole unit that `octets` begin with into `into` under another network access code (NAC) and with one status symbol
@@ -128,32 +101,18 @@ pub(crate) fn is_whole(item: &Item) -> bool
 /// is above 3; -3, the item at the first bit is no whole unit; -2, the unit has more octets than `into`.
 #[unsafe(no_mangle)]
 pub extern "C" fn p25_bridge(octets: &[u8], nac: u16, status: u8, into: &mut [u8]) -> i32
-    ensures strange_code { 4096 ≤ nac → IsWriting (Err wrong_nac) into.old into.new result }
-    ensures strange_symbol { nac < 4096 → 4 ≤ status → IsWriting (Err wrong_status) into.old into.new result }
-    ensures bridged { nac < 4096 → (symbol : Symbol) → status_number symbol ≡ status
-        → IsWriting (unit_bridged nac symbol octets.now) into.old into.new result }
+    ensures { IsWritingUnder nac status (λ symbol. unit_bridged nac symbol octets.now) into.old into.new result }
 {
-    if nac > 4_095 {
-        return WRONG_NAC;
-    }
-    let Some(symbol) = Status::new(status) else {
-        return WRONG_STATUS;
-    };
-    bridge_unit(octets, nac, symbol, into)
+    p25_bridge_at(octets, 0, 0, nac, status, into)
 }
 
-// Writes the whole unit that octets begin with under another network access code (NAC) and with one status symbol everywhere.
-fn bridge_unit(octets: &[u8], nac: u16, status: Status, into: &mut [u8]) -> i32
-    requires { nac < 4096 }
-    ensures { IsWriting (unit_bridged nac status octets.now) into.old into.new result }
+// The status symbol of a number, where the network access code (NAC) beside it has 12 bits; else the answer that says which is too large.
+pub(crate) fn sent_symbol(nac: u16, status: u8) -> Result<Status, i32>
+    ensures symbol { IfOk result (λ symbol. (nac < 4096) × (status_number symbol ≡ status)) }
+    ensures answer { IfErr result (IsRefused nac status) }
 {
-    let mut found = Item::Cut { place: 0, have: 0 };
-    if !find_item(octets, 0, 0, true, &mut found) {
-        return NO_UNIT;
+    if nac > 4_095 {
+        return Err(WRONG_NAC);
     }
-    let mut bits = BitBuf::new();
-    if !bridge_item(&found, nac, status, &mut bits) {
-        return NO_UNIT;
-    }
-    write_bits(&bits, into)
+    Status::new(status).ok_or(WRONG_STATUS)
 }

@@ -159,46 +159,40 @@ fn may_take(caller: &CallerState, item: &ItemParts) -> bool
 fn unit_told(item: &ItemParts, fields: &FieldParts) -> Option<UnitSeen>
     ensures { result ≡ unit_told item.now fields.now }
 {
-    match item.kind {
-        1 => Some(UnitSeen {
-            place: item.place,
-            bits: u64::from(item.bits),
-            nac: item.nac,
-            duid: item.duid,
-            broken: false,
-            link: link_held(fields.has_lc, &fields.lc),
-            algid: number_held(fields.has_mi, fields.algid),
-        }),
-        2 => Some(UnitSeen {
-            place: item.place,
-            bits: u64::from(item.bits),
-            nac: item.nac,
-            duid: item.duid,
-            broken: true,
-            link: None,
-            algid: None,
-        }),
-        _ => None,
-    }
+    let bits = u64::from(item.bits);
+    let (broken, link, algid) = match item.kind {
+        1 => (
+            false,
+            link_held(fields.has_lc, &fields.lc),
+            number_held(fields.has_mi, fields.algid),
+        ),
+        2 => (true, None, None),
+        _ => return None,
+    };
+    Some(UnitSeen {
+        place: item.place,
+        bits,
+        nac: item.nac,
+        duid: item.duid,
+        broken,
+        link,
+        algid,
+    })
 }
 
 // A caller by what it keeps.
 fn state_told(reached: u64, taken: u32, pending: &Option<Call>) -> CallerState
     ensures { result ≡ state_told reached taken pending.now }
 {
-    match pending {
-        Some(call) => CallerState {
-            reached,
-            taken,
-            is_open: 1,
-            run: call_told(call),
-        },
-        None => CallerState {
-            reached,
-            taken,
-            is_open: 0,
-            run: no_call(),
-        },
+    let (is_open, run) = match pending {
+        Some(call) => (1, call_told(call)),
+        None => (0, no_call()),
+    };
+    CallerState {
+        reached,
+        taken,
+        is_open,
+        run,
     }
 }
 

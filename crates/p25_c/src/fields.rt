@@ -1,14 +1,12 @@
 //! The fields of a unit without a text, and voice units built from them.
 
-ghost use Rattle.std.specs.Prelude.{◌≡◌, ℕ, ◌<◌, ◌≤◌, pos, Err, length, true};
-ghost use Rattle.p25_c.specs.Building.{wrong_nac, wrong_status};
+ghost use Rattle.std.specs.Prelude.{◌≡◌, ℕ, ◌<◌, ◌≤◌, pos, length, true};
+ghost use Rattle.p25_c.specs.Building.{IsWritingUnder};
 ghost use Rattle.p25_c.specs.Fields.{body_fields, fields_answer, fields_built, fields_left, frame_octets, frames_held, item_unit, no_fields, unit_answer, unit_left, voice_fields, voice_held};
 ghost use Rattle.p25_c.specs.{Items.{items_asked}, Rooms.{IsWriting}};
-ghost use Rattle.p25_status.specs.{Status.{status_number}, declared.symbols.Status.{Status as Symbol}};
 
-use crate::building::{NO_UNIT, WRONG_NAC, WRONG_STATUS};
+use crate::building::{NO_UNIT, sent_symbol, write_whole};
 use crate::items::{OUTSIDE, blank, find_at, is_inside};
-use crate::sending::write_whole;
 use p25_bch_nid::{HDU, LDU1, LDU2, PDU, TDU, TDULC};
 use p25_link::{EncryptionSync, HeaderWord, LinkControl};
 use p25_status::Status;
@@ -198,19 +196,13 @@ fn put_frames(frames: &[VoiceFrame], octets: &mut [[u8; 18]])
 /// is above 3; -8, `duid` is that of no voice unit; -2, the unit has more octets than `octets`.
 #[unsafe(no_mangle)]
 pub extern "C" fn p25_build_fields(fields: &FieldParts, status: u8, octets: &mut [u8]) -> i32
-    ensures strange_code { 4096 ≤ fields.now.nac → IsWriting (Err wrong_nac) octets.old octets.new result }
-    ensures strange_symbol { fields.now.nac < 4096 → 4 ≤ status → IsWriting (Err wrong_status) octets.old octets.new result }
-    ensures built { fields.now.nac < 4096 → (symbol : Symbol) → status_number symbol ≡ status
-        → IsWriting (fields_built symbol fields.now) octets.old octets.new result }
+    ensures built { IsWritingUnder fields.now.nac status (λ symbol. fields_built symbol fields.now) octets.old octets.new result }
     ensures count { (count : ℕ) → result ≡ pos count → (18 ≤ count) × (count ≤ 216) }
 {
-    if fields.nac > 4_095 {
-        return WRONG_NAC;
+    match sent_symbol(fields.nac, status) {
+        Ok(symbol) => build_voice(fields, symbol, octets),
+        Err(answer) => answer,
     }
-    let Some(symbol) = Status::new(status) else {
-        return WRONG_STATUS;
-    };
-    build_voice(fields, symbol, octets)
 }
 
 // Writes the octets of the voice unit of fields.

@@ -6,10 +6,10 @@ ghost use Rattle.p25_c.specs.{Places.{filled}, Rooms.{IsWriting, write_left}};
 ghost use Rattle.p25_follow.specs.{Expected.{names_of}, Relayed.{IsFitItem}};
 ghost use Rattle.p25_units.specs.{Items.{IsSoundItem, covered, place_of}, Units.{whole_octets}};
 
-use crate::building::{write_bits, written};
+use crate::building::write_bits;
 use crate::items::{ItemParts, OUTSIDE};
 use crate::repeats::{cut, fill, has_item};
-use crate::room::NO_ROOM;
+use crate::room::{NO_ROOM, counted};
 use p25_bch_nid::Nid;
 use p25_bits::BitBuf;
 use p25_follow::Follower;
@@ -69,12 +69,7 @@ pub extern "C" fn p25_follower_take(
         return OUTSIDE;
     }
     let mut raw = BitBuf::new();
-    cut(
-        octets,
-        (item.place - begin) as usize,
-        item.bits as usize,
-        &mut raw,
-    );
+    cut(octets, item.place - begin, item.bits, &mut raw);
     let mut followed = followed_held(follower);
     let mut out = Line::new();
     followed.put(&item_held(item), &mut raw, &mut out);
@@ -197,16 +192,11 @@ fn followed_held(follower: &FollowerState) -> Followed
     requires { is_follower follower.now ≡ true }
     ensures { result ≡ parts_held follower.now }
 {
-    let mut stretch = BitBuf::new();
-    cut(
-        &follower.octets,
-        0,
-        usize::from(follower.stretch),
-        &mut stretch,
-    );
+    let mut bits = BitBuf::new();
+    cut(&follower.octets, 0, u32::from(follower.stretch), &mut bits);
     let mut waits = BitBuf::new();
     waits.put_field(u64::from(follower.waiting), u32::from(follower.waits));
-    Followed::of(Follower::of(name_held(follower), stretch), waits)
+    Followed::of(Follower::of(name_held(follower), bits), waits)
 }
 
 // The name of the unit before.
@@ -278,7 +268,7 @@ fn write_octets(octets: &[u8], room: &mut [u8]) -> i32
         return NO_ROOM;
     }
     room[..count].copy_from_slice(octets);
-    written(count)
+    counted(count)
 }
 
 #[cfg(test)]

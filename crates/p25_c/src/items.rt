@@ -116,10 +116,9 @@ pub(crate) fn tell_item(found: &Item, item: &mut ItemParts, text: &mut [u8])
     write_text(line.octets(), text);
 }
 
-// The numbers of an item whose text has so many octets.
-fn item_parts(found: &Item, text_length: u32) -> ItemParts
-    requires { text_length ≡ length (item_text_of found.now) }
-    ensures { result ≡ parts_of found.now }
+// The numbers of an item, where so many octets are those of its text.
+pub(crate) fn item_parts(found: &Item, text_length: u32) -> ItemParts
+    ensures { result ≡ record (parts_of found.now) { text_length = text_length } }
 {
     let (nac, duid) = identifier(found);
     ItemParts {
@@ -134,7 +133,7 @@ fn item_parts(found: &Item, text_length: u32) -> ItemParts
 }
 
 // The network access code (NAC) and the data unit identifier (DUID) of a unit.
-pub(crate) fn identifier(found: &Item) -> (u16, u8)
+fn identifier(found: &Item) -> (u16, u8)
     ensures nac { result.0 ≡ nac_told found.now }
     ensures duid { result.1 ≡ duid_told found.now }
 {
@@ -146,7 +145,7 @@ pub(crate) fn identifier(found: &Item) -> (u16, u8)
 }
 
 // The number of wrong bits of a whole unit.
-pub(crate) fn fixes(found: &Item) -> u32
+fn fixes(found: &Item) -> u32
     ensures { result ≡ fixes_told found.now }
 {
     match found {
@@ -156,7 +155,7 @@ pub(crate) fn fixes(found: &Item) -> u32
 }
 
 // The number of an item's kind.
-pub(crate) fn kind(found: &Item) -> u8
+fn kind(found: &Item) -> u8
     ensures { result ≡ kind_number found.now }
 {
     match found {

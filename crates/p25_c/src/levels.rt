@@ -72,16 +72,12 @@ fn soften_unit(levels: &[i8], bits: &mut BitBuf)
     ensures bits { bits.new ≡ softened_by (need_of bits.old) levels.now bits.old }
     ensures len { length bits.new ≡ length bits.old }
 {
-    match need(bits, 0) {
-        Need::Length(count) => {
-            if count == bits.len() {
-                let item = unit_item(bits, 0, count, Begun::new(), 0);
-                let _ = soften(&item, levels, bits);
-            }
-        }
-        Need::NoSync => {}
-        Need::More(_) => {}
-        Need::NoLength(_) => {}
+    let Need::Length(count) = need(bits, 0) else {
+        return;
+    };
+    if count == bits.len() {
+        let item = unit_item(bits, 0, count, Begun::new(), 0);
+        let _ = soften(&item, levels, bits);
     }
 }
 

@@ -34,7 +34,6 @@ mod packets;
 mod relays;
 mod repeats;
 mod room;
-mod sending;
 mod solomon;
 mod stream;
 mod version;

@@ -29,56 +29,29 @@ pub extern "C" fn p25_link_read(lc: &[u8; 9], link: &mut LinkParts)
 }
 
 // What a kind of link control is as numbers.
-fn link_told(kind: LinkKind) -> LinkParts
-    ensures { result ≡ link_told kind }
+fn link_told(said: LinkKind) -> LinkParts
+    ensures { result ≡ link_told said }
 {
-    match kind {
+    let (kind, mfid, emergency, group, destination, source) = match said {
         LinkKind::Group {
             mfid,
             emergency,
             group,
             source,
-        } => group_told(mfid, emergency, group, source),
+        } => (1, mfid, u8::from(emergency), group, 0, source),
         LinkKind::Individual {
             mfid,
             destination,
             source,
-        } => individual_told(mfid, destination, source),
-        LinkKind::Other => LinkParts {
-            source: 0,
-            destination: 0,
-            group: 0,
-            kind: 0,
-            mfid: 0,
-            emergency: 0,
-        },
-    }
-}
-
-// What a call to a group is as numbers.
-fn group_told(mfid: u8, emergency: bool, group: u16, source: u32) -> LinkParts
-    ensures { result ≡ link_told (LinkKind.Group mfid emergency group source) }
-{
-    LinkParts {
-        source,
-        destination: 0,
-        group,
-        kind: 1,
-        mfid,
-        emergency: u8::from(emergency),
-    }
-}
-
-// What a call from unit to unit is as numbers.
-fn individual_told(mfid: u8, destination: u32, source: u32) -> LinkParts
-    ensures { result ≡ link_told (LinkKind.Individual mfid destination source) }
-{
+        } => (2, mfid, 0, 0, destination, source),
+        LinkKind::Other => (0, 0, 0, 0, 0, 0),
+    };
     LinkParts {
         source,
         destination,
-        group: 0,
-        kind: 2,
+        group,
+        kind,
         mfid,
-        emergency: 0,
+        emergency,
     }
 }

@@ -1,14 +1,14 @@
 //! Many items of a recording in one call, by their numbers alone.
 
-ghost use Rattle.std.specs.Prelude.{◌≡◌, ◌-◌, ◌≤◌, pos, Some, true, length, drop};
+ghost use Rattle.std.specs.Prelude.{◌≡◌, ◌-◌, Some, true, length, drop};
 ghost use Rattle.p25_bits.specs.Bits.{octet_bits};
-ghost use Rattle.p25_c.specs.{Items.{is_inside, items_asked}, Many.{many_answer, many_left, numbers_of}};
+ghost use Rattle.p25_c.specs.{Items.{is_inside, items_asked}, Many.{many_answer, many_left}};
 ghost use Rattle.p25_stream.specs.Items.{items_by};
 
-use crate::items::{ItemParts, OUTSIDE, blank, fixes, identifier, is_inside, kind};
+use crate::items::{ItemParts, OUTSIDE, blank, is_inside, item_parts};
+use crate::room::counted;
 use p25_bits::BitBuf;
 use p25_stream::find_item_in;
-use p25_units::Item;
 
 // The most items that one call tells.
 const ITEMS_MOST: usize = 2_147_483_647;
@@ -49,34 +49,10 @@ fn tell_items(octets: &[u8], begin: u64, from: u64, ended: bool, items: &mut [It
     for i in 0..room {
         let at = (place - begin) as usize;
         if !find_item_in(octets, at, place, ended, &mut held, &mut bare, &mut found) {
-            return told(i);
+            return counted(i);
         }
-        items[i] = item_numbers(&found);
+        items[i] = item_parts(&found, 0);
         place += found.covered();
     }
-    told(room)
-}
-
-// The number of items that are told.
-fn told(count: usize) -> i32
-    requires { count ≤ 2147483647 }
-    ensures { result ≡ pos count }
-{
-    count as i32
-}
-
-// The numbers of an item, without the length of its text.
-pub(crate) fn item_numbers(found: &Item) -> ItemParts
-    ensures { result ≡ numbers_of found.now }
-{
-    let (nac, duid) = identifier(found);
-    ItemParts {
-        place: found.place(),
-        bits: found.covered() as u32,
-        fixes: fixes(found),
-        text_length: 0,
-        nac,
-        duid,
-        kind: kind(found),
-    }
+    counted(room)
 }

@@ -1,15 +1,13 @@
 //! Packets (PDU) built from numbers and octets.
 
-ghost use Rattle.std.specs.Prelude.{◌≡◌, ℕ, ◌-◌, ◌*◌, ◌<◌, ◌≤◌, pos, Err, IfSome, slice_index, take, true};
-ghost use Rattle.p25_c.specs.{Building.{wrong_nac, wrong_status}, Packets.{confirmed_of, is_sendable_at, packet_built, packet_held, slot_held, slots_held}};
+ghost use Rattle.std.specs.Prelude.{◌≡◌, ℕ, ◌-◌, ◌*◌, ◌<◌, ◌≤◌, pos, IfSome, slice_index, take, true};
+ghost use Rattle.p25_c.specs.{Building.{IsWritingUnder}, Packets.{confirmed_of, is_sendable_at, packet_built, packet_held, slot_held, slots_held}};
 ghost use Rattle.p25_c.specs.Rooms.{IsWriting};
 ghost use Rattle.p25_packet_blocks.specs.{Heads.{confirmed_format, head_blocks, head_format}, Kinds.{IsPlainFormat}, Reading.{plain_by_parts}};
 ghost use Rattle.p25_packet_blocks.specs.Whole.{IsWholePacket};
-ghost use Rattle.p25_status.specs.{Status.{status_number}, declared.symbols.Status.{Status as Symbol}};
 
-use crate::building::{WRONG_NAC, WRONG_STATUS};
+use crate::building::{sent_symbol, write_whole};
 use crate::packets::PacketParts;
-use crate::sending::write_whole;
 use p25_packet_blocks::{
     Block, CONFIRMED_FORMAT, Confirmed, Octets, PLAIN_FORMAT, Packet, PacketHead, Plain,
     RESPONSE_FORMAT, Slot, Slots,
@@ -29,19 +27,13 @@ const WRONG_PACKET: i32 = -9;
 /// a serial number above 127; -2, the unit has more octets than `octets`.
 #[unsafe(no_mangle)]
 pub extern "C" fn p25_build_packet(packet: &PacketParts, status: u8, octets: &mut [u8]) -> i32
-    ensures strange_code { 4096 ≤ packet.now.nac → IsWriting (Err wrong_nac) octets.old octets.new result }
-    ensures strange_symbol { packet.now.nac < 4096 → 4 ≤ status → IsWriting (Err wrong_status) octets.old octets.new result }
-    ensures built { packet.now.nac < 4096 → (symbol : Symbol) → status_number symbol ≡ status
-        → IsWriting (packet_built symbol packet.now) octets.old octets.new result }
+    ensures built { IsWritingUnder packet.now.nac status (λ symbol. packet_built symbol packet.now) octets.old octets.new result }
     ensures count { (count : ℕ) → result ≡ pos count → (45 ≤ count) × (count ≤ 3240) }
 {
-    if packet.nac > 4_095 {
-        return WRONG_NAC;
+    match sent_symbol(packet.nac, status) {
+        Ok(symbol) => build_packet(packet, symbol, octets),
+        Err(answer) => answer,
     }
-    let Some(symbol) = Status::new(status) else {
-        return WRONG_STATUS;
-    };
-    build_packet(packet, symbol, octets)
 }
 
 // Writes the octets of the unit of a packet.

@@ -1,6 +1,6 @@
 //! Packets (PDU) as numbers and octets.
 
-ghost use Rattle.std.specs.{Prelude.{◌≡◌, ◌*◌, ◌≤◌, count_by, length, map}, List.{flat_map}};
+ghost use Rattle.std.specs.{Prelude.{◌≡◌, ◌*◌, ◌≤◌, ◌==◌, count_by, length, map}, List.{flat_map}};
 ghost use Rattle.p25_c.specs.Packets.{bits_packet, head_told, is_bad, no_packet, packet_answer, packet_asked, packet_bad, packet_fault, packet_left, packet_told, slot_good, slot_octets, slot_serial, slots_told, unit_bits, with_flags, with_lengths, with_response};
 ghost use Rattle.p25_bits.specs.Bits.{octet_bits};
 
@@ -139,10 +139,16 @@ fn tell_slots(slots: &[Slot], packet: &mut PacketParts)
     ensures { packet.new ≡ slots_told slots.now packet.old }
 {
     packet.length = 16 * slots.len() as u16;
-    packet.bad = count_bad(slots);
-    put_good(slots, &mut packet.good[..slots.len()]);
-    put_serials(slots, &mut packet.serials[..slots.len()]);
-    put_octets(slots, &mut packet.octets[..16 * slots.len()]);
+    let (mut good, mut serials, mut octets) = (packet.good, packet.serials, packet.octets);
+    packet.bad = put_slots(
+        slots,
+        &mut good[..slots.len()],
+        &mut serials[..slots.len()],
+        &mut octets[..16 * slots.len()],
+    );
+    packet.good = good;
+    packet.serials = serials;
+    packet.octets = octets;
 }
 
 // The header of a packet, with nothing behind it.
@@ -210,92 +216,45 @@ fn tell_response(head: &PacketHead, told: &mut PacketParts)
     told.response_status = head.status();
 }
 
-// How many slots are not good.
-fn count_bad(slots: &[Slot]) -> u8
-    requires { length slots.now ≤ 127 }
-    ensures value { result ≡ count_by is_bad slots.now }
-    ensures most { result ≤ 127 }
+// Sets octets to 1 for each slot that is good and to 0 for each other, octets to the serial numbers of the slots, and octets to theirs, sixteen
+// each, and answers how many slots are not good.
+fn put_slots(slots: &[Slot], good: &mut [u8], serials: &mut [u8], octets: &mut [u8]) -> u8
+    requires few { length slots.now ≤ 127 }
+    requires good { length slots.now ≡ length good.old }
+    requires serials { length slots.now ≡ length serials.old }
+    requires octets { 16 * length slots.now ≡ length octets.old }
+    ensures bad { result ≡ count_by is_bad slots.now }
+    ensures good { good.new ≡ map slot_good slots.now }
+    ensures serials { serials.new ≡ map slot_serial slots.now }
+    ensures octets { octets.new ≡ flat_map slot_octets slots.now }
 {
-    let mut count = 0;
+    let mut bad = 0;
     for i in 0..slots.len() {
-        if is_bad(&slots[i]) {
-            count += 1;
+        let (is_good, serial, own) = slot_parts(&slots[i]);
+        good[i] = is_good;
+        serials[i] = serial;
+        octets[16 * i..16 * i + 16].copy_from_slice(&own);
+        if is_good == 0 {
+            bad += 1;
         }
     }
-    count
+    bad
 }
 
-// Whether a slot is not good.
-fn is_bad(slot: &Slot) -> bool
-    ensures { result ≡ is_bad slot.now }
-{
-    match slot {
-        Slot::Good(_) => false,
-        Slot::Bad => true,
-    }
-}
-
-// Sets octets to 1 for each slot that is good, and to 0 for each other.
-fn put_good(slots: &[Slot], good: &mut [u8])
-    requires { length slots.now ≡ length good.old }
-    ensures { good.new ≡ map slot_good slots.now }
-{
-    for i in 0..slots.len() {
-        good[i] = slot_good(&slots[i]);
-    }
-}
-
-// 1 of a slot that is good, and 0 of another.
-fn slot_good(slot: &Slot) -> u8
-    ensures { result ≡ slot_good slot.now }
-{
-    match slot {
-        Slot::Good(_) => 1,
-        Slot::Bad => 0,
-    }
-}
-
-// Sets octets to the serial numbers of slots.
-fn put_serials(slots: &[Slot], serials: &mut [u8])
-    requires { length slots.now ≡ length serials.old }
-    ensures { serials.new ≡ map slot_serial slots.now }
-{
-    for i in 0..slots.len() {
-        serials[i] = slot_serial(&slots[i]);
-    }
-}
-
-// The serial number of a slot.
-fn slot_serial(slot: &Slot) -> u8
-    ensures { result ≡ slot_serial slot.now }
-{
-    match slot {
-        Slot::Good(block) => block.serial(),
-        Slot::Bad => 0,
-    }
-}
-
-// Sets octets to those of slots, sixteen each.
-fn put_octets(slots: &[Slot], octets: &mut [u8])
-    requires { 16 * length slots.now ≡ length octets.old }
-    ensures { octets.new ≡ flat_map slot_octets slots.now }
-{
-    for i in 0..slots.len() {
-        octets[16 * i..16 * i + 16].copy_from_slice(&slot_octets(&slots[i]));
-    }
-}
-
-// The octets of a slot.
-fn slot_octets(slot: &Slot) -> [u8; 16]
-    ensures value { result ≡ slot_octets slot.now }
-    ensures len { length result ≡ 16 }
+// Whether a slot is good, as 1 or 0, its serial number, and its octets: 0 alone of one that is not.
+fn slot_parts(slot: &Slot) -> (u8, u8, [u8; 16])
+    ensures good { result.0 ≡ slot_good slot.now }
+    ensures bad { is_bad slot.now ≡ (result.0 == 0) }
+    ensures serial { result.1 ≡ slot_serial slot.now }
+    ensures octets { result.2 ≡ slot_octets slot.now }
+    ensures len { length result.2 ≡ 16 }
 {
     match slot {
         Slot::Good(block) => {
             let octets = *block.octets();
-            octets
+            (1, block.serial(), octets)
         }
-        Slot::Bad => [0; 16],
+        Slot::Bad => (0, 0, [0; 16]),
     }
 }
 

@@ -1,13 +1,12 @@
 //! Items forwarded in place, under another network access code (NAC) and with one status symbol everywhere.
 
-ghost use Rattle.std.specs.Prelude.{◌≡◌, ◌+◌, ◌*◌, ◌^◌, ◌<◌, ◌≤◌, Err, length};
+ghost use Rattle.std.specs.Prelude.{◌≡◌, ◌+◌, ◌*◌, ◌^◌, ◌<◌, ◌≤◌, length};
 ghost use Rattle.p25_bits.specs.Bits.{octet_bits, part};
-ghost use Rattle.p25_c.specs.{Building.{wrong_nac, wrong_status}, Relays.{relayed_at}, Rooms.{IsWriting}};
+ghost use Rattle.p25_c.specs.{Building.{IsWritingUnder}, Relays.{relayed_at}, Rooms.{IsWriting}};
 ghost use Rattle.p25_follow.specs.Relayed.{IsFitItem, relayed};
-ghost use Rattle.p25_status.specs.{Status.{status_number}, declared.symbols.Status.{Status as Symbol}};
 ghost use Rattle.p25_units.specs.Items.{IsSoundItem, covered};
 
-use crate::building::{WRONG_NAC, WRONG_STATUS, write_bits};
+use crate::building::{sent_symbol, write_bits};
 use crate::items::{OUTSIDE, blank, is_inside};
 use crate::repeats::{cut, fill};
 use p25_bits::BitBuf;
@@ -33,18 +32,12 @@ pub extern "C" fn p25_relay_at(
     status: u8,
     into: &mut [u8],
 ) -> i32
-    ensures strange_code { 4096 ≤ nac → IsWriting (Err wrong_nac) into.old into.new result }
-    ensures strange_symbol { nac < 4096 → 4 ≤ status → IsWriting (Err wrong_status) into.old into.new result }
-    ensures relayed { nac < 4096 → (symbol : Symbol) → status_number symbol ≡ status
-        → IsWriting (relayed_at nac symbol begin from octets.now) into.old into.new result }
+    ensures { IsWritingUnder nac status (λ symbol. relayed_at nac symbol begin from octets.now) into.old into.new result }
 {
-    if nac > 4_095 {
-        return WRONG_NAC;
+    match sent_symbol(nac, status) {
+        Ok(symbol) => relay_at(octets, begin, from, nac, symbol, into),
+        Err(answer) => answer,
     }
-    let Some(symbol) = Status::new(status) else {
-        return WRONG_STATUS;
-    };
-    relay_at(octets, begin, from, nac, symbol, into)
 }
 
 // Writes what is forwarded in place of the item at a place.
@@ -55,9 +48,9 @@ fn relay_at(octets: &[u8], begin: u64, from: u64, nac: u16, status: Status, into
     if !is_inside(begin, from, octets.len()) {
         return OUTSIDE;
     }
-    let at = (from - begin) as usize;
+    let at = from - begin;
     let mut found = blank();
-    if !find_item(octets, at, from, true, &mut found) {
+    if !find_item(octets, at as usize, from, true, &mut found) {
         return 0;
     }
     let mut bits = BitBuf::new();
@@ -67,7 +60,7 @@ fn relay_at(octets: &[u8], begin: u64, from: u64, nac: u16, status: Status, into
 }
 
 // Sets `bits` to what is forwarded in place of the item that was found at a bit.
-fn relay_found(octets: &[u8], at: usize, found: &Item, nac: u16, status: Status, bits: &mut BitBuf)
+fn relay_found(octets: &[u8], at: u64, found: &Item, nac: u16, status: Status, bits: &mut BitBuf)
     requires sound { IsSoundItem found.now }
     requires fits { IsFitItem found.now }
     requires there { at + covered found.now ≤ 8 * length octets.now }
@@ -76,7 +69,7 @@ fn relay_found(octets: &[u8], at: usize, found: &Item, nac: u16, status: Status,
     requires nac { nac < 4096 }
     ensures { bits.new ≡ relayed nac status found.now (part at (covered found.now) (octet_bits octets.now)) }
 {
-    cut(octets, at, found.covered() as usize, bits);
+    cut(octets, at, found.covered() as u32, bits);
     relay_item(found, nac, status, bits);
 }
 

@@ -1,17 +1,17 @@
 //! Items at any bit of a recording: their octets, and units there repaired and under another network access code (NAC).
 
-ghost use Rattle.std.specs.Prelude.{◌≡◌, ◌+◌, ◌-◌, ◌*◌, ◌^◌, ◌<◌, ◌≤◌, Err, Ok, true, length};
+ghost use Rattle.std.specs.Prelude.{◌≡◌, ◌+◌, ◌-◌, ◌*◌, ◌^◌, ◌<◌, ◌≤◌, Ok, true, length};
 ghost use Rattle.p25_bits.specs.Bits.{octet_bits, part};
-ghost use Rattle.p25_c.specs.{Building.{wrong_nac, wrong_status}, Items.{is_inside}, Places.{bridged_at, filled, has_item, item_cut, repaired_at}};
-ghost use Rattle.p25_c.specs.Rooms.{IsWriting};
-ghost use Rattle.p25_status.specs.{Status.{status_number}, declared.symbols.Status.{Status as Symbol}};
+ghost use Rattle.p25_c.specs.{Building.{IsWritingUnder}, Items.{is_inside}, Places.{bridged_at, filled, has_item, item_cut, repaired_at}, Rooms.{IsWriting}};
+ghost use Rattle.p25_stream.specs.Repeats.{is_whole_item};
 
-use crate::building::{NO_UNIT, WRONG_NAC, WRONG_STATUS, is_whole, write_bits};
+use crate::building::{NO_UNIT, sent_symbol, write_bits};
 use crate::items::{ItemParts, OUTSIDE, blank, find_at, is_inside};
 use p25_bits::BitBuf;
 use p25_bits::laws::octets_fit;
 use p25_status::Status;
 use p25_stream::{bridge_item, repair_item};
+use p25_units::Item;
 
 // The most bits that an item covers.
 const ITEM_BITS: u32 = 25_920;
@@ -35,12 +35,7 @@ pub extern "C" fn p25_item_octets(
         return OUTSIDE;
     }
     let mut bits = BitBuf::new();
-    cut(
-        octets,
-        (item.place - begin) as usize,
-        item.bits as usize,
-        &mut bits,
-    );
+    cut(octets, item.place - begin, item.bits, &mut bits);
     fill(&mut bits);
     write_bits(&bits, into)
 }
@@ -56,15 +51,14 @@ pub(crate) fn has_item(octets: &[u8], begin: u64, place: u64, bits: u32) -> bool
 }
 
 // Sets `bits` to so many bits of octets from a bit on.
-pub(crate) fn cut(octets: &[u8], at: usize, count: usize, bits: &mut BitBuf)
+pub(crate) fn cut(octets: &[u8], at: u64, count: u32, bits: &mut BitBuf)
     requires there { at + count ≤ 8 * length octets.now }
     requires few { count ≤ 25920 }
     requires near { at ≤ 2 ^ 59 }
     ensures { bits.new ≡ part at count (octet_bits octets.now) }
 {
-    let first = at / 8;
-    let last = (at + count + 7) / 8;
-    let some = &octets[first..last];
+    let (at, count) = (at as usize, count as usize);
+    let some = &octets[at / 8..(at + count + 7) / 8];
     octets_fit(some);
     let mut whole = BitBuf::new();
     whole.put_numbers(some, 8);
@@ -101,6 +95,16 @@ pub extern "C" fn p25_repair_at(octets: &[u8], begin: u64, from: u64, into: &mut
     write_bits(&bits, into)
 }
 
+// Whether an item is a whole unit.
+fn is_whole(item: &Item) -> bool
+    ensures { result ≡ is_whole_item item.now }
+{
+    match item {
+        Item::Whole { .. } => true,
+        Item::Broken { .. } | Item::NoUnit { .. } | Item::Gap { .. } | Item::Cut { .. } => false,
+    }
+}
+
 /// Writes the whole unit that begins at bit `from` of a recording under another network access code (NAC) and with one status symbol
 /// everywhere, as the command `bridge` writes it. Of the recording the octets from bit `begin` on are given. Answers how many octets it
 /// wrote; the octets of `into` after them stay.
@@ -116,18 +120,12 @@ pub extern "C" fn p25_bridge_at(
     status: u8,
     into: &mut [u8],
 ) -> i32
-    ensures strange_code { 4096 ≤ nac → IsWriting (Err wrong_nac) into.old into.new result }
-    ensures strange_symbol { nac < 4096 → 4 ≤ status → IsWriting (Err wrong_status) into.old into.new result }
-    ensures bridged { nac < 4096 → (symbol : Symbol) → status_number symbol ≡ status
-        → IsWriting (bridged_at nac symbol begin from octets.now) into.old into.new result }
+    ensures { IsWritingUnder nac status (λ symbol. bridged_at nac symbol begin from octets.now) into.old into.new result }
 {
-    if nac > 4_095 {
-        return WRONG_NAC;
+    match sent_symbol(nac, status) {
+        Ok(symbol) => bridge_at(octets, begin, from, nac, symbol, into),
+        Err(answer) => answer,
     }
-    let Some(symbol) = Status::new(status) else {
-        return WRONG_STATUS;
-    };
-    bridge_at(octets, begin, from, nac, symbol, into)
 }
 
 // Writes the whole unit at a place under another network access code (NAC) and with one status symbol everywhere.

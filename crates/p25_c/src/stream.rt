@@ -9,8 +9,9 @@ ghost use Rattle.p25_text.specs.ItemTexts.{item_text_of};
 ghost use Rattle.p25_units.specs.Items.{IsSoundItem};
 
 use crate::dibits::append_dibits;
-use crate::items::{ITEM, ItemParts, NO_ITEM, OUTSIDE, blank, find_at, is_inside, tell_item};
-use crate::many::item_numbers;
+use crate::items::{
+    ITEM, ItemParts, NO_ITEM, OUTSIDE, blank, find_at, is_inside, item_parts, tell_item,
+};
 use p25_units::Item;
 
 // The stream has ended; dibits wait for their octet.
@@ -191,7 +192,7 @@ fn tell(found: &Item, item: &mut ItemParts, text: &mut [u8])
     ensures short { item.new.text_length ≤ 8191 }
 {
     if text.is_empty() {
-        *item = item_numbers(found);
+        *item = item_parts(found, 0);
     } else {
         tell_item(found, item, text);
     }

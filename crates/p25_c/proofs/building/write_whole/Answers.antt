@@ -1,7 +1,7 @@
 use Rattle.std.proofs.{Common.{◌≡◌, length, rules, ap, sym, to_z, w32, ◌∙◌}, lemmas.Int.{to_z-of_z}}
 use Rattle.p25_units.specs.{Units.{frame_length_of}, declared.frame.Frame.{Frame}}
 use Rattle.p25_c.proofs.BoundsLaws.{unit-count}
-use Rattle.p25_c.proofs.sending.write_whole.Goals as goal
+use Rattle.p25_c.proofs.building.write_whole.Goals as goal
 use mir.Val.{SFits}
 
 pub returns-clause-count : goal.returns-clause-count

@@ -13,11 +13,11 @@ returns-then-not-find_item_in-clause-answer c =
     let items = items_by c.args.ended c.args.from (drop (c.args.from - c.args.begin) (octet_bits c.args.octets.now)) in
     let i = c.loop-i.i in
     let room = min (length c.args.items.now) 2147483647 in
-    let fits : SFits w32 c.told.result = search rules in
+    let fits : SFits w32 c.counted.result = search rules in
     let left : drop i items ≡ [] = c.loop-i.invariant.left ∙ (c.find_item_in.ensures.none c.if-not-find_item_in.true).0 in
     let same = left-none items i room left c.loop-i.invariant.some (omega (arith, c.loop-i-test.true)) in
-    to_z-of_z w32 c.told.result fits
-    ∙ c.told.ensures
+    to_z-of_z w32 c.counted.result fits
+    ∙ c.counted.ensures
     ∙ sym (ap (λ (told : List Item). pos (length told)) same ∙ ap pos (length-take-le i items c.loop-i.invariant.some))
 
 pub returns-then-not-find_item_in-clause-items : goal.returns-then-not-find_item_in-clause-items
@@ -52,6 +52,6 @@ loop-i-preserved c =
           ∙ ap (items_by c.args.ended (place + covered item)) (drop-drop (covered item) (place - c.args.begin) bits ∙ ap (λ n. drop n bits) behind)
           ∙ ap (λ n. items_by c.args.ended (place + n) (drop (place + n - c.args.begin) bits)) (sym count);
       told
-          = ap (λ (it : ItemParts). slice_set c.loop-i.items i it) c.item_numbers.ensures
+          = ap (λ (it : ItemParts). slice_set c.loop-i.items i it) c.item_parts.ensures
           ∙ told-more numbers_of items c.args.items.now c.loop-i.items i item rest left (omega (arith, c.loop-i-test.true)) c.loop-i.invariant.told;
     }
