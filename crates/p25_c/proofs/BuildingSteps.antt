@@ -1,5 +1,6 @@
 -- What is written under a network access code (NAC) and with a status symbol, by their numbers; and units at the beginning of octets.
-use Rattle.std.proofs.{Common.{◌≡◌, ℕ, ℤ, pos, ◌+◌, ◌*◌, ◌<◌, ◌&&◌, inl, inr, Bool, true, List, [], length, Result, Option, Some, refl, ap, subst, sym, ◌∙◌, arith, to_z, of_z, w32}, lemmas.Bool.{le-leb}}
+use Rattle.std.proofs.Common.{◌≡◌, ℕ, ℤ, pos, ◌+◌, ◌*◌, ◌<◌, ◌&&◌, inl, inr, Bool, true, List, [], length, Result, Option, Some, refl, ap, subst, sym, ◌∙◌, arith, to_z, of_z, w32}
+use Rattle.std.proofs.lemmas.Bool.{le-leb}
 use Rattle.p25_bits.specs.Bits.{octet_bits}
 use Rattle.p25_status.specs.{Status.{same_status, status_number}, declared.symbols.Status.{Status}}
 use Rattle.p25_stream.specs.{Items.{items_of}, Repeats.{bridged, repaired}}
