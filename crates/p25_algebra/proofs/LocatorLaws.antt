@@ -27,7 +27,8 @@ module _ {F : Type 0} (K : Field F) where
           omega (
             arith,
             nonzeros_mono K n w v
-                (λ l low e. ap (λ a. a ⊗ power K (x l) t ⊗ value_at K (t + 1) f (inverse (x l))) e ∙ ap (λ a. a ⊗ value_at K (t + 1) f (inverse (x l))) (zero_mul K (power K (x l) t)) ∙ zero_mul K (value_at K (t + 1) f (inverse (x l)))),
+                (λ l low e. ap (λ a. a ⊗ power K (x l) t ⊗ value_at K (t + 1) f (inverse (x l))) e
+                ∙ ap (λ a. a ⊗ value_at K (t + 1) f (inverse (x l))) (zero_mul K (power K (x l) t)) ∙ zero_mul K (value_at K (t + 1) f (inverse (x l)))),
           )
 
       term : (p q a b : F) → a ⊗ p ⊗ b ⊗ q ≡ a ⊗ (p ⊗ q) ⊗ b

@@ -194,7 +194,8 @@ module _ {F : Type 0} (K : Field F) where
       ]
 
   -- the factor other than a divisor is determined, where what is left is short
-  pub same_quotient : (n : ℕ) (b q p r t : ℕ → F) (d : ℕ) → IsDegree K b d → IsShort K n q → IsShort K n p → IsShort K d r → IsShort K d t → ((i : ℕ) → product_at K b q i ⊕ r i ≡ product_at K b p i ⊕ t i) → (i : ℕ) → q i ≡ p i
+  pub same_quotient : (n : ℕ) (b q p r t : ℕ → F) (d : ℕ) → IsDegree K b d
+      → IsShort K n q → IsShort K n p → IsShort K d r → IsShort K d t → ((i : ℕ) → product_at K b q i ⊕ r i ≡ product_at K b p i ⊕ t i) → (i : ℕ) → q i ≡ p i
   same_quotient n b q p r t d degree short_q short_p short_r short_t same i =
       same_from_sum K (q i) (p i) (none i)
     where
@@ -224,7 +225,8 @@ module _ {F : Type 0} (K : Field F) where
       none i = elim (zero_or_degree n difference short) [ inl zeros ↦ zeros i | inr (e, low, top) ↦ absurd (no_degree e top) ]
 
   -- and so is what is left
-  pub same_remainder : (n : ℕ) (b q p r t : ℕ → F) (d : ℕ) → IsDegree K b d → IsShort K n q → IsShort K n p → IsShort K d r → IsShort K d t → ((i : ℕ) → product_at K b q i ⊕ r i ≡ product_at K b p i ⊕ t i) → (i : ℕ) → r i ≡ t i
+  pub same_remainder : (n : ℕ) (b q p r t : ℕ → F) (d : ℕ) → IsDegree K b d
+      → IsShort K n q → IsShort K n p → IsShort K d r → IsShort K d t → ((i : ℕ) → product_at K b q i ⊕ r i ≡ product_at K b p i ⊕ t i) → (i : ℕ) → r i ≡ t i
   same_remainder n b q p r t d degree short_q short_p short_r short_t same i =
       sym (add_twice K (product_at K b q i) (r i))
       ∙ ap (λ w. product_at K b q i ⊕ w) (same i)

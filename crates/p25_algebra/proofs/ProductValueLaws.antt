@@ -50,7 +50,8 @@ module _ {F : Type 0} (K : Field F) where
   value-shifted (suc s) k zero f x short fits = absurd (omega arith)
   value-shifted (suc s) k (suc n) f x short fits =
       value_first K n (shifted K (suc s) f) x
-      ∙ ap₂ (λ a b. a ⊕ x ⊗ b) (shifted_below K (suc s) f 0 (omega arith)) (value_same K n (λ i. shifted K (suc s) f (suc i)) (shifted K s f) x (λ i h. shifted-suc s f i) ∙ value-shifted s k n f x short (omega arith))
+      ∙ ap₂ (λ a b. a ⊕ x ⊗ b) (shifted_below K (suc s) f 0 (omega arith))
+      (value_same K n (λ i. shifted K (suc s) f (suc i)) (shifted K s f) x (λ i h. shifted-suc s f i) ∙ value-shifted s k n f x short (omega arith))
       ∙ zero_add K (x ⊗ (power K x s ⊗ value_at K k f x))
       ∙ sym (ap (λ w. w ⊗ value_at K k f x) (power-suc K x s) ∙ mul_assoc K x (power K x s) (value_at K k f x))
 

@@ -112,7 +112,8 @@ module _ {F : Type 0} (K : Field F) where
   value-times_linear n y f z short =
       value-add K (suc n) f (λ i. y ⊗ shifted K 1 f i) z
       ∙ ap₂ ◌⊕◌ (value_longer K n (suc n) f z (omega arith) short ∙ sym (one_mul K (value_at K n f z)))
-      (value-mul K (suc n) y (shifted K 1 f) z ∙ ap (λ w. y ⊗ w) (value-shifted K 1 n (suc n) f z short (omega arith) ∙ ap (λ w. w ⊗ value_at K n f z) (power-one K z)) ∙ sym (mul_assoc K y z (value_at K n f z)))
+      (value-mul K (suc n) y (shifted K 1 f) z ∙ ap (λ w. y ⊗ w)
+      (value-shifted K 1 n (suc n) f z short (omega arith) ∙ ap (λ w. w ⊗ value_at K n f z) (power-one K z)) ∙ sym (mul_assoc K y z (value_at K n f z)))
       ∙ sym (add_mul K 𝟙 (y ⊗ z) (value_at K n f z))
 
   -- it makes no difference which factor of a product is multiplied
@@ -136,7 +137,8 @@ module _ {F : Type 0} (K : Field F) where
   -- coefficients that are zero change no slope
   pub slope_longer : (n m : ℕ) (f : ℕ → F) (z : F) → n ≤ m → IsShort K n f → slope_at K m f z ≡ slope_at K n f z
   slope_longer n m f z fits short =
-      value_same K m (rest_at K m f z) (rest_at K n f z) z (λ k low. value_longer K (n - suc k) (m - suc k) (λ i. f (suc k + i)) z (omega arith) (record { above = λ i high. short.above (suc k + i) (omega arith) }))
+      value_same K m (rest_at K m f z) (rest_at K n f z) z (λ k low.
+      value_longer K (n - suc k) (m - suc k) (λ i. f (suc k + i)) z (omega arith) (record { above = λ i high. short.above (suc k + i) (omega arith) }))
       ∙ value_longer K n m (rest_at K n f z) z fits (record { above = λ i high. (short_rest n f z).above i (omega arith) })
 
   -- a zero that stays keeps its slope, times the value of 1 + y x
@@ -169,7 +171,8 @@ module _ {F : Type 0} (K : Field F) where
   -- the zero of 1 + y x has the slope of the other factor's value
   pub slope-new : (n : ℕ) (y : F) (f : ℕ → F) (z : F) → IsShort K n f → y ⊗ z ≡ 𝟙 → slope_at K (suc n) (times_linear K y f) z ≡ y ⊗ value_at K n f z
   slope-new n y f z short one =
-      value_same K (suc n) (rest_at K (suc n) (times_linear K y f) z) (λ k. y ⊗ f k) z (λ k low. sym (rest_unique (suc n) n (times_linear K y f) (λ k. y ⊗ f k) z (short_times_linear n y f short) short_q whole k))
+      value_same K (suc n) (rest_at K (suc n) (times_linear K y f) z)
+      (λ k. y ⊗ f k) z (λ k low. sym (rest_unique (suc n) n (times_linear K y f) (λ k. y ⊗ f k) z (short_times_linear n y f short) short_q whole k))
       ∙ value-mul K (suc n) y f z
       ∙ ap (λ w. y ⊗ w) (value_longer K n (suc n) f z (omega arith) short)
     where

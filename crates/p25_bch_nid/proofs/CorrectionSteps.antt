@@ -46,7 +46,8 @@ value_of_number word i long =
     ∙ sym (value_of-symbols word 63 i long)
 
 -- the errors between what was received and a word within 11 bits
-pub errors_of_bits : (received sent : List Bool) (number : ℕ) (syndromes : List Sym) → length received ≡ 63 → number ≡ field_of received → ((r : ℕ) → r < 24 → coefficient gf64 syndromes r ≡ value (r + 1) number)
+pub errors_of_bits : (received sent : List Bool) (number : ℕ) (syndromes : List Sym)
+    → length received ≡ 63 → number ≡ field_of received → ((r : ℕ) → r < 24 → coefficient gf64 syndromes r ≡ value (r + 1) number)
     → IsBch63 sent → distance_of received sent ≤ 11
     → AreErrors 63 22 syndromes (λ j. gf64.add (coefficient gf64 (symbols_of received) j) (coefficient gf64 (symbols_of sent) j))
 errors_of_bits received sent number syndromes long is are of_code near =
@@ -87,7 +88,8 @@ corrected_number received sent made number wrong long is is_made of_code exactly
     ∙ get_or-bits_of 63 (bit_xor number wrong) j false low
     ∙ xored number wrong (63 - 1 - j)
     ∙ sym (ap₂ (λ w x. cond w (not x) x) (get_or-bits_of 63 wrong j false low) (ap (λ (l : List Bool). get_or l j false) (sym same) ∙ get_or-bits_of 63 number j false low)))
-    (λ j low. subst (λ w. IsTrue w ↔ (gf64.add (coefficient gf64 (symbols_of received) j) (coefficient gf64 (symbols_of sent) j) ≢ gf64.zero)) (sym (get_or-bits_of 63 wrong j false low)) (exactly j low))
+    (λ j low. subst (λ w. IsTrue w ↔ (gf64.add (coefficient gf64 (symbols_of received) j) (coefficient gf64 (symbols_of sent) j) ≢ gf64.zero))
+    (sym (get_or-bits_of 63 wrong j false low)) (exactly j low))
   where
     same : bits_of 63 number ≡ received
     same = ap (bits_of 63) is ∙ ap (λ n. bits_of n (field_of received)) (sym long) ∙ bits_of-field_of received

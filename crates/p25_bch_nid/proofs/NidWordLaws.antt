@@ -34,7 +34,8 @@ length-nid_word nac duid =
     length-append (encoded (bits_of 12 nac ++ bits_of 4 duid)) (eqb (parity_of duid) 1 ∷ []) ∙ omega (arith, long)
 
 -- a word that begins with a NAC and a DUID has them as its identifier
-pub identifier_of_word-encoding : (nac duid : ℕ) (word : List Bool) → nac < 2 ^ 12 → duid < 2 ^ 4 → IsEncoding IsBch63 16 (bits_of 12 nac ++ bits_of 4 duid) word → identifier_of_word word ≡ (nac, duid)
+pub identifier_of_word-encoding : (nac duid : ℕ) (word : List Bool)
+    → nac < 2 ^ 12 → duid < 2 ^ 4 → IsEncoding IsBch63 16 (bits_of 12 nac ++ bits_of 4 duid) word → identifier_of_word word ≡ (nac, duid)
 identifier_of_word-encoding nac duid word low small is =
     let first : take 12 word ≡ bits_of 12 nac = sym (take-take 12 16 word (omega arith)) ∙ ap (take 12) is.begins ∙ take_at (bits_of 12 nac) (bits_of 4 duid) 12 (length-bits_of 12 nac) in
     let next : part 12 4 word ≡ bits_of 4 duid = sym (drop-take 12 4 word) ∙ ap (drop 12) is.begins ∙ drop_at (bits_of 12 nac) (bits_of 4 duid) 12 (length-bits_of 12 nac) in

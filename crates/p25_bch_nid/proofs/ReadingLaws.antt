@@ -68,7 +68,8 @@ code_reading bits answer is = ap (λ received. option_map identifier_of_word (bc
 pub is_reading : (bits : ℕ) (answer : Option (ℕ × ℕ)) → answer ≡ nid_reading_of (bits_of 64 bits) → IsNidReading (bits_of 64 bits) answer
 is_reading bits answer value = subst (IsNidReading (bits_of 64 bits)) (sym value) (IsNidReading-nid_reading_of (bits_of 64 bits))
 
-pub is_sent : (bits : ℕ) (answer : Option (ℕ × ℕ)) → answer ≡ nid_reading_of (bits_of 64 bits) → (word : List Bool) → IsBch63 word → distance_of (take 63 (bits_of 64 bits)) word ≤ 11 → answer ≡ Some (identifier_of_word word)
+pub is_sent : (bits : ℕ) (answer : Option (ℕ × ℕ)) → answer ≡ nid_reading_of (bits_of 64 bits)
+    → (word : List Bool) → IsBch63 word → distance_of (take 63 (bits_of 64 bits)) word ≤ 11 → answer ≡ Some (identifier_of_word word)
 is_sent bits answer value word isw near =
     let long : 63 ≤ length (bits_of 64 bits) = omega (arith, length-bits_of 64 bits) in
     value ∙ nid_reading_of-word (bits_of 64 bits) word long isw near

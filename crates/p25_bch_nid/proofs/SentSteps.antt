@@ -16,7 +16,8 @@ nid_digits nac duid small =
     let low : (16 * nac + duid) % 2 ^ 4 ≡ duid % 2 ^ 4 = ap (λ n. n % 16) swapped ∙ mod-mul-add nac 16 duid small ∙ sym (mod-eq_of_lt small) in
     bits_of-add 12 4 (16 * nac + duid)
     ∙ ap₂ (λ n bits. bits_of 12 n ++ bits) high
-    (same_from_field_of (bits_of 4 (16 * nac + duid)) (bits_of 4 duid) (length-bits_of 4 (16 * nac + duid) ∙ sym (length-bits_of 4 duid)) (field_of-bits_of 4 (16 * nac + duid) ∙ low ∙ sym (field_of-bits_of 4 duid)))
+    (same_from_field_of (bits_of 4 (16 * nac + duid)) (bits_of 4 duid)
+    (length-bits_of 4 (16 * nac + duid) ∙ sym (length-bits_of 4 duid)) (field_of-bits_of 4 (16 * nac + duid) ∙ low ∙ sym (field_of-bits_of 4 duid)))
 
 -- what is sent begins with the word of the NAC and the DUID
 pub IsEncoding-from_sent : (nac duid bits : ℕ) → duid < 16 → IsSent nac duid bits → IsEncoding IsBch63 16 (bits_of 12 nac ++ bits_of 4 duid) (take 63 (bits_of 64 bits))

@@ -82,7 +82,8 @@ plane_none polynomial e p =
 -- one coefficient more
 plane_more_by : (polynomial : List Sym) (k p sum e : ℕ) (symbol : Sym) → k < 12 → p < 6 → e < 63 → symbol ≡ coefficient gf64 polynomial k
     → bit_at sum e ≡ bit_at (number (value_at gf64 k (coefficient gf64 polynomial) (point e))) p
-    → bit_at (bit_xor sum (bit_xor (entry (12 * k + p) (number symbol % 8)) (entry (12 * k + 6 + p) (number symbol / 8)))) e ≡ bit_at (number (value_at gf64 (k + 1) (coefficient gf64 polynomial) (point e))) p
+    → bit_at (bit_xor sum (bit_xor (entry (12 * k + p) (number symbol % 8)) (entry (12 * k + 6 + p) (number symbol / 8)))) e
+    ≡ bit_at (number (value_at gf64 (k + 1) (coefficient gf64 polynomial) (point e))) p
 plane_more_by polynomial k p sum e symbol k_low p_low e_low is so_far =
     let n = number symbol in
     let y = power gf64 (point e) k in

@@ -24,7 +24,8 @@ pub length-longer : (words changed : List ℕ) (len more : ℕ) (held : List Boo
 length-longer words changed len more held fits fit is = omega (arith, length-held changed (len + more) fit, length-held words len fits, ap length is)
 
 -- more bits after those held, of which only the first count
-pub take_appended : (now : List Bool) (bits extra : List Bool) (len more most : ℕ) → length now ≡ len → take (len + most) bits ≡ now ++ extra → more ≤ most → take (len + more) bits ≡ now ++ take more extra
+pub take_appended : (now : List Bool) (bits extra : List Bool) (len more most : ℕ)
+    → length now ≡ len → take (len + most) bits ≡ now ++ extra → more ≤ most → take (len + more) bits ≡ now ++ take more extra
 take_appended now bits extra len more most long appended fits =
     let inside : len + more ≤ len + most = omega arith in
     sym (take-take (len + more) (len + most) bits inside)
@@ -57,7 +58,8 @@ first-lt word width few small =
     shr_below word width (64 - width) (subst (λ n. word < 2 ^ n) whole small)
 
 -- are the part that the word was read from
-pub field_is : (now bits : List Bool) (at width len word : ℕ) → width ≤ 64 → at + width ≤ len → word < 2 ^ 64 → bits_of 64 word ≡ part at 64 bits → take len bits ≡ now → word / 2 ^ (64 - width) ≡ field_of (part at width now)
+pub field_is : (now bits : List Bool) (at width len word : ℕ) → width ≤ 64
+    → at + width ≤ len → word < 2 ^ 64 → bits_of 64 word ≡ part at 64 bits → take len bits ≡ now → word / 2 ^ (64 - width) ≡ field_of (part at width now)
 field_is now bits at width len word few there small read held =
     sym (field_of-bits_of width (word / 2 ^ (64 - width)) ∙ mod-eq_of_lt (first-lt word width few small))
     ∙ ap field_of
@@ -225,7 +227,8 @@ extended_more start bits k value count there all is =
     ∙ ap (λ n. take n bits) more)
 
 -- and so are those that are left
-pub extended_all : (start bits rest : List Bool) (k width value : ℕ) → rest ≡ drop (64 * k) bits → width ≡ length rest → value ≡ field_of rest → (start ++ take (64 * k) bits) ++ bits_of width value ≡ start ++ bits
+pub extended_all : (start bits rest : List Bool) (k width value : ℕ)
+    → rest ≡ drop (64 * k) bits → width ≡ length rest → value ≡ field_of rest → (start ++ take (64 * k) bits) ++ bits_of width value ≡ start ++ bits
 extended_all start bits rest k width value left long is =
     append_assoc start (take (64 * k) bits) (bits_of width value)
     ∙ ap (λ (xs : List Bool). start ++ xs)

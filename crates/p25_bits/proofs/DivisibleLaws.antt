@@ -161,7 +161,8 @@ next_sum : (number r digit : ℕ) → digit < 2 → bit_xor (2 * number + digit)
 next_sum number r digit small = xor_doubled number r digit digit small small ∙ ap (λ n. 2 * bit_xor number r + n) (xor_self digit) ∙ omega arith
 
 -- one more coefficient where the register stays low
-pub remainder_kept : (generator degree number r digit : ℕ) → digit < 2 → IsRemainder generator degree number r → 2 * r + digit < 2 ^ degree → IsRemainder generator degree (2 * number + digit) (2 * r + digit)
+pub remainder_kept : (generator degree number r digit : ℕ) → digit < 2
+    → IsRemainder generator degree number r → 2 * r + digit < 2 ^ degree → IsRemainder generator degree (2 * number + digit) (2 * r + digit)
 remainder_kept generator degree number r digit small is low =
     record { lower = low; divisible = subst (IsDivisible generator) (sym (next_sum number r digit small)) (IsDivisible-doubled generator (bit_xor number r) is.divisible) }
 
@@ -226,7 +227,8 @@ xor_apart high k low small =
     ap₂ bit_xor left right ∙ xor_block k high 0 0 low (pow_pos k) small ∙ ap₂ (λ m n. m * 2 ^ k + n) (xor_zero_r high) (xor_zero_l low)
 
 -- some remainder after one more coefficient
-more_remainder : (generator degree number r : ℕ) (bit : Bool) → HasDegree generator degree → IsRemainder generator degree number r → (s : ℕ) × IsRemainder generator degree (2 * number + digit_of bit) s
+more_remainder : (generator degree number r : ℕ) (bit : Bool)
+    → HasDegree generator degree → IsRemainder generator degree number r → (s : ℕ) × IsRemainder generator degree (2 * number + digit_of bit) s
 more_remainder generator degree number r bit g is =
     let small : digit_of bit < 2 = omega (arith, digit_of-le bit) in
     elim (cases_lt (2 * r + digit_of bit) (2 ^ degree)) [
@@ -234,7 +236,8 @@ more_remainder generator degree number r bit g is =
       | inr high ↦ (bit_xor (2 * r + digit_of bit) generator, remainder_reduced generator degree number r (digit_of bit) g small is high)
     ]
 
-some_remainder_after : (generator degree : ℕ) → HasDegree generator degree → (bits : List Bool) (number r : ℕ) → IsRemainder generator degree number r → (s : ℕ) × IsRemainder generator degree (field_after number bits) s
+some_remainder_after : (generator degree : ℕ) → HasDegree generator degree
+    → (bits : List Bool) (number r : ℕ) → IsRemainder generator degree number r → (s : ℕ) × IsRemainder generator degree (field_after number bits) s
 unfolding field_after
 some_remainder_after generator degree g [] number r is = (r, is)
 some_remainder_after generator degree g (bit ∷ bits) number r is =

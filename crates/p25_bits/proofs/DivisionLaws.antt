@@ -68,7 +68,8 @@ IsRemainder-times_x generator degree number r has is =
     let digit : 0 < 2 = omega arith in
     elim (cases_lt (2 * r + 0) (2 ^ degree)) [
       | inl low ↦
-          subst (IsRemainder generator degree (2 * number + 0)) (cond_below (2 * r + 0) (2 ^ degree) (2 * r + 0) (bit_xor (2 * r + 0) generator) low) (remainder_kept generator degree number r 0 digit is low)
+          subst (IsRemainder generator degree (2 * number + 0)) (cond_below (2 * r + 0) (2 ^ degree) (2 * r + 0) (bit_xor (2 * r + 0) generator) low)
+          (remainder_kept generator degree number r 0 digit is low)
       | inr high ↦
           subst (IsRemainder generator degree (2 * number + 0)) (cond_above (2 * r + 0) (2 ^ degree) (2 * r + 0) (bit_xor (2 * r + 0) generator) (bit_xor (2 * r + 0) generator) high refl)
           (remainder_reduced generator degree number r 0 has digit is high)

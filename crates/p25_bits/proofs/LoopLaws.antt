@@ -32,7 +32,8 @@ take_more_read bits at width numbers i value inside read so_far =
     ∙ sym (numbers_from-more width i (drop at bits))
 
 -- an octet of a number of eight
-pub octet_of_eight : (bits : List Bool) (at k number : ℕ) → k < 8 → at + 64 ≤ length bits → number ≡ field_of (part at 64 bits) → number / 2 ^ (56 - 8 * k) % 2 ^ 8 ≡ field_of (part (at + 8 * k) 8 bits)
+pub octet_of_eight : (bits : List Bool) (at k number : ℕ) → k < 8
+    → at + 64 ≤ length bits → number ≡ field_of (part at 64 bits) → number / 2 ^ (56 - 8 * k) % 2 ^ 8 ≡ field_of (part (at + 8 * k) 8 bits)
 octet_of_eight bits at k number low there is =
     let n : ℕ = 8 * k + 8 in
     let rest : ℕ = 56 - 8 * k in
@@ -56,7 +57,8 @@ octet_of_eight bits at k number low there is =
     ∙ mod-mul-add (field_of before) (2 ^ 8) (field_of octet) octet_low
 
 -- one more octet of eight is read
-pub take_more_of_eight : (bits : List Bool) (at first k number : ℕ) (octets : List ℕ) → k < 8 → at + 8 * (first + 8) ≤ length bits → first + k < length octets → number ≡ field_of (part (at + 8 * first) 64 bits)
+pub take_more_of_eight : (bits : List Bool) (at first k number : ℕ) (octets : List ℕ)
+    → k < 8 → at + 8 * (first + 8) ≤ length bits → first + k < length octets → number ≡ field_of (part (at + 8 * first) 64 bits)
     → take (first + k) octets ≡ numbers_from 8 (first + k) (drop at bits)
     → take (first + (k + 1)) (set octets (first + k) (number / 2 ^ (56 - 8 * k) % 2 ^ 8)) ≡ numbers_from 8 (first + (k + 1)) (drop at bits)
 take_more_of_eight bits at first k number octets low there inside is so_far =

@@ -59,7 +59,8 @@ pub more_bits : (before width count : ℕ) → (before + width * count) + width 
 more_bits before width count = rw add-one (omega (arith, mul-suc width count))
 
 -- one more number after bits
-pub number_bits_more : (bits : List Bool) (width : ℕ) (numbers : List ℕ) (i : ℕ) → i < length numbers → (bits ++ number_bits width (take i numbers)) ++ bits_of width (get_or numbers i 0) ≡ bits ++ number_bits width (take (i + 1) numbers)
+pub number_bits_more : (bits : List Bool) (width : ℕ) (numbers : List ℕ) (i : ℕ) → i < length numbers
+    → (bits ++ number_bits width (take i numbers)) ++ bits_of width (get_or numbers i 0) ≡ bits ++ number_bits width (take (i + 1) numbers)
 unfolding number_bits
 number_bits_more bits width numbers i inside =
     flat_map_more (bits_of width) bits (take i numbers) (get_or numbers i 0) ∙ ap (λ (ns : List ℕ). bits ++ flat_map (bits_of width) ns) (sym (take_more numbers i 0 inside))
@@ -113,7 +114,8 @@ length-numbers_from width (suc n) bits = ap suc (length-numbers_from width n (dr
 pub All-numbers_from : (width n : ℕ) (bits : List Bool) → All (λ number. number < 2 ^ width) (numbers_from width n bits)
 unfolding numbers_from
 All-numbers_from width zero bits = All-nil (λ number. number < 2 ^ width)
-All-numbers_from width (suc n) bits = All-cons (λ number. number < 2 ^ width) (field_of (take width bits)) (numbers_from width n (drop width bits)) (field-lt width 0 bits) (All-numbers_from width n (drop width bits))
+All-numbers_from width (suc n) bits = All-cons (λ number. number < 2 ^ width)
+    (field_of (take width bits)) (numbers_from width n (drop width bits)) (field-lt width 0 bits) (All-numbers_from width n (drop width bits))
 
 -- the number at a place
 pub get_or-numbers_from : (width n : ℕ) (bits : List Bool) (j d : ℕ) → j < n → get_or (numbers_from width n bits) j d ≡ field_of (part (width * j) width bits)

@@ -98,7 +98,8 @@ place_of : (at : ℕ) → 64 * (at / 64) + at % 64 ≡ at
 place_of at = omega arith
 
 -- the 64 bits from a place on stand in two words
-pub part_window : (words : List ℕ) (at : ℕ) → at / 64 + 1 < length words → part at 64 (number_bits 64 words) ≡ part (at % 64) 64 (bits_of 64 (get_or words (at / 64) 0) ++ bits_of 64 (get_or words (at / 64 + 1) 0))
+pub part_window : (words : List ℕ) (at : ℕ) → at / 64 + 1 < length words
+    → part at 64 (number_bits 64 words) ≡ part (at % 64) 64 (bits_of 64 (get_or words (at / 64) 0) ++ bits_of 64 (get_or words (at / 64 + 1) 0))
 part_window words at inside =
     let q = at / 64 in
     let first = bits_of 64 (get_or words q 0) in
@@ -206,7 +207,8 @@ moved_more words old by k word here same read front behind =
           ∙ take_within (set words k word) k 64 there few
           ∙ ap₂ ◌++◌
           (ap (number_bits 64) (take-set words k word) ∙ sym (take-number_bits 64 k words fits) ∙ front)
-          (take_all 64 (bits_of 64 (get_or (set words k word) k 0)) (omega (arith, length-bits_of 64 (get_or (set words k word) k 0))) ∙ ap (bits_of 64) (get_or-set_same words k word 0 here) ∙ read ∙ same_part)
+          (take_all 64 (bits_of 64 (get_or (set words k word) k 0)) (omega (arith, length-bits_of 64 (get_or (set words k word) k 0)))
+          ∙ ap (bits_of 64) (get_or-set_same words k word 0 here) ∙ read ∙ same_part)
           ∙ part_add by (64 * k) 64 (number_bits 64 old)
           ∙ ap (λ n. part by n (number_bits 64 old)) (sym more),
       drop-set-lt (k + 1) words k word after ∙ drop_more_same words old k behind,
@@ -214,7 +216,8 @@ moved_more words old by k word here same read front behind =
 
 -- one more word of each of two lists is compared
 pub distance_more : (a b : List ℕ) (k : ℕ) → k < length a → k < length b → get_or a k 0 < 2 ^ 64 → get_or b k 0 < 2 ^ 64
-    → distance_of (take (64 * (k + 1)) (number_bits 64 a)) (take (64 * (k + 1)) (number_bits 64 b)) ≡ distance_of (take (64 * k) (number_bits 64 a)) (take (64 * k) (number_bits 64 b)) + count_ones (bit_xor (get_or a k 0) (get_or b k 0))
+    → distance_of (take (64 * (k + 1)) (number_bits 64 a)) (take (64 * (k + 1)) (number_bits 64 b))
+    ≡ distance_of (take (64 * k) (number_bits 64 a)) (take (64 * k) (number_bits 64 b)) + count_ones (bit_xor (get_or a k 0) (get_or b k 0))
 distance_more a b k here there small_a small_b =
     let few : 64 ≤ 64 = omega arith in
     let more : 64 * (k + 1) ≡ 64 * k + 64 = omega arith in

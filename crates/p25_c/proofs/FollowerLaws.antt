@@ -46,7 +46,8 @@ made before stretch kept = record { follower = follow before stretch; kept = kep
 
 told-back : (reached : ℕ) (parts : FollowedParts) → length parts.follower.stretch < 6912 → parts_held (follower_told reached parts) ≡ parts
 told-back reached parts few =
-    ap₂ (λ (before : Option (ℕ × ℕ)) (stretch : List Bool). made before stretch (bits_of (length parts.kept) (field_of parts.kept))) (name-back parts.follower.before) (stretch-back parts.follower.stretch few)
+    ap₂ (λ (before : Option (ℕ × ℕ)) (stretch : List Bool). made before stretch (bits_of (length parts.kept) (field_of parts.kept)))
+    (name-back parts.follower.before) (stretch-back parts.follower.stretch few)
     ∙ ap (made parts.follower.before parts.follower.stretch) (bits_of-field_of parts.kept)
 
 -- ---- items by their numbers
@@ -76,11 +77,13 @@ series-nil state bits = refl
 series-cons : (state : FollowerState) (item : Item) (items : List Item) (bits : List Bool)
     → followed_series state (item ∷ items) bits
     ≡ followed_reporting.piece (parts_held state) (item_held (parts_of item)) (take (covered item) bits)
-    ++ followed_series (follower_told (place_of item + covered item) (followed_reporting.behind (parts_held state) (item_held (parts_of item)) (take (covered item) bits))) items (drop (covered item) bits)
+    ++ followed_series (follower_told (place_of item + covered item)
+    (followed_reporting.behind (parts_held state) (item_held (parts_of item)) (take (covered item) bits))) items (drop (covered item) bits)
 unfolding followed_series
 series-cons state item items bits = refl
 
-series-reported : (items : List Item) (bits : List Bool) (state : FollowerState) (parts : FollowedParts) → parts_held state ≡ parts → followed_series state items bits ≡ reported followed_reporting true parts items bits
+series-reported : (items : List Item) (bits : List Bool) (state : FollowerState) (parts : FollowedParts)
+    → parts_held state ≡ parts → followed_series state items bits ≡ reported followed_reporting true parts items bits
 series-reported [] bits state parts is = series-nil state bits ∙ ap (λ (p : FollowedParts). followed_reporting.closing p) is ∙ sym (reported-nil followed_reporting true parts bits)
 series-reported (item ∷ items) bits state parts is =
     let raw = take (covered item) bits in

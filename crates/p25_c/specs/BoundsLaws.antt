@@ -49,7 +49,9 @@ BuiltAreUnits = (status : Status) (line : List ℕ) → IfOk (built status line)
 
 -- and so has one that is repaired, at the beginning of octets or at any bit
 abbrev pub RepairedAreUnits : Type 0
-RepairedAreUnits = ((octets : List ℕ) → IfOk (unit_repaired octets) AreUnitOctets) × ((begin from : ℕ) (octets : List ℕ) → IfOk (repaired_at begin from octets) AreUnitOctets)
+RepairedAreUnits =
+    ((octets : List ℕ) → IfOk (unit_repaired octets) AreUnitOctets)
+    × ((begin from : ℕ) (octets : List ℕ) → IfOk (repaired_at begin from octets) AreUnitOctets)
 
 -- and one that is bridged
 abbrev pub BridgedAreUnits : Type 0

@@ -14,7 +14,8 @@ followed_series state [] bits = followed_reporting.closing (parts_held state)
 followed_series state (item ∷ items) bits =
     let raw = take (covered item) bits in
     followed_reporting.piece (parts_held state) (item_held (parts_of item)) raw
-    ++ followed_series (follower_told (place_of item + covered item) (followed_reporting.behind (parts_held state) (item_held (parts_of item)) raw)) items (drop (covered item) bits)
+    ++ followed_series (follower_told (place_of item + covered item) (followed_reporting.behind (parts_held state) (item_held (parts_of item)) raw))
+    items (drop (covered item) bits)
 
 -- what one that has begun writes of the items of a recording, and at the end, are the octets of the recording followed
 abbrev pub FollowersFollow : Type 0
@@ -24,5 +25,6 @@ FollowersFollow =
 -- the bits that it looks at of an item are the same in every piece of the recording that has them
 abbrev pub ItemsAreCut : Type 0
 ItemsAreCut =
-    (recording : List ℕ) (given : Given) (item : Item) → IsPiece recording given → has_item given.begin (place_of item) (covered item) (length given.octets) ≡ true
+    (recording : List ℕ) (given : Given) (item : Item) → IsPiece recording given
+    → has_item given.begin (place_of item) (covered item) (length given.octets) ≡ true
     → item_raw (parts_of item) given.begin given.octets ≡ part (place_of item) (covered item) (octet_bits recording)

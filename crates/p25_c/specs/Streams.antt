@@ -90,5 +90,7 @@ pub record IsAppended (octets : List ℕ) (before after : Stream) (answer : ℤ)
   pub stream_is : after
       ≡ record before {
         held = before.held + min (length octets) (8168 - before.held);
-        octets = take before.held before.octets ++ take (8168 - before.held) octets ++ drop (before.held + min (length octets) (8168 - before.held)) before.octets;
+        octets =
+            take before.held before.octets ++ take (8168 - before.held) octets
+            ++ drop (before.held + min (length octets) (8168 - before.held)) before.octets;
       }

@@ -44,7 +44,8 @@ extended-pending reached taken call held unit at = record {
   broken = more-few unit.broken call.broken taken held.broken;
 }
 
-run-pending : (reached taken : ℕ) (pending : Option Call) → IfSome pending (IsPending reached taken) → (unit : UnitSeen) → unit.place ≡ reached → IsPending (unit_end unit) (taken + 1) (run_with pending unit)
+run-pending : (reached taken : ℕ) (pending : Option Call) → IfSome pending (IsPending reached taken)
+    → (unit : UnitSeen) → unit.place ≡ reached → IsPending (unit_end unit) (taken + 1) (run_with pending unit)
 run-pending reached taken None held unit at = alone-pending unit taken
 run-pending reached taken (Some call) held unit at =
     elim (goes_on call unit) as (λ (b : Bool). IsPending (unit_end unit) (taken + 1) (cond b (extended call unit) (call_of_one unit))) [
@@ -56,7 +57,8 @@ run-pending reached taken (Some call) held unit at =
 left-if : (P : Call → Type 0) (run : Call) (unit : UnitSeen) → P run → IfSome (pending_run run unit) P
 left-if P run unit holds = elim (is_voice unit && not (is_terminator unit)) as (λ (b : Bool). IfSome (cond b (Some run) None) P) [ true ↦ holds | false ↦ tt ]
 
-pub pending-kept : (reached taken end : ℕ) (pending : Option Call) (unit : UnitSeen) (run : Call) (left : Option Call) → IfSome pending (IsPending reached taken) → unit.place ≡ reached → unit_end unit ≡ end
+pub pending-kept : (reached taken end : ℕ) (pending : Option Call) (unit : UnitSeen) (run : Call) (left : Option Call)
+    → IfSome pending (IsPending reached taken) → unit.place ≡ reached → unit_end unit ≡ end
     → run ≡ run_with pending unit → left ≡ pending_run run unit → IfSome left (IsPending end (taken + 1))
 pending-kept reached taken end pending unit run left held at ends is_run is_left =
     let P : Option Call → Type 0 = λ o. IfSome o (IsPending end (taken + 1)) in

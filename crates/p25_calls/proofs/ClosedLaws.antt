@@ -63,7 +63,8 @@ behind-break unit run others rest all before = record { rest = rest; is = ap (λ
 stay-as : (runs all made longer : List Run) → made ≡ runs → longer ≡ all → Stay runs all → Stay made longer
 stay-as runs all made longer same_made same_longer stay = subst (λ (m : List Run). Stay m longer) (sym same_made) (subst (λ (l : List Run). Stay runs l) (sym same_longer) stay)
 
-with_unit-stay : (unit : UnitSeen) (run first : Run) (others runs rest : List Run) → first.first ≡ run.first → first ∷ runs ≡ closed_runs (run ∷ others) ++ rest → (b : Bool) → is_break unit run.first ≡ b
+with_unit-stay : (unit : UnitSeen) (run first : Run) (others runs rest : List Run)
+    → first.first ≡ run.first → first ∷ runs ≡ closed_runs (run ∷ others) ++ rest → (b : Bool) → is_break unit run.first ≡ b
     → Stay (with_unit unit (run ∷ others)) (with_unit unit (first ∷ runs))
 with_unit-stay unit run first others runs rest same before true breaks =
     stay-as (run_from unit [] ∷ run ∷ others) (run_from unit [] ∷ first ∷ runs) (with_unit unit (run ∷ others)) (with_unit unit (first ∷ runs))
@@ -81,7 +82,8 @@ stay-units unit (next ∷ units) more =
     let now = runs_of-begins next units in
     let all = runs_of-begins next (units ++ more) in
     let stay = stay-units next units more in
-    stay-as (with_unit unit (run_from next now.others ∷ now.rest)) (with_unit unit (run_from next all.others ∷ all.rest)) (with_unit unit (runs_of (next ∷ units))) (with_unit unit (runs_of ((next ∷ units) ++ more)))
+    stay-as (with_unit unit (run_from next now.others ∷ now.rest))
+    (with_unit unit (run_from next all.others ∷ all.rest)) (with_unit unit (runs_of (next ∷ units))) (with_unit unit (runs_of ((next ∷ units) ++ more)))
     (ap (with_unit unit) now.is) (ap (with_unit unit) all.is)
     (with_unit-stay unit (run_from next now.others) (run_from next all.others) now.rest all.rest stay.rest refl
     (sym all.is ∙ stay.is ∙ ap (λ (runs : List Run). closed_runs runs ++ stay.rest) now.is) (is_break unit next) refl)

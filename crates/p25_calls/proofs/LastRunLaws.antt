@@ -94,7 +94,8 @@ alone-unlinked unit unlinked = ap (λ (b : Bool). cond (nat_lt 0 (0 + cond b 1 0
 
 -- where it begins after what a caller held, since nothing was, or since there is a break
 alone-run : (pending : Option Call) (before : Option Run) (unit : UnitSeen) → run_with pending unit ≡ call_of_one unit
-    → ((ended : Bool) (rest : List UnitSeen) → calls_among (runs_by ended (pending_units before ++ unit ∷ rest)) ≡ option_to_list (broken_off pending unit) ++ calls_among (runs_by ended (unit ∷ rest)))
+    → ((ended : Bool) (rest : List UnitSeen) → calls_among (runs_by ended (pending_units before ++ unit ∷ rest))
+    ≡ option_to_list (broken_off pending unit) ++ calls_among (runs_by ended (unit ∷ rest)))
     → LastRun pending before unit
 alone-run pending before unit is rest_is = record {
   last = run_from unit [];

@@ -43,7 +43,8 @@ RestIs ended end taken items =
     (pending : Option Call) (before : Option Run) → Holds end pending before
     → answers_by ended (caller_at end taken pending) items ≡ calls_among (runs_by ended (pending_units before ++ units_of items))
 
-answers-unit : (ended : Bool) (reached end taken : ℕ) (pending : Option Call) (before : Option Run) → Holds reached pending before → reached ≤ end → (found : Option UnitSeen) → IsUnitAt reached end found
+answers-unit : (ended : Bool) (reached end taken : ℕ) (pending : Option Call) (before : Option Run)
+    → Holds reached pending before → reached ≤ end → (found : Option UnitSeen) → IsUnitAt reached end found
     → (items : List Item) → RestIs ended end taken items
     → option_to_list (unit_answer pending found) ++ answers_by ended (caller_at end taken (unit_pending pending found)) items
     ≡ calls_among (runs_by ended (pending_units before ++ cons_option found (units_of items)))
@@ -64,7 +65,8 @@ open-run true call run reached pends =
     ∙ sym (calls_among-voice run [] pends.voice)
     ∙ ap calls_among (sym (ap runs_of (append-nil (units_in run)) ∙ runs_of-unbroken run.first run.others pends.unbroken))
 open-run false call run reached pends =
-    ap calls_among (sym (ap closed_runs (ap runs_of (append-nil (units_in run)) ∙ runs_of-unbroken run.first run.others pends.unbroken) ∙ cond-false (is_terminator (last_unit run)) (run ∷ []) [] pends.going))
+    ap calls_among (sym (ap closed_runs (ap runs_of (append-nil (units_in run)) ∙ runs_of-unbroken run.first run.others pends.unbroken)
+    ∙ cond-false (is_terminator (last_unit run)) (run ∷ []) [] pends.going))
 
 none-open : (ended : Bool) → cond ended [] [] ≡ calls_among (runs_by ended [])
 unfolding runs_by runs_of closed_runs

@@ -80,7 +80,8 @@ module _ {rows : List ℕ} {checks apart : ℕ} (code : IsSystematic rows checks
   }
 
   -- a word whose last bits are the sum of the rows passes
-  pub sum_checked : (word : List Bool) → length word ≡ length rows + checks → drop (length rows) word ≡ bits_of checks (syndrome_of rows (take (length rows) word)) → IsChecked (rows ++ check_columns checks) word
+  pub sum_checked : (word : List Bool) → length word ≡ length rows + checks
+      → drop (length rows) word ≡ bits_of checks (syndrome_of rows (take (length rows) word)) → IsChecked (rows ++ check_columns checks) word
   unfolding systematic
   sum_checked word long e =
       let k = length rows in
@@ -118,7 +119,8 @@ module _ {rows : List ℕ} {checks apart : ℕ} (code : IsSystematic rows checks
       elim (or_cases (eqb (weight_of info) 0) (leb apart (weight_of (systematic rows checks info))) test) [
         | inl zeros ↦
             let light = eqb-true (weight_of info) 0 zeros in
-            inl (ap weight_of e ∙ weight_of-append info (bits_of checks (syndrome_of rows info)) ∙ ap₂ ◌+◌ light (ap (λ n. weight_of (bits_of checks n)) (syndrome_of-zeros rows info light) ∙ weight_of-bits_of checks))
+            inl (ap weight_of e ∙ weight_of-append info (bits_of checks (syndrome_of rows info))
+            ∙ ap₂ ◌+◌ light (ap (λ n. weight_of (bits_of checks n)) (syndrome_of-zeros rows info light) ∙ weight_of-bits_of checks))
         | inr far ↦ inr (subst (λ w. apart ≤ weight_of w) (sym e) (leb-true apart (weight_of (systematic rows checks info)) far))
       ]
 
@@ -138,7 +140,8 @@ module _ {rows : List ℕ} {checks apart : ℕ} (code : IsSystematic rows checks
       ]
 
   -- what the encoder writes is the encoding in a set whose words are those that pass
-  pub encodes : (IsWord : List Bool → Type 0) → ((w : List Bool) → IsChecked (rows ++ check_columns checks) w → IsWord w) → (beginning : List ℕ) (places : ℕ) (info word : List Bool) → beginning ≡ rows → places ≡ checks
+  pub encodes : (IsWord : List Bool → Type 0) → ((w : List Bool) → IsChecked (rows ++ check_columns checks) w → IsWord w)
+      → (beginning : List ℕ) (places : ℕ) (info word : List Bool) → beginning ≡ rows → places ≡ checks
       → length info ≡ length rows
       → word ≡ systematic beginning places info → IsEncoding IsWord (length rows) info word
   encodes IsWord from beginning places info word e f long is =
@@ -150,7 +153,8 @@ module _ {rows : List ℕ} {checks apart : ℕ} (code : IsSystematic rows checks
       }
 
   -- the laws of the code, in a set whose words are those that pass
-  pub is_code : (IsWord : List Bool → Type 0) → ((w : List Bool) → IsWord w → IsChecked (rows ++ check_columns checks) w) → (n radius : ℕ) → length rows + checks ≡ n → 2 * radius < apart → IsBlockCode beq IsWord n (length rows) radius apart
+  pub is_code : (IsWord : List Bool → Type 0) → ((w : List Bool) → IsWord w → IsChecked (rows ++ check_columns checks) w)
+      → (n radius : ℕ) → length rows + checks ≡ n → 2 * radius < apart → IsBlockCode beq IsWord n (length rows) radius apart
   is_code IsWord to n radius whole close = record {
     compares = bool_eq_equiv;
     alike = same_bit;

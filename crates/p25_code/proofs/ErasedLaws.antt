@@ -51,7 +51,8 @@ module _ {L : Type 0} {same : L → L → Bool} {IsWord : List L → Type 0} {n 
       through true false ea eb = omega (arith, ap {B = ℕ} (λ t. cond t 0 1) eb, cond-le (same x z))
 
   -- the way from one word to another by a list with erasures
-  pub wrong_triangle : (list : List (Option L)) (v w : List L) → length list ≡ length v → length v ≡ length w → distance_by same v w ≤ kept_distance same list v + kept_distance same list w + erasures_in list
+  pub wrong_triangle : (list : List (Option L)) (v w : List L)
+      → length list ≡ length v → length v ≡ length w → distance_by same v w ≤ kept_distance same list v + kept_distance same list w + erasures_in list
   unfolding kept_distance distance_by erasures_in
   wrong_triangle [] [] w first second = omega arith
   wrong_triangle (y ∷ list) (x ∷ v) (z ∷ w) first second =
@@ -77,12 +78,14 @@ module _ {L : Type 0} {same : L → L → Bool} {IsWord : List L → Type 0} {n 
     one_erased_reading list (Some v) (Some w) long first second = ap Some (one_within_cost list v w long first second)
 
     -- a word of the set within the cost is the reading
-    pub erased_read_as_sent : (list : List (Option L)) (sent : List L) (answer : Option (List L)) → length list ≡ n → IsErasedReadAs same IsWord most list answer → IsWord sent → erased_cost same list sent ≤ most → answer ≡ Some sent
+    pub erased_read_as_sent : (list : List (Option L)) (sent : List L) (answer : Option (List L))
+        → length list ≡ n → IsErasedReadAs same IsWord most list answer → IsWord sent → erased_cost same list sent ≤ most → answer ≡ Some sent
     unfolding IsErasedReadAs
     erased_read_as_sent list sent answer long is sent_is near = one_erased_reading list answer (Some sent) long is (record { word_of_set = sent_is; within = near })
 
     -- what a reader leaves is the word within the cost, wherever there is one
-    pub erased_reading_sent : (list : List (Option L)) (received word sent : List L) (reading : Reading) → length list ≡ n → IsErasedReading same IsWord most list received word reading → IsWord sent → erased_cost same list sent ≤ most
+    pub erased_reading_sent : (list : List (Option L)) (received word sent : List L) (reading : Reading)
+        → length list ≡ n → IsErasedReading same IsWord most list received word reading → IsWord sent → erased_cost same list sent ≤ most
         → word ≡ sent
     unfolding IsErasedReading
     erased_reading_sent list received word sent (Found fixes) long is sent_is near =
@@ -90,7 +93,8 @@ module _ {L : Type 0} {same : L → L → Bool} {IsWord : List L → Type 0} {n 
     erased_reading_sent list received word sent Beyond long is sent_is near = absurd (omega (arith, is.none_within.dearer sent sent_is))
 
 -- where the cost is twice the radius, what a reader of a list without an erasure answers and leaves is the reading of the letters
-pub reading_without_erasures : {L : Type 0} (same : L → L → Bool) (IsWord : List L → Type 0) (most radius : ℕ) → most ≡ 2 * radius → (received word : List L) (erased : List Bool) (reading : Reading) → All (λ gone. gone ≡ false) erased
+pub reading_without_erasures : {L : Type 0} (same : L → L → Bool) (IsWord : List L → Type 0) (most radius : ℕ)
+    → most ≡ 2 * radius → (received word : List L) (erased : List Bool) (reading : Reading) → All (λ gone. gone ≡ false) erased
     → IsErasedReading same IsWord most (without_erased received erased) received word reading → IsReading same IsWord radius received word reading
 unfolding IsReading IsErasedReading
 reading_without_erasures {L} same IsWord most radius twice received word erased reading none is = as_read reading is
@@ -110,7 +114,8 @@ reading_without_erasures {L} same IsWord most radius twice received word erased 
     }
 
 -- what a reader answers and leaves is the reading
-pub erased_word_read_as : {L : Type 0} (same : L → L → Bool) (IsWord : List L → Type 0) (most : ℕ) (list : List (Option L)) (received word : List L) (reading : Reading) → IsErasedReading same IsWord most list received word reading
+pub erased_word_read_as : {L : Type 0} (same : L → L → Bool) (IsWord : List L → Type 0)
+    (most : ℕ) (list : List (Option L)) (received word : List L) (reading : Reading) → IsErasedReading same IsWord most list received word reading
     → IsErasedReadAs same IsWord most list (word_read reading word)
 unfolding IsErasedReading IsErasedReadAs word_read
 erased_word_read_as same IsWord most list received word (Found fixes) is = record { word_of_set = is.word_of_set; within = is.within }

@@ -10,7 +10,8 @@ use Rattle.p25_code.proofs.{ReadingLaws.{one_reading}, ParityLaws.{number_sum-xo
 
 module _ (columns : List ℕ) (radius received sum : ℕ) (fits : received < 2 ^ length columns) (sums : number_sum columns received ≡ sum) where
   -- what was received without its wrong bits is a word that passes, within the radius
-  without_wrong : (wrong : ℕ) → AreWrong columns radius sum wrong → IsReadAs beq (IsChecked columns) radius (bits_of (length columns) received) (Some (bits_of (length columns) (bit_xor received wrong)))
+  without_wrong : (wrong : ℕ) → AreWrong columns radius sum wrong
+      → IsReadAs beq (IsChecked columns) radius (bits_of (length columns) received) (Some (bits_of (length columns) (bit_xor received wrong)))
   unfolding IsReadAs number_sum
   without_wrong wrong are =
       let n = length columns in
@@ -90,11 +91,13 @@ module _ {rows : List ℕ} {n k checks radius apart : ℕ} {IsWord : List Bool �
       (code.reads (bits_of n received))
 
   -- the word without the wrong bits
-  pub read_without : (wrong : ℕ) → AreWrong (rows ++ check_columns checks) radius (bit_xor check (received % 2 ^ checks)) wrong → Some (bits_of n (bit_xor received wrong)) ≡ reading (bits_of n received)
+  pub read_without : (wrong : ℕ) → AreWrong (rows ++ check_columns checks) radius (bit_xor check (received % 2 ^ checks)) wrong
+      → Some (bits_of n (bit_xor received wrong)) ≡ reading (bits_of n received)
   read_without wrong are =
       let columns = rows ++ check_columns checks in
       read_as (Some (bits_of n (bit_xor received wrong)))
-      (subst (λ m. IsReadAs beq (IsChecked columns) radius (bits_of m received) (Some (bits_of m (bit_xor received wrong)))) columns_are (without_wrong columns radius received _ fits_columns sum_is wrong are))
+      (subst (λ m. IsReadAs beq (IsChecked columns) radius (bits_of m received) (Some (bits_of m (bit_xor received wrong)))) columns_are
+      (without_wrong columns radius received _ fits_columns sum_is wrong are))
 
   pub without_fits : (wrong : ℕ) → AreWrong (rows ++ check_columns checks) radius (bit_xor check (received % 2 ^ checks)) wrong → bit_xor received wrong < 2 ^ n
   without_fits wrong are = xor_lt n received wrong fits (subst (λ m. wrong < 2 ^ m) columns_are are.fits)
@@ -106,7 +109,8 @@ module _ {rows : List ℕ} {n k checks radius apart : ℕ} {IsWord : List Bool �
       ∙ read_without 0 (subst (λ s. AreWrong (rows ++ check_columns checks) radius s 0) (sym none) (none_are_wrong (rows ++ check_columns checks) radius))
 
   -- where none are few enough there is no reading
-  pub read_none : NoneWrong (rows ++ check_columns checks) radius (bit_xor check (received % 2 ^ checks)) → (answer : Option ℕ) → answer ≡ None → option_map (bits_of n) answer ≡ reading (bits_of n received)
+  pub read_none : NoneWrong (rows ++ check_columns checks) radius (bit_xor check (received % 2 ^ checks))
+      → (answer : Option ℕ) → answer ≡ None → option_map (bits_of n) answer ≡ reading (bits_of n received)
   read_none none answer e =
       let columns = rows ++ check_columns checks in
       ap (option_map (bits_of n)) e
@@ -189,7 +193,8 @@ module _ {rows : List ℕ} {n k checks radius apart : ℕ} {IsWord : List Bool �
       (encodes code.table IsWord code.passing rows checks (bits_of k info) (bits_of n word) refl refl (length-bits_of k info ∙ sym code.rows_long) (ap (λ m. bits_of m word) (sym code.whole) ∙ made))
 
 -- what a reader by numbers leaves and answers is the reading of the bits
-pub read_by_number : (IsWord : List Bool → Type 0) (radius n : ℕ) (reading_of : List Bool → Option (List Bool)) → ((bits : List Bool) → IsReadAs beq IsWord radius bits (reading_of bits)) → (old new : List Bool) (received : ℕ)
+pub read_by_number : (IsWord : List Bool → Type 0) (radius n : ℕ) (reading_of : List Bool → Option (List Bool))
+    → ((bits : List Bool) → IsReadAs beq IsWord radius bits (reading_of bits)) → (old new : List Bool) (received : ℕ)
     (sent : Option ℕ) (reading : Reading) → length old ≡ n → received ≡ field_of old → option_map (bits_of n) sent ≡ reading_of (bits_of n received)
     → MatchOption sent ((reading ≡ Beyond) × (new ≡ old)) (λ number. (new ≡ bits_of (length old) number) × (reading ≡ Found (distance_of old new))) → IsReading beq IsWord radius old new reading
 read_by_number IsWord radius n reading_of reads old new received sent reading long e read put =
@@ -199,7 +204,8 @@ read_by_number IsWord radius n reading_of reads old new received sent reading lo
     (subst (λ m. MatchOption sent ((reading ≡ Beyond) × (new ≡ old)) (λ number. (new ≡ bits_of m number) × (reading ≡ Found (distance_of old new)))) long put)
 
 -- what an encoder by numbers writes is the encoding of the bits
-pub encode_by_number : (IsWord : List Bool → Type 0) (k n : ℕ) (info word : List Bool) (number made : ℕ) → length info ≡ k → number ≡ field_of info → IsEncoding IsWord k (bits_of k number) (bits_of n made)
+pub encode_by_number : (IsWord : List Bool → Type 0) (k n : ℕ) (info word : List Bool) (number made : ℕ)
+    → length info ≡ k → number ≡ field_of info → IsEncoding IsWord k (bits_of k number) (bits_of n made)
     → word ≡ bits_of n made → IsEncoding IsWord k info word
 encode_by_number IsWord k n info word number made long e is whole =
     let bits : bits_of k number ≡ info = ap₂ bits_of (sym long) e ∙ bits_of-field_of info in

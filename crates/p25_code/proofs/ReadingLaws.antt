@@ -25,7 +25,8 @@ module _ {L : Type 0} {same : L → L → Bool} {IsWord : List L → Type 0} {n 
       ]
 
   -- what was sent and what was found lie within the radius of what was received, so they are one
-  pub found_sent : (received word sent : List L) (fixes : ℕ) → length received ≡ n → IsFound same IsWord radius received word fixes → IsWord sent → distance_by same received sent ≤ radius → word ≡ sent
+  pub found_sent : (received word sent : List L) (fixes : ℕ) → length received ≡ n
+      → IsFound same IsWord radius received word fixes → IsWord sent → distance_by same received sent ≤ radius → word ≡ sent
   found_sent received word sent fixes long found is near =
       near_words word sent found.word_of_set is (omega (
         arith,
@@ -37,13 +38,15 @@ module _ {L : Type 0} {same : L → L → Bool} {IsWord : List L → Type 0} {n 
       ))
 
   -- wherever a word of the set lies within the radius, a reading leaves it
-  pub reading_sent : (received word sent : List L) (reading : Reading) → length received ≡ n → IsReading same IsWord radius received word reading → IsWord sent → distance_by same received sent ≤ radius → word ≡ sent
+  pub reading_sent : (received word sent : List L) (reading : Reading)
+      → length received ≡ n → IsReading same IsWord radius received word reading → IsWord sent → distance_by same received sent ≤ radius → word ≡ sent
   unfolding IsReading
   reading_sent received word sent (Found fixes) long is sent_is near = found_sent received word sent fixes long is sent_is near
   reading_sent received word sent Beyond long is sent_is near = absurd (omega (arith, is.none_within.farther sent sent_is))
 
   -- and answers Found with the distance
-  pub reading_fixes : (received word sent : List L) (reading : Reading) → length received ≡ n → IsReading same IsWord radius received word reading → IsWord sent → distance_by same received sent ≤ radius
+  pub reading_fixes : (received word sent : List L) (reading : Reading)
+      → length received ≡ n → IsReading same IsWord radius received word reading → IsWord sent → distance_by same received sent ≤ radius
       → reading ≡ Found (distance_by same received sent)
   unfolding IsReading
   reading_fixes received word sent (Found fixes) long is sent_is near =
@@ -64,7 +67,8 @@ module _ {L : Type 0} {same : L → L → Bool} {IsWord : List L → Type 0} {n 
   one_reading received (Some v) (Some w) long first second = ap Some (one_near received v w long first second)
 
   -- a word of the set within the radius is the reading
-  pub read_as_sent : (received sent : List L) (answer : Option (List L)) → length received ≡ n → IsReadAs same IsWord radius received answer → IsWord sent → distance_by same received sent ≤ radius → answer ≡ Some sent
+  pub read_as_sent : (received sent : List L) (answer : Option (List L))
+      → length received ≡ n → IsReadAs same IsWord radius received answer → IsWord sent → distance_by same received sent ≤ radius → answer ≡ Some sent
   unfolding IsReadAs
   read_as_sent received sent answer long is sent_is near = one_reading received answer (Some sent) long is (record { word_of_set = sent_is; within = near })
 

@@ -20,7 +20,8 @@ remainders generator degree zero = []
 remainders generator degree (suc n) = power_remainder generator degree n ∷ remainders generator degree n
 
 -- the remainder of a number times x, where it stays of lower degree or not
-next : (generator degree number r : ℕ) → HasDegree generator degree → IsRemainder generator degree number r → IsRemainder generator degree (2 * number) (cond (ltb (2 * r) (2 ^ degree)) (2 * r) (bit_xor (2 * r) generator))
+next : (generator degree number r : ℕ) → HasDegree generator degree
+    → IsRemainder generator degree number r → IsRemainder generator degree (2 * number) (cond (ltb (2 * r) (2 ^ degree)) (2 * r) (bit_xor (2 * r) generator))
 next generator degree number r has is =
     let none : 0 < 2 = omega arith in
     let same : 2 * number + 0 ≡ 2 * number = omega arith in
@@ -29,7 +30,8 @@ next generator degree number r has is =
       | inl low ↦
           let low_r : 2 * r + 0 < 2 ^ degree = omega arith in
           subst (λ n. IsRemainder generator degree n (cond (ltb (2 * r) (2 ^ degree)) (2 * r) (bit_xor (2 * r) generator))) same
-          (subst (IsRemainder generator degree (2 * number + 0)) (same_r ∙ cond_below (2 * r) (2 ^ degree) (2 * r) (bit_xor (2 * r) generator) low) (remainder_kept generator degree number r 0 none is low_r))
+          (subst (IsRemainder generator degree (2 * number + 0)) (same_r ∙ cond_below (2 * r) (2 ^ degree) (2 * r) (bit_xor (2 * r) generator) low)
+          (remainder_kept generator degree number r 0 none is low_r))
       | inr high ↦
           let high_r : 2 ^ degree ≤ 2 * r + 0 = omega arith in
           subst (λ n. IsRemainder generator degree n (cond (ltb (2 * r) (2 ^ degree)) (2 * r) (bit_xor (2 * r) generator))) same
@@ -63,7 +65,8 @@ module _ {generator degree : ℕ} (has : HasDegree generator degree) (some : 1 <
       let n = length word in
       subst (λ m. IsRemainder generator degree m (syndrome_of (remainders generator degree (length (bit ∷ word))) (bit ∷ word)))
       (above bit n (field_of word) (field_of-lt word) ∙ sym (field_of-cons bit word))
-      (IsRemainder-sum generator degree (cond bit (2 ^ n) 0) (field_of word) (cond bit (power_remainder generator degree n) 0) (syndrome_of (remainders generator degree n) word) (chosen bit n) (IsRemainder-word word))
+      (IsRemainder-sum generator degree (cond bit (2 ^ n) 0) (field_of word)
+      (cond bit (power_remainder generator degree n) 0) (syndrome_of (remainders generator degree n) word) (chosen bit n) (IsRemainder-word word))
 
   -- so a word whose polynomial is divisible has the sum 0
   pub remainders-divisible : (word : List Bool) → IsDivisible generator (field_of word) → syndrome_of (remainders generator degree (length word)) word ≡ 0

@@ -6,7 +6,8 @@ use Rattle.p25_bits.proofs.{BitsLaws.{field_of-nil, field_of-cons, field_of-lt},
 use Rattle.p25_code.specs.Binary.{syndrome_of, check_columns, change_of}
 
 -- two runs, one after the other: their sums add up
-pub syndrome_of-append : (rows columns : List ℕ) (info checks : List Bool) → length info ≡ length rows → syndrome_of (rows ++ columns) (info ++ checks) ≡ bit_xor (syndrome_of rows info) (syndrome_of columns checks)
+pub syndrome_of-append : (rows columns : List ℕ) (info checks : List Bool)
+    → length info ≡ length rows → syndrome_of (rows ++ columns) (info ++ checks) ≡ bit_xor (syndrome_of rows info) (syndrome_of columns checks)
 unfolding syndrome_of
 syndrome_of-append [] columns [] checks long = sym (xor_zero_l (syndrome_of columns checks))
 syndrome_of-append (first ∷ rows) columns (bit ∷ info) checks long =
@@ -46,7 +47,8 @@ differs false true column = sym (xor_zero_l column)
 differs false false column = sym (xor_self 0)
 
 -- the change between two words is the sum of their syndromes
-pub change_of-is : (columns : List ℕ) (old new : List Bool) → length old ≡ length columns → length new ≡ length columns → change_of columns old new ≡ bit_xor (syndrome_of columns old) (syndrome_of columns new)
+pub change_of-is : (columns : List ℕ) (old new : List Bool) → length old ≡ length columns
+    → length new ≡ length columns → change_of columns old new ≡ bit_xor (syndrome_of columns old) (syndrome_of columns new)
 unfolding syndrome_of change_of
 change_of-is [] old new long long' = sym (xor_self 0)
 change_of-is (column ∷ columns) (x ∷ old) (y ∷ new) long long' =

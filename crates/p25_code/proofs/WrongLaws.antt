@@ -281,7 +281,8 @@ undone rows turned single number small =
     ∙ field_of-bits_of (length rows) number
     ∙ mod-eq_of_lt small
 
-pub are_inverse : (rows turned : List ℕ) → length turned ≡ length rows → map (number_sum turned) rows ≡ check_columns (length rows) → map (number_sum rows) turned ≡ check_columns (length rows) → AreInverse rows turned
+pub are_inverse : (rows turned : List ℕ) → length turned ≡ length rows
+    → map (number_sum turned) rows ≡ check_columns (length rows) → map (number_sum rows) turned ≡ check_columns (length rows) → AreInverse rows turned
 are_inverse rows turned long single back = record {
   long = long;
   first = undone rows turned single;

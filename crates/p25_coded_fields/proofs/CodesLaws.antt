@@ -26,7 +26,8 @@ rs_is_code n k code = record {
 }
 
 -- a list that is read costs no more than is allowed
-within_cost : {L : Type 0} (same : L → L → Bool) (IsWord' : List L → Type 0) (most : ℕ) (list : List (Option L)) (answer : Option (List L)) (word : List L) → IsErasedReadAs same IsWord' most list answer → answer ≡ Some word
+within_cost : {L : Type 0} (same : L → L → Bool) (IsWord' : List L → Type 0) (most : ℕ) (list : List (Option L)) (answer : Option (List L)) (word : List L)
+    → IsErasedReadAs same IsWord' most list answer → answer ≡ Some word
     → IsWithinCost same IsWord' most list word
 unfolding IsErasedReadAs
 within_cost same IsWord' most list answer word is read = subst (IsErasedReadAs same IsWord' most list) read is
@@ -38,7 +39,8 @@ pub layout_codes : {IsInnerWord : List Bool → Type 0} {size k radius apart : �
 layout_codes inner inner_reading reads_as places each n information code covers = record {
   inner = λ received sent long is near. read_as_sent inner received sent (inner_reading received) long (reads_as received) is near;
   outer = λ list sent long is near.
-      erased_read_as_sent (rs_is_code n information code) (erasures_within_of n information) list sent (rs_erased_reading_of n information list) (long ∙ covers) (rs_erased_reads_as n information list) is near;
+      erased_read_as_sent (rs_is_code n information code) (erasures_within_of n information) list sent
+      (rs_erased_reading_of n information list) (long ∙ covers) (rs_erased_reads_as n information list) is near;
 }
 
 -- a field was read
@@ -53,12 +55,14 @@ unfolding word_read
 field_beyond layout bare answer word beyond is = field_reading_of-none layout bare (sym is ∙ ap (λ a. word_read a word) beyond)
 
 -- the outer word of a field that was read is a word of the outer code
-pub outer_word_found : (places : List ℕ) (size each n information : ℕ) (inner_reading : List Bool → Option (List Bool)) (received : List Bool) (answer : Reading) (word : List Sym) (fixes : ℕ) → answer ≡ Found fixes
+pub outer_word_found : (places : List ℕ) (size each n information : ℕ)
+    (inner_reading : List Bool → Option (List Bool)) (received : List Bool) (answer : Reading) (word : List Sym) (fixes : ℕ) → answer ≡ Found fixes
     → word_read answer word ≡ outer_word_of (field_layout places size each inner_reading (rs_erased_reading_of n information) information) received → IsWord n information word
 unfolding word_read outer_word_of
 outer_word_found places size each n information inner_reading received answer word fixes found is =
     let list = received_in (field_layout places size each inner_reading (rs_erased_reading_of n information) information) received in
-    (within_cost same_symbols (IsWord n information) (n - information) list (rs_erased_reading_of n information list) word (rs_erased_reads_as n information list) (sym is ∙ ap (λ a. word_read a word) found)).word_of_set
+    (within_cost same_symbols (IsWord n information) (n - information) list
+    (rs_erased_reading_of n information list) word (rs_erased_reads_as n information list) (sym is ∙ ap (λ a. word_read a word) found)).word_of_set
 
 -- the words at places that a test finds before an end are there
 pub all_end : (size end len : ℕ) (places : List ℕ) → list_all (λ at. nat_le (at + size) end) places ≡ true → end ≤ len → All (λ at. at + size ≤ len) places
@@ -89,7 +93,8 @@ module _ (places : List ℕ) (size each n information : ℕ) (inner_reading : Li
 
   -- what a field was read as lies near to it: of all bits that have a field with the information that was read, the outer word is the
   -- one that was read, since it is the only one with this information
-  pub near_from_reading : {IsInnerWord : List Bool → Type 0} (info : List Sym) (sent received : List Bool) → HasField IsInnerWord (IsWord n information) coded info sent → field_reading_of coded received ≡ Some info
+  pub near_from_reading : {IsInnerWord : List Bool → Type 0} (info : List Sym) (sent received : List Bool)
+      → HasField IsInnerWord (IsWord n information) coded info sent → field_reading_of coded received ≡ Some info
       → IsFieldNear (n - information) coded sent received
   near_from_reading info sent received has read =
       let found = word_of_reading received info read in

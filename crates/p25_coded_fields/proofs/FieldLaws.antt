@@ -41,7 +41,8 @@ flat_map_places f xs d =
     let every : length xs ≤ length xs = omega arith in ap (flat_map f) (sym (take_all (length xs) xs every)) ∙ flat_map_by_place f xs d (length xs) every
 
 -- the symbols that a word begins with whose information are their bits
-encoding_symbols : {IsWord : List Bool → Type 0} (k each : ℕ) (symbols : List Sym) (word : List Bool) → 6 * each ≡ k → length symbols ≡ each → k ≤ length word → IsEncoding IsWord k (symbol_bits symbols) word → symbols_in each word ≡ symbols
+encoding_symbols : {IsWord : List Bool → Type 0} (k each : ℕ) (symbols : List Sym) (word : List Bool)
+    → 6 * each ≡ k → length symbols ≡ each → k ≤ length word → IsEncoding IsWord k (symbol_bits symbols) word → symbols_in each word ≡ symbols
 encoding_symbols k each symbols word sixes long fits is =
     let inside : 6 * each ≤ k = omega arith in
     let there : 6 * each ≤ length word = omega arith in

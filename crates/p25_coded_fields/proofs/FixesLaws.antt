@@ -22,7 +22,8 @@ unfolding field_bits
 field_bits-none encoding each symbols = joined_below-zero (λ i. encoding (symbol_bits (part (each * i) each symbols)))
 
 -- one inner word more
-inner_bits-more : (size : ℕ) (places : List ℕ) (i : ℕ) (bits : List Bool) → i < length places → inner_bits size (take (i + 1) places) bits ≡ inner_bits size (take i places) bits ++ part (get_or places i 0) size bits
+inner_bits-more : (size : ℕ) (places : List ℕ) (i : ℕ) (bits : List Bool)
+    → i < length places → inner_bits size (take (i + 1) places) bits ≡ inner_bits size (take i places) bits ++ part (get_or places i 0) size bits
 unfolding inner_bits
 inner_bits-more size places i bits inside =
     let run : ℕ → List Bool = λ at. part at size bits in
@@ -57,7 +58,8 @@ few_places each n some short = let one : 1 ≤ each = omega arith in omega (arit
 
 -- one place more
 module _ {IsWord : List Bool → Type 0} {size k : ℕ} (long : (word : List Bool) → IsWord word → length word ≡ size) where
-  pub counted_more : (each i : ℕ) (places : List ℕ) (beginning xs : List Sym) (bits : List Bool) (count more total : ℕ) → 6 * each ≡ k → i < length places → length places * each ≤ 36 → All (λ at. at + size ≤ length bits) places
+  pub counted_more : (each i : ℕ) (places : List ℕ) (beginning xs : List Sym) (bits : List Bool) (count more total : ℕ)
+      → 6 * each ≡ k → i < length places → length places * each ≤ 36 → All (λ at. at + size ≤ length bits) places
       → length beginning ≡ each * i → length xs ≡ each → AreCounted IsWord size k each i places beginning bits count
       → IsInnerCount IsWord size k (get_or places i 0) xs bits more → (count + more < 2 ^ 32 → total ≡ count + more)
       → AreCounted IsWord size k each (i + 1) places (beginning ++ xs) bits total
@@ -113,7 +115,8 @@ front_more each i symbols =
     ap (λ n. take (each * i) symbols ++ part n each symbols) (sym (zero-add (each * i))) ∙ part_add 0 (each * i) each symbols ∙ ap (λ n. take n symbols) (one_more each i)
 
 -- after the last place
-pub all_groups : (P : ℕ → ℕ → List Sym → Type 0) (each group i n : ℕ) (symbols : List Sym) → each ≡ group → n ≤ i → i ≤ n → n * group ≡ length symbols → P each i (take (each * i) symbols) → P group n symbols
+pub all_groups : (P : ℕ → ℕ → List Sym → Type 0) (each group i n : ℕ) (symbols : List Sym)
+    → each ≡ group → n ≤ i → i ≤ n → n * group ≡ length symbols → P each i (take (each * i) symbols) → P group n symbols
 all_groups P each group i n symbols same past most covers is =
     let here : i ≡ n = omega arith in
     let all : length symbols ≤ group * n = omega (arith, mul_comm group n) in
@@ -122,7 +125,8 @@ all_groups P each group i n symbols same past most covers is =
     subst (λ (xs : List Sym). P group n xs) (take_all (group * n) symbols all) ended
 
 -- all places
-pub counted_all : {IsWord : List Bool → Type 0} {size k : ℕ} (each : ℕ) (places : List ℕ) (symbols : List Sym) (bits : List Bool) (count : ℕ) → AreCounted IsWord size k each (length places) places symbols bits count → 0 < each
+pub counted_all : {IsWord : List Bool → Type 0} {size k : ℕ} (each : ℕ) (places : List ℕ) (symbols : List Sym) (bits : List Bool) (count : ℕ)
+    → AreCounted IsWord size k each (length places) places symbols bits count → 0 < each
     → (encoding : List Bool → List Bool) → Encodes IsWord k encoding → count ≡ field_fixes_of encoding size each places symbols bits
 unfolding field_fixes_of
 counted_all {IsWord} {size} {k} each places symbols bits count is some encoding encodes =

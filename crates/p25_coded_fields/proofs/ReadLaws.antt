@@ -75,22 +75,26 @@ inner_found size k each value reading symbols erased sixes fits some made none =
 -- no inner word was read
 pub inner_beyond : (each : ℕ) (reading : Option (List Bool)) (symbols : List Sym) (erased : List Bool) → length symbols ≡ each → None ≡ reading → erased ≡ replicate each true
     → without_erased symbols erased ≡ symbols_or_erasures each reading
-inner_beyond each reading symbols erased long none gone = ap (without_erased symbols) gone ∙ without_erased-list symbols each long ∙ sym (symbols_or_erasures-none each) ∙ ap (symbols_or_erasures each) none
+inner_beyond each reading symbols erased long none gone =
+    ap (without_erased symbols) gone ∙ without_erased-list symbols each long ∙ sym (symbols_or_erasures-none each) ∙ ap (symbols_or_erasures each) none
 
 -- a word that is read is one of the set
-pub read_word_of_set : {L : Type 0} (same : L → L → Bool) (IsWord : List L → Type 0) (radius : ℕ) (received word : List L) (answer : Option (List L)) → IsReadAs same IsWord radius received answer → answer ≡ Some word → IsWord word
+pub read_word_of_set : {L : Type 0} (same : L → L → Bool) (IsWord : List L → Type 0) (radius : ℕ) (received word : List L) (answer : Option (List L))
+    → IsReadAs same IsWord radius received answer → answer ≡ Some word → IsWord word
 unfolding IsReadAs
 read_word_of_set same IsWord radius received word answer is some = (subst (IsReadAs same IsWord radius received) some is).word_of_set
 
 -- the wrong bits of an inner word: those that differ from the one word with its information
-pub wrong_bits : {IsWord : List Bool → Type 0} (size k : ℕ) → ((v w : List Bool) → IsWord v → IsWord w → take k v ≡ take k w → v ≡ w) → (received value : ℕ) (info bits sent : List Bool) → IsEncoding IsWord k info (bits_of size value)
+pub wrong_bits : {IsWord : List Bool → Type 0} (size k : ℕ) → ((v w : List Bool) → IsWord v → IsWord w → take k v ≡ take k w → v ≡ w)
+    → (received value : ℕ) (info bits sent : List Bool) → IsEncoding IsWord k info (bits_of size value)
     → IsEncoding IsWord k info sent → bits_of size received ≡ bits → received < 2 ^ size → value < 2 ^ size → count_ones (bit_xor received value) ≡ distance_of bits sent
 wrong_bits size k one_word received value info bits sent made is taken small_received small =
     let same : bits_of size value ≡ sent = one_word (bits_of size value) sent made.word_of_set is.word_of_set (made.begins ∙ sym is.begins) in
     sym (distance_of-bits_of size received value small_received small) ∙ ap₂ (λ (xs ys : List Bool). distance_of xs ys) taken same
 
 -- a word that was read has the information that its symbols write
-pub read_encoding : {IsWord : List Bool → Type 0} (size k each value : ℕ) (symbols : List Sym) → 6 * each ≡ k → k ≤ size → IsWord (bits_of size value) → symbols ≡ symbols_in each (bits_of (6 * each) (value / 2 ^ (size - k)))
+pub read_encoding : {IsWord : List Bool → Type 0} (size k each value : ℕ) (symbols : List Sym)
+    → 6 * each ≡ k → k ≤ size → IsWord (bits_of size value) → symbols ≡ symbols_in each (bits_of (6 * each) (value / 2 ^ (size - k)))
     → IsEncoding IsWord k (symbol_bits symbols) (bits_of size value)
 read_encoding size k each value symbols sixes fits is_word made =
     let info = bits_of (6 * each) (value / 2 ^ (size - k)) in

@@ -42,9 +42,11 @@ pub field_reading_of-none : (layout : Layout) (bits : List Bool) → outer_word_
 unfolding field_reading_of
 field_reading_of-none layout bits is = ap (option_map (take layout.information)) is
 
-module _ {IsInnerWord : List Bool → Type 0} {inner_radius : ℕ} {IsOuterWord : List Sym → Type 0} {checks : ℕ} {layout : Layout} (codes : HasCodes IsInnerWord inner_radius IsOuterWord checks layout) where
+module _ {IsInnerWord : List Bool → Type 0} {inner_radius : ℕ}
+    {IsOuterWord : List Sym → Type 0} {checks : ℕ} {layout : Layout} (codes : HasCodes IsInnerWord inner_radius IsOuterWord checks layout) where
   -- a field is read as it was sent
-  pub field_within : (info : List Sym) (sent received : List Bool) → HasField IsInnerWord IsOuterWord layout info sent → IsFieldNear checks layout sent received → field_reading_of layout received ≡ Some info
+  pub field_within : (info : List Sym) (sent received : List Bool)
+      → HasField IsInnerWord IsOuterWord layout info sent → IsFieldNear checks layout sent received → field_reading_of layout received ≡ Some info
   unfolding outer_word_of
   field_within info sent received has is =
       field_reading_of-some layout received (sent_in layout sent) (codes.outer (received_in layout received) (sent_in layout sent) (length-received_in layout received) has.outer is.near)
@@ -97,7 +99,8 @@ lost_symbols-itself radius layout bits = none layout.places
     near : (at : ℕ) → lost at ≡ 0
     near at =
         let within : distance_of (part at layout.size bits) (part at layout.size bits) ≤ radius = omega (arith, distance_of-same (part at layout.size bits)) in
-        cond-true {A = ℕ} (nat_le (distance_of (part at layout.size bits) (part at layout.size bits)) radius) 0 layout.each (le-leb (distance_of (part at layout.size bits) (part at layout.size bits)) radius within)
+        cond-true {A = ℕ} (nat_le (distance_of (part at layout.size bits) (part at layout.size bits)) radius) 0 layout.each
+        (le-leb (distance_of (part at layout.size bits) (part at layout.size bits)) radius within)
 
     none : (places : List ℕ) → sum_by lost places ≡ 0
     none [] = refl
@@ -108,10 +111,12 @@ erased_cost-itself : (word : List Sym) → erased_cost same_symbols (map Some wo
 erased_cost-itself word =
     erased_cost-letters same_symbols word word ∙ omega (arith, distance_by-same same_symbols (λ x. eq-eqb (number x) (number x) refl) word)
 
-module _ {IsInnerWord : List Bool → Type 0} {inner_radius : ℕ} {IsOuterWord : List Sym → Type 0} {checks : ℕ} {layout : Layout} (codes : HasCodes IsInnerWord inner_radius IsOuterWord checks layout) where
+module _ {IsInnerWord : List Bool → Type 0} {inner_radius : ℕ}
+    {IsOuterWord : List Sym → Type 0} {checks : ℕ} {layout : Layout} (codes : HasCodes IsInnerWord inner_radius IsOuterWord checks layout) where
   -- an inner word within the radius costs nothing, and any other two for each symbol at most
   piece_cost : (sent received : List Bool) → length received ≡ layout.size → IsInnerWord sent
-      → erased_cost same_symbols (symbols_or_erasures layout.each (layout.inner_reading received)) (symbols_in layout.each sent) ≤ 2 * cond (nat_le (distance_of received sent) inner_radius) 0 layout.each
+      → erased_cost same_symbols (symbols_or_erasures layout.each (layout.inner_reading received)) (symbols_in layout.each sent)
+      ≤ 2 * cond (nat_le (distance_of received sent) inner_radius) 0 layout.each
   piece_cost sent received long is =
       elim (cases_lt inner_radius (distance_of received sent)) [
         | inl far ↦
@@ -130,14 +135,16 @@ module _ {IsInnerWord : List Bool → Type 0} {inner_radius : ℕ} {IsOuterWord 
 
   -- so do the words at places
   pieces_cost : (sent received : List Bool) (places : List ℕ) → All (λ at. IsInnerWord (part at layout.size sent)) places → All (λ at. at + layout.size ≤ length received) places
-      → erased_cost same_symbols (flat_map (λ at. symbols_or_erasures layout.each (layout.inner_reading (part at layout.size received))) places) (flat_map (λ at. symbols_in layout.each (part at layout.size sent)) places)
+      → erased_cost same_symbols (flat_map (λ at. symbols_or_erasures layout.each (layout.inner_reading (part at layout.size received))) places)
+      (flat_map (λ at. symbols_in layout.each (part at layout.size sent)) places)
       ≤ 2 * sum_by (λ at. cond (nat_le (distance_of (part at layout.size received) (part at layout.size sent)) inner_radius) 0 layout.each) places
   pieces_cost sent received [] words there = omega (arith, erased_cost-itself [])
   pieces_cost sent received (at ∷ places) words there =
       let list = symbols_or_erasures layout.each (layout.inner_reading (part at layout.size received)) in
       let word = symbols_in layout.each (part at layout.size sent) in
       let lost : ℕ → ℕ = λ at. cond (nat_le (distance_of (part at layout.size received) (part at layout.size sent)) inner_radius) 0 layout.each in
-      let even : length list ≡ length word = length-symbols_or_erasures layout.each (layout.inner_reading (part at layout.size received)) ∙ sym (length-symbols_in layout.each (part at layout.size sent)) in
+      let even : length list ≡ length word = length-symbols_or_erasures layout.each (layout.inner_reading (part at layout.size received))
+      ∙ sym (length-symbols_in layout.each (part at layout.size sent)) in
       let here : at + layout.size ≤ length received = there 0 at (omega arith) in
       let first = piece_cost (part at layout.size sent) (part at layout.size received) (length-part at layout.size received here) (words 0 at (omega arith)) in
       let others = pieces_cost sent received places (λ k d h. words (suc k) d (omega arith)) (λ k d h. there (suc k) d (omega arith)) in
@@ -157,5 +164,6 @@ module _ {IsInnerWord : List Bool → Type 0} {inner_radius : ℕ} {IsOuterWord 
   near_from_lost info sent received has there few = record { near = omega (arith, pieces_cost sent received layout.places has.inner there, few) }
 
   -- what was received without damage costs nothing
-  pub near_itself : (info : List Sym) (sent : List Bool) → HasField IsInnerWord IsOuterWord layout info sent → All (λ at. at + layout.size ≤ length sent) layout.places → IsFieldNear checks layout sent sent
+  pub near_itself : (info : List Sym) (sent : List Bool) → HasField IsInnerWord IsOuterWord layout info sent
+      → All (λ at. at + layout.size ≤ length sent) layout.places → IsFieldNear checks layout sent sent
   near_itself info sent has there = near_from_lost info sent sent has there (omega (arith, lost_symbols-itself inner_radius layout sent))

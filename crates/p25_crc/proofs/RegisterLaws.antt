@@ -21,7 +21,8 @@ octet_bits-more : (octets : List ℕ) (i : ℕ) → i < length octets → octet_
 octet_bits-more octets i h =
     ap octet_bits (take_more octets i 0 h)
     ∙ octet_bits-append (take i octets) (get_or octets i 0 ∷ [])
-    ∙ ap (λ bits. octet_bits (take i octets) ++ bits) (octet_bits-cons (get_or octets i 0) [] ∙ ap (λ bits. bits_of 8 (get_or octets i 0) ++ bits) octet_bits-nil ∙ append-nil (bits_of 8 (get_or octets i 0)))
+    ∙ ap (λ bits. octet_bits (take i octets) ++ bits) (octet_bits-cons (get_or octets i 0) []
+    ∙ ap (λ bits. bits_of 8 (get_or octets i 0) ++ bits) octet_bits-nil ∙ append-nil (bits_of 8 (get_or octets i 0)))
 
 -- the number of bits and octets, with one more octet
 pub octets_more : (before : List Bool) (octets : List ℕ) (i : ℕ) → i < length octets → get_or octets i 0 < 2 ^ 8

@@ -74,7 +74,8 @@ module _ (divisor : ℕ) (tables : List (List ℕ)) (are : AreRemainders divisor
 
   -- the remainder of a word of four octets is the sum of theirs
   word_remainder : (word : ℕ) → word < 2 ^ 32
-      → IsRemainder divisor 32 (word * 2 ^ 32) (bit_xor (entry tables 3 (word / 2 ^ 24)) (bit_xor (entry tables 2 (word / 2 ^ 16 % 2 ^ 8)) (bit_xor (entry tables 1 (word / 2 ^ 8 % 2 ^ 8)) (entry tables 0 (word % 2 ^ 8)))))
+      → IsRemainder divisor 32 (word * 2 ^ 32) (bit_xor (entry tables 3 (word / 2 ^ 24))
+      (bit_xor (entry tables 2 (word / 2 ^ 16 % 2 ^ 8)) (bit_xor (entry tables 1 (word / 2 ^ 8 % 2 ^ 8)) (entry tables 0 (word % 2 ^ 8)))))
   word_remainder word fits =
       let a = word / 2 ^ 24 in
       let b = word / 2 ^ 16 % 2 ^ 8 in

@@ -65,7 +65,10 @@ holds-all message (suc n) serial h =
     let split : map good_slot (each_below (suc n) (message_block message)) ≡ map good_slot (each_below n (message_block message)) ++ good_slot (message_block message n) ∷ []
     = ap (λ (xs : List BlockParts). map good_slot xs) (each_below-suc n (message_block message)) ∙ map-append good_slot (each_below n (message_block message)) (message_block message n ∷ []) in
     let here : HoldsSerial serial (map good_slot (each_below n (message_block message))) ⊎ HoldsSerial serial (good_slot (message_block message n) ∷ [])
-    = elim (cases_lt serial n) [ inl less ↦ inl (holds-all message n serial less) | inr same ↦ inr (subst (λ (k : ℕ). HoldsSerial k (good_slot (message_block message n) ∷ [])) (omega (arith, same)) (holds-one message n)) ] in
+    = elim (cases_lt serial n) [
+      | inl less ↦ inl (holds-all message n serial less)
+      | inr same ↦ inr (subst (λ (k : ℕ). HoldsSerial k (good_slot (message_block message n) ∷ [])) (omega (arith, same)) (holds-one message n))
+    ] in
     subst (HoldsSerial serial) (sym split) (holds-append serial (map good_slot (each_below n (message_block message))) (good_slot (message_block message n) ∷ []) here)
 
 whole-message : (message : List ℕ) → CarriesMessage message (map good_slot (message_blocks message))
@@ -82,7 +85,9 @@ unfolding completed finished unpadded_option
 completed-read_back r number kept None message e = cc
 completed-read_back r number kept (Some octets) message e = ap (finished r number) e
 
-read : (message : List ℕ) → unpadded_option (all_octets (put_slots (empty_places (block_count (length message)) (pad_count (length message))).places (map good_slot (message_blocks message)))) (pad_count (length message)) ≡ Some message
+read : (message : List ℕ) → unpadded_option
+    (all_octets (put_slots (empty_places (block_count (length message)) (pad_count (length message))).places (map good_slot (message_blocks message))))
+    (pad_count (length message)) ≡ Some message
 unfolding read_back
 read message = slots-read_back message (map good_slot (message_blocks message)) (whole-message message)
 
@@ -102,8 +107,10 @@ whole-heard r number message small sync none short =
     let begins : keeping_for r.kept packet.head ≡ Some (empty_places blocks pad)
     = ap (λ (kept : Option Keeping). keeping_for kept packet.head) none ∙ cond-true _ _ _ full ∙ cond-false _ _ _ some ∙ ap₂ (λ (m n : ℕ). Some (empty_places m n)) count c.pad in
     data-is_heard r number message packet c ∙ cond-false _ _ _ other ∙ cond-true _ _ _ next ∙ ap (filled r packet) begins ∙
-    ap (λ (n : ℕ). completed r n (record { places = put_slots (empty_places blocks pad).places packet.slots; pad = pad }) (all_octets (put_slots (empty_places blocks pad).places packet.slots))) c.number_is ∙
-    completed-read_back r number (record { places = put_slots (empty_places blocks pad).places packet.slots; pad = pad }) (all_octets (put_slots (empty_places blocks pad).places packet.slots)) message (read message)
+    ap (λ (n : ℕ). completed r n (record { places = put_slots (empty_places blocks pad).places packet.slots; pad = pad })
+    (all_octets (put_slots (empty_places blocks pad).places packet.slots))) c.number_is ∙
+    completed-read_back r number (record { places = put_slots (empty_places blocks pad).places packet.slots; pad = pad })
+    (all_octets (put_slots (empty_places blocks pad).places packet.slots)) message (read message)
 
 -- a quiet delivery delivers, and a sender that is down opens
 
@@ -122,7 +129,8 @@ delivers-quiet last b s w message q short =
       acknowledged = ack-acknowledges (record { next = sender.next; outstanding = Message message; tries = 1; down = false }) message refl refl (omega (arith, q.next));
     }
 
-pub delivers-delivering : (b : ℕ) (s : Session) (w : Delivery) (message : List ℕ) → IsDelivering b s w → w.outbound.sender.outstanding ≡ Nothing → length message ≤ 2028 → DeliversAtOnce w.outbound.sender w.inbound.receiver message
+pub delivers-delivering : (b : ℕ) (s : Session) (w : Delivery) (message : List ℕ)
+    → IsDelivering b s w → w.outbound.sender.outstanding ≡ Nothing → length message ≤ 2028 → DeliversAtOnce w.outbound.sender w.inbound.receiver message
 delivers-delivering b s w message (quiet last q) o short = delivers-quiet last b s w message q short
 delivers-delivering b s w message (busy number other h) o short = let both : Message other ≡ Nothing = sym h.outstanding ∙ o in cc
 delivers-delivering b s w message (opening number h) o short = let both : Opening number ≡ Nothing = sym h.outstanding ∙ o in cc

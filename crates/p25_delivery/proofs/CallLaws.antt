@@ -26,7 +26,8 @@ delivery_of_data w t packet = record w { outbound = record w.outbound { sender =
 
 -- a phase with another sender that has the same number and the same outstanding
 
-pub busy-sender : (number : ℕ) (message : List ℕ) (b : ℕ) (s : Session) (w : Delivery) (t : Sending) → IsBusy number message b s w → IsSame w.outbound.sender t → IsBusy number message b s (delivery_of_sender w t)
+pub busy-sender : (number : ℕ) (message : List ℕ) (b : ℕ) (s : Session) (w : Delivery) (t : Sending)
+    → IsBusy number message b s w → IsSame w.outbound.sender t → IsBusy number message b s (delivery_of_sender w t)
 busy-sender number message b s w t h e = record {
   next = e.next ∙ h.next;
   outstanding = e.outstanding ∙ h.outstanding;
@@ -37,7 +38,8 @@ busy-sender number message b s w t h e = record {
   place = h.place;
 }
 
-pub busy-data : (number : ℕ) (message : List ℕ) (b : ℕ) (s : Session) (w : Delivery) (t : Sending) (packet : Packet) → IsBusy number message b s w → IsSame w.outbound.sender t → IsDataOf number message packet →
+pub busy-data : (number : ℕ) (message : List ℕ) (b : ℕ) (s : Session) (w : Delivery) (t : Sending) (packet : Packet)
+    → IsBusy number message b s w → IsSame w.outbound.sender t → IsDataOf number message packet →
     IsBusy number message b s (delivery_of_data w t packet)
 busy-data number message b s w t packet h e d = record {
   next = e.next ∙ h.next;
@@ -61,7 +63,8 @@ opening-sender number b s w t h e = record {
   base_is = h.base_is;
 }
 
-opening-data : (number b : ℕ) (s : Session) (w : Delivery) (t : Sending) (packet : Packet) → IsOpening number b s w → t.outstanding ≡ Opening number → packet ≡ opening_packet number → IsOpening number b s (delivery_of_data w t packet)
+opening-data : (number b : ℕ) (s : Session) (w : Delivery) (t : Sending) (packet : Packet)
+    → IsOpening number b s w → t.outstanding ≡ Opening number → packet ≡ opening_packet number → IsOpening number b s (delivery_of_data w t packet)
 opening-data number b s w t packet h e d = record {
   outstanding = e;
   small = h.small;
@@ -109,7 +112,8 @@ unfolding with_outbound after_offer newest_after
 offer-held P w message (inl e) p = subst (λ (x : Sending × Offer). P (with_outbound w (after_offer w.outbound message x)).0) (sym e) p
 offer-held P w message (inr e) p = subst (λ (x : Sending × Offer). P (with_outbound w (after_offer w.outbound message x)).0) (sym e) p
 
-pub offer-phase : (w : Delivery) (message : List ℕ) → IsMarked w → IsDeliveringNow w → length message ≤ 2028 → IsDeliveringNow (with_outbound w (after_offer w.outbound message (offered w.outbound.sender message))).0
+pub offer-phase : (w : Delivery) (message : List ℕ) → IsMarked w
+    → IsDeliveringNow w → length message ≤ 2028 → IsDeliveringNow (with_outbound w (after_offer w.outbound message (offered w.outbound.sender message))).0
 unfolding AfterOffer with_outbound after_offer newest_after
 offer-phase w message m (quiet last q) short =
     let sender : Sending = record { next = w.outbound.sender.next; outstanding = Message message; tries = 1; down = false } in
@@ -124,13 +128,15 @@ offer-phase w message m (opening number h) short = offer-held IsDeliveringNow w 
 AfterTimeout : Delivery → Sending × Resend → Type 0
 AfterTimeout w x = IsDeliveringNow (with_outbound w (after_timeout w.outbound x)).0
 
-busy-resent : (number : ℕ) (message : List ℕ) (w : Delivery) (x : Sending × Resend) → IsBusy number message (first_number w) (present_session w) w → Resends (IsDataOf number message) w.outbound.sender x → AfterTimeout w x
+busy-resent : (number : ℕ) (message : List ℕ) (w : Delivery) (x : Sending × Resend)
+    → IsBusy number message (first_number w) (present_session w) w → Resends (IsDataOf number message) w.outbound.sender x → AfterTimeout w x
 unfolding AfterTimeout with_outbound after_timeout newest_after
 busy-resent number message w (t, Sent n tries packet) h r = busy number message (busy-data number message (first_number w) (present_session w) w t packet h r.0 r.1)
 busy-resent number message w (t, Idle) h r = busy number message (busy-sender number message (first_number w) (present_session w) w t h r.0)
 busy-resent number message w (t, ResendDown) h r = busy number message (busy-sender number message (first_number w) (present_session w) w t h r.0)
 
-opening-resent : (number : ℕ) (w : Delivery) (x : Sending × Resend) → IsOpening number (first_number w) (present_session w) w → Resends (λ packet. packet ≡ opening_packet number) w.outbound.sender x → AfterTimeout w x
+opening-resent : (number : ℕ) (w : Delivery) (x : Sending × Resend)
+    → IsOpening number (first_number w) (present_session w) w → Resends (λ packet. packet ≡ opening_packet number) w.outbound.sender x → AfterTimeout w x
 unfolding AfterTimeout with_outbound after_timeout newest_after
 opening-resent number w (t, Sent n tries packet) h r = opening number (opening-data number (first_number w) (present_session w) w t packet h (r.0.outstanding ∙ h.outstanding) r.1)
 opening-resent number w (t, Idle) h r = opening number (opening-sender number (first_number w) (present_session w) w t h (r.0.outstanding ∙ h.outstanding))
@@ -140,7 +146,8 @@ pub timeout-phase : (w : Delivery) → IsDeliveringNow w → IsDeliveringNow (wi
 unfolding AfterTimeout with_outbound after_timeout newest_after
 timeout-phase w (quiet last q) = subst (AfterTimeout w) (sym (timeout-quiet w.outbound.sender q.up q.outstanding)) (quiet last q)
 timeout-phase w (busy number message h) =
-    busy-resent number message w (timed_out w.outbound.sender) h (subst (λ (n : ℕ). Resends (IsDataOf n message) w.outbound.sender (timed_out w.outbound.sender)) h.next (timeout-message w.outbound.sender message h.outstanding))
+    busy-resent number message w (timed_out w.outbound.sender) h (subst (λ (n : ℕ).
+    Resends (IsDataOf n message) w.outbound.sender (timed_out w.outbound.sender)) h.next (timeout-message w.outbound.sender message h.outstanding))
 timeout-phase w (opening number h) = opening-resent number w (timed_out w.outbound.sender) h (timeout-opening w.outbound.sender number h.outstanding)
 
 -- the session is opened again
@@ -154,7 +161,8 @@ record IsGivenUp (number : ℕ) (r : Receiving) (answered : Option Packet) : Typ
   pub place : (r.last ≡ (number + 3) % 8) ⊎ (r.last ≡ (number + 4) % 8)
   pub answer : IfSome answered (IsOpeningAnswer r.last number)
 
-given-up-place : (number : ℕ) (message : List ℕ) (s : Session) (r : Receiving) (answered : Option Packet) → number < 8 → IsWaiting number message s r answered ⊎ IsArrived number message s r answered → IsGivenUp ((number + 4) % 8) r answered
+given-up-place : (number : ℕ) (message : List ℕ) (s : Session) (r : Receiving) (answered : Option Packet)
+    → number < 8 → IsWaiting number message s r answered ⊎ IsArrived number message s r answered → IsGivenUp ((number + 4) % 8) r answered
 given-up-place number message s r answered small (inl h) = record {
   last_small = h.last_small;
   place = inl (omega (arith, h.sync, h.last_small, small));
@@ -196,7 +204,8 @@ opening_number-opening : (out : Outstanding) (number next : ℕ) → out ≡ Ope
 unfolding opening_number
 opening_number-opening out number next o = ap (λ (x : Outstanding). opening_number x next) o
 
-pub reopen-phase : (w : Delivery) → IsMarked w → IsDeliveringNow w → IsDeliveringNow (with_outbound w (after_reopening w.outbound (length w.inbound.received) (is_opening w.outbound.sender.outstanding) (reopened w.outbound.sender))).0
+pub reopen-phase : (w : Delivery) → IsMarked w → IsDeliveringNow w → IsDeliveringNow
+    (with_outbound w (after_reopening w.outbound (length w.inbound.received) (is_opening w.outbound.sender.outstanding) (reopened w.outbound.sender))).0
 unfolding AfterReopening with_outbound after_reopening newest_after
 reopen-phase w m (quiet last q) =
     subst (λ (out : Outstanding). AfterReopening w (is_opening out) (reopened w.outbound.sender)) (sym q.outstanding)

@@ -19,7 +19,8 @@ unfolding octets_number number_after
 octets_number-four_octets n = omega arith
 
 -- octets with their packet CRC after them
-pub unpadded-is : (beginning check : List ℕ) (pad : ℕ) → length check ≡ 4 → octets_number check ≡ crc32_of beginning → pad ≤ length beginning → unpadded (beginning ++ check) pad ≡ Some (take (length beginning - pad) beginning)
+pub unpadded-is : (beginning check : List ℕ) (pad : ℕ) → length check ≡ 4
+    → octets_number check ≡ crc32_of beginning → pad ≤ length beginning → unpadded (beginning ++ check) pad ≡ Some (take (length beginning - pad) beginning)
 unfolding unpadded
 unpadded-is beginning check pad four agrees small =
     let count : length (beginning ++ check) - 4 ≡ length beginning = omega (arith, length-append beginning check) in
@@ -29,7 +30,8 @@ unpadded-is beginning check pad four agrees small =
     let right : eqb (octets_number (drop (length (beginning ++ check) - 4) (beginning ++ check))) (crc32_of (take (length (beginning ++ check) - 4) (beginning ++ check))) ≡ true
     = eq-eqb _ _ (ap octets_number check_is ∙ agrees ∙ ap crc32_of (sym front_is)) in
     let short : length (beginning ++ check) - 4 - pad ≡ length beginning - pad = omega arith in
-    cond-true _ _ _ (and_from _ _ fits right) ∙ ap (λ (n : ℕ). Some (take n (beginning ++ check))) short ∙ ap (λ (xs : List ℕ). Some xs) (take-append-le (length beginning - pad) beginning check (omega arith))
+    cond-true _ _ _ (and_from _ _ fits right) ∙ ap (λ (n : ℕ). Some (take n (beginning ++ check))) short
+    ∙ ap (λ (xs : List ℕ). Some xs) (take-append-le (length beginning - pad) beginning check (omega arith))
 
 -- the octets of a message's blocks
 pub message-read_back : (message : List ℕ) → unpadded (message_octets message) (pad_count (length message)) ≡ Some message
@@ -47,7 +49,8 @@ pub put_block-here : (places : List (Option BlockParts)) (block : BlockParts) (j
 unfolding put_block
 put_block-here places block j h e =
     let there : nat_lt block.serial (length places) ≡ true = lt-ltb block.serial (length places) (omega arith) in
-    ap (λ (ps : List (Option BlockParts)). get_or ps j None) (cond-true (nat_lt block.serial (length places)) (set places block.serial (Some block)) places there) ∙ ap (λ (k : ℕ). get_or (set places k (Some block)) j None) e ∙
+    ap (λ (ps : List (Option BlockParts)). get_or ps j None) (cond-true (nat_lt block.serial (length places))
+    (set places block.serial (Some block)) places there) ∙ ap (λ (k : ℕ). get_or (set places k (Some block)) j None) e ∙
     get_or-set_same places j (Some block) None h
 
 pub put_block-other : (places : List (Option BlockParts)) (block : BlockParts) (j : ℕ) → (block.serial ≡ j → ⊥) → get_or (put_block places block) j None ≡ get_or places j None
@@ -59,7 +62,8 @@ put_block-other places block j n =
     ]
 
 -- a block that is held stays
-pub put_slots-stays : (message : List ℕ) (slots : List Slot) (places : List (Option BlockParts)) (j : ℕ) → AreBlocksOf message slots → j < length places → get_or places j None ≡ Some (message_block message j) →
+pub put_slots-stays : (message : List ℕ) (slots : List Slot) (places : List (Option BlockParts)) (j : ℕ)
+    → AreBlocksOf message slots → j < length places → get_or places j None ≡ Some (message_block message j) →
     get_or (put_slots places slots) j None ≡ Some (message_block message j)
 unfolding AreBlocksOf put_slots
 put_slots-stays message [] places j are h held = held
@@ -79,7 +83,8 @@ unfolding AreBlocksOf HoldsSerial put_slots
 put_slots-comes message [] places j are h holds = absurd holds
 put_slots-comes message (Bad ∷ slots) places j are h holds = put_slots-comes message slots places j are h holds
 put_slots-comes message (Good block ∷ slots) places j are h (inl e) =
-    put_slots-stays message slots (put_block places block) j are.1 (omega (arith, length-put_block places block)) (put_block-here places block j h e ∙ ap (λ (b : BlockParts). Some b) are.0 ∙ ap (λ (k : ℕ). Some (message_block message k)) e)
+    put_slots-stays message slots (put_block places block) j are.1 (omega (arith, length-put_block places block))
+    (put_block-here places block j h e ∙ ap (λ (b : BlockParts). Some b) are.0 ∙ ap (λ (k : ℕ). Some (message_block message k)) e)
 put_slots-comes message (Good block ∷ slots) places j are h (inr later) =
     put_slots-comes message slots (put_block places block) j are.1 (omega (arith, length-put_block places block)) later
 
@@ -100,17 +105,20 @@ unfolding message_block
 joined-message_blocks message =
     let n = block_count (length message) in
     let octets = message_octets message in
-    joined_below-same n (λ (j : ℕ). part (16 * j) 16 octets) (λ (j : ℕ). part (0 + 16 * j) 16 octets) (λ (j : ℕ) (h : j < n). ap (λ (at : ℕ). part at 16 octets) (sym (zero-add (16 * j)))) ∙ joined_below-parts 0 16 n octets ∙
+    joined_below-same n (λ (j : ℕ). part (16 * j) 16 octets) (λ (j : ℕ). part (0 + 16 * j) 16 octets)
+    (λ (j : ℕ) (h : j < n). ap (λ (at : ℕ). part at 16 octets) (sym (zero-add (16 * j)))) ∙ joined_below-parts 0 16 n octets ∙
     part_whole (16 * n) octets (length-message_octets message)
 
 -- places of a message that are all held
-pub places-of_message : (message : List ℕ) (places : List (Option BlockParts)) → length places ≡ block_count (length message) → ((j : ℕ) → j < block_count (length message) → get_or places j None ≡ Some (message_block message j)) →
+pub places-of_message : (message : List ℕ) (places : List (Option BlockParts))
+    → length places ≡ block_count (length message) → ((j : ℕ) → j < block_count (length message) → get_or places j None ≡ Some (message_block message j)) →
     all_octets places ≡ Some (message_octets message)
 places-of_message message places long held =
     let n = block_count (length message) in
     let each : ℕ → Option BlockParts = λ (j : ℕ). Some (message_block message j) in
     let same : places ≡ each_below n each
-    = ext_get_or None places (each_below n each) (long ∙ sym (length-each_below n each)) (λ (j : ℕ) (h : j < length places). held j (omega arith) ∙ sym (get_or-each_below n each j None (omega arith))) in
+    = ext_get_or None places (each_below n each) (long ∙ sym (length-each_below n each))
+    (λ (j : ℕ) (h : j < length places). held j (omega arith) ∙ sym (get_or-each_below n each j None (omega arith))) in
     ap all_octets same ∙ all_octets-each n (message_block message) ∙ ap (λ (xs : List ℕ). Some xs) (joined-message_blocks message)
 
 pub slots-read_back : (message : List ℕ) (slots : List Slot) → CarriesMessage message slots → read_back (block_count (length message)) (pad_count (length message)) slots ≡ Some message

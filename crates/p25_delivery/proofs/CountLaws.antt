@@ -120,12 +120,14 @@ stays-counts w message (s, SenderIgnored) t h = counts-at w s.outstanding t.0.ou
 stays-counts w message (s, HeardDown) t h = counts-at w s.outstanding t.0.outstanding h
 stays-counts w message x t h = absurd t.1
 
-message-counts : (w : Delivery) (message : List ℕ) (packet : Packet) (x : Sending × SenderHeard) → w.outbound.sender.outstanding ≡ Message message → IsMarked w → HearsAnswer w.outbound.sender message packet x → HasCounts w → AfterAnswer w x
+message-counts : (w : Delivery) (message : List ℕ) (packet : Packet) (x : Sending × SenderHeard)
+    → w.outbound.sender.outstanding ≡ Message message → IsMarked w → HearsAnswer w.outbound.sender message packet x → HasCounts w → AfterAnswer w x
 unfolding AfterAnswer with_outbound after_answer CountsBy
 message-counts w message packet x o m (goes_on a e) h = subst (AfterAnswer w) (sym e) (subst (CountsIn Nothing) (sym (present-acknowledged w m)) (counts-at w (Message message) (sym o) h))
 message-counts w message packet x o m (stays t) h = stays-counts w message x t h
 
-opening-counts : (w : Delivery) (number : ℕ) (packet : Packet) (x : Sending × SenderHeard) → w.outbound.sender.outstanding ≡ Opening number → HearsOpening w.outbound.sender number packet x → HasCounts w → AfterAnswer w x
+opening-counts : (w : Delivery) (number : ℕ) (packet : Packet) (x : Sending × SenderHeard)
+    → w.outbound.sender.outstanding ≡ Opening number → HearsOpening w.outbound.sender number packet x → HasCounts w → AfterAnswer w x
 unfolding AfterAnswer with_outbound after_answer CountsBy
 opening-counts w number packet x o (opens a e) h = subst (AfterAnswer w) (sym e) (counts-at w (Opening number) (sym o) h)
 opening-counts w number packet x o (waits e) h = subst (AfterAnswer w) (sym e) h

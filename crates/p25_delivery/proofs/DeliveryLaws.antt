@@ -45,7 +45,8 @@ quiet-heard last b s w r q l k = record {
 }
 
 -- a message that is outstanding has come to another place
-busy-place : (number : ℕ) (message : List ℕ) (b : ℕ) (s t : Session) (w v : Delivery) → v.outbound.sender ≡ w.outbound.sender → v.packet_sent ≡ w.packet_sent → t.acknowledged ≡ s.acknowledged → IsBusy number message b s w →
+busy-place : (number : ℕ) (message : List ℕ) (b : ℕ) (s t : Session) (w v : Delivery)
+    → v.outbound.sender ≡ w.outbound.sender → v.packet_sent ≡ w.packet_sent → t.acknowledged ≡ s.acknowledged → IsBusy number message b s w →
     IsWaiting number message t v.inbound.receiver v.answer ⊎ IsArrived number message t v.inbound.receiver v.answer → IsBusy number message b t v
 busy-place number message b s t w v sender packet a h place = record {
   next = ap (λ (x : Sending). x.next) sender ∙ h.next;
@@ -67,8 +68,17 @@ waiting-delivered : (number : ℕ) (message : List ℕ) (s : Session) (r : Recei
 waiting-delivered number message s r answered h = record { last_is = refl; kept = refl; answer = refl; earlier = s.delivered; sent = h.sent; delivered = sym h.sent; acknowledged = h.acknowledged }
 
 -- or it had come before
-arrived-again : (number : ℕ) (message : List ℕ) (s : Session) (r : Receiving) (answered : Option Packet) → IsArrived number message s r answered → IsArrived number message s r (Some (ack_packet r.last))
-arrived-again number message s r answered h = record { last_is = h.last_is; kept = h.kept; answer = ap ack_packet h.last_is; earlier = h.earlier; sent = h.sent; delivered = h.delivered; acknowledged = h.acknowledged }
+arrived-again : (number : ℕ) (message : List ℕ) (s : Session) (r : Receiving) (answered : Option Packet)
+    → IsArrived number message s r answered → IsArrived number message s r (Some (ack_packet r.last))
+arrived-again number message s r answered h = record {
+  last_is = h.last_is;
+  kept = h.kept;
+  answer = ap ack_packet h.last_is;
+  earlier = h.earlier;
+  sent = h.sent;
+  delivered = h.delivered;
+  acknowledged = h.acknowledged;
+}
 
 opening-heard : (number b : ℕ) (s : Session) (w : Delivery) → IsOpening number b s w → IsOpening number b s (delivery_of_answer w (record { last = number; kept = None }) (ack_packet number))
 opening-heard number b s w h = record {
@@ -100,7 +110,8 @@ data-quiet last w packet q heard =
           subst (λ (x : Packet). AfterData w (receiver_heard r x)) (sym p.1) (subst (AfterData w) (sym (last-heard r last message p.0 q.last_is p.2)) (quiet last again)))
     ]
 
-data-waiting : (number : ℕ) (message : List ℕ) (w : Delivery) (x : Receiving × Heard) → IsMarked w → IsBusy number message (first_number w) (present_session w) w → IsWaiting number message (present_session w) w.inbound.receiver w.answer →
+data-waiting : (number : ℕ) (message : List ℕ) (w : Delivery) (x : Receiving × Heard)
+    → IsMarked w → IsBusy number message (first_number w) (present_session w) w → IsWaiting number message (present_session w) w.inbound.receiver w.answer →
     HearsNext w.inbound.receiver number message x → AfterData w x
 unfolding AfterData with_inbound after_data newest_after
 data-waiting number message w x m h p (ignores e) = subst (AfterData w) (sym e) (busy number message h)
@@ -115,7 +126,8 @@ data-waiting number message w x m h p (delivers e) =
     subst (AfterData w) (sym e) (busy number message (subst (λ (t : Session). IsBusy number message (first_number w) t now) (sym (present-delivered w message m)) arrives))
 
 data-busy : (number : ℕ) (message : List ℕ) (w : Delivery) (packet : Packet) → IsMarked w → IsBusy number message (first_number w) (present_session w) w → IsHeardOf w.packet_sent packet →
-    IsWaiting number message (present_session w) w.inbound.receiver w.answer ⊎ IsArrived number message (present_session w) w.inbound.receiver w.answer → AfterData w (receiver_heard w.inbound.receiver packet)
+    IsWaiting number message (present_session w) w.inbound.receiver w.answer ⊎ IsArrived number message (present_session w) w.inbound.receiver w.answer
+    → AfterData w (receiver_heard w.inbound.receiver packet)
 unfolding AfterData with_inbound after_data newest_after
 data-busy number message w packet m h heard place =
     let r = w.inbound.receiver in
@@ -130,7 +142,8 @@ data-busy number message w packet m h heard place =
           (busy number message (busy-place number message (first_number w) s s w (delivery_of_answer w r (ack_packet r.last)) refl refl refl h (inr (arrived-again number message s r w.answer came))))
     ])
 
-data-opening : (number : ℕ) (w : Delivery) (packet : Packet) → IsOpening number (first_number w) (present_session w) w → IsHeardOf w.packet_sent packet → AfterData w (receiver_heard w.inbound.receiver packet)
+data-opening : (number : ℕ) (w : Delivery) (packet : Packet)
+    → IsOpening number (first_number w) (present_session w) w → IsHeardOf w.packet_sent packet → AfterData w (receiver_heard w.inbound.receiver packet)
 unfolding AfterData with_inbound after_data newest_after
 data-opening number w packet h heard =
     let r = w.inbound.receiver in
@@ -149,7 +162,8 @@ data-phase w packet m (opening number h) heard = data-opening number w packet h 
 AfterAnswer : Delivery → Sending × SenderHeard → Type 0
 AfterAnswer w x = IsDeliveringNow (with_outbound w (after_answer w.outbound x)).0
 
-busy-stays : (number : ℕ) (message : List ℕ) (w : Delivery) (x : Sending × SenderHeard) → IsBusy number message (first_number w) (present_session w) w → IsSame w.outbound.sender x.0 → RetriesOf number message x.1 → AfterAnswer w x
+busy-stays : (number : ℕ) (message : List ℕ) (w : Delivery) (x : Sending × SenderHeard)
+    → IsBusy number message (first_number w) (present_session w) w → IsSame w.outbound.sender x.0 → RetriesOf number message x.1 → AfterAnswer w x
 unfolding AfterAnswer with_outbound after_answer newest_after
 busy-stays number message w (t, Retry n wanted tries packet) h e r = busy number message (busy-data number message (first_number w) (present_session w) w t packet h e r)
 busy-stays number message w (t, Repeat n tries packet) h e r = busy number message (busy-data number message (first_number w) (present_session w) w t packet h e r)
@@ -158,7 +172,8 @@ busy-stays number message w (t, HeardDown) h e r = busy number message (busy-sen
 busy-stays number message w x h e r = absurd r
 
 -- an answer that does not acknowledge a message that has not arrived
-waiting-unacknowledged : (number : ℕ) (r : Receiving) (sent packet : Packet) → number < 8 → r.last < 8 → (r.last + 1) % 8 ≡ number → IsWaitingAnswer r number sent → IsTrueTo sent packet → acks packet number ≡ true → ⊥
+waiting-unacknowledged : (number : ℕ) (r : Receiving) (sent packet : Packet)
+    → number < 8 → r.last < 8 → (r.last + 1) % 8 ≡ number → IsWaitingAnswer r number sent → IsTrueTo sent packet → acks packet number ≡ true → ⊥
 waiting-unacknowledged number r sent packet small last sync (inl e) t a =
     let is : packet ≡ ack_packet r.last = ack-heard r.last sent packet e t ∙ e in
     let yes_to : r.last ≡ number = acks-ack r.last number last (subst (λ (p : Packet). acks p number ≡ true) is a) in
@@ -183,8 +198,10 @@ arrived-acknowledged number message b s w h p = record {
   counted = omega (arith, h.counted);
 }
 
-answer-place : (number : ℕ) (message : List ℕ) (w : Delivery) (packet : Packet) → IsMarked w → IsBusy number message (first_number w) (present_session w) w → IsHeardOf w.answer packet → acks packet number ≡ true →
-    IsWaiting number message (present_session w) w.inbound.receiver w.answer ⊎ IsArrived number message (present_session w) w.inbound.receiver w.answer → AfterAnswer w (sending_after number, Acknowledged number)
+answer-place : (number : ℕ) (message : List ℕ) (w : Delivery) (packet : Packet)
+    → IsMarked w → IsBusy number message (first_number w) (present_session w) w → IsHeardOf w.answer packet → acks packet number ≡ true →
+    IsWaiting number message (present_session w) w.inbound.receiver w.answer ⊎ IsArrived number message (present_session w) w.inbound.receiver w.answer
+    → AfterAnswer w (sending_after number, Acknowledged number)
 unfolding AfterAnswer with_outbound after_answer newest_after
 answer-place number message w packet m h heard a (inl p) =
     let sent = newest w.answer (IsWaitingAnswer w.inbound.receiver number) heard.sent p.answer heard.newest_is in
@@ -193,7 +210,8 @@ answer-place number message w packet m h heard a (inr p) =
     let now = delivery_of_sender (one_acknowledged w) (sending_after number) in
     quiet number (subst (λ (t : Session). IsQuiet number (first_number w) t now) (sym (present-acknowledged w m)) (arrived-acknowledged number message (first_number w) (present_session w) w h p))
 
-answer-busy : (number : ℕ) (message : List ℕ) (w : Delivery) (packet : Packet) (x : Sending × SenderHeard) → IsMarked w → IsBusy number message (first_number w) (present_session w) w → IsHeardOf w.answer packet →
+answer-busy : (number : ℕ) (message : List ℕ) (w : Delivery) (packet : Packet) (x : Sending × SenderHeard)
+    → IsMarked w → IsBusy number message (first_number w) (present_session w) w → IsHeardOf w.answer packet →
     HearsAnswer w.outbound.sender message packet x → AfterAnswer w x
 answer-busy number message w packet x m h heard (goes_on a e) =
     let is : x ≡ (sending_after number, Acknowledged number) = e ∙ ap (λ (n : ℕ). (sending_after n, Acknowledged n)) h.next in
@@ -201,7 +219,8 @@ answer-busy number message w packet x m h heard (goes_on a e) =
 answer-busy number message w packet x m h heard (stays t) = busy-stays number message w x h t.0 (subst (λ (n : ℕ). RetriesOf n message x.1) h.next t.1)
 
 -- an opening packet is acknowledged only once it has come
-opened-place : (number b : ℕ) (s : Session) (w : Delivery) (sent packet : Packet) → IsOpening number b s w → IsOpeningAnswer w.inbound.receiver.last number sent → IsTrueTo sent packet → acks packet number ≡ true →
+opened-place : (number b : ℕ) (s : Session) (w : Delivery) (sent packet : Packet)
+    → IsOpening number b s w → IsOpeningAnswer w.inbound.receiver.last number sent → IsTrueTo sent packet → acks packet number ≡ true →
     (w.inbound.receiver.last ≡ number) × (w.inbound.receiver.kept ≡ None) × (sent ≡ ack_packet number)
 opened-place number b s w sent packet h (inl e) t a =
     let last = w.inbound.receiver.last in
@@ -215,7 +234,8 @@ opened-place number b s w sent packet h (inr (away, flags, e)) t a =
     let is : packet ≡ retry_packet ((number + 4) % 8) flags = retry-heard ((number + 4) % 8) flags sent packet e t ∙ e in
     absurd (acks-retry ((number + 4) % 8) number flags (omega arith) (subst (λ (p : Packet). acks p number ≡ true) is a))
 
-opened : (number b : ℕ) (s : Session) (w : Delivery) (sent : Packet) → IsOpening number b s w → w.inbound.receiver.last ≡ number → w.inbound.receiver.kept ≡ None → w.answer ≡ Some sent → sent ≡ ack_packet number →
+opened : (number b : ℕ) (s : Session) (w : Delivery) (sent : Packet)
+    → IsOpening number b s w → w.inbound.receiver.last ≡ number → w.inbound.receiver.kept ≡ None → w.answer ≡ Some sent → sent ≡ ack_packet number →
     IsQuiet number b s (delivery_of_sender w (sending_after number))
 opened number b s w sent h l k n e = record {
   up = refl;
@@ -231,7 +251,8 @@ opened number b s w sent h l k n e = record {
   counted = omega (arith, h.base_is, ap (λ (t : Session). t.acknowledged) h.session_is);
 }
 
-answer-opening : (number : ℕ) (w : Delivery) (packet : Packet) (x : Sending × SenderHeard) → IsOpening number (first_number w) (present_session w) w → IsHeardOf w.answer packet → HearsOpening w.outbound.sender number packet x
+answer-opening : (number : ℕ) (w : Delivery) (packet : Packet) (x : Sending × SenderHeard)
+    → IsOpening number (first_number w) (present_session w) w → IsHeardOf w.answer packet → HearsOpening w.outbound.sender number packet x
     → AfterAnswer w x
 unfolding AfterAnswer with_outbound after_answer newest_after
 answer-opening number w packet x h heard (opens a e) =
@@ -243,7 +264,8 @@ answer-opening number w packet x h heard (waits e) = subst (AfterAnswer w) (sym 
 answer-phase : (w : Delivery) (packet : Packet) → IsMarked w → IsDeliveringNow w → IsHeardOf w.answer packet → AfterAnswer w (sender_heard w.outbound.sender packet)
 unfolding AfterAnswer with_outbound after_answer newest_after
 answer-phase w packet m (quiet last q) heard = subst (AfterAnswer w) (sym (quiet-answer w.outbound.sender packet q.outstanding)) (quiet last q)
-answer-phase w packet m (busy number message h) heard = answer-busy number message w packet (sender_heard w.outbound.sender packet) m h heard (message-answer w.outbound.sender message packet h.outstanding)
+answer-phase w packet m (busy number message h) heard =
+    answer-busy number message w packet (sender_heard w.outbound.sender packet) m h heard (message-answer w.outbound.sender message packet h.outstanding)
 answer-phase w packet m (opening number h) heard = answer-opening number w packet (sender_heard w.outbound.sender packet) h heard (opening-answer w.outbound.sender number packet h.outstanding)
 
 -- every event, and every run
@@ -293,7 +315,8 @@ facts-kept events c =
     let w = delivery_run first_delivery events in
     facts-delivering (first_number w) (present_session w) w (run-kept events first_delivery first-kept c).delivering
 
-pub run-delivers : (events : List Happening) (message : List ℕ) → IsCleanRun first_delivery events → (delivery_run first_delivery events).outbound.sender.outstanding ≡ Nothing → length message ≤ 2028 →
+pub run-delivers : (events : List Happening) (message : List ℕ)
+    → IsCleanRun first_delivery events → (delivery_run first_delivery events).outbound.sender.outstanding ≡ Nothing → length message ≤ 2028 →
     DeliversAtOnce (delivery_run first_delivery events).outbound.sender (delivery_run first_delivery events).inbound.receiver message
 run-delivers events message c o short =
     let w = delivery_run first_delivery events in
@@ -301,7 +324,8 @@ run-delivers events message c o short =
 
 -- where the session is opened again, its first number is one more than that of the opening packet
 
-sent-reopens : (o : Outgoing) (delivered : ℕ) (again : Bool) (s : Sending) (n number : ℕ) (packet : Packet) → s.outstanding ≡ Opening n → (after_reopening o delivered again (s, ReopenSent n packet)).1.0 ≡ Reopened number →
+sent-reopens : (o : Outgoing) (delivered : ℕ) (again : Bool) (s : Sending) (n number : ℕ) (packet : Packet)
+    → s.outstanding ≡ Opening n → (after_reopening o delivered again (s, ReopenSent n packet)).1.0 ≡ Reopened number →
     (after_reopening o delivered again (s, ReopenSent n packet)).0.sender.outstanding ≡ Opening number
 unfolding after_reopening
 sent-reopens o delivered true s n number packet out e = let same : n ≡ number = cc in out ∙ ap (λ (k : ℕ). Opening k) same
@@ -319,7 +343,8 @@ reopened-opens w number e =
     let s = o.sender in
     let again = is_opening s.outstanding in
     let delivered = length w.inbound.received in
-    let Opens : Sending × Reopen → Type 0 = λ (x : Sending × Reopen). (after_reopening o delivered again x).1.0 ≡ Reopened number → (after_reopening o delivered again x).0.sender.outstanding ≡ Opening number in
+    let Opens : Sending × Reopen → Type 0 = λ (x : Sending × Reopen). (after_reopening o delivered again x).1.0 ≡ Reopened number
+    → (after_reopening o delivered again x).0.sender.outstanding ≡ Opening number in
     let n = opening_number s.outstanding s.next in
     elim (reopen-cases s n refl) [
       | inl is ↦ subst Opens (sym is) (λ (up : (after_reopening o delivered again (s, ReopenUp)).1.0 ≡ Reopened number). absurd (up-reopens o delivered again s number up)) e

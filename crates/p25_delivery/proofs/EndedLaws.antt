@@ -18,7 +18,8 @@ unfolding with_outbound after_timeout
 timeout-divided P w (s, Sent number tries packet) h = h
 timeout-divided P w x h = h
 
-reopen-divided : (P : Session → Type 0) (w : Delivery) (again : Bool) (x : Sending × Reopen) → IsDivided P w → P (present_session w) → IsDivided P (with_outbound w (after_reopening w.outbound (length w.inbound.received) again x)).0
+reopen-divided : (P : Session → Type 0) (w : Delivery) (again : Bool) (x : Sending × Reopen)
+    → IsDivided P w → P (present_session w) → IsDivided P (with_outbound w (after_reopening w.outbound (length w.inbound.received) again x)).0
 unfolding with_outbound after_reopening
 reopen-divided P w true (s, ReopenSent number packet) h p = h
 reopen-divided P w false (s, ReopenSent number packet) h p = divided-marked P w h p

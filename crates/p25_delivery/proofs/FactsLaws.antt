@@ -56,7 +56,8 @@ facts-waiting number message b s w h p =
       count = inl (sym p.acknowledged);
       last = omega (arith, p.last_small, p.sync, h.counted, p.acknowledged);
       delivered = take-front s.delivered s.sent message p.sent;
-      newest_data = IfSome_then w.packet_sent h.packet_sent (λ (packet : Packet) (d : IsDataOf number message packet). inr (s.delivered, message, p.sent, subst (λ (n : ℕ). IsDataOf n message packet) newest d));
+      newest_data = IfSome_then w.packet_sent h.packet_sent (λ (packet : Packet) (d : IsDataOf number message packet).
+          inr (s.delivered, message, p.sent, subst (λ (n : ℕ). IsDataOf n message packet) newest d));
       kept = IfSome_then w.inbound.receiver.kept p.kept (λ (k : Keeping) (of : KeepsOf message k). (sym p.acknowledged, message, h.outstanding, of));
       newest_answer =
           IfSome_then w.answer p.answer (λ (packet : Packet) (a : IsWaitingAnswer w.inbound.receiver number packet).
@@ -78,7 +79,8 @@ facts-arrived number message b s w h p =
       count = inr (all, message, h.outstanding);
       last = omega (arith, p.last_is, h.small, h.counted, all);
       delivered = take-same s.delivered s.sent p.delivered;
-      newest_data = IfSome_then w.packet_sent h.packet_sent (λ (packet : Packet) (d : IsDataOf number message packet). inr (p.earlier, message, p.sent, subst (λ (n : ℕ). IsDataOf n message packet) newest d));
+      newest_data = IfSome_then w.packet_sent h.packet_sent
+          (λ (packet : Packet) (d : IsDataOf number message packet). inr (p.earlier, message, p.sent, subst (λ (n : ℕ). IsDataOf n message packet) newest d));
       kept = nothing-kept w.inbound.receiver.kept _ p.kept;
       newest_answer = IfSome_then w.answer p.answer (λ (packet : Packet) (e : packet ≡ ack_packet number). inl (e ∙ ap ack_packet (sym p.last_is)));
     }

@@ -137,7 +137,8 @@ offer-keeps o message is sound = offer-by o message o.sender.outstanding refl is
 
 -- A timeout.
 
-resends-keeps : (P : Packet → Type 0) (o : Outgoing) (out : Outstanding) (x : Sending × Resend) → IsHeldUp out → o.sender.outstanding ≡ out → ((packet : Packet) → P packet → IsSendable packet) → Resends P o.sender x →
+resends-keeps : (P : Packet → Type 0) (o : Outgoing) (out : Outstanding) (x : Sending × Resend)
+    → IsHeldUp out → o.sender.outstanding ≡ out → ((packet : Packet) → P packet → IsSendable packet) → Resends P o.sender x →
     IsSending x.0 → IsOutgoing o → KeepsOutgoing (after_timeout o x)
 unfolding after_timeout
 resends-keeps P o out (s, Sent number tries packet) up e can again sending sound = (same-outgoing o s out up e again.0 sending sound, can packet again.1)
@@ -233,12 +234,17 @@ open-keeps : (o : Outgoing) (number : ℕ) → o.acknowledged + length o.marks �
 unfolding IsCountedWith IsMessageIn
 open-keeps o number c = record { sender = after-sending number; message = tt; counted = (refl, refl, c) }
 
-stays-keeps : (o : Outgoing) (message : List ℕ) (x : Sending × SenderHeard) → o.sender.outstanding ≡ Message message → Stays o.sender message x → IsSending x.0 → IsOutgoing o → KeepsOutgoing (after_answer o x)
+stays-keeps : (o : Outgoing) (message : List ℕ) (x : Sending × SenderHeard)
+    → o.sender.outstanding ≡ Message message → Stays o.sender message x → IsSending x.0 → IsOutgoing o → KeepsOutgoing (after_answer o x)
 unfolding after_answer
-stays-keeps o message (s, HeardRetry number wanted tries packet) e stay sending sound =
-    (same-outgoing o s (Message message) (up-message message) e stay.0 sending sound, data-sendable o.sender.next message packet sound.sender.next (message-in o.sender.outstanding message e sound.message) stay.1)
-stays-keeps o message (s, HeardRepeat number tries packet) e stay sending sound =
-    (same-outgoing o s (Message message) (up-message message) e stay.0 sending sound, data-sendable o.sender.next message packet sound.sender.next (message-in o.sender.outstanding message e sound.message) stay.1)
+stays-keeps o message (s, HeardRetry number wanted tries packet) e stay sending sound = (
+  same-outgoing o s (Message message) (up-message message) e stay.0 sending sound,
+  data-sendable o.sender.next message packet sound.sender.next (message-in o.sender.outstanding message e sound.message) stay.1,
+)
+stays-keeps o message (s, HeardRepeat number tries packet) e stay sending sound = (
+  same-outgoing o s (Message message) (up-message message) e stay.0 sending sound,
+  data-sendable o.sender.next message packet sound.sender.next (message-in o.sender.outstanding message e sound.message) stay.1,
+)
 stays-keeps o message (s, SenderIgnored) e stay sending sound = (same-outgoing o s (Message message) (up-message message) e stay.0 sending sound, tt)
 stays-keeps o message (s, DownAtAnswer) e stay sending sound = (same-outgoing o s (Message message) (up-message message) e stay.0 sending sound, tt)
 stays-keeps o message x e stay sending sound = absurd stay.1
@@ -250,7 +256,8 @@ message-keeps o message packet x e (goes_on a is) sending sound =
     subst (λ (y : Sending × SenderHeard). KeepsOutgoing (after_answer o y)) (sym is) (acknowledged-keeps o (message-counted o message (counted-at o (Message message) e sound)), tt)
 message-keeps o message packet x e (stays stay) sending sound = stays-keeps o message x e stay sending sound
 
-waiting-keeps : (o : Outgoing) (number : ℕ) (packet : Packet) (x : Sending × SenderHeard) → o.sender.outstanding ≡ Opening number → HearsOpening o.sender number packet x → IsOutgoing o → KeepsOutgoing (after_answer o x)
+waiting-keeps : (o : Outgoing) (number : ℕ) (packet : Packet) (x : Sending × SenderHeard)
+    → o.sender.outstanding ≡ Opening number → HearsOpening o.sender number packet x → IsOutgoing o → KeepsOutgoing (after_answer o x)
 unfolding after_answer
 waiting-keeps o number packet x e (opens a is) sound =
     subst (λ (y : Sending × SenderHeard). KeepsOutgoing (after_answer o y)) (sym is) (open-keeps o number (opening-counted o number (counted-at o (Opening number) e sound)), tt)
@@ -259,7 +266,8 @@ waiting-keeps o number packet x e (waits is) sound = subst (λ (y : Sending × S
 answer-by : (o : Outgoing) (packet : Packet) (out : Outstanding) → o.sender.outstanding ≡ out → IsOutgoing o → KeepsOutgoing (after_answer o (sender_heard o.sender packet))
 unfolding after_answer
 answer-by o packet Nothing e sound = subst (λ (y : Sending × SenderHeard). KeepsOutgoing (after_answer o y)) (sym (quiet-answer o.sender packet e)) (sound, tt)
-answer-by o packet (Message message) e sound = message-keeps o message packet (sender_heard o.sender packet) e (message-answer o.sender message packet e) (heard-sending o.sender packet sound.sender) sound
+answer-by o packet (Message message) e sound = message-keeps o message packet
+    (sender_heard o.sender packet) e (message-answer o.sender message packet e) (heard-sending o.sender packet sound.sender) sound
 answer-by o packet (Opening number) e sound = waiting-keeps o number packet (sender_heard o.sender packet) e (opening-answer o.sender number packet e) sound
 
 pub answer-keeps : (o : Outgoing) (packet : Packet) → IsOutgoing o → KeepsOutgoing (after_answer o (sender_heard o.sender packet))

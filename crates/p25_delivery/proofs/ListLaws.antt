@@ -11,18 +11,22 @@ pub map-take_get : {X Y : Type 0} (f : X → Y) (xs : List X) (j : ℕ) (x : X) 
 map-take_get {X} f xs j x e = ap (λ (ys : List X). map f ys) (take_get xs j x e) ∙ map-append f (take j xs) (x ∷ [])
 
 -- one more flag of n, after those that are set
-pub flags_more : (beginning : List Bool) (i n : ℕ) (flag : Bool) → length beginning ≡ i → i < n → set (beginning ++ replicate (n - i) false) i flag ≡ (beginning ++ flag ∷ []) ++ replicate (n - (i + 1)) false
+pub flags_more : (beginning : List Bool) (i n : ℕ) (flag : Bool)
+    → length beginning ≡ i → i < n → set (beginning ++ replicate (n - i) false) i flag ≡ (beginning ++ flag ∷ []) ++ replicate (n - (i + 1)) false
 flags_more beginning i n flag e h =
     let more : n - i ≡ suc (n - (i + 1)) = omega arith in
-    ap (λ (k : ℕ). set (beginning ++ replicate k false) i flag) more ∙ set_at beginning false (replicate (n - (i + 1)) false) flag i e ∙ sym (append_assoc beginning (flag ∷ []) (replicate (n - (i + 1)) false))
+    ap (λ (k : ℕ). set (beginning ++ replicate k false) i flag) more
+    ∙ set_at beginning false (replicate (n - (i + 1)) false) flag i e ∙ sym (append_assoc beginning (flag ∷ []) (replicate (n - (i + 1)) false))
 
 -- a list of flags, set from its beginning on to what a test says of the elements of a list
-pub flags_set : {X : Type 0} (test : X → Bool) (xs : List X) (n i : ℕ) (x : X) (before after : List Bool) → slice_get xs i ≡ Some x → i < n → before ≡ map test (take i xs) ++ replicate (n - i) false → after ≡ set before i (test x) →
+pub flags_set : {X : Type 0} (test : X → Bool) (xs : List X) (n i : ℕ) (x : X) (before after : List Bool)
+    → slice_get xs i ≡ Some x → i < n → before ≡ map test (take i xs) ++ replicate (n - i) false → after ≡ set before i (test x) →
     after ≡ map test (take (i + 1) xs) ++ replicate (n - (i + 1)) false
 flags_set {X} test xs n i x before after e h b a =
     let inside : i < length xs = slice_get_within xs i x e in
     let count : length (map test (take i xs)) ≡ i = length-map (take i xs) test ∙ length-take-le i xs (omega arith) in
-    a ∙ ap (λ (fs : List Bool). set fs i (test x)) b ∙ flags_more (map test (take i xs)) i n (test x) count h ∙ ap (λ (fs : List Bool). fs ++ replicate (n - (i + 1)) false) (sym (map-take_get test xs i x e))
+    a ∙ ap (λ (fs : List Bool). set fs i (test x)) b ∙ flags_more (map test (take i xs)) i n (test x) count h
+    ∙ ap (λ (fs : List Bool). fs ++ replicate (n - (i + 1)) false) (sym (map-take_get test xs i x e))
 
 pub flags_length : (before after : List Bool) (i : ℕ) (flag : Bool) → after ≡ set before i flag → length after ≡ length before
 flags_length before after i flag a = ap length a ∙ length-set before i flag

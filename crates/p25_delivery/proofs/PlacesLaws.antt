@@ -10,7 +10,8 @@ use Rattle.p25_delivery.proofs.ListLaws.{take_get}
 pub length-put_block : (places : List (Option BlockParts)) (block : BlockParts) → length (put_block places block) ≡ length places
 unfolding put_block
 length-put_block places block =
-    elim (nat_lt block.serial (length places)) as (λ (b : Bool). length (cond b (slice_set places block.serial (Some block)) places) ≡ length places) [ true ↦ length-set places block.serial (Some block) | false ↦ refl ]
+    elim (nat_lt block.serial (length places)) as (λ (b : Bool). length (cond b (slice_set places block.serial (Some block)) places) ≡ length places)
+    [ true ↦ length-set places block.serial (Some block) | false ↦ refl ]
 
 pub length-put_slots : (places : List (Option BlockParts)) (slots : List Slot) → length (put_slots places slots) ≡ length places
 unfolding put_slots
@@ -25,7 +26,8 @@ put_slots-append places (Bad ∷ xs) ys = put_slots-append places xs ys
 put_slots-append places (Good block ∷ xs) ys = put_slots-append (put_block places block) xs ys
 
 -- one more slot
-pub put_slots-good : (places : List (Option BlockParts)) (slots : List Slot) (j : ℕ) (block : BlockParts) → slice_get slots j ≡ Some (Good block) → put_slots places (take (j + 1) slots) ≡ put_block (put_slots places (take j slots)) block
+pub put_slots-good : (places : List (Option BlockParts)) (slots : List Slot) (j : ℕ) (block : BlockParts)
+    → slice_get slots j ≡ Some (Good block) → put_slots places (take (j + 1) slots) ≡ put_block (put_slots places (take j slots)) block
 unfolding put_slots
 put_slots-good places slots j block e = ap (put_slots places) (take_get slots j (Good block) e) ∙ put_slots-append places (take j slots) (Good block ∷ [])
 

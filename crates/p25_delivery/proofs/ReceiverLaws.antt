@@ -28,7 +28,8 @@ put_block-keeps message places block j h b held =
       | inr n ↦ elim held [ inl e ↦ inl (put_block-other places block j n ∙ e) | inr e ↦ inr (put_block-other places block j n ∙ e) ]
     ]
 
-put_slots-keeps : (message : List ℕ) (slots : List Slot) (places : List (Option BlockParts)) (j : ℕ) → j < length places → AreBlocksOf message slots → (get_or places j None ≡ None) ⊎ (get_or places j None ≡ Some (message_block message j)) →
+put_slots-keeps : (message : List ℕ) (slots : List Slot) (places : List (Option BlockParts)) (j : ℕ)
+    → j < length places → AreBlocksOf message slots → (get_or places j None ≡ None) ⊎ (get_or places j None ≡ Some (message_block message j)) →
     (get_or (put_slots places slots) j None ≡ None) ⊎ (get_or (put_slots places slots) j None ≡ Some (message_block message j))
 unfolding AreBlocksOf put_slots
 put_slots-keeps message [] places j h are held = held
@@ -36,7 +37,8 @@ put_slots-keeps message (Bad ∷ slots) places j h are held = put_slots-keeps me
 put_slots-keeps message (Good block ∷ slots) places j h are held =
     put_slots-keeps message slots (put_block places block) j (omega (arith, length-put_block places block)) are.1 (put_block-keeps message places block j h are.0 held)
 
-slots-keep : (message : List ℕ) (slots : List Slot) (kept : Keeping) → AreBlocksOf message slots → KeepsOf message kept → KeepsOf message (record { places = put_slots kept.places slots; pad = kept.pad })
+slots-keep : (message : List ℕ) (slots : List Slot) (kept : Keeping)
+    → AreBlocksOf message slots → KeepsOf message kept → KeepsOf message (record { places = put_slots kept.places slots; pad = kept.pad })
 slots-keep message slots kept are k = record {
   count = length-put_slots kept.places slots ∙ k.count;
   pad_is = k.pad_is;
@@ -68,48 +70,59 @@ keeping-keeps message (Some kept) k =
     = and_from _ _ (eq-eqb (length kept.places) (block_count (length message)) k.count) (eq-eqb kept.pad (pad_count (length message)) k.pad_is) in
     subst (KeepsOf message) (sym (cond-true _ kept (empty_places (block_count (length message)) (pad_count (length message))) same)) k
 
-kept-by_full : (message : List ℕ) (kept : Option Keeping) (number : ℕ) (packet : ConfirmedParts) (full : Bool) → CarriesData number message packet → IfSome kept (KeepsOf message) → head_is_full packet.head ≡ full →
+kept-by_full : (message : List ℕ) (kept : Option Keeping) (number : ℕ) (packet : ConfirmedParts) (full : Bool)
+    → CarriesData number message packet → IfSome kept (KeepsOf message) → head_is_full packet.head ≡ full →
     IfSome (cond full (cond (eqb (head_blocks packet.head) 0) None (Some (keeping_full kept (head_blocks packet.head) (head_pad packet.head)))) kept) (KeepsOf message)
 kept-by_full message kept number packet false c k e = k
 kept-by_full message kept number packet true c k e =
     let blocks = c.full e in
     let some : eqb (head_blocks packet.head) 0 ≡ false = ne_eqb (head_blocks packet.head) 0 (λ z. absurd (omega (arith, z, blocks))) in
-    let is : cond (eqb (head_blocks packet.head) 0) None (Some (keeping_full kept (head_blocks packet.head) (head_pad packet.head))) ≡ Some (keeping_full kept (block_count (length message)) (pad_count (length message)))
+    let is : cond (eqb (head_blocks packet.head) 0) None (Some (keeping_full kept (head_blocks packet.head) (head_pad packet.head)))
+    ≡ Some (keeping_full kept (block_count (length message)) (pad_count (length message)))
     = cond-false _ None (Some (keeping_full kept (head_blocks packet.head) (head_pad packet.head))) some ∙ ap₂ (λ (m n : ℕ). Some (keeping_full kept m n)) blocks c.pad in
     subst (λ (o : Option Keeping). IfSome o (KeepsOf message)) (sym is) (keeping-keeps message kept k)
 
-keeping_for-keeps : (message : List ℕ) (kept : Option Keeping) (number : ℕ) (packet : ConfirmedParts) → CarriesData number message packet → IfSome kept (KeepsOf message) → IfSome (keeping_for kept packet.head) (KeepsOf message)
+keeping_for-keeps : (message : List ℕ) (kept : Option Keeping) (number : ℕ) (packet : ConfirmedParts)
+    → CarriesData number message packet → IfSome kept (KeepsOf message) → IfSome (keeping_for kept packet.head) (KeepsOf message)
 unfolding keeping_for
 keeping_for-keeps message kept number packet c k = kept-by_full message kept number packet (head_is_full packet.head) c k refl
 
 -- what a receiver makes of the next message's blocks
 pub data HearsNext (r : Receiving) (number : ℕ) (message : List ℕ) (x : Receiving × Heard) : Type 0 where
   ignores : x ≡ (r, Ignored) → HearsNext r number message x
-  keeps : (kept : Keeping) → KeepsOf message kept → x ≡ (record { last = r.last; kept = Some kept }, Kept number (held_flags kept.places) (retry_packet number (held_flags kept.places))) → HearsNext r number message x
+  keeps : (kept : Keeping) → KeepsOf message kept → x ≡ (
+    record { last = r.last; kept = Some kept },
+    Kept number (held_flags kept.places) (retry_packet number (held_flags kept.places)),
+  ) → HearsNext r number message x
   delivers : x ≡ (record { last = number; kept = None }, Delivered number message (ack_packet number)) → HearsNext r number message x
 
-hears-completed : (r : Receiving) (number : ℕ) (message : List ℕ) (kept : Keeping) (found : Option (List ℕ)) → KeepsOf message kept → all_octets kept.places ≡ found → HearsNext r number message (completed r number kept found)
+hears-completed : (r : Receiving) (number : ℕ) (message : List ℕ) (kept : Keeping) (found : Option (List ℕ))
+    → KeepsOf message kept → all_octets kept.places ≡ found → HearsNext r number message (completed r number kept found)
 unfolding completed finished
 hears-completed r number message kept None k e = keeps kept k refl
 hears-completed r number message kept (Some octets) k e =
     let is : unpadded octets kept.pad ≡ Some message = whole-places message kept octets k e in
     delivers (ap (finished r number) is)
 
-hears-filled : (r : Receiving) (number : ℕ) (message : List ℕ) (packet : ConfirmedParts) (kept : Option Keeping) → CarriesData number message packet → IfSome kept (KeepsOf message) → HearsNext r number message (filled r packet kept)
+hears-filled : (r : Receiving) (number : ℕ) (message : List ℕ) (packet : ConfirmedParts) (kept : Option Keeping)
+    → CarriesData number message packet → IfSome kept (KeepsOf message) → HearsNext r number message (filled r packet kept)
 unfolding filled
 hears-filled r number message packet None c k = ignores refl
 hears-filled r number message packet (Some kept) c k =
     let now : Keeping = record { places = put_slots kept.places packet.slots; pad = kept.pad } in
-    subst (λ (n : ℕ). HearsNext r number message (completed r n now (all_octets now.places))) (sym c.number_is) (hears-completed r number message now (all_octets now.places) (slots-keep message packet.slots kept c.blocks k) refl)
+    subst (λ (n : ℕ). HearsNext r number message (completed r n now (all_octets now.places)))
+    (sym c.number_is) (hears-completed r number message now (all_octets now.places) (slots-keep message packet.slots kept c.blocks k) refl)
 
 -- a packet of data is not one with Syn
 pub data-is_heard : (r : Receiving) (number : ℕ) (message : List ℕ) (packet : ConfirmedParts) → CarriesData number message packet → receiver_heard r (Confirmed packet) ≡ data_heard r packet
 unfolding receiver_heard
 data-is_heard r number message packet c =
-    cond-true _ (cond (head_syn packet.head) (opening_heard r packet.head) (data_heard r packet)) (r, Ignored) (eq-eqb (head_llid packet.head) 1 c.llid) ∙ cond-false _ (opening_heard r packet.head) (data_heard r packet) c.syn
+    cond-true _ (cond (head_syn packet.head) (opening_heard r packet.head) (data_heard r packet)) (r, Ignored) (eq-eqb (head_llid packet.head) 1 c.llid)
+    ∙ cond-false _ (opening_heard r packet.head) (data_heard r packet) c.syn
 
 -- blocks of the next message
-pub next-heard : (r : Receiving) (number : ℕ) (message : List ℕ) (packet : ConfirmedParts) → r.last < 8 → (r.last + 1) % 8 ≡ number → IfSome r.kept (KeepsOf message) → CarriesData number message packet →
+pub next-heard : (r : Receiving) (number : ℕ) (message : List ℕ) (packet : ConfirmedParts)
+    → r.last < 8 → (r.last + 1) % 8 ≡ number → IfSome r.kept (KeepsOf message) → CarriesData number message packet →
     HearsNext r number message (receiver_heard r (Confirmed packet))
 unfolding data_heard
 next-heard r number message packet small sync kept c =
@@ -120,7 +133,8 @@ next-heard r number message packet small sync kept c =
     subst (HearsNext r number message) (sym is) (hears-filled r number message packet (keeping_for r.kept packet.head) c (keeping_for-keeps message r.kept number packet c kept))
 
 -- blocks of the last message again
-pub last-heard : (r : Receiving) (number : ℕ) (message : List ℕ) (packet : ConfirmedParts) → r.last ≡ number → CarriesData number message packet → receiver_heard r (Confirmed packet) ≡ (r, Again r.last (ack_packet r.last))
+pub last-heard : (r : Receiving) (number : ℕ) (message : List ℕ) (packet : ConfirmedParts)
+    → r.last ≡ number → CarriesData number message packet → receiver_heard r (Confirmed packet) ≡ (r, Again r.last (ack_packet r.last))
 unfolding data_heard
 last-heard r number message packet last c =
     data-is_heard r number message packet c ∙ cond-true _ _ _ (eq-eqb (head_number packet.head) r.last (c.number_is ∙ sym last))
@@ -134,4 +148,5 @@ opening-is_heard r number packet small e =
     let syn : head_syn packet.head ≡ true = ap head_syn e ∙ opening_head-syn number small in
     let none : head_blocks packet.head ≡ 0 = ap head_blocks e ∙ opening_head-blocks number in
     let is : head_number packet.head ≡ number = ap head_number e ∙ opening_head-number number small in
-    cond-true _ _ _ (eq-eqb (head_llid packet.head) 1 llid) ∙ cond-true _ _ _ syn ∙ cond-true _ _ _ (eq-eqb (head_blocks packet.head) 0 none) ∙ ap (λ (n : ℕ). (record { last = n; kept = None }, Opened n (ack_packet n))) is
+    cond-true _ _ _ (eq-eqb (head_llid packet.head) 1 llid) ∙ cond-true _ _ _ syn
+    ∙ cond-true _ _ _ (eq-eqb (head_blocks packet.head) 0 none) ∙ ap (λ (n : ℕ). (record { last = n; kept = None }, Opened n (ack_packet n))) is

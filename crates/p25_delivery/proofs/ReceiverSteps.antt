@@ -11,8 +11,10 @@ finished-last r s number None e = ap (λ (n : ℕ). finished (record { last = n;
 finished-last r s number (Some message) e = refl
 
 -- all places are held
-pub filled-whole : (r s : Receiving) (packet : ConfirmedParts) (kept : Keeping) (slots : List Slot) (places : List (Option BlockParts)) (octets : List ℕ) (number pad : ℕ) (message : Option (List ℕ)) (answer : Receiving × Heard) →
-    s.last ≡ r.last → slots ≡ packet.slots → places ≡ put_slots kept.places slots → Some octets ≡ all_octets places → number ≡ head_number packet.head → pad ≡ kept.pad → message ≡ unpadded octets pad → answer ≡ finished s number message →
+pub filled-whole : (r s : Receiving) (packet : ConfirmedParts) (kept : Keeping)
+    (slots : List Slot) (places : List (Option BlockParts)) (octets : List ℕ) (number pad : ℕ) (message : Option (List ℕ)) (answer : Receiving × Heard) →
+    s.last ≡ r.last → slots ≡ packet.slots → places ≡ put_slots kept.places slots → Some octets ≡ all_octets places
+    → number ≡ head_number packet.head → pad ≡ kept.pad → message ≡ unpadded octets pad → answer ≡ finished s number message →
     answer ≡ filled r packet (Some kept)
 unfolding filled completed
 filled-whole r s packet kept slots places octets number pad message answer l e p o n d m a =

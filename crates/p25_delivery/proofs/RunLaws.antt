@@ -18,7 +18,8 @@ run-keeps_each step Is Keeps next [] w k are = k
 run-keeps_each step Is Keeps next (event ∷ events) w k are = run-keeps_each step Is Keeps next events (step w event).0 (next w event k are.0) are.1
 
 -- what every step keeps, every run keeps
-pub run-keeps_all : {W E S : Type 0} (step : W → E → W × S) (Keeps : W → Type 0) → ((w : W) (event : E) → Keeps w → Keeps (step w event).0) → (events : List E) (w : W) → Keeps w → Keeps (run_by step w events)
+pub run-keeps_all : {W E S : Type 0} (step : W → E → W × S) (Keeps : W → Type 0)
+    → ((w : W) (event : E) → Keeps w → Keeps (step w event).0) → (events : List E) (w : W) → Keeps w → Keeps (run_by step w events)
 unfolding run_by
 run-keeps_all step Keeps next [] w k = k
 run-keeps_all step Keeps next (event ∷ events) w k = run-keeps_all step Keeps next events (step w event).0 (next w event k)
@@ -35,7 +36,8 @@ steps-append step w [] ys = refl
 steps-append {W} {E} {S} step w (x ∷ xs) ys = ap (λ (steps : List S). (step w x).1 ∷ steps) (steps-append step (step w x).0 xs ys)
 
 -- events one after the other that each meet a condition at their moment do so together
-pub meet-append : {W E S : Type 0} (step : W → E → W × S) (Meets : W → E → Type 0) (w : W) (xs ys : List E) → MeetAt step Meets w xs → MeetAt step Meets (run_by step w xs) ys → MeetAt step Meets w (xs ++ ys)
+pub meet-append : {W E S : Type 0} (step : W → E → W × S) (Meets : W → E → Type 0) (w : W) (xs ys : List E)
+    → MeetAt step Meets w xs → MeetAt step Meets (run_by step w xs) ys → MeetAt step Meets w (xs ++ ys)
 unfolding run_by MeetAt
 meet-append step Meets w [] ys m n = n
 meet-append step Meets w (x ∷ xs) ys m n = (m.0, meet-append step Meets (step w x).0 xs ys m.1 n)

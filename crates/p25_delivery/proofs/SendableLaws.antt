@@ -133,7 +133,8 @@ confirmed-sendable full pad number slots count e b p n all =
 pub message_packet-sendable : (number : ℕ) (message : List ℕ) → number < 8 → IsMessage message → IsSendable (message_packet number message)
 unfolding message_packet
 message_packet-sendable number message n is =
-    confirmed-sendable true (pad_count (length message)) number (map good_slot (message_blocks message)) (block_count (length message)) (length-blocks message) (omega (arith, is.short)) (omega (arith, is.short)) n (all-blocks message is)
+    confirmed-sendable true (pad_count (length message)) number (map good_slot (message_blocks message))
+    (block_count (length message)) (length-blocks message) (omega (arith, is.short)) (omega (arith, is.short)) n (all-blocks message is)
 
 length-wanted_slot : (message : List ℕ) (wanted : List Bool) (j : ℕ) → length (wanted_slot message wanted j) ≤ 1
 length-wanted_slot message wanted j =
@@ -142,7 +143,14 @@ length-wanted_slot message wanted j =
 length-wanted : (message : List ℕ) (wanted : List Bool) (n : ℕ) → length (joined_below n (wanted_slot message wanted)) ≤ n
 length-wanted message wanted zero = omega (arith, ap length (joined_below-zero (wanted_slot message wanted)))
 length-wanted message wanted (suc n) =
-    omega (arith, ap length (joined_below-suc n (wanted_slot message wanted)), length-append (joined_below n (wanted_slot message wanted)) (wanted_slot message wanted n), length-wanted message wanted n, length-wanted_slot message wanted n)
+    omega (
+      arith,
+      ap length (joined_below-suc n (wanted_slot message wanted)),
+      length-append
+          (joined_below n (wanted_slot message wanted)) (wanted_slot message wanted n),
+      length-wanted message wanted n,
+      length-wanted_slot message wanted n,
+    )
 
 few-wanted : (message : List ℕ) (wanted : List Bool) → length (wanted_slots message wanted) ≤ block_count (length message)
 unfolding wanted_slots
@@ -151,7 +159,8 @@ few-wanted message wanted = length-wanted message wanted (block_count (length me
 pub blocks_packet-sendable : (number : ℕ) (message : List ℕ) (wanted : List Bool) → number < 8 → IsMessage message → IsSendable (blocks_packet number message wanted)
 unfolding blocks_packet
 blocks_packet-sendable number message wanted n is =
-    confirmed-sendable false (pad_count (length message)) number (wanted_slots message wanted) (length (wanted_slots message wanted)) refl (omega (arith, is.short, few-wanted message wanted)) (omega (arith, is.short)) n
+    confirmed-sendable false (pad_count (length message)) number (wanted_slots message wanted)
+    (length (wanted_slots message wanted)) refl (omega (arith, is.short, few-wanted message wanted)) (omega (arith, is.short)) n
     (all-wanted message is wanted)
 
 pub opening_packet-sendable : (number : ℕ) → number < 8 → IsSendable (opening_packet number)

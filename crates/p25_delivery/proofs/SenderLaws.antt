@@ -30,13 +30,15 @@ pub offer-message : (s : Sending) (message other : List ℕ) → s.outstanding �
 unfolding offered offered_beside
 offer-message s message other o =
     let busy : offered_beside s.outstanding s message ≡ (s, Busy) = ap (λ (out : Outstanding). offered_beside out s message) o in
-    elim s.down as (λ (b : Bool). (cond b (s, OfferDown) (offered_beside s.outstanding s message) ≡ (s, Busy)) ⊎ (cond b (s, OfferDown) (offered_beside s.outstanding s message) ≡ (s, OfferDown))) [ true ↦ inr refl | false ↦ inl busy ]
+    elim s.down as (λ (b : Bool). (cond b (s, OfferDown) (offered_beside s.outstanding s message) ≡ (s, Busy))
+    ⊎ (cond b (s, OfferDown) (offered_beside s.outstanding s message) ≡ (s, OfferDown))) [ true ↦ inr refl | false ↦ inl busy ]
 
 pub offer-opening : (s : Sending) (message : List ℕ) (number : ℕ) → s.outstanding ≡ Opening number → (offered s message ≡ (s, Busy)) ⊎ (offered s message ≡ (s, OfferDown))
 unfolding offered offered_beside
 offer-opening s message number o =
     let busy : offered_beside s.outstanding s message ≡ (s, Busy) = ap (λ (out : Outstanding). offered_beside out s message) o in
-    elim s.down as (λ (b : Bool). (cond b (s, OfferDown) (offered_beside s.outstanding s message) ≡ (s, Busy)) ⊎ (cond b (s, OfferDown) (offered_beside s.outstanding s message) ≡ (s, OfferDown))) [ true ↦ inr refl | false ↦ inl busy ]
+    elim s.down as (λ (b : Bool). (cond b (s, OfferDown) (offered_beside s.outstanding s message) ≡ (s, Busy))
+    ⊎ (cond b (s, OfferDown) (offered_beside s.outstanding s message) ≡ (s, OfferDown))) [ true ↦ inr refl | false ↦ inl busy ]
 
 -- a timeout
 
@@ -154,7 +156,8 @@ goes : (s : Sending) (message : List ℕ) → answered NextMessage s message ≡
 unfolding answered
 goes s message = refl
 
-hears-asked : (s : Sending) (message : List ℕ) (response : PlainParts) (b : Bool) → is_ack response.head s.next ≡ b → HearsAnswer s message (Plain response) (answered (asked_of s.next (block_count (length message)) response) s message)
+hears-asked : (s : Sending) (message : List ℕ) (response : PlainParts) (b : Bool)
+    → is_ack response.head s.next ≡ b → HearsAnswer s message (Plain response) (answered (asked_of s.next (block_count (length message)) response) s message)
 unfolding acks asked_of
 hears-asked s message response true e =
     goes_on e (ap (λ (asked : Asked). answered asked s message) (cond-true (is_ack response.head s.next) NextMessage _ e) ∙ (goes s message))
@@ -162,7 +165,8 @@ hears-asked s message response false e =
     let blocks = block_count (length message) in
     let flags = asked_by_flags blocks (flags_of_octets response.octets) in
     let last : Stays s message (answered (cond (is_crc_nack response.head s.next) WholeMessage NothingAsked) s message)
-    = elim (is_crc_nack response.head s.next) as (λ (b : Bool). Stays s message (answered (cond b WholeMessage NothingAsked) s message)) [ true ↦ stays-whole s message | false ↦ stays-nothing s message ] in
+    = elim (is_crc_nack response.head s.next) as (λ (b : Bool). Stays s message (answered (cond b WholeMessage NothingAsked) s message))
+    [ true ↦ stays-whole s message | false ↦ stays-nothing s message ] in
     let rest : Stays s message (answered (cond (is_retry response.head s.next) flags (cond (is_crc_nack response.head s.next) WholeMessage NothingAsked)) s message)
     = elim (is_retry response.head s.next) as (λ (b : Bool). Stays s message
     (answered (cond b flags (cond (is_crc_nack response.head s.next) WholeMessage NothingAsked)) s message))
@@ -176,8 +180,10 @@ message-answer s message (Plain packet) o =
     let heard : HearsAnswer s message (Plain packet) (response_heard s.outstanding s packet)
     = subst (λ (out : Outstanding). HearsAnswer s message (Plain packet) (response_heard out s packet)) (sym o) (hears-asked s message packet (is_ack packet.head s.next) refl) in
     let ours : HearsAnswer s message (Plain packet) (cond (is_response packet.head) (response_heard s.outstanding s packet) (s, Ignored))
-    = elim (is_response packet.head) as (λ (b : Bool). HearsAnswer s message (Plain packet) (cond b (response_heard s.outstanding s packet) (s, Ignored))) [ true ↦ heard | false ↦ stays (stays-ignored s message) ] in
-    elim s.down as (λ (b : Bool). HearsAnswer s message (Plain packet) (cond b (s, Ignored) (cond (is_response packet.head) (response_heard s.outstanding s packet) (s, Ignored)))) [ true ↦ stays (stays-ignored s message) | false ↦ ours ]
+    = elim (is_response packet.head) as (λ (b : Bool). HearsAnswer s message (Plain packet) (cond b (response_heard s.outstanding s packet) (s, Ignored)))
+    [ true ↦ heard | false ↦ stays (stays-ignored s message) ] in
+    elim s.down as (λ (b : Bool). HearsAnswer s message (Plain packet) (cond b (s, Ignored)
+    (cond (is_response packet.head) (response_heard s.outstanding s packet) (s, Ignored)))) [ true ↦ stays (stays-ignored s message) | false ↦ ours ]
 
 -- while the opening packet is outstanding
 pub data HearsOpening (s : Sending) (number : ℕ) (packet : Packet) (x : Sending × SenderHeard) : Type 0 where
@@ -197,7 +203,8 @@ opening-answer s number (Plain packet) o =
     = subst (λ (out : Outstanding). HearsOpening s number (Plain packet) (response_heard out s packet)) (sym o) (opening-response s number packet (is_ack packet.head number) refl) in
     let ours : HearsOpening s number (Plain packet) (cond (is_response packet.head) (response_heard s.outstanding s packet) (s, Ignored))
     = elim (is_response packet.head) as (λ (b : Bool). HearsOpening s number (Plain packet) (cond b (response_heard s.outstanding s packet) (s, Ignored))) [ true ↦ heard | false ↦ waits refl ] in
-    elim s.down as (λ (b : Bool). HearsOpening s number (Plain packet) (cond b (s, Ignored) (cond (is_response packet.head) (response_heard s.outstanding s packet) (s, Ignored)))) [ true ↦ waits refl | false ↦ ours ]
+    elim s.down as (λ (b : Bool). HearsOpening s number (Plain packet)
+    (cond b (s, Ignored) (cond (is_response packet.head) (response_heard s.outstanding s packet) (s, Ignored)))) [ true ↦ waits refl | false ↦ ours ]
 
 -- while nothing is outstanding
 pub quiet-answer : (s : Sending) (packet : Packet) → s.outstanding ≡ Nothing → sender_heard s packet ≡ (s, Ignored)

@@ -20,7 +20,8 @@ counted-sending s false e h = record { next = h.next; outstanding = h.outstandin
 
 -- at a timeout
 
-resent-sending : (s : Sending) (number : ℕ) (packet : Packet) (b : Bool) → may_send s ≡ b → IsSending s → IsSending (cond {A = Sending × Resend} b (tried s, Sent number (s.tries + 1) packet) (fallen s, ResendDown)).0
+resent-sending : (s : Sending) (number : ℕ) (packet : Packet) (b : Bool)
+    → may_send s ≡ b → IsSending s → IsSending (cond {A = Sending × Resend} b (tried s, Sent number (s.tries + 1) packet) (fallen s, ResendDown)).0
 resent-sending s number packet true e h = counted-sending s true e h
 resent-sending s number packet false e h = counted-sending s false e h
 
@@ -36,11 +37,13 @@ timeout-sending s h = elim s.down as (λ (b : Bool). IsSending (cond {A = Sendin
 
 -- at an answer
 
-repeated-sending : (s : Sending) (packet : Packet) (b : Bool) → may_send s ≡ b → IsSending s → IsSending (cond {A = Sending × SenderHeard} b (tried s, Repeat s.next (s.tries + 1) packet) (fallen s, HeardDown)).0
+repeated-sending : (s : Sending) (packet : Packet) (b : Bool)
+    → may_send s ≡ b → IsSending s → IsSending (cond {A = Sending × SenderHeard} b (tried s, Repeat s.next (s.tries + 1) packet) (fallen s, HeardDown)).0
 repeated-sending s packet true e h = counted-sending s true e h
 repeated-sending s packet false e h = counted-sending s false e h
 
-retried-sending : (s : Sending) (wanted : List Bool) (packet : Packet) (b : Bool) → may_send s ≡ b → IsSending s → IsSending (cond {A = Sending × SenderHeard} b (tried s, Retry s.next wanted (s.tries + 1) packet) (fallen s, HeardDown)).0
+retried-sending : (s : Sending) (wanted : List Bool) (packet : Packet) (b : Bool) → may_send s ≡ b
+    → IsSending s → IsSending (cond {A = Sending × SenderHeard} b (tried s, Retry s.next wanted (s.tries + 1) packet) (fallen s, HeardDown)).0
 retried-sending s wanted packet true e h = counted-sending s true e h
 retried-sending s wanted packet false e h = counted-sending s false e h
 
@@ -56,7 +59,8 @@ unfolding response_heard
 response-sending Nothing s response h = h
 response-sending (Message message) s response h = answered-sending (asked_of s.next (block_count (length message)) response) s message h
 response-sending (Opening number) s response h =
-    elim (is_ack response.head number) as (λ (b : Bool). IsSending (cond {A = Sending × SenderHeard} b (sending_after number, Opened number) (s, Ignored)).0) [ true ↦ after-sending number | false ↦ h ]
+    elim (is_ack response.head number) as (λ (b : Bool). IsSending (cond {A = Sending × SenderHeard} b (sending_after number, Opened number) (s, Ignored)).0)
+    [ true ↦ after-sending number | false ↦ h ]
 
 pub heard-sending : (s : Sending) (packet : Packet) → IsSending s → IsSending (sender_heard s packet).0
 unfolding sender_heard

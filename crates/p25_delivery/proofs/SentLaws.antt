@@ -40,7 +40,8 @@ all-blocks message zero = subst (λ (xs : List BlockParts). AreBlocksOf message 
 all-blocks message (suc n) =
     let split : map good_slot (each_below (suc n) (message_block message)) ≡ map good_slot (each_below n (message_block message)) ++ good_slot (message_block message n) ∷ []
     = ap (λ (xs : List BlockParts). map good_slot xs) (each_below-suc n (message_block message)) ∙ map-append good_slot (each_below n (message_block message)) (message_block message n ∷ []) in
-    subst (AreBlocksOf message) (sym split) (AreBlocksOf-append message (map good_slot (each_below n (message_block message))) (good_slot (message_block message n) ∷ []) (all-blocks message n) (one-block message n))
+    subst (AreBlocksOf message) (sym split) (AreBlocksOf-append message
+    (map good_slot (each_below n (message_block message))) (good_slot (message_block message n) ∷ []) (all-blocks message n) (one-block message n))
 
 -- what the block of a serial number adds to the slots that are wanted
 abbrev wanted_slot : List ℕ → List Bool → ℕ → List Slot
@@ -48,7 +49,8 @@ wanted_slot message wanted serial = cond (slice_index_or wanted serial false) (g
 
 some-block : (message : List ℕ) (wanted : List Bool) (serial : ℕ) → AreBlocksOf message (wanted_slot message wanted serial) × (length (wanted_slot message wanted serial) ≤ 1)
 some-block message wanted serial =
-    elim (slice_index_or wanted serial false) as (λ (flag : Bool). AreBlocksOf message (cond flag (good_slot (message_block message serial) ∷ []) []) × (length (cond flag (good_slot (message_block message serial) ∷ []) []) ≤ 1)) [
+    elim (slice_index_or wanted serial false) as (λ (flag : Bool). AreBlocksOf message (cond flag (good_slot (message_block message serial) ∷ []) [])
+    × (length (cond flag (good_slot (message_block message serial) ∷ []) []) ≤ 1)) [
       | true ↦ (one-block message serial, omega arith)
       | false ↦ (no-blocks message, omega arith)
     ]
@@ -61,7 +63,8 @@ some-blocks message wanted (suc n) =
     let more = some-block message wanted n in
     let xs = joined_below n (wanted_slot message wanted) in
     let ys = wanted_slot message wanted n in
-    subst (λ (zs : List Slot). AreBlocksOf message zs × (length zs ≤ suc n)) (sym (joined_below-suc n (wanted_slot message wanted))) (AreBlocksOf-append message xs ys before.0 more.0, omega (arith, length-append xs ys, before.1, more.1))
+    subst (λ (zs : List Slot). AreBlocksOf message zs × (length zs ≤ suc n)) (sym (joined_below-suc n (wanted_slot message wanted)))
+    (AreBlocksOf-append message xs ys before.0 more.0, omega (arith, length-append xs ys, before.1, more.1))
 
 -- slots that are true to blocks of a message are such blocks, or Bad
 true-blocks : (message : List ℕ) (sent heard : List Slot) → AreTrueSlots sent heard → AreBlocksOf message sent → AreBlocksOf message heard
@@ -78,7 +81,8 @@ true-blocks message (Good was ∷ sent) (Good block ∷ heard) (inr e, t) a =
 true-blocks message sent heard t a = absurd t
 
 -- a confirmed packet is heard as one
-confirmed-heard : (sent : ConfirmedParts) (heard : Packet) → IsTrueTo (Confirmed sent) heard → (packet : ConfirmedParts) × (heard ≡ Confirmed packet) × (packet.head ≡ sent.head) × AreTrueSlots sent.slots packet.slots
+confirmed-heard : (sent : ConfirmedParts) (heard : Packet) → IsTrueTo (Confirmed sent) heard
+    → (packet : ConfirmedParts) × (heard ≡ Confirmed packet) × (packet.head ≡ sent.head) × AreTrueSlots sent.slots packet.slots
 unfolding IsTrueTo
 confirmed-heard sent (Confirmed packet) t = (packet, refl, t.0, t.1)
 confirmed-heard sent (Plain packet) t = absurd t
@@ -89,7 +93,8 @@ plain-heard (Confirmed sent) heard plain e t = cc
 plain-heard (Plain sent) (Confirmed heard) plain e t = absurd t
 plain-heard (Plain sent) (Plain heard) plain e t = ap (λ (p : PlainParts). Plain p) t
 
-CarriesData-true : (number : ℕ) (message : List ℕ) (sent packet : ConfirmedParts) → CarriesData number message sent → packet.head ≡ sent.head → AreTrueSlots sent.slots packet.slots → CarriesData number message packet
+CarriesData-true : (number : ℕ) (message : List ℕ) (sent packet : ConfirmedParts)
+    → CarriesData number message sent → packet.head ≡ sent.head → AreTrueSlots sent.slots packet.slots → CarriesData number message packet
 CarriesData-true number message sent packet c h t = record {
   llid = ap head_llid h ∙ c.llid;
   syn = ap head_syn h ∙ c.syn;
@@ -138,7 +143,8 @@ blocks-carry number message wanted n l =
     }
 
 -- what is heard of a message's packet
-pub data-heard : (number : ℕ) (message : List ℕ) (sent heard : Packet) → number < 8 → length message ≤ 2028 → IsDataOf number message sent → IsTrueTo sent heard → (packet : ConfirmedParts) × (heard ≡ Confirmed packet) ×
+pub data-heard : (number : ℕ) (message : List ℕ) (sent heard : Packet)
+    → number < 8 → length message ≤ 2028 → IsDataOf number message sent → IsTrueTo sent heard → (packet : ConfirmedParts) × (heard ≡ Confirmed packet) ×
     CarriesData number message packet
 unfolding IsDataOf message_packet blocks_packet
 data-heard number message sent heard n l (inl e) t =
@@ -151,7 +157,8 @@ data-heard number message sent heard n l (inr (wanted, e)) t =
     (h.0, h.1, CarriesData-true number message some h.0 (blocks-carry number message wanted n l) h.2 h.3)
 
 -- what is heard of an opening packet
-pub opening-packet_heard : (number : ℕ) (sent heard : Packet) → sent ≡ opening_packet number → IsTrueTo sent heard → (packet : ConfirmedParts) × (heard ≡ Confirmed packet) × (packet.head ≡ opening_head 1 number)
+pub opening-packet_heard : (number : ℕ) (sent heard : Packet)
+    → sent ≡ opening_packet number → IsTrueTo sent heard → (packet : ConfirmedParts) × (heard ≡ Confirmed packet) × (packet.head ≡ opening_head 1 number)
 unfolding opening_packet
 opening-packet_heard number sent heard e t =
     let opener : ConfirmedParts = record { head = opening_head 1 number; slots = [] } in

@@ -74,7 +74,8 @@ ended_from from (to ∷ marks) sent received =
 abbrev pub ended_sessions : Delivery → List Session
 ended_sessions w = ended_from first_mark w.outbound.marks w.outbound.sent w.inbound.received
 
-sessions-from : (from : Mark) (marks : List Mark) (w : Delivery) → sessions_from from marks w ≡ ended_from from marks w.outbound.sent w.inbound.received ++ session_between (last_mark from marks) (present_mark w) w ∷ []
+sessions-from : (from : Mark) (marks : List Mark) (w : Delivery)
+    → sessions_from from marks w ≡ ended_from from marks w.outbound.sent w.inbound.received ++ session_between (last_mark from marks) (present_mark w) w ∷ []
 unfolding sessions_from ended_from last_mark
 sessions-from from [] w = refl
 sessions-from from (mark ∷ marks) w = ap (λ (xs : List Session). session_between from mark w ∷ xs) (sessions-from mark marks w)
@@ -122,7 +123,8 @@ present-sent w message all =
 
 pub present-delivered : (w : Delivery) (message : List ℕ) → IsMarked w → present_session (one_delivered w message) ≡ with_delivered (present_session w) message
 present-delivered w message all =
-    ap (λ (xs : List (List ℕ)). record (present_session w) { delivered = xs }) (rest-more (last_mark first_mark w.outbound.marks).delivered w.inbound.received (message ∷ []) (present-within w all).delivered)
+    ap (λ (xs : List (List ℕ)). record (present_session w) { delivered = xs })
+    (rest-more (last_mark first_mark w.outbound.marks).delivered w.inbound.received (message ∷ []) (present-within w all).delivered)
 
 pub present-acknowledged : (w : Delivery) → IsMarked w → present_session (one_acknowledged w) ≡ with_acknowledged (present_session w)
 present-acknowledged w all = ap (λ (n : ℕ). record (present_session w) { acknowledged = n }) (omega (arith, (present-within w all).acknowledged))
@@ -146,23 +148,29 @@ number-marked w all =
 abbrev pub IsDivided : (Session → Type 0) → Delivery → Type 0
 IsDivided P w = IsMarked w × All P (ended_sessions w)
 
-divided-more : (P : Session → Type 0) (w v : Delivery) → IsWithin (present_mark v) (present_mark w) → ended_sessions v ≡ ended_sessions w → v.outbound.marks ≡ w.outbound.marks → IsDivided P w → IsDivided P v
-divided-more P w v l e m h =
-    (subst (All (IsWithin (present_mark v))) (sym m) (All-weaker (IsWithin (present_mark w)) (IsWithin (present_mark v)) (within-more (present_mark w) (present_mark v) l) w.outbound.marks h.0), subst (All P) (sym e) h.1)
+divided-more : (P : Session → Type 0) (w v : Delivery) → IsWithin (present_mark v) (present_mark w)
+    → ended_sessions v ≡ ended_sessions w → v.outbound.marks ≡ w.outbound.marks → IsDivided P w → IsDivided P v
+divided-more P w v l e m h = (
+  subst (All (IsWithin (present_mark v))) (sym m) (All-weaker (IsWithin (present_mark w))
+      (IsWithin (present_mark v)) (within-more (present_mark w) (present_mark v) l) w.outbound.marks h.0),
+  subst (All P) (sym e) h.1,
+)
 
 pub divided-sent : (P : Session → Type 0) (w : Delivery) (message : List ℕ) → IsDivided P w → IsDivided P (one_sent w message)
 divided-sent P w message h =
     let limit = present_mark w in
     divided-more P w (one_sent w message) (record { sent = omega (arith, length-append w.outbound.sent (message ∷ [])); delivered = omega arith; acknowledged = omega arith })
     (ended-more limit first_mark w.outbound.marks w.outbound.sent w.inbound.received (w.outbound.sent ++ message ∷ []) w.inbound.received (omega arith) (omega arith)
-    (λ (at count : ℕ) (fits : at + count ≤ length w.outbound.sent). part_left at count w.outbound.sent (message ∷ []) fits) (λ (at count : ℕ) (fits : at + count ≤ length w.inbound.received). refl) (first-within limit) h.0) refl h
+    (λ (at count : ℕ) (fits : at + count ≤ length w.outbound.sent). part_left at count w.outbound.sent (message ∷ []) fits)
+    (λ (at count : ℕ) (fits : at + count ≤ length w.inbound.received). refl) (first-within limit) h.0) refl h
 
 pub divided-delivered : (P : Session → Type 0) (w : Delivery) (message : List ℕ) → IsDivided P w → IsDivided P (one_delivered w message)
 divided-delivered P w message h =
     let limit = present_mark w in
     divided-more P w (one_delivered w message) (record { sent = omega arith; delivered = omega (arith, length-append w.inbound.received (message ∷ [])); acknowledged = omega arith })
     (ended-more limit first_mark w.outbound.marks w.outbound.sent w.inbound.received w.outbound.sent (w.inbound.received ++ message ∷ []) (omega arith) (omega arith)
-    (λ (at count : ℕ) (fits : at + count ≤ length w.outbound.sent). refl) (λ (at count : ℕ) (fits : at + count ≤ length w.inbound.received). part_left at count w.inbound.received (message ∷ []) fits) (first-within limit) h.0) refl h
+    (λ (at count : ℕ) (fits : at + count ≤ length w.outbound.sent). refl) (λ (at count : ℕ) (fits : at + count ≤ length w.inbound.received).
+    part_left at count w.inbound.received (message ∷ []) fits) (first-within limit) h.0) refl h
 
 pub divided-acknowledged : (P : Session → Type 0) (w : Delivery) → IsDivided P w → IsDivided P (one_acknowledged w)
 divided-acknowledged P w h = divided-more P w (one_acknowledged w) (record { sent = omega arith; delivered = omega arith; acknowledged = omega arith }) refl refl h

@@ -117,7 +117,8 @@ step-tells side d event =
 
 -- A run adds what its steps tell of.
 
-pub run-heard : (side : Side) (events : List DuplexEvent) (d : DuplexState) → (station_at side (duplex_run d events)).inbound.received ≡ (station_at side d).inbound.received ++ side_heard_in side (duplex_steps d events)
+pub run-heard : (side : Side) (events : List DuplexEvent) (d : DuplexState)
+    → (station_at side (duplex_run d events)).inbound.received ≡ (station_at side d).inbound.received ++ side_heard_in side (duplex_steps d events)
 unfolding run_by steps_by side_heard_in
 run-heard side [] d = none (station_at side d).inbound.received
 run-heard side (event ∷ events) d =
@@ -126,7 +127,8 @@ run-heard side (event ∷ events) d =
     ∙ ap (λ (ms : List (List ℕ)). ms ++ side_heard_in side (duplex_steps x.0 events)) (step-tells side d event).heard
     ∙ append_assoc (station_at side d).inbound.received (side_heard_by side x.1) (side_heard_in side (duplex_steps x.0 events))
 
-pub run-sent : (side : Side) (events : List DuplexEvent) (d : DuplexState) → (station_at side (duplex_run d events)).outbound.sent ≡ (station_at side d).outbound.sent ++ side_sent_in side events (duplex_steps d events)
+pub run-sent : (side : Side) (events : List DuplexEvent) (d : DuplexState)
+    → (station_at side (duplex_run d events)).outbound.sent ≡ (station_at side d).outbound.sent ++ side_sent_in side events (duplex_steps d events)
 unfolding run_by steps_by side_sent_in
 run-sent side [] d = none (station_at side d).outbound.sent
 run-sent side (event ∷ events) d =

@@ -25,7 +25,8 @@ step-at : (side : Side) (d : DuplexState) (n m : Newest) (event : DuplexEvent) �
 step-at A d n m event l is f = steps d.a d.b n m event l is f
 step-at B d n m event l is f = let next = steps d.b d.a m n event (l.1, l.0) is f in (next.1, next.0)
 
-step-follows : (d : DuplexState) (n m : Newest) (event : DuplexEvent) → AreDeliveriesIn d n m → IsDuplexEvent event → (duplex_step d event).1.step.false_pass ≡ false → AreFollowedIn (duplex_step d event).0 n m
+step-follows : (d : DuplexState) (n m : Newest) (event : DuplexEvent)
+    → AreDeliveriesIn d n m → IsDuplexEvent event → (duplex_step d event).1.step.false_pass ≡ false → AreFollowedIn (duplex_step d event).0 n m
 unfolding duplex_step
 step-follows d n m event l is f = step-at (side_of event) d n m event l is f
 
@@ -34,7 +35,8 @@ abbrev delivery_from : Side → Newest → DuplexState → List DuplexEvent → 
 delivery_from side n d events =
     record (delivery_at side (duplex_run d events)) { packet_sent = newest_in data_in side n.sent d events; answer = newest_in answer_in (other_side side) n.answer d events }
 
-run-deliveries : (events : List DuplexEvent) (d : DuplexState) (n m : Newest) → AreDeliveriesIn d n m → AreDuplexEvents events → EachIs (λ (step : DuplexStep). step.step.false_pass ≡ false) (duplex_steps d events) →
+run-deliveries : (events : List DuplexEvent) (d : DuplexState) (n m : Newest)
+    → AreDeliveriesIn d n m → AreDuplexEvents events → EachIs (λ (step : DuplexStep). step.step.false_pass ≡ false) (duplex_steps d events) →
     IsRunDelivery (delivery_from A n d events) × IsRunDelivery (delivery_from B m d events)
 unfolding EachIs run_by steps_by newest_in
 run-deliveries [] d n m l are clean = (l.0.runs, l.1.runs)
@@ -62,7 +64,8 @@ pub run-facts : (events : List DuplexEvent) (side : Side) → AreDuplexEvents ev
 run-facts events side are clean = let r = run-at events side are clean in subst DeliveryFacts r.is (facts-kept r.happenings r.clean)
 
 -- the sessions of a delivery are those of its halves
-same-sessions : (from : Mark) (marks : List Mark) (w : Delivery) (sent answer : Option Packet) → sessions_from from marks (record w { packet_sent = sent; answer = answer }) ≡ sessions_from from marks w
+same-sessions : (from : Mark) (marks : List Mark) (w : Delivery) (sent answer : Option Packet)
+    → sessions_from from marks (record w { packet_sent = sent; answer = answer }) ≡ sessions_from from marks w
 unfolding sessions_from
 same-sessions from [] w sent answer = refl
 same-sessions from (mark ∷ marks) w sent answer = ap (λ (rest : List Session). session_between from mark w ∷ rest) (same-sessions mark marks w sent answer)
@@ -82,7 +85,8 @@ unfolding newest_after
 carries-newest None newest = tt
 carries-newest (Some packet) newest = refl
 
-newest-carried : (kind : Option Packet → Option Packet) (side : Side) (events : List DuplexEvent) (d : DuplexState) (newest : Option Packet) → IfSome (kind (station_at side d).newest) (λ p. newest ≡ Some p) →
+newest-carried : (kind : Option Packet → Option Packet) (side : Side) (events : List DuplexEvent) (d : DuplexState) (newest : Option Packet)
+    → IfSome (kind (station_at side d).newest) (λ p. newest ≡ Some p) →
     IfSome (kind (station_at side (duplex_run d events)).newest) (λ p. newest_in kind side newest d events ≡ Some p)
 unfolding newest_in run_by
 newest-carried kind side [] d newest is = is

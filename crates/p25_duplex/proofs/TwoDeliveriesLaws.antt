@@ -69,7 +69,8 @@ unfolding newest_after
 newest-twice None y = refl
 newest-twice (Some packet) y = refl
 
-follows : (own other : StationState) (n was : Newest) → newest_after (data_in own.newest) n.sent ≡ was.sent → newest_after (answer_in other.newest) n.answer ≡ was.answer → IsRunDelivery (delivering own other was) →
+follows : (own other : StationState) (n was : Newest) → newest_after (data_in own.newest) n.sent ≡ was.sent
+    → newest_after (answer_in other.newest) n.answer ≡ was.answer → IsRunDelivery (delivering own other was) →
     IsDeliveryOf own other (followed own other n)
 follows own other n was s a r = record {
   data_is = newest-twice (data_in own.newest) n.sent;

@@ -25,7 +25,8 @@ bits_due scan more = repeated_by (items_of scan.place (scan.held ++ more)) (scan
 
 -- since a writer held `before` and a page `kept`, bits came to a scanner, and some of the bits that are sent again were written; the others
 -- are due
-pub record HasRepeated (bits : List Bool) (before : Option (List ℕ)) (kept : List Bool) (scan : Scan) (now : Option (List ℕ)) (left : List Bool) (next : Scan) : Type 0 where
+pub record HasRepeated (bits : List Bool) (before : Option (List ℕ)) (kept : List Bool) (scan : Scan)
+    (now : Option (List ℕ)) (left : List Bool) (next : Scan) : Type 0 where
   pub done : List Bool
   pub written : AreWritten before (kept ++ done) now left
   pub due : (more : List Bool) → (next.finished ≡ true → more ≡ []) → bits_due scan (bits ++ more) ≡ done ++ bits_due next more

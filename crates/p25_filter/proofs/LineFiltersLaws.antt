@@ -149,7 +149,8 @@ module _ {M E : Type 0} (rules : LineRules M E) where
     }
 
     goes-on : (then : List ℕ) (next : LinePhase) → now ≡ line_filtering work.machine then work.lines work.behind next → (taken : List ℕ)
-        → Progress (line_future rules (line_filtering work.machine work.line work.lines work.behind Reading)) taken [] (line_future rules (line_filtering work.machine then work.lines work.behind next))
+        → Progress (line_future rules (line_filtering work.machine work.line work.lines work.behind Reading)) taken
+        [] (line_future rules (line_filtering work.machine then work.lines work.behind next))
         → Progress (line_future rules work) taken [] (line_future rules now)
     goes-on then next is taken progress =
         subst (λ (w : LineFiltering M). Progress (line_future rules work) taken [] (line_future rules w)) (sym is)

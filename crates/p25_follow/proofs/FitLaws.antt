@@ -9,7 +9,8 @@ use Rattle.p25_stream.proofs.{ItemLaws.{item-among}, ItemsLaws.{first_item-cases
 use Rattle.p25_follow.specs.{RelayLaws.{ItemsFit}, Relayed.{IsFitItem}}
 
 -- an item of whole blocks, whatever is read of them
-fit-from : (place : ℕ) (nid : ℕ × ℕ) (sent : List Bool) (reading : Result Frame (List Field)) → length sent % 72 ≡ 0 → 144 ≤ length sent → length sent ≤ 25920 → IsFitItem (item_from place nid sent reading)
+fit-from : (place : ℕ) (nid : ℕ × ℕ) (sent : List Bool) (reading : Result Frame (List Field))
+    → length sent % 72 ≡ 0 → 144 ≤ length sent → length sent ≤ 25920 → IsFitItem (item_from place nid sent reading)
 fit-from place nid sent (Ok frame) blocks some most = tt
 fit-from place nid sent (Err fields) blocks some most = (blocks, some, most)
 

@@ -168,7 +168,8 @@ broken-unit at n bits place count ours duid fields need is =
     let reads = identifier_of-take n bits (omega (arith, there.0, there.2)) ∙ known.read in
     let reading = body_reading_of known.nid.1 (bare_of sent) in
     let item = unit_item_of-some at sent known.nid (frame_from known.nid.0 (statuses_of sent) reading) reads (reading_from-some known.nid sent) in
-    broken-by at bits n known.nid place count ours duid fields reading (identifier_of-fits sent known.nid reads).1 (length-take-le n bits there.3) (IsUnitOf-need n bits known.nid.1 known.kind) refl (sym item ∙ is)
+    broken-by at bits n known.nid place count ours duid fields reading
+    (identifier_of-fits sent known.nid reads).1 (length-take-le n bits there.3) (IsUnitOf-need n bits known.nid.1 known.kind) refl (sym item ∙ is)
 
 broken-of : (at : ℕ) (bits : List Bool) (place count ours duid : ℕ) (fields : List Field) → first_item at bits ≡ Broken place count ours duid fields → IsBrokenOf at bits place count duid fields
 broken-of at bits place count ours duid fields =
@@ -190,7 +191,13 @@ module _ (nac : ℕ) (status : Status) (nac_fits : nac < 4096) (at : ℕ) (bits 
   forwarded-long =
       let read = whole-within at bits place frame fixes is in
       let count = length frame.statuses in
-      omega (arith, length-image_of-blocks (bridged_frame nac status frame) forwarded-sound.0 forwarded-sound.1, length-replicate count status, length-image_of-blocks frame read.sound read.sendable, length-image_of frame read.sound read.sendable)
+      omega (
+        arith,
+        length-image_of-blocks (bridged_frame nac status frame) forwarded-sound.0 forwarded-sound.1,
+        length-replicate count status,
+        length-image_of-blocks frame read.sound read.sendable,
+        length-image_of frame read.sound read.sendable,
+      )
 
 -- ---- what is forwarded of a first item
 module _ (nac : ℕ) (status : Status) (nac_fits : nac < 4096) where

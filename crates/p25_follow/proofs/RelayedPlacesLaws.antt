@@ -221,7 +221,8 @@ relay-keeps nac status bits before unit after name nac_fits is named =
     let begins : items_of place rest ≡ relayed_item nac status unit ∷ items_of (place + covered (first_item place rest)) (drop (covered (first_item place rest)) rest)
     = items_by-more true place rest some refl ∙ ap (λ (item : Item). item ∷ items_of (place + covered (first_item place rest)) (drop (covered (first_item place rest)) rest)) found in
     subst (λ (out : List Bool). IsHidden place (items_of 0 out) ⊎ IsAmong (relayed_item nac status unit) (items_of 0 out)) (sym whole)
-    (among-by place rest synced (relayed_item nac status unit) (items_of (place + covered (first_item place rest)) (drop (covered (first_item place rest)) rest)) (items_of 0 (at.beginning ++ rest)) begins
+    (among-by place rest synced (relayed_item nac status unit)
+    (items_of (place + covered (first_item place rest)) (drop (covered (first_item place rest)) rest)) (items_of 0 (at.beginning ++ rest)) begins
     (walk place rest synced (length at.beginning) 0 at.beginning (omega arith) here))
   where
     by-length : (rest : List Bool) → has_sync rest ≡ true → 0 < length rest

@@ -51,11 +51,13 @@ delivered-message part message s t b c v w f g o e =
     = ap (λ (x : Session). take (length t.delivered) x.sent) e ∙ take_all (length t.delivered) s.sent (omega (arith, more, count, sent.0)) in
     (last-same s.delivered sent.1.0 message part (sym (ap (λ (x : Session). x.delivered) e) ∙ g.delivered ∙ all ∙ sent.1.1), count)
 
-delivered-by : (out : Outstanding) (message : List ℕ) (v w : Delivery) → IsKept v → IsKept w → outstanding_in v ≡ out → outstanding_in w ≡ out → present_session w ≡ with_delivered (present_session v) message →
+delivered-by : (out : Outstanding) (message : List ℕ) (v w : Delivery)
+    → IsKept v → IsKept w → outstanding_in v ≡ out → outstanding_in w ≡ out → present_session w ≡ with_delivered (present_session v) message →
     (outstanding_in v ≡ Message message) × (length (present_session v).delivered ≡ (present_session v).acknowledged)
 unfolding FactsBy
 delivered-by Nothing message v w k l o p e =
-    let more : length (present_session w).delivered ≡ length (present_session v).delivered + 1 = ap (λ (x : Session). length x.delivered) e ∙ length-append (present_session v).delivered (message ∷ []) in
+    let more : length (present_session w).delivered ≡ length (present_session v).delivered + 1
+    = ap (λ (x : Session). length x.delivered) e ∙ length-append (present_session v).delivered (message ∷ []) in
     absurd (omega (arith, more, quiet-counts v k o, quiet-counts w l p, ap (λ (x : Session). x.acknowledged) e))
 delivered-by (Message part) message v w k l o p e =
     let d = delivered-message part message (present_session v) (present_session w) (first_number v) (first_number w) v w (facts-at v (Message part) k o) (facts-at w (Message part) l p) o e in
@@ -75,7 +77,8 @@ delivered-is v w message k l o e =
     }
 
 -- A message is acknowledged: it had arrived.
-pub acknowledged-is : (v w : Delivery) → IsKept v → IsKept w → outstanding_in w ≡ Nothing → lists_of w ≡ one_acknowledged (lists_of v) → length (present_session v).delivered ≡ (present_session v).acknowledged + 1
+pub acknowledged-is : (v w : Delivery) → IsKept v → IsKept w
+    → outstanding_in w ≡ Nothing → lists_of w ≡ one_acknowledged (lists_of v) → length (present_session v).delivered ≡ (present_session v).acknowledged + 1
 acknowledged-is v w k l o e =
     let p : present_session w ≡ with_acknowledged (present_session v) = ap present_session e ∙ present-acknowledged (lists_of v) k.divided.0 in
     sym (ap (λ (x : Session). length x.delivered) p) ∙ quiet-counts w l o ∙ ap (λ (x : Session). x.acknowledged) p
@@ -119,7 +122,8 @@ unfoldable pub IsNoMessage : Outstanding → Type 0
 IsNoMessage (Message message) = ⊥
 IsNoMessage other = Unit {0}
 
-pub no-message : (b : ℕ) (s : Session) (v : Delivery) (packet : ConfirmedParts) → IsDelivering b s v → IsHeardOf v.packet_sent (Confirmed packet) → head_syn packet.head ≡ true → IsNoMessage (outstanding_in v)
+pub no-message : (b : ℕ) (s : Session) (v : Delivery) (packet : ConfirmedParts)
+    → IsDelivering b s v → IsHeardOf v.packet_sent (Confirmed packet) → head_syn packet.head ≡ true → IsNoMessage (outstanding_in v)
 unfolding IsNoMessage
 no-message b s v packet (quiet last q) heard syn = subst IsNoMessage (sym q.outstanding) tt
 no-message b s v packet (busy number message h) heard syn =

@@ -42,7 +42,8 @@ sessions-orderly w f = orderly-divided (long_delivery w) f.divided (present-orde
 
 -- Whether a session of the inner world has ended.
 
-pub happened-on : (w : LongState) (inner : WorldState) (step : Step) → inner.delivery.outbound.marks ≡ w.inner.delivery.outbound.marks → inner_happened w (inner, step) ≡ with_first step (after_kind step.kind (record w { inner = inner }))
+pub happened-on : (w : LongState) (inner : WorldState) (step : Step) → inner.delivery.outbound.marks ≡ w.inner.delivery.outbound.marks
+    → inner_happened w (inner, step) ≡ with_first step (after_kind step.kind (record w { inner = inner }))
 unfolding inner_happened
 happened-on w inner step e =
     let same = ap length e in
@@ -61,7 +62,8 @@ pub step-then : (step : Step) (y : LongState × Then) → FollowsThen y → Foll
 step-then step y f = record { follows = f.follows; unrefused = f.unrefused }
 
 -- where no session ended, what follows is that of the step
-pub on : (w : LongState) (inner : WorldState) (step : Step) → inner.delivery.outbound.marks ≡ w.inner.delivery.outbound.marks → FollowsThen (after_kind step.kind (record w { inner = inner })) → FollowsStep (inner_happened w (inner, step))
+pub on : (w : LongState) (inner : WorldState) (step : Step) → inner.delivery.outbound.marks ≡ w.inner.delivery.outbound.marks
+    → FollowsThen (after_kind step.kind (record w { inner = inner })) → FollowsStep (inner_happened w (inner, step))
 on w inner step e f = subst FollowsStep (sym (happened-on w inner step e)) (step-then step (after_kind step.kind (record w { inner = inner })) f)
 
 -- A step that means nothing.
@@ -79,7 +81,8 @@ plain-unrefused e = absurd (cc)
 plain-then : (kind : StepKind) (w : LongState) → IsPlainKind kind → Follows w → FollowsThen (after_kind kind w)
 plain-then kind w p f = subst FollowsThen (sym (after-plain kind w p)) (record { follows = f; unrefused = plain-unrefused })
 
-same-matches : (v u : Delivery) (out : Option OutstandingPart) (j : Joining) (p : Session) → IsSameIn v u → HasSameLast v u → present_session u ≡ present_session v → Matches v out j p → Matches u out j p
+same-matches : (v u : Delivery) (out : Option OutstandingPart) (j : Joining) (p : Session)
+    → IsSameIn v u → HasSameLast v u → present_session u ≡ present_session v → Matches v out j p → Matches u out j p
 same-matches v u out j p o l s m =
     let last : MatchesBy (outstanding_in v) u.inbound.receiver.last (present_session v) out j p = subst (λ (n : ℕ). MatchesBy (outstanding_in v) n (present_session v) out j p) (sym l) m in
     matches-from u (outstanding_in v) out j p o (subst (λ (x : Session). MatchesBy (outstanding_in v) u.inbound.receiver.last x out j p) (sym s) last)
@@ -94,7 +97,8 @@ nothing-follows w inner step f k p o l e =
 
 -- The session is open.
 
-opened-matches : (v u : Delivery) (out : Option OutstandingPart) (j : Joining) (p : Session) (number : ℕ) → outstanding_in v ≡ Opening number → v.inbound.receiver.last ≡ number → outstanding_in u ≡ Nothing → Matches v out j p
+opened-matches : (v u : Delivery) (out : Option OutstandingPart) (j : Joining) (p : Session) (number : ℕ)
+    → outstanding_in v ≡ Opening number → v.inbound.receiver.last ≡ number → outstanding_in u ≡ Nothing → Matches v out j p
     → Matches u out j p
 unfolding MatchesBy
 opened-matches v u out j p number o l q m =
@@ -111,11 +115,16 @@ pub opened-follows : (w : LongState) (inner : WorldState) (step : Step) (number 
     lists_of inner.delivery ≡ lists_of w.inner.delivery → FollowsStep (inner_happened w (inner, step))
 opened-follows w inner step number f k p o l q e =
     on w inner step (ap (λ (v : Delivery). v.outbound.marks) e)
-    (plain-then step.kind (record w { inner = inner }) p (record { kept = k; divided = f.divided; matches = opened-matches w.inner.delivery inner.delivery w.outstanding w.joining (present w) number o l q f.matches }))
+    (plain-then step.kind (record w { inner = inner }) p (record {
+      kept = k;
+      divided = f.divided;
+      matches = opened-matches w.inner.delivery inner.delivery w.outstanding w.joining (present w) number o l q f.matches;
+    }))
 
 -- The opening packet is heard.
 
-syn-matches : (o : Outstanding) (last : ℕ) (s : Session) (u : ℕ) (t : Session) (out : Option OutstandingPart) (j : Joining) (p : Session) → IsNoMessage o → MatchesBy o last s out j p → MatchesBy o u t out first_joining p
+syn-matches : (o : Outstanding) (last : ℕ) (s : Session) (u : ℕ) (t : Session) (out : Option OutstandingPart) (j : Joining) (p : Session)
+    → IsNoMessage o → MatchesBy o last s out j p → MatchesBy o u t out first_joining p
 unfolding IsNoMessage MatchesBy
 syn-matches Nothing last s u t out j p is m = record { out_is = m.out_is; joining_is = refl; whole_is = m.whole_is; acknowledged_is = m.acknowledged_is }
 syn-matches (Message part) last s u t out j p is m = absurd is
@@ -130,9 +139,11 @@ pub syn-follows : (w : LongState) (inner : WorldState) (step : Step) (number : �
     FollowsStep (inner_happened w (inner, step))
 syn-follows w inner step number f k s is o e =
     let v = w.inner.delivery in
-    let m = syn-matches (outstanding_in v) v.inbound.receiver.last (present_session v) inner.delivery.inbound.receiver.last (present_session inner.delivery) w.outstanding w.joining (present w) is f.matches in
+    let m = syn-matches (outstanding_in v) v.inbound.receiver.last
+    (present_session v) inner.delivery.inbound.receiver.last (present_session inner.delivery) w.outstanding w.joining (present w) is f.matches in
     on w inner step (ap (λ (u : Delivery). u.outbound.marks) e)
-    (syn-then (record w { inner = inner }) step.kind number s (record { kept = k; divided = f.divided; matches = matches-from inner.delivery (outstanding_in v) w.outstanding first_joining (present w) o m }))
+    (syn-then (record w { inner = inner }) step.kind number s
+    (record { kept = k; divided = f.divided; matches = matches-from inner.delivery (outstanding_in v) w.outstanding first_joining (present w) o m }))
 
 -- A session ends.
 
@@ -149,4 +160,5 @@ ended-follows w inner step number f k o away e =
       matches = matches-from inner.delivery (Opening number) None w.joining (present now.0) o
           (record { out_is = refl; session_is = present-marked (long_delivery w); joining_is = λ (is : inner.delivery.inbound.receiver.last ≡ number). absurd (away is) });
     } in
-    subst FollowsStep (sym (happened-end w inner step (present_mark w.inner.delivery) (ap (λ (v : Delivery). v.outbound.marks) e))) (step-then step now (record { follows = follows; unrefused = plain-unrefused }))
+    subst FollowsStep (sym (happened-end w inner step (present_mark w.inner.delivery) (ap (λ (v : Delivery). v.outbound.marks) e)))
+    (step-then step now (record { follows = follows; unrefused = plain-unrefused }))

@@ -34,7 +34,8 @@ more-octets message number =
 inner-length : (message : List ℕ) (number : ℕ) → number + 1 < part_count (length message) → length (part (500 * number) 500 message) ≡ 500
 inner-length message number h = omega (arith, length-take 500 (drop (500 * number) message), length-drop (500 * number) message)
 
-last-length : (message : List ℕ) (number : ℕ) → number + 1 ≡ part_count (length message) → (length (part (500 * number) 500 message) ≤ 500) × (0 < number → 0 < length (part (500 * number) 500 message))
+last-length : (message : List ℕ) (number : ℕ) → number + 1 ≡ part_count (length message)
+    → (length (part (500 * number) 500 message) ≤ 500) × (0 < number → 0 < length (part (500 * number) 500 message))
 last-length message number h =
     (omega (arith, length-take 500 (drop (500 * number) message)), λ n. omega (arith, length-take 500 (drop (500 * number) message), length-drop (500 * number) message))
 
@@ -47,7 +48,8 @@ unfolding part_taken
 accepted j last number octets e = ap (λ (b : Bool). taken_as b last j number octets) e
 
 -- a part that is not the last
-pub join-inner : (message : List ℕ) (number : ℕ) → length message ≤ 4000 → number + 1 < part_count (length message) → message_taken (joined_at message number) (part_of message number) ≡ (joined_at message (number + 1), Part number)
+pub join-inner : (message : List ℕ) (number : ℕ) → length message ≤ 4000 → number + 1 < part_count (length message)
+    → message_taken (joined_at message number) (part_of message number) ≡ (joined_at message (number + 1), Part number)
 unfolding part_of taken_as
 join-inner message number short h =
     let j = joined_at message number in
@@ -55,11 +57,13 @@ join-inner message number short h =
     let mark : part_mark (part_count (length message)) number ≡ number = mark-inner (part_count (length message)) number h in
     let few : number < 7 = omega arith in
     let test : nat_le 128 number ≡ false = grind (arith, nat_tests) in
-    ap (λ (m : ℕ). message_taken j (m ∷ octets)) mark ∙ by-mark j false number number octets test (omega arith) ∙ accepted j false number octets (inner-accepted number (length octets) few (inner-length message number h)) ∙
+    ap (λ (m : ℕ). message_taken j (m ∷ octets)) mark ∙ by-mark j false number number octets test (omega arith)
+    ∙ accepted j false number octets (inner-accepted number (length octets) few (inner-length message number h)) ∙
     ap (λ (xs : List ℕ). (record { next = number + 1; octets = xs }, Part number)) (more-octets message number)
 
 -- the last part
-pub join-last : (message : List ℕ) (number : ℕ) → length message ≤ 4000 → number + 1 ≡ part_count (length message) → message_taken (joined_at message number) (part_of message number) ≡ (first_joining, Whole message)
+pub join-last : (message : List ℕ) (number : ℕ) → length message ≤ 4000
+    → number + 1 ≡ part_count (length message) → message_taken (joined_at message number) (part_of message number) ≡ (first_joining, Whole message)
 unfolding part_of taken_as
 join-last message number short h =
     let j = joined_at message number in
@@ -68,5 +72,6 @@ join-last message number short h =
     let test : nat_le 128 (number + 128) ≡ true = grind (arith, nat_tests) in
     let sizes = last-length message number h in
     let all : take (500 * (number + 1)) message ≡ message = take_all (500 * (number + 1)) message (omega arith) in
-    ap (λ (m : ℕ). message_taken j (m ∷ octets)) mark ∙ by-mark j true (number + 128) number octets test (omega arith) ∙ accepted j true number octets (last-accepted number (length octets) sizes.0 sizes.1) ∙
+    ap (λ (m : ℕ). message_taken j (m ∷ octets)) mark ∙ by-mark j true (number + 128) number octets test (omega arith)
+    ∙ accepted j true number octets (last-accepted number (length octets) sizes.0 sizes.1) ∙
     ap (λ (xs : List ℕ). (first_joining, Whole xs)) (more-octets message number ∙ all)

@@ -33,7 +33,8 @@ unfolding run_by EachIs
 history_first = record { events = []; kept = λ none. tt; run = refl }
 
 -- a world after a step has one, where the world before it has
-pub history-step : (w next : LongState) (beside offers : Bool) (event : LongEvent) (step : LongStep) → HasLongHistory w beside → IsEventOf offers event → (next, step) ≡ long_step w event → HasLongHistory next (beside || offers)
+pub history-step : (w next : LongState) (beside offers : Bool) (event : LongEvent) (step : LongStep)
+    → HasLongHistory w beside → IsEventOf offers event → (next, step) ≡ long_step w event → HasLongHistory next (beside || offers)
 unfolding run_by EachIs
 history-step w next false false event step before is now =
     record {

@@ -61,7 +61,8 @@ inner-tells : (event : Event) (w : LongState) (inner : WorldState) (step : Step)
 unfolding inner_happened
 inner-tells event w inner step =
     let now : LongState = record w { inner = inner } in
-    elim (nat_lt (length w.inner.delivery.outbound.marks) (length inner.delivery.outbound.marks)) as (λ (b : Bool). Tells (Inner event) w (with_first step (cond b (session_ended now) (after_kind step.kind now)))) [
+    elim (nat_lt (length w.inner.delivery.outbound.marks) (length inner.delivery.outbound.marks)) as (λ (b : Bool).
+    Tells (Inner event) w (with_first step (cond b (session_ended now) (after_kind step.kind now)))) [
       | true ↦ record { whole = none w.whole; taken = none w.taken; acknowledged = omega arith }
       | false ↦ let t = kind-tells step.kind now in first-tells event w step (after_kind step.kind now) (record { whole = t.whole; taken = t.taken; acknowledged = t.acknowledged })
     ]

@@ -45,7 +45,8 @@ started-follows w message f short o up =
 unmoved-follows : (w : LongState) (told : Then) → told ≢ Refused → Follows w → FollowsStep (unmoved w told)
 unmoved-follows w told t f = record { follows = f; unrefused = t }
 
-offered-follows : (w : LongState) (message : List ℕ) (x : WorldState × Step) → Follows w → length message ≤ 4000 → x ≡ world_step w.inner (Send (part_of message 0)) → OfferedAs w message x → FollowsStep (long_offered w message)
+offered-follows : (w : LongState) (message : List ℕ) (x : WorldState × Step)
+    → Follows w → length message ≤ 4000 → x ≡ world_step w.inner (Send (part_of message 0)) → OfferedAs w message x → FollowsStep (long_offered w message)
 offered-follows w message x f short i (told_down y e) = subst FollowsStep (sym e) (unmoved-follows w Down (λ q. absurd (cc)) f)
 offered-follows w message x f short i (told_busy y e) = subst FollowsStep (sym e) (unmoved-follows w Busy (λ q. absurd (cc)) f)
 offered-follows w message x f short i (told_taken number blocks k d o e) = subst FollowsStep (sym (e ∙ ap (started w message) i)) (started-follows w message f short o d)

@@ -29,7 +29,8 @@ next-or-last number count h =
     by (nat_lt (number + 1) count) refl
 
 -- what the joiner held before, where the part had not come
-held-before : (message : List ℕ) (number : ℕ) (earlier : List (List ℕ)) (delivered acknowledged : ℕ) (j : Joining) (whole : List (List ℕ)) → delivered ≡ acknowledged → Came message number earlier delivered acknowledged j whole →
+held-before : (message : List ℕ) (number : ℕ) (earlier : List (List ℕ)) (delivered acknowledged : ℕ) (j : Joining) (whole : List (List ℕ))
+    → delivered ≡ acknowledged → Came message number earlier delivered acknowledged j whole →
     (whole ≡ earlier) × (j ≡ joined_at message number)
 held-before message number earlier d a j whole c (not_yet e w i) = (w, i)
 held-before message number earlier d a j whole c (came_inner e n w i) = absurd (omega (arith, c, e))
@@ -76,7 +77,8 @@ takes-last w inner part f k o c m d j n =
     subst (λ (x : Joining × Joined). FollowsThen (after_delivered now x)) (sym taken)
     (record { follows = record { kept = k; divided = divided-delivered IsOrderly (long_delivery w) m.message f.divided; matches = matches }; unrefused = λ q. absurd (cc) })
 
-takes-part : (w : LongState) (inner : WorldState) (part : List ℕ) → Follows w → IsKept inner.delivery → outstanding_in inner.delivery ≡ outstanding_in w.inner.delivery → IsDelivered w.inner.delivery inner.delivery part
+takes-part : (w : LongState) (inner : WorldState) (part : List ℕ)
+    → Follows w → IsKept inner.delivery → outstanding_in inner.delivery ≡ outstanding_in w.inner.delivery → IsDelivered w.inner.delivery inner.delivery part
     → TakesPart w inner part
 unfolding MatchesBy
 takes-part w inner part f k o d =
@@ -88,7 +90,8 @@ takes-part w inner part f k o d =
       | inr n ↦ takes-last w inner part f k (o ∙ d.outstanding) d.after m.of held.0 held.1 n
     ]
 
-delivered-then : (w : LongState) (inner : WorldState) (kind : StepKind) (number : ℕ) (part : List ℕ) → kind ≡ Delivered number part → TakesPart w inner part → FollowsThen (after_kind kind (record w { inner = inner }))
+delivered-then : (w : LongState) (inner : WorldState) (kind : StepKind) (number : ℕ) (part : List ℕ)
+    → kind ≡ Delivered number part → TakesPart w inner part → FollowsThen (after_kind kind (record w { inner = inner }))
 unfolding TakesPart after_kind
 delivered-then w inner kind number part k t = subst FollowsThen (sym (ap (λ (x : StepKind). after_kind x (record w { inner = inner })) k)) t
 
@@ -123,14 +126,17 @@ offered-to inner message number k o up =
 -- A part is acknowledged.
 
 -- what the joiner holds after the part
-held-after : (message : List ℕ) (number : ℕ) (earlier : List (List ℕ)) (delivered acknowledged : ℕ) (j : Joining) (whole : List (List ℕ)) → delivered ≡ acknowledged + 1 → Came message number earlier delivered acknowledged j whole →
-    ((number + 1 < part_count (length message)) × (whole ≡ earlier) × (j ≡ joined_at message (number + 1))) ⊎ ((number + 1 ≡ part_count (length message)) × (whole ≡ earlier ++ message ∷ []) × (j ≡ first_joining))
+held-after : (message : List ℕ) (number : ℕ) (earlier : List (List ℕ)) (delivered acknowledged : ℕ) (j : Joining) (whole : List (List ℕ))
+    → delivered ≡ acknowledged + 1 → Came message number earlier delivered acknowledged j whole →
+    ((number + 1 < part_count (length message)) × (whole ≡ earlier) × (j ≡ joined_at message (number + 1)))
+    ⊎ ((number + 1 ≡ part_count (length message)) × (whole ≡ earlier ++ message ∷ []) × (j ≡ first_joining))
 held-after message number earlier d a j whole c (not_yet e w i) = absurd (omega (arith, c, e))
 held-after message number earlier d a j whole c (came_inner e n w i) = inl (n, w, i)
 held-after message number earlier d a j whole c (came_last e n w i) = inr (n, w, i)
 
 -- the next part is offered
-next-then : (w : LongState) (inner : WorldState) (part : List ℕ) → Follows w → IsKept inner.delivery → outstanding_in inner.delivery ≡ Nothing → inner.delivery.outbound.sender.down ≡ false → (m : IsPartOf part w.outstanding (present w)) →
+next-then : (w : LongState) (inner : WorldState) (part : List ℕ) → Follows w → IsKept inner.delivery
+    → outstanding_in inner.delivery ≡ Nothing → inner.delivery.outbound.sender.down ≡ false → (m : IsPartOf part w.outstanding (present w)) →
     m.number + 1 < part_count (length m.message) → (present w).delivered ≡ m.earlier → w.joining ≡ joined_at m.message (m.number + 1) →
     FollowsThen (after_acknowledged (Some (record { message = m.message; number = m.number })) (record w { inner = inner }))
 unfolding MatchesBy after_acknowledged next_offered
@@ -161,7 +167,8 @@ next-then w inner part f k o up m n d j =
 -- the long message is acknowledged with its last part
 finished-then : (w : LongState) (inner : WorldState) (part : List ℕ) → Follows w → IsKept inner.delivery → outstanding_in inner.delivery ≡ Nothing → (m : IsPartOf part w.outstanding (present w))
     → m.number + 1 ≡ part_count (length m.message) →
-    (present w).delivered ≡ m.earlier ++ m.message ∷ [] → w.joining ≡ first_joining → FollowsThen (after_acknowledged (Some (record { message = m.message; number = m.number })) (record w { inner = inner }))
+    (present w).delivered ≡ m.earlier ++ m.message ∷ [] → w.joining ≡ first_joining
+    → FollowsThen (after_acknowledged (Some (record { message = m.message; number = m.number })) (record w { inner = inner }))
 unfolding MatchesBy after_acknowledged
 finished-then w inner part f k o m n d j =
     let to : LongState = record w { inner = inner; outstanding = None; acknowledged = w.acknowledged + 1 } in
@@ -178,7 +185,8 @@ finished-then w inner part f k o m n d j =
     let follows : Follows to = record { kept = k; divided = divided-acknowledged IsOrderly (long_delivery w) f.divided; matches = matches } in
     subst FollowsThen (sym (cond-false _ _ _ test)) (record { follows = follows; unrefused = λ q. absurd (cc) })
 
-acknowledged-then : (w : LongState) (inner : WorldState) (kind : StepKind) (number : ℕ) (part : List ℕ) → Follows w → IsKept inner.delivery → kind ≡ Acknowledged number → outstanding_in w.inner.delivery ≡ Message part →
+acknowledged-then : (w : LongState) (inner : WorldState) (kind : StepKind) (number : ℕ) (part : List ℕ)
+    → Follows w → IsKept inner.delivery → kind ≡ Acknowledged number → outstanding_in w.inner.delivery ≡ Message part →
     length (present_session w.inner.delivery).delivered ≡ (present_session w.inner.delivery).acknowledged + 1 → outstanding_in inner.delivery ≡ Nothing → inner.delivery.outbound.sender.down ≡ false →
     FollowsThen (after_kind kind (record w { inner = inner }))
 unfolding MatchesBy after_kind
@@ -203,7 +211,8 @@ moved-follows w inner step h f k c (ends number p d i n o l e) =
     let v = w.inner.delivery in
     ended-follows w inner step number f k o (λ (last : inner.delivery.inbound.receiver.last ≡ number). away (first_number v) (present_session v) v number f.kept.delivering d i n (sym l ∙ last)) e
 moved-follows w inner step h f k c (delivers number message is o e) =
-    on w inner step (ap (λ (v : Delivery). v.outbound.marks) e) (delivered-then w inner step.kind number message is (takes-part w inner message f k o (delivered-is w.inner.delivery inner.delivery message f.kept k o e)))
+    on w inner step (ap (λ (v : Delivery). v.outbound.marks) e) (delivered-then w inner step.kind number message is
+    (takes-part w inner message f k o (delivered-is w.inner.delivery inner.delivery message f.kept k o e)))
 moved-follows w inner step h f k c (hears_opening number packet heard syn is o e) =
     let v = w.inner.delivery in
     let true_to = subst (IsClean v) heard c in

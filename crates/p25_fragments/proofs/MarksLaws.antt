@@ -59,7 +59,8 @@ started-marks : (w : LongState) (message : List ℕ) → AreMarked w → AreMark
 unfolding AreMarked started
 started-marks w message h = h ∙ ap length (sym (send-marks w.inner (part_of message 0)))
 
-offered-marks : (w : LongState) (message : List ℕ) (x : WorldState × Step) → AreMarked w → x ≡ world_step w.inner (Send (part_of message 0)) → OfferedAs w message x → AreMarked (long_offered w message).0
+offered-marks : (w : LongState) (message : List ℕ) (x : WorldState × Step)
+    → AreMarked w → x ≡ world_step w.inner (Send (part_of message 0)) → OfferedAs w message x → AreMarked (long_offered w message).0
 offered-marks w message x h i (told_down y e) = subst (λ (y : LongState × LongStep). AreMarked y.0) (sym e) h
 offered-marks w message x h i (told_busy y e) = subst (λ (y : LongState × LongStep). AreMarked y.0) (sym e) h
 offered-marks w message x h i (told_taken number blocks k d o e) = subst (λ (y : LongState × LongStep). AreMarked y.0) (sym (e ∙ ap (started w message) i)) (started-marks w message h)
@@ -90,7 +91,8 @@ inner-marks w inner step h (inl same) =
     subst (λ (y : LongState × LongStep). AreMarked y.0) (sym (happened-on w inner step same)) (kind-marks step.kind (record w { inner = inner }) (h ∙ ap length (sym same)))
 inner-marks w inner step h (inr (mark, more)) =
     let count = length-append w.inner.delivery.outbound.marks (mark ∷ []) in
-    subst (λ (y : LongState × LongStep). AreMarked y.0) (sym (happened-end w inner step mark more)) (omega (arith, length-append w.marks (present_mark (long_delivery w) ∷ []), h, ap length more, count))
+    subst (λ (y : LongState × LongStep). AreMarked y.0) (sym (happened-end w inner step mark more))
+    (omega (arith, length-append w.marks (present_mark (long_delivery w) ∷ []), h, ap length more, count))
 
 does-marks : (w : LongState) (event : Event) (x : WorldState × Step) → AreMarked w → Does w.inner event x → AreMarked (inner_happened w x).0
 unfolding OneMore

@@ -10,7 +10,8 @@ use Rattle.p25_fragments.proofs.JoinLaws.{joined_at}
 -- and what is whole after the long messages before
 pub data Came (message : List ℕ) (number : ℕ) (earlier : List (List ℕ)) (delivered acknowledged : ℕ) (j : Joining) (whole : List (List ℕ)) : Type 0 where
   not_yet : delivered ≡ acknowledged → whole ≡ earlier → j ≡ joined_at message number → Came message number earlier delivered acknowledged j whole
-  came_inner : delivered ≡ acknowledged + 1 → number + 1 < part_count (length message) → whole ≡ earlier → j ≡ joined_at message (number + 1) → Came message number earlier delivered acknowledged j whole
+  came_inner : delivered ≡ acknowledged + 1 → number + 1 < part_count (length message)
+      → whole ≡ earlier → j ≡ joined_at message (number + 1) → Came message number earlier delivered acknowledged j whole
   came_last : delivered ≡ acknowledged + 1 → number + 1 ≡ part_count (length message) → whole ≡ earlier ++ message ∷ [] → j ≡ first_joining → Came message number earlier delivered acknowledged j whole
 
 -- while nothing is outstanding

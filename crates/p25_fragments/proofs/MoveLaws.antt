@@ -49,10 +49,12 @@ pub data Moves (v : Delivery) (happening : Happening) (x : Delivery × StepKind)
       outstanding_in x.0 ≡ Opening number → HasSameLast v x.0 →
       lists_of x.0 ≡ marked (lists_of v) → Moves v happening x
   delivers : (number : ℕ) (message : List ℕ) → x.1 ≡ Delivered number message → IsSameIn v x.0 → lists_of x.0 ≡ one_delivered (lists_of v) message → Moves v happening x
-  hears_opening : (number : ℕ) (packet : ConfirmedParts) → happening ≡ Data_heard (Confirmed packet) → head_syn packet.head ≡ true → x.1 ≡ SynHeard number → IsSameIn v x.0 → lists_of x.0 ≡ lists_of v → Moves v happening x
+  hears_opening : (number : ℕ) (packet : ConfirmedParts) → happening ≡ Data_heard (Confirmed packet)
+      → head_syn packet.head ≡ true → x.1 ≡ SynHeard number → IsSameIn v x.0 → lists_of x.0 ≡ lists_of v → Moves v happening x
   acknowledges : (number : ℕ) (message : List ℕ) → x.1 ≡ Acknowledged number → outstanding_in v ≡ Message message → outstanding_in x.0 ≡ Nothing → x.0.outbound.sender.down ≡ false →
       lists_of x.0 ≡ one_acknowledged (lists_of v) → Moves v happening x
-  opens_session : (number : ℕ) → IsPlainKind x.1 → outstanding_in v ≡ Opening number → outstanding_in x.0 ≡ Nothing → x.0.outbound.sender.next ≡ (number + 1) % 8 → HasSameLast v x.0 → lists_of x.0 ≡ lists_of v → Moves v happening x
+  opens_session : (number : ℕ) → IsPlainKind x.1 → outstanding_in v ≡ Opening number
+      → outstanding_in x.0 ≡ Nothing → x.0.outbound.sender.next ≡ (number + 1) % 8 → HasSameLast v x.0 → lists_of x.0 ≡ lists_of v → Moves v happening x
 
 -- Time is up.
 
@@ -76,7 +78,8 @@ ReopensBy : Delivery → Outstanding → Sending × ReopenAnswer → Type 0
 ReopensBy v out x = Moves v Opening_again (with_outbound v (after_reopening v.outbound (length v.inbound.received) (is_opening out) x))
 
 -- where the opening packet is sent
-opening-sent : (v : Delivery) (out : Outstanding) (number : ℕ) (s : Sending) → outstanding_in v ≡ out → v.outbound.sender.down ≡ true → opening_number out v.outbound.sender.next ≡ number → s.outstanding ≡ Opening number →
+opening-sent : (v : Delivery) (out : Outstanding) (number : ℕ) (s : Sending)
+    → outstanding_in v ≡ out → v.outbound.sender.down ≡ true → opening_number out v.outbound.sender.next ≡ number → s.outstanding ≡ Opening number →
     ReopensBy v out (s, ReopenSent number (opening_packet number))
 unfolding ReopensBy with_outbound after_reopening newest_after IsPlainKind opening_number
 opening-sent v (Opening before) number s o d n p = moves_nothing tt (p ∙ ap Opening (sym n) ∙ sym o) refl refl
@@ -163,7 +166,8 @@ hears-moves v (Confirmed packet) =
       | true ↦ λ (e : head_syn packet.head ≡ true). hears-syn v packet e
       | false ↦ λ (e : head_syn packet.head ≡ false). hears-data v h packet
     ] in
-    elim (eqb (head_llid packet.head) station_llid) as (λ (b : Bool). HearsBy v h (cond b (cond (head_syn packet.head) syn more) (r, ReceiverIgnored))) [ true ↦ by (head_syn packet.head) refl | false ↦ hears-nothing v h ]
+    elim (eqb (head_llid packet.head) station_llid) as (λ (b : Bool). HearsBy v h (cond b (cond (head_syn packet.head) syn more) (r, ReceiverIgnored)))
+    [ true ↦ by (head_syn packet.head) refl | false ↦ hears-nothing v h ]
 
 -- The sender hears an answer.
 
@@ -176,7 +180,8 @@ answer-same v packet number message (s, HeardAck n) o r = absurd r
 answer-same v packet number message (s, SenderOpened n) o r = absurd r
 answer-same v packet number message x o r = moves_nothing tt o refl refl
 
-answer-message : (v : Delivery) (message : List ℕ) (packet : Packet) (x : Sending × SenderHeard) → outstanding_in v ≡ Message message → HearsAnswer v.outbound.sender message packet x → AnswersBy v packet x
+answer-message : (v : Delivery) (message : List ℕ) (packet : Packet) (x : Sending × SenderHeard)
+    → outstanding_in v ≡ Message message → HearsAnswer v.outbound.sender message packet x → AnswersBy v packet x
 unfolding AnswersBy with_outbound after_answer newest_after
 answer-message v message packet x o (goes_on a e) = subst (AnswersBy v packet) (sym e) (acknowledges v.outbound.sender.next message refl o refl refl refl)
 answer-message v message packet x o (stays s) = answer-same v packet v.outbound.sender.next message x s.0.outstanding s.1

@@ -20,7 +20,8 @@ unfolding offered
 offered-up s message out d o = cond-false s.down _ _ d ∙ ap (λ (x : Outstanding). offered_beside x s message) o
 
 -- and the step that it is
-step-of : (w : WorldState) (message : List ℕ) (x : Sending × Offer) → offered w.delivery.outbound.sender message ≡ x → world_step w (Send message) ≡ quiet_step w (with_outbound w.delivery (after_offer w.delivery.outbound message x))
+step-of : (w : WorldState) (message : List ℕ) (x : Sending × Offer) → offered w.delivery.outbound.sender message ≡ x
+    → world_step w (Send message) ≡ quiet_step w (with_outbound w.delivery (after_offer w.delivery.outbound message x))
 unfolding world_step happens
 step-of w message x e = ap (λ (y : Sending × Offer). quiet_step w (with_outbound w.delivery (after_offer w.delivery.outbound message y))) e
 
@@ -28,11 +29,13 @@ send-down : (w : WorldState) (message : List ℕ) → w.delivery.outbound.sender
 unfolding with_outbound after_offer newest_after
 send-down w message d = step-of w message _ (offered-down w.delivery.outbound.sender message d)
 
-send-message : (w : WorldState) (message other : List ℕ) → w.delivery.outbound.sender.down ≡ false → w.delivery.outbound.sender.outstanding ≡ Message other → world_step w (Send message) ≡ (w, true_step BusyAtOffer)
+send-message : (w : WorldState) (message other : List ℕ) → w.delivery.outbound.sender.down ≡ false
+    → w.delivery.outbound.sender.outstanding ≡ Message other → world_step w (Send message) ≡ (w, true_step BusyAtOffer)
 unfolding with_outbound after_offer newest_after offered_beside
 send-message w message other d o = step-of w message _ (offered-up w.delivery.outbound.sender message (Message other) d o)
 
-send-opening : (w : WorldState) (message : List ℕ) (number : ℕ) → w.delivery.outbound.sender.down ≡ false → w.delivery.outbound.sender.outstanding ≡ Opening number → world_step w (Send message) ≡ (w, true_step BusyAtOffer)
+send-opening : (w : WorldState) (message : List ℕ) (number : ℕ) → w.delivery.outbound.sender.down ≡ false
+    → w.delivery.outbound.sender.outstanding ≡ Opening number → world_step w (Send message) ≡ (w, true_step BusyAtOffer)
 unfolding with_outbound after_offer newest_after offered_beside
 send-opening w message number d o = step-of w message _ (offered-up w.delivery.outbound.sender message (Opening number) d o)
 
@@ -53,10 +56,12 @@ send-taken w message d o = step-of w message _ (offer-quiet w.delivery.outbound.
 pub data OfferedAs (w : LongState) (message : List ℕ) (x : WorldState × Step) : Type 0 where
   told_down : x ≡ (w.inner, true_step OfferDown) → long_offered w message ≡ unmoved w Down → OfferedAs w message x
   told_busy : x ≡ (w.inner, true_step BusyAtOffer) → long_offered w message ≡ unmoved w Busy → OfferedAs w message x
-  told_taken : (number blocks : ℕ) → x.1.kind ≡ Taken number blocks → w.inner.delivery.outbound.sender.down ≡ false → w.inner.delivery.outbound.sender.outstanding ≡ Nothing → long_offered w message ≡ started w message x →
+  told_taken : (number blocks : ℕ) → x.1.kind ≡ Taken number blocks → w.inner.delivery.outbound.sender.down ≡ false
+      → w.inner.delivery.outbound.sender.outstanding ≡ Nothing → long_offered w message ≡ started w message x →
       OfferedAs w message x
 
-beside : (w : LongState) (message : List ℕ) (out : Outstanding) → w.inner.delivery.outbound.sender.down ≡ false → w.inner.delivery.outbound.sender.outstanding ≡ out → long_offered w message ≡ long_offered_beside out w message
+beside : (w : LongState) (message : List ℕ) (out : Outstanding) → w.inner.delivery.outbound.sender.down ≡ false
+    → w.inner.delivery.outbound.sender.outstanding ≡ out → long_offered w message ≡ long_offered_beside out w message
 unfolding long_offered
 beside w message out d o = cond-false w.inner.delivery.outbound.sender.down _ _ d ∙ ap (λ (x : Outstanding). long_offered_beside x w message) o
 
@@ -83,17 +88,20 @@ offered-here w message part inner step p i s =
     let is : (inner, step) ≡ world_step w.inner (Send (part_of message 0)) = ap₂ (λ (v : WorldState) (t : Step). (v, t)) i s ∙ ap (λ (m : List ℕ). world_step w.inner (Send m)) p in
     subst (OfferedAs w message) (sym is) (offered-as w message)
 
-down-arm : (w : LongState) (message : List ℕ) (inner : WorldState) (step : Step) → OfferedAs w message (inner, step) → step.kind ≡ OfferDown → (record w { inner = inner }, record { first = None; then = Down }) ≡ long_offered w message
+down-arm : (w : LongState) (message : List ℕ) (inner : WorldState) (step : Step)
+    → OfferedAs w message (inner, step) → step.kind ≡ OfferDown → (record w { inner = inner }, record { first = None; then = Down }) ≡ long_offered w message
 down-arm w message inner step (told_down x e) k = ap (λ (y : WorldState × Step). (record w { inner = y.0 }, record { first = None; then = Down })) x ∙ sym e
 down-arm w message inner step (told_busy x e) k = absurd (cc (k, ap (λ (y : WorldState × Step). y.1.kind) x))
 down-arm w message inner step (told_taken number blocks t d o e) k = absurd (cc (k, t))
 
-busy-arm : (w : LongState) (message : List ℕ) (inner : WorldState) (step : Step) → OfferedAs w message (inner, step) → step.kind ≡ BusyAtOffer → (record w { inner = inner }, record { first = None; then = Busy }) ≡ long_offered w message
+busy-arm : (w : LongState) (message : List ℕ) (inner : WorldState) (step : Step) → OfferedAs w message (inner, step)
+    → step.kind ≡ BusyAtOffer → (record w { inner = inner }, record { first = None; then = Busy }) ≡ long_offered w message
 busy-arm w message inner step (told_down x e) k = absurd (cc (k, ap (λ (y : WorldState × Step). y.1.kind) x))
 busy-arm w message inner step (told_busy x e) k = ap (λ (y : WorldState × Step). (record w { inner = y.0 }, record { first = None; then = Busy })) x ∙ sym e
 busy-arm w message inner step (told_taken number blocks t d o e) k = absurd (cc (k, t))
 
-taken-arm : (w : LongState) (message : List ℕ) (inner : WorldState) (step : Step) → OfferedAs w message (inner, step) → (step.kind ≡ OfferDown → ⊥) → (step.kind ≡ BusyAtOffer → ⊥) → started w message (inner, step) ≡ long_offered w message
+taken-arm : (w : LongState) (message : List ℕ) (inner : WorldState) (step : Step) → OfferedAs w message (inner, step)
+    → (step.kind ≡ OfferDown → ⊥) → (step.kind ≡ BusyAtOffer → ⊥) → started w message (inner, step) ≡ long_offered w message
 taken-arm w message inner step (told_down x e) no_down no_busy = absurd (no_down (ap (λ (y : WorldState × Step). y.1.kind) x))
 taken-arm w message inner step (told_busy x e) no_down no_busy = absurd (no_busy (ap (λ (y : WorldState × Step). y.1.kind) x))
 taken-arm w message inner step (told_taken number blocks t d o e) no_down no_busy = sym e
@@ -103,14 +111,17 @@ taken-arm w message inner step (told_taken number blocks t d o e) no_down no_bus
 from : (now w : LongState) (message : List ℕ) (x : LongState × LongStep) → w ≡ now → x ≡ long_offered w message → x ≡ long_offered now message
 from now w message x n e = e ∙ ap (λ (v : LongState). long_offered v message) n
 
-pub down-offer : (now w : LongState) (message part : List ℕ) (inner : WorldState) (step : Step) → w ≡ now → part ≡ part_of message 0 → inner ≡ (world_step w.inner (Send part)).0 → step ≡ (world_step w.inner (Send part)).1 →
+pub down-offer : (now w : LongState) (message part : List ℕ) (inner : WorldState) (step : Step)
+    → w ≡ now → part ≡ part_of message 0 → inner ≡ (world_step w.inner (Send part)).0 → step ≡ (world_step w.inner (Send part)).1 →
     step.kind ≡ OfferDown → (record w { inner = inner }, record { first = None; then = Down }) ≡ long_offered now message
 down-offer now w message part inner step n p i s k = from now w message _ n (down-arm w message inner step (offered-here w message part inner step p i s) k)
 
-pub busy-offer : (now w : LongState) (message part : List ℕ) (inner : WorldState) (step : Step) → w ≡ now → part ≡ part_of message 0 → inner ≡ (world_step w.inner (Send part)).0 → step ≡ (world_step w.inner (Send part)).1 →
+pub busy-offer : (now w : LongState) (message part : List ℕ) (inner : WorldState) (step : Step)
+    → w ≡ now → part ≡ part_of message 0 → inner ≡ (world_step w.inner (Send part)).0 → step ≡ (world_step w.inner (Send part)).1 →
     step.kind ≡ BusyAtOffer → (record w { inner = inner }, record { first = None; then = Busy }) ≡ long_offered now message
 busy-offer now w message part inner step n p i s k = from now w message _ n (busy-arm w message inner step (offered-here w message part inner step p i s) k)
 
-pub taken-offer : (now w : LongState) (message part : List ℕ) (inner : WorldState) (step : Step) → w ≡ now → part ≡ part_of message 0 → inner ≡ (world_step w.inner (Send part)).0 → step ≡ (world_step w.inner (Send part)).1 →
+pub taken-offer : (now w : LongState) (message part : List ℕ) (inner : WorldState) (step : Step)
+    → w ≡ now → part ≡ part_of message 0 → inner ≡ (world_step w.inner (Send part)).0 → step ≡ (world_step w.inner (Send part)).1 →
     (step.kind ≡ OfferDown → ⊥) → (step.kind ≡ BusyAtOffer → ⊥) → started w message (inner, step) ≡ long_offered now message
 taken-offer now w message part inner step n p i s no_down no_busy = from now w message _ n (taken-arm w message inner step (offered-here w message part inner step p i s) no_down no_busy)

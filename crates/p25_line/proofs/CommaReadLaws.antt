@@ -26,7 +26,8 @@ module _ {X : Type 0} (read : List ℕ → Option X) where
       same_map None = refl
       same_map (Some entries) = refl
 
-  one_more : (done : List X) (entry : X) (rest : Option (List X)) → option_map (λ entries. done ++ entries) (with_entry (Some entry) rest) ≡ option_map (λ entries. (done ++ entry ∷ []) ++ entries) rest
+  one_more : (done : List X) (entry : X) (rest : Option (List X))
+      → option_map (λ entries. done ++ entries) (with_entry (Some entry) rest) ≡ option_map (λ entries. (done ++ entry ∷ []) ++ entries) rest
   one_more done entry None = refl
   one_more done entry (Some entries) = ap Some (sym (append_assoc done (entry ∷ []) entries))
 
@@ -44,7 +45,8 @@ module _ {X : Type 0} (read : List ℕ → Option X) where
 
   more_parts : (done : List X) (part : Option X) (others : Option (List X)) → counted (length done) (option_map (λ entries. done ++ entries) (with_entry part others)) ≡ None
   more_parts done (Some entry) (Some others) =
-      cond-false (length (done ++ entry ∷ others) == length done) (Some (done ++ entry ∷ others)) None (ne_eqb (length (done ++ entry ∷ others)) (length done) (λ same. omega (arith, length-append done (entry ∷ others))))
+      cond-false (length (done ++ entry ∷ others) == length done) (Some (done ++ entry ∷ others)) None
+      (ne_eqb (length (done ++ entry ∷ others)) (length done) (λ same. omega (arith, length-append done (entry ∷ others))))
   more_parts done part others = refl
 
   more_entries : (done : List X) (parts : List (List ℕ)) → 0 < length parts → counted (length done) (option_map (λ entries. done ++ entries) (entries_in read parts)) ≡ None

@@ -62,7 +62,8 @@ pub record IsLineOf {X : Type 0} (words : X → List (List ℕ)) (Fits : X → T
   pub fits : Fits value
   pub short : length line ≤ 8192
 
-from_found : {X : Type 0} {words : X → List (List ℕ)} {read : List (List ℕ) → Result X LineFault} {Fits : X → Type 0} → WordLaws words read Fits → (line : List ℕ) (found : Result (List (List ℕ)) LineFault) (value : X)
+from_found : {X : Type 0} {words : X → List (List ℕ)} {read : List (List ℕ) → Result X LineFault} {Fits : X → Type 0}
+    → WordLaws words read Fits → (line : List ℕ) (found : Result (List (List ℕ)) LineFault) (value : X)
     → words_or_fault line ≡ found → found_read read found ≡ Ok value → IsLineOf words Fits line value
 from_found laws line (Err fault) value same found = cc found
 from_found laws line (Ok others) value same found =
@@ -76,7 +77,8 @@ unfolding line_read
 words-line_read laws line value found = from_found laws line (words_or_fault line) value refl found
 
 -- as a reader tells it
-pub line_read-facts : {X : Type 0} {words : X → List (List ℕ)} {read : List (List ℕ) → Result X LineFault} {Fits : X → Type 0} → WordLaws words read Fits → (line : List ℕ) (result : Result X LineFault)
+pub line_read-facts : {X : Type 0} {words : X → List (List ℕ)} {read : List (List ℕ) → Result X LineFault} {Fits : X → Type 0}
+    → WordLaws words read Fits → (line : List ℕ) (result : Result X LineFault)
     → result ≡ line_read read line → (IfOk result (λ value. join_with_byte 32 (words value) ≡ line)) × (IfOk result Fits)
 line_read-facts laws line (Err fault) same = (tt, tt)
 line_read-facts laws line (Ok value) same = let is = words-line_read laws line value (sym same) in (is.text, is.fits)

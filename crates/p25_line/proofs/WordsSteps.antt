@@ -217,7 +217,8 @@ answer-long line list none long =
 -- a line of another form
 pub answer-form : (line : List ℕ) (list : Marks) → list ≡ record { spans = []; count = 0 } → length line ≤ 8192 → words_in line ≡ None → WordsAnswer line list (Err Form)
 answer-form line list none short other =
-    subst (WordsFound line list (Err Form)) (sym (words_or_fault-words line short ∙ ap (λ (words : Option (List (List ℕ))). ok_or words Form) other)) (refl, ap (λ (m : Marks). m.count) none, ap (λ (m : Marks). m.spans) none)
+    subst (WordsFound line list (Err Form)) (sym (words_or_fault-words line short ∙ ap (λ (words : Option (List (List ℕ))). ok_or words Form) other))
+    (refl, ap (λ (m : Marks). m.count) none, ap (λ (m : Marks). m.spans) none)
 
 -- a line of words
 pub answer-words : (line : List ℕ) (list noted : Marks) (start i : ℕ) → Cut line list start i → i ≡ length line → start < i → length line ≤ 8192

@@ -68,7 +68,8 @@ number_more symbols i value before x inside read is so_far =
     let front = symbol_bits (take i symbols) in
     let below : number x < 64 = x.below in
     let list : symbol_bits (take (i + 1) symbols) ≡ front ++ bits_of 6 (number x)
-    = ap symbol_bits (take_more symbols i x inside ∙ ap (λ y. take i symbols ++ y ∷ []) (sym read)) ∙ symbol_bits-append (take i symbols) (x ∷ []) ∙ ap (λ (ys : List Bool). front ++ ys) (symbol_bits-one x) in
+    = ap symbol_bits (take_more symbols i x inside ∙ ap (λ y. take i symbols ++ y ∷ []) (sym read))
+    ∙ symbol_bits-append (take i symbols) (x ∷ []) ∙ ap (λ (ys : List Bool). front ++ ys) (symbol_bits-one x) in
     let sum : field_of (front ++ bits_of 6 (number x)) ≡ field_of front * 64 + number x = appended front 6 (number x) below in
     omega (arith, sum, so_far, is) ∙ sym (ap field_of list)
 
@@ -85,11 +86,13 @@ number_small symbols i most few inside =
     omega arith
 
 -- the number that the bits of one more octet write
-pub octets_more : (octets : List ℕ) (i octet before : ℕ) → i < length octets → octet ≡ get_or octets i 0 → octet < 256 → before ≡ field_of (octet_bits (take i octets)) → 256 * before + octet ≡ field_of (octet_bits (take (i + 1) octets))
+pub octets_more : (octets : List ℕ) (i octet before : ℕ) → i < length octets → octet ≡ get_or octets i 0
+    → octet < 256 → before ≡ field_of (octet_bits (take i octets)) → 256 * before + octet ≡ field_of (octet_bits (take (i + 1) octets))
 octets_more octets i octet before inside read small so_far =
     let front = octet_bits (take i octets) in
     let list : octet_bits (take (i + 1) octets) ≡ front ++ bits_of 8 octet
-    = ap octet_bits (take_more octets i 0 inside ∙ ap (λ y. take i octets ++ y ∷ []) (sym read)) ∙ octet_bits-append (take i octets) (octet ∷ []) ∙ ap (λ (ys : List Bool). front ++ ys) (octet_bits-one octet) in
+    = ap octet_bits (take_more octets i 0 inside ∙ ap (λ y. take i octets ++ y ∷ []) (sym read))
+    ∙ octet_bits-append (take i octets) (octet ∷ []) ∙ ap (λ (ys : List Bool). front ++ ys) (octet_bits-one octet) in
     let sum : field_of (front ++ bits_of 8 octet) ≡ field_of front * 256 + octet = appended front 8 octet small in
     omega (arith, sum, so_far) ∙ sym (ap field_of list)
 

@@ -10,7 +10,8 @@ length-pieces_between start [] octets = refl
 length-pieces_between start (end ∷ ends) octets = ap suc (length-pieces_between end ends octets)
 
 -- the piece at a place
-pub pieces_between-at : (start : ℕ) (ends octets : List ℕ) (i : ℕ) → i < length ends → slice_get (pieces_between start ends octets) i ≡ Some (slice_range octets (start_before start ends i) (start_before start ends (suc i)))
+pub pieces_between-at : (start : ℕ) (ends octets : List ℕ) (i : ℕ) → i < length ends
+    → slice_get (pieces_between start ends octets) i ≡ Some (slice_range octets (start_before start ends i) (start_before start ends (suc i)))
 unfolding pieces_between start_before
 pieces_between-at start [] octets i h = absurd (omega arith)
 pieces_between-at start (end ∷ ends) octets zero h = refl
@@ -52,11 +53,13 @@ part-second octets more start e =
     between_to_end (octets ++ more) start (length octets + length more) (omega (arith, length-append octets more)) ∙ drop_at octets more start (sym e)
 
 -- one more piece: the octets after all others
-pub pieces_between-push : (start : ℕ) (ends octets more : List ℕ) → AreEnds start ends (length octets) → pieces_between start (ends ++ (length octets + length more) ∷ []) (octets ++ more) ≡ pieces_between start ends octets ++ more ∷ []
+pub pieces_between-push : (start : ℕ) (ends octets more : List ℕ) → AreEnds start ends (length octets)
+    → pieces_between start (ends ++ (length octets + length more) ∷ []) (octets ++ more) ≡ pieces_between start ends octets ++ more ∷ []
 unfolding pieces_between AreEnds start_before
 pieces_between-push start [] octets more are = ap (λ (piece : List ℕ). piece ∷ []) (part-second octets more start are)
 pieces_between-push start (end ∷ ends) octets more are =
-    ap₂ (λ (piece : List ℕ) (rest : List (List ℕ)). piece ∷ rest) (part-append octets more start end (start_before-most end ends (length octets) zero are.1 (omega arith))) (pieces_between-push end ends octets more are.1)
+    ap₂ (λ (piece : List ℕ) (rest : List (List ℕ)). piece ∷ rest) (part-append octets more start end
+    (start_before-most end ends (length octets) zero are.1 (omega arith))) (pieces_between-push end ends octets more are.1)
 
 -- as many messages as ends, wherever the ends are held
 pub length-list : (ends octets held : List ℕ) (list : List (List ℕ)) → pieces_between 0 ends octets ≡ list → held ≡ ends → length list ≡ length held
@@ -69,7 +72,8 @@ pub record IsPiece (octets : List ℕ) (list : List (List ℕ)) (i start end : �
   pub piece : slice_get list i ≡ Some (slice_range octets start end)
 
 -- each message is such a piece, wherever the ends and the octets are held
-pub IsPiece-at : (all : Vec ℕ) (octets ends held : List ℕ) (list : List (List ℕ)) (i start end : ℕ) → AreEnds 0 ends (vec_len all) → pieces_between 0 ends all.items ≡ list → octets ≡ all.items → held ≡ ends → i < length list →
+pub IsPiece-at : (all : Vec ℕ) (octets ends held : List ℕ) (list : List (List ℕ)) (i start end : ℕ)
+    → AreEnds 0 ends (vec_len all) → pieces_between 0 ends all.items ≡ list → octets ≡ all.items → held ≡ ends → i < length list →
     start ≡ start_before 0 held i → end ≡ start_before 0 held (i + 1) → IsPiece octets list i start end
 IsPiece-at all octets ends held list i start end are e o f h s t =
     let count : vec_len all ≡ length octets = all.ok.0 ∙ ap length (sym o) in

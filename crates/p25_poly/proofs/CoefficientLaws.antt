@@ -45,7 +45,8 @@ module _ {F : Type 0} (K : Field F) where
 
   -- a multiple without a shift is added to every coefficient
   pub multiple_everywhere : (old other new : List F) (factor : F) → length old ≡ length other → length new ≡ length old
-      → ((k : ℕ) → k < length old → coefficient K new k ≡ coefficient K old k ⊕ factor ⊗ shifted K 0 (coefficient K other) k) → (i : ℕ) → coefficient K new i ≡ coefficient K old i ⊕ factor ⊗ coefficient K other i
+      → ((k : ℕ) → k < length old → coefficient K new k ≡ coefficient K old k ⊕ factor ⊗ shifted K 0 (coefficient K other) k)
+      → (i : ℕ) → coefficient K new i ≡ coefficient K old i ⊕ factor ⊗ coefficient K other i
   multiple_everywhere old other new factor same kept added i =
       elim (cases_lt i (length old)) [
         | inl below ↦ added i below ∙ ap (λ w. coefficient K old i ⊕ factor ⊗ w) (shifted_from K 0 (coefficient K other) i (omega arith) ∙ ap (coefficient K other) unshifted)
@@ -58,7 +59,8 @@ module _ {F : Type 0} (K : Field F) where
       unshifted = omega arith
 
   -- so is the other list where the factor is one
-  pub one_added : (old other new : List F) (one : F) → one ≡ 𝟙 → length old ≡ length other → length new ≡ length old → ((k : ℕ) → k < length old → coefficient K new k ≡ coefficient K old k ⊕ one ⊗ shifted K 0 (coefficient K other) k)
+  pub one_added : (old other new : List F) (one : F) → one ≡ 𝟙 → length old ≡ length other
+      → length new ≡ length old → ((k : ℕ) → k < length old → coefficient K new k ≡ coefficient K old k ⊕ one ⊗ shifted K 0 (coefficient K other) k)
       → (i : ℕ) → coefficient K new i ≡ coefficient K old i ⊕ coefficient K other i
   one_added old other new one e same kept added i =
       multiple_everywhere old other new one same kept added i
@@ -112,7 +114,8 @@ module _ {F : Type 0} (K : Field F) where
       × ((k : ℕ) → i ≤ k → coefficient K into k ≡ old k)
 
   -- one more coefficient
-  pub added_step : (i : ℕ) (into : List F) (old : ℕ → F) (factor : F) (s : ℕ) (g : ℕ → F) (x : F) → s ≤ i → i < length into → x ≡ coefficient K into i ⊕ factor ⊗ g (i - s) → AddedBefore i into old factor s g
+  pub added_step : (i : ℕ) (into : List F) (old : ℕ → F) (factor : F) (s : ℕ) (g : ℕ → F) (x : F)
+      → s ≤ i → i < length into → x ≡ coefficient K into i ⊕ factor ⊗ g (i - s) → AddedBefore i into old factor s g
       → AddedBefore (i + 1) (set into i x) old factor s g
   added_step i into old factor s g x from within e kept = (before, after)
     where
@@ -131,7 +134,8 @@ module _ {F : Type 0} (K : Field F) where
       after k high = written_elsewhere into i k x (omega arith) ∙ kept.1 k (omega arith)
 
   -- one more row
-  pub rows_step : (i : ℕ) (f g : ℕ → F) (factor new old : F) (k : ℕ) → factor ≡ f i → new ≡ old ⊕ factor ⊗ shifted K i g k → old ≡ sum_below K i (λ i. f i ⊗ shifted K i g k) → new ≡ sum_below K (i + 1) (λ i. f i ⊗ shifted K i g k)
+  pub rows_step : (i : ℕ) (f g : ℕ → F) (factor new old : F) (k : ℕ) → factor ≡ f i
+      → new ≡ old ⊕ factor ⊗ shifted K i g k → old ≡ sum_below K i (λ i. f i ⊗ shifted K i g k) → new ≡ sum_below K (i + 1) (λ i. f i ⊗ shifted K i g k)
   rows_step i f g factor new old k e added rows =
       added ∙ ap₂ (λ a b. a ⊕ b ⊗ shifted K i g k) rows e ∙ sym (sum-suc K i (λ i. f i ⊗ shifted K i g k)) ∙ ap (λ n. sum_below K n (λ i. f i ⊗ shifted K i g k)) more
     where

@@ -61,7 +61,8 @@ module _ {F : Type 0} (K : Field F) where
 
     product_after : (k : ℕ) → product_at K divisor (coefficient K (set quotient s factor)) k ≡ product_at K divisor (coefficient K quotient) k ⊕ factor ⊗ shifted K s divisor k
     product_after k =
-        product_same K divisor (coefficient K (set quotient s factor)) (λ j. coefficient K quotient j ⊕ gained j) (λ j. sym (add_twice K (coefficient K quotient j) (coefficient K (set quotient s factor) j))) k
+        product_same K divisor (coefficient K (set quotient s factor))
+        (λ j. coefficient K quotient j ⊕ gained j) (λ j. sym (add_twice K (coefficient K quotient j) (coefficient K (set quotient s factor) j))) k
         ∙ product-add K divisor (coefficient K quotient) gained k
         ∙ ap (λ w. product_at K divisor (coefficient K quotient) k ⊕ w) (product_monomial K divisor gained factor s gained_at gained_elsewhere k)
 

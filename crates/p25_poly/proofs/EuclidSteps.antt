@@ -36,7 +36,8 @@ module _ {F : Type 0} (K : Field F) where
           ∙ ap (λ w. 𝟘 ⊕ w) (mul_zero K c)
           ∙ add_zero K 𝟘
 
-  value-gained : (size p s : ℕ) (f g h : ℕ → F) (c x : F) → IsShort K p g → s + p ≤ size → ((k : ℕ) → h k ≡ f k ⊕ c ⊗ shifted K s g k) → value_at K size h x ≡ value_at K size f x ⊕ c ⊗ (power K x s ⊗ value_at K size g x)
+  value-gained : (size p s : ℕ) (f g h : ℕ → F) (c x : F) → IsShort K p g
+      → s + p ≤ size → ((k : ℕ) → h k ≡ f k ⊕ c ⊗ shifted K s g k) → value_at K size h x ≡ value_at K size f x ⊕ c ⊗ (power K x s ⊗ value_at K size g x)
   value-gained size p s f g h c x short fits gained =
       value_same K size h (λ k. f k ⊕ c ⊗ shifted K s g k) x (λ k low. gained k)
       ∙ value-add K size f (λ k. c ⊗ shifted K s g k) x
@@ -127,7 +128,8 @@ pair_swapped count series front back most pair = record {
 }
 
 -- the front side loses its leading coefficient
-module _ (count : ℕ) (series : ℕ → Sym) (front back less : Side) (lower : back.degree ≤ front.degree) (half : count ≤ 2 * back.degree) (live : behind back.rest back.degree ≢ gf64.zero) (pair : IsPair count series front back) (reduced : IsReduced front back less) where
+module _ (count : ℕ) (series : ℕ → Sym) (front back less : Side) (lower : back.degree ≤ front.degree) (half : count ≤ 2 * back.degree)
+    (live : behind back.rest back.degree ≢ gf64.zero) (pair : IsPair count series front back) (reduced : IsReduced front back less) where
   shift : ℕ
   shift = front.degree - back.degree
 
@@ -137,17 +139,20 @@ module _ (count : ℕ) (series : ℕ → Sym) (front back less : Side) (lower : 
   rest_gained : (k : ℕ) → behind less.rest k ≡ gf64.add (behind front.rest k) (gf64.mul c (shifted gf64 shift (behind back.rest) k))
   unfolding c shift
   rest_gained =
-      moved_everywhere c shift (back.degree + 1) reduced.rest.last front.rest back.rest less.rest pair.back_side.rest_padded pair.back_side.short (omega (arith, reduced.rest.enough)) reduced.rest.most reduced.rest.moved
+      moved_everywhere c shift (back.degree + 1) reduced.rest.last front.rest back.rest less.rest pair.back_side.rest_padded pair.back_side.short
+      (omega (arith, reduced.rest.enough)) reduced.rest.most reduced.rest.moved
 
   factor_gained : (k : ℕ) → behind less.factor k ≡ gf64.add (behind front.factor k) (gf64.mul c (shifted gf64 shift (behind back.factor) k))
   unfolding c shift
   factor_gained =
-      moved_everywhere c shift (count + 1 - front.degree) 16 front.factor back.factor less.factor pair.back_side.factor_padded pair.back_factor (omega (arith, pair.most, pair.few)) (omega arith) reduced.factor
+      moved_everywhere c shift (count + 1 - front.degree) 16 front.factor back.factor less.factor pair.back_side.factor_padded pair.back_factor
+      (omega (arith, pair.most, pair.few)) (omega arith) reduced.factor
 
   equation : (i : ℕ) → i < count → product_at gf64 (behind less.factor) series i ≡ behind less.rest i
   equation i low =
       product-gained gf64 (behind front.factor) (behind back.factor) (behind less.factor) series c shift i factor_gained
-      ∙ ap₂ (λ a b. gf64.add a (gf64.mul c b)) (pair.front_side.equation i low) (shifted_agree gf64 shift count i (product_at gf64 (behind back.factor) series) (behind back.rest) low pair.back_side.equation)
+      ∙ ap₂ (λ a b. gf64.add a (gf64.mul c b)) (pair.front_side.equation i low)
+      (shifted_agree gf64 shift count i (product_at gf64 (behind back.factor) series) (behind back.rest) low pair.back_side.equation)
       ∙ sym (rest_gained i)
 
   leading_gone : behind less.rest front.degree ≡ gf64.zero
@@ -155,7 +160,8 @@ module _ (count : ℕ) (series : ℕ → Sym) (front back less : Side) (lower : 
   leading_gone =
       let at : front.degree - (front.degree - back.degree) ≡ back.degree = omega arith in
       rest_gained front.degree
-      ∙ ap (gf64.add (behind front.rest front.degree)) (ap₂ gf64.mul reduced.is_multiple (shifted_from gf64 (front.degree - back.degree) (behind back.rest) front.degree (omega arith) ∙ ap (behind back.rest) at))
+      ∙ ap (gf64.add (behind front.rest front.degree)) (ap₂ gf64.mul reduced.is_multiple
+      (shifted_from gf64 (front.degree - back.degree) (behind back.rest) front.degree (omega arith) ∙ ap (behind back.rest) at))
       ∙ taken gf64 (behind front.rest front.degree) (behind back.rest back.degree) live
 
   short : (i : ℕ) → less.degree + 1 ≤ i → behind less.rest i ≡ gf64.zero
@@ -178,7 +184,8 @@ module _ (count : ℕ) (series : ℕ → Sym) (front back less : Side) (lower : 
       ap₂ (λ a b. gf64.add (gf64.mul (value_at gf64 32 (behind back.factor) x) a) (gf64.mul b (value_at gf64 32 (behind back.rest) x)))
       (value-gained gf64 32 (back.degree + 1) shift (behind front.rest) (behind back.rest) (behind less.rest) c x pair.back_side.short (omega (arith, pair.most, pair.few)) rest_gained)
       (value-gained gf64 32 (count + 1 - front.degree) shift (behind front.factor) (behind back.factor) (behind less.factor) c x pair.back_factor (omega (arith, pair.most, pair.few)) factor_gained)
-      ∙ crossed gf64 (value_at gf64 32 (behind back.factor) x) (value_at gf64 32 (behind front.rest) x) (value_at gf64 32 (behind front.factor) x) (value_at gf64 32 (behind back.rest) x) c (power gf64 x shift)
+      ∙ crossed gf64 (value_at gf64 32 (behind back.factor) x) (value_at gf64 32 (behind front.rest) x)
+      (value_at gf64 32 (behind front.factor) x) (value_at gf64 32 (behind back.rest) x) c (power gf64 x shift)
       ∙ pair.crosswise x
 
   pub pair_reduced : IsPair count series less back
@@ -191,7 +198,8 @@ module _ (count : ℕ) (series : ℕ → Sym) (front back less : Side) (lower : 
       factor_padded = moved_padded c shift 16 front.factor back.factor less.factor pair.front_side.factor_padded reduced.factor;
     };
     back_side = pair.back_side;
-    front_factor = short-gained gf64 (count + 1 - back.degree) (count + 1 - front.degree) shift (behind front.factor) (behind back.factor) (behind less.factor) c pair.front_factor pair.back_factor (omega (arith, pair.most)) factor_gained;
+    front_factor = short-gained gf64 (count + 1 - back.degree) (count + 1 - front.degree) shift
+        (behind front.factor) (behind back.factor) (behind less.factor) c pair.front_factor pair.back_factor (omega (arith, pair.most)) factor_gained;
     back_factor = short_longer gf64 (count + 1 - front.degree) (count + 1 - less.degree) (behind back.factor) (omega (arith, reduced.degree)) pair.back_factor;
     most = omega (arith, pair.most, reduced.degree);
     few = pair.few;
@@ -230,8 +238,10 @@ pair_first count series front back some few power_at power_others no_factor fron
   few = few;
   crosswise = λ x.
       ap₂ gf64.add
-      (ap₂ gf64.mul (value_of_power gf64 32 0 (behind back.factor) x (omega arith) one ones ∙ power-zero gf64 x) (value_of_power gf64 32 count (behind front.rest) x (omega arith) power_at others) ∙ one_mul gf64 (power gf64 x count))
-      (ap (λ w. gf64.mul w (value_at gf64 32 (behind back.rest) x)) (value_of_zeros gf64 32 (behind front.factor) x (λ k low. no_factor (32 + k))) ∙ zero_mul gf64 (value_at gf64 32 (behind back.rest) x))
+      (ap₂ gf64.mul (value_of_power gf64 32 0 (behind back.factor) x (omega arith) one ones ∙ power-zero gf64 x)
+      (value_of_power gf64 32 count (behind front.rest) x (omega arith) power_at others) ∙ one_mul gf64 (power gf64 x count))
+      (ap (λ w. gf64.mul w (value_at gf64 32 (behind back.rest) x)) (value_of_zeros gf64 32 (behind front.factor) x (λ k low. no_factor (32 + k)))
+      ∙ zero_mul gf64 (value_at gf64 32 (behind back.rest) x))
       ∙ add_zero gf64 (power gf64 x count);
 }
   where
@@ -245,7 +255,8 @@ pair_first count series front back some few power_at power_others no_factor fron
     same i = omega arith
 
 -- where the back side's degree is below half, it is the key
-pub pair_key : (count : ℕ) (syndromes : List Sym) (front back : Side) (locator evaluator : Poly) → length syndromes ≡ count → 2 ≤ count → 2 * (count / 2) ≡ count → IsPair count (coefficient gf64 syndromes) front back
+pub pair_key : (count : ℕ) (syndromes : List Sym) (front back : Side) (locator evaluator : Poly)
+    → length syndromes ≡ count → 2 ≤ count → 2 * (count / 2) ≡ count → IsPair count (coefficient gf64 syndromes) front back
     → 2 * back.degree < count → count ≤ 2 * front.degree
     → ((k : ℕ) → coefficient_of locator k ≡ behind back.factor k) → ((k : ℕ) → coefficient_of evaluator k ≡ behind back.rest k) → IsKey syndromes locator evaluator
 pair_key count syndromes front back locator evaluator long some even pair below above is_locator is_evaluator = record {
@@ -281,8 +292,10 @@ pair_key count syndromes front back locator evaluator long some even pair below 
         gf64.laws.one_ne_zero (
         sym (power_of_one gf64 count)
         ∙ sym (pair.crosswise gf64.one)
-        ∙ ap₂ gf64.add (ap (λ w. gf64.mul w (value_at gf64 32 (behind front.rest) gf64.one)) (value_of_zeros gf64 32 (behind back.factor) gf64.one (λ k low. factor_zero k)) ∙ zero_mul gf64 (value_at gf64 32 (behind front.rest) gf64.one))
-        (ap (gf64.mul (value_at gf64 32 (behind front.factor) gf64.one)) (value_of_zeros gf64 32 (behind back.rest) gf64.one (λ k low. rest_zero k)) ∙ mul_zero gf64 (value_at gf64 32 (behind front.factor) gf64.one))
+        ∙ ap₂ gf64.add (ap (λ w. gf64.mul w (value_at gf64 32 (behind front.rest) gf64.one))
+        (value_of_zeros gf64 32 (behind back.factor) gf64.one (λ k low. factor_zero k)) ∙ zero_mul gf64 (value_at gf64 32 (behind front.rest) gf64.one))
+        (ap (gf64.mul (value_at gf64 32 (behind front.factor) gf64.one)) (value_of_zeros gf64 32 (behind back.rest) gf64.one (λ k low. rest_zero k))
+        ∙ mul_zero gf64 (value_at gf64 32 (behind front.factor) gf64.one))
         ∙ add_zero gf64 gf64.zero)
       where
         factor_zero : (k : ℕ) → behind back.factor k ≡ gf64.zero

@@ -24,7 +24,8 @@ pub short_polynomial : (p : Poly) → IsShort gf64 64 (coefficient_of p)
 short_polynomial p = short_list gf64 64 p.coefficients p.full
 
 -- a quotient that has all its coefficients is the quotient
-pub divided_all : (i d : ℕ) (p by : Poly) (q r : List Sym) (q_full : length q ≡ 64) (r_full : length r ≡ 64) → i ≡ 0 → IsDegree gf64 (coefficient_of by) d → DividedTo gf64 i (coefficient_of p) (coefficient_of by) d q r
+pub divided_all : (i d : ℕ) (p by : Poly) (q r : List Sym) (q_full : length q ≡ 64) (r_full : length r ≡ 64)
+    → i ≡ 0 → IsDegree gf64 (coefficient_of by) d → DividedTo gf64 i (coefficient_of p) (coefficient_of by) d q r
     → IsDivision p by (poly_of q q_full) (poly_of r r_full)
 divided_all i d p by q r q_full r_full none top divided = record {
   whole = divided.whole;
@@ -34,9 +35,11 @@ divided_all i d p by q r q_full r_full none top divided = record {
 -- two divisions of one polynomial by another have one quotient and one remainder
 pub unique_division : (d : ℕ) (p by q r s t : Poly) → IsDegree gf64 (coefficient_of by) d → IsDivision p by q r → IsDivision p by s t → (q ≡ s) × (r ≡ t)
 unique_division d p by q r s t degree first second = (
-  same_polynomial q s (λ i low. same_quotient gf64 64 (coefficient_of by) (coefficient_of q) (coefficient_of s) (coefficient_of r) (coefficient_of t) d degree (short_polynomial q) (short_polynomial s) (first.lower d degree)
+  same_polynomial q s (λ i low. same_quotient gf64 64 (coefficient_of by)
+      (coefficient_of q) (coefficient_of s) (coefficient_of r) (coefficient_of t) d degree (short_polynomial q) (short_polynomial s) (first.lower d degree)
       (second.lower d degree) same i),
-  same_polynomial r t (λ i low. same_remainder gf64 64 (coefficient_of by) (coefficient_of q) (coefficient_of s) (coefficient_of r) (coefficient_of t) d degree (short_polynomial q) (short_polynomial s) (first.lower d degree)
+  same_polynomial r t (λ i low. same_remainder gf64 64 (coefficient_of by)
+      (coefficient_of q) (coefficient_of s) (coefficient_of r) (coefficient_of t) d degree (short_polynomial q) (short_polynomial s) (first.lower d degree)
       (second.lower d degree) same i),
 )
   where

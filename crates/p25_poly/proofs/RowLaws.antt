@@ -8,8 +8,10 @@ use Rattle.p25_poly.specs.{declared.row.Row.{Row}, LinearSystem.{IsMet, blank_ro
 use Rattle.p25_poly.proofs.DotLaws.{dot_of_zeros, dot_same, dot_multiple, dot_elsewhere, dot_gained, short_made_up}
 
 -- a row that has gained the multiple of the front row which takes its cell in the column
-pub cleared_row : (column : ℕ) (front old new : Row) (factor : Sym) → coefficient gf64 front.cells column ≢ gf64.zero → factor ≡ gf64.mul (coefficient gf64 old.cells column) (gf64.inverse (coefficient gf64 front.cells column))
-    → ((k : ℕ) → coefficient gf64 new.cells k ≡ gf64.add (coefficient gf64 old.cells k) (gf64.mul factor (coefficient gf64 front.cells k))) → new.right ≡ gf64.add old.right (gf64.mul factor front.right) → IsCleared column front old new
+pub cleared_row : (column : ℕ) (front old new : Row) (factor : Sym) → coefficient gf64 front.cells column ≢ gf64.zero
+    → factor ≡ gf64.mul (coefficient gf64 old.cells column) (gf64.inverse (coefficient gf64 front.cells column))
+    → ((k : ℕ) → coefficient gf64 new.cells k ≡ gf64.add (coefficient gf64 old.cells k) (gf64.mul factor (coefficient gf64 front.cells k)))
+    → new.right ≡ gf64.add old.right (gf64.mul factor front.right) → IsCleared column front old new
 cleared_row column front old new factor live is_factor cells right = record {
   gone =
       cells column
@@ -26,7 +28,8 @@ cleared_row column front old new factor live is_factor cells right = record {
     taken =
         ap (λ w. gf64.mul w (coefficient gf64 front.cells column)) is_factor
         ∙ mul_assoc gf64 (coefficient gf64 old.cells column) (gf64.inverse (coefficient gf64 front.cells column)) (coefficient gf64 front.cells column)
-        ∙ ap (gf64.mul (coefficient gf64 old.cells column)) (mul_comm gf64 (gf64.inverse (coefficient gf64 front.cells column)) (coefficient gf64 front.cells column) ∙ mul_inverse gf64 (coefficient gf64 front.cells column) live)
+        ∙ ap (gf64.mul (coefficient gf64 old.cells column)) (mul_comm gf64 (gf64.inverse (coefficient gf64 front.cells column))
+        (coefficient gf64 front.cells column) ∙ mul_inverse gf64 (coefficient gf64 front.cells column) live)
         ∙ mul_one gf64 (coefficient gf64 old.cells column)
 
     sum : (n : ℕ) (x : ℕ → Sym) → dot gf64 n (coefficient gf64 new.cells) x ≡ gf64.add (dot gf64 n (coefficient gf64 old.cells) x) (gf64.mul factor (dot gf64 n (coefficient gf64 front.cells) x))
@@ -39,7 +42,8 @@ cleared_row column front old new factor live is_factor cells right = record {
 
 -- the unknown that is corrected makes the row's sum right
 pub corrected_row : (n column : ℕ) (row : Row) (x y : ℕ → Sym) → column < n → coefficient gf64 row.cells column ≢ gf64.zero
-    → y column ≡ gf64.add (x column) (gf64.mul (gf64.add row.right (dot gf64 n (coefficient gf64 row.cells) x)) (gf64.inverse (coefficient gf64 row.cells column))) → AgreeBut column x y → IsMet n row y
+    → y column ≡ gf64.add (x column) (gf64.mul (gf64.add row.right (dot gf64 n (coefficient gf64 row.cells) x))
+    (gf64.inverse (coefficient gf64 row.cells column))) → AgreeBut column x y → IsMet n row y
 corrected_row n column row x y inside live gain others =
     dot_gained gf64 n (coefficient gf64 row.cells) x y column _ inside gain others.same
     ∙ short_made_up gf64 (dot gf64 n (coefficient gf64 row.cells) x) row.right (coefficient gf64 row.cells column) live
@@ -89,7 +93,8 @@ cleared_elsewhere n column front old new x y cleared agree met = record {
 
 -- ---- the steps of elimination, for rows and what is left of them
 
-module _ (n column : ℕ) (system cleared : List Row) (front : Row) (inside : column < n) (some : 0 < length system) (is_front : front ≡ row_of system 0) (clears : AreCleared column front (drop 1 system) cleared) where
+module _ (n column : ℕ) (system cleared : List Row) (front : Row)
+    (inside : column < n) (some : 0 < length system) (is_front : front ≡ row_of system 0) (clears : AreCleared column front (drop 1 system) cleared) where
   -- what solves the cleared rows, corrected by the front row, solves all
   pub corrected_solution : (x y : ℕ → Sym) → AgreeBut column x y → IsMet n front y → AreMet n cleared x → AreMet n system y
   corrected_solution x y agree first met =

@@ -39,7 +39,8 @@ module _ (follower : Follow) (kept raw : List Bool) (item : Item) where
   all-unit unit = append_assoc kept before raw ∙ ap (λ (zs : List Bool). kept ++ (before ++ zs)) (sym (own-unit item raw unit))
 
   -- of an item of a stretch
-  pub piece-rest : (room : List Bool) (out : List ℕ) → is_rest item ≡ true → room ≡ written_before follower item raw → out ≡ whole_octets (kept ++ room) → out ≡ whole_octets (kept ++ followed_item follower item raw)
+  pub piece-rest : (room : List Bool) (out : List ℕ) → is_rest item ≡ true
+      → room ≡ written_before follower item raw → out ≡ whole_octets (kept ++ room) → out ≡ whole_octets (kept ++ followed_item follower item raw)
   unfolding before
   piece-rest room out rest made is = is ∙ ap (λ (zs : List Bool). whole_octets (kept ++ zs)) (made ∙ all-rest rest)
 
@@ -48,7 +49,8 @@ module _ (follower : Follow) (kept raw : List Bool) (item : Item) where
   kept-rest room now rest made is = is ∙ ap (λ (zs : List Bool). unfilled (kept ++ zs)) (made ∙ all-rest rest)
 
   -- of another
-  pub piece-unit : (room between : List Bool) (first out : List ℕ) → is_rest item ≡ false → room ≡ written_before follower item raw → first ≡ whole_octets (kept ++ room) → between ≡ unfilled (kept ++ room)
+  pub piece-unit : (room between : List Bool) (first out : List ℕ)
+      → is_rest item ≡ false → room ≡ written_before follower item raw → first ≡ whole_octets (kept ++ room) → between ≡ unfilled (kept ++ room)
       → out ≡ first ++ whole_octets (between ++ raw) → out ≡ whole_octets (kept ++ followed_item follower item raw)
   unfolding before
   piece-unit room between first out unit made first_is between_is is =

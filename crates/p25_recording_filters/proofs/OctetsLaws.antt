@@ -55,7 +55,8 @@ module _ (kept bits : List Bool) (missing : ℕ) (few : length kept < 8) (missin
       ∙ ap whole_octets whole
 
   -- the last bits, which do not fill an octet, are kept
-  pub kept-behind : (start now : List Bool) (at count : ℕ) → start ≡ [] → now ≡ start ++ part at count bits → count ≡ (length bits - missing) % 8 → at + count ≡ length bits → now ≡ unfilled (kept ++ bits)
+  pub kept-behind : (start now : List Bool) (at count : ℕ) → start ≡ []
+      → now ≡ start ++ part at count bits → count ≡ (length bits - missing) % 8 → at + count ≡ length bits → now ≡ unfilled (kept ++ bits)
   kept-behind start now at count empty is count_is at_is =
       let all : length (kept ++ bits) ≡ length kept + length bits = length-append kept bits in
       let filled : 8 * (length (kept ++ bits) / 8) ≡ length kept + at = omega arith in
@@ -110,7 +111,8 @@ octets-more bits at k word there is =
     ∙ ap (λ (n : ℕ). octets_from n (drop at bits)) more
 
 -- words of octets, and then those that are left, are all
-pub octets-all : (bits : List Bool) (at words : ℕ) → words ≡ (length bits - at) / 64 → octets_from (8 * words) (drop at bits) ++ whole_octets (drop (at + 64 * words) bits) ≡ whole_octets (drop at bits)
+pub octets-all : (bits : List Bool) (at words : ℕ) → words ≡ (length bits - at) / 64
+    → octets_from (8 * words) (drop at bits) ++ whole_octets (drop (at + 64 * words) bits) ≡ whole_octets (drop at bits)
 octets-all bits at words is =
     let behind : drop (at + 64 * words) bits ≡ drop (8 * (8 * words)) (drop at bits) = octets_behind bits at words in
     let count : length (drop at bits) / 8 ≡ 8 * words + length (drop (at + 64 * words) bits) / 8

@@ -45,8 +45,10 @@ module _ {R : Type 0} (reporting : Reporting R) where
   pub future-push : (report : R) (scan next : Scan) (octets : List ℕ) → next.place ≡ scan.place → next.held ≡ scan.held ++ octet_bits octets
       → Progress (phase_future reporting report scan Reading) octets [] (phase_future reporting report next Reading)
   future-push report scan next octets place held = record {
-    writes = λ ended more. ap₂ (λ (p : ℕ) (bits : List Bool). bits_written reporting ended report p bits) (sym place) (held-octets scan.held octets more ∙ ap (λ (zs : List Bool). zs ++ octet_bits more) (sym held));
-    ends = λ ended more. ap₂ (λ (p : ℕ) (bits : List Bool). bits_ending reporting ended report p bits) (sym place) (held-octets scan.held octets more ∙ ap (λ (zs : List Bool). zs ++ octet_bits more) (sym held));
+    writes = λ ended more. ap₂ (λ (p : ℕ) (bits : List Bool). bits_written reporting ended report p bits)
+        (sym place) (held-octets scan.held octets more ∙ ap (λ (zs : List Bool). zs ++ octet_bits more) (sym held));
+    ends = λ ended more. ap₂ (λ (p : ℕ) (bits : List Bool). bits_ending reporting ended report p bits)
+        (sym place) (held-octets scan.held octets more ∙ ap (λ (zs : List Bool). zs ++ octet_bits more) (sym held));
     pauses = λ ended more pause is. absurd (Contains-none pause is);
   }
 
@@ -67,7 +69,8 @@ module _ {R : Type 0} (reporting : Reporting R) where
   written-item ended report place next_place bits left item first rest =
       ap (λ (items : List Item). reported reporting ended report items bits) first
       ∙ reported-cons reporting ended report item (items_by ended next_place left) bits
-      ∙ ap (λ (zs : List Bool). reporting.piece report item (take (covered item) bits) ++ reported reporting ended (reporting.behind report item (take (covered item) bits)) (items_by ended next_place left) zs) rest
+      ∙ ap (λ (zs : List Bool). reporting.piece report item (take (covered item) bits)
+      ++ reported reporting ended (reporting.behind report item (take (covered item) bits)) (items_by ended next_place left) zs) rest
 
   ending-item : (ended : Bool) (report : R) (place next_place : ℕ) (bits left : List Bool) (item : Item)
       → items_by true place bits ≡ item ∷ items_by true next_place left → drop (covered item) bits ≡ left
@@ -123,11 +126,13 @@ module _ {R : Type 0} (reporting : Reporting R) where
   future-item gave_items Closed report scan next item raw same unclosed gave = absurd (unclosed refl)
 
   -- with no item to give, what comes at the end is given
-  pub future-close : (report : R) (scan : Scan) → scan.finished ≡ true → given scan ≡ [] → Progress (phase_future reporting report scan Ended) [] (reporting.closing report) (phase_future reporting report scan Closed)
+  pub future-close : (report : R) (scan : Scan) → scan.finished ≡ true
+      → given scan ≡ [] → Progress (phase_future reporting report scan Ended) [] (reporting.closing report) (phase_future reporting report scan Closed)
   future-close report scan done none =
       let no_items : items_by true scan.place scan.held ≡ [] = ap (λ (b : Bool). items_by b scan.place scan.held) (sym done) ∙ none in
       record {
-        writes = λ ended more. ap (λ (items : List Item). reported reporting true report items scan.held) no_items ∙ reported-nil reporting true report scan.held ∙ sym (append-nil (reporting.closing report));
+        writes = λ ended more. ap (λ (items : List Item). reported reporting true report items scan.held) no_items
+            ∙ reported-nil reporting true report scan.held ∙ sym (append-nil (reporting.closing report));
         ends = λ ended more. ap (λ (r : R). Some (reporting.ending r)) (ap (λ (items : List Item). report_behind reporting report items scan.held) no_items ∙ behind-nil reporting report scan.held);
         pauses = λ ended more pause is. absurd (Contains-none pause is);
       }
@@ -155,7 +160,8 @@ module _ {R : Type 0} (reporting : Reporting R) where
   is-closed Closed ended other = refl
 
   -- the steps of `push`, `finish`, `next` and `ending`
-  pub step-push : (report : R) (scan next : Scan) (phase : Phase) (octets : List ℕ) → has_ended phase ≡ false → next ≡ record { place = scan.place; held = scan.held ++ octet_bits octets; finished = scan.finished }
+  pub step-push : (report : R) (scan next : Scan) (phase : Phase) (octets : List ℕ)
+      → has_ended phase ≡ false → next ≡ record { place = scan.place; held = scan.held ++ octet_bits octets; finished = scan.finished }
       → Progress (recording_future reporting (record { report = report; scan = scan; phase = phase })) octets [] (recording_future reporting (record { report = report; scan = next; phase = phase }))
   unfolding recording_future
   step-push report scan next phase octets going same =
@@ -171,7 +177,8 @@ module _ {R : Type 0} (reporting : Reporting R) where
 
   pub step-item : GaveItems → (report behind : R) (scan next : Scan) (phase : Phase) (item : Item) (raw : List Bool) (out : List ℕ)
       → scan.finished ≡ has_ended phase → HasClosed phase scan → Gave scan item raw next → out ≡ reporting.piece report item raw → behind ≡ reporting.behind report item raw
-      → NextPiece (recording_future reporting (record { report = report; scan = scan; phase = phase })) (Ok true) out (recording_future reporting (record { report = behind; scan = next; phase = phase }))
+      → NextPiece (recording_future reporting (record { report = report; scan = scan; phase = phase }))
+      (Ok true) out (recording_future reporting (record { report = behind; scan = next; phase = phase }))
   unfolding recording_future NextPiece
   step-item gave_items report behind scan next phase item raw out same closed gave piece kept =
       let unclosed : phase ≢ Closed = λ is. no_items (given next) (sym (closed is) ∙ gave.items) in
@@ -183,17 +190,21 @@ module _ {R : Type 0} (reporting : Reporting R) where
       no_items items e = cc
 
   -- what asking for the piece at the end answers
-  close-none : (before now : RecordingParts R) (answer : Bool) (out : List ℕ) → answer ≡ false → now ≡ before → NextPiece (recording_future reporting before) (Ok answer) out (recording_future reporting now)
+  close-none : (before now : RecordingParts R) (answer : Bool) (out : List ℕ)
+      → answer ≡ false → now ≡ before → NextPiece (recording_future reporting before) (Ok answer) out (recording_future reporting now)
   unfolding NextPiece
-  close-none before now answer out none same = subst (λ (b : Bool). NextPiece (recording_future reporting before) (Ok b) out (recording_future reporting now)) (sym none) (ap (recording_future reporting) same)
+  close-none before now answer out none same = subst (λ (b : Bool). NextPiece (recording_future reporting before) (Ok b) out (recording_future reporting now))
+      (sym none) (ap (recording_future reporting) same)
 
   close-end : (report : R) (scan : Scan) (now : RecordingParts R) (answer : Bool) (out : List ℕ) → scan.finished ≡ true → given scan ≡ [] → answer ≡ true → out ≡ reporting.closing report
-      → now ≡ record { report = report; scan = scan; phase = Closed } → NextPiece (recording_future reporting (record { report = report; scan = scan; phase = Ended })) (Ok answer) out (recording_future reporting now)
+      → now ≡ record { report = report; scan = scan; phase = Closed }
+      → NextPiece (recording_future reporting (record { report = report; scan = scan; phase = Ended })) (Ok answer) out (recording_future reporting now)
   unfolding NextPiece recording_future
   close-end report scan now answer out done none yes_is piece same =
       subst (λ (b : Bool). NextPiece (phase_future reporting report scan Ended) (Ok b) out (recording_future reporting now)) (sym yes_is)
       (subst (λ (o : List ℕ). Progress (phase_future reporting report scan Ended) [] o (recording_future reporting now)) (sym piece)
-      (subst (λ (r : RecordingParts R). Progress (phase_future reporting report scan Ended) [] (reporting.closing report) (recording_future reporting r)) (sym same) (future-close report scan done none)))
+      (subst (λ (r : RecordingParts R). Progress (phase_future reporting report scan Ended) [] (reporting.closing report) (recording_future reporting r))
+      (sym same) (future-close report scan done none)))
 
   close-by : (phase : Phase) (report : R) (scan : Scan) (now : RecordingParts R) (answer : Bool) (out : List ℕ) → scan.finished ≡ has_ended phase → given scan ≡ []
       → IsClosingBy reporting phase (record { report = report; scan = scan; phase = phase }) answer out now
@@ -207,18 +218,21 @@ module _ {R : Type 0} (reporting : Reporting R) where
 
   -- where it gave none, all that the octets so far decide is written
   idle-by : (phase : Phase) (report : R) (scan : Scan) (now : RecordingParts R) (answer : Bool) (out : List ℕ) → scan.finished ≡ has_ended phase → given scan ≡ [] → answer ≡ false
-      → IsClosingBy reporting phase (record { report = report; scan = scan; phase = phase }) answer out now → (now.phase ≡ Ended → ⊥) × (given now.scan ≡ []) × IsIdle (has_ended now.phase) (recording_future reporting now)
+      → IsClosingBy reporting phase (record { report = report; scan = scan; phase = phase }) answer out now
+      → (now.phase ≡ Ended → ⊥) × (given now.scan ≡ []) × IsIdle (has_ended now.phase) (recording_future reporting now)
   unfolding recording_future
   idle-by Ended report scan now answer out same none no_piece closing = cc
   idle-by other report scan now answer out same none no_piece closing =
       subst (λ (r : RecordingParts R). (r.phase ≡ Ended → ⊥) × (given r.scan ≡ []) × IsIdle (has_ended r.phase) (recording_future reporting r)) (sym closing.1)
       ((λ is. cc), none, future-idle other report scan same (λ is. cc) none)
 
-  pub step-idle : (before now : RecordingParts R) (answer : Bool) (out : List ℕ) → before.scan.finished ≡ has_ended before.phase → given before.scan ≡ [] → answer ≡ false → IsClosing reporting before answer out now
+  pub step-idle : (before now : RecordingParts R) (answer : Bool) (out : List ℕ)
+      → before.scan.finished ≡ has_ended before.phase → given before.scan ≡ [] → answer ≡ false → IsClosing reporting before answer out now
       → (now.phase ≡ Ended → ⊥) × (given now.scan ≡ []) × IsIdle (has_ended now.phase) (recording_future reporting now)
   step-idle before now answer out same none no_piece closing = idle-by before.phase before.report before.scan now answer out same none no_piece closing
 
-  pub step-ending : (work : RecordingParts R) → has_ended work.phase ≡ true → (work.phase ≡ Ended → ⊥) → (ended : Bool) (more : List ℕ) → (recording_future reporting work).ends ended more ≡ Some (reporting.ending work.report)
+  pub step-ending : (work : RecordingParts R) → has_ended work.phase ≡ true
+      → (work.phase ≡ Ended → ⊥) → (ended : Bool) (more : List ℕ) → (recording_future reporting work).ends ended more ≡ Some (reporting.ending work.report)
   unfolding recording_future
   step-ending work is other ended more = ap (λ (p : Phase). (phase_future reporting work.report work.scan p).ends ended more) (is-closed work.phase is other)
 

@@ -56,7 +56,8 @@ reported-check ended report (item ∷ items) bits =
     let faults : next.faults + faults_in items ≡ report.faults + (cond (is_whole_item item) 0 1 + faults_in items) = omega arith in
     reported-cons check_reporting ended report item items bits
     ∙ ap (λ (zs : List ℕ). faulty item ++ zs) (reported-check ended next items (drop (covered item) bits) ∙ ap₂ (λ (u f : ℕ). flat_map faulty items ++ cond ended (check_line u f) []) units faults)
-    ∙ sym (append_assoc (faulty item) (flat_map faulty items) (cond ended (check_line (report.units + (cond (is_whole_item item) 1 0 + units_in items)) (report.faults + (cond (is_whole_item item) 0 1 + faults_in items))) []))
+    ∙ sym (append_assoc (faulty item) (flat_map faulty items) (cond ended (check_line (report.units + (cond (is_whole_item item) 1 0 + units_in items))
+    (report.faults + (cond (is_whole_item item) 0 1 + faults_in items))) []))
 
 pub behind-check : (report : Check) (items : List Item) (bits : List Bool) → (report_behind check_reporting report items bits).faults ≡ report.faults + faults_in items
 unfolding faults_in

@@ -70,4 +70,5 @@ group-bits levels a b c d octet long ha hb hc hd fb fc fd is =
     ∙ ap (λ (bits : List Bool). bits_of 2 a ++ (bits_of 2 b ++ bits)) (sym (number_bits-cons 2 c (d ∷ [])))
     ∙ ap (λ (bits : List Bool). bits_of 2 a ++ bits) (sym (number_bits-cons 2 b (c ∷ d ∷ [])))
     ∙ sym (number_bits-cons 2 a (b ∷ c ∷ d ∷ []))
-    ∙ ap (number_bits 2) (ap₂ (λ x y. x ∷ y ∷ c ∷ d ∷ []) ha hb ∙ ap₂ (λ x y. hard_dibit (get_or levels 0 (pos 0)) ∷ hard_dibit (get_or levels 1 (pos 0)) ∷ x ∷ y ∷ []) hc hd ∙ ap (map hard_dibit) (sym (four-levels levels long)))
+    ∙ ap (number_bits 2) (ap₂ (λ x y. x ∷ y ∷ c ∷ d ∷ []) ha hb ∙ ap₂ (λ x y.
+    hard_dibit (get_or levels 0 (pos 0)) ∷ hard_dibit (get_or levels 1 (pos 0)) ∷ x ∷ y ∷ []) hc hd ∙ ap (map hard_dibit) (sym (four-levels levels long)))

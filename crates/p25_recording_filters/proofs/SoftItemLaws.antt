@@ -23,7 +23,8 @@ part_from_group : (place covers : ℕ) (levels : List ℤ) → part (place / 2 -
 part_from_group place covers levels = let at : place / 2 - first_level place ≡ place % 8 / 2 = omega arith in ap (λ n. part n covers levels) at
 
 -- a broken packet at an even place is softened
-pub softened-even : (item : Item) (levels : List ℤ) (raw : List Bool) → is_even_packet item ≡ true → item_softened (first_level (place_of item)) levels item raw ≡ softened item (item_levels item levels) raw
+pub softened-even : (item : Item) (levels : List ℤ) (raw : List Bool)
+    → is_even_packet item ≡ true → item_softened (first_level (place_of item)) levels item raw ≡ softened item (item_levels item levels) raw
 unfolding item_softened
 softened-even (Broken place count nac duid fields) levels raw yes' =
     let item = Broken place count nac duid fields in
@@ -88,7 +89,8 @@ changed-alike f g from alike (item ∷ items) ended place bits others late are =
     ap₂ (λ (xs ys : List Bool). xs ++ ys) (alike item (take (covered item) others) there)
     (changed-alike f g from alike items ended (place + covered item) (drop (covered item) bits) (drop (covered item) others) behind (sym parts.2))
 
-changed-cons : (f : Item → List Bool → List Bool) (item : Item) (items : List Item) (bits : List Bool) → changed_bits f (item ∷ items) bits ≡ f item (take (covered item) bits) ++ changed_bits f items (drop (covered item) bits)
+changed-cons : (f : Item → List Bool → List Bool) (item : Item) (items : List Item) (bits : List Bool)
+    → changed_bits f (item ∷ items) bits ≡ f item (take (covered item) bits) ++ changed_bits f items (drop (covered item) bits)
 unfolding changed_bits
 changed-cons f item items bits = refl
 
@@ -241,7 +243,8 @@ module _ (scan next : Scan) (levels : List ℤ) (item : Item) (raw : List Bool) 
         let change = item_softened (first_level scan.place) all in
         let own = item_softened (first_level scan.place) levels item raw in
         let left = drop gone levels ++ new in
-        let rest = changed_bits (item_softened (first_level next.place) (scanned ended left)) (items_by ended next.place (drop (next.place % 8) (hard_bits (scanned ended left)))) (drop (next.place % 8) (hard_bits (scanned ended left))) in
+        let rest = changed_bits (item_softened (first_level next.place) (scanned ended left))
+        (items_by ended next.place (drop (next.place % 8) (hard_bits (scanned ended left)))) (drop (next.place % 8) (hard_bits (scanned ended left))) in
         let changed : changed_bits change (items_by ended scan.place bits) bits ≡ own ++ rest
         = ap (λ (items : List Item). changed_bits change items bits) first-given
         ∙ changed-cons change item (items_by ended next.place (drop (covered item) bits)) bits
@@ -305,7 +308,8 @@ heard-given scan next levels item raw holding gave yes' =
     ∙ ap₂ (λ n k. part n k (hard_bits (grouped levels))) place twice
     ∙ hard_bits-part at half (grouped levels) inside
     ∙ ap hard_bits (sym (ap (part at half) (sym (grouped-ungrouped levels)) ∙ part_left at half (grouped levels) (ungrouped levels) inside)) in
-    let heard = IsHeard-front (part at half levels) scan.held scan.place count parts.at parts.size parts.nac parts.duid parts.fields unit.synced unit.needs (sym unit.is ∙ parts.is) parts.packet bits in
+    let heard = IsHeard-front (part at half levels) scan.held scan.place count parts.at parts.size parts.nac parts.duid parts.fields unit.synced unit.needs
+    (sym unit.is ∙ parts.is) parts.packet bits in
     let raw_is : raw ≡ take count scan.held = gave.raw_bits ∙ ap (λ n. take n scan.held) covers in
     record {
       there = omega (arith, inside, length-grouped levels, ap (λ p. p % 8 / 2) given_item.0, ap (λ c. c / 2) covers);

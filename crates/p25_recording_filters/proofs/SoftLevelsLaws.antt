@@ -84,7 +84,8 @@ grouped-last levels level whole =
     let last : length (drop (4 * (length levels / 4)) all) ≤ 4 = omega (arith, long, length-drop (4 * (length levels / 4)) all) in
     grouped-whole all whole
     ∙ sym (take-append-drop (4 * (length levels / 4)) all)
-    ∙ ap₂ (λ (xs ys : List ℤ). xs ++ ys) (take-append-le (4 * (length levels / 4)) levels (level ∷ []) there ∙ grouped-is levels) (sym (take_all 4 (drop (4 * (length levels / 4)) all) last) ∙ ap (λ n. part n 4 all) (sym count))
+    ∙ ap₂ (λ (xs ys : List ℤ). xs ++ ys) (take-append-le (4 * (length levels / 4)) levels (level ∷ []) there ∙ grouped-is levels)
+    (sym (take_all 4 (drop (4 * (length levels / 4)) all) last) ∙ ap (λ n. part n 4 all) (sym count))
   where
     grouped-is : (ls : List ℤ) → take (4 * (length ls / 4)) ls ≡ grouped ls
     grouped-is ls = unfold grouped in refl

@@ -41,7 +41,8 @@ step-finish before now going done place levels kept =
       writes = λ ended more.
           let all : filled now.levels ≡ filled (before.levels ++ [])
           = ap filled levels ∙ filled-whole (filled before.levels) (length-filled before.levels).0 ∙ ap filled (sym (append-nil before.levels)) in
-          ap (λ (ls : List ℤ). whole_octets (now.kept ++ changed_bits (item_softened (first_level now.scan.place) ls) (items_by true now.scan.place (drop (now.scan.place % 8) (hard_bits ls))) (drop (now.scan.place % 8) (hard_bits ls)))) all
+          ap (λ (ls : List ℤ). whole_octets (now.kept ++ changed_bits (item_softened (first_level now.scan.place) ls)
+          (items_by true now.scan.place (drop (now.scan.place % 8) (hard_bits ls))) (drop (now.scan.place % 8) (hard_bits ls)))) all
           ∙ ap₂ (λ p (k : List Bool). soft_written true p (before.levels ++ []) k) place kept;
       ends = λ ended more. refl;
       pauses = λ ended more. refl;
@@ -55,7 +56,8 @@ item_by gave_items false before now out going holding put =
     let own = item_softened (first_level before.scan.place) before.levels put.item put.raw in
     record {
       writes = λ ended more.
-          written-given before.scan next before.levels put.item put.raw holding put.gave gave_items ended (map octet_level more) before.kept (λ done. let two : false ≡ true = sym going ∙ done in absurd (cc))
+          written-given before.scan next before.levels put.item put.raw holding put.gave gave_items ended
+          (map octet_level more) before.kept (λ done. let two : false ≡ true = sym going ∙ done in absurd (cc))
           ∙ ap₂ (λ (xs ys : List ℕ). xs ++ ys) (sym put.piece)
           (ap₂ (λ (ls : List ℤ) (k : List Bool). soft_written ended next.place (ls ++ map octet_level more) k) (sym put.left) (sym put.behind));
       ends = λ ended more. refl;
@@ -68,7 +70,8 @@ item_by gave_items true before now out done holding put =
           ap (λ (ls : List ℤ). soft_written true before.scan.place ls before.kept) (sym (append-nil before.levels))
           ∙ written-given before.scan next before.levels put.item put.raw holding put.gave gave_items true [] before.kept (λ is. (refl, refl))
           ∙ ap₂ (λ (xs ys : List ℕ). xs ++ ys) (sym put.piece)
-          (ap₂ (λ (ls : List ℤ) (k : List Bool). soft_written true next.place ls k) (append-nil (drop (first_level next.place - first_level before.scan.place) before.levels) ∙ sym put.left) (sym put.behind));
+          (ap₂ (λ (ls : List ℤ) (k : List Bool). soft_written true next.place ls k)
+          (append-nil (drop (first_level next.place - first_level before.scan.place) before.levels) ∙ sym put.left) (sym put.behind));
       ends = λ ended more. refl;
       pauses = λ ended more pause is. absurd (Contains-none pause is);
     }
@@ -89,7 +92,8 @@ written-none ended place all kept none few =
     ∙ ap whole_octets (append-nil kept)
     ∙ whole_octets-few kept few
 
-idle_by : (finished : Bool) (work : SoftParts) → work.scan.finished ≡ finished → IsHolding work.scan work.levels → length work.kept < 8 → given work.scan ≡ [] → IsIdle finished (soft_future_by finished work)
+idle_by : (finished : Bool) (work : SoftParts) → work.scan.finished ≡ finished
+    → IsHolding work.scan work.levels → length work.kept < 8 → given work.scan ≡ [] → IsIdle finished (soft_future_by finished work)
 unfolding IsIdle
 idle_by false work going holding few none =
     let items : items_by false work.scan.place (drop (work.scan.place % 8) (hard_bits (grouped (work.levels ++ [])))) ≡ []

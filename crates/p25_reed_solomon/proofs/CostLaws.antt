@@ -37,6 +37,7 @@ kept_distance-nonzeros (x ∷ received) word erased long erasures = absurd (omeg
 
 -- so the cost is that of the errors
 pub cost-errors : (received word : List Sym) (erased : List Bool) → length received ≡ length word → length erased ≡ length received
-    → erased_cost same_symbols (without_erased received erased) word ≡ 2 * nonzeros gf64 (length received) (kept_errors erased (λ j. gf64.add (coefficient gf64 received j) (coefficient gf64 word j))) + erased_below erased (length received)
+    → erased_cost same_symbols (without_erased received erased) word ≡ 2 * nonzeros gf64
+    (length received) (kept_errors erased (λ j. gf64.add (coefficient gf64 received j) (coefficient gf64 word j))) + erased_below erased (length received)
 unfolding erased_cost
 cost-errors received word erased long erasures = omega (arith, kept_distance-nonzeros received word erased long erasures, erasures_in-without_erased received erased erasures)

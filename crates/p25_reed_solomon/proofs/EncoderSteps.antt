@@ -23,7 +23,8 @@ generator_none z one none same = record {
 }
 
 -- one factor more
-pub generator_more : (i : ℕ) (old new : List Sym) (root : Sym) → root ≡ power gf64 alpha (i + 1) → ((j : ℕ) → coefficient gf64 new j ≡ coefficient gf64 old j ⊕ root ⊗ shifted gf64 1 (coefficient gf64 old) j) → IsGenerator i old
+pub generator_more : (i : ℕ) (old new : List Sym) (root : Sym) → root ≡ power gf64 alpha (i + 1)
+    → ((j : ℕ) → coefficient gf64 new j ≡ coefficient gf64 old j ⊕ root ⊗ shifted gf64 1 (coefficient gf64 old) j) → IsGenerator i old
     → IsGenerator (i + 1) new
 generator_more i old new root same added before = record {
   monic = first_stays gf64 (coefficient gf64 old) (coefficient gf64 new) root added ∙ before.monic;
@@ -32,7 +33,8 @@ generator_more i old new root same added before = record {
     | inl last ↦ rw last
         (ap (λ x. value_at gf64 (i + 1 + 1) (coefficient gf64 new) (inverse x)) (sym same)
         ∙ new_zero gf64 (i + 1) (i + 1 + 1) (coefficient gf64 old) (coefficient gf64 new) root (omega arith) before.short added apart)
-    | inr other ↦ old_zero gf64 (i + 1) (i + 1 + 1) (coefficient gf64 old) (coefficient gf64 new) root (inverse (power gf64 alpha k)) (omega arith) before.short added (before.vanishes k low (omega arith))
+    | inr other ↦ old_zero gf64 (i + 1) (i + 1 + 1) (coefficient gf64 old)
+        (coefficient gf64 new) root (inverse (power gf64 alpha k)) (omega arith) before.short added (before.vanishes k low (omega arith))
   ];
 }
   where
@@ -51,7 +53,8 @@ pub divided_more : (i n checks : ℕ) (start old new generator : List Sym) (fact
     → ((j : ℕ) → coefficient gf64 new j ≡ coefficient gf64 old j ⊕ factor ⊗ shifted gf64 i (coefficient gf64 generator) j) → IsDividedTo i n checks start old → IsDividedTo (i + 1) n checks start new
 divided_more i n checks start old new generator factor divisor fits read added before = record {
   same = λ k low high.
-      value_stays gf64 n (checks + 1) i (coefficient gf64 old) (coefficient gf64 generator) (coefficient gf64 new) factor (inverse (power gf64 alpha k)) divisor.short fits added (divisor.vanishes k low high)
+      value_stays gf64 n (checks + 1) i (coefficient gf64 old) (coefficient gf64 generator)
+      (coefficient gf64 new) factor (inverse (power gf64 alpha k)) divisor.short fits added (divisor.vanishes k low high)
       ∙ before.same k low high;
   cleared = λ j low. elim (cases_eq j i) [
     | inl last ↦ rw last

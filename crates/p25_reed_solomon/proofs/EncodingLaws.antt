@@ -58,7 +58,8 @@ reduced_none : (n checks : ℕ) (g f : ℕ → Sym) → AreReduced 0 n checks f 
 unfolding reduced
 reduced_none n checks g f = record { same = λ k low high. refl; cleared = λ j none. absurd (omega arith) }
 
-reduced_more : (count n checks : ℕ) (g f : ℕ → Sym) → AreGenerator checks g → count + (checks + 1) ≤ n → AreReduced count n checks f (reduced g count f) → AreReduced (suc count) n checks f (reduced g (suc count) f)
+reduced_more : (count n checks : ℕ) (g f : ℕ → Sym) → AreGenerator checks g
+    → count + (checks + 1) ≤ n → AreReduced count n checks f (reduced g count f) → AreReduced (suc count) n checks f (reduced g (suc count) f)
 unfolding reduced
 reduced_more count n checks g f divisor fits before =
     let old = reduced g count f in

@@ -61,7 +61,8 @@ module _ (n : ℕ) (erased : List Bool) where
   zero_from_times_linear y f none zero =
       sym (ap (λ w. gf64.add (f 0) (gf64.mul y w)) (shifted-first gf64 f) ∙ ap (gf64.add (f 0)) (mul_zero gf64 y) ∙ add_zero gf64 (f 0)) ∙ none 0
   zero_from_times_linear y f none (suc i) =
-      sym (ap (λ w. gf64.add (f (suc i)) (gf64.mul y w)) (shifted-next gf64 f i ∙ zero_from_times_linear y f none i) ∙ ap (gf64.add (f (suc i))) (mul_zero gf64 y) ∙ add_zero gf64 (f (suc i))) ∙ none (suc i)
+      sym (ap (λ w. gf64.add (f (suc i)) (gf64.mul y w)) (shifted-next gf64 f i ∙ zero_from_times_linear y f none i)
+      ∙ ap (gf64.add (f (suc i))) (mul_zero gf64 y) ∙ add_zero gf64 (f (suc i))) ∙ none (suc i)
 
   pub zero_from_times_erasures : (j : ℕ) (f : ℕ → Sym) → IsZero gf64 (times_erasures n erased j f) → IsZero gf64 f
   zero_from_times_erasures zero f none = rw times_erasures-none at none
@@ -114,7 +115,8 @@ module _ (n : ℕ) (erased : List Bool) where
 
   -- one place more
   pub value-times_erasures : (m j : ℕ) (f : ℕ → Sym) (z : Sym) → IsShort gf64 m f → is_erased erased j ≡ true
-      → value_at gf64 (m + erased_below erased (suc j)) (times_erasures n erased (suc j) f) z ≡ gf64.mul (gf64.add gf64.one (gf64.mul (element_of n j) z)) (value_at gf64 (m + erased_below erased j) (times_erasures n erased j f) z)
+      → value_at gf64 (m + erased_below erased (suc j)) (times_erasures n erased (suc j) f) z
+      ≡ gf64.mul (gf64.add gf64.one (gf64.mul (element_of n j) z)) (value_at gf64 (m + erased_below erased j) (times_erasures n erased j f) z)
   value-times_erasures m j f z short here =
       let e : m + erased_below erased (suc j) ≡ suc (m + erased_below erased j) = omega (arith, erased_below-gone erased j here) in
       ap₂ (λ k g. value_at gf64 k g z) e (times_erasures-gone j f here)
@@ -136,7 +138,8 @@ module _ (n : ℕ) (erased : List Bool) where
       ]
 
   -- the erased places are zeros
-  pub erasure_vanishes : (m j : ℕ) (f : ℕ → Sym) (i : ℕ) → IsShort gf64 m f → i < j → is_erased erased i ≡ true → value_at gf64 (m + erased_below erased j) (times_erasures n erased j f) (point_of n i) ≡ gf64.zero
+  pub erasure_vanishes : (m j : ℕ) (f : ℕ → Sym) (i : ℕ) → IsShort gf64 m f
+      → i < j → is_erased erased i ≡ true → value_at gf64 (m + erased_below erased j) (times_erasures n erased j f) (point_of n i) ≡ gf64.zero
   erasure_vanishes m zero f i short low gone = absurd (omega arith)
   erasure_vanishes m (suc j) f i short low gone =
       elim (cases_eq i j) [

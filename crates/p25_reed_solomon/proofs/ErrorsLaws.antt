@@ -22,10 +22,12 @@ pub power_sum-placed : (n : ℕ) (places : List ℕ) (values : ℕ → Sym) (i :
     → power_sum gf64 n (element_of n) (placed places values) i ≡ power_sum gf64 (length places) (λ c. element_of n (get_or places c 0)) values i
 power_sum-placed n places values i inside =
     let x : ℕ → Sym = λ j. power gf64 (element_of n j) i in
-    sum_same gf64 n _ (λ j. sum_below gf64 (length places) (λ c. gf64.mul (x j) (at_place places values j c))) (λ j below. mul_comm gf64 (placed places values j) (x j) ∙ sym (sum-mul gf64 (length places) (x j) (at_place places values j)))
+    sum_same gf64 n _ (λ j. sum_below gf64 (length places) (λ c. gf64.mul (x j) (at_place places values j c)))
+    (λ j below. mul_comm gf64 (placed places values j) (x j) ∙ sym (sum-mul gf64 (length places) (x j) (at_place places values j)))
     ∙ sum_exchange gf64 n (length places) (λ j c. gf64.mul (x j) (at_place places values j c))
     ∙ sum_same gf64 (length places) _ _ (λ c within.
-    sum_of_one gf64 n (get_or places c 0) (λ j. gf64.mul (x j) (at_place places values j c)) (inside c within) (λ j below other. ap (gf64.mul (x j)) (elsewhere places values j c (λ e. other (sym e))) ∙ mul_comm gf64 (x j) gf64.zero
+    sum_of_one gf64 n (get_or places c 0) (λ j. gf64.mul (x j) (at_place places values j c))
+    (inside c within) (λ j below other. ap (gf64.mul (x j)) (elsewhere places values j c (λ e. other (sym e))) ∙ mul_comm gf64 (x j) gf64.zero
     ∙ zero_mul gf64 (x j))
     ∙ mul_comm gf64 (x (get_or places c 0)) _
     ∙ ap (λ (s : Sym). gf64.mul s (x (get_or places c 0))) (there places values (get_or places c 0) c refl))
@@ -79,7 +81,8 @@ nonzeros-placed_front : (n : ℕ) (places : List ℕ) (values : ℕ → Sym) (co
 nonzeros-placed_front n places values zero = zeros_count n _ (λ j. sum-none gf64 _)
 nonzeros-placed_front n places values (suc count) =
     let before = nonzeros-placed_front n places values count in
-    let one_more = nonzeros_bump n (get_or places count 0) (λ j. sum_below gf64 count (at_place places values j)) (λ j. sum_below gf64 (suc count) (at_place places values j)) (λ j other. sum-suc gf64 count (at_place places values j)
+    let one_more = nonzeros_bump n (get_or places count 0) (λ j. sum_below gf64 count (at_place places values j))
+    (λ j. sum_below gf64 (suc count) (at_place places values j)) (λ j other. sum-suc gf64 count (at_place places values j)
     ∙ ap (gf64.add (sum_below gf64 count (at_place places values j))) (elsewhere places values j count (λ e. other (sym e))) ∙ add_zero gf64 _) in
     omega (arith, before, one_more)
 

@@ -12,7 +12,8 @@ use Rattle.p25_reed_solomon.proofs.{ErasuresLaws.{erased_below-none, erased_belo
 use Rattle.p25_reed_solomon.proofs.ErrorsLaws.{at_place, elsewhere, power_sum-placed, placed-errors, nonzeros-placed, nonzeros_same, nonzeros-none}
 
 -- the parts of the lists that have the coefficients are a locator and its evaluator too
-pub part_is_locator : (n checks : ℕ) (syndromes : List Sym) (erased : List Bool) (most : ℕ) (locator evaluator : List Sym) → IsLocator n checks syndromes erased most (coefficient gf64 locator) (coefficient gf64 evaluator)
+pub part_is_locator : (n checks : ℕ) (syndromes : List Sym) (erased : List Bool) (most : ℕ) (locator evaluator : List Sym)
+    → IsLocator n checks syndromes erased most (coefficient gf64 locator) (coefficient gf64 evaluator)
     → IsLocator n checks syndromes erased most (coefficient gf64 (take (most + 1) locator)) (coefficient gf64 (take most evaluator))
 part_is_locator n checks syndromes erased most locator evaluator is =
     subst (λ f. IsLocator n checks syndromes erased most f (coefficient gf64 (take most evaluator))) (sym (same_function (coefficient gf64 (take (most + 1) locator)) (coefficient gf64 locator) part))
@@ -50,9 +51,14 @@ pub placed_listed : (places : List ℕ) (values : ℕ → Sym) (j : ℕ) → pla
 placed_listed places values j some = listed_front places values j (length places) (omega arith) some
 
 -- errors that are zero but at listed places are no more than these
-nonzeros_listed : (n : ℕ) (places : List ℕ) (f : ℕ → Sym) → ((c d : ℕ) → c < d → d < length places → get_or places c 0 < get_or places d 0) → ((j : ℕ) → j < n → f j ≢ gf64.zero → IsListed places j) → nonzeros gf64 n f ≤ length places
+nonzeros_listed : (n : ℕ) (places : List ℕ) (f : ℕ → Sym) → ((c d : ℕ) → c < d → d < length places → get_or places c 0 < get_or places d 0)
+    → ((j : ℕ) → j < n → f j ≢ gf64.zero → IsListed places j) → nonzeros gf64 n f ≤ length places
 nonzeros_listed n places f rising listed =
-    omega (arith, nonzeros_same n f (placed places (λ c. f (get_or places c 0))) (λ j low. sym (placed-errors n places f j rising (listed j low))), nonzeros-placed n places (λ c. f (get_or places c 0)))
+    omega (
+      arith,
+      nonzeros_same n f (placed places (λ c. f (get_or places c 0))) (λ j low. sym (placed-errors n places f j rising (listed j low))),
+      nonzeros-placed n places (λ c. f (get_or places c 0)),
+    )
 
 -- a one at each erased place
 abbrev with_ones : List Bool → (ℕ → Sym) → ℕ → Sym
@@ -73,7 +79,8 @@ nonzeros-with_ones (suc n) erased errors =
             weight_zero gf64 (kept_errors erased errors n) (cond-true (is_erased erased n) gf64.zero (errors n) here),
           )
       | inr kept ↦
-          let same : with_ones erased errors n ≡ kept_errors erased errors n = cond-false (is_erased erased n) gf64.one (errors n) kept ∙ sym (cond-false (is_erased erased n) gf64.zero (errors n) kept) in
+          let same : with_ones erased errors n ≡ kept_errors erased errors n
+          = cond-false (is_erased erased n) gf64.one (errors n) kept ∙ sym (cond-false (is_erased erased n) gf64.zero (errors n) kept) in
           omega (
             arith,
             nonzeros-with_ones n erased errors,
@@ -99,7 +106,8 @@ module _ (n checks most : ℕ) (syndromes locator evaluator : List Sym) (erased 
   -- the values of errors that explain the syndromes
   pub value_is_error : (errors : ℕ → Sym) → Explains n checks syndromes erased errors → (values : ℕ → Sym)
       → ((c : ℕ) → c < length places → slope_at gf64 (length locator) (coefficient gf64 locator) (point_of n (get_or places c 0)) ≢ gf64.zero
-      → gf64.mul (values c) (slope_at gf64 (length locator) (coefficient gf64 locator) (point_of n (get_or places c 0))) ≡ value_at gf64 (length evaluator) (coefficient gf64 evaluator) (point_of n (get_or places c 0)))
+      → gf64.mul (values c) (slope_at gf64 (length locator) (coefficient gf64 locator) (point_of n (get_or places c 0)))
+      ≡ value_at gf64 (length evaluator) (coefficient gf64 evaluator) (point_of n (get_or places c 0)))
       → (c : ℕ) → c < length places → values c ≡ errors (get_or places c 0)
   value_is_error errors explains values forney c low =
       let j = get_or places c 0 in
@@ -125,7 +133,8 @@ module _ (n checks most : ℕ) (syndromes locator evaluator : List Sym) (erased 
 
   -- values at the zeros with these power sums explain the syndromes
   pub placed_explains : (values out : ℕ → Sym) → 2 * most ≤ checks + erased_below erased n → length places < length locator
-      → ((r : ℕ) → r < checks → power_sum gf64 (length places) (λ c. element_of n (get_or places c 0)) values (r + 1) ≡ coefficient gf64 syndromes r) → ((j : ℕ) → j < n → out j ≡ placed places values j)
+      → ((r : ℕ) → r < checks → power_sum gf64 (length places) (λ c. element_of n (get_or places c 0)) values (r + 1) ≡ coefficient gf64 syndromes r)
+      → ((j : ℕ) → j < n → out j ≡ placed places values j)
       → Explains n checks syndromes erased out
   placed_explains values out bound few sums same = record {
     few = omega (arith, nonzeros-with_ones n erased out, nonzeros_listed n places (with_ones erased out) are.rising listed, long);

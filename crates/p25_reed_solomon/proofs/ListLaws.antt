@@ -7,7 +7,8 @@ use Rattle.p25_algebra.proofs.{SumLaws.{sum_same, sum_longer}, ValueLaws.{value-
 use Rattle.p25_poly.proofs.CoefficientLaws.{coefficient_past}
 
 -- a list moved up by one place
-pub moved_everywhere : (symbols moved : List Sym) → length symbols ≡ 32 → length moved ≡ 33 → coefficient gf64 moved 0 ≡ gf64.zero → ((k : ℕ) → k < 32 → coefficient gf64 moved (1 + k) ≡ coefficient gf64 symbols k) → (k : ℕ)
+pub moved_everywhere : (symbols moved : List Sym) → length symbols ≡ 32
+    → length moved ≡ 33 → coefficient gf64 moved 0 ≡ gf64.zero → ((k : ℕ) → k < 32 → coefficient gf64 moved (1 + k) ≡ coefficient gf64 symbols k) → (k : ℕ)
     → coefficient gf64 moved k ≡ shifted gf64 1 (coefficient gf64 symbols) k
 moved_everywhere symbols moved short full first others zero = first ∙ sym (shifted-first gf64 (coefficient gf64 symbols))
 moved_everywhere symbols moved short full first others (suc k) =
@@ -42,10 +43,12 @@ rest_here n i f x positive = ap (λ m. value_at gf64 (n - m) (λ k. f (m + k)) x
     next = omega arith
 
 -- a power sum over 32 terms, of which those after the listed places are zero
-pub sum_of_listed : (count : ℕ) (elements values : List Sym) (element : ℕ → Sym) (i : ℕ) → count ≤ 32 → ((c : ℕ) → c < count → coefficient gf64 elements c ≡ element c) → ((c : ℕ) → count ≤ c → coefficient gf64 values c ≡ gf64.zero)
+pub sum_of_listed : (count : ℕ) (elements values : List Sym) (element : ℕ → Sym) (i : ℕ)
+    → count ≤ 32 → ((c : ℕ) → c < count → coefficient gf64 elements c ≡ element c) → ((c : ℕ) → count ≤ c → coefficient gf64 values c ≡ gf64.zero)
     → sum_below gf64 32 (λ c. gf64.mul (coefficient gf64 values c) (power gf64 (coefficient gf64 elements c) i)) ≡ power_sum gf64 count element (coefficient gf64 values) i
 sum_of_listed count elements values element i few are rest =
-    sum_longer gf64 count 32 (λ c. gf64.mul (coefficient gf64 values c) (power gf64 (coefficient gf64 elements c) i)) few (λ c low high. ap (λ v. gf64.mul v (power gf64 (coefficient gf64 elements c) i)) (rest c low)
+    sum_longer gf64 count 32 (λ c. gf64.mul (coefficient gf64 values c) (power gf64 (coefficient gf64 elements c) i)) few
+    (λ c low high. ap (λ v. gf64.mul v (power gf64 (coefficient gf64 elements c) i)) (rest c low)
     ∙ zero_mul gf64 (power gf64 (coefficient gf64 elements c) i))
     ∙ sum_same gf64 count _ _ (λ c low. ap (λ x. gf64.mul (coefficient gf64 values c) (power gf64 x i)) (are c low))
 
@@ -61,8 +64,10 @@ term_next v x p q i is next =
     more = omega arith
 
 -- the sum of the terms after one more multiplication
-pub sum_of_terms : (count : ℕ) (elements values old new : List Sym) (element : ℕ → Sym) (i : ℕ) → count ≤ 32 → ((c : ℕ) → c < count → coefficient gf64 elements c ≡ element c) → ((c : ℕ) → count ≤ c → coefficient gf64 values c ≡ gf64.zero)
-    → ((c : ℕ) → c < 32 → coefficient gf64 old c ≡ gf64.mul (coefficient gf64 values c) (power gf64 (coefficient gf64 elements c) i)) → ((c : ℕ) → coefficient gf64 new c ≡ gf64.mul (coefficient gf64 old c) (coefficient gf64 elements c))
+pub sum_of_terms : (count : ℕ) (elements values old new : List Sym) (element : ℕ → Sym) (i : ℕ)
+    → count ≤ 32 → ((c : ℕ) → c < count → coefficient gf64 elements c ≡ element c) → ((c : ℕ) → count ≤ c → coefficient gf64 values c ≡ gf64.zero)
+    → ((c : ℕ) → c < 32 → coefficient gf64 old c ≡ gf64.mul (coefficient gf64 values c) (power gf64 (coefficient gf64 elements c) i))
+    → ((c : ℕ) → coefficient gf64 new c ≡ gf64.mul (coefficient gf64 old c) (coefficient gf64 elements c))
     → sum_below gf64 32 (coefficient gf64 new) ≡ power_sum gf64 count element (coefficient gf64 values) (i + 1)
 sum_of_terms count elements values old new element i few are rest terms next =
     sum_same gf64 32 (coefficient gf64 new) (λ c. gf64.mul (coefficient gf64 values c) (power gf64 (coefficient gf64 elements c) (i + 1)))

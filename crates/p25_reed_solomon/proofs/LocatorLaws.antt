@@ -30,7 +30,8 @@ pub part_read : (symbols : List Sym) (from count r : ℕ) → r < count → coef
 part_read symbols from count r low = get_or-take count (drop from symbols) r gf64.zero low ∙ get_or-drop from symbols r gf64.zero
 
 -- without symbols the solution of the key equation is 1
-pub key_of_none : (symbols : List Sym) (locator evaluator : Poly) → length symbols ≡ 0 → coefficient_of locator 0 ≡ gf64.one → ((k : ℕ) → 1 ≤ k → coefficient_of locator k ≡ gf64.zero) → IsZero gf64 (coefficient_of evaluator)
+pub key_of_none : (symbols : List Sym) (locator evaluator : Poly) → length symbols ≡ 0
+    → coefficient_of locator 0 ≡ gf64.one → ((k : ℕ) → 1 ≤ k → coefficient_of locator k ≡ gf64.zero) → IsZero gf64 (coefficient_of evaluator)
     → IsKey symbols locator evaluator
 key_of_none symbols locator evaluator none one others zeros = record {
   nonzero = λ all. gf64.laws.one_ne_zero (sym one ∙ all 0);
@@ -42,7 +43,8 @@ key_of_none symbols locator evaluator none one others zeros = record {
       sym one
       ∙ sym (mul_one gf64 (coefficient_of locator 0))
       ∙ ap (gf64.mul (coefficient_of locator 0)) (sym (power-zero gf64 x))
-      ∙ sym (sum_of_one gf64 64 0 (λ i. gf64.mul (coefficient_of locator i) (power gf64 x i)) (omega arith) (λ i low other. ap (λ w. gf64.mul w (power gf64 x i)) (others i (omega arith)) ∙ zero_mul gf64 (power gf64 x i)))
+      ∙ sym (sum_of_one gf64 64 0 (λ i. gf64.mul (coefficient_of locator i) (power gf64 x i))
+      (omega arith) (λ i low other. ap (λ w. gf64.mul w (power gf64 x i)) (others i (omega arith)) ∙ zero_mul gf64 (power gf64 x i)))
       ∙ there);
 }
 
@@ -66,7 +68,8 @@ evaluator_step i most f t old new factor few is added before (suc k) low =
     next : (r : ℕ) → suc i + r ≡ i + suc r
     next r = omega arith
 
-module _ (n checks half : ℕ) (syndromes symbols : List Sym) (erased : List Bool) (locator evaluator : Poly) (places : n ≤ 63) (few : checks ≤ 22) (some : 1 ≤ half + erased_below erased n) (fits : erased_below erased n + 2 * half ≤ checks)
+module _ (n checks half : ℕ) (syndromes symbols : List Sym) (erased : List Bool) (locator evaluator : Poly)
+    (places : n ≤ 63) (few : checks ≤ 22) (some : 1 ≤ half + erased_below erased n) (fits : erased_below erased n + 2 * half ≤ checks)
     (all : checks ≤ erased_below erased n + 2 * half + 1) (long : length symbols ≡ 2 * half) (is : (r : ℕ) → r < 2 * half
     → coefficient gf64 symbols r ≡ times_erasures n erased n (coefficient gf64 syndromes) (erased_below erased n + r)) (key : IsKey symbols locator evaluator) where
   halved : length symbols / 2 ≡ half
@@ -81,7 +84,8 @@ module _ (n checks half : ℕ) (syndromes symbols : List Sym) (erased : List Boo
   -- the key's locator and the evaluator have no zero in common
   apart : (z : Sym) → z ≢ gf64.zero → value_at gf64 (half + 1) (coefficient_of locator) z ≡ gf64.zero → value_at gf64 half (coefficient_of evaluator) z ≢ gf64.zero
   apart z live none also =
-      key.apart z live (value_longer gf64 (half + 1) 64 (coefficient_of locator) z (omega (arith, fits, few)) key_short ∙ none) (value_longer gf64 half 64 (coefficient_of evaluator) z (omega (arith, fits, few)) evaluator_short ∙ also)
+      key.apart z live (value_longer gf64 (half + 1) 64 (coefficient_of locator) z (omega (arith, fits, few)) key_short ∙ none)
+      (value_longer gf64 half 64 (coefficient_of evaluator) z (omega (arith, fits, few)) evaluator_short ∙ also)
 
   -- ---- errors that explain the syndromes
 
@@ -103,22 +107,26 @@ module _ (n checks half : ℕ) (syndromes symbols : List Sym) (erased : List Boo
         (λ i low high. key.equation i (omega (arith, long)) ∙ evaluator_short.above i low) l inside other
 
     -- a zero of the key's locator is a wrong place without an erasure, and has a slope
-    key_zero : (j : ℕ) → j < n → value_at gf64 (half + 1) (coefficient_of locator) (point_of n j) ≡ gf64.zero → (left j ≢ gf64.zero) × (slope_at gf64 (half + 1) (coefficient_of locator) (point_of n j) ≢ gf64.zero)
+    key_zero : (j : ℕ) → j < n → value_at gf64 (half + 1) (coefficient_of locator) (point_of n j) ≡ gf64.zero
+        → (left j ≢ gf64.zero) × (slope_at gf64 (half + 1) (coefficient_of locator) (point_of n j) ≢ gf64.zero)
     key_zero j inside none =
         elim (cases_eq half 0) [
-          | inl nothing ↦ absurd (apart (point_of n j) (point_ne_zero n j) none (ap (λ m. value_at gf64 m (coefficient_of evaluator) (point_of n j)) nothing ∙ value-none gf64 (coefficient_of evaluator) (point_of n j)))
+          | inl nothing ↦ absurd (apart (point_of n j) (point_ne_zero n j) none
+              (ap (λ m. value_at gf64 m (coefficient_of evaluator) (point_of n j)) nothing ∙ value-none gf64 (coefficient_of evaluator) (point_of n j)))
           | inr something ↦
               let slope = slope_at gf64 (half + 1) (coefficient_of locator) (point_of n j) in
               let product = forney gf64 n half (element_of n) left (coefficient_of locator) (coefficient gf64 symbols) (omega arith) (elements_apart n places) (λ l h. element_ne_zero n l) key_short
               (λ i low. sums_left i (omega arith)) key_vanishes j inside none in
-              let value = value_same gf64 half (product_at gf64 (coefficient_of locator) (coefficient gf64 symbols)) (coefficient_of evaluator) (point_of n j) (λ i low. key.equation i (omega (arith, long))) in (
+              let value = value_same gf64 half (product_at gf64 (coefficient_of locator) (coefficient gf64 symbols))
+              (coefficient_of evaluator) (point_of n j) (λ i low. key.equation i (omega (arith, long))) in (
                 (λ gone. apart (point_of n j) (point_ne_zero n j) none (sym value ∙ sym product ∙ ap (λ w. gf64.mul w slope) gone ∙ zero_mul gf64 slope)),
                 (λ flat. apart (point_of n j) (point_ne_zero n j) none (sym value ∙ sym product ∙ ap (gf64.mul (left j)) flat ∙ mul_zero gf64 (left j))),
               )
         ]
 
     -- an erased place is no zero before its factor
-    free : (upto : ℕ) → upto ≤ n → (j : ℕ) → j < n → is_erased erased j ≡ true → upto ≤ j → value_at gf64 (half + 1 + erased_below erased upto) (times_erasures n erased upto (coefficient_of locator)) (point_of n j) ≢ gf64.zero
+    free : (upto : ℕ) → upto ≤ n → (j : ℕ) → j < n → is_erased erased j ≡ true
+        → upto ≤ j → value_at gf64 (half + 1 + erased_below erased upto) (times_erasures n erased upto (coefficient_of locator)) (point_of n j) ≢ gf64.zero
     unfolding left
     free zero within j inside gone later none =
         let e : half + 1 + erased_below erased 0 ≡ half + 1 = omega (arith, erased_below-none erased) in
@@ -169,11 +177,13 @@ module _ (n checks half : ℕ) (syndromes symbols : List Sym) (erased : List Boo
     wrong j inside other =
         elim (cases_Bool (is_erased erased j)) [
           | inl here ↦ erasure_vanishes n erased (half + 1) n (coefficient_of locator) j key_short inside here
-          | inr kept ↦ zero_stays n erased (half + 1) n (coefficient_of locator) (point_of n j) key_short (key_vanishes j inside (lowered_kept n erased n errors j places (omega arith) inside kept other))
+          | inr kept ↦ zero_stays n erased (half + 1) n (coefficient_of locator)
+              (point_of n j) key_short (key_vanishes j inside (lowered_kept n erased n errors j places (omega arith) inside kept other))
         ]
 
     -- a zero without an erasure is wrong
-    zero_is_wrong : (upto : ℕ) → upto ≤ n → (j : ℕ) → j < n → is_erased erased j ≡ false → value_at gf64 (half + 1 + erased_below erased upto) (times_erasures n erased upto (coefficient_of locator)) (point_of n j) ≡ gf64.zero
+    zero_is_wrong : (upto : ℕ) → upto ≤ n → (j : ℕ) → j < n → is_erased erased j ≡ false
+        → value_at gf64 (half + 1 + erased_below erased upto) (times_erasures n erased upto (coefficient_of locator)) (point_of n j) ≡ gf64.zero
         → errors j ≢ gf64.zero
     unfolding left
     zero_is_wrong zero within j inside kept none right =
@@ -196,7 +206,8 @@ module _ (n checks half : ℕ) (syndromes symbols : List Sym) (erased : List Boo
     error_there m e positive bound short is_product j inside none =
         let f : ℕ → Sym = times_erasures n erased n (coefficient_of locator) in
         forney gf64 n m (element_of n) errors f (coefficient gf64 syndromes) positive (elements_apart n places) (λ l h. element_ne_zero n l) short
-        (λ i low. sym (explains.sums i (omega (arith, fits)))) (λ l low other. sym (value_longer gf64 (m + 1) (half + 1 + erased_below erased n) f (point_of n l) (omega arith) short) ∙ wrong l low other) j inside none
+        (λ i low. sym (explains.sums i (omega (arith, fits)))) (λ l low other.
+        sym (value_longer gf64 (m + 1) (half + 1 + erased_below erased n) f (point_of n l) (omega arith) short) ∙ wrong l low other) j inside none
         ∙ value_same gf64 m (product_at gf64 f (coefficient gf64 syndromes)) e (point_of n j)
         (λ k low. product-times_erasures n erased n (coefficient_of locator) (coefficient gf64 syndromes) k ∙ sym (is_product k (omega arith)))
 
@@ -220,7 +231,8 @@ module _ (n checks half : ℕ) (syndromes symbols : List Sym) (erased : List Boo
       short : IsShort gf64 (m + 1) (times_erasures n erased n (coefficient_of locator))
       short = record { above = λ i high. sym (is_f i) ∙ short_f.above i high }
 
-      sized : (j : ℕ) → value_at gf64 (m + 1) (times_erasures n erased n (coefficient_of locator)) (point_of n j) ≡ value_at gf64 (half + 1 + erased_below erased n) (times_erasures n erased n (coefficient_of locator)) (point_of n j)
+      sized : (j : ℕ) → value_at gf64 (m + 1) (times_erasures n erased n (coefficient_of locator)) (point_of n j)
+          ≡ value_at gf64 (half + 1 + erased_below erased n) (times_erasures n erased n (coefficient_of locator)) (point_of n j)
       sized j = sym (value_longer gf64 (m + 1) (half + 1 + erased_below erased n) (times_erasures n erased n (coefficient_of locator)) (point_of n j) (omega arith) short)
 
   -- before any coefficient of the lowered syndromes is added, the evaluator is that of the key
@@ -229,13 +241,16 @@ module _ (n checks half : ℕ) (syndromes symbols : List Sym) (erased : List Boo
   evaluator_first e is_e k low =
       is_e k (omega (arith, fits, few))
       ∙ sym (key.equation k (omega (arith, long)))
-      ∙ product_agree gf64 (coefficient_of locator) (coefficient gf64 symbols) (λ r. times_erasures n erased n (coefficient gf64 syndromes) (erased_below erased n + r)) k (λ i within. is i (omega arith))
+      ∙ product_agree gf64 (coefficient_of locator) (coefficient gf64 symbols)
+      (λ r. times_erasures n erased n (coefficient gf64 syndromes) (erased_below erased n + r)) k (λ i within. is i (omega arith))
 
 -- ---- the locator as the code has it: lists of 32 coefficients
 
-module _ (n checks erasures half : ℕ) (syndromes lowered front : List Sym) (erased : List Bool) (locator evaluator : Poly) (places : n ≤ 63) (is_erasures : erasures ≡ erased_below erased n) (within : erasures ≤ checks) (some : 2 ≤ checks)
+module _ (n checks erasures half : ℕ) (syndromes lowered front : List Sym) (erased : List Bool)
+    (locator evaluator : Poly) (places : n ≤ 63) (is_erasures : erasures ≡ erased_below erased n) (within : erasures ≤ checks) (some : 2 ≤ checks)
     (few : checks ≤ 22) (is_half : half ≡ (checks - erasures) / 2) (lowered_full : length lowered ≡ 32)
-    (is_lowered : (k : ℕ) → k < 32 → coefficient gf64 lowered k ≡ times_erasures n erased n (coefficient gf64 syndromes) k) (key : IsKey (take (erasures + 2 * half - erasures) (drop erasures lowered)) locator evaluator)
+    (is_lowered : (k : ℕ) → k < 32 → coefficient gf64 lowered k ≡ times_erasures n erased n (coefficient gf64 syndromes) k)
+    (key : IsKey (take (erasures + 2 * half - erasures) (drop erasures lowered)) locator evaluator)
     (front_full : length front ≡ 32) (is_front : (k : ℕ) → k < 32 → coefficient gf64 front k ≡ coefficient_of locator k) where
   symbols : List Sym
   symbols = take (erasures + 2 * half - erasures) (drop erasures lowered)
@@ -273,7 +288,8 @@ module _ (n checks erasures half : ℕ) (syndromes lowered front : List Sym) (er
       → IsLocator n checks syndromes erased m (coefficient gf64 new) (coefficient gf64 e) × (m ≤ half + erasures)
   unfolding symbols
   located m new e i none new_full positive short_new least is_new is_e = (
-    key_is_locator n checks half syndromes symbols erased locator evaluator places few (omega arith) (omega arith) (omega arith) long is key m (coefficient gf64 new) (coefficient gf64 e) positive (omega (arith, bound)) short_new everywhere
+    key_is_locator n checks half syndromes symbols erased locator evaluator places few (omega arith)
+        (omega arith) (omega arith) long is key m (coefficient gf64 new) (coefficient gf64 e) positive (omega (arith, bound)) short_new everywhere
         (λ k low.
         is_e k (omega arith)
         ∙ product_same_left gf64 (coefficient gf64 front) (coefficient_of locator) (λ r. times_erasures n erased n (coefficient gf64 syndromes) (i + r)) front_is k

@@ -25,7 +25,8 @@ module _ {F : Type 0} (K : Field F) where
     after = λ j high. refl;
   }
 
-  pub added_more : (i : ℕ) (into : List F) (old : ℕ → F) (factor : F) (s : ℕ) (g : ℕ → F) (x : F) → s + i < length into → x ≡ coefficient K into (s + i) ⊕ factor ⊗ g i → AddedTo (s + i) into old factor s g
+  pub added_more : (i : ℕ) (into : List F) (old : ℕ → F) (factor : F) (s : ℕ) (g : ℕ → F) (x : F)
+      → s + i < length into → x ≡ coefficient K into (s + i) ⊕ factor ⊗ g i → AddedTo (s + i) into old factor s g
       → AddedTo (s + (i + 1)) (set into (s + i) x) old factor s g
   added_more i into old factor s g x within e kept = record {
     before = λ j low. elim (cases_eq j (s + i)) [
@@ -41,7 +42,8 @@ module _ {F : Type 0} (K : Field F) where
       unshifted : s + i - s ≡ i
       unshifted = omega arith
 
-  pub added_all : (count i : ℕ) (into : List F) (old : ℕ → F) (factor : F) (s : ℕ) (g : ℕ → F) → count ≤ i → IsShort K count g → AddedTo (s + i) into old factor s g → (j : ℕ) → coefficient K into j ≡ old j ⊕ factor ⊗ shifted K s g j
+  pub added_all : (count i : ℕ) (into : List F) (old : ℕ → F) (factor : F) (s : ℕ) (g : ℕ → F)
+      → count ≤ i → IsShort K count g → AddedTo (s + i) into old factor s g → (j : ℕ) → coefficient K into j ≡ old j ⊕ factor ⊗ shifted K s g j
   added_all count i into old factor s g enough short kept j =
       elim (cases_lt j (s + i)) [
         | inl below ↦ kept.before j below
@@ -64,7 +66,8 @@ module _ {F : Type 0} (K : Field F) where
   -- ---- values
 
   -- the value where a multiple of g, shifted by s, has been added
-  pub value-added : (n k s : ℕ) (f g h : ℕ → F) (c y : F) → IsShort K k g → s + k ≤ n → ((j : ℕ) → h j ≡ f j ⊕ c ⊗ shifted K s g j) → value_at K n h y ≡ value_at K n f y ⊕ c ⊗ (power K y s ⊗ value_at K k g y)
+  pub value-added : (n k s : ℕ) (f g h : ℕ → F) (c y : F) → IsShort K k g
+      → s + k ≤ n → ((j : ℕ) → h j ≡ f j ⊕ c ⊗ shifted K s g j) → value_at K n h y ≡ value_at K n f y ⊕ c ⊗ (power K y s ⊗ value_at K k g y)
   value-added n k s f g h c y short fits e =
       value_same K n h (λ j. f j ⊕ c ⊗ shifted K s g j) y (λ j low. e j)
       ∙ value-add K n f (λ j. c ⊗ shifted K s g j) y

@@ -28,31 +28,37 @@ difference_explains n k received word syndromes erased code long erasures of_cod
     }
 
 -- the cost of the word that errors make
-pub cost_of_errors : (n k : ℕ) (received word syndromes : List Sym) (erased : List Bool) (errors : ℕ → Sym) → length received ≡ n → length word ≡ n → length erased ≡ n → Explains n (n - k) syndromes erased errors
+pub cost_of_errors : (n k : ℕ) (received word syndromes : List Sym) (erased : List Bool) (errors : ℕ → Sym)
+    → length received ≡ n → length word ≡ n → length erased ≡ n → Explains n (n - k) syndromes erased errors
     → ((j : ℕ) → j < n → coefficient gf64 word j ≡ gf64.add (coefficient gf64 received j) (errors j)) → erased_cost same_symbols (without_erased received erased) word ≤ n - k
 cost_of_errors n k received word syndromes erased errors long_received long erasures explains is =
     let sum : ℕ → Sym = λ j. gf64.add (coefficient gf64 received j) (coefficient gf64 word j) in
-    let cost = cost-errors received word erased (long_received ∙ sym long) (erasures ∙ sym long_received) ∙ ap (λ m. 2 * nonzeros gf64 m (kept_errors erased sum) + erased_below erased m) long_received in
+    let cost = cost-errors received word erased (long_received ∙ sym long) (erasures ∙ sym long_received)
+    ∙ ap (λ m. 2 * nonzeros gf64 m (kept_errors erased sum) + erased_below erased m) long_received in
     let same = nonzeros_same n (kept_errors erased sum) (kept_errors erased errors)
     (λ j low. ap (cond (is_erased erased j) gf64.zero) (ap (gf64.add (coefficient gf64 received j)) (is j low) ∙ add_twice gf64 (coefficient gf64 received j) (errors j))) in
     omega (arith, cost, same, explains.few)
 
 -- the cost of what was received, and of any word
-pub cost_of_received : (n : ℕ) (received : List Sym) (erased : List Bool) → length received ≡ n → length erased ≡ n → erased_cost same_symbols (without_erased received erased) received ≡ erased_below erased n
+pub cost_of_received : (n : ℕ) (received : List Sym) (erased : List Bool)
+    → length received ≡ n → length erased ≡ n → erased_cost same_symbols (without_erased received erased) received ≡ erased_below erased n
 cost_of_received n received erased long erasures =
     let sum : ℕ → Sym = λ j. gf64.add (coefficient gf64 received j) (coefficient gf64 received j) in
     let cost = cost-errors received received erased refl (erasures ∙ sym long) ∙ ap (λ m. 2 * nonzeros gf64 m (kept_errors erased sum) + erased_below erased m) long in
-    let none = zeros_count n (kept_errors erased sum) (λ j. cond_both (is_erased erased j) gf64.zero (sum j) (λ s. s ≡ gf64.zero) (λ here. refl) (λ kept. add_self gf64 (coefficient gf64 received j))) in
+    let none = zeros_count n (kept_errors erased sum)
+    (λ j. cond_both (is_erased erased j) gf64.zero (sum j) (λ s. s ≡ gf64.zero) (λ here. refl) (λ kept. add_self gf64 (coefficient gf64 received j))) in
     omega (arith, cost, none)
 
-pub cost_of_erasures : (n : ℕ) (received word : List Sym) (erased : List Bool) → length received ≡ n → length word ≡ n → length erased ≡ n → erased_below erased n ≤ erased_cost same_symbols (without_erased received erased) word
+pub cost_of_erasures : (n : ℕ) (received word : List Sym) (erased : List Bool)
+    → length received ≡ n → length word ≡ n → length erased ≡ n → erased_below erased n ≤ erased_cost same_symbols (without_erased received erased) word
 cost_of_erasures n received word erased long_received long erasures =
     let cost = cost-errors received word erased (long_received ∙ sym long) (erasures ∙ sym long_received) in
     omega (arith, cost, ap (erased_below erased) long_received)
 
 -- errors that explain the syndromes make a word of the code of what was received
 pub corrected : (n k : ℕ) (received word syndromes : List Sym) (erased : List Bool) (errors : ℕ → Sym) → IsCode n k → length received ≡ n → length word ≡ n
-    → ((r : ℕ) → r < n - k → coefficient gf64 syndromes r ≡ value_of n received (r + 1)) → Explains n (n - k) syndromes erased errors → ((j : ℕ) → j < n → coefficient gf64 word j ≡ gf64.add (coefficient gf64 received j) (errors j))
+    → ((r : ℕ) → r < n - k → coefficient gf64 syndromes r ≡ value_of n received (r + 1))
+    → Explains n (n - k) syndromes erased errors → ((j : ℕ) → j < n → coefficient gf64 word j ≡ gf64.add (coefficient gf64 received j) (errors j))
     → IsWord n k word
 corrected n k received word syndromes erased errors code long_received long are explains is =
     record {
@@ -62,12 +68,14 @@ corrected n k received word syndromes erased errors code long_received long are 
           let place : r + 1 ≡ i = omega arith in
           front_value_same n (coefficient gf64 word) (λ j. gf64.add (coefficient gf64 received j) (errors j)) i is
           ∙ front_value-add n (coefficient gf64 received) errors i
-          ∙ ap₂ gf64.add (ap (value_of n received) (sym place) ∙ sym (are r (omega arith))) (value-power_sum n errors i ∙ ap (power_sum gf64 n (element_of n) errors) (sym place) ∙ explains.sums r (omega arith))
+          ∙ ap₂ gf64.add (ap (value_of n received) (sym place) ∙ sym (are r (omega arith)))
+          (value-power_sum n errors i ∙ ap (power_sum gf64 n (element_of n) errors) (sym place) ∙ explains.sums r (omega arith))
           ∙ add_self gf64 (coefficient gf64 syndromes r);
     }
 
 -- as many letters changed as there are errors
-pub changed_letters : (n : ℕ) (received word : List Sym) (errors : ℕ → Sym) → length received ≡ n → length word ≡ n → ((j : ℕ) → j < n → coefficient gf64 word j ≡ gf64.add (coefficient gf64 received j) (errors j))
+pub changed_letters : (n : ℕ) (received word : List Sym) (errors : ℕ → Sym)
+    → length received ≡ n → length word ≡ n → ((j : ℕ) → j < n → coefficient gf64 word j ≡ gf64.add (coefficient gf64 received j) (errors j))
     → distance_by same_symbols received word ≡ nonzeros gf64 n errors
 changed_letters n received word errors long_received long is =
     distance-nonzeros received word (long_received ∙ sym long)
@@ -83,4 +91,5 @@ vanishes_at n checks received zeros i low high =
 
 -- a list without an erasure
 pub no_erasures : (n : ℕ) → All (λ gone. gone ≡ false) (take n (replicate 63 false))
-no_erasures n k d low = get_or-take n (replicate 63 false) k d (omega (arith, length-take n (replicate 63 false))) ∙ get_or-replicate 63 k false d (omega (arith, length-take n (replicate 63 false), length-replicate 63 false))
+no_erasures n k d low = get_or-take n (replicate 63 false) k d (omega (arith, length-take n (replicate 63 false)))
+    ∙ get_or-replicate 63 k false d (omega (arith, length-take n (replicate 63 false), length-replicate 63 false))

@@ -54,8 +54,10 @@ point_ne_zero n j = inverse_ne_zero gf64 (element_of n j) (element_ne_zero n j)
 points_apart : (n : ℕ) → n ≤ 63 → AreApart n (point_of n)
 points_apart n most = record { apart = λ a b first second same. same_point n a b most first second same }
 
-module _ (n checks half : ℕ) (syndromes turned : List Sym) (locator evaluator : Poly) (places : n ≤ 63) (few : checks ≤ 22) (some : 1 ≤ half) (within : 2 * half ≤ checks) (most : checks ≤ 2 * half + 1) (long : length turned ≡ 2 * half)
-    (is : (i : ℕ) → i < 2 * half → coefficient gf64 turned i ≡ coefficient gf64 syndromes (2 * half - 1 - i)) (key : IsKey turned locator evaluator) (errors : ℕ → Sym) (are : AreErrors n checks syndromes errors) where
+module _ (n checks half : ℕ) (syndromes turned : List Sym) (locator evaluator : Poly)
+    (places : n ≤ 63) (few : checks ≤ 22) (some : 1 ≤ half) (within : 2 * half ≤ checks) (most : checks ≤ 2 * half + 1) (long : length turned ≡ 2 * half)
+    (is : (i : ℕ) → i < 2 * half → coefficient gf64 turned i ≡ coefficient gf64 syndromes (2 * half - 1 - i))
+    (key : IsKey turned locator evaluator) (errors : ℕ → Sym) (are : AreErrors n checks syndromes errors) where
   -- the factor of a place in the sums of points
   factor : ℕ → Sym
   factor j = gf64.mul (errors j) (power gf64 (element_of n j) (2 * half + 1))
@@ -69,7 +71,8 @@ module _ (n checks half : ℕ) (syndromes turned : List Sym) (locator evaluator 
   sums i low =
       is i low
       ∙ sym (are.sums (2 * half - 1 - i) (omega (arith, within)))
-      ∙ sum_same gf64 n (λ j. gf64.mul (errors j) (power gf64 (element_of n j) (2 * half - 1 - i + 1))) (λ j. gf64.mul (gf64.mul (errors j) (power gf64 (element_of n j) (2 * half + 1))) (power gf64 (point_of n j) (i + 1)))
+      ∙ sum_same gf64 n (λ j. gf64.mul (errors j) (power gf64 (element_of n j) (2 * half - 1 - i + 1)))
+      (λ j. gf64.mul (gf64.mul (errors j) (power gf64 (element_of n j) (2 * half + 1))) (power gf64 (point_of n j) (i + 1)))
       (λ j inside.
       let whole : 2 * half + 1 ≡ 2 * half - 1 - i + 1 + (i + 1) = omega arith in
       sym (mul_assoc gf64 (errors j) (power gf64 (element_of n j) (2 * half + 1)) (power gf64 (point_of n j) (i + 1))
@@ -98,7 +101,8 @@ module _ (n checks half : ℕ) (syndromes turned : List Sym) (locator evaluator 
         key.apart z (inverse_ne_zero gf64 (point_of n j) (point_ne_zero n j)) (value_longer gf64 (half + 1) 64 (coefficient_of locator) z (omega (arith, within, few)) short ∙ none)
         (value_longer gf64 half 64 (coefficient_of evaluator) z (omega (arith, within, few)) evaluator_short
         ∙ sym (value_same gf64 half (product_at gf64 (coefficient_of locator) (coefficient gf64 turned)) (coefficient_of evaluator) z (λ i low. key.equation i (omega (arith, long))))
-        ∙ sym (forney gf64 n half (point_of n) factor (coefficient_of locator) (coefficient gf64 turned) some (points_apart n places) (λ l h. point_ne_zero n l) short (λ i low. sums i (omega arith)) vanishes j inside none)
+        ∙ sym (forney gf64 n half (point_of n) factor (coefficient_of locator)
+        (coefficient gf64 turned) some (points_apart n places) (λ l h. point_ne_zero n l) short (λ i low. sums i (omega arith)) vanishes j inside none)
         ∙ ap (λ w. gf64.mul w (slope_at gf64 (half + 1) (coefficient_of locator) z)) (factor_zero j right)
         ∙ zero_mul gf64 (slope_at gf64 (half + 1) (coefficient_of locator) z))),
     (λ other. vanishes j inside (mul_ne_zero gf64 (errors j) (power gf64 (element_of n j) (2 * half + 1)) other (power_ne_zero gf64 (element_of n j) (2 * half + 1) (element_ne_zero n j)))),

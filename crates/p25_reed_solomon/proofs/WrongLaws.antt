@@ -7,7 +7,8 @@ use Rattle.p25_algebra.specs.{Sums.{nonzeros}, Series.{coefficient}}
 use Rattle.p25_reed_solomon.specs.{Words.{IsCode, IsWord, value_of, same_symbols}, DistanceLaws.{distance-nonzeros}, ValueLaws.{value-power_sum, front_value-add}, Errors.{AreErrors}}
 
 -- the errors between a received word and a word of the code within the radius
-pub difference_errors : (n k : ℕ) (received word syndromes : List Sym) → IsCode n k → length received ≡ n → IsWord n k word → ((r : ℕ) → r < n - k → coefficient gf64 syndromes r ≡ value_of n received (r + 1))
+pub difference_errors : (n k : ℕ) (received word syndromes : List Sym)
+    → IsCode n k → length received ≡ n → IsWord n k word → ((r : ℕ) → r < n - k → coefficient gf64 syndromes r ≡ value_of n received (r + 1))
     → 2 * distance_by same_symbols received word ≤ n - k
     → AreErrors n (n - k) syndromes (λ j. gf64.add (coefficient gf64 received j) (coefficient gf64 word j))
 difference_errors n k received word syndromes code long of_code are near =

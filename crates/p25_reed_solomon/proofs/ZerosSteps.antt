@@ -8,7 +8,8 @@ use Rattle.p25_poly.proofs.CoefficientLaws.{coefficient_past}
 use Rattle.p25_reed_solomon.specs.{ElementLaws.{same_point}, Errors.{point_of, AreZeros}}
 
 -- a polynomial with as many zeros as coefficients has no coefficient
-pub AreZeros-few : (n upto : ℕ) (polynomial : List Sym) (places : List ℕ) → n ≤ 63 → upto ≤ n → AreZeros n polynomial upto places → (IsZero gf64 (coefficient gf64 polynomial) → ⊥) → length places < length polynomial
+pub AreZeros-few : (n upto : ℕ) (polynomial : List Sym) (places : List ℕ)
+    → n ≤ 63 → upto ≤ n → AreZeros n polynomial upto places → (IsZero gf64 (coefficient gf64 polynomial) → ⊥) → length places < length polynomial
 AreZeros-few n upto polynomial places most within are some =
     elim (cases_lt (length places) (length polynomial)) [
       | inl fewer ↦ fewer
@@ -42,7 +43,8 @@ AreZeros-none n locator =
     }
 
 -- a place where the locator doesn't vanish is not listed
-pub AreZeros-skip : (n : ℕ) (locator : List Sym) (j : ℕ) (places : List ℕ) → AreZeros n locator j places → value_at gf64 (length locator) (coefficient gf64 locator) (point_of n j) ≢ gf64.zero → AreZeros n locator (j + 1) places
+pub AreZeros-skip : (n : ℕ) (locator : List Sym) (j : ℕ) (places : List ℕ)
+    → AreZeros n locator j places → value_at gf64 (length locator) (coefficient gf64 locator) (point_of n j) ≢ gf64.zero → AreZeros n locator (j + 1) places
 AreZeros-skip n locator j places are other =
     record {
       below = λ c h. omega (arith, are.below c h);
@@ -58,7 +60,8 @@ pushed_last : (places : List ℕ) (j c : ℕ) → c ≡ length places → get_or
 pushed_last places j c here = get_or_at places j [] 0 c (sym here)
 
 -- a place where it vanishes is
-pub AreZeros-push : (n : ℕ) (locator : List Sym) (j : ℕ) (places : List ℕ) → AreZeros n locator j places → value_at gf64 (length locator) (coefficient gf64 locator) (point_of n j) ≡ gf64.zero → AreZeros n locator (j + 1) (places ++ j ∷ [])
+pub AreZeros-push : (n : ℕ) (locator : List Sym) (j : ℕ) (places : List ℕ) → AreZeros n locator j places
+    → value_at gf64 (length locator) (coefficient gf64 locator) (point_of n j) ≡ gf64.zero → AreZeros n locator (j + 1) (places ++ j ∷ [])
 AreZeros-push n locator j places are here =
     let long = length_push places j in
     let old : (c : ℕ) → c < length places → get_or (places ++ j ∷ []) c 0 ≡ get_or places c 0 = λ c h. get_or_append_left places (j ∷ []) 0 c h in

@@ -43,14 +43,16 @@ by_words-words event fits = refl
 abbrev ReadFrom : List (List ℕ) → DuplexEvent → Type 0
 ReadFrom words event = (duplex_words event ≡ words) × IsDuplexScripted event
 
-from_message : (side : Side) (word : List ℕ) (made : Option (List ℕ)) (event : DuplexEvent) → message_in word ≡ made → value_or_fault (Send side) made ≡ Ok event → ReadFrom (side_word side ∷ event_word SendLine ∷ word ∷ []) event
+from_message : (side : Side) (word : List ℕ) (made : Option (List ℕ)) (event : DuplexEvent)
+    → message_in word ≡ made → value_or_fault (Send side) made ≡ Ok event → ReadFrom (side_word side ∷ event_word SendLine ∷ word ∷ []) event
 from_message side word None event read found = cc found
 from_message side word (Some message) event read found =
     let facts = message-message_in word message read in
     let same : Send side message ≡ event = cc found in
     subst (λ (e : DuplexEvent). ReadFrom (side_word side ∷ event_word SendLine ∷ word ∷ []) e) same (ap (λ w. side_word side ∷ event_word SendLine ∷ w ∷ []) facts.0, facts.1)
 
-from_kind : (side : Side) (kind : EventKind) (others : List (List ℕ)) (event : DuplexEvent) → event_of_side side (Some kind) others ≡ Ok event → ReadFrom (side_word side ∷ event_word kind ∷ others) event
+from_kind : (side : Side) (kind : EventKind) (others : List (List ℕ)) (event : DuplexEvent)
+    → event_of_side side (Some kind) others ≡ Ok event → ReadFrom (side_word side ∷ event_word kind ∷ others) event
 from_kind side SendLine (word ∷ []) event found = from_message side word (message_in word) event refl found
 from_kind side TimeoutLine [] event found =
     let same : Timeout side ≡ event = cc found in
@@ -68,7 +70,8 @@ from_side side second others (Some kind) event named found =
     let read = from_kind side kind others event found in
     (read.0 ∙ ap (λ w. side_word side ∷ w ∷ others) word, read.1)
 
-from_delivery : (direction word : List ℕ) (to : Option Side) (made : Option (List ℕ)) (event : DuplexEvent) → hearer_named direction ≡ to → places_in word ≡ made → keyed_or_fault Deliver to made ≡ Ok event →
+from_delivery : (direction word : List ℕ) (to : Option Side) (made : Option (List ℕ)) (event : DuplexEvent)
+    → hearer_named direction ≡ to → places_in word ≡ made → keyed_or_fault Deliver to made ≡ Ok event →
     ReadFrom (event_word DeliverLine ∷ direction ∷ word ∷ []) event
 from_delivery direction word (Some to) (Some places) event named read found =
     let facts = places-places_in word places read in
@@ -83,7 +86,8 @@ from_others (Acts side) (second ∷ others) event found = from_side side second 
 from_others Delivery (direction ∷ word ∷ []) event found = from_delivery direction word (hearer_named direction) (places_in word) event refl refl found
 from_others start others event found = cc found
 
-from_start : (first : List ℕ) (others : List (List ℕ)) (start : Option DuplexStart) (event : DuplexEvent) → start_named first ≡ start → named_or_fault event_behind start others ≡ Ok event → ReadFrom (first ∷ others) event
+from_start : (first : List ℕ) (others : List (List ℕ)) (start : Option DuplexStart) (event : DuplexEvent)
+    → start_named first ≡ start → named_or_fault event_behind start others ≡ Ok event → ReadFrom (first ∷ others) event
 from_start first others None event named found = cc found
 from_start first others (Some start) event named found =
     let word = named-word start_word duplex_starts first start named in
@@ -110,7 +114,8 @@ is-event (Send side message) fits = fits
 is-event event fits = tt
 
 -- as the reader tells it
-pub read-facts : (line : List ℕ) (result : Result DuplexEvent LineFault) → result ≡ duplex_event_of line → (IfOk result (λ event. duplex_text event ≡ line)) × (IfOk result (λ event. IsDuplexScripted event))
+pub read-facts : (line : List ℕ) (result : Result DuplexEvent LineFault)
+    → result ≡ duplex_event_of line → (IfOk result (λ event. duplex_text event ≡ line)) × (IfOk result (λ event. IsDuplexScripted event))
 unfolding duplex_event_of duplex_text
 read-facts line result same = line_read-facts duplex_laws line result same
 

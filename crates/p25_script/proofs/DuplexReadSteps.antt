@@ -12,16 +12,19 @@ pub wrong-start : (words : List (List ℕ)) (first : List ℕ) → slice_get wor
 wrong-start words first at none = ap duplex_by_words (first-others words first at) ∙ ap (λ start. named_or_fault event_behind start (drop 1 words)) none
 
 -- or something
-right-start : (words : List (List ℕ)) (first : List ℕ) (start : DuplexStart) → slice_get words 0 ≡ Some first → start_named first ≡ Some start → duplex_by_words words ≡ event_behind start (drop 1 words)
+right-start : (words : List (List ℕ)) (first : List ℕ) (start : DuplexStart)
+    → slice_get words 0 ≡ Some first → start_named first ≡ Some start → duplex_by_words words ≡ event_behind start (drop 1 words)
 right-start words first start at named = ap duplex_by_words (first-others words first at) ∙ ap (λ start. named_or_fault event_behind start (drop 1 words)) named
 
 -- a line of two words
-pub two-words : (words : List (List ℕ)) (first second : List ℕ) (start : DuplexStart) → slice_get words 0 ≡ Some first → start_named first ≡ Some start → length words ≡ 2 → slice_get words 1 ≡ Some second
+pub two-words : (words : List (List ℕ)) (first second : List ℕ) (start : DuplexStart)
+    → slice_get words 0 ≡ Some first → start_named first ≡ Some start → length words ≡ 2 → slice_get words 1 ≡ Some second
     → duplex_by_words words ≡ event_behind start (second ∷ [])
 two-words words first second start at named count next = right-start words first start at named ∙ ap (event_behind start) (one-other words second count next)
 
 -- a line of three words
-pub three-words : (words : List (List ℕ)) (first second third : List ℕ) (start : DuplexStart) → slice_get words 0 ≡ Some first → start_named first ≡ Some start → length words ≡ 3 → slice_get words 1 ≡ Some second
+pub three-words : (words : List (List ℕ)) (first second third : List ℕ) (start : DuplexStart)
+    → slice_get words 0 ≡ Some first → start_named first ≡ Some start → length words ≡ 3 → slice_get words 1 ≡ Some second
     → slice_get words 2 ≡ Some third → duplex_by_words words ≡ event_behind start (second ∷ third ∷ [])
 three-words words first second third start at named count next last = right-start words first start at named ∙ ap (event_behind start) (two-others words second third count next last)
 

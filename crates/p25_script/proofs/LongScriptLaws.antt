@@ -58,7 +58,8 @@ no-offer first others (Send message) other words =
     absurd (false≢true (sym other ∙ ap (λ (x : List ℕ). bytes_eq x (codes "send")) first_is))
 no-offer first others event other words = tt
 
-from_inner : (first : List ℕ) (others : List (List ℕ)) (read : Result Event LineFault) (event : LongEvent) → bytes_eq first (codes "send") ≡ false → event_by_words (first ∷ others) ≡ read → inner_or_fault read ≡ Ok event →
+from_inner : (first : List ℕ) (others : List (List ℕ)) (read : Result Event LineFault) (event : LongEvent)
+    → bytes_eq first (codes "send") ≡ false → event_by_words (first ∷ others) ≡ read → inner_or_fault read ≡ Ok event →
     ReadFrom (first ∷ others) event
 unfolding IsLongScripted
 from_inner first others (Err fault) event other read found = cc found
@@ -99,6 +100,7 @@ unfolding long_event_of
 IsLineOf-long_event_of line event found = words-line_read long_event_laws line event found
 
 -- the two, as the reader tells them
-pub read-facts : (line : List ℕ) (result : Result LongEvent LineFault) → result ≡ long_event_of line → (IfOk result (λ event. long_event_text event ≡ line)) × (IfOk result (λ event. IsLongScripted event))
+pub read-facts : (line : List ℕ) (result : Result LongEvent LineFault)
+    → result ≡ long_event_of line → (IfOk result (λ event. long_event_text event ≡ line)) × (IfOk result (λ event. IsLongScripted event))
 unfolding long_event_of long_event_text
 read-facts line result same = line_read-facts long_event_laws line result same

@@ -68,7 +68,8 @@ softened_count-unpacked item sent place count nac duid fields is other =
     ap (λ (i : Item). softened_count i sent) is ∙ cond-false (nat_eq duid 0xC) (blocks_replaced fields (blocks_to_follow sent)) 0 (ne_eqb duid 0xC other)
 
 -- and of every other item
-pub softened-other : (item : Item) (levels : List ℤ) (sent : List Bool) → ((place count nac duid : ℕ) (fields : List Field) → item ≡ Broken place count nac duid fields → ⊥) → softened item levels sent ≡ sent
+pub softened-other : (item : Item) (levels : List ℤ) (sent : List Bool)
+    → ((place count nac duid : ℕ) (fields : List Field) → item ≡ Broken place count nac duid fields → ⊥) → softened item levels sent ≡ sent
 unfolding softened
 softened-other (Broken place count nac duid fields) levels sent other = absurd (other place count nac duid fields refl)
 softened-other item levels sent other = refl

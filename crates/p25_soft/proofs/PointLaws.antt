@@ -65,10 +65,12 @@ nibble_test = refl
 pub dibits_of-nibble : (n : ℕ) (rest : List Bool) → n < 16 → dibits_of (bits_of 4 n ++ rest) ≡ n / 4 ∷ n % 4 ∷ dibits_of rest
 unfolding dibits_of bits_of
 dibits_of-nibble n rest small =
-    let both = and_parts _ _ (passed_below-at 16 (λ k. eqb (2 * digit_of (bit_of k 3) + digit_of (bit_of k 2)) (k / 4) && eqb (2 * digit_of (bit_of k 1) + digit_of (bit_of k 0)) (k % 4)) nibble_test n small) in
+    let both = and_parts _ _ (passed_below-at 16 (λ k. eqb (2 * digit_of (bit_of k 3) + digit_of (bit_of k 2))
+    (k / 4) && eqb (2 * digit_of (bit_of k 1) + digit_of (bit_of k 0)) (k % 4)) nibble_test n small) in
     ap₂ (λ a b. a ∷ b ∷ dibits_of rest) (eqb-true _ _ both.0) (eqb-true _ _ both.1)
 
-deviation_of-two : (a b : ℕ) (dibits : List ℕ) (first second : ℤ) (levels : List ℤ) → deviation_of (a ∷ b ∷ dibits) (first ∷ second ∷ levels) ≡ squared_deviation a first + squared_deviation b second + deviation_of dibits levels
+deviation_of-two : (a b : ℕ) (dibits : List ℕ) (first second : ℤ) (levels : List ℤ)
+    → deviation_of (a ∷ b ∷ dibits) (first ∷ second ∷ levels) ≡ squared_deviation a first + squared_deviation b second + deviation_of dibits levels
 unfolding deviation_of
 deviation_of-two a b dibits first second levels = omega arith
 

@@ -30,14 +30,16 @@ soft_reading states width point levels some =
 pub same_soft : (states width : ℕ) (point : ℕ → ℕ → ℕ) (levels : List ℤ) (octets : List ℕ) (cost : ℕ) → 0 < states
     → IsFirstLeastReading states width (soft_cost point levels) octets cost → octets ≡ soft_octets states width point levels
 same_soft states width point levels octets cost some reading =
-    (same_reading states width (soft_cost point levels) octets (soft_octets states width point levels) cost (soft_cost point levels (soft_path states point levels)) reading (soft_reading states width point levels some)).0
+    (same_reading states width (soft_cost point levels) octets (soft_octets states width point levels) cost
+    (soft_cost point levels (soft_path states point levels)) reading (soft_reading states width point levels some)).0
 
 pub length-soft_octets : (states width : ℕ) (point : ℕ → ℕ → ℕ) (levels : List ℤ) → length (soft_octets states width point levels) ≡ 6 * width
 unfolding soft_octets
 length-soft_octets states width point levels = length-numbers_from 8 (6 * width) (number_bits width (take 48 (soft_path states point levels)))
 
 -- the sent bits of the soft path are the block of its octets
-pub soft_block-is : (states width : ℕ) (point : ℕ → ℕ → ℕ) (levels : List ℤ) → states ≡ 2 ^ width → 0 < states → soft_block states point levels ≡ block_from width point (soft_octets states width point levels)
+pub soft_block-is : (states width : ℕ) (point : ℕ → ℕ → ℕ) (levels : List ℤ)
+    → states ≡ 2 ^ width → 0 < states → soft_block states point levels ≡ block_from width point (soft_octets states width point levels)
 unfolding soft_block soft_octets
 soft_block-is states width point levels states_is some =
     let first = IsFirstLeast-soft_path states point levels some in

@@ -40,7 +40,8 @@ unfolding sent_dibit
 sent_dibit-inside n levels long = omega arith
 
 -- a block where the packet CRC fails
-pub softened_block-all : (fields : List Field) (levels : List ℤ) (bare : List Bool) (j : ℕ) → names_all fields ≡ true → softened_block fields levels bare j ≡ soft_block 4 half_point (block_levels levels j)
+pub softened_block-all : (fields : List Field) (levels : List ℤ) (bare : List Bool) (j : ℕ)
+    → names_all fields ≡ true → softened_block fields levels bare j ≡ soft_block 4 half_point (block_levels levels j)
 unfolding softened_block
 softened_block-all fields levels bare j all =
     cond-true (names_all fields) (soft_block 4 half_point (block_levels levels j)) (cond (names_block fields j) (soft_block 8 three_quarter_point (block_levels levels j)) (block_bits bare j)) all
@@ -54,7 +55,8 @@ softened_block-named fields levels bare j not_all named =
     ∙ cond-true (names_block fields j) (soft_block 8 three_quarter_point (block_levels levels j)) (block_bits bare j) named
 
 -- and one that does not
-pub softened_block-kept : (fields : List Field) (levels : List ℤ) (bare : List Bool) (j : ℕ) → names_all fields ≡ false → names_block fields j ≡ false → softened_block fields levels bare j ≡ block_bits bare j
+pub softened_block-kept : (fields : List Field) (levels : List ℤ) (bare : List Bool) (j : ℕ)
+    → names_all fields ≡ false → names_block fields j ≡ false → softened_block fields levels bare j ≡ block_bits bare j
 unfolding softened_block
 softened_block-kept fields levels bare j not_all not_named =
     cond-false (names_all fields) (soft_block 4 half_point (block_levels levels j)) (cond (names_block fields j) (soft_block 8 three_quarter_point (block_levels levels j)) (block_bits bare j)) not_all
@@ -106,7 +108,8 @@ softened_bare-kept fields levels n bare none =
     ∙ take-append-drop 308 bare
 
 -- where none is replaced all bits stay
-pub softened_packet-kept : (fields : List Field) (levels : List ℤ) (sent : List Bool) (parts : ℕ) → length sent ≡ 72 * parts → blocks_replaced fields (blocks_to_follow sent) ≡ 0 → softened_packet fields levels sent ≡ sent
+pub softened_packet-kept : (fields : List Field) (levels : List ℤ) (sent : List Bool) (parts : ℕ)
+    → length sent ≡ 72 * parts → blocks_replaced fields (blocks_to_follow sent) ≡ 0 → softened_packet fields levels sent ≡ sent
 unfolding softened_packet
 softened_packet-kept fields levels sent parts long none =
     ap (λ (bare : List Bool). woven bare (statuses_of sent)) (softened_bare-kept fields levels (blocks_to_follow sent) (bare_of sent) none) ∙ woven-of parts sent long

@@ -46,7 +46,8 @@ true-packet sent heard e = cc
 heard-same : (sent read packet : Packet) (false_pass : Bool) → Heard read (not (is_true_to sent read)) ≡ Heard packet false_pass → false_pass ≡ not (is_true_to sent packet)
 heard-same sent read packet false_pass h = cc
 
-heard-true : (sent : Packet) (reading : Result (ℕ × Packet) Field) (packet : Packet) (false_pass : Bool) → carried_from sent reading ≡ Heard packet false_pass → false_pass ≡ not (is_true_to sent packet)
+heard-true : (sent : Packet) (reading : Result (ℕ × Packet) Field) (packet : Packet) (false_pass : Bool)
+    → carried_from sent reading ≡ Heard packet false_pass → false_pass ≡ not (is_true_to sent packet)
 unfolding carried_from
 heard-true sent (Err field) packet false_pass e = cc
 heard-true sent (Ok (nac, read)) packet false_pass e =
@@ -96,8 +97,11 @@ true-tests sent heard t = absurd t
 pub true-exactly : (sent heard : Packet) → IsTrueTo sent heard ↔ (is_true_to sent heard ≡ true)
 unfolding is_true_to IsTrueTo
 true-exactly (Confirmed sent) (Confirmed heard) =
-    let P : PacketHead → Type 0 = λ (h : PacketHead). bytes_eq sent.head.0 h.0 ≡ true in
-    (λ (t : (heard.head ≡ sent.head) × AreTrueSlots sent.slots heard.slots). and_from _ _ (subst P (sym t.0) (itself sent.head.0)) (true-tests sent.slots heard.slots t.1), true-packet (Confirmed sent) (Confirmed heard))
+    let P : PacketHead → Type 0 = λ (h : PacketHead). bytes_eq sent.head.0 h.0 ≡ true in (
+      λ (t : (heard.head ≡ sent.head) × AreTrueSlots sent.slots heard.slots).
+          and_from _ _ (subst P (sym t.0) (itself sent.head.0)) (true-tests sent.slots heard.slots t.1),
+      true-packet (Confirmed sent) (Confirmed heard),
+    )
 true-exactly (Plain sent) (Plain heard) =
     let P : PlainParts → Type 0 = λ (p : PlainParts). (bytes_eq sent.head.0 p.head.0 && bytes_eq sent.octets p.octets) ≡ true in
     (λ (e : heard ≡ sent). subst P (sym e) (and_from _ _ (itself sent.head.0) (itself sent.octets)), true-packet (Plain sent) (Plain heard))
@@ -107,7 +111,8 @@ true-exactly sent heard = (λ t. absurd t, true-packet sent heard)
 
 -- a sent unit within radius reads as its network access code and packet
 abbrev pub ReadsWithin : Type 0
-ReadsWithin = (nac : ℕ) (packet : Packet) (statuses : List Status) (received : List Bool) → IsSending nac packet statuses → IsPacketWithin packet (sent_unit nac packet statuses) received → packet_unit_of received ≡ Ok (nac, packet)
+ReadsWithin = (nac : ℕ) (packet : Packet) (statuses : List Status) (received : List Bool)
+    → IsSending nac packet statuses → IsPacketWithin packet (sent_unit nac packet statuses) received → packet_unit_of received ≡ Ok (nac, packet)
 
 is-sending : (packet : Packet) → IsSendable packet → IsSending station_nac packet (replicate (packet_parts (head_blocks (packet_head packet))) station_status)
 is-sending packet sendable = record {
@@ -123,7 +128,8 @@ own-heard sent = ap (λ (b : Bool). Heard sent (not b)) (packet-itself sent)
 pub air-within : ReadsWithin → (sent : Packet) (flips : List ℕ) → IsSendable sent → ArrivesWithin sent flips → carried_of sent flips ≡ Heard sent false
 unfolding carried_of ArrivesWithin transmission_of
 air-within reads sent flips sendable within =
-    ap (carried_from sent) (reads station_nac sent (replicate (packet_parts (head_blocks (packet_head sent))) station_status) (received_bits sent flips) (is-sending sent sendable) within) ∙ own-heard sent
+    ap (carried_from sent) (reads station_nac sent (replicate (packet_parts (head_blocks (packet_head sent))) station_status)
+    (received_bits sent flips) (is-sending sent sendable) within) ∙ own-heard sent
 
 -- What the code reads.
 
@@ -131,11 +137,13 @@ pub carried-lost : (sent : Packet) (flips : List ℕ) (field : Field) → packet
 unfolding carried_of carried_from
 carried-lost sent flips field e = ap (carried_from sent) e
 
-pub carried-foreign : (sent : Packet) (flips : List ℕ) (nac : ℕ) (packet : Packet) → packet_unit_of (received_bits sent flips) ≡ Ok (nac, packet) → (nac ≡ station_nac → ⊥) → carried_of sent flips ≡ Foreign
+pub carried-foreign : (sent : Packet) (flips : List ℕ) (nac : ℕ) (packet : Packet)
+    → packet_unit_of (received_bits sent flips) ≡ Ok (nac, packet) → (nac ≡ station_nac → ⊥) → carried_of sent flips ≡ Foreign
 unfolding carried_of carried_from
 carried-foreign sent flips nac packet e other = ap (carried_from sent) e ∙ cond-false (eqb nac station_nac) _ _ (ne_eqb _ _ other)
 
-pub carried-heard : (sent : Packet) (flips : List ℕ) (nac : ℕ) (packet : Packet) → packet_unit_of (received_bits sent flips) ≡ Ok (nac, packet) → nac ≡ station_nac → carried_of sent flips ≡ Heard packet (not (is_true_to sent packet))
+pub carried-heard : (sent : Packet) (flips : List ℕ) (nac : ℕ) (packet : Packet)
+    → packet_unit_of (received_bits sent flips) ≡ Ok (nac, packet) → nac ≡ station_nac → carried_of sent flips ≡ Heard packet (not (is_true_to sent packet))
 unfolding carried_of carried_from
 carried-heard sent flips nac packet e own = ap (carried_from sent) e ∙ cond-true (eqb nac station_nac) _ _ (eq-eqb _ _ own)
 

@@ -23,20 +23,23 @@ flipped-past (bit ∷ bits) zero h = absurd (omega arith)
 flipped-past (bit ∷ bits) (suc place) h = ap (λ (xs : List Bool). bit ∷ xs) (flipped-past bits place (omega arith))
 
 -- one more place
-pub with_flips-more : (bits now : List Bool) (flips : List ℕ) (i place : ℕ) → slice_get flips i ≡ Some place → i < length flips → now ≡ with_flips bits (take i flips) → flipped now place ≡ with_flips bits (take (i + 1) flips)
+pub with_flips-more : (bits now : List Bool) (flips : List ℕ) (i place : ℕ)
+    → slice_get flips i ≡ Some place → i < length flips → now ≡ with_flips bits (take i flips) → flipped now place ≡ with_flips bits (take (i + 1) flips)
 with_flips-more bits now flips i place is h e =
     ap (λ (xs : List Bool). flipped xs place) e ∙ sym (with_flips-push bits (take i flips) place)
     ∙ ap (λ (places : List ℕ). with_flips bits places) (ap (λ (x : ℕ). take i flips ++ x ∷ []) (sym (get_or_from_slice_get flips i place 0 is)) ∙ sym (take_more flips i 0 h))
 
 -- Slots.
 
-are_true_slots-is : (sent heard : List Slot) (i : ℕ) → i < length sent → i < length heard → are_true_slots (drop i sent) (drop i heard) ≡ (is_true_slot (get_or sent i Bad) (get_or heard i Bad) && are_true_slots (drop (i + 1) sent)
+are_true_slots-is : (sent heard : List Slot) (i : ℕ) → i < length sent → i < length heard
+    → are_true_slots (drop i sent) (drop i heard) ≡ (is_true_slot (get_or sent i Bad) (get_or heard i Bad) && are_true_slots (drop (i + 1) sent)
     (drop (i + 1) heard))
 unfolding are_true_slots
 are_true_slots-is sent heard i s h = ap₂ are_true_slots (drop_more sent i Bad s) (drop_more heard i Bad h)
 
 -- one more slot
-pub are_true_slots-step : (sent heard : List Slot) (i : ℕ) (was slot : Slot) (same : Bool) → length sent ≡ length heard → i < length sent → slice_get sent i ≡ Some was → slice_get heard i ≡ Some slot → same ≡ is_true_slot was slot →
+pub are_true_slots-step : (sent heard : List Slot) (i : ℕ) (was slot : Slot) (same : Bool)
+    → length sent ≡ length heard → i < length sent → slice_get sent i ≡ Some was → slice_get heard i ≡ Some slot → same ≡ is_true_slot was slot →
     are_true_slots (drop i sent) (drop i heard) ≡ (same && are_true_slots (drop (i + 1) sent) (drop (i + 1) heard))
 are_true_slots-step sent heard i was slot same long h s t e =
     are_true_slots-is sent heard i h (omega arith)

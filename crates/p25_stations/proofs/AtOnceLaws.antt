@@ -47,7 +47,8 @@ second-within w a b c within = within.1.0
 
 -- A delivery within radius.
 
-within-step : ReadsWithin → (w : WorldState) (way : Way) (newest : Option Packet) (packet : Packet) (flips : List ℕ) → newest ≡ Some packet → IfSome newest IsSendable → IfSome newest (λ sent. ArrivesWithin sent flips) →
+within-step : ReadsWithin → (w : WorldState) (way : Way) (newest : Option Packet) (packet : Packet) (flips : List ℕ)
+    → newest ≡ Some packet → IfSome newest IsSendable → IfSome newest (λ sent. ArrivesWithin sent flips) →
     delivered w way (delivery_of way newest flips) ≡ quiet_step w (happens w.delivery (heard_by way packet))
 unfolding delivered delivery_of heard_of counted_when
 within-step reads w way newest packet flips e sendable within =
@@ -55,19 +56,23 @@ within-step reads w way newest packet flips e sendable within =
     let arrives = subst (λ (n : Option Packet). IfSome n (λ sent. ArrivesWithin sent flips)) e within in
     ap (λ (n : Option Packet). delivered w way (delivery_of way n flips)) e ∙ ap (λ (c : Carried). delivered w way (heard_of way c)) (air-within reads packet flips can arrives)
 
-data-step : ReadsWithin → (w : WorldState) (packet : Packet) (flips : List ℕ) (x : Receiving × HeardAnswer) → IsSoundDelivery w.delivery → w.delivery.packet_sent ≡ Some packet → IsWithin w (ToReceiver flips) →
+data-step : ReadsWithin → (w : WorldState) (packet : Packet) (flips : List ℕ) (x : Receiving × HeardAnswer)
+    → IsSoundDelivery w.delivery → w.delivery.packet_sent ≡ Some packet → IsWithin w (ToReceiver flips) →
     receiver_heard w.delivery.inbound.receiver packet ≡ x →
     world_step w (ToReceiver flips) ≡ quiet_step w (with_inbound w.delivery (after_data w.delivery.inbound x))
 unfolding world_step newest_by heard_by happens IsWithin
 data-step reads w packet flips x sound e within h =
-    within-step reads w Packets w.delivery.packet_sent packet flips e sound.packet_sent within ∙ ap (λ (y : Receiving × HeardAnswer). quiet_step w (with_inbound w.delivery (after_data w.delivery.inbound y))) h
+    within-step reads w Packets w.delivery.packet_sent packet flips e sound.packet_sent within
+    ∙ ap (λ (y : Receiving × HeardAnswer). quiet_step w (with_inbound w.delivery (after_data w.delivery.inbound y))) h
 
-answer-step : ReadsWithin → (w : WorldState) (packet : Packet) (flips : List ℕ) (x : Sending × SenderHeard) → IsSoundDelivery w.delivery → w.delivery.answer ≡ Some packet → IsWithin w (ToSender flips) →
+answer-step : ReadsWithin → (w : WorldState) (packet : Packet) (flips : List ℕ) (x : Sending × SenderHeard)
+    → IsSoundDelivery w.delivery → w.delivery.answer ≡ Some packet → IsWithin w (ToSender flips) →
     sender_heard w.delivery.outbound.sender packet ≡ x →
     world_step w (ToSender flips) ≡ quiet_step w (with_outbound w.delivery (after_answer w.delivery.outbound x))
 unfolding world_step newest_by heard_by happens IsWithin
 answer-step reads w packet flips x sound e within h =
-    within-step reads w Answers w.delivery.answer packet flips e sound.answer within ∙ ap (λ (y : Sending × SenderHeard). quiet_step w (with_outbound w.delivery (after_answer w.delivery.outbound y))) h
+    within-step reads w Answers w.delivery.answer packet flips e sound.answer within
+    ∙ ap (λ (y : Sending × SenderHeard). quiet_step w (with_outbound w.delivery (after_answer w.delivery.outbound y))) h
 
 -- the events are those of any world
 to-receiver : (flips : List ℕ) → IsEvent (ToReceiver flips)
@@ -88,10 +93,12 @@ next-sound w v event x e is sound = subst (λ (u : WorldState). IsSoundDelivery 
 -- A message.
 
 -- a quiet world with stations that deliver at once
-delivers : ReadsWithin → (w : WorldState) (message first second : List ℕ) → IsSoundDelivery w.delivery → IsMessage message → DeliversAtOnce w.delivery.outbound.sender w.delivery.inbound.receiver message →
+delivers : ReadsWithin → (w : WorldState) (message first second : List ℕ)
+    → IsSoundDelivery w.delivery → IsMessage message → DeliversAtOnce w.delivery.outbound.sender w.delivery.inbound.receiver message →
     AreWithin w (Send message ∷ ToReceiver first ∷ ToSender second ∷ []) →
     steps_of w (Send message ∷ ToReceiver first ∷ ToSender second ∷ []) ≡
-    true_step (Taken w.delivery.outbound.sender.next (block_count (length message))) ∷ true_step (Delivered w.delivery.outbound.sender.next message) ∷ true_step (Acknowledged w.delivery.outbound.sender.next) ∷ []
+    true_step (Taken w.delivery.outbound.sender.next (block_count (length message)))
+    ∷ true_step (Delivered w.delivery.outbound.sender.next message) ∷ true_step (Acknowledged w.delivery.outbound.sender.next) ∷ []
 unfolding world_step happens with_outbound with_inbound newest_after after_offer after_data after_answer
 delivers reads w message first second sound is d within =
     let number = w.delivery.outbound.sender.next in
@@ -102,7 +109,8 @@ delivers reads w message first second sound is d within =
     let one : world_step w (Send message) ≡ (v, true_step (Taken number blocks))
     = ap (λ (x : Sending × Offer). quiet_step w (with_outbound w.delivery (after_offer w.delivery.outbound message x))) d.taken in
     let v_sound : IsSoundDelivery v.delivery = next-sound w v (Send message) (true_step (Taken number blocks)) one (send-event message is) sound in
-    let v_within : IsWithin v (ToReceiver first) = subst (λ (p : WorldState). IsWithin p (ToReceiver first)) (ap (λ (p : WorldState × Step). p.0) one) (second-within w (Send message) (ToReceiver first) (ToSender second) within) in
+    let v_within : IsWithin v (ToReceiver first) = subst (λ (p : WorldState). IsWithin p (ToReceiver first))
+    (ap (λ (p : WorldState × Step). p.0) one) (second-within w (Send message) (ToReceiver first) (ToSender second) within) in
     let two : world_step v (ToReceiver first) ≡ (u, true_step (Delivered number message))
     = data-step reads v d.packet first (d.after, HeardDelivered number message d.answer) v_sound refl v_within d.delivered in
     let m = moments w v u (Send message) (ToReceiver first) (ToSender second) (true_step (Taken number blocks)) (true_step (Delivered number message)) one two within in
@@ -115,12 +123,14 @@ pub run-delivers_within : ReadsWithin → (events : List Event) (message first s
     (world_run first_world events).delivery.outbound.sender.outstanding ≡ Nothing →
     AreWithin (world_run first_world events) (Send message ∷ ToReceiver first ∷ ToSender second ∷ []) →
     steps_of (world_run first_world events) (Send message ∷ ToReceiver first ∷ ToSender second ∷ []) ≡
-    true_step (Taken (world_run first_world events).delivery.outbound.sender.next (block_count (length message))) ∷ true_step (Delivered (world_run first_world events).delivery.outbound.sender.next message) ∷
+    true_step (Taken (world_run first_world events).delivery.outbound.sender.next (block_count (length message)))
+    ∷ true_step (Delivered (world_run first_world events).delivery.outbound.sender.next message) ∷
     true_step (Acknowledged (world_run first_world events).delivery.outbound.sender.next) ∷ []
 run-delivers_within reads events message first second are none is quiet within =
     let w = world_run first_world events in
     let at_once = from-deliveries (λ (delivery : Delivery). delivery.outbound.sender.outstanding ≡ Nothing → DeliversAtOnce delivery.outbound.sender delivery.inbound.receiver message)
-    (λ (happenings : List Happening) (clean : IsCleanDelivery first_delivery happenings) (nothing : (delivery_run first_delivery happenings).outbound.sender.outstanding ≡ Nothing). run-delivers happenings message clean nothing is.short)
+    (λ (happenings : List Happening) (clean : IsCleanDelivery first_delivery happenings) (nothing : (delivery_run first_delivery happenings).outbound.sender.outstanding ≡ Nothing).
+    run-delivers happenings message clean nothing is.short)
     events are (clean-from_none events none) in
     delivers reads w message first second (run-sound events first_world are first-sound) is (at_once quiet) within
 
@@ -137,7 +147,8 @@ record Opens (w v : WorldState) (number : ℕ) (packet : Packet) (s : Sending) :
 reopened_world : WorldState → Bool → Sending × ReopenAnswer → WorldState × Step
 reopened_world w again x = quiet_step w (with_outbound w.delivery (after_reopening w.delivery.outbound (length w.delivery.inbound.received) again x))
 
-after-opening : (w : WorldState) (again : Bool) (s : Sending) (number : ℕ) (packet : Packet) → is_opening w.delivery.outbound.sender.outstanding ≡ again → reopened w.delivery.outbound.sender ≡ (s, ReopenSent number packet) →
+after-opening : (w : WorldState) (again : Bool) (s : Sending) (number : ℕ) (packet : Packet)
+    → is_opening w.delivery.outbound.sender.outstanding ≡ again → reopened w.delivery.outbound.sender ≡ (s, ReopenSent number packet) →
     Opens w (reopened_world w again (s, ReopenSent number packet)).0 number packet s
 unfolding world_step happens with_outbound newest_after after_reopening reopened_world
 after-opening w true s number packet a e = record { step = ap₂ (reopened_world w) a e; sender = refl; receiver = refl; newest = refl }
@@ -152,7 +163,8 @@ number-is s t number packet down e =
     let same : ReopenSent y (opening_packet y) ≡ ReopenSent number packet = ap (λ (x : Sending × ReopenAnswer). x.1) is in
     cc
 
-opens : ReadsWithin → (w v : WorldState) (first second : List ℕ) → IsSoundDelivery w.delivery → (o : OpensAtOnce w.delivery.outbound.sender w.delivery.inbound.receiver) → Opens w v o.number o.packet o.waits →
+opens : ReadsWithin → (w v : WorldState) (first second : List ℕ)
+    → IsSoundDelivery w.delivery → (o : OpensAtOnce w.delivery.outbound.sender w.delivery.inbound.receiver) → Opens w v o.number o.packet o.waits →
     AreWithin w (Reopen ∷ ToReceiver first ∷ ToSender second ∷ []) →
     steps_of w (Reopen ∷ ToReceiver first ∷ ToSender second ∷ []) ≡ true_step (Reopened o.number) ∷ true_step (SynHeard o.number) ∷ true_step (LinkOpened o.number) ∷ []
 unfolding with_outbound with_inbound newest_after after_data after_answer
@@ -161,9 +173,11 @@ opens reads w v first second sound o h within =
     let u = (quiet_step v (with_inbound v.delivery (after_data v.delivery.inbound (record { last = number; kept = None }, ReceiverOpened number o.answer)))).0 in
     let t = (quiet_step u (with_outbound u.delivery (after_answer u.delivery.outbound (sending_after number, SenderOpened number)))).0 in
     let v_sound : IsSoundDelivery v.delivery = next-sound w v Reopen (true_step (Reopened number)) h.step reopen-event sound in
-    let v_within : IsWithin v (ToReceiver first) = subst (λ (p : WorldState). IsWithin p (ToReceiver first)) (ap (λ (p : WorldState × Step). p.0) h.step) (second-within w Reopen (ToReceiver first) (ToSender second) within) in
+    let v_within : IsWithin v (ToReceiver first) = subst (λ (p : WorldState). IsWithin p (ToReceiver first))
+    (ap (λ (p : WorldState × Step). p.0) h.step) (second-within w Reopen (ToReceiver first) (ToSender second) within) in
     let two : world_step v (ToReceiver first) ≡ (u, true_step (SynHeard number))
-    = data-step reads v o.packet first (record { last = number; kept = None }, ReceiverOpened number o.answer) v_sound h.newest v_within (ap (λ (r : Receiving). receiver_heard r o.packet) h.receiver ∙ o.heard) in
+    = data-step reads v o.packet first (record { last = number; kept = None }, ReceiverOpened number o.answer) v_sound h.newest v_within
+    (ap (λ (r : Receiving). receiver_heard r o.packet) h.receiver ∙ o.heard) in
     let m = moments w v u Reopen (ToReceiver first) (ToSender second) (true_step (Reopened number)) (true_step (SynHeard number)) h.step two within in
     let u_sound : IsSoundDelivery u.delivery = next-sound v u (ToReceiver first) (true_step (SynHeard number)) two (to-receiver first) v_sound in
     let three : world_step u (ToSender second) ≡ (t, true_step (LinkOpened number))

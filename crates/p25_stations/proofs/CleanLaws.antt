@@ -10,10 +10,12 @@ use Rattle.p25_stations.specs.{Steps.{world_step}, Runs.{IsEvent, AreEvents, wor
 use Rattle.p25_stations.proofs.{AirLaws.{air-true}, StepLaws.{HasHappen, offers, is_late, opens, brings_data, brings_answer, Does, rests, does, step-does}}
 
 -- what is heard in no false pass is true to what was sent
-heard-of : (sent packet : Packet) (flips : List ℕ) (newest : Option Packet) (false_pass : Bool) → newest ≡ Some sent → carried_of sent flips ≡ Heard packet false_pass → false_pass ≡ false → IsHeardOf newest packet
+heard-of : (sent packet : Packet) (flips : List ℕ) (newest : Option Packet) (false_pass : Bool)
+    → newest ≡ Some sent → carried_of sent flips ≡ Heard packet false_pass → false_pass ≡ false → IsHeardOf newest packet
 heard-of sent packet flips newest false_pass n e f = record { sent = sent; newest_is = n; true_to = air-true sent flips packet (e ∙ ap (λ (b : Bool). Heard packet b) f) }
 
-pub happening-clean : (delivery : Delivery) (event : Event) (false_pass : Bool) (happening : Happening) → HasHappen delivery event false_pass happening → IsEvent event → false_pass ≡ false → IsClean delivery happening
+pub happening-clean : (delivery : Delivery) (event : Event) (false_pass : Bool) (happening : Happening)
+    → HasHappen delivery event false_pass happening → IsEvent event → false_pass ≡ false → IsClean delivery happening
 unfolding IsEvent IsClean
 happening-clean delivery event false_pass happening (offers message) is f = is.short
 happening-clean delivery event false_pass happening is_late is f = tt
@@ -28,7 +30,8 @@ pub record Between (before after : Delivery) (If : Type 0) : Type 0 where
   pub clean : If → IsCleanDelivery before happenings
 
 -- one step more before it
-one-more : (w : WorldState) (event : Event) (x : WorldState × Step) (after : Delivery) (If : Type 0) → Does w event x → Between x.0.delivery after If → Between w.delivery after (IsEvent event × ((x.1.false_pass ≡ false) × If))
+one-more : (w : WorldState) (event : Event) (x : WorldState × Step) (after : Delivery) (If : Type 0)
+    → Does w event x → Between x.0.delivery after If → Between w.delivery after (IsEvent event × ((x.1.false_pass ≡ false) × If))
 unfolding run_by MeetAt
 one-more w event x after If (rests kind quiet) rest =
     record { happenings = rest.happenings; becomes = rest.becomes; clean = λ (c : IsEvent event × ((false ≡ false) × If)). rest.clean c.1.1 }

@@ -32,12 +32,17 @@ twice packet flips false_pass clean e sendable =
       | inr many ↦ omega arith
     ]
 
-delivered-twice : ReadsWithin → (w : WorldState) (way : Way) (newest : Option Packet) (flips : List ℕ) → IfSome newest IsSendable → (delivered w way (delivery_of way newest flips)).1.false_pass ≡ true →
+delivered-twice : ReadsWithin → (w : WorldState) (way : Way) (newest : Option Packet) (flips : List ℕ)
+    → IfSome newest IsSendable → (delivered w way (delivery_of way newest flips)).1.false_pass ≡ true →
     (packet : Packet) × (newest ≡ Some packet) × (2 ≤ places_within packet flips)
 unfolding delivered delivery_of
 delivered-twice reads w way None flips sendable e = absurd (false≢true e)
-delivered-twice reads w way (Some packet) flips sendable e =
-    (packet, refl, twice packet flips (delivered w way (delivery_of way (Some packet) flips)).1.false_pass (λ (within : ArrivesWithin packet flips). delivered-within reads w way (Some packet) flips sendable within) e sendable)
+delivered-twice reads w way (Some packet) flips sendable e = (
+  packet,
+  refl,
+  twice packet flips (delivered w way (delivery_of way (Some packet) flips)).1.false_pass
+      (λ (within : ArrivesWithin packet flips). delivered-within reads w way (Some packet) flips sendable within) e sendable,
+)
 
 pub step-twice : ReadsWithin → (w : WorldState) (event : Event) → IsSoundDelivery w.delivery → (world_step w event).1.false_pass ≡ true → IsTwiceDamaged w event
 unfolding world_step newest_by IsTwiceDamaged

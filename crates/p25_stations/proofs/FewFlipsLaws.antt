@@ -112,6 +112,12 @@ few-arrive packet flips sendable few =
         long = bare_long;
         header = omega (arith, bare, distance_of-part 112 196 (bare_of received) (bare_of sent) bare_long, distance_of-sym (header_bits (bare_of sent)) (header_bits (bare_of received)));
         blocks = λ (j : ℕ) (h : j < head_blocks (packet_head packet)).
-            omega (arith, bare, least-radius packet, distance_of-part (308 + 196 * j) 196 (bare_of received) (bare_of sent) bare_long, distance_of-sym (block_bits (bare_of sent) j) (block_bits (bare_of received) j));
+            omega (
+              arith,
+              bare,
+              least-radius packet,
+              distance_of-part (308 + 196 * j) 196 (bare_of received) (bare_of sent) bare_long,
+              distance_of-sym (block_bits (bare_of sent) j) (block_bits (bare_of received) j),
+            );
       };
     }

@@ -23,7 +23,8 @@ inbound-sound : (w : Delivery) (x : Incoming × (StepKind × Option Packet)) →
 unfolding with_inbound
 inbound-sound w x keeps sound = record { outbound = sound.outbound; inbound = keeps.0; packet_sent = sound.packet_sent; answer = newest-sendable x.1.1 w.answer keeps.1 sound.answer }
 
-happening-sound : (w : Delivery) (event : Event) (false_pass : Bool) (happening : Happening) → HasHappen w event false_pass happening → IsEvent event → IsSoundDelivery w → IsSoundDelivery (happens w happening).0
+happening-sound : (w : Delivery) (event : Event) (false_pass : Bool) (happening : Happening)
+    → HasHappen w event false_pass happening → IsEvent event → IsSoundDelivery w → IsSoundDelivery (happens w happening).0
 unfolding happens IsEvent
 happening-sound w event false_pass happening (offers message) is sound = outbound-sound w _ (offer-keeps w.outbound message is sound.outbound) sound
 happening-sound w event false_pass happening is_late is sound = outbound-sound w _ (timeout-keeps w.outbound sound.outbound) sound
@@ -43,4 +44,5 @@ first-sound = record { outbound = first-outgoing; inbound = first-incoming; pack
 
 pub run-sound : (events : List Event) (w : WorldState) → AreEvents events → IsSoundDelivery w.delivery → IsSoundDelivery (world_run w events).delivery
 run-sound events w are sound =
-    run-keeps_each world_step IsEvent (λ (v : WorldState). IsSoundDelivery v.delivery) (λ (v : WorldState) (event : Event) (s : IsSoundDelivery v.delivery) (is : IsEvent event). step-sound v event is s) events w sound are
+    run-keeps_each world_step IsEvent (λ (v : WorldState). IsSoundDelivery v.delivery)
+    (λ (v : WorldState) (event : Event) (s : IsSoundDelivery v.delivery) (is : IsEvent event). step-sound v event is s) events w sound are

@@ -14,8 +14,10 @@ pub data HasHappen (delivery : Delivery) : Event → Bool → Happening → Type
   offers : (message : List ℕ) → HasHappen delivery (Send message) false (Offering message)
   is_late : HasHappen delivery Timeout false Time_up
   opens : HasHappen delivery Reopen false Opening_again
-  brings_data : (flips : List ℕ) (sent packet : Packet) (false_pass : Bool) → delivery.packet_sent ≡ Some sent → carried_of sent flips ≡ Heard packet false_pass → HasHappen delivery (ToReceiver flips) false_pass (Data_heard packet)
-  brings_answer : (flips : List ℕ) (sent packet : Packet) (false_pass : Bool) → delivery.answer ≡ Some sent → carried_of sent flips ≡ Heard packet false_pass → HasHappen delivery (ToSender flips) false_pass (Answer_heard packet)
+  brings_data : (flips : List ℕ) (sent packet : Packet) (false_pass : Bool) → delivery.packet_sent ≡ Some sent
+      → carried_of sent flips ≡ Heard packet false_pass → HasHappen delivery (ToReceiver flips) false_pass (Data_heard packet)
+  brings_answer : (flips : List ℕ) (sent packet : Packet) (false_pass : Bool)
+      → delivery.answer ≡ Some sent → carried_of sent flips ≡ Heard packet false_pass → HasHappen delivery (ToSender flips) false_pass (Answer_heard packet)
 
 -- a kind of step in which nothing happens
 pub data IsQuiet : StepKind → Type 0 where
@@ -39,13 +41,15 @@ unfolding newest_by heard_by
 brings delivery Packets flips sent packet false_pass n e = brings_data flips sent packet false_pass n e
 brings delivery Answers flips sent packet false_pass n e = brings_answer flips sent packet false_pass n e
 
-carried-does : (w : WorldState) (way : Way) (flips : List ℕ) (sent : Packet) (c : Carried) → newest_by way w.delivery ≡ Some sent → carried_of sent flips ≡ c → Does w (carrying_event way flips) (delivered w way (heard_of way c))
+carried-does : (w : WorldState) (way : Way) (flips : List ℕ) (sent : Packet) (c : Carried)
+    → newest_by way w.delivery ≡ Some sent → carried_of sent flips ≡ c → Does w (carrying_event way flips) (delivered w way (heard_of way c))
 unfolding delivered heard_of
 carried-does w way flips sent (CarriedLost field) n e = rests (Lost way field) (lost way field)
 carried-does w way flips sent Foreign n e = rests (Ignored way) (ignored way)
 carried-does w way flips sent (Heard packet false_pass) n e = does (heard_by way packet) false_pass (brings w.delivery way flips sent packet false_pass n e)
 
-delivered-does : (w : WorldState) (way : Way) (flips : List ℕ) (newest : Option Packet) → newest_by way w.delivery ≡ newest → Does w (carrying_event way flips) (delivered w way (delivery_of way newest flips))
+delivered-does : (w : WorldState) (way : Way) (flips : List ℕ) (newest : Option Packet)
+    → newest_by way w.delivery ≡ newest → Does w (carrying_event way flips) (delivered w way (delivery_of way newest flips))
 unfolding delivered delivery_of
 delivered-does w way flips None n = rests (Nothing way) (nothing way)
 delivered-does w way flips (Some sent) n = carried-does w way flips sent (carried_of sent flips) n refl

@@ -22,7 +22,8 @@ none : (messages : List (List ℕ)) → messages ≡ messages ++ []
 none messages = sym (append-nil messages)
 
 -- the lists stay as they are, and nothing is told
-silent : (event : Event) (w : Delivery) (x : Delivery × StepKind) → (x.0.inbound.received ≡ w.inbound.received) × (x.0.outbound.sent ≡ w.outbound.sent) × (x.0.outbound.acknowledged ≡ w.outbound.acknowledged) →
+silent : (event : Event) (w : Delivery) (x : Delivery × StepKind)
+    → (x.0.inbound.received ≡ w.inbound.received) × (x.0.outbound.sent ≡ w.outbound.sent) × (x.0.outbound.acknowledged ≡ w.outbound.acknowledged) →
     (delivered_by x.1 ≡ []) × (sent_by event x.1 ≡ []) × (is_acknowledged x.1 ≡ false) → Tells event w x
 silent event w x same told =
     record {

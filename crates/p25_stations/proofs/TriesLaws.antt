@@ -65,7 +65,8 @@ timeout-tries o s = elim s.down as (λ (b : Bool). TimeoutTells o s (cond b (s, 
 abbrev ReopenTells : Outgoing → ℕ → Bool → Sending → Sending × ReopenAnswer → Type 0
 ReopenTells o count again s x = Tells s.tries (after_reopening o count again x)
 
-opened-tries : (o : Outgoing) (count : ℕ) (again : Bool) (s : Sending) (number : ℕ) → ReopenTells o count again s (record { next = s.next; outstanding = Opening number; tries = 1; down = false }, ReopenSent number (opening_packet number))
+opened-tries : (o : Outgoing) (count : ℕ) (again : Bool) (s : Sending) (number : ℕ)
+    → ReopenTells o count again s (record { next = s.next; outstanding = Opening number; tries = 1; down = false }, ReopenSent number (opening_packet number))
 unfolding after_reopening
 opened-tries o count true s number = refl
 opened-tries o count false s number = refl
@@ -79,7 +80,8 @@ reopen-tries : (o : Outgoing) (count : ℕ) (again : Bool) (s : Sending) → Reo
 unfolding reopened
 reopen-tries o count again s =
     let number = opening_number s.outstanding s.next in
-    elim s.down as (λ (b : Bool). ReopenTells o count again s (cond b (record { next = s.next; outstanding = Opening number; tries = 1; down = false }, ReopenSent number (opening_packet number)) (s, ReopenUp))) [
+    elim s.down as (λ (b : Bool). ReopenTells o count again s
+    (cond b (record { next = s.next; outstanding = Opening number; tries = 1; down = false }, ReopenSent number (opening_packet number)) (s, ReopenUp))) [
       | true ↦ opened-tries o count again s number
       | false ↦ up-tries o count again s
     ]
@@ -101,14 +103,16 @@ unfolding answered repeated retried after_answer
 answered-tries o WholeMessage s message =
     elim (may_send s) as (λ (b : Bool). AnswerTells o s (cond b (tried s, HeardRepeat s.next (s.tries + 1) (message_packet s.next message)) (fallen s, DownAtAnswer))) [ true ↦ refl | false ↦ refl ]
 answered-tries o (Blocks wanted) s message =
-    elim (may_send s) as (λ (b : Bool). AnswerTells o s (cond b (tried s, HeardRetry s.next wanted (s.tries + 1) (blocks_packet s.next message wanted)) (fallen s, DownAtAnswer))) [ true ↦ refl | false ↦ refl ]
+    elim (may_send s) as (λ (b : Bool). AnswerTells o s (cond b
+    (tried s, HeardRetry s.next wanted (s.tries + 1) (blocks_packet s.next message wanted)) (fallen s, DownAtAnswer))) [ true ↦ refl | false ↦ refl ]
 answered-tries o asked s message = refl
 
 response-tries : (o : Outgoing) (out : Outstanding) (s : Sending) (response : PlainParts) → AnswerTells o s (response_heard out s response)
 unfolding response_heard after_answer
 response-tries o Nothing s response = refl
 response-tries o (Message message) s response = answered-tries o (asked_of s.next (block_count (length message)) response) s message
-response-tries o (Opening number) s response = elim (is_ack response.head number) as (λ (b : Bool). AnswerTells o s (cond b (sending_after number, SenderOpened number) (s, SenderIgnored))) [ true ↦ refl | false ↦ refl ]
+response-tries o (Opening number) s response = elim (is_ack response.head number) as (λ (b : Bool).
+    AnswerTells o s (cond b (sending_after number, SenderOpened number) (s, SenderIgnored))) [ true ↦ refl | false ↦ refl ]
 
 answer-tries : (o : Outgoing) (s : Sending) (packet : Packet) → AnswerTells o s (sender_heard s packet)
 unfolding sender_heard after_answer
@@ -133,7 +137,8 @@ quiet-tries : (kind : StepKind) → IsQuiet kind → (tries : ℕ) → tries_aft
 quiet-tries kind (nothing way) tries = refl
 quiet-tries kind other tries = refl
 
-tries-told : (w : WorldState) (event : Event) (x : WorldState × Step) → Does w event x → IsSoundDelivery w.delivery → tries_after w.delivery.outbound.sender.tries x.1.kind ≡ x.0.delivery.outbound.sender.tries
+tries-told : (w : WorldState) (event : Event) (x : WorldState × Step)
+    → Does w event x → IsSoundDelivery w.delivery → tries_after w.delivery.outbound.sender.tries x.1.kind ≡ x.0.delivery.outbound.sender.tries
 tries-told w event x (rests kind quiet) sound = quiet-tries kind quiet w.delivery.outbound.sender.tries
 tries-told w event x (does happening false_pass has) sound = happening-tries w.delivery happening sound.outbound
 

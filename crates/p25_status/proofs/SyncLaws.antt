@@ -57,7 +57,8 @@ pub has_sync-append : (bits more : List Bool) → 48 ≤ length bits → has_syn
 unfolding has_sync
 has_sync-append bits more long =
     let longer : 48 ≤ length (bits ++ more) = omega (arith, length-append bits more) in
-    ap₂ ◌&&◌ (le-leb 48 (length (bits ++ more)) longer ∙ sym (le-leb 48 (length bits) long)) (ap (λ (beginning : List Bool). nat_le (distance_of beginning sync_bits) sync_slack) (take-append-le 48 bits more long))
+    ap₂ ◌&&◌ (le-leb 48 (length (bits ++ more)) longer ∙ sym (le-leb 48 (length bits) long))
+    (ap (λ (beginning : List Bool). nat_le (distance_of beginning sync_bits) sync_slack) (take-append-le 48 bits more long))
 
 -- so the first bits are enough
 pub has_sync-take : (bits : List Bool) (count : ℕ) → 48 ≤ count → count ≤ length bits → has_sync (take count bits) ≡ has_sync bits

@@ -176,7 +176,8 @@ part_in (suc blocks) (suc i) from count sent e h few =
     ∙ ap (λ n. part n count sent) sent_place
 
 -- a part of one block of a unit is a part of that block as sent
-pub part-bare_of : (blocks i from count : ℕ) (sent : List Bool) → length sent ≡ 72 * blocks → i < blocks → from + count ≤ 70 → part (70 * i + from) count (bare_of sent) ≡ part (72 * i + from) count sent
+pub part-bare_of : (blocks i from count : ℕ) (sent : List Bool)
+    → length sent ≡ 72 * blocks → i < blocks → from + count ≤ 70 → part (70 * i + from) count (bare_of sent) ≡ part (72 * i + from) count sent
 unfolding bare_of
 part-bare_of blocks i from count sent e h few =
     let counted : length sent / 72 ≡ blocks = ap (λ n. n / 72) e ∙ blocks_counted blocks in

@@ -81,7 +81,8 @@ module _ (place : ℕ) (arrival : Arrival) (more : List Bool) (is : IsNearArriva
     ends = omega (arith, sum_by-cons covered item found.before, found.ends);
   }
 
-  later : (at : ℕ) (item : Item) (items : List Item) → IsHidden place items ⊎ IsFound (at + covered item) place arrival more items → IsHidden place (item ∷ items) ⊎ IsFound at place arrival more (item ∷ items)
+  later : (at : ℕ) (item : Item) (items : List Item) → IsHidden place items ⊎ IsFound (at + covered item) place arrival more items
+      → IsHidden place (item ∷ items) ⊎ IsFound at place arrival more (item ∷ items)
   later at item items (inl hidden) = inl (later-hidden item items hidden)
   later at item items (inr found) = inr (later-found at item items found)
 

@@ -105,14 +105,23 @@ module _ (bits ms : List Bool) (place left : ℕ) (long : length bits ≡ 55) (m
   synced-distance =
       ap (λ (xs : List Bool). distance_of xs synced_bits) (cut_at place bits)
       ∙ distance_by-append beq (take place bits) (part place 48 bits ++ drop 48 (drop place bits)) (take place bits) (sync_bits ++ drop 48 (drop place bits)) refl
-      ∙ ap₂ ◌+◌ (distance_of-same (take place bits)) (distance_by-append beq (part place 48 bits) (drop 48 (drop place bits)) sync_bits (drop 48 (drop place bits)) (length-inner ∙ sym length-sync_bits))
+      ∙ ap₂ ◌+◌ (distance_of-same (take place bits)) (distance_by-append beq
+      (part place 48 bits) (drop 48 (drop place bits)) sync_bits (drop 48 (drop place bits)) (length-inner ∙ sym length-sync_bits))
       ∙ omega (arith, distance_of-same (drop 48 (drop place bits)))
 
   length-synced : length synced_bits ≡ 55
   unfolding synced_bits
   length-synced =
       length-append (take place bits) (sync_bits ++ drop 48 (drop place bits))
-      ∙ omega (arith, length-take-le place bits (omega (arith, long)), length-append sync_bits (drop 48 (drop place bits)), length-sync_bits, length-drop 48 (drop place bits), length-drop place bits, long)
+      ∙ omega (
+        arith,
+        length-take-le place bits (omega (arith, long)),
+        length-append sync_bits (drop 48 (drop place bits)),
+        length-sync_bits,
+        length-drop 48 (drop place bits),
+        length-drop place bits,
+        long,
+      )
 
   -- a place with a sync has most ones of the mask
   most_ones : MaskFits ms place left → has_sync (part place 48 bits) ≡ true → both ms ms ≤ both bits ms + 4
@@ -191,7 +200,8 @@ none_at bits long a b (suc (suc (suc (suc (suc (suc zero)))))) inside = few_ones
 none_at bits long a b (suc (suc (suc (suc (suc (suc (suc zero))))))) inside = few_ones bits odd 7 0 long (length-bits_of 55 0x5555_5555_5540) (omega arith) odd-7 odd-ones b
 none_at bits long a b (suc (suc (suc (suc (suc (suc (suc (suc place)))))))) inside = absurd (omega arith)
 
-pub none-of_eight : (number : ℕ) → number < 2 ^ 55 → count_ones (bit_and number 0xAAAA_AAAA_AA80) < 17 → count_ones (bit_and number 0x5555_5555_5540) < 17 → (place : ℕ) → place < 8 → has_sync (part place 48 (bits_of 55 number)) ≡ false
+pub none-of_eight : (number : ℕ) → number < 2 ^ 55 → count_ones (bit_and number 0xAAAA_AAAA_AA80) < 17
+    → count_ones (bit_and number 0x5555_5555_5540) < 17 → (place : ℕ) → place < 8 → has_sync (part place 48 (bits_of 55 number)) ≡ false
 unfolding even odd
 none-of_eight number small a b =
     none_at (bits_of 55 number) (length-bits_of 55 number) (omega (arith, weight number 0xAAAA_AAAA_AA80 small (omega arith))) (omega (arith, weight number 0x5555_5555_5540 small (omega arith)))

@@ -36,7 +36,8 @@ filled before held octets taken beginning is known all = record {
 }
 
 -- an item of a place is the first of the items there, where more bits do not matter or do not come
-first-is : (ended : Bool) (place : ℕ) (bits : List Bool) → 0 < length bits → items_by ended place bits ≡ first_item place bits ∷ items_by ended (place + covered (first_item place bits)) (drop (covered (first_item place bits)) bits)
+first-is : (ended : Bool) (place : ℕ) (bits : List Bool) → 0 < length bits → items_by ended place bits
+    ≡ first_item place bits ∷ items_by ended (place + covered (first_item place bits)) (drop (covered (first_item place bits)) bits)
     → IsFirst ended place bits (first_item place bits)
 first-is ended place bits some is = record { items = is; there = (covered-first_item place bits some).1 }
 

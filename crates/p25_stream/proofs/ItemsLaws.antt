@@ -103,7 +103,8 @@ items_by-nil ended at = refl
 
 -- a step of the walk
 items_by-cons : (ended : Bool) (at : ℕ) (bit : Bool) (bits : List Bool)
-    → items_by ended at (bit ∷ bits) ≡ cond (ended || is_decided (bit ∷ bits)) (first_item at (bit ∷ bits) ∷ items_by ended (at + covered (first_item at (bit ∷ bits))) (drop (covered (first_item at (bit ∷ bits))) (bit ∷ bits))) []
+    → items_by ended at (bit ∷ bits) ≡ cond (ended || is_decided (bit ∷ bits)) (first_item at
+    (bit ∷ bits) ∷ items_by ended (at + covered (first_item at (bit ∷ bits))) (drop (covered (first_item at (bit ∷ bits))) (bit ∷ bits))) []
 unfolding items_by items_in
 items_by-cons ended at bit bits =
     let item = first_item at (bit ∷ bits) in

@@ -94,7 +94,8 @@ drained-when-finished scan n ended long =
       λ none. eq-eqb n 0 (long ∙ is.1 (ap (λ b. items_by b scan.place scan.held) (sym ended) ∙ none)),
     )
 
-pub drained-when-going : (beginning : Beginning) (scan : Scan) (known : Bool) → scan.finished ≡ false → IsBeginning beginning scan.held → known ≡ is_settled beginning → IsTrue (not known) ↔ (given scan ≡ [])
+pub drained-when-going : (beginning : Beginning) (scan : Scan) (known : Bool)
+    → scan.finished ≡ false → IsBeginning beginning scan.held → known ≡ is_settled beginning → IsTrue (not known) ↔ (given scan ≡ [])
 drained-when-going beginning scan known going is same =
     let open' = drained-going beginning scan.place scan.held is in (
       λ none. ap (λ b. items_by b scan.place scan.held) going ∙ open'.0 (sym same ∙ not-true known none),

@@ -22,7 +22,8 @@ pub wrong_count : (words : List (List ℕ)) (first : List ℕ) (kind : UnitKind)
     → read_words words ≡ Err Key
 wrong_count words first kind at named other =
     let count : length words ≡ suc (length (drop 1 words)) = ap length (first-others words first at) in
-    right_kind words first kind at named ∙ ap (λ values. found_read (read_values kind) (ok_or values Key)) (values_behind-other (keys_of kind) (drop 1 words) (λ same. other (omega (arith, count, same))))
+    right_kind words first kind at named ∙ ap (λ values. found_read (read_values kind) (ok_or values Key))
+    (values_behind-other (keys_of kind) (drop 1 words) (λ same. other (omega (arith, count, same))))
 
 -- one key and one word more
 pub values-more : (keys : List UnitKey) (words : List (List ℕ)) (i : ℕ) (d : UnitKey) (first : Option (List ℕ)) → i < length keys → i + 1 < length words

@@ -32,7 +32,8 @@ abbrev pub start_text : UnitKind → ℕ → List ℕ
 start_text kind nac = kind_word kind ++ 32 ∷ key_text Nac ++ three_digits nac
 
 -- a line by its beginning and the rest
-text-start : (unit : UnitParts) (kind : UnitKind) (keys : List UnitKey) (values : List (List ℕ)) → kind_of unit.body ≡ kind → keys_of kind ≡ Nac ∷ keys → values_of unit ≡ three_digits unit.nac ∷ values
+text-start : (unit : UnitParts) (kind : UnitKind) (keys : List UnitKey) (values : List (List ℕ))
+    → kind_of unit.body ≡ kind → keys_of kind ≡ Nac ∷ keys → values_of unit ≡ three_digits unit.nac ∷ values
     → text_of unit ≡ start_text kind unit.nac ++ tail_text keys values
 text-start unit kind keys values same_kind same_keys same_values =
     text-tail unit

@@ -50,7 +50,8 @@ module _ (status : Status) where
   wholes-built place (unit ∷ units) all =
       let sendable = All-head IsSendableUnit unit units all in
       wholes_of-cons place (built unit) (map built units)
-      ∙ ap₂ (λ (item : Item) (n : ℕ). item ∷ wholes_of (place + n) (map built units)) (built-whole unit sendable place) (length-image_of (filled_frame status unit) (built-sound unit sendable) sendable)
+      ∙ ap₂ (λ (item : Item) (n : ℕ). item ∷ wholes_of (place + n) (map built units))
+      (built-whole unit sendable place) (length-image_of (filled_frame status unit) (built-sound unit sendable) sendable)
       ∙ ap (λ (items : List Item). Whole place (filled_frame status unit) 0 ∷ items) (wholes-built (place + frame_length_of unit) units (All-tail IsSendableUnit unit units all))
 
   -- the octets of their images

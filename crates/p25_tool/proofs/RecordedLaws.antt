@@ -52,7 +52,8 @@ module _ (arrival : Arrival) (is : IsNearArrival arrival) where
       let frame = frame_arrived arrival in
       let read = frame_arrived-sound 0 arrival is in
       let count = length frame.statuses in
-      whole-image (bridged_frame nac status frame) (IsSoundFrame-frame_as nac (replicate count status) frame read.0 (length-replicate count status)) (record { nac_fits = omega (arith, fits); body = read.1.body })
+      whole-image (bridged_frame nac status frame) (IsSoundFrame-frame_as nac (replicate count status) frame read.0 (length-replicate count status))
+      (record { nac_fits = omega (arith, fits); body = read.1.body })
 
   -- it is received as it is
   undamaged-near : IsNearArrival (undamaged arrival)
@@ -104,8 +105,10 @@ checks-units arrivals octets is =
     )
 
 -- the bits of whole units, each changed by its frame alone
-module _ (change : Item → List Bool → List Bool) (of_frame : Frame → List Bool) (by_frame : (place : ℕ) (frame : Frame) (fixes : ℕ) (raw : List Bool) → change (Whole place frame fixes) raw ≡ of_frame frame) where
-  changed-wholes : (place : ℕ) (arrivals : List Arrival) → All IsNearArrival arrivals → changed_bits change (wholes_of place arrivals) (bits_arrived arrivals) ≡ flat_map (λ (arrival : Arrival). of_frame (frame_arrived arrival)) arrivals
+module _ (change : Item → List Bool → List Bool) (of_frame : Frame → List Bool)
+    (by_frame : (place : ℕ) (frame : Frame) (fixes : ℕ) (raw : List Bool) → change (Whole place frame fixes) raw ≡ of_frame frame) where
+  changed-wholes : (place : ℕ) (arrivals : List Arrival) → All IsNearArrival arrivals
+      → changed_bits change (wholes_of place arrivals) (bits_arrived arrivals) ≡ flat_map (λ (arrival : Arrival). of_frame (frame_arrived arrival)) arrivals
   unfolding changed_bits
   changed-wholes place [] near = ap (λ (items : List Item). changed_bits change items []) (wholes_of-nil place)
   changed-wholes place (arrival ∷ arrivals) near =
@@ -163,7 +166,8 @@ followed-wholes ended before place (arrival ∷ arrivals) near =
     = take-append-le (length bits) bits later (omega arith) ∙ take_all (length bits) bits (omega arith) in
     ap (λ (all : List Item). followed_by ended before [] all (bits ++ later)) (wholes_of-cons place arrival arrivals)
     ∙ followed-unit ended before [] unit items (bits ++ later) refl
-    ∙ ap (λ (zs : List Bool). zs ++ (take (covered unit) (bits ++ later) ++ followed_by ended (unit_name unit) [] items (drop (covered unit) (bits ++ later)))) (chain_by-nil true before (unit_name unit))
+    ∙ ap (λ (zs : List Bool). zs ++ (take (covered unit) (bits ++ later)
+    ++ followed_by ended (unit_name unit) [] items (drop (covered unit) (bits ++ later)))) (chain_by-nil true before (unit_name unit))
     ∙ ap (λ (n : ℕ). take n (bits ++ later) ++ followed_by ended (unit_name unit) [] items (drop n (bits ++ later))) long
     ∙ ap₂ (λ (raw left : List Bool). raw ++ followed_by ended (unit_name unit) [] items left) first behind
     ∙ ap (λ (zs : List Bool). bits ++ zs) (followed-wholes ended (unit_name unit) (place + length bits) arrivals (All-tail IsNearArrival arrival arrivals near))

@@ -86,16 +86,20 @@ ending-memory : (ending : Ending) → ending_outcome ending ≡ Memory → ⊥
 ending-memory Done is = cc
 ending-memory ending is = cc
 
-pub memory-command : (command : Command) (told left first last : Option (List ℕ)) (end : FilterEnd) → Filtered told left first last (command_future command) end → filter_outcome end ≡ Memory → CanWantMemory command
+pub memory-command : (command : Command) (told left first last : Option (List ℕ)) (end : FilterEnd)
+    → Filtered told left first last (command_future command) end → filter_outcome end ≡ Memory → CanWantMemory command
 memory-command command told left first last (Ended ending) worked is = absurd (ending-memory ending is)
 memory-command command told left first last NoMemory worked is = wanting-command command told left first last worked
 memory-command command told left first last end worked is = cc
 
 -- without a fault of the source or of the sink the outcome is the answer for the input, or memory was wanting
-pub answer-without-faults : (command : Command) (told left first last : Option (List ℕ)) (end : FilterEnd) → Filtered told left first last (command_future command) end → (end ≡ ReadFault → ⊥) → (end ≡ WriteFault → ⊥)
+pub answer-without-faults : (command : Command) (told left first last : Option (List ℕ)) (end : FilterEnd)
+    → Filtered told left first last (command_future command) end → (end ≡ ReadFault → ⊥) → (end ≡ WriteFault → ⊥)
     → (input : List ℕ) → told ≡ Some input → (filter_outcome end ≡ answer_of command input) ⊎ ((filter_outcome end ≡ Memory) × CanWantMemory command)
-answer-without-faults command told left first last (Ended ending) worked read write input is_told = inl (answer-final command input told left first last worked.octets worked.taken is_told ending worked.meets)
+answer-without-faults command told left first last (Ended ending) worked read write input is_told =
+    inl (answer-final command input told left first last worked.octets worked.taken is_told ending worked.meets)
 answer-without-faults command told left first last ReadFault worked read write input is_told = absurd (read refl)
 answer-without-faults command told left first last WriteFault worked read write input is_told = absurd (write refl)
-answer-without-faults command told left first last InputTooLong worked read write input is_told = inl (answer-too_long command input told left first last worked.octets worked.taken is_told worked.meets)
+answer-without-faults command told left first last InputTooLong worked read write input is_told =
+    inl (answer-too_long command input told left first last worked.octets worked.taken is_told worked.meets)
 answer-without-faults command told left first last NoMemory worked read write input is_told = inr (refl, wanting-command command told left first last worked)

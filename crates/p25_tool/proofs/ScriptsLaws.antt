@@ -125,7 +125,8 @@ module _ {E S : Type 0} (read : Reading E) (steps : List E → List S) (line : S
   script-ended outcome (inl same) = inl (same ∙ answer-done)
   script-ended outcome (inr wanting) = inr wanting.0
 
-  run-of : (passes : List E → ℕ) (IsClean IsOrderlyRun Tells : List E → Type 0) → (passes events ≡ 0 → IsClean events) → (IsClean events → IsOrderlyRun events) → Tells events → (end : FilterEnd) (outcome : Outcome) → outcome ≡ filter_outcome end
+  run-of : (passes : List E → ℕ) (IsClean IsOrderlyRun Tells : List E → Type 0) → (passes events ≡ 0 → IsClean events)
+      → (IsClean events → IsOrderlyRun events) → Tells events → (end : FilterEnd) (outcome : Outcome) → outcome ≡ filter_outcome end
       → Filtered told left first last (command_future command) end → (outcome ≡ answer_of command input) ⊎ ((outcome ≡ Memory) × CanWantMemory command)
       → IsRunOf (λ all. flat_map line (steps all) ++ closing all) passes IsClean IsOrderlyRun Tells first last events outcome
   unfolding text
@@ -149,11 +150,13 @@ tells-lists events = record {
   acknowledged = omega (arith, run-acknowledged events first_world);
 }
 
-pub script-run : (told left first last : Option (List ℕ)) (input : List ℕ) (events : List Event) → IsScriptOf input events → told ≡ Some input → (end : FilterEnd) (outcome : Outcome) → outcome ≡ filter_outcome end
+pub script-run : (told left first last : Option (List ℕ)) (input : List ℕ) (events : List Event)
+    → IsScriptOf input events → told ≡ Some input → (end : FilterEnd) (outcome : Outcome) → outcome ≡ filter_outcome end
     → Filtered told left first last (command_future Stations) end → (outcome ≡ answer_of Stations input) ⊎ ((outcome ≡ Memory) × CanWantMemory Stations) → HasRun first last events outcome
 script-run told left first last input events script is_told =
     run-of event_of (steps_of first_world) step_line (λ all. closing_line (world_run first_world all)) Stations refl told left first last input events script is_told
-    (λ all. (world_run first_world all).false_passes) IsCleanRun _ TellsLists (clean-from_none events) (run-orderly events (each-read event_of IsEvent is_event (lines_in true [] input) events script.lines))
+    (λ all. (world_run first_world all).false_passes) IsCleanRun _ TellsLists
+    (clean-from_none events) (run-orderly events (each-read event_of IsEvent is_event (lines_in true [] input) events script.lines))
     (tells-lists events)
 
 -- Scripts of long messages.
@@ -173,7 +176,8 @@ tells-long_lists events = record {
   acknowledged = omega (arith, run-finished events first_long);
 }
 
-pub long-script-run : (told left first last : Option (List ℕ)) (input : List ℕ) (events : List LongEvent) → IsLongScriptOf input events → told ≡ Some input → (end : FilterEnd) (outcome : Outcome) → outcome ≡ filter_outcome end
+pub long-script-run : (told left first last : Option (List ℕ)) (input : List ℕ) (events : List LongEvent)
+    → IsLongScriptOf input events → told ≡ Some input → (end : FilterEnd) (outcome : Outcome) → outcome ≡ filter_outcome end
     → Filtered told left first last (command_future Fragments) end → (outcome ≡ answer_of Fragments input) ⊎ ((outcome ≡ Memory) × CanWantMemory Fragments) → HasLongRun first last events outcome
 long-script-run told left first last input events script is_told =
     let fit = each-read long_event_of IsLongEvent is-long_event (lines_in true [] input) events script.lines in
@@ -198,7 +202,8 @@ tells-lists_of events B = record {
   acknowledged = omega (arith, duplex-acknowledged B events first_duplex);
 }
 
-pub duplex-script-run : (told left first last : Option (List ℕ)) (input : List ℕ) (events : List DuplexEvent) → IsDuplexScriptOf input events → told ≡ Some input → (end : FilterEnd) (outcome : Outcome) → outcome ≡ filter_outcome end
+pub duplex-script-run : (told left first last : Option (List ℕ)) (input : List ℕ) (events : List DuplexEvent)
+    → IsDuplexScriptOf input events → told ≡ Some input → (end : FilterEnd) (outcome : Outcome) → outcome ≡ filter_outcome end
     → Filtered told left first last (command_future Duplex) end → (outcome ≡ answer_of Duplex input) ⊎ ((outcome ≡ Memory) × CanWantMemory Duplex) → HasDuplexRun first last events outcome
 duplex-script-run told left first last input events script is_told =
     let fit = each-read duplex_event_of IsDuplexEvent is-duplex_event (lines_in true [] input) events script.lines in

@@ -43,7 +43,8 @@ before_end (Sample count) octets input ending is end = refl
 before_end command octets input ending is end = absurd (cc is)
 
 module _ (command : Command) (input : List ℕ) (told first last : Option (List ℕ)) (is_told : told ≡ Some input) where
-  wrote-all : (ending : Ending) (octets : List ℕ) → HasEnded (ending_outcome ending) → IsFinal told first last (command_future command) octets ending → Appended first (output_by command true input) last
+  wrote-all : (ending : Ending) (octets : List ℕ) → HasEnded (ending_outcome ending)
+      → IsFinal told first last (command_future command) octets ending → Appended first (output_by command true input) last
   wrote-all ending octets end final = by_end final.ended final.all final.ends final.wrote
     where
       by_end : (ended : Bool) → (ended ≡ true → (length octets ≤ input_most) × IfSome told (λ all. all ≡ octets)) → ending_by command ended (take input_most octets) ≡ Some ending
@@ -55,7 +56,8 @@ module _ (command : Command) (input : List ℕ) (told first last : Option (List 
       by_end false all ends wrote = Appended-same (before_end command (take input_most octets) input ending ends end) wrote
 
   -- work that came to the end of its input wrote all of its output, whether it is told what was written or not
-  pub ended-wrote : (left : Option (List ℕ)) (end : FilterEnd) → HasEnded (filter_outcome end) → Filtered told left first last (command_future command) end → Appended first (output_by command true input) last
+  pub ended-wrote : (left : Option (List ℕ)) (end : FilterEnd)
+      → HasEnded (filter_outcome end) → Filtered told left first last (command_future command) end → Appended first (output_by command true input) last
   ended-wrote left (Ended ending) is worked = wrote-all ending worked.octets is worked.meets
   ended-wrote left end is worked = absurd is
 

@@ -10,7 +10,8 @@ use Rattle.p25_trellis.proofs.{InterleaveLaws.{weighed, length-interleaved}, Pat
 
 -- what the nibbles of symbols weigh against those of others, step by step
 weighed-nibbles : (point : ℕ → ℕ → ℕ) (a b x y : ℕ) (xs ys : List ℕ)
-    → weighed nibble_distance (nibbles_from point a (x ∷ xs)) (nibbles_from point b (y ∷ ys)) ≡ nibble_distance (point a x) (point b y) + weighed nibble_distance (nibbles_from point x xs) (nibbles_from point y ys)
+    → weighed nibble_distance (nibbles_from point a (x ∷ xs)) (nibbles_from point b (y ∷ ys))
+    ≡ nibble_distance (point a x) (point b y) + weighed nibble_distance (nibbles_from point x xs) (nibbles_from point y ys)
 unfolding weighed nibbles_from
 weighed-nibbles point a b x y xs ys = refl
 

@@ -27,7 +27,8 @@ IsLowestLeast-less states value symbol least new was is less = record {
 }
 
 -- and else the lowest least stays
-pub IsLowestLeast-kept : (states : ℕ) (value : ℕ → ℕ) (symbol least new : ℕ) → IsLowestLeast states value symbol least → new ≡ value states → least ≤ new → IsLowestLeast (states + 1) value symbol least
+pub IsLowestLeast-kept : (states : ℕ) (value : ℕ → ℕ) (symbol least new : ℕ)
+    → IsLowestLeast states value symbol least → new ≡ value states → least ≤ new → IsLowestLeast (states + 1) value symbol least
 IsLowestLeast-kept states value symbol least new was is more = record {
   below = omega (arith, was.below);
   is = was.is;
@@ -50,7 +51,8 @@ cost_in-le table limit step nibble low = elim (cases_lt (16 * step + nibble) (le
 ]
 
 -- the cost of a symbol and what follows it
-pub symbols_cost-cons : (point cost : ℕ → ℕ → ℕ) (step state symbol : ℕ) (symbols : List ℕ) → symbols_cost point cost step state (symbol ∷ symbols) ≡ cost step (point state symbol) + symbols_cost point cost (suc step) symbol symbols
+pub symbols_cost-cons : (point cost : ℕ → ℕ → ℕ) (step state symbol : ℕ) (symbols : List ℕ)
+    → symbols_cost point cost step state (symbol ∷ symbols) ≡ cost step (point state symbol) + symbols_cost point cost (suc step) symbol symbols
 unfolding symbols_cost total_cost nibbles_from
 symbols_cost-cons point cost step state symbol symbols = refl
 
@@ -98,7 +100,8 @@ IsLeastEnd-step states point cost rests step before state symbol least after pla
         omega (arith, choice.none_less y is.0, rest.none_less ys is.1, symbols_cost-cons point cost step state y ys)
 
 -- the costs of a table with small costs have small sums
-pub least-le : (states before step state least : ℕ) (point cost : ℕ → ℕ → ℕ) (limit : ℕ) → ((i n : ℕ) → cost i n ≤ limit) → IsLeastEnd states before (symbols_cost point cost step state) least → least ≤ limit * suc before
+pub least-le : (states before step state least : ℕ) (point cost : ℕ → ℕ → ℕ) (limit : ℕ)
+    → ((i n : ℕ) → cost i n ≤ limit) → IsLeastEnd states before (symbols_cost point cost step state) least → least ≤ limit * suc before
 unfolding symbols_cost
 least-le states before step state least point cost limit low is =
     let long : length (nibbles_from point state is.end) ≡ suc before = length-nibbles_from point state is.end ∙ length-end states before is.end is.is_end in

@@ -123,7 +123,8 @@ IsFirstLeast-total states cost path least some is first = omega (
 pub completes_more : (states : ℕ) (point cost : ℕ → ℕ → ℕ) (rests path : List ℕ) (step state symbol least : ℕ)
     → HasLeastFrom states point cost rests 0 → step < 48 → length path ≡ 49
     → IsLowestLeast states (step_cost point cost rests step state) symbol least
-    → ((before : ℕ) (end : List ℕ) → step + before ≡ 48 → IsFirstLeastEnd states before (symbols_cost point cost step state) end → IsFirstLeastEnd states 48 (symbols_cost point cost 0 0) (take step path ++ end))
+    → ((before : ℕ) (end : List ℕ) → step + before ≡ 48 → IsFirstLeastEnd states before (symbols_cost point cost step state) end
+    → IsFirstLeastEnd states 48 (symbols_cost point cost 0 0) (take step path ++ end))
     → (before : ℕ) (end : List ℕ) → step + 1 + before ≡ 48 → IsFirstLeastEnd states before (symbols_cost point cost (step + 1) symbol) end
     → IsFirstLeastEnd states 48 (symbols_cost point cost 0 0) (take (step + 1) (set path step symbol) ++ end)
 completes_more states point cost rests path step state symbol least has early long choice so_far before end place rest =

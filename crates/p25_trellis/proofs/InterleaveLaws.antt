@@ -67,7 +67,8 @@ weighed-interleaved weight xs ys long =
     let e0 = length-each_fourth 0 xs ys long in
     let e1 = length-each_fourth 1 xs ys long in
     let e2 = length-each_fourth 2 xs ys long in
-    weighed-append weight (each_fourth 0 xs ++ each_fourth 1 xs ++ each_fourth 2 xs) (each_fourth 3 xs) (each_fourth 0 ys ++ each_fourth 1 ys ++ each_fourth 2 ys) (each_fourth 3 ys) (simp length-append (cc))
+    weighed-append weight (each_fourth 0 xs ++ each_fourth 1 xs ++ each_fourth 2 xs)
+    (each_fourth 3 xs) (each_fourth 0 ys ++ each_fourth 1 ys ++ each_fourth 2 ys) (each_fourth 3 ys) (simp length-append (cc))
     ∙ ap
     (λ n. n + weighed weight (each_fourth 3 xs) (each_fourth 3 ys))
     (

@@ -6,7 +6,8 @@ use Rattle.p25_trellis.specs.{Tables.{nibble_distance}, Costs.{received_cost}, L
 use Rattle.p25_trellis.proofs.{CostLaws.{IsLowestLeast-one, IsLowestLeast-less, IsLowestLeast-kept, rest-le}, DistanceLaws.{nibble_distance-le}}
 
 -- the distance that a table has for a state is the cost of its nibble
-pub received_cost-is : (received distances : List ℕ) (step state nibble : ℕ) → get_or distances state 0 ≡ nibble_distance nibble (get_or received step 0) → get_or distances state 0 ≡ received_cost received step nibble
+pub received_cost-is : (received distances : List ℕ) (step state nibble : ℕ)
+    → get_or distances state 0 ≡ nibble_distance nibble (get_or received step 0) → get_or distances state 0 ≡ received_cost received step nibble
 unfolding received_cost
 received_cost-is received distances step state nibble is = is
 
@@ -53,7 +54,8 @@ pub IsLowestLeast-step : (states : ℕ) (point : ℕ → ℕ → ℕ) (received 
     → IsLowestLeast states (step_cost point (received_cost received) rests step state) symbol least
 unfolding step_cost received_cost
 IsLowestLeast-step states point received rests step state nibble symbol least few is was =
-    IsLowestLeast-same states (λ other. nibble_distance (point state other) nibble + get_or (mid_of (8 * step + 8) (8 * step + 16 - (8 * step + 8)) rests) other 0) (step_cost point (received_cost received) rests step state) symbol least
+    IsLowestLeast-same states (λ other. nibble_distance (point state other) nibble + get_or
+    (mid_of (8 * step + 8) (8 * step + 16 - (8 * step + 8)) rests) other 0) (step_cost point (received_cost received) rests step state) symbol least
     (λ other below. ap₂ ◌+◌ (ap (nibble_distance (point state other)) is) (next_rest rests step other (omega arith)))
     was
 

@@ -20,7 +20,8 @@ nearest_distance-block states width point received some states_is =
     let reading = nearest_reading states width point received some in
     let octets = nearest_octets states width point received in
     let block : IsBlock states width point octets (sent_bits point reading.path) = record { path = reading.path; is_path = reading.first_least.is_path; carries = reading.carries; sent = refl } in
-    reading.total_is ∙ ap (λ (bits : List Bool). distance_of bits received) (same_block_from states width point octets (sent_bits point reading.path) states_is (length-nearest_octets states width point received) block)
+    reading.total_is ∙ ap (λ (bits : List Bool). distance_of bits received)
+    (same_block_from states width point octets (sent_bits point reading.path) states_is (length-nearest_octets states width point received) block)
 
 -- it is at most all bits of a block
 pub nearest_distance-le : (states width : ℕ) (point : ℕ → ℕ → ℕ) (received : List Bool) → 0 < states → nearest_distance states point received ≤ 196

@@ -104,7 +104,8 @@ pub same_nearest : (states width : ℕ) (point : ℕ → ℕ → ℕ) (received 
     → IsFirstLeastReading states width (distance_from point received) octets distance
     → (octets ≡ nearest_octets states width point received) × (distance ≡ nearest_distance states point received)
 same_nearest states width point received octets distance some reading =
-    same_reading states width (distance_from point received) octets (nearest_octets states width point received) distance (nearest_distance states point received) reading (nearest_reading states width point received some)
+    same_reading states width (distance_from point received) octets (nearest_octets states width point received) distance
+    (nearest_distance states point received) reading (nearest_reading states width point received some)
 
 -- the symbols that octets write, and then 0, are a path
 pub IsPath-path_from : (states width : ℕ) (octets : List ℕ) → states ≡ 2 ^ width → IsPath states (path_from width octets)
@@ -132,7 +133,8 @@ Carries-path_from width octets long small =
     }
 
 -- the block that the function gives is the block of octets
-pub IsBlock-block_from : (states width : ℕ) (point : ℕ → ℕ → ℕ) (octets : List ℕ) → states ≡ 2 ^ width → length octets ≡ 6 * width → All (λ octet. octet < 256) octets → IsBlock states width point octets (block_from width point octets)
+pub IsBlock-block_from : (states width : ℕ) (point : ℕ → ℕ → ℕ) (octets : List ℕ)
+    → states ≡ 2 ^ width → length octets ≡ 6 * width → All (λ octet. octet < 256) octets → IsBlock states width point octets (block_from width point octets)
 unfolding block_from
 IsBlock-block_from states width point octets states_is long small = record {
   path = path_from width octets;
@@ -142,6 +144,7 @@ IsBlock-block_from states width point octets states_is long small = record {
 }
 
 -- and no other is
-pub same_block_from : (states width : ℕ) (point : ℕ → ℕ → ℕ) (octets : List ℕ) (block : List Bool) → states ≡ 2 ^ width → length octets ≡ 6 * width → IsBlock states width point octets block → block ≡ block_from width point octets
+pub same_block_from : (states width : ℕ) (point : ℕ → ℕ → ℕ) (octets : List ℕ) (block : List Bool)
+    → states ≡ 2 ^ width → length octets ≡ 6 * width → IsBlock states width point octets block → block ≡ block_from width point octets
 same_block_from states width point octets block states_is long is =
     same_block states width point octets block (block_from width point octets) states_is is (IsBlock-block_from states width point octets states_is long is.carries.are_octets)

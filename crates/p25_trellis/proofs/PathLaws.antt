@@ -33,7 +33,8 @@ nibbles_more point state nibbles path step nibble here there is =
     let left = nibbles_from point symbol (drop (step + 1) path) in
     ap (λ (ns : List ℕ). ns ++ left) (take_more_set nibbles step nibble here)
     ∙ append_assoc (take step nibbles) (nibble ∷ []) left
-    ∙ ap (λ (zs : List ℕ). take step nibbles ++ zs) (ap (λ n. n ∷ left) is ∙ sym (nibbles_from-cons point state symbol (drop (step + 1) path)) ∙ ap (nibbles_from point state) (sym (drop_more path step 0 there)))
+    ∙ ap (λ (zs : List ℕ). take step nibbles ++ zs) (ap (λ n. n ∷ left) is
+    ∙ sym (nibbles_from-cons point state symbol (drop (step + 1) path)) ∙ ap (nibbles_from point state) (sym (drop_more path step 0 there)))
 
 -- a path carries no other octets
 pub same_octets : (width : ℕ) (path octets others : List ℕ) → Carries width path octets → Carries width path others → octets ≡ others
@@ -51,11 +52,13 @@ same_path states width path other octets states_is is other_is one two =
     let other_fits : 48 ≤ length other = omega (arith, other_is.long) in
     sym (take-append-drop 48 path)
     ∙ ap₂ (λ (xs ys : List ℕ). xs ++ ys)
-    (same_from_number_bits width (take 48 path) (take 48 other) (small path is) (small other other_is) (length-take-le 48 path fits ∙ sym (length-take-le 48 other other_fits)) (one.information ∙ sym two.information))
+    (same_from_number_bits width (take 48 path) (take 48 other) (small path is)
+    (small other other_is) (length-take-le 48 path fits ∙ sym (length-take-le 48 other other_fits)) (one.information ∙ sym two.information))
     (is.last ∙ sym other_is.last)
     ∙ take-append-drop 48 other
 
 -- octets have no other block
-pub same_block : (states width : ℕ) (point : ℕ → ℕ → ℕ) (octets : List ℕ) (block other : List Bool) → states ≡ 2 ^ width → IsBlock states width point octets block → IsBlock states width point octets other → block ≡ other
+pub same_block : (states width : ℕ) (point : ℕ → ℕ → ℕ) (octets : List ℕ) (block other : List Bool)
+    → states ≡ 2 ^ width → IsBlock states width point octets block → IsBlock states width point octets other → block ≡ other
 same_block states width point octets block other states_is one two =
     one.sent ∙ ap (sent_bits point) (same_path states width one.path two.path octets states_is one.is_path two.is_path one.carries two.carries) ∙ sym two.sent

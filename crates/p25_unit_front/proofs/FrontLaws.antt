@@ -90,7 +90,8 @@ front_of-111 sent long =
     ap (λ n. take n (take 48 sent ++ identifier_bits sent)) place ∙ take-append-add (take 48 sent) (identifier_bits sent) 63
 
 -- the fixes of a front are those of its sync and those of its identifier
-pub front_fixes_of-parts : (nid : ℕ × ℕ) (sent : List Bool) → 48 ≤ length sent → front_fixes_of nid sent ≡ distance_of (take 48 sent) sync_bits + distance_of (take 63 (identifier_bits sent)) (take 63 (nid_word nid.0 nid.1))
+pub front_fixes_of-parts : (nid : ℕ × ℕ) (sent : List Bool) → 48 ≤ length sent
+    → front_fixes_of nid sent ≡ distance_of (take 48 sent) sync_bits + distance_of (take 63 (identifier_bits sent)) (take 63 (nid_word nid.0 nid.1))
 unfolding front_fixes_of
 front_fixes_of-parts nid sent long =
     ap₂ (λ (xs ys : List Bool). distance_of xs ys) (front_of-111 sent long) (unit_front-111 nid.0 nid.1)
@@ -135,7 +136,8 @@ identifier_of-fits sent nid is =
     (omega (arith, nac, field-lt 12 0 found.word), omega (arith, duid, field-lt 4 12 found.word))
 
 -- wherever a word of the code lies within 11 bits, its identifier is read
-pub identifier_of-near : (nac duid : ℕ) (sent : List Bool) → nac < 4096 → duid < 16 → 114 ≤ length sent → distance_of (take 63 (identifier_bits sent)) (take 63 (nid_word nac duid)) ≤ 11 → identifier_of sent ≡ Some (nac, duid)
+pub identifier_of-near : (nac duid : ℕ) (sent : List Bool) → nac < 4096
+    → duid < 16 → 114 ≤ length sent → distance_of (take 63 (identifier_bits sent)) (take 63 (nid_word nac duid)) ≤ 11 → identifier_of sent ≡ Some (nac, duid)
 unfolding identifier_of
 identifier_of-near nac duid sent nac_fits duid_fits long near =
     let word = take 63 (nid_word nac duid) in

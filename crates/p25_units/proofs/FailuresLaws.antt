@@ -57,6 +57,7 @@ unit_fails bits count fields need e =
     (sym (reading_from-some found.nid sent) ∙ sym (unit_reading_of-read sent (Some found.nid) read) ∙ e)
 
 -- so it is with a reading of it
-pub some_fields : (bits : List Bool) (count : ℕ) (reading : Result Frame (List Field)) → need_of bits ≡ Length count → reading ≡ unit_reading_of (take count bits) → IfErr reading (λ fields. 0 < length fields)
+pub some_fields : (bits : List Bool) (count : ℕ) (reading : Result Frame (List Field))
+    → need_of bits ≡ Length count → reading ≡ unit_reading_of (take count bits) → IfErr reading (λ fields. 0 < length fields)
 some_fields bits count (Ok frame) need is = tt
 some_fields bits count (Err fields) need is = unit_fails bits count fields need (sym is)

@@ -48,7 +48,8 @@ fixes_of-parts frame blocks sent sendable two long =
     (first_111 image (unit_front unit.nac (body_duid unit.body)) (unit_image_of-front unit sendable)))
 
 -- of a voice unit
-pub body_fixes_of-voice : (nac : ℕ) (voice : VoiceUnit) (bare : List Bool) → let unit : UnitParts = record { nac = nac; body = Voice voice } in body_fixes_of unit bare ≡ voice_fixes_of voice bare (voice_image_of nac voice)
+pub body_fixes_of-voice : (nac : ℕ) (voice : VoiceUnit) (bare : List Bool)
+    → let unit : UnitParts = record { nac = nac; body = Voice voice } in body_fixes_of unit bare ≡ voice_fixes_of voice bare (voice_image_of nac voice)
 unfolding body_fixes_of unit_image_of voice_fixes_of
 body_fixes_of-voice nac voice bare = refl
 
@@ -65,7 +66,8 @@ block_places n = each_below n (λ j. (308 + 196 * j, 196))
 
 bits_at-blocks : (n : ℕ) (bits : List Bool) → part 112 196 bits ++ bits_at (block_places n) bits ≡ part 112 (196 * (1 + n)) bits
 unfolding block_places
-bits_at-blocks zero bits = ap (λ (rest : List Bool). part 112 196 bits ++ rest) (ap (λ places. bits_at places bits) (each_below-zero (λ j. (308 + 196 * j, 196))) ∙ bits_at-nil bits) ∙ append-nil (part 112 196 bits)
+bits_at-blocks zero bits = ap (λ (rest : List Bool). part 112 196 bits ++ rest)
+    (ap (λ places. bits_at places bits) (each_below-zero (λ j. (308 + 196 * j, 196))) ∙ bits_at-nil bits) ∙ append-nil (part 112 196 bits)
 bits_at-blocks (suc n) bits =
     let place : ℕ × ℕ = (308 + 196 * n, 196) in
     let one : bits_at (place ∷ []) bits ≡ part (308 + 196 * n) 196 bits
@@ -73,7 +75,8 @@ bits_at-blocks (suc n) bits =
     let last : 112 + 196 * (1 + n) ≡ 308 + 196 * n = omega arith in
     let all : 196 * (1 + n) + 196 ≡ 196 * (1 + suc n) = omega arith in
     ap (λ (rest : List Bool). part 112 196 bits ++ rest)
-    (ap (λ places. bits_at places bits) (each_below-suc n (λ j. (308 + 196 * j, 196))) ∙ bits_at-append (block_places n) (place ∷ []) bits ∙ ap (λ (rest : List Bool). bits_at (block_places n) bits ++ rest) one)
+    (ap (λ places. bits_at places bits) (each_below-suc n (λ j. (308 + 196 * j, 196)))
+    ∙ bits_at-append (block_places n) (place ∷ []) bits ∙ ap (λ (rest : List Bool). bits_at (block_places n) bits ++ rest) one)
     ∙ sym (append_assoc (part 112 196 bits) (bits_at (block_places n) bits) (part (308 + 196 * n) 196 bits))
     ∙ ap₂ (λ (xs ys : List Bool). xs ++ ys) (bits_at-blocks n bits) (ap (λ at. part at 196 bits) (sym last))
     ∙ part_add 112 (196 * (1 + n)) 196 bits
@@ -101,8 +104,10 @@ fixes_of-image_of frame sound sendable =
     ∙ distance_of-same (bits_at places (unit_image_of frame.unit))
 
 -- the fixes of a sound frame where its bits stand among others
-pub fixes_in : (frame : Frame) (bits : List Bool) (at nac duid : ℕ) → IsSoundFrame frame → IsSendableUnit frame.unit → at + frame_length_of frame.unit ≤ length bits → nac ≡ frame.unit.nac → duid ≡ body_duid frame.unit.body
-    → (m n : ℕ) → m ≡ front_fixes_of (nac, duid) (drop at bits) → n ≡ body_fixes_of frame.unit (bare_of (part at (frame_length_of frame.unit) bits)) → m + n ≡ fixes_of frame (part at (frame_length_of frame.unit) bits)
+pub fixes_in : (frame : Frame) (bits : List Bool) (at nac duid : ℕ)
+    → IsSoundFrame frame → IsSendableUnit frame.unit → at + frame_length_of frame.unit ≤ length bits → nac ≡ frame.unit.nac → duid ≡ body_duid frame.unit.body
+    → (m n : ℕ) → m ≡ front_fixes_of (nac, duid) (drop at bits) → n ≡ body_fixes_of frame.unit (bare_of (part at (frame_length_of frame.unit) bits))
+    → m + n ≡ fixes_of frame (part at (frame_length_of frame.unit) bits)
 fixes_in frame bits at nac duid sound sendable there nac_is duid_is m n front body =
     let count = frame_length_of frame.unit in
     let rest = drop at bits in

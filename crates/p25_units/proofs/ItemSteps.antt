@@ -20,16 +20,19 @@ broken-is place nac duid bits at count fields inside kind read =
     ap (λ n. Broken place n nac duid fields) (sym (long_part duid bits at count inside kind)) ∙ ap (item_from place (nac, duid) (part at count bits)) read
 
 -- the item of a whole unit by its frame, and of any unit by its item
-pub read_whole : (place : ℕ) (nid : ℕ × ℕ) (sent : List Bool) (reading : Result Frame (List Field)) (at : ℕ) (frame : Frame) (fixes : ℕ) → Whole at frame fixes ≡ item_from place nid sent reading → Ok frame ≡ reading
+pub read_whole : (place : ℕ) (nid : ℕ × ℕ) (sent : List Bool) (reading : Result Frame (List Field)) (at : ℕ) (frame : Frame) (fixes : ℕ)
+    → Whole at frame fixes ≡ item_from place nid sent reading → Ok frame ≡ reading
 read_whole place nid sent (Ok other) at frame fixes is = cc
 read_whole place nid sent (Err fields) at frame fixes is = absurd (cc)
 
-pub read_broken : (place : ℕ) (nid : ℕ × ℕ) (sent : List Bool) (reading : Result Frame (List Field)) (at count nac duid : ℕ) (fields : List Field) → Broken at count nac duid fields ≡ item_from place nid sent reading
+pub read_broken : (place : ℕ) (nid : ℕ × ℕ) (sent : List Bool) (reading : Result Frame (List Field)) (at count nac duid : ℕ) (fields : List Field)
+    → Broken at count nac duid fields ≡ item_from place nid sent reading
     → Err fields ≡ reading
 read_broken place nid sent (Ok other) at count nac duid fields is = absurd (cc)
 read_broken place nid sent (Err fields) at count nac duid others is = cc
 
-pub read_other : (place : ℕ) (nid : ℕ × ℕ) (sent : List Bool) (reading : Result Frame (List Field)) (item : Item) → item ≡ item_from place nid sent reading → ((at : ℕ) (frame : Frame) (fixes : ℕ) → item ≡ Whole at frame fixes → ⊥)
+pub read_other : (place : ℕ) (nid : ℕ × ℕ) (sent : List Bool) (reading : Result Frame (List Field)) (item : Item)
+    → item ≡ item_from place nid sent reading → ((at : ℕ) (frame : Frame) (fixes : ℕ) → item ≡ Whole at frame fixes → ⊥)
     → ((at count nac duid : ℕ) (fields : List Field) → item ≡ Broken at count nac duid fields → ⊥) → ⊥
 read_other place nid sent (Ok frame) item is no_whole no_broken = no_whole place frame (fixes_of frame sent) is
 read_other place nid sent (Err fields) item is no_whole no_broken = no_broken place (length sent) nid.0 nid.1 fields is

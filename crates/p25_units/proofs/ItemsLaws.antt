@@ -12,7 +12,8 @@ pub unit_item_of-read : (place : ℕ) (sent : List Bool) (read : Option (ℕ × 
 unfolding unit_item_of
 unit_item_of-read place sent read is = ap (identified_item place sent) is
 
-pub unit_item_of-some : (place : ℕ) (sent : List Bool) (nid : ℕ × ℕ) (reading : Result Frame (List Field)) → identifier_of sent ≡ Some nid → reading_from (Some nid) sent ≡ reading → unit_item_of place sent ≡ item_from place nid sent reading
+pub unit_item_of-some : (place : ℕ) (sent : List Bool) (nid : ℕ × ℕ) (reading : Result Frame (List Field))
+    → identifier_of sent ≡ Some nid → reading_from (Some nid) sent ≡ reading → unit_item_of place sent ≡ item_from place nid sent reading
 unit_item_of-some place sent nid reading is read = unit_item_of-read place sent (Some nid) is ∙ ap (item_from place nid sent) read
 
 -- the item of a frame or of the fields that fail, where a frame is sound and as long as its bits

@@ -60,7 +60,8 @@ length_need-cases P count have more there =
 pub IsHead-length : (count : ℕ) → 72 < count → count ≤ 25920 → count % 72 ≡ 0 → IsHead (λ bits. length_need count (length bits))
 IsHead-length count some most whole = record {
   seen = λ bits. length_need-cases (λ need. need ≡ NoSync → ⊥) count (length bits) (λ short e. cc) (λ enough e. cc);
-  few = λ bits n. length_need-cases (λ need. need ≡ More n → (length bits < n) × (n ≤ 25920)) count (length bits) (λ short e. let same : count ≡ n = cc in (omega arith, omega arith)) (λ enough e. absurd (cc));
+  few = λ bits n. length_need-cases (λ need. need ≡ More n → (length bits < n) × (n ≤ 25920)) count
+      (length bits) (λ short e. let same : count ≡ n = cc in (omega arith, omega arith)) (λ enough e. absurd (cc));
   there = λ bits n. length_need-cases (λ need. need ≡ Length n → (72 < n) × (n ≤ 25920) × (n % 72 ≡ 0) × (n ≤ length bits)) count (length bits)
       (λ short e. absurd (cc))
       (λ enough e. let same : count ≡ n = cc in (omega arith, omega arith, ap (λ m. m % 72) (sym same) ∙ whole, omega arith));
@@ -155,7 +156,8 @@ pub IsHead-kind : (duid : ℕ) → IsHead (kind_need duid)
 IsHead-kind duid =
     elim (cases_eq duid 0xC) [
       | inl is ↦ subst (λ d. IsHead (kind_need d)) (sym is) (IsHead-same packet_need (kind_need 0xC) kind_need-packet IsHead-packet)
-      | inr other ↦ IsHead-same (λ bits. voice_need (voice_length_of duid) (length bits)) (kind_need duid) (λ bits. kind_need-unpacked duid bits other) (IsHead-voice (voice_length_of duid) (IsSentLength-voice duid))
+      | inr other ↦ IsHead-same (λ bits. voice_need (voice_length_of duid) (length bits))
+          (kind_need duid) (λ bits. kind_need-unpacked duid bits other) (IsHead-voice (voice_length_of duid) (IsSentLength-voice duid))
     ]
 
 -- a voice unit has another DUID than a packet

@@ -46,7 +46,10 @@ body_reading_of-voice duid bare other = cond-false (eqb duid 0xC) (packet_body_f
 -- a packet that can be sent is whole
 pub IsWholePacket-sendable : (packet : packet_type) → IsSendable packet → IsWholePacket packet
 unfolding IsSendable IsWholePacket
-IsWholePacket-sendable (Confirmed packet) sendable = record { at = λ j inside bad. let good = sendable.good.at j (omega (arith, inside, sendable.kind.count)) in let two : Good good.0 ≡ Bad = sym good.1 ∙ bad in cc }
+IsWholePacket-sendable (Confirmed packet) sendable = record {
+  at = λ j inside bad.
+      let good = sendable.good.at j (omega (arith, inside, sendable.kind.count)) in let two : Good good.0 ≡ Bad = sym good.1 ∙ bad in cc;
+}
 IsWholePacket-sendable (Plain packet) sendable = tt
 
 -- what can be sent is whole
@@ -77,7 +80,8 @@ IsBodyOf-packet bare packet read none =
     let is = IsWholeRead-reading bare packet read whole in
     record { duid_is = refl; whole = whole; sendable = is.sendable; read = λ nac. is.read; head = is.head }
 
-packet_body-whole : (bare : List Bool) (packet : packet_type) (fields : List Field) (body : Body) → packet_reading_of bare ≡ Ok packet → failing_blocks_of packet ≡ fields → whole_from packet fields ≡ Ok body → IsBodyOf 0xC bare body
+packet_body-whole : (bare : List Bool) (packet : packet_type) (fields : List Field) (body : Body)
+    → packet_reading_of bare ≡ Ok packet → failing_blocks_of packet ≡ fields → whole_from packet fields ≡ Ok body → IsBodyOf 0xC bare body
 packet_body-whole bare packet [] body read none e = let same : Packet packet ≡ body = cc in subst (IsBodyOf 0xC bare) same (IsBodyOf-packet bare packet read none)
 packet_body-whole bare packet (field ∷ fields) body read some e = absurd (cc)
 
@@ -173,12 +177,14 @@ IsFrameOf-reading nid sent frame unit e = frame_from-frame nid sent (body_readin
 -- Bits within radius.
 
 -- a packet reads as itself
-pub packet_reading_of-near : (nac : ℕ) (packet : packet_type) (bare : List Bool) → IsSendable packet → IsBodyWithin (Packet packet) (body_image_of nac (Packet packet)) bare → packet_reading_of bare ≡ Ok packet
+pub packet_reading_of-near : (nac : ℕ) (packet : packet_type) (bare : List Bool)
+    → IsSendable packet → IsBodyWithin (Packet packet) (body_image_of nac (Packet packet)) bare → packet_reading_of bare ≡ Ok packet
 unfolding IsBodyWithin
 packet_reading_of-near nac packet bare sendable within = packet_within half_near three_quarter_near nac packet bare sendable within
 
 -- and so its header does
-pub head_reading_of-near : (nac : ℕ) (packet : packet_type) (bare : List Bool) → IsSendable packet → IsBodyWithin (Packet packet) (body_image_of nac (Packet packet)) bare → head_reading_of bare ≡ Ok (packet_head packet)
+pub head_reading_of-near : (nac : ℕ) (packet : packet_type) (bare : List Bool)
+    → IsSendable packet → IsBodyWithin (Packet packet) (body_image_of nac (Packet packet)) bare → head_reading_of bare ≡ Ok (packet_head packet)
 head_reading_of-near nac packet bare sendable within =
     (IsWholeRead-reading bare packet (packet_reading_of-near nac packet bare sendable within) (IsWholePacket-sendable packet sendable)).head
 

@@ -45,7 +45,8 @@ module _ (frame : Frame) (sound : IsSoundFrame frame) (sendable : IsSendableUnit
       (subst (λ (xs : List Bool). distance_of (take 63 (identifier_bits sent)) (take 63 xs) ≤ 11) is near.front.identifier)
 
 -- what a unit needs is its length: of a voice unit by its DUID, of a packet by its header
-kind_need-near : (nac : ℕ) (body : Body) (blocks : ℕ) (sent more : List Bool) → IsSendableBody body → IsBodyWithin body (body_image_of nac body) (bare_of sent) → length sent ≡ 72 * blocks → body_length body ≡ 70 * blocks
+kind_need-near : (nac : ℕ) (body : Body) (blocks : ℕ) (sent more : List Bool)
+    → IsSendableBody body → IsBodyWithin body (body_image_of nac body) (bare_of sent) → length sent ≡ 72 * blocks → body_length body ≡ 70 * blocks
     → kind_need (body_duid body) (sent ++ more) ≡ length_need (sent_length (body_length body)) (length (sent ++ more))
 unfolding IsSendableBody
 kind_need-near nac (Voice voice) blocks sent more sendable within long fills =
@@ -83,7 +84,8 @@ need_of-near frame sent more sound sendable near =
     ∙ ap Length (sym is)
 
 -- and read as the frame
-pub reading_from-near : (frame : Frame) (sent : List Bool) → IsSoundFrame frame → IsSendableUnit frame.unit → IsWithinRadius frame sent → reading_from (Some (frame.unit.nac, body_duid frame.unit.body)) sent ≡ Ok (received_frame frame sent)
+pub reading_from-near : (frame : Frame) (sent : List Bool) → IsSoundFrame frame → IsSendableUnit frame.unit
+    → IsWithinRadius frame sent → reading_from (Some (frame.unit.nac, body_duid frame.unit.body)) sent ≡ Ok (received_frame frame sent)
 unfolding unit_image_of
 reading_from-near frame sent sound sendable near =
     let blocks = length frame.statuses in
@@ -100,7 +102,8 @@ unit_reading_of-near frame sent sound sendable near =
 pub unit_item_of-near : (place : ℕ) (frame : Frame) (sent : List Bool) → IsSoundFrame frame → IsSendableUnit frame.unit → IsWithinRadius frame sent
     → unit_item_of place sent ≡ Whole place (received_frame frame sent) (fixes_of (received_frame frame sent) sent)
 unit_item_of-near place frame sent sound sendable near =
-    unit_item_of-some place sent (frame.unit.nac, body_duid frame.unit.body) (Ok (received_frame frame sent)) (identifier_of-within frame sound sendable sent near) (reading_from-near frame sent sound sendable near)
+    unit_item_of-some place sent (frame.unit.nac, body_duid frame.unit.body)
+    (Ok (received_frame frame sent)) (identifier_of-within frame sound sendable sent near) (reading_from-near frame sent sound sendable near)
 
 -- an undamaged image
 none_wrong : (bits : List Bool) (most : ℕ) → distance_of bits bits ≤ most
@@ -109,7 +112,8 @@ none_wrong bits most = omega (arith, distance_of-same bits)
 IsBodyWithin-same : (nac : ℕ) (body : Body) → IsSendableBody body → IsBodyWithin body (body_image_of nac body) (body_image_of nac body)
 unfolding IsBodyWithin IsSendableBody
 IsBodyWithin-same nac (Voice voice) sendable = within_itself nac voice (voice_image_of nac voice) (IsVoiceImage-same nac voice sendable)
-IsBodyWithin-same nac (Packet packet) sendable = let image = packet_image_of nac packet in record { long = refl; header = none_wrong (header_bits image) 2; blocks = λ j inside. none_wrong (block_bits image j) (block_radius packet) }
+IsBodyWithin-same nac (Packet packet) sendable = let image = packet_image_of nac packet in
+    record { long = refl; header = none_wrong (header_bits image) 2; blocks = λ j inside. none_wrong (block_bits image j) (block_radius packet) }
 
 pub IsWithinRadius-image_of : (frame : Frame) → IsSoundFrame frame → IsSendableUnit frame.unit → IsWithinRadius frame (image_of frame)
 unfolding unit_image_of

@@ -60,7 +60,8 @@ module _ (layout : Layout) (radius whole state : ℕ) (sent received : List Bool
 
   lost-none : (at : ℕ) → distance_of (part at layout.size received) (part at layout.size sent) ≤ radius → lost at ≡ 0
   unfolding lost
-  lost-none at h = cond-true {A = ℕ} (nat_le (distance_of (part at layout.size received) (part at layout.size sent)) radius) 0 layout.each (le-leb (distance_of (part at layout.size received) (part at layout.size sent)) radius h)
+  lost-none at h = cond-true {A = ℕ} (nat_le (distance_of (part at layout.size received) (part at layout.size sent)) radius) 0 layout.each
+      (le-leb (distance_of (part at layout.size received) (part at layout.size sent)) radius h)
 
   lost-few : (places : List ℕ) (first : ℕ) → ((i : ℕ) → first ≤ i → i < length places → lost (get_or places i 0) ≡ 0) → sum_by lost places ≤ layout.each * first
   lost-few [] first none = omega arith
@@ -105,7 +106,8 @@ low-within state sent received is i d h =
     = omega (arith, there, get_or-word_counts 2 16 2 0 state i (omega (arith, long)), count_at-radius 16 2 0 state i (omega arith)) in
     subst (λ (at : ℕ). distance_of (part at 16 received) (part at 16 sent) ≤ 2) (get_or_default places i 0 d h) within
 
-pub voice-within : (voice : VoiceUnit) (state : ℕ) (sent received : List Bool) → IsNearAt (voice_looked voice) (body_counts (Voice voice) state) sent received → IsVoiceWithinByWords voice sent received
+pub voice-within : (voice : VoiceUnit) (state : ℕ) (sent received : List Bool)
+    → IsNearAt (voice_looked voice) (body_counts (Voice voice) state) sent received → IsVoiceWithinByWords voice sent received
 unfolding voice_looked body_counts IsVoiceWithinByWords link_looked word_places places_from wide
 voice-within (Header word) state sent received is =
     let few = few-lost header_layout 3 (draw 0 state % 9) (state_after 1 state) sent received is in

@@ -22,7 +22,8 @@ bits_at-inner width places bits =
     flat_map-map run (λ at. (at, width)) places
 
 -- so many bits differ from a field that is sent
-field_distance : (encoding : List Bool → List Bool) (width each : ℕ) (places : List ℕ) (symbols : List Sym) (received image : List Bool) → inner_bits width places image ≡ field_bits encoding each (length places) symbols
+field_distance : (encoding : List Bool → List Bool) (width each : ℕ) (places : List ℕ) (symbols : List Sym) (received image : List Bool)
+    → inner_bits width places image ≡ field_bits encoding each (length places) symbols
     → distance_of (bits_at (wide width places) received) (bits_at (wide width places) image) ≡ field_fixes_of encoding width each places symbols received
 unfolding field_fixes_of
 field_distance encoding width each places symbols received image is =
@@ -33,14 +34,16 @@ low_bits : (bits : List Bool) → bits_at (wide 16 (low_places ldu_rows)) bits �
 unfolding bits_at wide low_places
 low_bits bits = ap (λ (xs : List Bool). part 1504 16 bits ++ xs) (append-nil (part 1520 16 bits))
 
-low_distance : (first second : ℕ) (received image : List Bool) → 1680 ≤ length received → 1680 ≤ length image → part 1504 16 image ≡ lsd16_word (bits_of 8 first) → part 1520 16 image ≡ lsd16_word (bits_of 8 second)
+low_distance : (first second : ℕ) (received image : List Bool)
+    → 1680 ≤ length received → 1680 ≤ length image → part 1504 16 image ≡ lsd16_word (bits_of 8 first) → part 1520 16 image ≡ lsd16_word (bits_of 8 second)
     → distance_of (bits_at (wide 16 (low_places ldu_rows)) received) (bits_at (wide 16 (low_places ldu_rows)) image) ≡ low_fixes_of 0 first received + low_fixes_of 1 second received
 unfolding low_fixes_of low_places
 low_distance first second received image there there_image is_first is_second =
     let inside : 1504 + 16 ≤ length received = omega arith in
     let inside_image : 1504 + 16 ≤ length image = omega arith in
     ap₂ (λ (xs ys : List Bool). distance_of xs ys) (low_bits received) (low_bits image)
-    ∙ distance_by-append beq (part 1504 16 received) (part 1520 16 received) (part 1504 16 image) (part 1520 16 image) (length-part 1504 16 received inside ∙ sym (length-part 1504 16 image inside_image))
+    ∙ distance_by-append beq (part 1504 16 received) (part 1520 16 received)
+    (part 1504 16 image) (part 1520 16 image) (length-part 1504 16 received inside ∙ sym (length-part 1504 16 image inside_image))
     ∙ ap₂ (λ (xs ys : List Bool). distance_of (part 1504 16 received) xs + distance_of (part 1520 16 received) ys) is_first is_second
 
 -- the inner words of a unit with voice stand within it
@@ -52,7 +55,8 @@ link_words_there bits there = all_end 10 1680 (length bits) (word_places 10 ldu_
 link_distance : (symbols : List Sym) (first second : ℕ) (received image : List Bool) → 1680 ≤ length received → 1680 ≤ length image
     → inner_bits 10 (word_places 10 ldu_rows) image ≡ field_bits hamming10_word 1 (length (word_places 10 ldu_rows)) symbols
     → part 1504 16 image ≡ lsd16_word (bits_of 8 first) → part 1520 16 image ≡ lsd16_word (bits_of 8 second)
-    → distance_of (bits_at link_looked received) (bits_at link_looked image) ≡ field_fixes_of hamming10_word 10 1 (word_places 10 ldu_rows) symbols received + (low_fixes_of 0 first received + low_fixes_of 1 second received)
+    → distance_of (bits_at link_looked received) (bits_at link_looked image)
+    ≡ field_fixes_of hamming10_word 10 1 (word_places 10 ldu_rows) symbols received + (low_fixes_of 0 first received + low_fixes_of 1 second received)
 unfolding link_looked
 link_distance symbols first second received image there there_image is is_first is_second =
     let places = word_places 10 ldu_rows in
@@ -60,7 +64,8 @@ link_distance symbols first second received image there there_image is is_first 
     ∙ ap₂ (λ m n. m + n) (field_distance hamming10_word 10 1 places symbols received image is) (low_distance first second received image there there_image is_first is_second)
 
 -- the fixes of a unit by its coded field alone, as its looked-at places and its image have it
-pub coded_fixes : (unit : VoiceUnit) (encoding : List Bool → List Bool) (width each : ℕ) (places : List ℕ) (symbols : List Sym) (received : List Bool) (fixes : ℕ) → voice_looked unit ≡ wide width places
+pub coded_fixes : (unit : VoiceUnit) (encoding : List Bool → List Bool)
+    (width each : ℕ) (places : List ℕ) (symbols : List Sym) (received : List Bool) (fixes : ℕ) → voice_looked unit ≡ wide width places
     → ((nac : ℕ) → inner_bits width places (voice_image_of nac unit) ≡ field_bits encoding each (length places) symbols)
     → fixes ≡ field_fixes_of encoding width each places symbols received → AreFixes unit received fixes
 unfolding voice_fixes_of
@@ -72,7 +77,8 @@ coded_fixes unit encoding width each places symbols received fixes looked carrie
 }
 
 -- of a unit with voice by the information of its coded field, as its image and its looked-at places have it
-pub ldu_fixes : (unit : VoiceUnit) (duid k : ℕ) (info : List Sym) (low : List ℕ) (voice : List VoiceFrame) (received : List Bool) (fixes : ℕ) → IsCode 24 k → length info ≡ k → IsSpeech low voice → 1680 ≤ length received
+pub ldu_fixes : (unit : VoiceUnit) (duid k : ℕ) (info : List Sym) (low : List ℕ) (voice : List VoiceFrame) (received : List Bool) (fixes : ℕ)
+    → IsCode 24 k → length info ≡ k → IsSpeech low voice → 1680 ≤ length received
     → voice_looked unit ≡ link_looked → ((nac : ℕ) → voice_image_of nac unit ≡ unit_front nac duid ++ rows_bits (contents hamming10_word 1 (rs_word 24 k info) low voice) ldu_rows)
     → fixes ≡ field_fixes_of hamming10_word 10 1 (word_places 10 ldu_rows) (rs_word 24 k info) received + (low_fixes_of 0 (slice_index low 0) received + low_fixes_of 1 (slice_index low 1) received)
     → AreFixes unit received fixes
@@ -87,7 +93,8 @@ ldu_fixes unit duid k info low voice received fixes code is speech there looked 
       let long : length image ≡ 1680 = ap length (made nac) ∙ length-unit carries suits nac duid in
       count
       ∙ sym (ap (λ places. distance_of (bits_at places received) (bits_at places image)) looked
-      ∙ link_distance symbols (slice_index low 0) (slice_index low 1) received image there (omega arith) (words_in_unit carries suits nac duid image (made nac)) (parts 14 (0, Nulls 0) (lit< tt)) (parts 15 (0, Nulls 0) (lit< tt)));
+      ∙ link_distance symbols (slice_index low 0) (slice_index low 1) received image there
+      (omega arith) (words_in_unit carries suits nac duid image (made nac)) (parts 14 (0, Nulls 0) (lit< tt)) (parts 15 (0, Nulls 0) (lit< tt)));
 }
 
 pub end_fixes : (received : List Bool) → AreFixes End received 0

@@ -44,6 +44,7 @@ voice_fails bare fields =
     (λ e. tdulc_fails (link_in tdulc_layout bare) fields (sym (reading-tdulc bare) ∙ e))
 
 -- so it is with a reading of it
-pub some_fields : (duid count : ℕ) (bare : List Bool) (reading : Result VoiceUnit (List Field)) → voice_length_of duid ≡ Some count → reading ≡ voice_reading_of duid bare → IfErr reading (λ fields. 0 < length fields)
+pub some_fields : (duid count : ℕ) (bare : List Bool) (reading : Result VoiceUnit (List Field))
+    → voice_length_of duid ≡ Some count → reading ≡ voice_reading_of duid bare → IfErr reading (λ fields. 0 < length fields)
 some_fields duid count bare (Ok unit) long is = tt
 some_fields duid count bare (Err fields) long is = voice_fails bare fields duid count long (sym is)

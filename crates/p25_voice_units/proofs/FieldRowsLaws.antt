@@ -48,7 +48,8 @@ length-words_at size at (Frame i) = refl
 length-words_at size at (LowSpeed i) = refl
 length-words_at size at (Nulls count) = refl
 
-piece-words : (carried : Contents) (first count : ℕ) → piece_bits carried (Words first count) ≡ field_bits carried.encoding carried.each count (part (carried.each * first) (carried.each * count) carried.symbols)
+piece-words : (carried : Contents) (first count : ℕ) → piece_bits carried (Words first count)
+    ≡ field_bits carried.encoding carried.each count (part (carried.each * first) (carried.each * count) carried.symbols)
 unfolding piece_bits
 piece-words carried first count = refl
 
@@ -82,7 +83,8 @@ module _ {IsWord : List Bool → Type 0} {size k : ℕ} {carried : Contents} (ca
   row_words at (Nulls count) n bare begins fits is i inside = absurd (omega (arith, inside))
 
   -- the words of rows that are there
-  pub words_from_rows : (rows : List (ℕ × Piece)) (n : ℕ) (bare : List Bool) → rows_counted n rows ≡ true → rows_supplied carried.each (length carried.symbols) (length carried.low) (length carried.voice) rows ≡ true
+  pub words_from_rows : (rows : List (ℕ × Piece)) (n : ℕ) (bare : List Bool)
+      → rows_counted n rows ≡ true → rows_supplied carried.each (length carried.symbols) (length carried.low) (length carried.voice) rows ≡ true
       → All (λ row. part row.0 (piece_length size row.1) bare ≡ piece_bits carried row.1) rows
       → (i : ℕ) → i < length (word_places size rows) → part (get_or (word_places size rows) i 0) size bare ≡ group_word (n + i)
   words_from_rows [] n bare counted fit there i inside = absurd (omega (arith, inside, ap length (word_places-nil size)))

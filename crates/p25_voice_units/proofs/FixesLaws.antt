@@ -28,7 +28,8 @@ abbrev pub differ_at : ℕ → List Bool → List Bool → ℕ → ℕ
 differ_at width received image at = distance_of (part at width received) (part at width image)
 
 -- by the numbers that stand there
-pub differ_at-ones : (width at : ℕ) (received image : List Bool) (m n : ℕ) → at + width ≤ length received → at + width ≤ length image → m ≡ field_of (part at width received) → n ≡ field_of (part at width image)
+pub differ_at-ones : (width at : ℕ) (received image : List Bool) (m n : ℕ)
+    → at + width ≤ length received → at + width ≤ length image → m ≡ field_of (part at width received) → n ≡ field_of (part at width image)
     → count_ones (bit_xor m n) ≡ differ_at width received image at
 differ_at-ones width at received image m n there there_image first second =
     ap₂ (λ a b. count_ones (bit_xor a b)) first second ∙ ones-xor (part at width received) (part at width image) (length-part at width received there ∙ sym (length-part at width image there_image))
@@ -44,7 +45,8 @@ module _ (width : ℕ) (received image : List Bool) where
       let here_image : at + width ≤ length image = there_image 0 at (omega arith) in
       sum_by-cons (differ_at width received image) at places
       ∙ ap (λ n. differ_at width received image at + n) (differ_at-all places (λ k d h. there (suc k) d (omega arith)) (λ k d h. there_image (suc k) d (omega arith)))
-      ∙ sym (distance_by-append beq (part at width received) (bits_at (wide width places) received) (part at width image) (bits_at (wide width places) image) (length-part at width received here ∙ sym (length-part at width image here_image)))
+      ∙ sym (distance_by-append beq (part at width received) (bits_at (wide width places) received)
+      (part at width image) (bits_at (wide width places) image) (length-part at width received here ∙ sym (length-part at width image here_image)))
 
   -- they are few
   pub differ_at-le : (places : List ℕ) → All (λ at. at + width ≤ length received) places → sum_by (differ_at width received image) places ≤ width * length places

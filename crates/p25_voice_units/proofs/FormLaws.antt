@@ -28,7 +28,8 @@ pub record AreRows (size count : ℕ) (carried : Contents) (rows : List (ℕ × 
   pub cover : carried.each * length (word_places size rows) ≡ length carried.symbols
   pub inside : list_all (λ at. nat_le (at + size) count) (word_places size rows) ≡ true
 
-module _ {IsWord : List Bool → Type 0} {size k : ℕ} {carried : Contents} (carries : IsCarried IsWord size k carried) {count : ℕ} {table : List (ℕ × Piece)} (are : AreRows size count carried table) where
+module _ {IsWord : List Bool → Type 0} {size k : ℕ} {carried : Contents}
+    (carries : IsCarried IsWord size k carried) {count : ℕ} {table : List (ℕ × Piece)} (are : AreRows size count carried table) where
   -- the bits of a unit are as many as they should be
   pub length-unit : (nac duid : ℕ) → length (unit_front nac duid ++ rows_bits carried table) ≡ count
   length-unit nac duid =
@@ -44,7 +45,8 @@ module _ {IsWord : List Bool → Type 0} {size k : ℕ} {carried : Contents} (ca
   pub laid_out : (nac duid : ℕ) (bare : List Bool) → bare ≡ unit_front nac duid ++ rows_bits carried table → IsLaidOut nac duid count table carried.low carried.voice bare
   laid_out nac duid bare is = record {
     long = ap length is ∙ length-unit nac duid;
-    front = subst (λ (xs : List Bool). IsFront nac duid xs) (sym (ap (take 112) is ∙ take_at (unit_front nac duid) (rows_bits carried table) 112 (length-unit_front nac duid))) (IsFront-unit_front nac duid);
+    front = subst (λ (xs : List Bool). IsFront nac duid xs)
+        (sym (ap (take 112) is ∙ take_at (unit_front nac duid) (rows_bits carried table) 112 (length-unit_front nac duid))) (IsFront-unit_front nac duid);
     pieces = rows_have carried size table bare (unit_parts nac duid bare is);
   }
 
@@ -82,7 +84,8 @@ module _ {IsWord : List Bool → Type 0} {size k : ℕ} {carried : Contents} (ca
       (field_word carries.long carried.encoding carries.encodes carried.each (length (word_places size table)) carried.symbols carries.sixes are.cover i inside)
 
   -- where the symbols are the outer word of some information
-  module _ (n information : ℕ) (code : IsCode n information) (info : List Sym) (long : length info ≡ information) (made : carried.symbols ≡ rs_word n information info) (inner_reading : List Bool → Option (List Bool)) where
+  module _ (n information : ℕ) (code : IsCode n information) (info : List Sym)
+      (long : length info ≡ information) (made : carried.symbols ≡ rs_word n information info) (inner_reading : List Bool → Option (List Bool)) where
     abbrev coded : Layout
     coded = field_layout (word_places size table) size carried.each inner_reading (rs_erased_reading_of n information) information
 

@@ -21,7 +21,8 @@ unfolding rows_bits
 rows_none carried out = sym (append-nil out)
 
 -- one more row
-pub rows_more : (carried : Contents) (rows : List (ℕ × Piece)) (i : ℕ) (d : ℕ × Piece) (start out new : List Bool) → i < length rows → out ≡ start ++ rows_bits carried (take i rows) → new ≡ out ++ piece_bits carried (get_or rows i d).1
+pub rows_more : (carried : Contents) (rows : List (ℕ × Piece)) (i : ℕ) (d : ℕ × Piece) (start out new : List Bool)
+    → i < length rows → out ≡ start ++ rows_bits carried (take i rows) → new ≡ out ++ piece_bits carried (get_or rows i d).1
     → new ≡ start ++ rows_bits carried (take (i + 1) rows)
 unfolding rows_bits
 rows_more carried rows i d start out new inside so_far is =

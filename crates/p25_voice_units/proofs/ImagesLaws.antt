@@ -39,7 +39,8 @@ header_suits word =
     let long = length-outer 36 20 (header_symbols word) header_code (length-header_symbols word) in
     record { stand = refl; fit = ap (λ n. rows_supplied 1 n 0 0 hdu_rows) long; counted = refl; fill = refl; cover = sym long; inside = refl }
 
-pub ldu_suits : (k : ℕ) (info : List Sym) (low : List ℕ) (voice : List VoiceFrame) → IsCode 24 k → length info ≡ k → IsSpeech low voice → AreRows 10 1680 (contents hamming10_word 1 (rs_word 24 k info) low voice) ldu_rows
+pub ldu_suits : (k : ℕ) (info : List Sym) (low : List ℕ) (voice : List VoiceFrame)
+    → IsCode 24 k → length info ≡ k → IsSpeech low voice → AreRows 10 1680 (contents hamming10_word 1 (rs_word 24 k info) low voice) ldu_rows
 unfolding word_places places_from
 ldu_suits k info low voice code is speech =
     let long = length-outer 24 k info code is in

@@ -34,7 +34,8 @@ unfolding voice_reading_of
 reading-tdulc bare = refl
 
 -- what a kind's reader answers
-pub reading_by_kind : (duid kind : ℕ) (bare : List Bool) (answer value : Result VoiceUnit (List Field)) → duid ≡ kind → answer ≡ value → voice_reading_of kind bare ≡ value → answer ≡ voice_reading_of duid bare
+pub reading_by_kind : (duid kind : ℕ) (bare : List Bool) (answer value : Result VoiceUnit (List Field))
+    → duid ≡ kind → answer ≡ value → voice_reading_of kind bare ≡ value → answer ≡ voice_reading_of duid bare
 reading_by_kind duid kind bare answer value same is read = is ∙ sym read ∙ ap (λ d. voice_reading_of d bare) (sym same)
 
 module _ {X : Type 0} (field : Field) (unit : X → List ℕ → VoiceUnit) where
@@ -60,7 +61,8 @@ module _ {X : Type 0} (field : Field) (unit : X → List ℕ → VoiceUnit) wher
   ldu_fails None None None word first second other = refl
 
   -- and one whose word is a function of what was read
-  ldu_from-map : {S : Type 0} (f : S → X) (answer : Option S) (first second : Option ℕ) → ldu_from field (λ s low. unit (f s) low) answer first second ≡ ldu_from field unit (option_map f answer) first second
+  ldu_from-map : {S : Type 0} (f : S → X) (answer : Option S) (first second : Option ℕ)
+      → ldu_from field (λ s low. unit (f s) low) answer first second ≡ ldu_from field unit (option_map f answer) first second
   unfolding ldu_from failing missing
   ldu_from-map f (Some s) (Some a) (Some b) = refl
   ldu_from-map f (Some s) (Some a) None = refl
@@ -68,7 +70,8 @@ module _ {X : Type 0} (field : Field) (unit : X → List ℕ → VoiceUnit) wher
   ldu_from-map f None first second = refl
 
 -- a unit with voice by the outcome of its parts, its word and its voice frames
-pub ldu_read : {S X : Type 0} (field : Field) (unit : X → List ℕ → List VoiceFrame → VoiceUnit) (f : S → X) (outcome : Outcome) (symbols : S) (low : List ℕ) (word : X) (voice : List VoiceFrame) (bare : List Bool) (reading : Option S)
+pub ldu_read : {S X : Type 0} (field : Field) (unit : X → List ℕ → List VoiceFrame → VoiceUnit)
+    (f : S → X) (outcome : Outcome) (symbols : S) (low : List ℕ) (word : X) (voice : List VoiceFrame) (bare : List Bool) (reading : Option S)
     → ((made : S → List ℕ → VoiceUnit) → read_or outcome (made symbols low) ≡ ldu_from field made reading (low_in 0 bare) (low_in 1 bare)) → word ≡ f symbols → voice ≡ voice_in bare
     → read_or outcome (unit word low voice) ≡ ldu_from field (λ w octets. unit w octets (voice_in bare)) (option_map f reading) (low_in 0 bare) (low_in 1 bare)
 ldu_read field unit f outcome symbols low word voice bare reading is made spoken =

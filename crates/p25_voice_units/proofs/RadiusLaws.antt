@@ -26,12 +26,14 @@ use Rattle.p25_golay.specs.{Golay18Readings.{golay18_reading_of}, Golay24Reading
 use Rattle.p25_coded_fields.specs.Layouts.{field_reading_of}
 
 -- a low speed word with at most two wrong bits is read as its octet
-low_near : (at octet : ℕ) (sent received : List Bool) → octet < 256 → IsEncoding IsLsd16 8 (bits_of 8 octet) (part at 16 sent) → at + 16 ≤ length received → distance_of (part at 16 received) (part at 16 sent) ≤ 2
+low_near : (at octet : ℕ) (sent received : List Bool) → octet < 256
+    → IsEncoding IsLsd16 8 (bits_of 8 octet) (part at 16 sent) → at + 16 ≤ length received → distance_of (part at 16 received) (part at 16 sent) ≤ 2
     → option_map (λ w. field_of (take 8 w)) (lsd16_reading_of (part at 16 received)) ≡ Some octet
 low_near at octet sent received small word there near =
     let number : List Bool → ℕ = λ w. field_of (take 8 w) in
     ap (option_map number)
-    (read_as_sent lsd16_is_code (part at 16 received) (part at 16 sent) (lsd16_reading_of (part at 16 received)) (length-part at 16 received there) (lsd16_reads_as (part at 16 received)) word.word_of_set near)
+    (read_as_sent lsd16_is_code (part at 16 received) (part at 16 sent)
+    (lsd16_reading_of (part at 16 received)) (length-part at 16 received there) (lsd16_reads_as (part at 16 received)) word.word_of_set near)
     ∙ ap Some (ap field_of word.begins ∙ field_of-bits_of 8 octet ∙ mod-eq_of_lt small)
 
 -- a list of two is its elements
@@ -42,8 +44,10 @@ two_of (x ∷ y ∷ []) long = refl
 two_of (x ∷ y ∷ z ∷ xs) long = absurd (omega arith)
 
 -- a unit with voice whose word is read, and whose low speed words are near
-ldu_within : {X : Type 0} (field : Field) (unit : X → List ℕ → VoiceUnit) (answer : Option X) (word : X) (low : List ℕ) (voice : List VoiceFrame) (sent received : List Bool) → answer ≡ Some word → IsSpeech low voice
-    → All (λ row. HasPiece low voice sent row.0 row.1) ldu_rows → length received ≡ 1680 → AreLowWithin sent received → ldu_from field unit answer (low_in 0 received) (low_in 1 received) ≡ Ok (unit word low)
+ldu_within : {X : Type 0} (field : Field) (unit : X → List ℕ → VoiceUnit)
+    (answer : Option X) (word : X) (low : List ℕ) (voice : List VoiceFrame) (sent received : List Bool) → answer ≡ Some word → IsSpeech low voice
+    → All (λ row. HasPiece low voice sent row.0 row.1) ldu_rows → length received ≡ 1680
+    → AreLowWithin sent received → ldu_from field unit answer (low_in 0 received) (low_in 1 received) ≡ Ok (unit word low)
 unfolding low_in low_places
 ldu_within field unit answer word low voice sent received is keeps pieces long near =
     let there : 1504 + 16 ≤ length received = omega arith in
@@ -63,18 +67,21 @@ voice_within nac (Header word) sent received keeps is long near =
 voice_within nac (Link1 link low voice) sent received keeps is long near =
     reading-ldu1 received
     ∙ ldu_within LinkField (λ link low. Link1 link low (voice_in received)) (link_in link_layout received) link low voice sent received
-    (ap (option_map link_of_symbols) (field_within link_codes (link_symbols link) sent received is.1 near.field) ∙ ap Some (link_back link keeps.word)) keeps.speech is.0.pieces (long ∙ is.0.long) near.low
+    (ap (option_map link_of_symbols) (field_within link_codes (link_symbols link) sent received is.1 near.field) ∙ ap Some (link_back link keeps.word))
+    keeps.speech is.0.pieces (long ∙ is.0.long) near.low
 voice_within nac (Link2 sync low voice) sent received keeps is long near =
     reading-ldu2 received
     ∙ ldu_within SyncField (λ sync low. Link2 sync low (voice_in received)) (sync_in received) sync low voice sent received
-    (ap (option_map sync_of_symbols) (field_within sync_codes (sync_symbols sync) sent received is.1 near.field) ∙ ap Some (sync_back sync keeps.word)) keeps.speech is.0.pieces (long ∙ is.0.long) near.low
+    (ap (option_map sync_of_symbols) (field_within sync_codes (sync_symbols sync) sent received is.1 near.field) ∙ ap Some (sync_back sync keeps.word))
+    keeps.speech is.0.pieces (long ∙ is.0.long) near.low
 voice_within nac End sent received keeps is long near = reading-end received
 voice_within nac (EndLink link) sent received keeps is long near =
     reading-tdulc received
     ∙ ap tdulc_from (ap (option_map link_of_symbols) (field_within tdulc_codes (link_symbols link) sent received is.1 near) ∙ ap Some (link_back link keeps))
 
 -- by whole inner words is within radius too
-pub within_from_words : (nac : ℕ) (unit : VoiceUnit) (sent received : List Bool) → IsVoiceImage nac unit sent → length received ≡ length sent → IsVoiceWithinByWords unit sent received → IsVoiceWithin unit sent received
+pub within_from_words : (nac : ℕ) (unit : VoiceUnit) (sent received : List Bool)
+    → IsVoiceImage nac unit sent → length received ≡ length sent → IsVoiceWithinByWords unit sent received → IsVoiceWithin unit sent received
 unfolding IsVoiceImage IsVoiceWithin IsVoiceWithinByWords
 within_from_words nac (Header word) sent received is long few =
     near_from_lost header_codes (header_symbols word) sent received is.1 (header_there received (long ∙ is.0.long)) (omega arith)
@@ -174,7 +181,8 @@ voice_reading_of-image nac unit keeps =
 -- only word with this information.
 
 -- a part that was read is that of the symbols that were read
-symbols_read : {W : Type 0} (of_symbols : List Sym → W) (symbols_of : W → List Sym) (n : ℕ) (reading : Option (List Sym)) (word : W) → ((symbols : List Sym) → length symbols ≡ n → symbols_of (of_symbols symbols) ≡ symbols)
+symbols_read : {W : Type 0} (of_symbols : List Sym → W) (symbols_of : W → List Sym) (n : ℕ) (reading : Option (List Sym)) (word : W)
+    → ((symbols : List Sym) → length symbols ≡ n → symbols_of (of_symbols symbols) ≡ symbols)
     → ((symbols : List Sym) → reading ≡ Some symbols → length symbols ≡ n) → option_map of_symbols reading ≡ Some word → reading ≡ Some (symbols_of word)
 symbols_read of_symbols symbols_of n None word back long is = absurd (cc)
 symbols_read of_symbols symbols_of n (Some symbols) word back long is =
@@ -212,7 +220,8 @@ ldu_read_parts field unit (Some read) (Some a) (Some b) word low made known is =
     record { word_read = ap Some parts.0; first_read = ap (λ xs. Some (slice_index xs 0)) parts.1; second_read = ap (λ xs. Some (slice_index xs 1)) parts.1 }
 
 -- a low speed word that was read lies within 2 bits of the one that carries the octet
-low_whole : (at octet : ℕ) (sent received : List Bool) (answer : Option (List Bool)) → IsReadAs beq IsLsd16 2 (part at 16 received) answer → option_map (λ (w : List Bool). field_of (take 8 w)) answer ≡ Some octet
+low_whole : (at octet : ℕ) (sent received : List Bool) (answer : Option (List Bool))
+    → IsReadAs beq IsLsd16 2 (part at 16 received) answer → option_map (λ (w : List Bool). field_of (take 8 w)) answer ≡ Some octet
     → IsEncoding IsLsd16 8 (bits_of 8 octet) (part at 16 sent) → distance_of (part at 16 received) (part at 16 sent) ≤ 2
 unfolding IsReadAs
 low_whole at octet sent received None is read word = absurd (cc)
@@ -240,25 +249,31 @@ unfolding IsVoiceImage IsVoiceWithin header_in link_in sync_in ldu1_in ldu2_in
 voice_whole nac (Header word) sent received is read =
     let part_read = header_parts (header_in received) word (sym (reading-header received) ∙ read) in
     near_from_reading (word_places 18 hdu_rows) 18 1 36 20 golay18_reading_of header_code (header_symbols word) sent received is.1
-    (symbols_read header_of_symbols header_symbols 20 (field_reading_of header_layout received) word header_symbols_back (field_information (word_places 18 hdu_rows) 18 1 36 20 golay18_reading_of header_code received) part_read)
+    (symbols_read header_of_symbols header_symbols 20 (field_reading_of header_layout received) word header_symbols_back
+    (field_information (word_places 18 hdu_rows) 18 1 36 20 golay18_reading_of header_code received) part_read)
 voice_whole nac (Link1 link low voice) sent received is read =
-    let parts = ldu_read_parts LinkField (λ word octets. Link1 word octets (voice_in received)) (link_in link_layout received) (low_in 0 received) (low_in 1 received) link low (Link1 link low voice) (λ word octets same. (cc same, cc same))
+    let parts = ldu_read_parts LinkField (λ word octets. Link1 word octets (voice_in received))
+    (link_in link_layout received) (low_in 0 received) (low_in 1 received) link low (Link1 link low voice) (λ word octets same. (cc same, cc same))
     (sym (reading-ldu1 received) ∙ read) in
     record {
       field = near_from_reading (word_places 10 ldu_rows) 10 1 24 12 hamming10_reading_of link_code (link_symbols link) sent received is.1
-          (symbols_read link_of_symbols link_symbols 12 (field_reading_of link_layout received) link link_symbols_back (field_information (word_places 10 ldu_rows) 10 1 24 12 hamming10_reading_of link_code received) parts.word_read);
+          (symbols_read link_of_symbols link_symbols 12 (field_reading_of link_layout received) link link_symbols_back
+          (field_information (word_places 10 ldu_rows) 10 1 24 12 hamming10_reading_of link_code received) parts.word_read);
       low = low_words_whole low voice sent received is.0.pieces parts.first_read parts.second_read;
     }
 voice_whole nac (Link2 sync low voice) sent received is read =
-    let parts = ldu_read_parts SyncField (λ word octets. Link2 word octets (voice_in received)) (sync_in received) (low_in 0 received) (low_in 1 received) sync low (Link2 sync low voice) (λ word octets same. (cc same, cc same))
+    let parts = ldu_read_parts SyncField (λ word octets. Link2 word octets (voice_in received))
+    (sync_in received) (low_in 0 received) (low_in 1 received) sync low (Link2 sync low voice) (λ word octets same. (cc same, cc same))
     (sym (reading-ldu2 received) ∙ read) in
     record {
       field = near_from_reading (word_places 10 ldu_rows) 10 1 24 16 hamming10_reading_of sync_code (sync_symbols sync) sent received is.1
-          (symbols_read sync_of_symbols sync_symbols 16 (field_reading_of sync_layout received) sync sync_symbols_back (field_information (word_places 10 ldu_rows) 10 1 24 16 hamming10_reading_of sync_code received) parts.word_read);
+          (symbols_read sync_of_symbols sync_symbols 16 (field_reading_of sync_layout received) sync sync_symbols_back
+          (field_information (word_places 10 ldu_rows) 10 1 24 16 hamming10_reading_of sync_code received) parts.word_read);
       low = low_words_whole low voice sent received is.0.pieces parts.first_read parts.second_read;
     }
 voice_whole nac End sent received is read = tt
 voice_whole nac (EndLink link) sent received is read =
     let part_read = tdulc_parts (link_in tdulc_layout received) link (sym (reading-tdulc received) ∙ read) in
     near_from_reading (word_places 24 tdulc_rows) 24 2 24 12 golay24_reading_of link_code (link_symbols link) sent received is.1
-    (symbols_read link_of_symbols link_symbols 12 (field_reading_of tdulc_layout received) link link_symbols_back (field_information (word_places 24 tdulc_rows) 24 2 24 12 golay24_reading_of link_code received) part_read)
+    (symbols_read link_of_symbols link_symbols 12 (field_reading_of tdulc_layout received) link link_symbols_back
+    (field_information (word_places 24 tdulc_rows) 24 2 24 12 golay24_reading_of link_code received) part_read)

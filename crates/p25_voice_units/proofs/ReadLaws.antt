@@ -8,7 +8,8 @@ use Rattle.p25_status.specs.declared.fields.Field.{Field}
 use Rattle.p25_voice_units.specs.{declared.voice.VoiceFrame.{VoiceFrame}, Layouts.{ldu_rows}, Readings.{frame_places, low_places, frame_in, voice_in, missing}}
 
 -- a part that was read is a function of its symbols, also where only how many bits of it were put right is answered beside them
-pub part_counted : {S W : Type 0} (f : S → W) (answer : Option ℕ) (value : Option S) (symbols : S) (word : W) → option_map (λ n. symbols) answer ≡ value → word ≡ f symbols → option_map (λ n. word) answer ≡ option_map f value
+pub part_counted : {S W : Type 0} (f : S → W) (answer : Option ℕ) (value : Option S) (symbols : S) (word : W)
+    → option_map (λ n. symbols) answer ≡ value → word ≡ f symbols → option_map (λ n. word) answer ≡ option_map f value
 part_counted f None value symbols word is made = ap (option_map f) is
 part_counted f (Some n) value symbols word is made = ap Some made ∙ ap (option_map f) is
 
@@ -57,7 +58,8 @@ frames_next i bare frames frame inside nine before is =
     ∙ sym (map_more (λ at. frame_in at bare) (frame_places ldu_rows) i 0 within)
 
 -- all of them
-pub frames_all : (i : ℕ) (bare : List Bool) (frames : List VoiceFrame) → i ≡ 9 → length frames ≡ 9 → take i frames ≡ map (λ at. frame_in at bare) (take i (frame_places ldu_rows)) → frames ≡ voice_in bare
+pub frames_all : (i : ℕ) (bare : List Bool) (frames : List VoiceFrame)
+    → i ≡ 9 → length frames ≡ 9 → take i frames ≡ map (λ at. frame_in at bare) (take i (frame_places ldu_rows)) → frames ≡ voice_in bare
 unfolding voice_in
 frames_all i bare frames all nine is =
     let fits : length frames ≤ i = omega arith in

@@ -85,7 +85,8 @@ tdulc_read bare None unit is read = absurd (cc)
 tdulc_read bare (Some link) unit is read =
     subst (IsUnitOf 15) (ok_same read) (record { kind = refl; sendable = read_keeps IsLinkControl link_of_symbols (field_reading_of tdulc_layout bare) link link_keeps is })
 
-ldu_read : {X : Type 0} (duid : ℕ) (field : Field) (make : X → List ℕ → VoiceUnit) (bare : List Bool) (answer : Option X) (first second : Option ℕ) (unit : VoiceUnit) → low_in 0 bare ≡ first → low_in 1 bare ≡ second
+ldu_read : {X : Type 0} (duid : ℕ) (field : Field) (make : X → List ℕ → VoiceUnit)
+    (bare : List Bool) (answer : Option X) (first second : Option ℕ) (unit : VoiceUnit) → low_in 0 bare ≡ first → low_in 1 bare ≡ second
     → ((word : X) (low : List ℕ) → answer ≡ Some word → IsSpeech low (voice_in bare) → IsUnitOf duid (make word low)) → ldu_from field make answer first second ≡ Ok unit → IsUnitOf duid unit
 unfolding ldu_from
 ldu_read duid field make bare None first second unit a b made read = absurd (cc)

@@ -50,7 +50,8 @@ length-frame octets long = sym (ap length (number_bits-octets octets)) ∙ lengt
 
 module _ {IsWord : List Bool → Type 0} {size k : ℕ} {carried : Contents} (carries : IsCarried IsWord size k carried) where
   -- a piece has its bits
-  pub length-piece_bits : (piece : Piece) → piece_fits carried.each (length carried.symbols) (length carried.low) (length carried.voice) piece ≡ true → length (piece_bits carried piece) ≡ piece_length size piece
+  pub length-piece_bits : (piece : Piece) → piece_fits carried.each (length carried.symbols) (length carried.low) (length carried.voice) piece ≡ true
+      → length (piece_bits carried piece) ≡ piece_length size piece
   unfolding piece_bits
   length-piece_bits (Words first count) fits =
       let inside = leb-true (carried.each * first + carried.each * count) (length carried.symbols) fits in
@@ -62,7 +63,8 @@ module _ {IsWord : List Bool → Type 0} {size k : ℕ} {carried : Contents} (ca
       lsd16_is_code.long (lsd16_word (bits_of 8 octet)) (lsd16_encodes (bits_of 8 octet) (length-bits_of 8 octet)).word_of_set
   length-piece_bits (Nulls count) fits = length-replicate count false
 
-  pub length-rows_bits : (rows : List (ℕ × Piece)) → rows_supplied carried.each (length carried.symbols) (length carried.low) (length carried.voice) rows ≡ true → length (rows_bits carried rows) ≡ rows_length size rows
+  pub length-rows_bits : (rows : List (ℕ × Piece)) → rows_supplied carried.each (length carried.symbols) (length carried.low) (length carried.voice) rows
+      ≡ true → length (rows_bits carried rows) ≡ rows_length size rows
   length-rows_bits [] fit = ap length (rows_bits-nil carried)
   length-rows_bits (row ∷ rows) fit =
       let fits = and_parts (piece_fits carried.each (length carried.symbols) (length carried.low) (length carried.voice) row.1) _ fit in

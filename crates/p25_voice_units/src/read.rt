@@ -124,7 +124,8 @@ fn read_ldu<const K: usize>(
     requires there { 1680 ≤ length bare.now }
     requires room { length symbols.old ≡ K }
     ensures value { (unit : List symbol → List ℕ → voice_unit) → read_or result (unit symbols.new low.new) ≡ ldu_from field unit
-        (field_reading_of (field_layout (word_places 10 ldu_rows) 10 1 hamming10_reading_of (rs_erased_reading_of 24 K) K) bare.now) (low_in 0 bare.now) (low_in 1 bare.now) }
+        (field_reading_of (field_layout (word_places 10 ldu_rows) 10 1 hamming10_reading_of (rs_erased_reading_of 24 K) K) bare.now)
+        (low_in 0 bare.now) (low_in 1 bare.now) }
     ensures wrong { IfRead result (λ wrong. wrong ≡ field_fixes_of hamming10_word 10 1 (word_places 10 ldu_rows) (rs_word 24 K symbols.new) bare.now
         + (low_fixes_of 0 (slice_index low.new 0) bare.now + low_fixes_of 1 (slice_index low.new 1) bare.now)) }
     ensures most { IfRead result (λ wrong. wrong ≤ 608) }

@@ -28,7 +28,8 @@ pub symbols_read : (reading_is : List Sym → Option (List Sym)) (octets left : 
     → IsChange same_symbols received word reading → word_read reading word ≡ reading_is received → left ≡ map number word → answer ≡ reading_answer reading
     → IsSymbolReading reading_is octets left answer
 symbols_read reading_is octets left received word reading answer named change value puts is = record {
-  answered = λ other called. subst (λ ss. answer ≡ fixes_answer same_symbols ss (reading_is ss)) (one other called) (is ∙ change_answer same_symbols received word reading (reading_is received) change value);
+  answered = λ other called. subst (λ ss. answer ≡ fixes_answer same_symbols ss (reading_is ss))
+      (one other called) (is ∙ change_answer same_symbols received word reading (reading_is received) change value);
   read =
       λ other called. subst (λ ss. left ≡ map number (unwrap_or (reading_is ss) ss)) (one other called)
       (puts ∙ ap (map number) (change_word same_symbols received word reading (reading_is received) change value));

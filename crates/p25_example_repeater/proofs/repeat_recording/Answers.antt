@@ -60,4 +60,5 @@ returns-then-count-eq0 g c =
     let room : 0 < length c.read.new.buf = search rules in
     let before = g.R.Read.remaining c.loop.input in
     let last = g.R.Read.remaining c.read.new.self in
-    end-by c.write_last.result _ _ _ _ _ _ _ _ _ read.0 read.2 (subst (λ (n : ℕ). Consumes before last (take n c.read.new.buf)) c.if-count-eq0.true bytes.0) (bytes.1 c.if-count-eq0.true room) read.3 c.write_last.ensures
+    end-by c.write_last.result _ _ _ _ _ _ _ _ _ read.0 read.2 (subst (λ (n : ℕ). Consumes before last (take n c.read.new.buf)) c.if-count-eq0.true bytes.0)
+    (bytes.1 c.if-count-eq0.true room) read.3 c.write_last.ensures

@@ -15,4 +15,5 @@ last-by (Ok done) before now kept last scan finished next is drained same repeat
 last-by (Err fault) before now kept last scan finished next is drained same repeated = tt
 
 pub returns : goal.returns
-returns g c = last-by c.write_items.result _ _ c.args.page.now c.write_items.new.page c.args.scanner.now c.finish.new.self c.write_items.new.scanner c.finish.ensures c.write_items.ensures.drained c.write_items.ensures.same c.write_items.ensures.repeated
+returns g c = last-by c.write_items.result _ _ c.args.page.now c.write_items.new.page c.args.scanner.now
+    c.finish.new.self c.write_items.new.scanner c.finish.ensures c.write_items.ensures.drained c.write_items.ensures.same c.write_items.ensures.repeated

@@ -5,7 +5,8 @@ use Rattle.p25_app.proofs.CallSteps.{none_of}
 use Rattle.p25_app.proofs.arguments.words_from.Goals as goal
 
 pub loop-argument-init : goal.loop-argument-init
-loop-argument-init c = ap₂ (λ (words left : List (List ℕ)). fold added words left) c.new-words.ensures (ap (λ it. map string_bytes (into_iter_items it)) c.into_iter-argument-iterator.ensures.into_iter_gives)
+loop-argument-init c = ap₂ (λ (words left : List (List ℕ)). fold added words left) c.new-words.ensures
+    (ap (λ it. map string_bytes (into_iter_items it)) c.into_iter-argument-iterator.ensures.into_iter_gives)
 
 pub loop-argument-preserved : goal.loop-argument-preserved
 loop-argument-preserved c =

@@ -11,4 +11,5 @@ returns c =
     let octets = c.args.octets.now in
     under-as c.args.nac c.args.status (λ (s : Status). bridged_at c.args.nac s 0 0 octets) (λ (s : Status). unit_bridged c.args.nac s octets) c.args.into.now c.p25_bridge_at.new.into _
     (bridged-first c.args.nac octets)
-    (subst (IsWritingUnder c.args.nac c.args.status (λ (s : Status). bridged_at c.args.nac s 0 0 octets) c.args.into.now c.p25_bridge_at.new.into) (sym (to_z-of_z w32 c.p25_bridge_at.result fits)) c.p25_bridge_at.ensures)
+    (subst (IsWritingUnder c.args.nac c.args.status (λ (s : Status). bridged_at c.args.nac s 0 0 octets) c.args.into.now c.p25_bridge_at.new.into)
+    (sym (to_z-of_z w32 c.p25_bridge_at.result fits)) c.p25_bridge_at.ensures)

@@ -10,11 +10,13 @@ returns-then-not-is_inside-clause-answer c =
 
 pub returns-then-not-is_inside-clause-item : goal.returns-then-not-is_inside-clause-item
 returns-then-not-is_inside-clause-item c =
-    sym (ap (λ (asked : Option (List Item)). item_left asked c.args.item.now) (items_asked-outside c.args.ended c.args.begin c.args.from c.args.octets.now (sym c.is_inside.ensures ∙ c.if-not-is_inside.true)))
+    sym (ap (λ (asked : Option (List Item)). item_left asked c.args.item.now)
+    (items_asked-outside c.args.ended c.args.begin c.args.from c.args.octets.now (sym c.is_inside.ensures ∙ c.if-not-is_inside.true)))
 
 pub returns-then-not-is_inside-clause-text : goal.returns-then-not-is_inside-clause-text
 returns-then-not-is_inside-clause-text c =
-    sym (ap (λ (asked : Option (List Item)). item_text_left asked c.args.text.now) (items_asked-outside c.args.ended c.args.begin c.args.from c.args.octets.now (sym c.is_inside.ensures ∙ c.if-not-is_inside.true)))
+    sym (ap (λ (asked : Option (List Item)). item_text_left asked c.args.text.now)
+    (items_asked-outside c.args.ended c.args.begin c.args.from c.args.octets.now (sym c.is_inside.ensures ∙ c.if-not-is_inside.true)))
 
 pub returns-then-not-find_at-clause-answer : goal.returns-then-not-find_at-clause-answer
 returns-then-not-find_at-clause-answer c = sym (ap item_answer (c.find_at.ensures.none c.if-not-find_at.true))

@@ -9,11 +9,13 @@ use mir.Val.{SFits}
 
 pub returns-then-not-is_inside-clause-answer : goal.returns-then-not-is_inside-clause-answer
 returns-then-not-is_inside-clause-answer c =
-    sym (ap (λ (asked : Option (List Item)). many_answer asked (length c.args.items.now)) (items_asked-outside c.args.ended c.args.begin c.args.from c.args.octets.now (sym c.is_inside.ensures ∙ c.if-not-is_inside.true)))
+    sym (ap (λ (asked : Option (List Item)). many_answer asked (length c.args.items.now))
+    (items_asked-outside c.args.ended c.args.begin c.args.from c.args.octets.now (sym c.is_inside.ensures ∙ c.if-not-is_inside.true)))
 
 pub returns-then-not-is_inside-clause-items : goal.returns-then-not-is_inside-clause-items
 returns-then-not-is_inside-clause-items c =
-    sym (ap (λ (asked : Option (List Item)). many_left asked c.args.items.now) (items_asked-outside c.args.ended c.args.begin c.args.from c.args.octets.now (sym c.is_inside.ensures ∙ c.if-not-is_inside.true)))
+    sym (ap (λ (asked : Option (List Item)). many_left asked c.args.items.now)
+    (items_asked-outside c.args.ended c.args.begin c.args.from c.args.octets.now (sym c.is_inside.ensures ∙ c.if-not-is_inside.true)))
 
 pub returns-clause-answer : goal.returns-clause-answer
 returns-clause-answer c =

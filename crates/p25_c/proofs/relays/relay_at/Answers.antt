@@ -45,6 +45,7 @@ returns c =
     let sent : c.fill.new.bits ≡ filled (relayed c.args.nac c.args.status item (part (c.args.from - c.args.begin) (covered item) (octet_bits c.args.octets.now)))
     = c.fill.ensures ∙ ap filled c.relay_found.ensures in
     subst (λ (some : Option (List Item)). IsWriting (asked_relayed c.args.nac c.args.status some bits) c.args.into.now left (to_z w32 (of_z w32 c.write_bits.result))) (sym asked)
-    (subst (λ (z : ℤ). IsWriting (Ok (whole_octets (filled (relayed c.args.nac c.args.status item (part (c.args.from - c.args.begin) (covered item) (octet_bits c.args.octets.now)))))) c.args.into.now left z)
+    (subst (λ (z : ℤ). IsWriting (Ok (whole_octets (filled
+    (relayed c.args.nac c.args.status item (part (c.args.from - c.args.begin) (covered item) (octet_bits c.args.octets.now)))))) c.args.into.now left z)
     (sym (to_z-of_z w32 c.write_bits.result fits))
     (subst (λ (zs : List Bool). IsWriting (Ok (whole_octets zs)) c.args.into.now left c.write_bits.result) sent c.write_bits.ensures))

@@ -18,7 +18,8 @@ returns g c =
     let received = c.args.word.now in
     record {
       reading = c.read.ensures;
-      value = one_reading laws received (word_read c.read.result c.read.new.word) (b.reading_is received) c.requires.word (word_read_as laws received c.read.new.word c.read.result c.read.ensures) (m.reads_as c.requires.code received);
+      value = one_reading laws received (word_read c.read.result c.read.new.word) (b.reading_is received) c.requires.word
+          (word_read_as laws received c.read.new.word c.read.result c.read.ensures) (m.reads_as c.requires.code received);
       sent = λ sent is near. reading_sent laws received c.read.new.word sent c.read.result c.requires.word c.read.ensures is near;
       fixes = λ sent is near. reading_fixes laws received c.read.new.word sent c.read.result c.requires.word c.read.ensures is near;
     }

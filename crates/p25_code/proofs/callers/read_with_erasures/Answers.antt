@@ -27,7 +27,8 @@ returns g c =
     record {
       reading = c.read_erased.ensures;
       value =
-          one_erased_reading laws close list (word_read reading word) (g.C.ErasedCode.erased_reading_is list) long (erased_word_read_as same b.IsWord _ list received word reading c.read_erased.ensures)
+          one_erased_reading laws close list (word_read reading word) (g.C.ErasedCode.erased_reading_is list) long
+          (erased_word_read_as same b.IsWord _ list received word reading c.read_erased.ensures)
           (e.erased_reads_as c.requires.code list);
       sent = λ sent is near. erased_reading_sent laws close list received word sent reading long c.read_erased.ensures is near;
       whole = λ twice none. reading_without_erasures same b.IsWord _ b.radius_is twice received word c.args.erased.now reading none c.read_erased.ensures;

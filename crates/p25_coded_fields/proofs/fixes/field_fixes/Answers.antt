@@ -31,5 +31,6 @@ loop-i-preserved g c =
 pub returns : goal.returns
 returns g c =
     let b = g.I.BlockCode in
-    all_groups (λ each i xs. AreCounted b.IsWord b.N b.K each i c.args.places.now xs c.args.bare.now c.loop-i.wrong) (c.K-each.result / 6) (b.K / 6) c.loop-i.i (length c.args.places.now) c.args.word.now
+    all_groups (λ each i xs. AreCounted b.IsWord b.N b.K each i c.args.places.now xs c.args.bare.now c.loop-i.wrong)
+    (c.K-each.result / 6) (b.K / 6) c.loop-i.i (length c.args.places.now) c.args.word.now
     (ap (λ n. n / 6) c.K-each.ensures) (omega arith) (omega arith) c.requires.word c.loop-i.invariant

@@ -8,7 +8,8 @@ pub loop-i-preserved : goal.loop-i-preserved
 loop-i-preserved g c =
     let b = g.I.BlockCode in
     let before = c.loop-i.invariant.written in
-    let put = subst (λ (xs : List Sym). IsPut b.IsWord b.K xs c.loop-i.out c.put_inner.new.out) (group_is (c.K-each.result / 6) (b.K / 6) c.loop-i.i c.args.symbols.now (ap (λ n. n / 6) c.K-each.ensures)) c.put_inner.ensures.put in
+    let put = subst (λ (xs : List Sym). IsPut b.IsWord b.K xs c.loop-i.out c.put_inner.new.out)
+    (group_is (c.K-each.result / 6) (b.K / 6) c.loop-i.i c.args.symbols.now (ap (λ n. n / 6) c.K-each.ensures)) c.put_inner.ensures.put in
     record {
       written = written_next b.N b.K (b.K / 6) c.loop-i.i c.args.symbols.now c.args.out.now c.loop-i.out c.put_inner.new.out before put c.put_inner.ensures.len;
       len = omega (arith, one_more b.N c.loop-i.i);

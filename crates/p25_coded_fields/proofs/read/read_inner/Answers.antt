@@ -24,7 +24,8 @@ returns-in-Some g c =
     let is_word = read_word_of_set beq b.IsWord b.radius_is bits (bits_of b.N value) (b.reading_is bits) (m.reads_as c.requires.code bits) (sym read) in
     let encoding = read_encoding b.N b.K each value symbols c.requires.sixes (m.begins c.requires.code) is_word made in
     record {
-      erasures = inner_found b.N b.K each value (b.reading_is bits) symbols c.set_all.new.erased c.requires.sixes (m.begins c.requires.code) read made (c.set_all.ensures ∙ ap (λ n. replicate n false) c.requires.same);
+      erasures = inner_found b.N b.K each value (b.reading_is bits) symbols c.set_all.new.erased c.requires.sixes
+          (m.begins c.requires.code) read made (c.set_all.ensures ∙ ap (λ n. replicate n false) c.requires.same);
       count = record {
         few = omega (arith, ones-xor-le b.N c.field-received.result value fits small, c.requires.small);
         value = λ sent is. wrong_bits b.N b.K (m.one_word c.requires.code) c.field-received.result value (symbol_bits symbols) bits sent encoding is taken fits small;

@@ -14,7 +14,8 @@ from-first-sent : (side : Side) (events : List DuplexEvent) → (station_at side
 from-first-sent A events = run-sent A events first_duplex
 from-first-sent B events = run-sent B events first_duplex
 
-from-first-acknowledged : (side : Side) (events : List DuplexEvent) → (station_at side (duplex_run first_duplex events)).outbound.acknowledged ≡ side_acknowledged_in side (duplex_steps first_duplex events)
+from-first-acknowledged : (side : Side) (events : List DuplexEvent)
+    → (station_at side (duplex_run first_duplex events)).outbound.acknowledged ≡ side_acknowledged_in side (duplex_steps first_duplex events)
 from-first-acknowledged A events = omega (arith, run-acknowledged A events first_duplex)
 from-first-acknowledged B events = omega (arith, run-acknowledged B events first_duplex)
 

@@ -7,9 +7,11 @@ returns-then-hex_value-clause-value c =
     let octets = c.hex_value.new.out in
     let count = length c.args.word.now / 2 in
     let same : length octets ≡ count = omega (arith, c.hex_value.auto.out, length-take count c.args.out.now, c.if-count-out.false) in
-    let first : take count (octets ++ drop count c.args.out.now) ≡ octets = take-append-le count octets (drop count c.args.out.now) (omega (arith, same)) ∙ take_all count octets (omega (arith, same)) in
+    let first : take count (octets ++ drop count c.args.out.now) ≡ octets
+    = take-append-le count octets (drop count c.args.out.now) (omega (arith, same)) ∙ take_all count octets (omega (arith, same)) in
     ap Some first
-    ∙ sym (octets_up_to-digits (length c.args.out.now) c.args.word.now octets (omega (arith, same, c.if-count-eq0.false)) (omega (arith, same, c.if-count-out.false)) c.if-hex_value.ensures.octets c.if-hex_value.ensures.value)
+    ∙ sym (octets_up_to-digits (length c.args.out.now) c.args.word.now octets
+    (omega (arith, same, c.if-count-eq0.false)) (omega (arith, same, c.if-count-out.false)) c.if-hex_value.ensures.octets c.if-hex_value.ensures.value)
 
 pub returns-else-hex_value-clause-value : goal.returns-else-hex_value-clause-value
 returns-else-hex_value-clause-value c =

@@ -17,7 +17,8 @@ overflow_add-number c =
 
 pub loop-symbol-preserved : goal.loop-symbol-preserved
 loop-symbol-preserved c =
-    number_more c.args.symbols.now c.loop-symbol.symbol-index c.from.result c.loop-symbol.number c.symbol-item.result (omega arith) c.symbol-item.is (c.from.ensures ∙ c.value.ensures.number) c.loop-symbol.invariant
+    number_more c.args.symbols.now c.loop-symbol.symbol-index c.from.result c.loop-symbol.number c.symbol-item.result
+    (omega arith) c.symbol-item.is (c.from.ensures ∙ c.value.ensures.number) c.loop-symbol.invariant
 
 pub returns-clause-fits : goal.returns-clause-fits
 returns-clause-fits c =

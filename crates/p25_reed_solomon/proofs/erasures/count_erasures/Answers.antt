@@ -10,6 +10,14 @@ pub loop-gone-preserved : goal.loop-gone-preserved
 loop-gone-preserved c =
     let next : suc c.loop-gone.gone-index ≡ c.loop-gone.gone-index + 1 = omega arith in
     elim c.if-gone.branch [
-      | then-gone w ↦ (subst (λ m. c.if-gone.count ≡ erased_below c.args.erased.now m) next (omega (arith, w.count-is, erased_below-gone c.args.erased.now c.loop-gone.gone-index w.if-gone.true)), omega (arith, w.count-is))
-      | else-gone w ↦ (subst (λ m. c.if-gone.count ≡ erased_below c.args.erased.now m) next (omega (arith, w.count-is, erased_below-kept c.args.erased.now c.loop-gone.gone-index w.if-gone.false)), omega (arith, w.count-is))
+      | then-gone w ↦ (
+        subst (λ m. c.if-gone.count ≡ erased_below c.args.erased.now m) next
+            (omega (arith, w.count-is, erased_below-gone c.args.erased.now c.loop-gone.gone-index w.if-gone.true)),
+        omega (arith, w.count-is),
+      )
+      | else-gone w ↦ (
+        subst (λ m. c.if-gone.count ≡ erased_below c.args.erased.now m) next
+            (omega (arith, w.count-is, erased_below-kept c.args.erased.now c.loop-gone.gone-index w.if-gone.false)),
+        omega (arith, w.count-is),
+      )
     ]

@@ -17,7 +17,8 @@ returns-then-not-are_sums-clause-complete c = λ errors explains.
     let high : length evaluator ≡ most = omega (arith, length-take most c.locate-most.new.evaluator) in
     let is = part_is_locator n c.args.checks c.args.syndromes.now c.args.erased.now most c.locate-most.new.locator c.locate-most.new.evaluator c.locate-most.ensures.locator in
     let are = subst (λ (ps : List ℕ). AreZeros n locator n ps) (sym c.as_slice-places.ensures.value) c.zeros-listed.ensures.zeros in
-    let same = value_is_error n c.args.checks most c.args.syndromes.now locator evaluator c.args.erased.now places long high is are errors explains (coefficient gf64 c.fill_errors.new.out) c.fill_errors.ensures.errors in
+    let same = value_is_error n c.args.checks most c.args.syndromes.now locator evaluator c.args.erased.now places long high is are errors explains
+    (coefficient gf64 c.fill_errors.new.out) c.fill_errors.ensures.errors in
     let sums = sums_of_errors n c.args.checks most c.args.syndromes.now locator evaluator c.args.erased.now places long high is are errors explains (coefficient gf64 c.fill_errors.new.out) same in
     absurd (both_ways c.are_sums.result c.if-not-are_sums.true
     (c.are_sums.ensures.1 (λ r low.

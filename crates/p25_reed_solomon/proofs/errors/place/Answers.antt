@@ -11,5 +11,6 @@ pub loop-c-preserved : goal.loop-c-preserved
 loop-c-preserved c =
     let inside = c.requires.inside c.loop-c.c (omega arith) in
     placed_more c.args.places.now (coefficient gf64 c.args.values.now) c.loop-c.out c.loop-c.c c.add.result (omega (arith, inside))
-    (c.add.ensures.sum ∙ ap₂ gf64.add (c.index-out-j.is ∙ get_or_default c.loop-c.out _ _ gf64.zero (omega (arith, inside))) (c.index-values-c.is ∙ get_or_default c.args.values.now _ _ gf64.zero (omega arith)))
+    (c.add.ensures.sum ∙ ap₂ gf64.add (c.index-out-j.is ∙ get_or_default c.loop-c.out _ _ gf64.zero (omega (arith, inside)))
+    (c.index-values-c.is ∙ get_or_default c.args.values.now _ _ gf64.zero (omega arith)))
     c.loop-c.invariant

@@ -29,7 +29,8 @@ loop-i-preserved c =
     (rw next c.loop-i.invariant)
 
 whole : (c : goal.After-degree_bound)
-    → IsLocator (length c.args.erased.now) c.args.checks c.args.syndromes.now c.args.erased.now c.degree_bound.result (coefficient gf64 c.multiply_by_erasures-2.new.polynomial) (coefficient gf64 c.loop-i.evaluator)
+    → IsLocator (length c.args.erased.now) c.args.checks c.args.syndromes.now c.args.erased.now c.degree_bound.result
+    (coefficient gf64 c.multiply_by_erasures-2.new.polynomial) (coefficient gf64 c.loop-i.evaluator)
     × (c.degree_bound.result ≤ (c.args.checks - c.args.erasures) / 2 + c.args.erasures)
 whole c =
     let n = length c.args.erased.now in

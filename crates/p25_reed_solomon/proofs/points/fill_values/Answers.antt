@@ -10,7 +10,8 @@ pub loop-i-init : goal.loop-i-init
 loop-i-init c = λ r low.
     let n = length c.args.polynomial.now in
     let none : 0 ≡ n - n = omega arith in
-    c.loop-value.invariant r (omega arith) ∙ sym (value-none gf64 _ (coefficient gf64 c.args.points.now r)) ∙ ap (λ m. value_at gf64 m (λ k. coefficient gf64 c.args.polynomial.now (n + k)) (coefficient gf64 c.args.points.now r)) none
+    c.loop-value.invariant r (omega arith) ∙ sym (value-none gf64 _ (coefficient gf64 c.args.points.now r))
+    ∙ ap (λ m. value_at gf64 m (λ k. coefficient gf64 c.args.polynomial.now (n + k)) (coefficient gf64 c.args.points.now r)) none
 
 pub loop-i-preserved : goal.loop-i-preserved
 loop-i-preserved c = λ r low.

@@ -7,4 +7,5 @@ use Rattle.p25_reed_solomon.proofs.reader.read.Goals as goal
 pub returns : goal.returns
 returns c =
     let n = length c.args.word.now in
-    reading_without_erasures same_symbols (IsWord n c.args.k) (n - c.args.k) (radius_of n c.args.k) (sym c.requires.even) c.args.word.now c.read_erased.new.word _ c.read_erased.result (no_erasures n) c.read_erased.ensures
+    reading_without_erasures same_symbols (IsWord n c.args.k) (n - c.args.k)
+    (radius_of n c.args.k) (sym c.requires.even) c.args.word.now c.read_erased.new.word _ c.read_erased.result (no_erasures n) c.read_erased.ensures

@@ -14,7 +14,12 @@ returns-then-count_erasures-checks c =
     record {
       unchanged = refl;
       none_within = record {
-        dearer = λ word of_code. omega (arith, cost_of_erasures n c.args.word.now word c.args.erased.now refl of_code.long c.requires.erased, c.count_erasures.ensures.count, ap (erased_below c.args.erased.now) c.requires.erased);
+        dearer = λ word of_code. omega (
+          arith,
+          cost_of_erasures n c.args.word.now word c.args.erased.now refl of_code.long c.requires.erased,
+          c.count_erasures.ensures.count,
+          ap (erased_below c.args.erased.now) c.requires.erased,
+        );
       };
     }
 
@@ -43,7 +48,8 @@ returns-then-not-find_errors c =
               let errors : ℕ → Sym = λ j. gf64.add (coefficient gf64 c.args.word.now j) (coefficient gf64 word j) in
               let explains = difference_explains n k c.args.word.now word c.are_syndromes_zero.new.out c.args.erased.now c.requires.code refl c.requires.erased of_code
               (c.are_syndromes_zero.ensures.values c.if-are_syndromes_zero.false) near in
-              absurd (both_ways c.find_errors.result c.if-not-find_errors.true (c.find_errors.ensures.complete errors (subst (λ m. Explains m (n - k) c.are_syndromes_zero.new.out c.args.erased.now errors) (sym c.requires.erased) explains)))
+              absurd (both_ways c.find_errors.result c.if-not-find_errors.true (c.find_errors.ensures.complete errors
+              (subst (λ m. Explains m (n - k) c.are_syndromes_zero.new.out c.args.erased.now errors) (sym c.requires.erased) explains)))
         ];
       };
     }

@@ -21,8 +21,11 @@ returns-then-not-is_zero c =
     let sum = c.sum.ensures
     ∙ sum_of_terms (length c.args.places.now) c.elements_of-elements.result c.args.values.now c.loop-syndrome.terms c.multiply.new.terms (λ k. element_of c.args.n (get_or c.args.places.now k 0)) i
     (omega arith) c.elements_of-elements.ensures.elements c.requires.rest c.loop-syndrome.invariant.terms c.multiply.ensures in
-    let here = c.syndrome-item.is ∙ get_or_default c.args.syndromes.now _ _ gf64.zero (omega arith) in
-    ((λ no'. cc), (λ sums. absurd (iff_false c.is_zero.ensures c.if-not-is_zero.true (c.add.ensures.sum ∙ ap₂ gf64.add (sum ∙ sums i (omega arith)) here ∙ add_self gf64 (coefficient gf64 c.args.syndromes.now i)))))
+    let here = c.syndrome-item.is ∙ get_or_default c.args.syndromes.now _ _ gf64.zero (omega arith) in (
+      (λ no'. cc),
+      (λ sums. absurd (iff_false c.is_zero.ensures c.if-not-is_zero.true
+          (c.add.ensures.sum ∙ ap₂ gf64.add (sum ∙ sums i (omega arith)) here ∙ add_self gf64 (coefficient gf64 c.args.syndromes.now i)))),
+    )
 
 pub loop-syndrome-preserved : goal.loop-syndrome-preserved
 loop-syndrome-preserved c =
@@ -33,7 +36,8 @@ loop-syndrome-preserved c =
     let here = c.syndrome-item.is ∙ get_or_default c.args.syndromes.now _ _ gf64.zero (omega arith) in
     record {
       full = omega (arith, c.loop-syndrome.invariant.full);
-      terms = λ k low. term_next (coefficient gf64 c.args.values.now k) (coefficient gf64 c.elements_of-elements.result k) (coefficient gf64 c.loop-syndrome.terms k) (coefficient gf64 c.multiply.new.terms k) i
+      terms = λ k low. term_next (coefficient gf64 c.args.values.now k)
+          (coefficient gf64 c.elements_of-elements.result k) (coefficient gf64 c.loop-syndrome.terms k) (coefficient gf64 c.multiply.new.terms k) i
           (c.loop-syndrome.invariant.terms k low) (c.multiply.ensures k);
       sums = λ r low. elim (cases_eq r i) [
         | inl same ↦

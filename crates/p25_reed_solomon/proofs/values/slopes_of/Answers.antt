@@ -12,7 +12,8 @@ loop-i-init c =
     record {
       slopes_full = length-replicate 32 c.default-slopes.result;
       values_full = length-replicate 32 c.default-values.result;
-      slopes = λ r low. coefficient_blank gf64 c.default-slopes.result 32 r c.default-slopes.ensures ∙ sym (value_begun n (rest_at gf64 n f (coefficient gf64 c.args.points.now r)) (coefficient gf64 c.args.points.now r));
+      slopes = λ r low. coefficient_blank gf64 c.default-slopes.result 32 r c.default-slopes.ensures
+          ∙ sym (value_begun n (rest_at gf64 n f (coefficient gf64 c.args.points.now r)) (coefficient gf64 c.args.points.now r));
       values = λ r low. coefficient_blank gf64 c.default-values.result 32 r c.default-values.ensures ∙ sym (value_begun n f (coefficient gf64 c.args.points.now r));
     }
 
@@ -26,7 +27,8 @@ loop-i-preserved c =
       values_full = omega (arith, c.loop-i.invariant.values_full);
       slopes = λ r low.
           c.slope_step.ensures.slopes r low
-          ∙ ap₂ (λ v s. gf64.add (gf64.mul v (coefficient gf64 c.args.points.now r)) s) (c.loop-i.invariant.slopes r low) (c.loop-i.invariant.values r low ∙ rest_here n i f (coefficient gf64 c.args.points.now r) (omega arith))
+          ∙ ap₂ (λ v s. gf64.add (gf64.mul v (coefficient gf64 c.args.points.now r)) s)
+          (c.loop-i.invariant.slopes r low) (c.loop-i.invariant.values r low ∙ rest_here n i f (coefficient gf64 c.args.points.now r) (omega arith))
           ∙ horner_step gf64 (rest_at gf64 n f (coefficient gf64 c.args.points.now r)) n i (coefficient gf64 c.args.points.now r) (omega arith) (omega arith);
       values = λ r low.
           c.slope_step.ensures.values r low
@@ -38,4 +40,5 @@ loop-i-preserved c =
 pub returns-clause-slopes : goal.returns-clause-slopes
 returns-clause-slopes c = λ r low.
     let n = length c.args.polynomial.now in
-    c.loop-i.invariant.slopes r low ∙ value_whole n c.loop-i.i (rest_at gf64 n (coefficient gf64 c.args.polynomial.now) (coefficient gf64 c.args.points.now r)) (coefficient gf64 c.args.points.now r) (omega arith)
+    c.loop-i.invariant.slopes r low ∙ value_whole n c.loop-i.i
+    (rest_at gf64 n (coefficient gf64 c.args.polynomial.now) (coefficient gf64 c.args.points.now r)) (coefficient gf64 c.args.points.now r) (omega arith)

@@ -7,7 +7,8 @@ abbrev pub invariant-loop-i : goal.invariant-loop-i
 invariant-loop-i l = record {
   slopes_full : length l.slopes ≡ 32;
   values_full : length l.values ≡ 32;
-  slopes : (r : ℕ) → r < 32 → coefficient gf64 l.slopes r ≡ value_at gf64 (length l.polynomial - l.i) (λ k. rest_at gf64 (length l.polynomial) (coefficient gf64 l.polynomial) (coefficient gf64 l.points r) (l.i + k))
+  slopes : (r : ℕ) → r < 32 → coefficient gf64 l.slopes r ≡ value_at gf64
+      (length l.polynomial - l.i) (λ k. rest_at gf64 (length l.polynomial) (coefficient gf64 l.polynomial) (coefficient gf64 l.points r) (l.i + k))
       (coefficient gf64 l.points r);
   values : (r : ℕ) → r < 32 → coefficient gf64 l.values r ≡ value_at gf64 (length l.polynomial - l.i) (λ k. coefficient gf64 l.polynomial (l.i + k)) (coefficient gf64 l.points r);
 }

@@ -18,11 +18,13 @@ loop-j-preserved c =
     let n = c.args.n in
     let polynomial = c.args.polynomial.now in
     let j = c.loop-j.j in
-    let here = get_or_default c.fill_values.new.values j _ gf64.zero (omega arith) ∙ c.fill_values.ensures j (omega arith) ∙ ap (value_at gf64 (length polynomial) (coefficient gf64 polynomial)) (c.fill_points.ensures j (omega arith)) in
+    let here = get_or_default c.fill_values.new.values j _ gf64.zero (omega arith) ∙ c.fill_values.ensures j (omega arith)
+    ∙ ap (value_at gf64 (length polynomial) (coefficient gf64 polynomial)) (c.fill_points.ensures j (omega arith)) in
     elim c.if-is_zero.branch [
       | then-is_zero w ↦
           let zero = sym here ∙ c.is_zero.ensures.0 w.if-is_zero.true in
-          subst (λ (ps : List ℕ). AreZeros n polynomial (j + 1) ps) (sym (ap (λ v. v.items) w.places-is ∙ w.push.ensures.items)) (AreZeros-push n polynomial j c.loop-j.places.items c.loop-j.invariant zero)
+          subst (λ (ps : List ℕ). AreZeros n polynomial (j + 1) ps) (sym (ap (λ v. v.items) w.places-is ∙ w.push.ensures.items))
+          (AreZeros-push n polynomial j c.loop-j.places.items c.loop-j.invariant zero)
       | else-is_zero w ↦
           subst (λ (ps : List ℕ). AreZeros n polynomial (j + 1) ps) (sym (ap (λ v. v.items) w.places-is))
           (AreZeros-skip n polynomial j c.loop-j.places.items c.loop-j.invariant (λ z. iff_false c.is_zero.ensures w.if-is_zero.false (here ∙ z)))

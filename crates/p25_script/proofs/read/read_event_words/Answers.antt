@@ -7,7 +7,8 @@ returns-in_default c = sym (wrong_kind c.args.words.now c.first.result.now c.fir
 
 pub returns-then-count-words : goal.returns-then-count-words
 returns-then-count-words c =
-    sym (wrong_count c.args.words.now c.first.result.now c.in-Some.kind c.first.ensures (sym c.in-Some.ensures) (λ same. c.if-count-words.true (c.count.ensures.count ∙ same ∙ sym c.words.ensures.count)))
+    sym (wrong_count c.args.words.now c.first.result.now c.in-Some.kind c.first.ensures
+    (sym c.in-Some.ensures) (λ same. c.if-count-words.true (c.count.ensures.count ∙ same ∙ sym c.words.ensures.count)))
 
 pub read_kind-requires : goal.read_kind-requires
 read_kind-requires c = sym c.count.ensures.count ∙ c.if-count-words.false ∙ c.words.ensures.count

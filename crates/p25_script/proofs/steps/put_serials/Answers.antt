@@ -19,7 +19,8 @@ loop-serial-preserved c =
     elim c.if-get.branch [
       | then-get w ↦
           let read = c.get.ensures ∙ ap Some w.if-get.true in record {
-            text = serial-text flags serial c.args.out.now c.loop-serial.out c.if-get.out c.loop-serial.behind read c.loop-serial.invariant.text c.loop-serial.invariant.behind (w.out-is ∙ w.put_serial.ensures.text);
+            text = serial-text flags serial c.args.out.now c.loop-serial.out
+                c.if-get.out c.loop-serial.behind read c.loop-serial.invariant.text c.loop-serial.invariant.behind (w.out-is ∙ w.put_serial.ensures.text);
             behind = w.behind-is ∙ serial-stands flags serial read;
             short = omega (arith, ap length w.out-is, w.put_serial.ensures.short, c.loop-serial.invariant.short);
           }

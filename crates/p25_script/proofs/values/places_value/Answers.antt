@@ -33,7 +33,8 @@ loop-start-preserved c =
     let part = c.comma_part-part.result.now in
     let pushed : c.push.new.self ≡ places ++ place ∷ [] = c.push.ensures.list in
     let next : c.loop-start.start + length part + 1 ≡ c.loop-start.start + (length part + 1) = omega arith in
-    let more = EntriesSoFar-more place_in c.args.word.now part c.loop-start.start (c.loop-start.start + length part + 1) places place c.loop-start.invariant.so_far c.comma_part-part.ensures.parts (sym c.in-Some.ensures.place) in
+    let more = EntriesSoFar-more place_in c.args.word.now part c.loop-start.start
+    (c.loop-start.start + length part + 1) places place c.loop-start.invariant.so_far c.comma_part-part.ensures.parts (sym c.in-Some.ensures.place) in
     let high : next_place places ≤ place = omega (arith, c.if-place-least.false, c.loop-start.invariant.least) in record {
       so_far = subst (λ i. EntriesSoFar place_in c.args.word.now i c.push.new.self) next (subst (EntriesSoFar place_in c.args.word.now (c.loop-start.start + length part + 1)) (sym pushed) more);
       ascending = ap is_ascending pushed ∙ is_ascending-push places place c.loop-start.invariant.ascending high;
@@ -45,4 +46,5 @@ loop-start-preserved c =
 
 pub returns : goal.returns
 returns c =
-    sym (places_in-end c.args.word.now c.loop-start.start c.loop-start.places (sym c.is_dash.ensures ∙ c.if-is_dash.false) c.loop-start.invariant.so_far c.loop-start-test.false c.loop-start.invariant.ascending)
+    sym (places_in-end c.args.word.now c.loop-start.start c.loop-start.places
+    (sym c.is_dash.ensures ∙ c.if-is_dash.false) c.loop-start.invariant.so_far c.loop-start-test.false c.loop-start.invariant.ascending)

@@ -13,7 +13,8 @@ soften_packet-requires-clause-levels c = ap length c.requires.hard ∙ length-ha
 pub returns-then-duid-eq-PDU-clause-bits : goal.returns-then-duid-eq-PDU-clause-bits
 returns-then-duid-eq-PDU-clause-bits c =
     c.soften_packet.ensures.bits
-    ∙ sym (softened-packet c.args.item.now c.args.levels.now c.args.raw.now c.in-Broken.place c.in-Broken.length c.in-Broken.nac c.in-Broken.duid c.in-Broken.fields c.in-Broken.is c.if-duid-eq-PDU.true)
+    ∙ sym (softened-packet c.args.item.now c.args.levels.now c.args.raw.now
+    c.in-Broken.place c.in-Broken.length c.in-Broken.nac c.in-Broken.duid c.in-Broken.fields c.in-Broken.is c.if-duid-eq-PDU.true)
 
 pub returns-then-duid-eq-PDU-clause-count : goal.returns-then-duid-eq-PDU-clause-count
 returns-then-duid-eq-PDU-clause-count c =
@@ -25,7 +26,8 @@ returns-then-duid-eq-PDU-clause-kept c = c.soften_packet.ensures.kept
 
 pub returns-else-duid-eq-PDU-clause-bits : goal.returns-else-duid-eq-PDU-clause-bits
 returns-else-duid-eq-PDU-clause-bits c =
-    sym (softened-unpacked c.args.item.now c.args.levels.now c.args.raw.now c.in-Broken.place c.in-Broken.length c.in-Broken.nac c.in-Broken.duid c.in-Broken.fields c.in-Broken.is c.if-duid-eq-PDU.false)
+    sym (softened-unpacked c.args.item.now c.args.levels.now c.args.raw.now
+    c.in-Broken.place c.in-Broken.length c.in-Broken.nac c.in-Broken.duid c.in-Broken.fields c.in-Broken.is c.if-duid-eq-PDU.false)
 
 pub returns-else-duid-eq-PDU-clause-count : goal.returns-else-duid-eq-PDU-clause-count
 returns-else-duid-eq-PDU-clause-count c =

@@ -12,7 +12,8 @@ returns-then-not-is_true_slot c =
     let heard = c.args.heard.now in
     let i = c.loop-i.i in
     let long : length sent ≡ length heard = omega (arith, c.len.ensures.value, c.len-2.ensures.value, c.if-len.false) in
-    let step = are_true_slots-step sent heard i c.get.result c.get-in-loop-i.result c.is_true_slot.result long (omega (arith, c.len-i-end.ensures.value)) c.get.ensures c.get-in-loop-i.ensures c.is_true_slot.ensures in
+    let step = are_true_slots-step sent heard i c.get.result c.get-in-loop-i.result c.is_true_slot.result long
+    (omega (arith, c.len-i-end.ensures.value)) c.get.ensures c.get-in-loop-i.ensures c.is_true_slot.ensures in
     sym (c.loop-i.invariant ∙ step ∙ ap (λ (b : Bool). b && are_true_slots (drop (i + 1) sent) (drop (i + 1) heard)) c.if-not-is_true_slot.true)
 
 pub loop-i-preserved : goal.loop-i-preserved
@@ -21,5 +22,6 @@ loop-i-preserved c =
     let heard = c.args.heard.now in
     let i = c.loop-i.i in
     let long : length sent ≡ length heard = omega (arith, c.len.ensures.value, c.len-2.ensures.value, c.if-len.false) in
-    let step = are_true_slots-step sent heard i c.get.result c.get-in-loop-i.result c.is_true_slot.result long (omega (arith, c.len-i-end.ensures.value)) c.get.ensures c.get-in-loop-i.ensures c.is_true_slot.ensures in
+    let step = are_true_slots-step sent heard i c.get.result c.get-in-loop-i.result c.is_true_slot.result long
+    (omega (arith, c.len-i-end.ensures.value)) c.get.ensures c.get-in-loop-i.ensures c.is_true_slot.ensures in
     c.loop-i.invariant ∙ step ∙ ap (λ (b : Bool). b && are_true_slots (drop (i + 1) sent) (drop (i + 1) heard)) c.if-not-is_true_slot.false

@@ -10,6 +10,7 @@ loop-i-init c = record {
 
 pub loop-i-preserved : goal.loop-i-preserved
 loop-i-preserved c = record {
-  text = next-status c.args.statuses.now c.loop-i.i c.get.result c.args.out.now c.loop-i.out c.put.new.self c.value.result c.get.ensures c.loop-i.invariant.text c.value.ensures.number c.put.ensures.list;
+  text = next-status c.args.statuses.now c.loop-i.i c.get.result
+      c.args.out.now c.loop-i.out c.put.new.self c.value.result c.get.ensures c.loop-i.invariant.text c.value.ensures.number c.put.ensures.list;
   len = omega arith;
 }

@@ -15,7 +15,8 @@ loop-frame-preserved c =
     let frames = c.frames-frames.result.now in
     let inside : c.loop-frame.frame-index < length frames = omega (arith, ap length c.frames-frames.ensures.value, c.frames-frames.ensures.len) in
     record {
-      text = next-frame frames c.loop-frame.frame-index _ c.put_key.new.out c.loop-frame.out c.put_hex.new.self (slice_get-get_or frames c.loop-frame.frame-index _ inside) c.loop-frame.invariant.text c.put_hex.ensures.list;
+      text = next-frame frames c.loop-frame.frame-index _ c.put_key.new.out c.loop-frame.out c.put_hex.new.self
+          (slice_get-get_or frames c.loop-frame.frame-index _ inside) c.loop-frame.invariant.text c.put_hex.ensures.list;
       len = omega arith;
     }
 

@@ -4,9 +4,8 @@ use Rattle.p25_bits.specs.{Bits.{part}, Numbers.{number_bits, numbers_from}}
 use Rattle.p25_trellis.specs.{Costs.{path_cost, received_cost}, Interleave.{interleaved}, Least.{rest_in}, TableLaws.{IsRate}, Trellis.{IsFirstLeastReading, IsNearReading, distance_from, sent_bits}}
 use Rattle.p25_trellis.specs.Nearest.{nearest_octets, nearest_distance}
 use Rattle.p25_bits.proofs.{NumbersLaws.{All-numbers_from, number_bits-numbers_from}, PartLaws.{length-part}}
-use Rattle.p25_trellis.proofs.{CostLaws.{rest_in-first}, DistanceLaws.{path_cost-distance, IsFirstLeastReading-same}}
-use Rattle.p25_trellis.proofs.{ApartLaws.{same_from_sent_bits, IsNearReading-from}, ExactSteps.{IsFirstLeast-exact, at_no_distance}, InterleaveLaws.{All-from_interleaved}, NearestLaws.{same_nearest}}
-use Rattle.p25_trellis.proofs.PathLaws.{power-pos}
+use Rattle.p25_trellis.proofs.{CostLaws.{rest_in-first}, DistanceLaws.{path_cost-distance, IsFirstLeastReading-same}, ApartLaws.{same_from_sent_bits, IsNearReading-from}}
+use Rattle.p25_trellis.proofs.{ExactSteps.{IsFirstLeast-exact, at_no_distance}, InterleaveLaws.{All-from_interleaved}, NearestLaws.{same_nearest}, PathLaws.{power-pos}}
 use Rattle.p25_trellis.proofs.block.read_block.Goals as goal
 
 -- the nibbles of a block, as they are before they are interleaved

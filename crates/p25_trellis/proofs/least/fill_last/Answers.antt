@@ -7,7 +7,8 @@ pub loop-state-preserved : goal.loop-state-preserved
 loop-state-preserved g c =
     let row : c.loop-state.state < 8 = omega (arith, c.loop-state-test.true, c.STATES-state-end.ensures, g.met.R.Rate.table.few_states) in
     let long : length c.loop-state.rests ≡ 392 = omega (arith, c.loop-state.auto.rests, c.requires.rests) in
-    last_more c.loop-state.rests c.loop-state.state c.from-in-loop-state.result (get_or c.args.costs.now (768 + c.from.result) 0) (λ s. cost_in c.args.costs.now 48 (g.R.Rate.point_of s 0)) row long c.from-in-loop-state.ensures
+    last_more c.loop-state.rests c.loop-state.state c.from-in-loop-state.result
+    (get_or c.args.costs.now (768 + c.from.result) 0) (λ s. cost_in c.args.costs.now 48 (g.R.Rate.point_of s 0)) row long c.from-in-loop-state.ensures
     (cost_in-last c.args.costs.now c.from.result (g.R.Rate.point_of c.loop-state.state 0) (c.from.ensures ∙ c.point.ensures.value))
     c.loop-state.invariant
 

@@ -12,7 +12,8 @@ symbol_distance-requires-clause-low g c =
 
 pub loop-symbol-preserved : goal.loop-symbol-preserved
 loop-symbol-preserved g c =
-    below_more (λ other. step_cost g.R.Rate.point_of (received_cost c.args.received.now) c.args.rests.now c.args.step c.args.state other ≢ rest_in c.args.rests.now c.args.step c.args.state) c.loop-symbol.symbol
+    below_more (λ other. step_cost g.R.Rate.point_of (received_cost c.args.received.now) c.args.rests.now c.args.step c.args.state other
+    ≢ rest_in c.args.rests.now c.args.step c.args.state) c.loop-symbol.symbol
     c.loop-symbol.invariant
     (λ equal. c.if-symbol_distance-least.false (c.symbol_distance.ensures ∙ equal ∙ sym (rest_read c.args.rests.now c.args.step c.args.state c.from.result c.from.ensures)))
 

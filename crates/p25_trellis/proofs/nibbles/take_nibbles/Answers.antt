@@ -20,7 +20,8 @@ loop-j-preserved c =
     let held : length (mid_of (7 * j) (7 * j + 7 - 7 * j) nibbles) ≡ 7 = ap (λ k. length (take k (drop (7 * j) nibbles))) count ∙ length-part (7 * j) 7 nibbles inside in
     let written : seven ≡ numbers_from 4 7 (bits_of 28 c.field.result) = c.put_apart.ensures ∙ ap (λ n. numbers_from 4 n (bits_of (4 * n) c.field.result)) held in
     let same : length seven ≡ length (mid_of (7 * j) (7 * j + 7 - 7 * j) nibbles) = ap length written ∙ length-numbers_from 4 7 (bits_of 28 c.field.result) ∙ sym held in record {
-      so_far = groups_more 4 7 j bits nibbles seven there (seven_read c.args.bits.now c.args.at j c.field.result seven c.loop-j-test.true c.requires c.field.ensures.value written) c.loop-j.invariant.so_far;
+      so_far = groups_more 4 7 j bits nibbles seven there
+          (seven_read c.args.bits.now c.args.at j c.field.result seven c.loop-j-test.true c.requires c.field.ensures.value written) c.loop-j.invariant.so_far;
       long = same_len_mid (7 * j) (7 * j + 7 - 7 * j) nibbles seven same ∙ c.loop-j.invariant.long;
     }
 

@@ -5,6 +5,9 @@ pub returns : goal.returns
 returns c = record {
   sound = λ nac statuses. (symbols-terminator nac statuses, IsSoundFrame-terminator nac statuses);
   sent = image_of-terminator;
-  near = λ nac statuses bits two fits there. (IsWithinRadius-terminator nac statuses bits two, λ within. HasTerminator-from nac statuses bits (IsSoundFrame-terminator nac statuses two) fits there within.front);
+  near = λ nac statuses bits two fits there. (
+    IsWithinRadius-terminator nac statuses bits two,
+    λ within. HasTerminator-from nac statuses bits (IsSoundFrame-terminator nac statuses two) fits there within.front,
+  );
   fixes = fixes_of-terminator;
 }

@@ -9,14 +9,16 @@ returns-in-Whole-clause-reading c =
     let bits = c.args.bits.now in
     let is = IsUnitAt-from bits c.args.at c.args.count c.requires.there c.requires.needed in
     let sent = part c.args.at c.args.count bits in
-    read_whole 0 is.nid sent (reading_from (Some is.nid) sent) _ c.in-Whole.frame _ (c.in-Whole.ensures.item ∙ item_of_unit bits c.args.at c.args.count 0 is) ∙ sym (reading_of_unit bits c.args.at c.args.count is)
+    read_whole 0 is.nid sent (reading_from (Some is.nid) sent) _ c.in-Whole.frame _ (c.in-Whole.ensures.item ∙ item_of_unit bits c.args.at c.args.count 0 is)
+    ∙ sym (reading_of_unit bits c.args.at c.args.count is)
 
 pub returns-in-Broken-clause-reading : goal.returns-in-Broken-clause-reading
 returns-in-Broken-clause-reading c =
     let bits = c.args.bits.now in
     let is = IsUnitAt-from bits c.args.at c.args.count c.requires.there c.requires.needed in
     let sent = part c.args.at c.args.count bits in
-    read_broken 0 is.nid sent (reading_from (Some is.nid) sent) _ _ _ _ c.in-Broken.fields (c.in-Broken.ensures.item ∙ item_of_unit bits c.args.at c.args.count 0 is) ∙ sym (reading_of_unit bits c.args.at c.args.count is)
+    read_broken 0 is.nid sent (reading_from (Some is.nid) sent) _ _ _ _ c.in-Broken.fields
+    (c.in-Broken.ensures.item ∙ item_of_unit bits c.args.at c.args.count 0 is) ∙ sym (reading_of_unit bits c.args.at c.args.count is)
 
 pub returns-in-Broken-clause-some : goal.returns-in-Broken-clause-some
 returns-in-Broken-clause-some c = some_fields (drop c.args.at c.args.bits.now) c.args.count (Err c.in-Broken.fields) c.requires.needed (returns-in-Broken-clause-reading c)
@@ -26,4 +28,5 @@ returns-in_default c =
     let bits = c.args.bits.now in
     let is = IsUnitAt-from bits c.args.at c.args.count c.requires.there c.requires.needed in
     let sent = part c.args.at c.args.count bits in
-    absurd (read_other 0 is.nid sent (reading_from (Some is.nid) sent) c.unit_item.result (c.unit_item.ensures.item ∙ item_of_unit bits c.args.at c.args.count 0 is) c.in_default.not-Whole c.in_default.not-Broken)
+    absurd (read_other 0 is.nid sent (reading_from (Some is.nid) sent) c.unit_item.result
+    (c.unit_item.ensures.item ∙ item_of_unit bits c.args.at c.args.count 0 is) c.in_default.not-Whole c.in_default.not-Broken)

@@ -7,7 +7,8 @@ pub new-requires-2 : goal.new-requires-2
 new-requires-2 c = let long : length c.octets.result ≡ 3 = c.octets.ensures.len in response-is c.octets.result c.head_with-head.result c.new.result c.head_with-head.ensures long c.new.ensures
 
 pub returns-clause-packet : goal.returns-clause-packet
-returns-clause-packet c = response-drawn c.args.draws.now c.octets.result c.head_with-head.result c.new.result c.new-2.result c.octets.ensures.octets c.head_with-head.ensures c.new.ensures c.new-2.ensures
+returns-clause-packet c = response-drawn c.args.draws.now c.octets.result
+    c.head_with-head.result c.new.result c.new-2.result c.octets.ensures.octets c.head_with-head.ensures c.new.ensures c.new-2.ensures
 
 pub returns-clause-state : goal.returns-clause-state
 unfolding body_next

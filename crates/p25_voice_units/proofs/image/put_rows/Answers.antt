@@ -21,7 +21,8 @@ loop-row-preserved g c =
     let i = c.loop-row.row-index in
     let size : ℕ × Piece → ℕ = λ row. piece_length g.I.BlockCode.N row.1 in (
       λ encoding encodes.
-          rows_more (contents encoding (g.I.BlockCode.K / 6) c.args.symbols.now c.args.low.now c.args.frames.now) rows i (0, Words 0 0) c.args.out.now c.loop-row.out c.put_piece.new.out c.loop-row-test.true
+          rows_more (contents encoding (g.I.BlockCode.K / 6) c.args.symbols.now c.args.low.now c.args.frames.now) rows i
+          (0, Words 0 0) c.args.out.now c.loop-row.out c.put_piece.new.out c.loop-row-test.true
           (c.loop-row.invariant.0 encoding encodes) (c.put_piece.ensures.list encoding encodes),
       omega (arith, c.put_piece.ensures.len, c.loop-row.invariant.1, sum_by_more size rows i (0, Words 0 0) c.loop-row-test.true),
     )

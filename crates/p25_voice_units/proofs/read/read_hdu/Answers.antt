@@ -16,7 +16,8 @@ read_symbols-requires-clause-there c = all_end 18 770 (length c.args.bare.now) (
 pub returns-in-Some-clause-value : goal.returns-in-Some-clause-value
 unfolding header_in header_from word_places places_from
 returns-in-Some-clause-value c =
-    ap header_from (part_counted header_of_symbols (Some c.in-Some.wrong) (field_reading_of header_layout c.args.bare.now) c.read_symbols.new.symbols c.from_symbols.result c.in-Some.ensures.value c.from_symbols.ensures.value)
+    ap header_from (part_counted header_of_symbols (Some c.in-Some.wrong) (field_reading_of header_layout c.args.bare.now)
+    c.read_symbols.new.symbols c.from_symbols.result c.in-Some.ensures.value c.from_symbols.ensures.value)
 
 pub returns-in-Some-clause-wrong : goal.returns-in-Some-clause-wrong
 unfolding word_places places_from voice_looked voice_image_of voice_body
@@ -24,7 +25,8 @@ returns-in-Some-clause-wrong c =
     let places = word_places 18 hdu_rows in
     let symbols = rs_word 36 20 (header_symbols c.from_symbols.result) in
     coded_fixes _ golay18_word 18 1 places symbols c.args.bare.now c.in-Some.wrong refl (λ nac. words_in_unit (golay18_carried symbols) (header_suits c.from_symbols.result) nac 0 _ refl)
-    (c.in-Some.ensures.wrong golay18_word golay18_encodes ∙ ap (λ symbols. field_fixes_of golay18_word 18 1 (word_places 18 hdu_rows) (rs_word 36 20 symbols) c.args.bare.now) (sym c.from_symbols.ensures.back))
+    (c.in-Some.ensures.wrong golay18_word golay18_encodes ∙ ap
+    (λ symbols. field_fixes_of golay18_word 18 1 (word_places 18 hdu_rows) (rs_word 36 20 symbols) c.args.bare.now) (sym c.from_symbols.ensures.back))
 
 pub returns-in-None-clause-value : goal.returns-in-None-clause-value
 unfolding header_in header_from word_places places_from

@@ -21,7 +21,8 @@ returns-in-Found-clause-wrong g c = λ encoding encodes.
     let word = c.read_field.new.word in
     let is_word = outer_word_found places b.N (b.K / 6) n k b.reading_is bare c.read_field.result word c.in-Found.fixes c.in-Found.is c.read_field.ensures.value in
     let fits : k ≤ length word = omega (arith, is_word.long, c.requires.outer.shorter) in
-    let word_is : word ≡ rs_word n k _ = rs_word-only n k (take k word) word c.requires.outer (length-take-le k word fits) (record { word_of_set = is_word; begins = refl }) ∙ ap (rs_word n k) (sym c.copy_from_slice.ensures.after) in
+    let word_is : word ≡ rs_word n k _ = rs_word-only n k (take k word) word c.requires.outer
+    (length-take-le k word fits) (record { word_of_set = is_word; begins = refl }) ∙ ap (rs_word n k) (sym c.copy_from_slice.ensures.after) in
     c.read_field.ensures.fixes c.requires.some encoding encodes c.in-Found.fixes c.in-Found.is ∙ ap (λ w. field_fixes_of encoding b.N (b.K / 6) places w bare) word_is
 
 pub returns-in-Found-clause-most : goal.returns-in-Found-clause-most

@@ -11,7 +11,8 @@ use Rattle.p25_voice_units.proofs.read.read_tdulc.Goals as goal
 pub returns-in-Some-clause-value : goal.returns-in-Some-clause-value
 unfolding link_in tdulc_from word_places places_from
 returns-in-Some-clause-value c =
-    ap tdulc_from (part_counted link_of_symbols (Some c.in-Some.wrong) (field_reading_of tdulc_layout c.args.bare.now) c.read_symbols.new.symbols c.from_symbols.result c.in-Some.ensures.value c.from_symbols.ensures.value)
+    ap tdulc_from (part_counted link_of_symbols (Some c.in-Some.wrong)
+    (field_reading_of tdulc_layout c.args.bare.now) c.read_symbols.new.symbols c.from_symbols.result c.in-Some.ensures.value c.from_symbols.ensures.value)
 
 pub returns-in-Some-clause-wrong : goal.returns-in-Some-clause-wrong
 unfolding word_places places_from voice_looked voice_image_of voice_body
@@ -19,7 +20,8 @@ returns-in-Some-clause-wrong c =
     let places = word_places 24 tdulc_rows in
     let symbols = rs_word 24 12 (link_symbols c.from_symbols.result) in
     coded_fixes _ golay24_word 24 2 places symbols c.args.bare.now c.in-Some.wrong refl (λ nac. words_in_unit (golay24_carried symbols) (tdulc_suits c.from_symbols.result) nac 15 _ refl)
-    (c.in-Some.ensures.wrong golay24_word golay24_encodes ∙ ap (λ symbols. field_fixes_of golay24_word 24 2 (word_places 24 tdulc_rows) (rs_word 24 12 symbols) c.args.bare.now) (sym c.from_symbols.ensures.back))
+    (c.in-Some.ensures.wrong golay24_word golay24_encodes ∙ ap
+    (λ symbols. field_fixes_of golay24_word 24 2 (word_places 24 tdulc_rows) (rs_word 24 12 symbols) c.args.bare.now) (sym c.from_symbols.ensures.back))
 
 pub returns-in-None-clause-value : goal.returns-in-None-clause-value
 unfolding link_in tdulc_from word_places places_from

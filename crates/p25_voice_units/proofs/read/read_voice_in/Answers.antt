@@ -63,7 +63,8 @@ returns-in-Read-clause-wrong c =
     let read = ldu_read LinkField Link1 link_of_symbols (Read c.in-Read.wrong) c.read_ldu.new.symbols low word c.read_frames.result bare (field_reading_of link_layout bare)
     c.in-Read.ensures.value c.from_symbols.ensures.value c.read_frames.ensures in
     let sendable = (unit_read 5 bare unit (reading-ldu1 bare ∙ sym read)).sendable in
-    ldu_fixes unit 5 12 (link_symbols word) low c.read_frames.result bare c.in-Read.wrong link_code (length-link_symbols word) sendable.speech (long1 c.args.duid bare c.in-5.is c.requires) refl (λ nac. refl)
+    ldu_fixes unit 5 12 (link_symbols word) low c.read_frames.result bare c.in-Read.wrong link_code
+    (length-link_symbols word) sendable.speech (long1 c.args.duid bare c.in-5.is c.requires) refl (λ nac. refl)
     (c.in-Read.ensures.wrong
     ∙ ap (λ symbols. field_fixes_of hamming10_word 10 1 (word_places 10 ldu_rows) (rs_word 24 12 symbols) bare + (low_fixes_of 0 (slice_index low 0) bare + low_fixes_of 1 (slice_index low 1) bare))
     (sym c.from_symbols.ensures.back))
@@ -97,7 +98,8 @@ returns-in-Read-read_ldu-clause-wrong c =
     let read = ldu_read SyncField Link2 sync_of_symbols (Read c.in-Read-read_ldu.wrong) c.read_ldu-in-10.new.symbols low word voice bare (field_reading_of sync_layout bare)
     c.in-Read-read_ldu.ensures.value c.from_symbols-in-Read-read_ldu.ensures.value c.read_frames-in-Read-read_ldu.ensures in
     let sendable = (unit_read 10 bare unit (reading-ldu2 bare ∙ sym read)).sendable in
-    ldu_fixes unit 10 16 (sync_symbols word) low voice bare c.in-Read-read_ldu.wrong sync_code (length-sync_symbols word) sendable.speech (long2 c.args.duid bare c.in-10.is c.requires) refl (λ nac. refl)
+    ldu_fixes unit 10 16 (sync_symbols word) low voice bare c.in-Read-read_ldu.wrong sync_code
+    (length-sync_symbols word) sendable.speech (long2 c.args.duid bare c.in-10.is c.requires) refl (λ nac. refl)
     (c.in-Read-read_ldu.ensures.wrong
     ∙ ap (λ symbols. field_fixes_of hamming10_word 10 1 (word_places 10 ldu_rows) (rs_word 24 16 symbols) bare + (low_fixes_of 0 (slice_index low 0) bare + low_fixes_of 1 (slice_index low 1) bare))
     (sym c.from_symbols-in-Read-read_ldu.ensures.back))

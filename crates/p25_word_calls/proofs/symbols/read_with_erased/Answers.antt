@@ -21,7 +21,8 @@ pub returns : goal.returns
 returns g c =
     let answer : to_z w32 (of_z w32 c.answer_of.result) ≡ reading_answer c.read_with_erasures-reading.result = grind (arith, to_z-of_z) in
     let received = c.name_symbols.new.symbols in
-    symbols_read (λ received. rs_erased_reading_of g.row.N g.row.K (without_erased received c.args.erased.now)) c.args.octets.now c.put_numbers.new.octets received c.read_with_erasures-reading.new.word
+    symbols_read (λ received. rs_erased_reading_of g.row.N g.row.K (without_erased received c.args.erased.now))
+    c.args.octets.now c.put_numbers.new.octets received c.read_with_erasures-reading.new.word
     c.read_with_erasures-reading.result _ (c.name_symbols.ensures.named c.if-not-name_symbols.false)
     (IsChange-erased same_symbols (IsWord g.row.N g.row.K) (g.row.N - g.row.K) (without_erased received c.args.erased.now) received _ _ c.read_with_erasures-reading.ensures.reading)
     c.read_with_erasures-reading.ensures.value c.put_numbers.ensures

@@ -31,4 +31,5 @@ returns c =
     let same : a.len ≡ b.len = sym long_b ∙ sym (ap length c.b.view_is) ∙ length-held b.words b.len fits_b in
     let held_b : take a.len (number_bits 64 b.words) ≡ c.args.b.now = ap (λ n. take n (number_bits 64 b.words)) same ∙ c.b.view_is in
     ap (λ n. n + count_ones (bit_xor c.field.result c.field-2.result)) c.differing.ensures.value
-    ∙ distance_held c.args.a.now c.args.b.now (number_bits 64 a.words) (number_bits 64 b.words) a.len c.field.result c.field-2.result c.a.view_is held_b long_a long_b c.field.ensures.value c.field-2.ensures.value
+    ∙ distance_held c.args.a.now c.args.b.now (number_bits 64 a.words)
+    (number_bits 64 b.words) a.len c.field.result c.field-2.result c.a.view_is held_b long_a long_b c.field.ensures.value c.field-2.ensures.value

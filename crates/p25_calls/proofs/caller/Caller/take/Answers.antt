@@ -15,7 +15,8 @@ pub invariant_of-self-in-Some : goal.invariant_of-self-in-Some
 invariant_of-self-in-Some c =
     let at = c.in-Some.ensures.place ∙ c.requires.place ∙ sym (ap (λ (p : CallerParts). p.reached) c.self.view_is) in
     let ends = unit-ends c.args.item.now c.in-Some.unit c.in-Some.ensures.unit ∙ sym c.item_end-self-inside.ensures.value in
-    pending-kept c.self.inside.reached c.self.inside.taken c.item_end-self-inside.result c.self.inside.pending c.in-Some.unit c.run_with-run.result c.pending_run-self-inside.result c.self.invariant at ends
+    pending-kept c.self.inside.reached c.self.inside.taken c.item_end-self-inside.result
+    c.self.inside.pending c.in-Some.unit c.run_with-run.result c.pending_run-self-inside.result c.self.invariant at ends
     c.run_with-run.ensures c.pending_run-self-inside.ensures
 
 pub returns-in-None-clause-answer : goal.returns-in-None-clause-answer
@@ -48,11 +49,13 @@ returns-in-Some-clause-behind c =
 pub returns-in-Some-clause-sound : goal.returns-in-Some-clause-sound
 returns-in-Some-clause-sound c =
     λ item held.
-    pending-nac c.self.inside.pending c.in-Some.unit c.run_with-run.result c.pending_run-self-inside.result (subst (λ (p : CallerParts). IfSome p.pending (λ (call : Call). call.nac < 4096)) (sym c.self.view_is) held)
+    pending-nac c.self.inside.pending c.in-Some.unit c.run_with-run.result c.pending_run-self-inside.result
+    (subst (λ (p : CallerParts). IfSome p.pending (λ (call : Call). call.nac < 4096)) (sym c.self.view_is) held)
     (c.in-Some.ensures.sound item) c.run_with-run.ensures c.pending_run-self-inside.ensures
 
 pub returns-in-Some-clause-nac : goal.returns-in-Some-clause-nac
 returns-in-Some-clause-nac c =
     λ item held.
-    ended-nac c.self.inside.pending c.in-Some.unit c.or.result (subst (λ (p : CallerParts). IfSome p.pending (λ (call : Call). call.nac < 4096)) (sym c.self.view_is) held) (c.in-Some.ensures.sound item)
+    ended-nac c.self.inside.pending c.in-Some.unit c.or.result
+    (subst (λ (p : CallerParts). IfSome p.pending (λ (call : Call). call.nac < 4096)) (sym c.self.view_is) held) (c.in-Some.ensures.sound item)
     (c.or.ensures ∙ ap₂ option_or c.broken_off.ensures (c.terminated.ensures ∙ ap (λ (run : Call). terminated run c.in-Some.unit) c.run_with-run.ensures))

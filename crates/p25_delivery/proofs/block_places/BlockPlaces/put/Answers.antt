@@ -24,7 +24,8 @@ loop-j-preserved c =
           })
       | in_default w ↦
           record {
-            list = ap (λ (s : Inside). s.places.items) w.self-inside-is ∙ c.loop-j.invariant.list ∙ sym (put_slots-bad c.self.inside.places.items c.args.slots.now c.loop-j.j (c.get.ensures ∙ ap Some w.in_default.is));
+            list = ap (λ (s : Inside). s.places.items) w.self-inside-is ∙ c.loop-j.invariant.list
+                ∙ sym (put_slots-bad c.self.inside.places.items c.args.slots.now c.loop-j.j (c.get.ensures ∙ ap Some w.in_default.is));
             pad = ap (λ (s : Inside). s.pad) w.self-inside-is ∙ c.loop-j.invariant.pad;
           }
     ]

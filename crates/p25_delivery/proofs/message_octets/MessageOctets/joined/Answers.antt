@@ -22,7 +22,8 @@ loop-place-preserved c =
     let long : length c.octets.result.now ≡ 16 = ap length c.octets.ensures.value ∙ c.octets.ensures.len in
     record {
       octets =
-          all_octets-more places c.loop-place.place-index block c.loop-place.items.items here c.loop-place.invariant.octets ∙ ap (λ xs. Some (c.loop-place.items.items ++ xs)) (sym c.octets.ensures.value) ∙
+          all_octets-more places c.loop-place.place-index block c.loop-place.items.items here c.loop-place.invariant.octets
+          ∙ ap (λ xs. Some (c.loop-place.items.items ++ xs)) (sym c.octets.ensures.value) ∙
           ap Some (sym c.push_octets.ensures.list);
       len = omega arith;
     }

@@ -20,21 +20,25 @@ invariant_of-self c =
     let o = outgoing_of c.self.inside in
     let message = c.args.message.now in
     let answer = Taken c.in-Taken.number c.in-Taken.blocks c.in-Taken.packet in
-    let kept = keeps o message c.offer.new.self c.offer.result answer c.offer.ensures c.in-Taken.is (fits-as c.octets.result.now c.args.message.now c.octets.ensures.octets c.octets.ensures.most c.octets_fit.ensures) c.self.invariant in
+    let kept = keeps o message c.offer.new.self c.offer.result answer c.offer.ensures c.in-Taken.is
+    (fits-as c.octets.result.now c.args.message.now c.octets.ensures.octets c.octets.ensures.most c.octets_fit.ensures) c.self.invariant in
     subst (λ (sent : List (List ℕ)). IsOutgoing (record (after_offer o message (c.offer.new.self, answer)).0 { sent = sent })) (sym c.push.ensures.list) kept.0
 
 pub invariant_of-self-in-Busy : goal.invariant_of-self-in-Busy
 unfolding after_offer
 invariant_of-self-in-Busy c =
-    (keeps (outgoing_of c.self.inside) c.args.message.now c.offer.new.self c.offer.result Busy c.offer.ensures c.in-Busy.is (fits-as c.octets.result.now c.args.message.now c.octets.ensures.octets c.octets.ensures.most c.octets_fit.ensures) c.self.invariant).0
+    (keeps (outgoing_of c.self.inside) c.args.message.now c.offer.new.self c.offer.result Busy c.offer.ensures c.in-Busy.is
+    (fits-as c.octets.result.now c.args.message.now c.octets.ensures.octets c.octets.ensures.most c.octets_fit.ensures) c.self.invariant).0
 
 pub invariant_of-self-in-Down : goal.invariant_of-self-in-Down
 unfolding after_offer
 invariant_of-self-in-Down c =
-    (keeps (outgoing_of c.self.inside) c.args.message.now c.offer.new.self c.offer.result Down c.offer.ensures c.in-Down.is (fits-as c.octets.result.now c.args.message.now c.octets.ensures.octets c.octets.ensures.most c.octets_fit.ensures) c.self.invariant).0
+    (keeps (outgoing_of c.self.inside) c.args.message.now c.offer.new.self c.offer.result Down c.offer.ensures c.in-Down.is
+    (fits-as c.octets.result.now c.args.message.now c.octets.ensures.octets c.octets.ensures.most c.octets_fit.ensures) c.self.invariant).0
 
 pub returns-in-Taken-clause-sendable : goal.returns-in-Taken-clause-sendable
 unfolding after_offer
 returns-in-Taken-clause-sendable c =
     let answer = Taken c.in-Taken.number c.in-Taken.blocks c.in-Taken.packet in
-    (keeps (outgoing_of c.self.inside) c.args.message.now c.offer.new.self c.offer.result answer c.offer.ensures c.in-Taken.is (fits-as c.octets.result.now c.args.message.now c.octets.ensures.octets c.octets.ensures.most c.octets_fit.ensures) c.self.invariant).1
+    (keeps (outgoing_of c.self.inside) c.args.message.now c.offer.new.self c.offer.result answer c.offer.ensures c.in-Taken.is
+    (fits-as c.octets.result.now c.args.message.now c.octets.ensures.octets c.octets.ensures.most c.octets_fit.ensures) c.self.invariant).1

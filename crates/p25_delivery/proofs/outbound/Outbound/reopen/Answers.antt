@@ -27,7 +27,8 @@ invariant_of-self c =
 pub invariant_of-self-else-not-is_opening : goal.invariant_of-self-else-not-is_opening
 unfolding after_reopening
 invariant_of-self-else-not-is_opening c =
-    (keeps (outgoing_of c.self.inside) c.args.delivered true c.reopen.new.self c.reopen.result (Sent c.in-Sent.number c.in-Sent.packet) (sym c.if-not-is_opening.false ∙ c.is_opening-is_opening.ensures)
+    (keeps (outgoing_of c.self.inside) c.args.delivered true c.reopen.new.self c.reopen.result
+    (Sent c.in-Sent.number c.in-Sent.packet) (sym c.if-not-is_opening.false ∙ c.is_opening-is_opening.ensures)
     c.reopen.ensures c.in-Sent.is c.self.invariant).0
 
 -- where the sender is up, the half has the same marks

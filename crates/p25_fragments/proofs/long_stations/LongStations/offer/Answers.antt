@@ -25,6 +25,7 @@ returns-in_default c =
     let told = c.step_ready-step.ensures in
     let room = c.start.ensures.room in
     record {
-      step = c.start.ensures.step ∙ taken-offer _ (state_of c.self.inside) _ _ _ _ began c.part.ensures (call-state _ told.step) (call-answer _ told.step) c.in_default.not-OfferDown c.in_default.not-Busy;
+      step = c.start.ensures.step ∙ taken-offer _ (state_of c.self.inside) _ _ _ _ began c.part.ensures
+          (call-state _ told.step) (call-answer _ told.step) c.in_default.not-OfferDown c.in_default.not-Busy;
       spare = omega (arith, ap (λ (p : LongParts). p.spare) c.self.view_is, told.spare, room.inner, room.own, room.spare);
     }

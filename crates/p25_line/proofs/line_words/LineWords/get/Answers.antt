@@ -8,7 +8,8 @@ word-requires-clause-held c =
     spans_kept c.self.inside.line.now c.self.inside.words c.args.i c.self.invariant held c.requires.kept
 
 pub returns-clause-word : goal.returns-clause-word
-returns-clause-word c = ap (λ l. slice_get l c.args.i) (sym c.self.view_is) ∙ word_kept c.self.inside.line.now c.self.inside.words c.args.i c.word.result.now c.self.invariant c.requires.kept c.word.ensures
+returns-clause-word c = ap (λ l. slice_get l c.args.i) (sym c.self.view_is)
+    ∙ word_kept c.self.inside.line.now c.self.inside.words c.args.i c.word.result.now c.self.invariant c.requires.kept c.word.ensures
 
 pub returns-clause-short : goal.returns-clause-short
 returns-clause-short c = word_short c.self.inside.line.now c.self.inside.words c.args.i c.word.result.now c.self.invariant c.word.ensures

@@ -14,5 +14,6 @@ returns c =
     let made : c.unwrap-2.result ≡ c.as_slice.result.now = rw c.unwrap-2.ensures at c.new.ensures.message in
     let extended = rw c.unwrap.ensures at c.try_extend_from_slice.ensures.ok in
     let mark = c.mark_of.ensures ∙ ap (λ (count : ℕ). part_mark count i) c.parts.ensures.parts in
-    made ∙ c.as_slice.ensures.value ∙ extended ∙ ap (λ (xs : List ℕ). xs ++ take (c.min-end.result - 500 * i) (drop (500 * i) octets)) (c.push.ensures.items ∙ ap (λ (xs : List ℕ). xs ++ c.mark_of.result ∷ []) c.new-part.ensures) ∙
+    made ∙ c.as_slice.ensures.value ∙ extended ∙ ap (λ (xs : List ℕ). xs ++ take (c.min-end.result - 500 * i) (drop (500 * i) octets))
+    (c.push.ensures.items ∙ ap (λ (xs : List ℕ). xs ++ c.mark_of.result ∷ []) c.new-part.ensures) ∙
     ap₂ (λ (m : ℕ) (xs : List ℕ). m ∷ xs) mark cut

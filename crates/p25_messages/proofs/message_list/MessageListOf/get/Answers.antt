@@ -6,15 +6,28 @@ use Rattle.p25_messages.proofs.message_list.MessageListOf.get.Goals as goal
 
 pub start-requires : goal.start-requires
 start-requires g c =
-    omega (arith, length-list c.self.inside.ends.items c.self.inside.octets.items c.as_slice-ends.result.now c.args.self.now.list (ap (λ (s : ListParts). s.list) c.self.view_is) c.as_slice-ends.ensures.value)
+    omega (
+      arith,
+      length-list c.self.inside.ends.items c.self.inside.octets.items c.as_slice-ends.result.now c.args.self.now.list
+          (ap (λ (s : ListParts). s.list) c.self.view_is) c.as_slice-ends.ensures.value,
+    )
 
 pub overflow_add-i : goal.overflow_add-i
 overflow_add-i g c =
-    omega (arith, c.as_slice-ends.type_inv, length-list c.self.inside.ends.items c.self.inside.octets.items c.as_slice-ends.result.now c.args.self.now.list (ap (λ (s : ListParts). s.list) c.self.view_is) c.as_slice-ends.ensures.value)
+    omega (
+      arith,
+      c.as_slice-ends.type_inv,
+      length-list c.self.inside.ends.items c.self.inside.octets.items c.as_slice-ends.result.now c.args.self.now.list
+          (ap (λ (s : ListParts). s.list) c.self.view_is) c.as_slice-ends.ensures.value,
+    )
 
 pub start-requires-2 : goal.start-requires-2
 start-requires-2 g c =
-    omega (arith, length-list c.self.inside.ends.items c.self.inside.octets.items c.as_slice-ends.result.now c.args.self.now.list (ap (λ (s : ListParts). s.list) c.self.view_is) c.as_slice-ends.ensures.value)
+    omega (
+      arith,
+      length-list c.self.inside.ends.items c.self.inside.octets.items c.as_slice-ends.result.now c.args.self.now.list
+          (ap (λ (s : ListParts). s.list) c.self.view_is) c.as_slice-ends.ensures.value,
+    )
 
 piece : (g : given.Over) (c : goal.After-start-2 g) → IsPiece c.as_slice.result.now c.args.self.now.list c.args.i c.start.result c.start-2.result
 piece g c =

@@ -26,7 +26,8 @@ returns-clause-list g c =
     let last : c.len.result ≡ length octets + length more = c.len.ensures ∙ count ∙ ap (λ (n : ℕ). n + length more) c.self.inside.octets.ok.0 in
     let are : AreEnds 0 c.self.inside.ends.items (length octets) = rw (← c.self.inside.octets.ok.0) c.self.invariant.are in
     rw (items, last, all)
-    (pieces_between-push 0 c.self.inside.ends.items octets more are ∙ ap₂ (λ (list : List (List ℕ)) (message : List ℕ). list ++ message ∷ []) (ap (λ (s : ListParts). s.list) c.self.view_is) c.octets.ensures.octets)
+    (pieces_between-push 0 c.self.inside.ends.items octets more are
+    ∙ ap₂ (λ (list : List (List ℕ)) (message : List ℕ). list ++ message ∷ []) (ap (λ (s : ListParts). s.list) c.self.view_is) c.octets.ensures.octets)
 
 pub returns-clause-spare : goal.returns-clause-spare
 returns-clause-spare g c =

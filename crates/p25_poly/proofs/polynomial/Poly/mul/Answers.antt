@@ -21,5 +21,6 @@ loop-i-preserved c = (
 
 pub returns : goal.returns
 returns c =
-    rows_are_product gf64 64 c.loop-i.i (coefficient_of c.args.self.now) (coefficient_of c.args.other.now) _ (omega arith) (short_list gf64 64 _ c.args.self.now.full) (short_list gf64 64 _ c.args.other.now.full)
+    rows_are_product gf64 64 c.loop-i.i (coefficient_of c.args.self.now)
+    (coefficient_of c.args.other.now) _ (omega arith) (short_list gf64 64 _ c.args.self.now.full) (short_list gf64 64 _ c.args.other.now.full)
     (short_list gf64 64 _ c.loop-i.invariant.0) c.requires c.loop-i.invariant.1

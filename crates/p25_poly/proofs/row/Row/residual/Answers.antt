@@ -14,6 +14,7 @@ pub loop-k-preserved : goal.loop-k-preserved
 loop-k-preserved c =
     c.add-residual.ensures.sum
     ∙ ap₂ gf64.add c.loop-k.invariant
-    (c.mul.ensures.product ∙ ap₂ gf64.mul (get_or_default c.args.self.now.cells c.loop-k.k _ gf64.zero (omega arith)) (coefficient_read gf64 c.args.unknowns.now c.loop-k.k c.index-unknowns-k.result (omega arith) c.index-unknowns-k.is))
+    (c.mul.ensures.product ∙ ap₂ gf64.mul (get_or_default c.args.self.now.cells c.loop-k.k _ gf64.zero (omega arith))
+    (coefficient_read gf64 c.args.unknowns.now c.loop-k.k c.index-unknowns-k.result (omega arith) c.index-unknowns-k.is))
     ∙ add_assoc gf64 _ _ _
     ∙ ap (gf64.add c.args.self.now.right) (sym (dot-next gf64 c.loop-k.k (coefficient gf64 c.args.self.now.cells) (coefficient gf64 c.args.unknowns.now)))

@@ -31,7 +31,8 @@ returns-clause-moved g c =
     let taken = take c.push_some.result c.args.octets.now in
     let next : RecordingParts g.row.R.Denot = record { report = s.report; scan = c.push_some.new.self; phase = s.phase } in
     subst (λ (r : RecordingParts g.row.R.Denot). Progress (recording_future reporting r) taken [] (recording_future reporting next)) c.self.view_is
-    (step-push reporting s.report s.scanner c.push_some.new.self s.phase taken (ap (λ (r : RecordingParts g.row.R.Denot). has_ended r.phase) c.self.view_is ∙ c.requires.going) c.push_some.ensures.bits)
+    (step-push reporting s.report s.scanner c.push_some.new.self s.phase taken
+    (ap (λ (r : RecordingParts g.row.R.Denot). has_ended r.phase) c.self.view_is ∙ c.requires.going) c.push_some.ensures.bits)
 
 pub returns-clause-size : goal.returns-clause-size
 returns-clause-size g c =

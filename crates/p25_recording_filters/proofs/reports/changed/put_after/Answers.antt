@@ -18,7 +18,8 @@ returns-clause-octets c =
     ∙ ap (λ (zs : List ℕ). zs ++ last) (c.put.ensures.list ∙ ap (λ (n : ℕ). c.args.out.now ++ n ∷ []) c.field.ensures.value)
     ∙ append_assoc c.args.out.now _ last
     ∙ ap (λ (zs : List ℕ). c.args.out.now ++ zs)
-    (octets-behind c.args.kept.now c.args.bits.now missing c.requires.kept (ap (λ (n : ℕ). 8 - n) c.len-missing.ensures.value) (omega (arith, c.if-len-missing.false, c.len.ensures.value)) c.append-2.new.self c.append-2.ensures.list)
+    (octets-behind c.args.kept.now c.args.bits.now missing c.requires.kept (ap (λ (n : ℕ). 8 - n) c.len-missing.ensures.value)
+    (omega (arith, c.if-len-missing.false, c.len.ensures.value)) c.append-2.new.self c.append-2.ensures.list)
 
 pub returns-clause-kept : goal.returns-clause-kept
 returns-clause-kept c =

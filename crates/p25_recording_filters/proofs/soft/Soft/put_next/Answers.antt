@@ -55,7 +55,8 @@ invariant_of-self c =
     let s = c.self.inside in
     let before : SoftParts = record { scan = s.scanner; levels = s.levels; kept = s.kept } in
     let now : SoftParts = record { scan = c.next.new.self; levels = c.put_item.new.levels; kept = c.put_item.new.kept } in
-    let done = put_of before now s.raw c.next.new.raw c.put_item.new.out c.next.result c.in-Some.item c.self.invariant.0 c.next.ensures.given c.in-Some.is c.put_item.ensures.piece c.put_item.ensures.behind c.put_item.ensures.left in
+    let done = put_of before now s.raw c.next.new.raw c.put_item.new.out c.next.result
+    c.in-Some.item c.self.invariant.0 c.next.ensures.given c.in-Some.is c.put_item.ensures.piece c.put_item.ensures.behind c.put_item.ensures.left in
     (done.1, c.put_item.ensures.few, omega (arith, step-size before now c.put_item.new.out c.self.invariant.0 done.0, c.self.invariant.2))
 
 pub returns : goal.returns
@@ -63,5 +64,6 @@ returns c =
     let s = c.self.inside in
     let before : SoftParts = record { scan = s.scanner; levels = s.levels; kept = s.kept } in
     let now : SoftParts = record { scan = c.next.new.self; levels = c.put_item.new.levels; kept = c.put_item.new.kept } in
-    let done = put_of before now s.raw c.next.new.raw c.put_item.new.out c.next.result c.in-Some.item c.self.invariant.0 c.next.ensures.given c.in-Some.is c.put_item.ensures.piece c.put_item.ensures.behind c.put_item.ensures.left in
+    let done = put_of before now s.raw c.next.new.raw c.put_item.new.out c.next.result
+    c.in-Some.item c.self.invariant.0 c.next.ensures.given c.in-Some.is c.put_item.ensures.piece c.put_item.ensures.behind c.put_item.ensures.left in
     subst (λ (r : SoftParts). PutSoftItem r c.put_item.new.out now) c.self.view_is done.0

@@ -5,7 +5,8 @@ use Rattle.p25_units.proofs.ReadingsLaws.{IsWholeBody-sendable}
 use Rattle.p25_units.proofs.frame.Frame.filled.Goals as goal
 
 -- there is a status symbol for each 72 bits
-symbols_of : (unit : UnitParts) (status : Status) (count : ℕ) (statuses : List Status) → count ≡ frame_length_of unit → statuses ≡ replicate (count / 72) status → 72 * length statuses ≡ frame_length_of unit
+symbols_of : (unit : UnitParts) (status : Status) (count : ℕ) (statuses : List Status)
+    → count ≡ frame_length_of unit → statuses ≡ replicate (count / 72) status → 72 * length statuses ≡ frame_length_of unit
 unfolding frame_length_of
 symbols_of unit status count statuses value list = omega (arith, value, ap length list, length-replicate (count / 72) status)
 

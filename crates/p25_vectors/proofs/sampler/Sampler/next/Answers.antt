@@ -4,7 +4,8 @@ use Rattle.p25_vectors.specs.Samples.{sample_bits, sample_flips, sample_frame, s
 use Rattle.p25_vectors.proofs.SampleLaws.{image-length, image-reads, image-within, sample-next}
 use Rattle.p25_vectors.proofs.sampler.Sampler.next.Goals as goal
 
-next : (c : goal.After-self-1) → let i = c.self.inside.given in (c.draw_frame-frame.result ≡ sample_frame i) × (c.put_damaged-flips.new.bits ≡ sample_bits i) × (c.put_damaged-flips.result ≡ sample_flips i)
+next : (c : goal.After-self-1) → let i = c.self.inside.given in
+    (c.draw_frame-frame.result ≡ sample_frame i) × (c.put_damaged-flips.new.bits ≡ sample_bits i) × (c.put_damaged-flips.result ≡ sample_flips i)
     × (c.put_damaged-flips.new.draws ≡ state_before (i + 1))
 next c =
     let frame = c.draw_frame-frame in
