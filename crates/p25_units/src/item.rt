@@ -3,11 +3,12 @@
 ghost use Rattle.std.specs.Prelude.{◌≡◌, ◌^◌, ◌<◌, ◌≤◌, ℕ, length, drop};
 ghost use Rattle.p25_bits.specs.Bits.{part};
 ghost use Rattle.p25_units.specs.{Begins.{IsBegun}, Items.{IsSoundItem, covered, place_of, unit_item_of}, Needs.{need_of}, declared.frame.Frame.{Frame}};
-ghost use Rattle.p25_units.specs.{declared.item.Item.TheVariants.{Whole}, declared.needs.Need.TheVariants.{Length}};
+ghost use Rattle.p25_units.specs.{declared.item.Item.TheVariants.{Broken, Whole}, declared.needs.Need.TheVariants.{Length}};
 
 use crate::begun::Begun;
 use crate::frame::{Frame, frame_length};
 use crate::read::read_frame;
+use p25_bch_nid::Nid;
 use p25_bits::BitBuf;
 use p25_status::{Field, FieldList, Outcome};
 
@@ -90,6 +91,20 @@ impl Item {
             }
         }
     }
+
+    // Makes it a broken unit. It is large, so it is made apart from its caller.
+    #[inline(never)]
+    fn make_broken(&mut self, place: u64, length: u32, nid: &Nid, fields: FieldList)
+        ensures { self.new ≡ Broken place length nid.now.nac nid.now.duid fields }
+    {
+        *self = Item::Broken {
+            place,
+            length,
+            nac: nid.nac,
+            duid: nid.duid,
+            fields,
+        };
+    }
 }
 
 /// Answers the item of the unit whose `count` sent bits begin at place `at`, where `need` answers that length there and
@@ -140,13 +155,7 @@ pub fn unit_item_in(
                     match read_frame(bits, at, count, &read, &mut begun, room, frame) {
                         Outcome::Read { wrong } => *fixes = wrong,
                         Outcome::Failing { fields } => {
-                            *item = Item::Broken {
-                                place,
-                                length: count as u32,
-                                nac: read.nid.nac,
-                                duid: read.nid.duid,
-                                fields,
-                            };
+                            item.make_broken(place, count as u32, &read.nid, fields);
                         }
                     }
                 }

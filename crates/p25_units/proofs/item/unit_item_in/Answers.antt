@@ -16,8 +16,8 @@ pub read_frame-requires-clause-kind : goal.read_frame-requires-clause-kind
 read_frame-requires-clause-kind c =
     kind-is c.args.bits.now c.args.at c.args.count (IsUnitAt-from c.args.bits.now c.args.at c.args.count c.requires.there c.requires.needed) c.in-Some.read.nid c.in-Some.ensures.value
 
-pub overflow_cast-item : goal.overflow_cast-item
-overflow_cast-item c =
+pub overflow_cast-count : goal.overflow_cast-count
+overflow_cast-count c =
     let is = IsUnitAt-from c.args.bits.now c.args.at c.args.count c.requires.there c.requires.needed in
     let kind = kind-is c.args.bits.now c.args.at c.args.count is c.in-Some.read.nid c.in-Some.ensures.value in
     omega (arith, (IsCountAt-kind c.in-Some.read.nid.duid c.args.bits.now c.args.at c.args.count c.requires.there kind).most)
@@ -39,5 +39,5 @@ returns-in-Failing-clause-item c =
     let nid = c.in-Some.read.nid in
     let fields = c.in-Failing.fields in
     let kind = kind-is c.args.bits.now c.args.at c.args.count is nid c.in-Some.ensures.value in
-    item-is c.args.bits.now c.args.at c.args.count c.args.place is nid c.in-Some.ensures.value (Broken c.args.place c.args.count nid.nac nid.duid fields)
+    c.make_broken.ensures ∙ item-is c.args.bits.now c.args.at c.args.count c.args.place is nid c.in-Some.ensures.value (Broken c.args.place c.args.count nid.nac nid.duid fields)
     (broken-is c.args.place nid.nac nid.duid c.args.bits.now c.args.at c.args.count fields c.requires.there kind c.in-Failing.ensures.frame)
