@@ -1,15 +1,15 @@
 //! One call of the program.
 
-ghost use Rattle.std.specs.Prelude.{◌≡◌, List, []};
-ghost use Rattle.p25_io.specs.{Events.{Event}, Streams.{StreamsGo, events_on}};
-ghost use Rattle.p25_app.specs.Calls.{IsOneCall, IsRunOf, words_given};
+ghost use Rattle.std.specs.Prelude.{◌≡◌, []};
+ghost use Rattle.p25_io.specs.Streams.{StreamsGo, events_on};
+ghost use Rattle.p25_app.specs.Calls.{IsOneCall, words_given};
 
 mod ended;
 
 use super::arguments::words_of;
 use super::error_line::{ErrorSink, tell};
 pub use ended::Ended;
-use p25_io::{Port, Streams};
+use p25_io::Streams;
 use p25_tool::{Outcome, outcome_status, run_on};
 use std::alloc::Global;
 use std::env::Args;
@@ -33,32 +33,10 @@ pub fn call<R: Read, W: Write, E: ErrorSink>(
     ensures called { IsOneCall (words_given arguments) (events_on streams.new) (E.written errors.old) (E.written errors.new) (E.faults errors.old)
         (E.faults errors.new) result }
 {
-    call_on(alloc, arguments, streams, errors)
-}
-
-/// Makes one call of the program on any port: `call` is this on streams.
-///
-/// The contract says which reads and writes are made, and in which order: those of one `run_on` of p25_tool.
-pub fn call_on<P: Port, E: ErrorSink>(
-    alloc: Global,
-    arguments: io::Result<Args>,
-    port: &mut P,
-    errors: &mut E,
-) -> Ended
-    ensures { (events : List Event) × P.moves port.old events port.new
-        × IsOneCall (words_given arguments) events (E.written errors.old) (E.written errors.new) (E.faults errors.old) (E.faults errors.new) result }
-{
-    let outcome = run_words(alloc, arguments, port);
+    let outcome = match words_of(arguments) {
+        Some(words) => run_on(alloc, &words, streams),
+        None => Outcome::Memory,
+    };
     tell(&outcome, errors);
     Ended::new(outcome_status(&outcome))
-}
-
-// The run of the words of the arguments, on a port.
-fn run_words<P: Port>(alloc: Global, arguments: io::Result<Args>, port: &mut P) -> Outcome
-    ensures { (events : List Event) × P.moves port.old events port.new × IsRunOf (words_given arguments) events result }
-{
-    match words_of(arguments) {
-        Some(words) => run_on(alloc, &words, port),
-        None => Outcome::Memory,
-    }
 }

@@ -2,8 +2,8 @@
 
 use super::arguments::words_of;
 use super::error_line::{ErrorSink, tell};
-use super::program::call_on;
-use p25_io::{Pair, SliceSink, SteadySource};
+use super::program::call;
+use p25_io::{SliceSink, Streams};
 use p25_tool::Outcome;
 use std::io;
 use std::io::ErrorKind;
@@ -46,19 +46,17 @@ fn ends_of_calls(rt: HostRuntime) {
         (ErrorKind::OutOfMemory, b"out of memory\n", 5),
     ];
     for (kind, text, status) in rows {
-        let mut source = SteadySource::new(b"send 61\n", 4);
-        let (mut room, mut line) = ([0; 64], [0; 64]);
-        let mut sink = SliceSink::new(&mut room, &[]);
+        let (mut input, mut output) = (b"send 61\n".as_slice(), Vec::new(rt.alloc()));
+        let mut line = [0; 64];
         let mut errors = SliceSink::new(&mut line, &[]);
-        let mut port = Pair::new(&mut source, &mut sink);
-        let end = call_on(
+        let mut streams = Streams::new(&mut input, &mut output);
+        let end = call(
             rt.alloc(),
             Err(io::Error::from(kind)),
-            &mut port,
+            &mut streams,
             &mut errors,
         );
         assert!(rt; end.report(&rt) == ExitCode::from(status));
-        assert!(rt; errors.written() == text && sink.written().len() == 0);
-        assert!(rt; source.rest().len() == 8);
+        assert!(rt; errors.written() == text && output.is_empty() && input.len() == 8);
     }
 }
