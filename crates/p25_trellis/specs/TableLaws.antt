@@ -90,96 +90,55 @@ parts-from_test states apart point parted passed state x y hs hx hy other =
     second true b h not_a = absurd (not_a refl)
     second false b h not_a = h
 
--- the path of zeros, and that whose first symbol is another
-apart-first : (states first apart : ℕ) (point : ℕ → ℕ → ℕ) → 0 < states → first < states → first ≢ 0
-    → distance_of (sent_bits point (replicate 49 0)) (sent_bits point (first ∷ replicate 48 0)) ≡ apart → SomeApart states point apart
-apart-first states first apart point some below other distance = record {
-  path = replicate 49 0;
-  other = first ∷ replicate 48 0;
-  is_path = record { long = refl; below = All-replicate (λ (symbol : ℕ). symbol < states) 49 0 some; last = refl };
-  other_is_path =
-      record {
-        long = refl;
-        below =
-            All-cons (λ (symbol : ℕ). symbol < states) first (replicate 48 0) below (All-replicate (λ (symbol : ℕ). symbol < states) 48 0 some);
-        last = refl;
-      };
-  differ = λ same. other (cc);
-  places_is = distance;
+-- a table passes the tests, and the path whose first symbol is `first` differs from the path of zeros in `apart` bits
+record PassesTests (states first apart : ℕ) (point parted : ℕ → ℕ → ℕ) : Type 0 where
+  pub nibbles : nibbles_test states point ≡ true
+  pub stays_parted : parted_test states point parted ≡ true
+  pub parts : parts_test states apart point parted ≡ true
+  pub together : parted 0 0 ≡ 0
+  pub distance : distance_of (sent_bits point (replicate 49 0)) (sent_bits point (first ∷ replicate 48 0)) ≡ apart
+
+-- a table that passes them is a rate
+rate-of_tests : {states bits octets first apart : ℕ} {point parted : ℕ → ℕ → ℕ} → PassesTests states first apart point parted → states ≡ 2 ^ bits
+    → bits ≤ 3 → states ≤ 8 → 48 * bits ≡ 8 * octets → 0 < apart → first ≢ 0 → first < states → IsRate states bits octets apart point parted
+rate-of_tests {states} {bits} {octets} {first} {apart} {point} {parted} passes same few_bits few_states octets_same some other below = record {
+  states_of_bits = same;
+  few_bits = few_bits;
+  few_states = few_states;
+  octets_of_bits = octets_same;
+  some_apart = some;
+  nibbles = nibbles-from_test states point passes.nibbles;
+  together = passes.together;
+  stays_parted = parted-from_test states point parted passes.stays_parted;
+  reached = record {
+    path = replicate 49 0;
+    other = first ∷ replicate 48 0;
+    is_path = record { long = refl; below = All-replicate (λ (symbol : ℕ). symbol < states) 49 0 (omega (arith, below)); last = refl };
+    other_is_path = record {
+      long = refl;
+      below =
+          All-cons (λ (symbol : ℕ). symbol < states) first (replicate 48 0) below
+          (All-replicate (λ (symbol : ℕ). symbol < states) 48 0 (omega (arith, below)));
+      last = refl;
+    };
+    differ = λ alike. other (cc);
+    places_is = passes.distance;
+  };
+  parts = parts-from_test states apart point parted passes.parts;
 }
 
-half_nibbles : nibbles_test 4 half_point ≡ true
-unfolding nibbles_test passed_below half_point point_in half_rows point_nibbles
-half_nibbles = refl
+half_passes : PassesTests 4 1 5 half_point half_parted
+unfolding nibbles_test parted_test parts_test passed_below half_point point_in half_rows point_nibbles half_parted nibble_distance bits_of distance_by sent_bits
+    number_bits interleaved each_fourth nibbles_from
+half_passes = record { nibbles = refl; stays_parted = refl; parts = refl; together = refl; distance = refl }
 
-half_stays_parted : parted_test 4 half_point half_parted ≡ true
-unfolding parted_test passed_below half_point point_in half_rows point_nibbles half_parted nibble_distance bits_of distance_by
-half_stays_parted = refl
-
-half_parts : parts_test 4 5 half_point half_parted ≡ true
-unfolding parts_test passed_below half_point point_in half_rows point_nibbles half_parted nibble_distance bits_of distance_by
-half_parts = refl
-
-half_together : half_parted 0 0 ≡ 0
-unfolding half_parted
-half_together = refl
-
-half_distance : distance_of (sent_bits half_point (replicate 49 0)) (sent_bits half_point (1 ∷ replicate 48 0)) ≡ 5
-unfolding sent_bits number_bits interleaved each_fourth nibbles_from half_point point_in half_rows point_nibbles bits_of distance_by
-half_distance = refl
-
-half_reached : SomeApart 4 half_point 5
-half_reached = apart-first 4 1 5 half_point (omega arith) (omega arith) (omega arith) half_distance
-
--- the table is a rate
 pub half_is_rate : IsRate 4 2 12 5 half_point half_parted
-half_is_rate = record {
-  states_of_bits = refl;
-  few_bits = omega arith;
-  few_states = omega arith;
-  octets_of_bits = refl;
-  some_apart = omega arith;
-  nibbles = nibbles-from_test 4 half_point half_nibbles;
-  together = half_together;
-  stays_parted = parted-from_test 4 half_point half_parted half_stays_parted;
-  reached = half_reached;
-  parts = parts-from_test 4 5 half_point half_parted half_parts;
-}
+half_is_rate = rate-of_tests half_passes refl (omega arith) (omega arith) refl (omega arith) (omega arith) (omega arith)
 
-three_quarter_nibbles : nibbles_test 8 three_quarter_point ≡ true
-unfolding nibbles_test passed_below three_quarter_point point_in three_quarter_rows point_nibbles
-three_quarter_nibbles = refl
+three_quarter_passes : PassesTests 8 2 3 three_quarter_point three_quarter_parted
+unfolding nibbles_test parted_test parts_test passed_below three_quarter_point point_in three_quarter_rows point_nibbles three_quarter_parted nibble_distance
+    bits_of distance_by sent_bits number_bits interleaved each_fourth nibbles_from
+three_quarter_passes = record { nibbles = refl; stays_parted = refl; parts = refl; together = refl; distance = refl }
 
-three_quarter_stays_parted : parted_test 8 three_quarter_point three_quarter_parted ≡ true
-unfolding parted_test passed_below three_quarter_point point_in three_quarter_rows point_nibbles three_quarter_parted nibble_distance bits_of distance_by
-three_quarter_stays_parted = refl
-
-three_quarter_parts : parts_test 8 3 three_quarter_point three_quarter_parted ≡ true
-unfolding parts_test passed_below three_quarter_point point_in three_quarter_rows point_nibbles three_quarter_parted nibble_distance bits_of distance_by
-three_quarter_parts = refl
-
-three_quarter_together : three_quarter_parted 0 0 ≡ 0
-unfolding three_quarter_parted
-three_quarter_together = refl
-
-three_quarter_distance : distance_of (sent_bits three_quarter_point (replicate 49 0)) (sent_bits three_quarter_point (2 ∷ replicate 48 0)) ≡ 3
-unfolding sent_bits number_bits interleaved each_fourth nibbles_from three_quarter_point point_in three_quarter_rows point_nibbles bits_of distance_by
-three_quarter_distance = refl
-
-three_quarter_reached : SomeApart 8 three_quarter_point 3
-three_quarter_reached = apart-first 8 2 3 three_quarter_point (omega arith) (omega arith) (omega arith) three_quarter_distance
-
--- the table is a rate
 pub three_quarter_is_rate : IsRate 8 3 18 3 three_quarter_point three_quarter_parted
-three_quarter_is_rate = record {
-  states_of_bits = refl;
-  few_bits = omega arith;
-  few_states = omega arith;
-  octets_of_bits = refl;
-  some_apart = omega arith;
-  nibbles = nibbles-from_test 8 three_quarter_point three_quarter_nibbles;
-  together = three_quarter_together;
-  stays_parted = parted-from_test 8 three_quarter_point three_quarter_parted three_quarter_stays_parted;
-  reached = three_quarter_reached;
-  parts = parts-from_test 8 3 three_quarter_point three_quarter_parted three_quarter_parts;
-}
+three_quarter_is_rate = rate-of_tests three_quarter_passes refl (omega arith) (omega arith) refl (omega arith) (omega arith) (omega arith)
