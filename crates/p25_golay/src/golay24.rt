@@ -1,11 +1,11 @@
 //! The Golay code (24,12).
 
 ghost use Rattle.std.specs.Prelude.{◌≡◌, ◌<◌};
-ghost use Rattle.p25_code.specs.WrongBits.{number_sum};
-ghost use Rattle.p25_golay.specs.{Golay24.{IsGolay24}, Golay24Laws.{check_rows, message_rows}, Golay24Readings.{golay24_reading_of, golay24_is_checked}};
+ghost use Rattle.p25_code.specs.{CodeLaws.{shape_of}, WrongBits.{number_sum}};
+ghost use Rattle.p25_golay.specs.Golay24Laws.{golay24_code, message_rows};
 
 use p25_bits::sums;
-use p25_code::{CheckedCode, wrong_by_halves};
+use p25_code::{CheckedCode, Shape, wrong_by_halves};
 
 // The check bits of the messages with one 1, in order.
 const CHECK_ROWS: [u16; 12] = [
@@ -37,25 +37,15 @@ static MESSAGES: [[u16; 64]; 2] = [
 pub struct Golay24;
 
 impl CheckedCode for Golay24 {
-    const INFORMATION: usize = 12;
+    const SHAPE: Shape = Shape {
+        information: 12,
+        checks: 12,
+        radius: 3,
+    };
 
-    const CHECKS: u32 = 12;
+    ghost SHAPE = { shape_of golay24_code };
 
-    const RADIUS: u32 = 3;
-
-    ghost INFORMATION = { 12 };
-
-    ghost CHECKS = { 12 };
-
-    ghost RADIUS = { 3 };
-
-    ghost apart = { 8 };
-
-    ghost rows = { check_rows };
-
-    ghost IsWord = { IsGolay24 };
-
-    ghost reading_is = { golay24_reading_of };
+    ghost code = { golay24_code };
 
     fn check_bits(info: u32) -> u16 {
         CHECKS[0][(info / 64) as usize] ^ CHECKS[1][(info % 64) as usize]
@@ -64,8 +54,6 @@ impl CheckedCode for Golay24 {
     fn wrong_bits(syndrome: u16) -> Option<u32> {
         wrong_by_halves(&CHECK_ROWS, &MESSAGE_ROWS, 3, syndrome, message(syndrome))
     }
-
-    ghost is_code = { golay24_is_checked };
 }
 // Answers the message of twelve bits that has these check bits.
 fn message(checks: u16) -> u16

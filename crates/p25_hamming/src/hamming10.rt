@@ -1,9 +1,10 @@
 //! The Hamming code (10,6).
 
-ghost use Rattle.p25_hamming.specs.{Hamming10.{check_rows, IsHamming10}, Hamming10Readings.{hamming10_reading_of, hamming10_is_checked}};
+ghost use Rattle.p25_code.specs.CodeLaws.{shape_of};
+ghost use Rattle.p25_hamming.specs.Hamming10Laws.{hamming10_code};
 
 use p25_bits::sums;
-use p25_code::{CheckedCode, wrong_by_rows};
+use p25_code::{CheckedCode, Shape, wrong_by_rows};
 
 // The check bits of the messages with one 1, in order.
 const CHECK_ROWS: [u16; 6] = [0b1110, 0b1101, 0b1011, 0b0111, 0b0011, 0b1100];
@@ -20,25 +21,15 @@ static CHECKS: [u16; 64] = sums! {
 pub struct Hamming10;
 
 impl CheckedCode for Hamming10 {
-    const INFORMATION: usize = 6;
+    const SHAPE: Shape = Shape {
+        information: 6,
+        checks: 4,
+        radius: 1,
+    };
 
-    const CHECKS: u32 = 4;
+    ghost SHAPE = { shape_of hamming10_code };
 
-    const RADIUS: u32 = 1;
-
-    ghost INFORMATION = { 6 };
-
-    ghost CHECKS = { 4 };
-
-    ghost RADIUS = { 1 };
-
-    ghost apart = { 3 };
-
-    ghost rows = { check_rows };
-
-    ghost IsWord = { IsHamming10 };
-
-    ghost reading_is = { hamming10_reading_of };
+    ghost code = { hamming10_code };
 
     fn check_bits(info: u32) -> u16 {
         CHECKS[info as usize]
@@ -47,6 +38,4 @@ impl CheckedCode for Hamming10 {
     fn wrong_bits(syndrome: u16) -> Option<u32> {
         wrong_by_rows(&CHECK_ROWS, 4, 1, syndrome)
     }
-
-    ghost is_code = { hamming10_is_checked };
 }
