@@ -7,6 +7,13 @@ ghost use Rattle.p25_golay.specs.Golay24Laws.{golay24_code, message_rows};
 use p25_bits::sums;
 use p25_code::{CheckedCode, Shape, wrong_by_halves};
 
+/// The extended Golay code (24,12): 12 bits of information, their 11 remainder bits, so that the first 23 bits, as a
+/// polynomial with the first bit highest, are divisible by x^11 + x^10 + x^6 + x^5 + x^4 + x^2 + 1 (C75 hex), and one bit
+/// that makes the weight even. Any two words differ in at least 8 bits; three wrong bits are corrected. TIA-102.BAAA,
+/// Terminator with Link Control.
+#[derive(Clone, Copy, Debug, PartialEq, Eq)]
+pub struct Golay24;
+
 // The check bits of the messages with one 1, in order.
 const CHECK_ROWS: [u16; 12] = [
     0xC75, 0x63B, 0xF68, 0x7B4, 0x3DA, 0xD99, 0x6CD, 0x367, 0xDC6, 0xA97, 0x93E, 0x8EB,
@@ -29,19 +36,8 @@ static MESSAGES: [[u16; 64]; 2] = [
     sums! { MESSAGE_ROWS[6], MESSAGE_ROWS[7], MESSAGE_ROWS[8], MESSAGE_ROWS[9], MESSAGE_ROWS[10], MESSAGE_ROWS[11] },
 ];
 
-/// The extended Golay code (24,12): 12 bits of information, their 11 remainder bits, so that the first 23 bits, as a
-/// polynomial with the first bit highest, are divisible by x^11 + x^10 + x^6 + x^5 + x^4 + x^2 + 1 (C75 hex), and one bit
-/// that makes the weight even. Any two words differ in at least 8 bits; three wrong bits are corrected. TIA-102.BAAA,
-/// Terminator with Link Control.
-#[derive(Clone, Copy, Debug, PartialEq, Eq)]
-pub struct Golay24;
-
 impl CheckedCode for Golay24 {
-    const SHAPE: Shape = Shape {
-        information: 12,
-        checks: 12,
-        radius: 3,
-    };
+    const SHAPE: Shape = Shape(12, 12, 3);
 
     ghost SHAPE = { shape_of golay24_code };
 
@@ -55,6 +51,7 @@ impl CheckedCode for Golay24 {
         wrong_by_halves(&CHECK_ROWS, &MESSAGE_ROWS, 3, syndrome, message(syndrome))
     }
 }
+
 // Answers the message of twelve bits that has these check bits.
 fn message(checks: u16) -> u16
     requires { checks < 4096 }

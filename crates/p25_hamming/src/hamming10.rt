@@ -6,6 +6,12 @@ ghost use Rattle.p25_hamming.specs.Hamming10Laws.{hamming10_code};
 use p25_bits::sums;
 use p25_code::{CheckedCode, Shape, wrong_by_rows};
 
+/// The shortened Hamming code (10,6): ten bits, of which the first six are the information and the last four the sum over
+/// GF(2) of the check rows of those that are 1. Any two words differ in at least 3 bits; one wrong bit is corrected.
+/// TIA-102.BAAA, Link Control and Encryption Sync words of the logical link units.
+#[derive(Clone, Copy, Debug, PartialEq, Eq)]
+pub struct Hamming10;
+
 // The check bits of the messages with one 1, in order.
 const CHECK_ROWS: [u16; 6] = [0b1110, 0b1101, 0b1011, 0b0111, 0b0011, 0b1100];
 
@@ -14,18 +20,8 @@ static CHECKS: [u16; 64] = sums! {
     CHECK_ROWS[0], CHECK_ROWS[1], CHECK_ROWS[2], CHECK_ROWS[3], CHECK_ROWS[4], CHECK_ROWS[5]
 };
 
-/// The shortened Hamming code (10,6): ten bits, of which the first six are the information and the last four the sum over
-/// GF(2) of the check rows of those that are 1. Any two words differ in at least 3 bits; one wrong bit is corrected.
-/// TIA-102.BAAA, Link Control and Encryption Sync words of the logical link units.
-#[derive(Clone, Copy, Debug, PartialEq, Eq)]
-pub struct Hamming10;
-
 impl CheckedCode for Hamming10 {
-    const SHAPE: Shape = Shape {
-        information: 6,
-        checks: 4,
-        radius: 1,
-    };
+    const SHAPE: Shape = Shape(6, 4, 1);
 
     ghost SHAPE = { shape_of hamming10_code };
 

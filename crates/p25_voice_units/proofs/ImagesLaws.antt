@@ -18,10 +18,12 @@ use Rattle.p25_voice_units.proofs.FormLaws.{AreRows, length-unit, laid_out, laid
 
 -- what the codes of the inner words need
 pub golay18_carried : (symbols : List Sym) → IsCarried IsGolay18 18 6 (contents golay18_word 1 symbols [] [])
-golay18_carried symbols = record { encodes = golay18_encodes; long = golay18_code.is.laws.long; one_word = golay18_code.is.laws.one_word; sixes = refl; begins = lit≤ tt; frames = All-nil IsVoiceFrame }
+golay18_carried symbols =
+    record { encodes = golay18_encodes; long = golay18_code.is.laws.long; one_word = golay18_code.is.laws.one_word; sixes = refl; begins = lit≤ tt; frames = All-nil IsVoiceFrame }
 
 pub golay24_carried : (symbols : List Sym) → IsCarried IsGolay24 24 12 (contents golay24_word 2 symbols [] [])
-golay24_carried symbols = record { encodes = golay24_encodes; long = golay24_code.is.laws.long; one_word = golay24_code.is.laws.one_word; sixes = refl; begins = lit≤ tt; frames = All-nil IsVoiceFrame }
+golay24_carried symbols =
+    record { encodes = golay24_encodes; long = golay24_code.is.laws.long; one_word = golay24_code.is.laws.one_word; sixes = refl; begins = lit≤ tt; frames = All-nil IsVoiceFrame }
 
 pub hamming10_carried : (symbols : List Sym) (low : List ℕ) (voice : List VoiceFrame) → IsSpeech low voice → IsCarried IsHamming10 10 6 (contents hamming10_word 1 symbols low voice)
 hamming10_carried symbols low voice speech =
