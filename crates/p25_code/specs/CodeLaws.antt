@@ -23,8 +23,7 @@ all_bits (suc n) test = all_bits n (λ bits. test (true ∷ bits)) && all_bits n
 unfoldable pub is_heavy : List ℕ → ℕ → ℕ → List Bool → Bool
 is_heavy rows checks apart info = weight_of info == 0 || nat_le apart (weight_of (systematic rows checks info))
 
--- what the tests of a table of rows say: each row has the checks and no other, no word but that of zeros is light, and so a word of at
--- most 32 bits is read to the radius
+-- what the tests of a table of rows say: the rows fit, no word but that of zeros is light, and the numbers are those of a small code
 pub record IsSystematic (rows : List ℕ) (information checks radius apart : ℕ) : Type 0 where
   pub rows_long : length rows ≡ information
   pub fit : rows_fit checks rows ≡ true
@@ -33,8 +32,7 @@ pub record IsSystematic (rows : List ℕ) (information checks radius apart : ℕ
   pub few_checks : checks ≤ 16
   pub close : 2 * radius < apart
 
--- what is known of a set of words by the rows of their check bits: it is what the rows and the check columns let pass, has the laws of a
--- block code, and is read by a function
+-- what is known of words by the rows of their check bits: they are what the check matrix lets pass, and a block code that a function reads
 pub record IsCheckedCode (information checks radius apart : ℕ) (rows : List ℕ) (IsWord : List Bool → Type 0) : Type 0 where
   pub table : IsSystematic rows information checks radius apart
   pub passes : (word : List Bool) → IsWord word → IsChecked (rows ++ check_columns checks) word

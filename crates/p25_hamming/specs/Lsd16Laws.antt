@@ -3,7 +3,8 @@ use Rattle.std.specs.Prelude.{◌≡◌, ℕ, ◌<◌, ◌^◌, ◌++◌, Bool, 
 use Rattle.std.proofs.Common.{arith, ap, sym, ◌∙◌}
 use Rattle.p25_bits.specs.{Bits.{bits_of}, Divisible.{HasDegree}}
 use Rattle.p25_code.specs.{Binary.{IsChecked, check_columns, systematic, syndrome_of, weight_of}, CodeLaws.{IsSystematic, SystematicCode, is_heavy, all_bits}}
-use Rattle.p25_code.proofs.{BinaryLaws.{length_checked}, SystematicLaws.{is_checked_code}, RemainderLaws.{power_remainder, remainders, remainders-divisible, divisible-remainders}}
+use Rattle.p25_code.proofs.{BinaryLaws.{length_checked}, SystematicLaws.{is_checked_code}}
+use Rattle.p25_code.proofs.RemainderLaws.{power_remainder, remainders, remainders-divisible, divisible-remainders}
 use Rattle.p25_hamming.specs.Lsd16.{IsLsd16}
 
 -- the remainders of x^15 to x^8 by the generator: the check bits of the messages with one 1
