@@ -2,8 +2,8 @@
 
 ghost use Rattle.std.specs.Prelude.{◌≡◌, ℕ, ◌^◌, ◌<◌, ◌≤◌, ◌⊎◌};
 ghost use Rattle.p25_bits.specs.Bits.{bits_of};
-ghost use Rattle.p25_golay.specs.{Golay18.{IsGolay18}, Golay18Readings.{golay18_reading_of}, Golay24.{IsGolay24}, Golay24Readings.{golay24_reading_of}};
-ghost use Rattle.p25_hamming.specs.{Hamming10.{IsHamming10}, Hamming10Readings.{hamming10_reading_of}, Lsd16.{IsLsd16}, Lsd16Readings.{lsd16_reading_of}};
+ghost use Rattle.p25_golay.specs.{Golay18.{IsGolay18}, Golay18Laws.{golay18_reading_of}, Golay24.{IsGolay24}, Golay24Laws.{golay24_reading_of}};
+ghost use Rattle.p25_hamming.specs.{Hamming10.{IsHamming10}, Hamming10Laws.{hamming10_reading_of}, Lsd16.{IsLsd16}, Lsd16Laws.{lsd16_reading_of}};
 ghost use Rattle.p25_word_calls.specs.Numbers.{IsIdentifierReading, IsIdentifierWriting, IsNumberReading, IsNumberWriting};
 
 use p25_golay::{Golay18, Golay24};

@@ -1,6 +1,6 @@
 -- The words that a check matrix lets pass, where its last columns are check columns: they are the systematic words, and a
 -- computed test of all information gives their least distance.
-use Rattle.std.proofs.Common.{◌≡◌, ◌≢◌, ◌⊎◌, ℕ, ◌+◌, ◌*◌, ◌^◌, ◌<◌, ◌≤◌, inl, inr, Bool, true, false, cond, eqb, ltb, leb, List, ◌∷◌, ◌++◌, length, take, drop, bit_xor, ap, ap₂, sym, ◌∙◌, subst, arith, length-append, take-append-drop, length-drop}
+use Rattle.std.proofs.Common.{◌≡◌, ◌≢◌, ◌⊎◌, ℕ, ◌+◌, ◌^◌, ◌<◌, ◌≤◌, inl, inr, Bool, true, false, cond, eqb, ltb, leb, List, ◌∷◌, ◌++◌, length, take, drop, bit_xor, ap, ap₂, sym, ◌∙◌, subst, arith, length-append, take-append-drop, length-drop}
 use Rattle.std.proofs.{Math.Nat.{mod-eq_of_lt}, Math.Seq.{take-append_seam, drop-append_seam}, lemmas.List.{length-take-le}, lemmas.Bool.{cases_eq, and_parts, or_cases, eqb-true, leb-true, ltb-true}}
 use Rattle.std.proofs.lemmas.Nat.{xor_lt, pow_pos}
 use Rattle.std.specs.{Bool.{beq}, Cmp.{bool_eq_equiv}, Int.Bits.{xor_self}}
@@ -34,7 +34,7 @@ syndrome_of-lt checks (first ∷ rows) (bit ∷ info) fit =
     chosen false h = pow_pos checks
 syndrome_of-lt checks rows info fit = pow_pos checks
 
-module _ {rows : List ℕ} {checks apart : ℕ} (code : IsSystematic rows checks apart) where
+module _ {rows : List ℕ} {information checks radius apart : ℕ} (code : IsSystematic rows information checks radius apart) where
   -- a word has as many letters as there are rows and checks
   pub length_checked : (word : List Bool) → IsChecked (rows ++ check_columns checks) word → length word ≡ length rows + checks
   length_checked word is = is.long ∙ length-append rows (check_columns checks) ∙ ap (λ n. length rows + n) (length-check_columns checks)
@@ -71,11 +71,12 @@ module _ {rows : List ℕ} {checks apart : ℕ} (code : IsSystematic rows checks
       let sum = same_from_xor (syndrome_of rows info) (field_of rest) none in
       sym (take-append-drop k word) ∙ ap (λ bits. info ++ bits) (sym (bits_of-field_of rest) ∙ ap₂ bits_of back (sym sum))
 
-  -- the systematic word of some information is its encoding
-  pub systematic_encodes : (info : List Bool) → length info ≡ length rows → IsEncoding (IsChecked (rows ++ check_columns checks)) (length rows) info (systematic rows checks info)
+  -- the systematic word of some information is its encoding in a set whose words are those that pass
+  pub encodes : (IsWord : List Bool → Type 0) → ((w : List Bool) → IsChecked (rows ++ check_columns checks) w → IsWord w)
+      → (info : List Bool) → length info ≡ information → IsEncoding IsWord information info (systematic rows checks info)
   unfolding systematic
-  systematic_encodes info long = record {
-    word_of_set = systematic_checked info long;
+  encodes IsWord from info long = record {
+    word_of_set = from (systematic rows checks info) (systematic_checked info (long ∙ sym code.rows_long));
     begins = ap (λ n. take n (info ++ bits_of checks (syndrome_of rows info))) (sym long) ∙ take-append_seam info (bits_of checks (syndrome_of rows info));
   }
 
@@ -139,28 +140,15 @@ module _ {rows : List ℕ} {checks apart : ℕ} (code : IsSystematic rows checks
         | inr far ↦ omega arith
       ]
 
-  -- what the encoder writes is the encoding in a set whose words are those that pass
-  pub encodes : (IsWord : List Bool → Type 0) → ((w : List Bool) → IsChecked (rows ++ check_columns checks) w → IsWord w)
-      → (beginning : List ℕ) (places : ℕ) (info word : List Bool) → beginning ≡ rows → places ≡ checks
-      → length info ≡ length rows
-      → word ≡ systematic beginning places info → IsEncoding IsWord (length rows) info word
-  encodes IsWord from beginning places info word e f long is =
-      let whole : word ≡ systematic rows checks info = is ∙ ap₂ (λ r n. systematic r n info) e f in
-      let encoding = systematic_encodes info long in
-      record {
-        word_of_set = from word (subst (IsChecked (rows ++ check_columns checks)) (sym whole) encoding.word_of_set);
-        begins = ap (take (length rows)) whole ∙ encoding.begins;
-      }
-
   -- the laws of the code, in a set whose words are those that pass
   pub is_code : (IsWord : List Bool → Type 0) → ((w : List Bool) → IsWord w → IsChecked (rows ++ check_columns checks) w)
-      → (n radius : ℕ) → length rows + checks ≡ n → 2 * radius < apart → IsBlockCode beq IsWord n (length rows) radius apart
-  is_code IsWord to n radius whole close = record {
+      → IsBlockCode beq IsWord (information + checks) information radius apart
+  is_code IsWord to = record {
     compares = bool_eq_equiv;
     alike = same_bit;
-    long = λ word is. length_checked word (to word is) ∙ whole;
-    one_word = λ v w isv isw same. one_checked v w (to v isv) (to w isw) same;
+    long = λ word is. length_checked word (to word is) ∙ ap (λ k. k + checks) code.rows_long;
+    one_word = λ v w isv isw same. one_checked v w (to v isv) (to w isw) (subst (λ k. take k v ≡ take k w) (sym code.rows_long) same);
     far_apart = λ v w isv isw differ. far_checked v w (to v isv) (to w isw) differ;
-    close = close;
+    close = code.close;
     begins = omega arith;
   }

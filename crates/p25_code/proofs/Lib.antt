@@ -3,6 +3,7 @@ pub mod ErasedLaws
 pub mod SyndromeLaws
 pub mod WeightLaws
 pub mod BinaryLaws
+pub mod SystematicLaws
 pub mod RemainderLaws
 pub mod ParityLaws
 pub mod WrongLaws

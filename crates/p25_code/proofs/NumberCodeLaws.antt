@@ -5,8 +5,8 @@ use Rattle.std.specs.{Bool.{beq}, Int.Bits.{xor_self, xor_zero_r}, Int.RustNames
 use Rattle.p25_bits.specs.{Bits.{bits_of, field_of}, Distance.{distance_by, distance_of}}
 use Rattle.p25_bits.proofs.{BitsLaws.{length-bits_of, bits_of-joined, bits_of-field_of, field_of-bits_of, field_of-lt}, DistanceLaws.{distance_of-bits_of}, DivisibleLaws.{same_from_xor}}
 use Rattle.p25_code.specs.{declared.code.Reading.{Reading}, declared.code.Reading.TheVariants.{Found, Beyond}, Words.{IsEncoding, IsReading}, Readings.{IsReadAs}}
-use Rattle.p25_code.specs.{Binary.{syndrome_of, IsChecked, check_columns, systematic}, WrongBits.{number_sum, AreWrong, NoneWrong}, CodeLaws.{IsCheckedCode}}
-use Rattle.p25_code.proofs.{ReadingLaws.{one_reading}, ParityLaws.{number_sum-xor, number_sum-zero}, BinaryLaws.{encodes}, WrongLaws.{twice, length-columns, number_sum-lt, number_sum-parts}}
+use Rattle.p25_code.specs.{Binary.{syndrome_of, IsChecked, systematic}, WrongBits.{number_sum, AreWrong, NoneWrong}, CodeLaws.{SystematicCode, columns_of}}
+use Rattle.p25_code.proofs.{ReadingLaws.{one_reading}, ParityLaws.{number_sum-xor, number_sum-zero}, SystematicLaws.{encodes_by}, WrongLaws.{twice, length-columns, number_sum-lt, number_sum-parts}}
 
 module _ (columns : List ℕ) (radius received sum : ℕ) (fits : received < 2 ^ length columns) (sums : number_sum columns received ≡ sum) where
   -- what was received without its wrong bits is a word that passes, within the radius
@@ -53,11 +53,6 @@ read_as_same_set A B radius received None to from is = record { farther = λ w b
 none_are_wrong : (columns : List ℕ) (radius : ℕ) → AreWrong columns radius 0 0
 none_are_wrong columns radius = record { fits = pow_pos (length columns); sums = number_sum-zero columns; within = omega (arith, ones_le_self 0) }
 
--- the information is what stands before the check bits
-pub information_fits : {rows : List ℕ} {n k checks radius apart : ℕ} {IsWord : List Bool → Type 0} {reading : List Bool → Option (List Bool)}
-    → IsCheckedCode IsWord rows n k checks radius apart reading → (received : ℕ) → received < 2 ^ n → received / 2 ^ checks < 2 ^ k
-information_fits {rows} {n} {k} {checks} code received fits = shr_below received k checks (subst (λ m. received < 2 ^ m) (sym code.whole) fits)
-
 -- a 1 before so many check bits
 pub one_place : (places checks : ℕ) → places ≡ checks → checks ≤ 16 → 1 * 2 ^ places % 2 ^ 32 ≡ 2 ^ checks
 one_place places checks same few =
@@ -65,78 +60,91 @@ one_place places checks same few =
     let whole : 1 * 2 ^ checks ≡ 2 ^ checks = omega arith in
     ap (λ m. 1 * 2 ^ m % 2 ^ 32) same ∙ shl_whole 1 1 checks 32 one (omega arith) ∙ whole
 
+-- the information is what stands before the check bits
+pub information_fits : (received k checks places : ℕ) → places ≡ checks → received < 2 ^ (k + checks) → received / 2 ^ places < 2 ^ k
+information_fits received k checks places shift fits =
+    subst (λ m. received / 2 ^ m < 2 ^ k) (sym shift) (shr_below received k checks fits)
+
+-- the columns are as many as a word has bits
+length-columns_of : {k checks radius : ℕ} (code : SystematicCode k checks radius) → length (columns_of code) ≡ k + checks
+length-columns_of {k} {checks} {radius} code = length-columns code.rows checks ∙ ap (λ m. m + checks) code.is.table.rows_long
+
+-- the reading of a word of the columns is that of the code
+read_as : {k checks radius : ℕ} (code : SystematicCode k checks radius) (bits : List Bool) (answer : Option (List Bool)) → length bits ≡ k + checks
+    → IsReadAs beq (IsChecked (columns_of code)) radius bits answer → answer ≡ code.is.reading bits
+read_as {k} {checks} {radius} code bits answer long is_read =
+    one_reading code.is.laws bits answer (code.is.reading bits) long
+    (read_as_same_set (IsChecked (columns_of code)) code.IsWord radius bits answer code.is.passing code.is.passes is_read)
+    (code.is.reads bits)
+
 -- a received number, and the check bits of its information
-module _ {rows : List ℕ} {n k checks radius apart : ℕ} {IsWord : List Bool → Type 0} {reading : List Bool → Option (List Bool)} (code : IsCheckedCode IsWord rows n k checks radius apart reading)
-    (received check : ℕ) (fits : received < 2 ^ n) (is : check ≡ number_sum rows (received / 2 ^ checks)) where
-  columns_are : length (rows ++ check_columns checks) ≡ n
-  columns_are = length-columns rows checks ∙ ap (λ m. m + checks) code.rows_long ∙ code.whole
+module _ {k checks radius : ℕ} (code : SystematicCode k checks radius) (received check places : ℕ) (fits : received < 2 ^ (k + checks)) (shift : places ≡ checks)
+    (is : check ≡ number_sum code.rows (received / 2 ^ places)) where
+  -- the sum of those and of the received check bits
+  abbrev whole_sum : ℕ
+  whole_sum = bit_xor check (received % (1 * 2 ^ places % 2 ^ 32))
 
-  fits_columns : received < 2 ^ length (rows ++ check_columns checks)
-  fits_columns = subst (λ m. received < 2 ^ m) (sym columns_are) fits
+  whole_sum_is : whole_sum ≡ bit_xor (number_sum code.rows (received / 2 ^ checks)) (received % 2 ^ checks)
+  whole_sum_is =
+      ap₂ bit_xor (is ∙ ap (λ m. number_sum code.rows (received / 2 ^ m)) shift)
+      (ap (λ m. received % m) (one_place places checks shift code.is.table.few_checks))
 
-  -- the sum of those and of the received check bits is the sum of all
-  sum_is : number_sum (rows ++ check_columns checks) received ≡ bit_xor check (received % 2 ^ checks)
-  sum_is = number_sum-parts rows checks received ∙ ap (λ m. bit_xor m (received % 2 ^ checks)) (sym is)
+  -- it is the sum of all
+  sum_is : number_sum (columns_of code) received ≡ whole_sum
+  sum_is = number_sum-parts code.rows checks received ∙ sym whole_sum_is
 
-  pub sum_fits : bit_xor check (received % 2 ^ checks) < 2 ^ checks
+  fits_columns : received < 2 ^ length (columns_of code)
+  fits_columns = subst (λ m. received < 2 ^ m) (sym (length-columns_of code)) fits
+
+  pub sum_fits : whole_sum < 2 ^ checks
   sum_fits =
-      xor_lt checks check (received % 2 ^ checks) (subst (λ m. m < 2 ^ checks) (sym is) (number_sum-lt checks rows (received / 2 ^ checks) code.table.fit))
-      (mod_below received (2 ^ checks) (pow_pos checks))
+      subst (λ m. m < 2 ^ checks) (sym whole_sum_is)
+      (xor_lt checks (number_sum code.rows (received / 2 ^ checks)) (received % 2 ^ checks)
+      (number_sum-lt checks code.rows (received / 2 ^ checks) code.is.table.fit) (mod_below received (2 ^ checks) (pow_pos checks)))
 
   -- what is read as a number is the reading of the bits
-  read_as : (answer : Option (List Bool)) → IsReadAs beq (IsChecked (rows ++ check_columns checks)) radius (bits_of n received) answer → answer ≡ reading (bits_of n received)
-  read_as answer is_read =
-      one_reading code.laws (bits_of n received) answer (reading (bits_of n received)) (length-bits_of n received)
-      (read_as_same_set (IsChecked (rows ++ check_columns checks)) IsWord radius (bits_of n received) answer code.passing code.passes is_read)
-      (code.reads (bits_of n received))
+  read_number_as : (answer : Option (List Bool)) → IsReadAs beq (IsChecked (columns_of code)) radius (bits_of (length (columns_of code)) received) answer
+      → answer ≡ code.is.reading (bits_of (k + checks) received)
+  read_number_as answer is_read =
+      read_as code (bits_of (k + checks) received) answer (length-bits_of (k + checks) received)
+      (subst (λ m. IsReadAs beq (IsChecked (columns_of code)) radius (bits_of m received) answer) (length-columns_of code) is_read)
 
   -- the word without the wrong bits
-  pub read_without : (wrong : ℕ) → AreWrong (rows ++ check_columns checks) radius (bit_xor check (received % 2 ^ checks)) wrong
-      → Some (bits_of n (bit_xor received wrong)) ≡ reading (bits_of n received)
+  pub read_without : (wrong : ℕ) → AreWrong (columns_of code) radius whole_sum wrong
+      → Some (bits_of (k + checks) (bit_xor received wrong)) ≡ code.is.reading (bits_of (k + checks) received)
   read_without wrong are =
-      let columns = rows ++ check_columns checks in
-      read_as (Some (bits_of n (bit_xor received wrong)))
-      (subst (λ m. IsReadAs beq (IsChecked columns) radius (bits_of m received) (Some (bits_of m (bit_xor received wrong)))) columns_are
-      (without_wrong columns radius received _ fits_columns sum_is wrong are))
+      ap (λ m. Some (bits_of m (bit_xor received wrong))) (sym (length-columns_of code))
+      ∙ read_number_as _ (without_wrong (columns_of code) radius received whole_sum fits_columns sum_is wrong are)
 
-  pub without_fits : (wrong : ℕ) → AreWrong (rows ++ check_columns checks) radius (bit_xor check (received % 2 ^ checks)) wrong → bit_xor received wrong < 2 ^ n
-  without_fits wrong are = xor_lt n received wrong fits (subst (λ m. wrong < 2 ^ m) columns_are are.fits)
+  pub without_fits : (wrong : ℕ) → AreWrong (columns_of code) radius whole_sum wrong → bit_xor received wrong < 2 ^ (k + checks)
+  without_fits wrong are = xor_lt (k + checks) received wrong fits (subst (λ m. wrong < 2 ^ m) (length-columns_of code) are.fits)
 
   -- a word whose check bits are those of its information is read as it is
-  pub read_clean : bit_xor check (received % 2 ^ checks) ≡ 0 → Some (bits_of n received) ≡ reading (bits_of n received)
+  pub read_clean : whole_sum ≡ 0 → Some (bits_of (k + checks) received) ≡ code.is.reading (bits_of (k + checks) received)
   read_clean none =
-      ap (λ m. Some (bits_of n m)) (sym (xor_zero_r received))
-      ∙ read_without 0 (subst (λ s. AreWrong (rows ++ check_columns checks) radius s 0) (sym none) (none_are_wrong (rows ++ check_columns checks) radius))
+      ap (λ m. Some (bits_of (k + checks) m)) (sym (xor_zero_r received))
+      ∙ read_without 0 (subst (λ s. AreWrong (columns_of code) radius s 0) (sym none) (none_are_wrong (columns_of code) radius))
 
   -- where none are few enough there is no reading
-  pub read_none : NoneWrong (rows ++ check_columns checks) radius (bit_xor check (received % 2 ^ checks))
-      → (answer : Option ℕ) → answer ≡ None → option_map (bits_of n) answer ≡ reading (bits_of n received)
+  pub read_none : NoneWrong (columns_of code) radius whole_sum
+      → (answer : Option ℕ) → answer ≡ None → option_map (bits_of (k + checks)) answer ≡ code.is.reading (bits_of (k + checks) received)
   read_none none answer e =
-      let columns = rows ++ check_columns checks in
-      ap (option_map (bits_of n)) e
-      ∙ read_as None (subst (λ m. IsReadAs beq (IsChecked columns) radius (bits_of m received) None) columns_are (none_within columns radius received _ fits_columns sum_is none))
+      ap (option_map (bits_of (k + checks))) e ∙ read_number_as None (none_within (columns_of code) radius received whole_sum fits_columns sum_is none)
 
 -- within the radius one list of wrong bits makes a syndrome
-pub one_wrong : {rows : List ℕ} {n k checks radius apart : ℕ} {IsWord : List Bool → Type 0} {reading : List Bool → Option (List Bool)}
-    → IsCheckedCode IsWord rows n k checks radius apart reading → (syndrome a b : ℕ)
-    → AreWrong (rows ++ check_columns checks) radius syndrome a → AreWrong (rows ++ check_columns checks) radius syndrome b → a ≡ b
-one_wrong {rows} {n} {k} {checks} {radius} {apart} {IsWord} {reading} code syndrome a b first second =
-    let columns = rows ++ check_columns checks in
-    let m = length columns in
-    let long : length (bits_of m a) ≡ n = length-bits_of m a ∙ length-columns rows checks ∙ ap (λ l. l + checks) code.rows_long ∙ code.whole in
-    let same = one_reading code.laws (bits_of m a) (Some (bits_of m (bit_xor a a))) (Some (bits_of m (bit_xor a b))) long (read a first) (read b second) in
+pub one_wrong : {k checks radius : ℕ} (code : SystematicCode k checks radius) (syndrome a b : ℕ)
+    → AreWrong (columns_of code) radius syndrome a → AreWrong (columns_of code) radius syndrome b → a ≡ b
+one_wrong {k} {checks} {radius} code syndrome a b first second =
+    let m = length (columns_of code) in
+    let long : length (bits_of m a) ≡ k + checks = length-bits_of m a ∙ length-columns_of code in
+    let read : (wrong : ℕ) → AreWrong (columns_of code) radius syndrome wrong → Some (bits_of m (bit_xor a wrong)) ≡ code.is.reading (bits_of m a)
+    = λ wrong are. read_as code (bits_of m a) (Some (bits_of m (bit_xor a wrong))) long (without_wrong (columns_of code) radius a syndrome first.fits first.sums wrong are) in
+    let same = read a first ∙ sym (read b second) in
     let bits : bits_of m (bit_xor a a) ≡ bits_of m (bit_xor a b) = cc in
     let numbers : bit_xor a a ≡ bit_xor a b
     = sym (mod-eq_of_lt (xor_lt m a a first.fits first.fits)) ∙ sym (field_of-bits_of m (bit_xor a a))
     ∙ ap field_of bits ∙ field_of-bits_of m (bit_xor a b) ∙ mod-eq_of_lt (xor_lt m a b first.fits second.fits) in
     sym (twice a a) ∙ ap (bit_xor a) numbers ∙ twice a b
-  where
-    read : (wrong : ℕ) → AreWrong (rows ++ check_columns checks) radius syndrome wrong
-        → IsReadAs beq IsWord radius (bits_of (length (rows ++ check_columns checks)) a) (Some (bits_of (length (rows ++ check_columns checks)) (bit_xor a wrong)))
-    read wrong are =
-        let columns = rows ++ check_columns checks in
-        read_as_same_set (IsChecked columns) IsWord radius (bits_of (length columns) a) (Some (bits_of (length columns) (bit_xor a wrong))) code.passing code.passes
-        (without_wrong columns radius a syndrome first.fits first.sums wrong are)
 
 -- as many bits change as the two numbers differ in
 pub changed_bits : (received number : ℕ) (old new : List Bool) → received ≡ field_of old → number < 2 ^ length old → new ≡ bits_of (length old) number
@@ -168,29 +176,30 @@ reading_put IsWord radius n old new (Some number) reading is put =
 reading_put IsWord radius n old new None reading is put = subst (IsReading beq IsWord radius old new) (sym put.0) (record { unchanged = put.1; none_within = is })
 
 -- the information and then its check bits, as a number
-module _ {rows : List ℕ} {n k checks radius apart : ℕ} {IsWord : List Bool → Type 0} {reading : List Bool → Option (List Bool)} (code : IsCheckedCode IsWord rows n k checks radius apart reading)
-    (info check word : ℕ) (small : info < 2 ^ k) (sums : check ≡ number_sum rows info) (joined : word ≡ bit_or (info * 2 ^ checks % 2 ^ 32) check) where
+module _ {k checks radius : ℕ} (code : SystematicCode k checks radius) (info check word places : ℕ) (small : info < 2 ^ k) (sums : check ≡ number_sum code.rows info)
+    (shift : places ≡ checks) (joined : word ≡ bit_or (info * 2 ^ places % 2 ^ 32) check) where
   check_fits : check < 2 ^ checks
-  check_fits = subst (λ m. m < 2 ^ checks) (sym sums) (number_sum-lt checks rows info code.table.fit)
+  check_fits = subst (λ m. m < 2 ^ checks) (sym sums) (number_sum-lt checks code.rows info code.is.table.fit)
 
   word_is : word ≡ info * 2 ^ checks + check
-  word_is = joined ∙ ap (λ m. bit_or m check) (shl_whole info k checks 32 small (omega (arith, code.whole, code.few))) ∙ or_shifted info checks check check_fits
+  word_is =
+      joined ∙ ap (λ m. bit_or (info * 2 ^ m % 2 ^ 32) check) shift
+      ∙ ap (λ m. bit_or m check) (shl_whole info k checks 32 small code.is.table.few) ∙ or_shifted info checks check check_fits
 
-  pub word_fits : word < 2 ^ n
+  pub word_fits : word < 2 ^ (k + checks)
   word_fits =
-      let bound : 2 ^ checks * 2 ^ k ≡ 2 ^ n = mul_comm (2 ^ checks) (2 ^ k) ∙ sym (pow-add 2 k checks) ∙ ap (λ m. 2 ^ m) code.whole in
-      subst (λ m. m < 2 ^ n) (sym word_is) (subst (λ m. info * 2 ^ checks + check < m) bound (mul-add-lt info (2 ^ checks) check (2 ^ k) small check_fits))
+      let bound : 2 ^ checks * 2 ^ k ≡ 2 ^ (k + checks) = mul_comm (2 ^ checks) (2 ^ k) ∙ sym (pow-add 2 k checks) in
+      subst (λ m. m < 2 ^ (k + checks)) (sym word_is) (subst (λ m. info * 2 ^ checks + check < m) bound (mul-add-lt info (2 ^ checks) check (2 ^ k) small check_fits))
 
   -- it is the encoding
-  pub encodes_number : IsEncoding IsWord k (bits_of k info) (bits_of n word)
+  pub encodes_number : IsEncoding code.IsWord k (bits_of k info) (bits_of (k + checks) word)
   unfolding systematic number_sum
   encodes_number =
-      let made : bits_of (k + checks) word ≡ systematic rows checks (bits_of k info)
+      let made : bits_of (k + checks) word ≡ systematic code.rows checks (bits_of k info)
       = ap (bits_of (k + checks)) word_is
       ∙ bits_of-joined k checks info check check_fits
-      ∙ ap (λ m. bits_of k info ++ bits_of checks m) (sums ∙ ap (λ m. syndrome_of rows (bits_of m info)) code.rows_long) in
-      subst (λ m. IsEncoding IsWord m (bits_of k info) (bits_of n word)) code.rows_long
-      (encodes code.table IsWord code.passing rows checks (bits_of k info) (bits_of n word) refl refl (length-bits_of k info ∙ sym code.rows_long) (ap (λ m. bits_of m word) (sym code.whole) ∙ made))
+      ∙ ap (λ m. bits_of k info ++ bits_of checks m) (sums ∙ ap (λ m. syndrome_of code.rows (bits_of m info)) code.is.table.rows_long) in
+      subst (IsEncoding code.IsWord k (bits_of k info)) (sym made) (encodes_by code (bits_of k info) (length-bits_of k info))
 
 -- what a reader by numbers leaves and answers is the reading of the bits
 pub read_by_number : (IsWord : List Bool → Type 0) (radius n : ℕ) (reading_of : List Bool → Option (List Bool))

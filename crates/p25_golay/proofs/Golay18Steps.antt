@@ -3,7 +3,7 @@ use Rattle.std.proofs.{Common.{◌≡◌, ℕ, ◌/◌, ◌^◌, ◌<◌, ◌≤
 use Rattle.std.specs.{Option.{MatchOption}, Int.Bits.{xor_zero_l}, Int.RustNames.{count_ones}}
 use Rattle.p25_code.specs.{Binary.{check_columns}, WrongBits.{number_sum, AreWrong, NoneWrong}}
 use Rattle.p25_code.proofs.{ParityLaws.{number_sum-zero}, WrongLaws.{number_sum-append}, NumberCodeLaws.{one_wrong}}
-use Rattle.p25_golay.specs.{Golay18Laws.{short_rows}, Golay24Laws.{check_rows}, Golay24Readings.{golay24_is_checked}}
+use Rattle.p25_golay.specs.{Golay18Laws.{short_rows}, Golay24Laws.{check_rows, golay24_code}}
 
 -- the rows of the six zeros
 abbrev first_rows : List ℕ
@@ -62,7 +62,7 @@ wrong_outside syndrome wrong high are = record {
     | inl many ↦ many
     | inr few ↦
         let low : other < 2 ^ 18 = subst (λ m. other < 2 ^ m) length-short fits in
-        absurd (omega (arith, low, one_wrong golay24_is_checked syndrome wrong other are (wrong_back syndrome other fits sums few)))
+        absurd (omega (arith, low, one_wrong golay24_code syndrome wrong other are (wrong_back syndrome other fits sums few)))
   ];
 }
 

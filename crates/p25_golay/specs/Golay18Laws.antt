@@ -1,10 +1,10 @@
 -- The laws of the shortened Golay code (18,6).
-use Rattle.std.specs.{Prelude.{◌≡◌, ℕ, ◌++◌, Bool, true, false, List, [], ◌∷◌, refl}, Int.Bits.{xor_zero_l}, Bool.{beq}}
+use Rattle.std.specs.{Prelude.{◌≡◌, ℕ, ◌++◌, Bool, true, false, List, [], ◌∷◌, Option, refl}, Int.Bits.{xor_zero_l}}
 use Rattle.std.proofs.Common.{arith, sym, ◌∙◌}
 use Rattle.p25_bits.specs.Bits.{bits_of}
-use Rattle.p25_code.specs.{Binary.{IsChecked, check_columns, systematic, syndrome_of, weight_of}, CodeLaws.{IsBlockCode, IsSystematic, is_heavy, all_bits}}
-use Rattle.p25_code.proofs.BinaryLaws.{is_code}
-use Rattle.p25_golay.specs.{Golay18.{IsGolay18}, Golay24Laws.{to_checked, from_checked}}
+use Rattle.p25_code.specs.{Binary.{IsChecked, check_columns, systematic, syndrome_of, weight_of}, CodeLaws.{IsSystematic, SystematicCode, is_heavy, all_bits}}
+use Rattle.p25_code.proofs.SystematicLaws.{is_checked_code}
+use Rattle.p25_golay.specs.{Golay18.{IsGolay18}, Golay24Laws.{golay24_code}}
 
 -- the check bits of the last six messages with one 1 of the Golay code (24,12)
 abbrev pub short_rows : List ℕ
@@ -16,8 +16,8 @@ unfolding all_bits is_heavy systematic syndrome_of weight_of bits_of
 heavy = refl
 
 -- so the tests of the table say yes
-pub short_code : IsSystematic short_rows 12 8
-short_code = record { fit = refl; heavy = heavy }
+pub table : IsSystematic short_rows 6 12 3 8
+table = record { rows_long = refl; fit = refl; heavy = heavy; few = omega arith; few_checks = omega arith; close = omega arith }
 
 -- a zero in front adds nothing to a sum
 zero_first : (column : ℕ) (columns : List ℕ) (word : List Bool) → syndrome_of (column ∷ columns) (false ∷ word) ≡ syndrome_of columns word
@@ -33,7 +33,7 @@ zeros_first a b c d e f columns word = simp zero_first
 pub to_short : (word : List Bool) → IsGolay18 word → IsChecked (short_rows ++ check_columns 12) word
 unfolding check_columns
 to_short word is =
-    let whole = to_checked _ is.in_golay24 in
+    let whole = golay24_code.is.passes _ is.in_golay24 in
     record {
       long = omega (arith, whole.long);
       passes = sym (zeros_first 0xC75 0x63B 0xF68 0x7B4 0x3DA 0xD99 (short_rows ++ check_columns 12) word) ∙ whole.passes;
@@ -43,12 +43,16 @@ to_short word is =
 pub from_short : (word : List Bool) → IsChecked (short_rows ++ check_columns 12) word → IsGolay18 word
 unfolding check_columns
 from_short word is = record {
-  in_golay24 = from_checked _ (record {
+  in_golay24 = golay24_code.is.passing _ (record {
     long = omega (arith, is.long);
     passes = zeros_first 0xC75 0x63B 0xF68 0x7B4 0x3DA 0xD99 (short_rows ++ check_columns 12) word ∙ is.passes;
   });
 }
 
--- the laws of the code
-pub golay18_is_code : IsBlockCode beq IsGolay18 18 6 3 8
-golay18_is_code = is_code short_code IsGolay18 to_short 18 3 refl (omega arith)
+-- the code, by its check bits
+abbrev pub golay18_code : SystematicCode 6 12 3
+golay18_code = record { apart = 8; rows = short_rows; IsWord = IsGolay18; is = is_checked_code table to_short from_short }
+
+-- the word within 3 bits of what was received, or none
+abbrev pub golay18_reading_of : List Bool → Option (List Bool)
+golay18_reading_of = golay18_code.is.reading

@@ -1,11 +1,11 @@
 -- The laws of the Golay code (24,12).
-use Rattle.std.specs.Prelude.{◌≡◌, ℕ, ◌<◌, ◌≤◌, ◌^◌, ◌+◌, ◌*◌, ◌%◌, ◌++◌, Bool, true, List, [], ◌∷◌, length, take, drop, map, bit_xor, refl, false}
-use Rattle.std.specs.{Int.Bits.{xor_zero_r}, Bool.{beq}}
+use Rattle.std.specs.Prelude.{◌≡◌, ℕ, ◌<◌, ◌≤◌, ◌^◌, ◌+◌, ◌*◌, ◌%◌, ◌++◌, Bool, true, List, [], ◌∷◌, length, Option, take, drop, map, bit_xor, refl, false}
+use Rattle.std.specs.Int.Bits.{xor_zero_r}
 use Rattle.std.proofs.{Common.{arith, ap, ap₂, sym, ◌∙◌, take-append-drop}, lemmas.List.{length-take-le}}
 use Rattle.p25_bits.specs.{Bits.{bits_of}, Divisible.{HasDegree}}
 use Rattle.p25_code.specs.{Binary.{IsChecked, check_columns, systematic, syndrome_of, weight_of}, WrongBits.{number_sum}}
-use Rattle.p25_code.specs.CodeLaws.{IsBlockCode, IsSystematic, is_heavy, all_bits}
-use Rattle.p25_code.proofs.{SyndromeLaws.{syndrome_of-append}, BinaryLaws.{length_checked, is_code}}
+use Rattle.p25_code.specs.CodeLaws.{IsSystematic, SystematicCode, is_heavy, all_bits}
+use Rattle.p25_code.proofs.{SyndromeLaws.{syndrome_of-append}, BinaryLaws.{length_checked}, SystematicLaws.{is_checked_code}}
 use Rattle.p25_code.proofs.RemainderLaws.{power_remainder, remainders, remainders-divisible, divisible-remainders}
 use Rattle.p25_code.proofs.ParityLaws.{mixed_passes, with_parity, syndrome_of-with_parity}
 use Rattle.p25_golay.specs.Golay24.{IsGolay24}
@@ -24,8 +24,8 @@ unfolding all_bits is_heavy systematic syndrome_of weight_of bits_of
 heavy = refl
 
 -- so the tests of the table say yes
-pub code : IsSystematic check_rows 12 8
-code = record { fit = refl; heavy = heavy }
+pub table : IsSystematic check_rows 12 12 3 8
+table = record { rows_long = refl; fit = refl; heavy = heavy; few = omega arith; few_checks = omega arith; close = omega arith }
 
 -- the generator is of this degree
 generator_degree : HasDegree 0xC75 11
@@ -101,13 +101,17 @@ to_checked word is =
 -- what the check matrix lets pass are words of the code
 pub from_checked : (word : List Bool) → IsChecked (check_rows ++ check_columns 12) word → IsGolay24 word
 from_checked word is =
-    let long = length_checked code word is in
+    let long = length_checked table word is in
     let passes = ap (λ cs. syndrome_of cs word) (sym stated-matrix) ∙ mixed_passes mix (check_rows ++ check_columns 12) word is.passes in
     let stated = sym (stated_sum word long) ∙ passes in
     let none : syndrome_of (remainders 0xC75 11 (length (take 23 word))) (take 23 word) ≡ 0 = omega arith in
     let even : weight_of word % 2 ≡ 0 = omega arith in
     record { long = long; even = even; divisible = divisible-remainders generator_degree not_constant (take 23 word) none }
 
--- the laws of the code
-pub golay24_is_code : IsBlockCode beq IsGolay24 24 12 3 8
-golay24_is_code = is_code code IsGolay24 to_checked 24 3 refl (omega arith)
+-- the code, by its check bits
+abbrev pub golay24_code : SystematicCode 12 12 3
+golay24_code = record { apart = 8; rows = check_rows; IsWord = IsGolay24; is = is_checked_code table to_checked from_checked }
+
+-- the word within 3 bits of what was received, or none
+abbrev pub golay24_reading_of : List Bool → Option (List Bool)
+golay24_reading_of = golay24_code.is.reading

@@ -1,9 +1,10 @@
 //! The shortened Golay code (18,6).
 
-ghost use Rattle.p25_golay.specs.{Golay18.{IsGolay18}, Golay18Laws.{short_rows}, Golay18Readings.{golay18_reading_of, golay18_is_checked}};
+ghost use Rattle.p25_code.specs.CodeLaws.{shape_of};
+ghost use Rattle.p25_golay.specs.Golay18Laws.{golay18_code};
 
 use crate::golay24::Golay24;
-use p25_code::CheckedCode;
+use p25_code::{CheckedCode, Shape};
 
 /// The shortened Golay code (18,6): the words of the Golay code (24,12) that begin with six zeros, without those six. Any
 /// two words differ in at least 8 bits; three wrong bits are corrected. A list that is near to a word of the longer code
@@ -12,25 +13,11 @@ use p25_code::CheckedCode;
 pub struct Golay18;
 
 impl CheckedCode for Golay18 {
-    const INFORMATION: usize = 6;
+    const SHAPE: Shape = Shape(6, 12, 3);
 
-    const CHECKS: u32 = 12;
+    ghost SHAPE = { shape_of golay18_code };
 
-    const RADIUS: u32 = 3;
-
-    ghost INFORMATION = { 6 };
-
-    ghost CHECKS = { 12 };
-
-    ghost RADIUS = { 3 };
-
-    ghost apart = { 8 };
-
-    ghost rows = { short_rows };
-
-    ghost IsWord = { IsGolay18 };
-
-    ghost reading_is = { golay18_reading_of };
+    ghost code = { golay18_code };
 
     fn check_bits(info: u32) -> u16 {
         Golay24::check_bits(info)
@@ -41,6 +28,4 @@ impl CheckedCode for Golay18 {
         let wrong = Golay24::wrong_bits(syndrome)?;
         if wrong < 1 << 18 { Some(wrong) } else { None }
     }
-
-    ghost is_code = { golay18_is_checked };
 }

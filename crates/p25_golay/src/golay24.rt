@@ -1,11 +1,18 @@
 //! The Golay code (24,12).
 
 ghost use Rattle.std.specs.Prelude.{◌≡◌, ◌<◌};
-ghost use Rattle.p25_code.specs.WrongBits.{number_sum};
-ghost use Rattle.p25_golay.specs.{Golay24.{IsGolay24}, Golay24Laws.{check_rows, message_rows}, Golay24Readings.{golay24_reading_of, golay24_is_checked}};
+ghost use Rattle.p25_code.specs.{CodeLaws.{shape_of}, WrongBits.{number_sum}};
+ghost use Rattle.p25_golay.specs.Golay24Laws.{golay24_code, message_rows};
 
 use p25_bits::sums;
-use p25_code::{CheckedCode, wrong_by_halves};
+use p25_code::{CheckedCode, Shape, wrong_by_halves};
+
+/// The extended Golay code (24,12): 12 bits of information, their 11 remainder bits, so that the first 23 bits, as a
+/// polynomial with the first bit highest, are divisible by x^11 + x^10 + x^6 + x^5 + x^4 + x^2 + 1 (C75 hex), and one bit
+/// that makes the weight even. Any two words differ in at least 8 bits; three wrong bits are corrected. TIA-102.BAAA,
+/// Terminator with Link Control.
+#[derive(Clone, Copy, Debug, PartialEq, Eq)]
+pub struct Golay24;
 
 // The check bits of the messages with one 1, in order.
 const CHECK_ROWS: [u16; 12] = [
@@ -29,33 +36,12 @@ static MESSAGES: [[u16; 64]; 2] = [
     sums! { MESSAGE_ROWS[6], MESSAGE_ROWS[7], MESSAGE_ROWS[8], MESSAGE_ROWS[9], MESSAGE_ROWS[10], MESSAGE_ROWS[11] },
 ];
 
-/// The extended Golay code (24,12): 12 bits of information, their 11 remainder bits, so that the first 23 bits, as a
-/// polynomial with the first bit highest, are divisible by x^11 + x^10 + x^6 + x^5 + x^4 + x^2 + 1 (C75 hex), and one bit
-/// that makes the weight even. Any two words differ in at least 8 bits; three wrong bits are corrected. TIA-102.BAAA,
-/// Terminator with Link Control.
-#[derive(Clone, Copy, Debug, PartialEq, Eq)]
-pub struct Golay24;
-
 impl CheckedCode for Golay24 {
-    const INFORMATION: usize = 12;
+    const SHAPE: Shape = Shape(12, 12, 3);
 
-    const CHECKS: u32 = 12;
+    ghost SHAPE = { shape_of golay24_code };
 
-    const RADIUS: u32 = 3;
-
-    ghost INFORMATION = { 12 };
-
-    ghost CHECKS = { 12 };
-
-    ghost RADIUS = { 3 };
-
-    ghost apart = { 8 };
-
-    ghost rows = { check_rows };
-
-    ghost IsWord = { IsGolay24 };
-
-    ghost reading_is = { golay24_reading_of };
+    ghost code = { golay24_code };
 
     fn check_bits(info: u32) -> u16 {
         CHECKS[0][(info / 64) as usize] ^ CHECKS[1][(info % 64) as usize]
@@ -64,9 +50,8 @@ impl CheckedCode for Golay24 {
     fn wrong_bits(syndrome: u16) -> Option<u32> {
         wrong_by_halves(&CHECK_ROWS, &MESSAGE_ROWS, 3, syndrome, message(syndrome))
     }
-
-    ghost is_code = { golay24_is_checked };
 }
+
 // Answers the message of twelve bits that has these check bits.
 fn message(checks: u16) -> u16
     requires { checks < 4096 }

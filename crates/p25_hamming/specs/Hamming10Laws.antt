@@ -1,7 +1,7 @@
 -- The laws of the Hamming code (10,6).
-use Rattle.std.specs.{Prelude.{◌≡◌, ◌++◌, Bool, true, List, refl}, Bool.{beq}}
-use Rattle.p25_code.specs.{Binary.{IsChecked, check_columns, systematic, syndrome_of, weight_of}, CodeLaws.{IsBlockCode, IsSystematic, is_heavy, all_bits}}
-use Rattle.p25_code.proofs.BinaryLaws.{sum_checked, checked_sum, length_checked, is_code}
+use Rattle.std.specs.Prelude.{◌≡◌, ◌++◌, Bool, true, List, Option, refl}
+use Rattle.p25_code.specs.{Binary.{IsChecked, check_columns, systematic, syndrome_of, weight_of}, CodeLaws.{IsSystematic, SystematicCode, is_heavy, all_bits}}
+use Rattle.p25_code.proofs.{BinaryLaws.{sum_checked, checked_sum, length_checked}, SystematicLaws.{is_checked_code}}
 use Rattle.std.proofs.Common.{arith}
 use Rattle.p25_bits.specs.Bits.{bits_of}
 use Rattle.p25_hamming.specs.Hamming10.{check_rows, IsHamming10}
@@ -12,17 +12,21 @@ unfolding all_bits is_heavy systematic syndrome_of weight_of bits_of
 heavy = refl
 
 -- so the tests of the table say yes
-pub code : IsSystematic check_rows 4 3
-code = record { fit = refl; heavy = heavy }
+pub table : IsSystematic check_rows 6 4 1 3
+table = record { rows_long = refl; fit = refl; heavy = heavy; few = omega arith; few_checks = omega arith; close = omega arith }
 
 -- the words are those that the check matrix lets pass
 pub to_checked : (word : List Bool) → IsHamming10 word → IsChecked (check_rows ++ check_columns 4) word
-to_checked word is = sum_checked code word is.long is.checks
+to_checked word is = sum_checked table word is.long is.checks
 
 -- what the check matrix lets pass are words of the code
 pub from_checked : (word : List Bool) → IsChecked (check_rows ++ check_columns 4) word → IsHamming10 word
-from_checked word is = record { long = length_checked code word is; checks = checked_sum code word is }
+from_checked word is = record { long = length_checked table word is; checks = checked_sum table word is }
 
--- the laws of the code
-pub hamming10_is_code : IsBlockCode beq IsHamming10 10 6 1 3
-hamming10_is_code = is_code code IsHamming10 to_checked 10 1 refl (omega arith)
+-- the code, by its check bits
+abbrev pub hamming10_code : SystematicCode 6 4 1
+hamming10_code = record { apart = 3; rows = check_rows; IsWord = IsHamming10; is = is_checked_code table to_checked from_checked }
+
+-- the word within 1 bit of what was received, or none
+abbrev pub hamming10_reading_of : List Bool → Option (List Bool)
+hamming10_reading_of = hamming10_code.is.reading

@@ -1,9 +1,10 @@
 -- The laws of the code (16,8) of the low speed data.
-use Rattle.std.specs.{Prelude.{◌≡◌, ℕ, ◌<◌, ◌^◌, ◌++◌, Bool, true, List, [], ◌∷◌, length, refl}, Bool.{beq}}
+use Rattle.std.specs.Prelude.{◌≡◌, ℕ, ◌<◌, ◌^◌, ◌++◌, Bool, true, List, [], ◌∷◌, length, Option, refl}
 use Rattle.std.proofs.Common.{arith, ap, sym, ◌∙◌}
 use Rattle.p25_bits.specs.{Bits.{bits_of}, Divisible.{HasDegree}}
-use Rattle.p25_code.specs.{Binary.{IsChecked, check_columns, systematic, syndrome_of, weight_of}, CodeLaws.{IsBlockCode, IsSystematic, is_heavy, all_bits}}
-use Rattle.p25_code.proofs.{BinaryLaws.{length_checked, is_code}, RemainderLaws.{power_remainder, remainders, remainders-divisible, divisible-remainders}}
+use Rattle.p25_code.specs.{Binary.{IsChecked, check_columns, systematic, syndrome_of, weight_of}, CodeLaws.{IsSystematic, SystematicCode, is_heavy, all_bits}}
+use Rattle.p25_code.proofs.{BinaryLaws.{length_checked}, SystematicLaws.{is_checked_code}}
+use Rattle.p25_code.proofs.RemainderLaws.{power_remainder, remainders, remainders-divisible, divisible-remainders}
 use Rattle.p25_hamming.specs.Lsd16.{IsLsd16}
 
 -- the remainders of x^15 to x^8 by the generator: the check bits of the messages with one 1
@@ -29,8 +30,8 @@ unfolding all_bits is_heavy systematic syndrome_of weight_of bits_of
 heavy = refl
 
 -- so the tests of the table say yes
-pub code : IsSystematic check_rows 8 5
-code = record { fit = refl; heavy = heavy }
+pub table : IsSystematic check_rows 8 8 2 5
+table = record { rows_long = refl; fit = refl; heavy = heavy; few = omega arith; few_checks = omega arith; close = omega arith }
 
 -- the generator is not a constant
 not_constant : 1 < 2 ^ 8
@@ -48,9 +49,13 @@ to_checked word is = record { long = is.long; passes = same_sum word is.long ∙
 -- what the check matrix lets pass are words of the code
 pub from_checked : (word : List Bool) → IsChecked (check_rows ++ check_columns 8) word → IsLsd16 word
 from_checked word is =
-    let long = length_checked code word is in
+    let long = length_checked table word is in
     record { long = long; divisible = divisible-remainders generator_degree not_constant word (sym (same_sum word long) ∙ is.passes) }
 
--- the laws of the code
-pub lsd16_is_code : IsBlockCode beq IsLsd16 16 8 2 5
-lsd16_is_code = is_code code IsLsd16 to_checked 16 2 refl (omega arith)
+-- the code, by its check bits
+abbrev pub lsd16_code : SystematicCode 8 8 2
+lsd16_code = record { apart = 5; rows = check_rows; IsWord = IsLsd16; is = is_checked_code table to_checked from_checked }
+
+-- the word within 2 bits of what was received, or none
+abbrev pub lsd16_reading_of : List Bool → Option (List Bool)
+lsd16_reading_of = lsd16_code.is.reading

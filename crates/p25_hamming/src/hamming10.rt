@@ -1,9 +1,16 @@
 //! The Hamming code (10,6).
 
-ghost use Rattle.p25_hamming.specs.{Hamming10.{check_rows, IsHamming10}, Hamming10Readings.{hamming10_reading_of, hamming10_is_checked}};
+ghost use Rattle.p25_code.specs.CodeLaws.{shape_of};
+ghost use Rattle.p25_hamming.specs.Hamming10Laws.{hamming10_code};
 
 use p25_bits::sums;
-use p25_code::{CheckedCode, wrong_by_rows};
+use p25_code::{CheckedCode, Shape, wrong_by_rows};
+
+/// The shortened Hamming code (10,6): ten bits, of which the first six are the information and the last four the sum over
+/// GF(2) of the check rows of those that are 1. Any two words differ in at least 3 bits; one wrong bit is corrected.
+/// TIA-102.BAAA, Link Control and Encryption Sync words of the logical link units.
+#[derive(Clone, Copy, Debug, PartialEq, Eq)]
+pub struct Hamming10;
 
 // The check bits of the messages with one 1, in order.
 const CHECK_ROWS: [u16; 6] = [0b1110, 0b1101, 0b1011, 0b0111, 0b0011, 0b1100];
@@ -13,32 +20,12 @@ static CHECKS: [u16; 64] = sums! {
     CHECK_ROWS[0], CHECK_ROWS[1], CHECK_ROWS[2], CHECK_ROWS[3], CHECK_ROWS[4], CHECK_ROWS[5]
 };
 
-/// The shortened Hamming code (10,6): ten bits, of which the first six are the information and the last four the sum over
-/// GF(2) of the check rows of those that are 1. Any two words differ in at least 3 bits; one wrong bit is corrected.
-/// TIA-102.BAAA, Link Control and Encryption Sync words of the logical link units.
-#[derive(Clone, Copy, Debug, PartialEq, Eq)]
-pub struct Hamming10;
-
 impl CheckedCode for Hamming10 {
-    const INFORMATION: usize = 6;
+    const SHAPE: Shape = Shape(6, 4, 1);
 
-    const CHECKS: u32 = 4;
+    ghost SHAPE = { shape_of hamming10_code };
 
-    const RADIUS: u32 = 1;
-
-    ghost INFORMATION = { 6 };
-
-    ghost CHECKS = { 4 };
-
-    ghost RADIUS = { 1 };
-
-    ghost apart = { 3 };
-
-    ghost rows = { check_rows };
-
-    ghost IsWord = { IsHamming10 };
-
-    ghost reading_is = { hamming10_reading_of };
+    ghost code = { hamming10_code };
 
     fn check_bits(info: u32) -> u16 {
         CHECKS[info as usize]
@@ -47,6 +34,4 @@ impl CheckedCode for Hamming10 {
     fn wrong_bits(syndrome: u16) -> Option<u32> {
         wrong_by_rows(&CHECK_ROWS, 4, 1, syndrome)
     }
-
-    ghost is_code = { hamming10_is_checked };
 }

@@ -1,11 +1,17 @@
 //! The code (16,8) of the low speed data (LSD).
 
 ghost use Rattle.std.specs.Prelude.{◌≡◌, ◌<◌};
-ghost use Rattle.p25_code.specs.WrongBits.{number_sum};
-ghost use Rattle.p25_hamming.specs.{Lsd16.{IsLsd16}, Lsd16Laws.{check_rows, message_rows}, Lsd16Readings.{lsd16_reading_of, lsd16_is_checked}};
+ghost use Rattle.p25_code.specs.{CodeLaws.{shape_of}, WrongBits.{number_sum}};
+ghost use Rattle.p25_hamming.specs.Lsd16Laws.{lsd16_code, message_rows};
 
 use p25_bits::sums;
-use p25_code::{CheckedCode, wrong_by_halves};
+use p25_code::{CheckedCode, Shape, wrong_by_halves};
+
+/// The shortened cyclic code (16,8) of the low speed data (LSD): eight bits of information and their eight remainder bits, so
+/// that the word, as a polynomial with the first bit highest, is divisible by x^8 + x^5 + x^4 + x^3 + 1 (139 hex). Any two
+/// words differ in at least 5 bits; two wrong bits are corrected. TIA-102.BAAA, Low Speed Data.
+#[derive(Clone, Copy, Debug, PartialEq, Eq)]
+pub struct Lsd16;
 
 // The check bits of the messages with one 1, in order: the remainders of x^15 to x^8 by the generator 139 hex.
 const CHECK_ROWS: [u16; 8] = [0x4E, 0x27, 0x8F, 0xDB, 0xF1, 0xE4, 0x72, 0x39];
@@ -25,32 +31,12 @@ static MESSAGES: [u16; 256] = sums! {
     MESSAGE_ROWS[4], MESSAGE_ROWS[5], MESSAGE_ROWS[6], MESSAGE_ROWS[7]
 };
 
-/// The shortened cyclic code (16,8) of the low speed data (LSD): eight bits of information and their eight remainder bits, so
-/// that the word, as a polynomial with the first bit highest, is divisible by x^8 + x^5 + x^4 + x^3 + 1 (139 hex). Any two
-/// words differ in at least 5 bits; two wrong bits are corrected. TIA-102.BAAA, Low Speed Data.
-#[derive(Clone, Copy, Debug, PartialEq, Eq)]
-pub struct Lsd16;
-
 impl CheckedCode for Lsd16 {
-    const INFORMATION: usize = 8;
+    const SHAPE: Shape = Shape(8, 8, 2);
 
-    const CHECKS: u32 = 8;
+    ghost SHAPE = { shape_of lsd16_code };
 
-    const RADIUS: u32 = 2;
-
-    ghost INFORMATION = { 8 };
-
-    ghost CHECKS = { 8 };
-
-    ghost RADIUS = { 2 };
-
-    ghost apart = { 5 };
-
-    ghost rows = { check_rows };
-
-    ghost IsWord = { IsLsd16 };
-
-    ghost reading_is = { lsd16_reading_of };
+    ghost code = { lsd16_code };
 
     fn check_bits(info: u32) -> u16 {
         CHECKS[info as usize]
@@ -59,9 +45,8 @@ impl CheckedCode for Lsd16 {
     fn wrong_bits(syndrome: u16) -> Option<u32> {
         wrong_by_halves(&CHECK_ROWS, &MESSAGE_ROWS, 2, syndrome, message(syndrome))
     }
-
-    ghost is_code = { lsd16_is_checked };
 }
+
 // Answers the message of eight bits that has these check bits.
 fn message(checks: u16) -> u16
     requires { checks < 256 }

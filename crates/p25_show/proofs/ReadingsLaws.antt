@@ -3,8 +3,8 @@ use Rattle.std.proofs.Common.{◌≡◌, ℕ, ◌-◌, Bool, List, length, Optio
 use Rattle.std.specs.Bool.{beq}
 use Rattle.p25_bits.specs.{Bits.{octet_bits}, Distance.{distance_by}}
 use Rattle.p25_code.specs.{Erasures.{erased_cost}, ErasedReadings.{IsErasedReadAs}, Readings.{IsReadAs, IsWordWithin}}
-use Rattle.p25_hamming.specs.{Hamming10.{IsHamming10}, Hamming10Readings.{hamming10_reading_of, hamming10_reads_as}, Lsd16.{IsLsd16}, Lsd16Readings.{lsd16_reading_of, lsd16_reads_as}}
-use Rattle.p25_golay.specs.{Golay18.{IsGolay18}, Golay18Readings.{golay18_reading_of, golay18_reads_as}, Golay24.{IsGolay24}, Golay24Readings.{golay24_reading_of, golay24_reads_as}}
+use Rattle.p25_hamming.specs.{Hamming10.{IsHamming10}, Hamming10Laws.{hamming10_code, hamming10_reading_of}, Lsd16.{IsLsd16}, Lsd16Laws.{lsd16_code, lsd16_reading_of}}
+use Rattle.p25_golay.specs.{Golay18.{IsGolay18}, Golay18Laws.{golay18_code, golay18_reading_of}, Golay24.{IsGolay24}, Golay24Laws.{golay24_code, golay24_reading_of}}
 use Rattle.p25_reed_solomon.specs.{Words.{IsWord, same_symbols}, RsReadings.{rs_erased_reading_of, rs_erased_reads_as}}
 use Rattle.p25_bch_nid.specs.{Bch63.{IsBch63}, Bch63Readings.{bch63_reading_of, bch63_reads_as}, NidReading.{nid_reading_of}}
 use Rattle.p25_trellis.specs.Trellis.{IsFirstLeastReading, distance_from}
@@ -55,10 +55,10 @@ within-erased same IsOfSet most list None is = is.dearer
 pub codes-read : CodesAreRead
 codes-read = record {
   bch63 = λ bits. within-read beq IsBch63 11 bits (bch63_reading_of bits) (bch63_reads_as bits);
-  golay24 = λ bits. within-read beq IsGolay24 3 bits (golay24_reading_of bits) (golay24_reads_as bits);
-  golay18 = λ bits. within-read beq IsGolay18 3 bits (golay18_reading_of bits) (golay18_reads_as bits);
-  hamming10 = λ bits. within-read beq IsHamming10 1 bits (hamming10_reading_of bits) (hamming10_reads_as bits);
-  lsd16 = λ bits. within-read beq IsLsd16 2 bits (lsd16_reading_of bits) (lsd16_reads_as bits);
+  golay24 = λ bits. within-read beq IsGolay24 3 bits (golay24_reading_of bits) (golay24_code.is.reads bits);
+  golay18 = λ bits. within-read beq IsGolay18 3 bits (golay18_reading_of bits) (golay18_code.is.reads bits);
+  hamming10 = λ bits. within-read beq IsHamming10 1 bits (hamming10_reading_of bits) (hamming10_code.is.reads bits);
+  lsd16 = λ bits. within-read beq IsLsd16 2 bits (lsd16_reading_of bits) (lsd16_code.is.reads bits);
   rs = λ n k list. within-erased same_symbols (IsWord n k) (n - k) list (rs_erased_reading_of n k list) (rs_erased_reads_as n k list);
 }
 

@@ -3,8 +3,8 @@ use Rattle.std.specs.Prelude.{◌≡◌, ℕ, ◌-◌, ◌≤◌, Bool, List, �
 use Rattle.p25_bits.specs.{Bits.{field_of, octet_bits, part}, Distance.{distance_of}, Numbers.{number_bits}}
 use Rattle.p25_code.specs.{Erasures.{erased_cost}, Readings.{IsWordWithin}}
 use Rattle.p25_gf64.specs.declared.symbol.Sym.{Sym}
-use Rattle.p25_hamming.specs.{Hamming10.{IsHamming10}, Hamming10Readings.{hamming10_reading_of}, Lsd16.{IsLsd16}, Lsd16Readings.{lsd16_reading_of}}
-use Rattle.p25_golay.specs.{Golay18.{IsGolay18}, Golay18Readings.{golay18_reading_of}, Golay24.{IsGolay24}, Golay24Readings.{golay24_reading_of}}
+use Rattle.p25_hamming.specs.{Hamming10.{IsHamming10}, Hamming10Laws.{hamming10_reading_of}, Lsd16.{IsLsd16}, Lsd16Laws.{lsd16_reading_of}}
+use Rattle.p25_golay.specs.{Golay18.{IsGolay18}, Golay18Laws.{golay18_reading_of}, Golay24.{IsGolay24}, Golay24Laws.{golay24_reading_of}}
 use Rattle.p25_reed_solomon.specs.{Words.{IsWord, same_symbols}, RsReadings.{rs_erased_reading_of}}
 use Rattle.p25_bch_nid.specs.{Bch63.{IsBch63}, Bch63Readings.{bch63_reading_of}}
 use Rattle.p25_trellis.specs.{Nearest.{half_octets, three_quarter_octets}, Tables.{half_point, three_quarter_point}, Trellis.{IsNotAfter, IsPath, sent_bits}}

@@ -1,9 +1,8 @@
 -- The images of voice units, by their kinds: what each carries suits its rows, as tests of the layouts say, so a unit's bits are those
 -- that stand as its layout says and carry its field.
 use Rattle.std.proofs.{Common.{◌≡◌, ◌↔◌, ℕ, Bool, List, [], length, Some, refl, ap, ap₂, sym, ◌∙◌, arith, lit≤}, lemmas.List.Elements.{All-nil}}
-use Rattle.p25_hamming.specs.{Hamming10.{IsHamming10}, Hamming10Laws.{hamming10_is_code}, Hamming10Readings.{hamming10_reading_of}}
-use Rattle.p25_golay.specs.{Golay18.{IsGolay18}, Golay18Laws.{golay18_is_code}, Golay18Readings.{golay18_reading_of}, Golay24.{IsGolay24}, Golay24Laws.{golay24_is_code}}
-use Rattle.p25_golay.specs.Golay24Readings.{golay24_reading_of}
+use Rattle.p25_hamming.specs.{Hamming10.{IsHamming10}, Hamming10Laws.{hamming10_code, hamming10_reading_of}}
+use Rattle.p25_golay.specs.{Golay18.{IsGolay18}, Golay18Laws.{golay18_code, golay18_reading_of}, Golay24.{IsGolay24}, Golay24Laws.{golay24_code, golay24_reading_of}}
 use Rattle.p25_gf64.specs.declared.symbol.Sym.{Sym}
 use Rattle.p25_reed_solomon.specs.{Words.{IsCode}, Encoding.{rs_word}}
 use Rattle.p25_reed_solomon.proofs.EncodingLaws.{IsEncoding-rs_word}
@@ -19,14 +18,16 @@ use Rattle.p25_voice_units.proofs.FormLaws.{AreRows, length-unit, laid_out, laid
 
 -- what the codes of the inner words need
 pub golay18_carried : (symbols : List Sym) → IsCarried IsGolay18 18 6 (contents golay18_word 1 symbols [] [])
-golay18_carried symbols = record { encodes = golay18_encodes; long = golay18_is_code.long; one_word = golay18_is_code.one_word; sixes = refl; begins = lit≤ tt; frames = All-nil IsVoiceFrame }
+golay18_carried symbols =
+    record { encodes = golay18_encodes; long = golay18_code.is.laws.long; one_word = golay18_code.is.laws.one_word; sixes = refl; begins = lit≤ tt; frames = All-nil IsVoiceFrame }
 
 pub golay24_carried : (symbols : List Sym) → IsCarried IsGolay24 24 12 (contents golay24_word 2 symbols [] [])
-golay24_carried symbols = record { encodes = golay24_encodes; long = golay24_is_code.long; one_word = golay24_is_code.one_word; sixes = refl; begins = lit≤ tt; frames = All-nil IsVoiceFrame }
+golay24_carried symbols =
+    record { encodes = golay24_encodes; long = golay24_code.is.laws.long; one_word = golay24_code.is.laws.one_word; sixes = refl; begins = lit≤ tt; frames = All-nil IsVoiceFrame }
 
 pub hamming10_carried : (symbols : List Sym) (low : List ℕ) (voice : List VoiceFrame) → IsSpeech low voice → IsCarried IsHamming10 10 6 (contents hamming10_word 1 symbols low voice)
 hamming10_carried symbols low voice speech =
-    record { encodes = hamming10_encodes; long = hamming10_is_code.long; one_word = hamming10_is_code.one_word; sixes = refl; begins = lit≤ tt; frames = speech.frames }
+    record { encodes = hamming10_encodes; long = hamming10_code.is.laws.long; one_word = hamming10_code.is.laws.one_word; sixes = refl; begins = lit≤ tt; frames = speech.frames }
 
 -- the outer words
 length-outer : (n k : ℕ) (info : List Sym) → IsCode n k → length info ≡ k → length (rs_word n k info) ≡ n

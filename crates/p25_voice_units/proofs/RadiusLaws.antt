@@ -7,7 +7,7 @@ use Rattle.p25_bits.proofs.{BitsLaws.{field_of-bits_of, bits_of-field_of}, Dista
 use Rattle.p25_bits.proofs.PartLaws.{length-part}
 use Rattle.p25_code.specs.{Words.{IsEncoding}, Readings.{IsReadAs}}
 use Rattle.p25_code.proofs.ReadingLaws.{read_as_sent}
-use Rattle.p25_hamming.specs.{Lsd16.{IsLsd16}, Lsd16Laws.{lsd16_is_code}, Lsd16Readings.{lsd16_reading_of, lsd16_reads_as}, Hamming10Readings.{hamming10_reading_of}}
+use Rattle.p25_hamming.specs.{Lsd16.{IsLsd16}, Lsd16Laws.{lsd16_code, lsd16_reading_of}, Hamming10Laws.{hamming10_reading_of}}
 use Rattle.p25_link.specs.{Words.{header_of_symbols, header_symbols, link_of_symbols, link_symbols, sync_of_symbols, sync_symbols}, declared.header_word.HeaderWord.{HeaderWord}}
 use Rattle.p25_link.specs.declared.link_control.LinkControl.{LinkControl}
 use Rattle.p25_link.proofs.WordsLaws.{header_back, link_back, sync_back, header_symbols_back, link_symbols_back, sync_symbols_back}
@@ -22,7 +22,7 @@ use Rattle.p25_voice_units.proofs.{ImagesLaws.{IsVoiceImage-iff}, KindsLaws.{rea
 use Rattle.p25_voice_units.proofs.{FieldCodesLaws.{header_codes, link_codes, sync_codes, tdulc_codes, header_there, link_there, tdulc_there}, CodesLaws.{header_code, link_code, sync_code}}
 use Rattle.std.specs.Bool.{beq}
 use Rattle.p25_gf64.specs.declared.symbol.Sym.{Sym}
-use Rattle.p25_golay.specs.{Golay18Readings.{golay18_reading_of}, Golay24Readings.{golay24_reading_of}}
+use Rattle.p25_golay.specs.{Golay18Laws.{golay18_reading_of}, Golay24Laws.{golay24_reading_of}}
 use Rattle.p25_coded_fields.specs.Layouts.{field_reading_of}
 
 -- a low speed word with at most two wrong bits is read as its octet
@@ -32,8 +32,8 @@ low_near : (at octet : ℕ) (sent received : List Bool) → octet < 256
 low_near at octet sent received small word there near =
     let number : List Bool → ℕ = λ w. field_of (take 8 w) in
     ap (option_map number)
-    (read_as_sent lsd16_is_code (part at 16 received) (part at 16 sent)
-    (lsd16_reading_of (part at 16 received)) (length-part at 16 received there) (lsd16_reads_as (part at 16 received)) word.word_of_set near)
+    (read_as_sent lsd16_code.is.laws (part at 16 received) (part at 16 sent)
+    (lsd16_reading_of (part at 16 received)) (length-part at 16 received there) (lsd16_code.is.reads (part at 16 received)) word.word_of_set near)
     ∙ ap Some (ap field_of word.begins ∙ field_of-bits_of 8 octet ∙ mod-eq_of_lt small)
 
 -- a list of two is its elements
@@ -227,10 +227,10 @@ unfolding IsReadAs
 low_whole at octet sent received None is read word = absurd (cc)
 low_whole at octet sent received (Some found) is read word =
     let number : field_of (take 8 found) ≡ octet = cc in
-    let long : 8 ≤ length found = omega (arith, lsd16_is_code.long found is.word_of_set) in
+    let long : 8 ≤ length found = omega (arith, lsd16_code.is.laws.long found is.word_of_set) in
     let begins : take 8 found ≡ bits_of 8 octet
     = sym (bits_of-field_of (take 8 found)) ∙ ap (λ n. bits_of n (field_of (take 8 found))) (length-take-le 8 found long) ∙ ap (bits_of 8) number in
-    let same = lsd16_is_code.one_word found (part at 16 sent) is.word_of_set word.word_of_set (begins ∙ sym word.begins) in
+    let same = lsd16_code.is.laws.one_word found (part at 16 sent) is.word_of_set word.word_of_set (begins ∙ sym word.begins) in
     subst (λ (w : List Bool). distance_of (part at 16 received) w ≤ 2) same is.within
 
 low_words_whole : (low : List ℕ) (voice : List VoiceFrame) (sent received : List Bool) → All (λ row. HasPiece low voice sent row.0 row.1) ldu_rows → low_in 0 received ≡ Some (slice_index low 0)
@@ -238,9 +238,9 @@ low_words_whole : (low : List ℕ) (voice : List VoiceFrame) (sent received : Li
     → AreLowWithin sent received
 unfolding low_in low_places
 low_words_whole low voice sent received pieces first second zero d inside =
-    low_whole 1504 (slice_index low 0) sent received (lsd16_reading_of (part 1504 16 received)) (lsd16_reads_as (part 1504 16 received)) first (pieces 14 (0, Nulls 0) (lit< tt))
+    low_whole 1504 (slice_index low 0) sent received (lsd16_reading_of (part 1504 16 received)) (lsd16_code.is.reads (part 1504 16 received)) first (pieces 14 (0, Nulls 0) (lit< tt))
 low_words_whole low voice sent received pieces first second (suc zero) d inside =
-    low_whole 1520 (slice_index low 1) sent received (lsd16_reading_of (part 1520 16 received)) (lsd16_reads_as (part 1520 16 received)) second (pieces 15 (0, Nulls 0) (lit< tt))
+    low_whole 1520 (slice_index low 1) sent received (lsd16_reading_of (part 1520 16 received)) (lsd16_code.is.reads (part 1520 16 received)) second (pieces 15 (0, Nulls 0) (lit< tt))
 low_words_whole low voice sent received pieces first second (suc (suc i)) d inside = absurd (omega arith)
 
 -- what a unit was read as is within radius

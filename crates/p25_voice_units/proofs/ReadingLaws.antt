@@ -5,7 +5,7 @@ use Rattle.std.proofs.{lemmas.List.{length-map}, lemmas.List.Elements.{All-nil, 
 use Rattle.p25_bits.specs.{Bits.{field_of, part}, Numbers.{numbers_from}}
 use Rattle.p25_bits.proofs.NumbersLaws.{All-numbers_from, field-lt, length-numbers_from}
 use Rattle.p25_gf64.specs.declared.symbol.Sym.{Sym}
-use Rattle.p25_hamming.specs.Lsd16Readings.{lsd16_reading_of}
+use Rattle.p25_hamming.specs.Lsd16Laws.{lsd16_reading_of}
 use Rattle.p25_link.specs.Symbols.{symbol_bits}
 use Rattle.p25_link.specs.Words.{header_of_bits, header_of_symbols, link_of_bits, link_of_symbols, sync_of_bits, sync_of_symbols, AreNineOctets, IsHeaderWord, IsLinkControl, IsEncryptionSync}
 use Rattle.p25_link.specs.{declared.header_word.HeaderWord.{HeaderWord}, declared.link_control.LinkControl.{LinkControl}}

@@ -1,7 +1,7 @@
 -- The coded fields of voice units: where their inner words stand, by the layouts of the units, and how they are read.
 use Rattle.std.specs.{Prelude.{ℕ, List, []}, List.{flat_map}}
-use Rattle.p25_golay.specs.{Golay18Readings.{golay18_reading_of}, Golay24Readings.{golay24_reading_of}}
-use Rattle.p25_hamming.specs.Hamming10Readings.{hamming10_reading_of}
+use Rattle.p25_golay.specs.{Golay18Laws.{golay18_reading_of}, Golay24Laws.{golay24_reading_of}}
+use Rattle.p25_hamming.specs.Hamming10Laws.{hamming10_reading_of}
 use Rattle.p25_reed_solomon.specs.RsReadings.{rs_erased_reading_of}
 use Rattle.p25_coded_fields.specs.Layouts.{Layout, field_layout, places_from}
 use Rattle.p25_voice_units.specs.{declared.layout.Piece.{Piece}, declared.layout.Piece.TheVariants.{Words, Frame, LowSpeed, Nulls}}

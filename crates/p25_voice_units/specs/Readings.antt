@@ -2,7 +2,7 @@
 use Rattle.std.specs.Prelude.{ℕ, Bool, if◌then◌else◌, ◌==◌, List, [], ◌∷◌, ◌++◌, take, drop, map, slice_index, Option, Some, None, option_map, Result, Ok, Err}
 use Rattle.std.specs.List.{flat_map}
 use Rattle.p25_bits.specs.{Bits.{field_of, part}, Numbers.{octets_from}}
-use Rattle.p25_hamming.specs.Lsd16Readings.{lsd16_reading_of}
+use Rattle.p25_hamming.specs.Lsd16Laws.{lsd16_reading_of}
 use Rattle.p25_link.specs.{Words.{header_of_symbols, link_of_symbols, sync_of_symbols}, declared.encryption_sync.EncryptionSync.{EncryptionSync}}
 use Rattle.p25_link.specs.{declared.header_word.HeaderWord.{HeaderWord}, declared.link_control.LinkControl.{LinkControl}}
 use Rattle.p25_coded_fields.specs.Layouts.{Layout, field_reading_of}

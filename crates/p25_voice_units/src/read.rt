@@ -2,7 +2,7 @@
 
 ghost use Rattle.std.specs.Prelude.{◌≡◌, ◌+◌, ◌*◌, ◌/◌, ◌<◌, ◌≤◌, ◌++◌, All, Bool, List, Some, IfErr, IfSome, length, option_map, slice_index, ℕ};
 ghost use Rattle.p25_gf64.specs.declared.symbol.Sym.{Sym as symbol};
-ghost use Rattle.p25_hamming.specs.Hamming10Readings.{hamming10_reading_of};
+ghost use Rattle.p25_hamming.specs.Hamming10Laws.{hamming10_reading_of};
 ghost use Rattle.p25_reed_solomon.specs.{Encoding.{rs_word}, Words.{IsCode}, RsReadings.{rs_erased_reading_of}};
 ghost use Rattle.p25_coded_fields.specs.{Fixes.{field_fixes_of}, Layouts.{field_layout, field_reading_of}, Written.{Encodes}};
 ghost use Rattle.p25_voice_units.specs.{FieldLayouts.{tdulc_layout, word_places}, Fixes.{AreFixes, low_fixes_of}, Images.{hamming10_word}, Layouts.{ldu_rows}};

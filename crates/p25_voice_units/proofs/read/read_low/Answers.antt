@@ -4,7 +4,7 @@ use Rattle.p25_bits.specs.Bits.{bits_of, field_of, part}
 use Rattle.p25_bits.proofs.{BitsLaws.{length-bits_of, take-bits_of}, DistanceLaws.{ones-xor-le}}
 use Rattle.p25_code.specs.Words.{IsEncoding}
 use Rattle.p25_coded_fields.proofs.ReadLaws.{received_bits, received_reading, read_word_of_set, wrong_bits}
-use Rattle.p25_hamming.specs.{Lsd16.{IsLsd16}, Lsd16Laws.{lsd16_is_code}, Lsd16Readings.{lsd16_reading_of, lsd16_reads_as}}
+use Rattle.p25_hamming.specs.{Lsd16.{IsLsd16}, Lsd16Laws.{lsd16_code, lsd16_reading_of}}
 use Rattle.p25_voice_units.specs.{Fixes.{low_fixes_of}, Layouts.{ldu_rows}, Readings.{low_in, low_places}}
 use Rattle.p25_voice_units.proofs.{CodesLaws.{lsd16_encodes}, ReadLaws.{low_octet, low_place-le, some_at}}
 use Rattle.p25_voice_units.proofs.read.read_low.Goals as goal
@@ -21,11 +21,11 @@ returns-in-Some c =
     let small = some_at _ c.read_number.result sent c.read_number.ensures.fits c.in-Some.is in
     let taken = received_bits 16 at received c.args.bare.now c.field-received.ensures.value refl there in
     let read = received_reading 16 received bits lsd16_reading_of c.in-Some.is c.read_number.ensures.reading taken in
-    let is_word = read_word_of_set beq IsLsd16 2 bits (bits_of 16 sent) (lsd16_reading_of bits) (lsd16_reads_as bits) (sym read) in
+    let is_word = read_word_of_set beq IsLsd16 2 bits (bits_of 16 sent) (lsd16_reading_of bits) (lsd16_code.is.reads bits) (sym read) in
     let made : IsEncoding IsLsd16 8 info (bits_of 16 sent) = record { word_of_set = is_word; begins = take-bits_of 8 16 sent (lit≤ tt) } in
     record {
       value = ap Some (low_octet sent small) ∙ ap (option_map (λ (w : List Bool). field_of (take 8 w))) read;
-      wrong = wrong_bits 16 8 lsd16_is_code.one_word received sent info bits _ made (lsd16_encodes info (length-bits_of 8 (sent / 2 ^ 8))) taken c.field-received.ensures.fits small;
+      wrong = wrong_bits 16 8 lsd16_code.is.laws.one_word received sent info bits _ made (lsd16_encodes info (length-bits_of 8 (sent / 2 ^ 8))) taken c.field-received.ensures.fits small;
       most = ones-xor-le 16 received sent c.field-received.ensures.fits small;
     }
 
