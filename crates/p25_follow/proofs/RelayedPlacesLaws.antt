@@ -8,7 +8,7 @@ use Rattle.p25_status.specs.{Sync.{has_sync}, declared.symbols.Status.{Status}}
 use Rattle.p25_status.proofs.SyncLaws.{has_sync-length}
 use Rattle.p25_units.specs.{Items.{covered}, declared.item.Item.{Item}, declared.item.Item.TheVariants.{Whole, Broken, NoUnit, Gap, Cut}}
 use Rattle.p25_stream.specs.{Arrivals.{IsHidden}, Items.{first_item, items_of}}
-use Rattle.p25_stream.proofs.{ItemsLaws.{covered-first_item, first_item-cases, items_by-first, items_by-more, items_by-nil, place_of-first_item}, ArrivalLaws.{IsReached, reached-after}}
+use Rattle.p25_stream.proofs.{ItemsLaws.{covered-first_item, first_item-cases, items_by-first, items_by-more, items_by-nil}, ArrivalLaws.{IsReached, reached-after}}
 use Rattle.p25_follow.specs.{Followed.{unit_name}, Relayed.{IsAmong, relay_of, relayed, relayed_by, relayed_item}, RelayLaws.{RelayKeepsLength, RelayKeepsUnits, RelaysInPlace}, StretchLaws.{bits_in}}
 use Rattle.p25_follow.proofs.{StretchesLaws.{bits_in-more}, RelayedLaws.{item-found, item-long}}
 
