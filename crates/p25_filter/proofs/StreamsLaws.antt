@@ -2,7 +2,7 @@
 -- written, each with the number of faults so far. So all that holds of these holds of the streams.
 use Rattle.std.proofs.Common.{◌≡◌, ℕ, ◌-◌, ◌^◌, ◌≤◌, ◌++◌, ◌∷◌, List, [], take, Option, Some, None, zero, suc, refl, ap, sym, subst, ◌∙◌, arith, append-nil, append_assoc, ◌⊎◌, inl, inr}
 use Rattle.std.specs.{Prelude.{Contains, IfSome}, Io.KnownBytes.{Appends, Consumes, IsAtEnd}}
-use Rattle.p25_io.specs.{Events.{Event, Read, ReadFailed, Wrote, WriteFailed}, Faults.{Rose, counted}, Pairs.{SinkGoes, SourceGoes}, Streams.{octets_read, octets_written}}
+use Rattle.p25_io.specs.{Events.{Event, Read, ReadFailed, Wrote, WriteFailed, octets_read, octets_written}, Faults.{Rose, counted}, Pairs.{SinkGoes, SourceGoes}}
 use Rattle.p25_filter.specs.{Futures.{Future}, Traces.{Going, HasReadFault, HasWriteFault, IsLive, Standing, standing_after}}
 
 -- octets, and a number of faults

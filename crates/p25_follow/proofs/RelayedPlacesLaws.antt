@@ -1,14 +1,14 @@
--- What is forwarded of a recording: each item in its place, by induction on the items before it; and a place with a sync is the place of an item, or lies within a unit
--- that begins before it, by induction on the bits before the place.
-use Rattle.std.proofs.Common.{◌≡◌, ℕ, zero, suc, ◌+◌, ◌<◌, ◌≤◌, ◌⊎◌, inl, inr, Bool, true, false, List, [], ◌∷◌, ◌++◌, length, take, drop, Some, None, refl, sym, ap, ap₂, subst, ◌∙◌, arith, append_assoc, append-nil, length-append, length-drop}
-use Rattle.std.proofs.{lemmas.Bool.{cases_lt}, lemmas.List.{drop-append-le, drop-drop, drop_all}}
+-- What is forwarded of a recording: each item in its place, by induction on the items before it; and each unit is found again, or lies within a unit
+-- that begins before it.
+use Rattle.std.proofs.Common.{◌≡◌, ℕ, zero, suc, ◌+◌, ◌<◌, ◌≤◌, ◌⊎◌, inl, inr, Bool, true, List, [], ◌∷◌, ◌++◌, length, take, drop, Some, None, refl, sym, ap, ap₂, subst, ◌∙◌, arith, append_assoc, append-nil, length-append, length-drop}
+use Rattle.std.proofs.lemmas.List.{drop-drop}
 use Rattle.p25_bits.specs.Bits.{part}
 use Rattle.p25_bits.proofs.PartLaws.{part_joined}
 use Rattle.p25_status.specs.{Sync.{has_sync}, declared.symbols.Status.{Status}}
 use Rattle.p25_status.proofs.SyncLaws.{has_sync-length}
 use Rattle.p25_units.specs.{Items.{covered}, declared.item.Item.{Item}, declared.item.Item.TheVariants.{Whole, Broken, NoUnit, Gap, Cut}}
-use Rattle.p25_stream.specs.{Arrivals.{IsHidden, IsUnitItem}, Items.{first_item, items_of}}
-use Rattle.p25_stream.proofs.{ItemsLaws.{covered-first_item, first_item-cases, gap-first, items_by-first, items_by-more, items_by-nil, place_of-first_item}, SyncPlaceLaws.{has_sync-before}}
+use Rattle.p25_stream.specs.{Arrivals.{IsHidden}, Items.{first_item, items_of}}
+use Rattle.p25_stream.proofs.{ItemsLaws.{covered-first_item, first_item-cases, items_by-first, items_by-more, items_by-nil}, ArrivalLaws.{IsReached, reached-after}}
 use Rattle.p25_follow.specs.{Followed.{unit_name}, Relayed.{IsAmong, relay_of, relayed, relayed_by, relayed_item}, RelayLaws.{RelayKeepsLength, RelayKeepsUnits, RelaysInPlace}, StretchLaws.{bits_in}}
 use Rattle.p25_follow.proofs.{StretchesLaws.{bits_in-more}, RelayedLaws.{item-found, item-long}}
 
@@ -122,75 +122,6 @@ relay-in-place nac status bits before item after nac_fits is =
     ∙ ap (part place (covered item)) at.joined
     ∙ part_joined place (covered item) at.beginning (relayed nac status item raw) at.more at.as_many (item-long nac status nac_fits place (drop place bits) item at.first at.there)
 
--- ---- a place with a sync, after other bits
-module _ (place : ℕ) (rest : List Bool) (synced : has_sync rest ≡ true) where
-  record IsReached (items : List Item) : Type 0 where
-    before : List Item
-    among : items ≡ before ++ items_of place rest
-
-  later : (item : Item) (items : List Item) → IsHidden place items ⊎ IsReached items → IsHidden place (item ∷ items) ⊎ IsReached (item ∷ items)
-  later item items (inl hidden) =
-      inl (record {
-        before = item ∷ hidden.before;
-        item = hidden.item;
-        after = hidden.after;
-        among = ap (λ (is : List Item). item ∷ is) hidden.among;
-        unit = hidden.unit;
-        begins = hidden.begins;
-        covers = hidden.covers;
-      })
-  later item items (inr reached) = inr (record { before = item ∷ reached.before; among = ap (λ (is : List Item). item ∷ is) reached.among })
-
-  -- a first item that reaches past the place is a unit
-  module _ (at : ℕ) (bits : List Bool) (some : 0 < length bits) where
-    no_gap : (start count : ℕ) → Gap start count ≡ first_item at (bits ++ rest) → length bits < count → ⊥
-    no_gap start count same far =
-        let gap = gap-first at (bits ++ rest) start count same in
-        let behind : drop (length bits) (bits ++ rest) ≡ rest
-        = drop-append-le (length bits) bits rest (omega arith) ∙ ap (λ (left : List Bool). left ++ rest) (drop_all (length bits) bits (omega arith)) in
-        let unseen : has_sync rest ≡ false = ap has_sync (sym behind) ∙ has_sync-before (bits ++ rest) (length bits) (omega (arith, gap.1)) in
-        let both : true ≡ false = sym synced ∙ unseen in
-        absurd (cc)
-
-    reaching : (item : Item) → item ≡ first_item at (bits ++ rest) → length bits < covered item → IsUnitItem item
-    reaching (Whole start frame fixes) same far = tt
-    reaching (Broken start count nac duid fields) same far = tt
-    reaching (NoUnit start field) same far = absurd (omega arith)
-    reaching (Gap start count) same far = no_gap start count same far
-    reaching (Cut start have) same far = tt
-
-  walk : (turns at : ℕ) (bits : List Bool) → length bits ≤ turns → place ≡ at + length bits → IsHidden place (items_of at (bits ++ rest)) ⊎ IsReached (items_of at (bits ++ rest))
-  walk turns at [] few here =
-      let same : at ≡ place = omega arith in
-      inr (record { before = []; among = ap (λ (p : ℕ). items_of p rest) same })
-  walk zero at (bit ∷ bits) few here = absurd (omega arith)
-  walk (suc turns) at (bit ∷ bits) few here =
-      let front = bit ∷ bits in
-      let all = front ++ rest in
-      let item = first_item at all in
-      let count = covered item in
-      let some : 0 < length all = omega (arith, length-append front rest) in
-      let fits = covered-first_item at all some in
-      let unfolds : items_of at all ≡ item ∷ items_of (at + count) (drop count all) = items_by-more true at all some refl in
-      elim (cases_lt (length front) count) [
-        | inl far ↦ inl (record {
-          before = [];
-          item = item;
-          after = items_of (at + count) (drop count all);
-          among = unfolds;
-          unit = reaching at front (omega arith) item refl far;
-          begins = omega (arith, place_of-first_item at all);
-          covers = omega (arith, place_of-first_item at all);
-        })
-        | inr near ↦
-            let left = drop count front in
-            let behind : drop count all ≡ left ++ rest = drop-append-le count front rest near in
-            let less : length left ≤ turns = omega (arith, length-drop count front, fits.0) in
-            let place_is : place ≡ at + count + length left = omega (arith, length-drop count front) in
-            subst (λ (items : List Item). IsHidden place items ⊎ IsReached items) (sym (unfolds ∙ ap (λ (bits : List Bool). item ∷ items_of (at + count) bits) behind))
-            (later item (items_of (at + count) (left ++ rest)) (walk turns (at + count) left less place_is))
-      ]
-
 -- ---- each unit is found again, unless an earlier one covers its first bit
 unit-synced : (item : Item) (at : ℕ) (bits : List Bool) (name : ℕ × ℕ) → first_item at bits ≡ item → unit_name item ≡ Some name → has_sync bits ≡ true
 unit-synced item at bits name =
@@ -221,15 +152,15 @@ relay-keeps nac status bits before unit after name nac_fits is named =
     let begins : items_of place rest ≡ relayed_item nac status unit ∷ items_of (place + covered (first_item place rest)) (drop (covered (first_item place rest)) rest)
     = items_by-more true place rest some refl ∙ ap (λ (item : Item). item ∷ items_of (place + covered (first_item place rest)) (drop (covered (first_item place rest)) rest)) found in
     subst (λ (out : List Bool). IsHidden place (items_of 0 out) ⊎ IsAmong (relayed_item nac status unit) (items_of 0 out)) (sym whole)
-    (among-by place rest synced (relayed_item nac status unit)
+    (among-by place rest (relayed_item nac status unit)
     (items_of (place + covered (first_item place rest)) (drop (covered (first_item place rest)) rest)) (items_of 0 (at.beginning ++ rest)) begins
-    (walk place rest synced (length at.beginning) 0 at.beginning (omega arith) here))
+    (reached-after place rest synced 0 at.beginning here))
   where
     by-length : (rest : List Bool) → has_sync rest ≡ true → 0 < length rest
     by-length rest synced = omega (arith, has_sync-length rest synced)
 
-    among-by : (place : ℕ) (rest : List Bool) (synced : has_sync rest ≡ true) (item : Item) (later items : List Item) → items_of place rest ≡ item ∷ later
-        → IsHidden place items ⊎ IsReached place rest synced items → IsHidden place items ⊎ IsAmong item items
-    among-by place rest synced item later items begins (inl hidden) = inl hidden
-    among-by place rest synced item later items begins (inr reached) =
+    among-by : (place : ℕ) (rest : List Bool) (item : Item) (later items : List Item) → items_of place rest ≡ item ∷ later
+        → IsHidden place items ⊎ IsReached 0 place rest items → IsHidden place items ⊎ IsAmong item items
+    among-by place rest item later items begins (inl hidden) = inl hidden
+    among-by place rest item later items begins (inr reached) =
         inr (record { before = reached.before; after = later; among = reached.among ∙ ap (λ (is : List Item). reached.before ++ is) begins })

@@ -45,8 +45,8 @@ fn put_bits(more: &BitBuf, bits: &mut BitBuf) {
     }
 }
 
-// What a follower writes of the items of some octets.
-fn followed(octets: &[u8]) -> BitBuf {
+// What a follower makes of the items of some octets, or what a repair does.
+fn made_of(octets: &[u8], repairs: bool) -> BitBuf {
     let mut bits = BitBuf::new();
     put_octets(octets, &mut bits);
     let mut follower = Follower::new();
@@ -66,9 +66,13 @@ fn followed(octets: &[u8]) -> BitBuf {
         raw.clear();
         raw.append(&bits, at, count);
         at += count;
-        follower.take(&item, &raw, &mut out);
-        put_bits(&out, &mut all);
-        if !matches!(item, Item::NoUnit { .. } | Item::Gap { .. }) {
+        if repairs {
+            repair_item(&item, &mut raw);
+        } else {
+            follower.take(&item, &raw, &mut out);
+            put_bits(&out, &mut all);
+        }
+        if repairs || !matches!(item, Item::NoUnit { .. } | Item::Gap { .. }) {
             put_bits(&raw, &mut all);
         }
     }
@@ -87,7 +91,7 @@ fn comes_out(after: &[u8; 18], count: usize, written: &[u8; 18]) -> bool
     let mut expected = BitBuf::new();
     put_octets(&TDULC, &mut expected);
     put_octets(&written[..count], &mut expected);
-    followed(&octets[..54 + count]) == expected
+    made_of(&octets[..54 + count], false) == expected
 }
 
 #[test]
@@ -190,7 +194,7 @@ fn nothing_is_expected_after_a_terminator(rt: HostRuntime) {
     octets[18..].copy_from_slice(&FIVE_WRONG);
     let mut expected = BitBuf::new();
     put_octets(&octets, &mut expected);
-    assert!(rt; followed(&octets) == expected);
+    assert!(rt; made_of(&octets, false) == expected);
 }
 
 // What a voice unit carries: nothing of it fails.
@@ -297,7 +301,7 @@ fn comes_out_as(octets: &[u8; CALL_OCTETS], written: &[u8; CALL_OCTETS], count: 
 {
     let mut expected = BitBuf::new();
     put_octets(&written[..count], &mut expected);
-    followed(&octets[..count]) == expected
+    made_of(&octets[..count], false) == expected
 }
 
 #[test]
@@ -329,31 +333,6 @@ const PACKET_BEGUN: [u8; 38] = [
     0x86, 0x00, 0x88, 0x65, 0x9C, 0x22,
 ];
 
-// What a repair writes of the items of some octets.
-fn repaired(octets: &[u8]) -> BitBuf {
-    let mut bits = BitBuf::new();
-    put_octets(octets, &mut bits);
-    let mut item = Item::Cut { place: 0, have: 0 };
-    let mut raw = BitBuf::new();
-    let mut all = BitBuf::new();
-    let mut at = 0;
-    for _ in 0..BITS_MOST {
-        if !find_item(octets, at, at as u64, true, &mut item) {
-            break;
-        }
-        let count = item.covered() as usize;
-        if count > 4_096 || at > bits.len() || count > bits.len() - at {
-            break;
-        }
-        raw.clear();
-        raw.append(&bits, at, count);
-        at += count;
-        repair_item(&item, &mut raw);
-        put_bits(&raw, &mut all);
-    }
-    all
-}
-
 // The octets of bits.
 fn octets_of(bits: &BitBuf) -> [u8; AFTER_PACKET] {
     let mut octets = [0; AFTER_PACKET];
@@ -381,8 +360,8 @@ fn a_repair_can_take_the_unit_before(rt: HostRuntime) {
     clean[92..].copy_from_slice(&TDU);
     let mut found = BitBuf::new();
     put_octets(&clean, &mut found);
-    assert!(rt; repaired(&octets_of(&followed(&octets))) == found);
+    assert!(rt; made_of(&octets_of(&made_of(&octets, false)), true) == found);
     // After a repair it reads, and the packet covers the unit after which the terminator would be expected.
-    let first = octets_of(&repaired(&octets));
-    assert!(rt; repaired(&octets_of(&followed(&first))) == lost);
+    let first = octets_of(&made_of(&octets, true));
+    assert!(rt; made_of(&octets_of(&made_of(&first, false)), true) == lost);
 }

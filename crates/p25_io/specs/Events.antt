@@ -1,5 +1,5 @@
--- What a call does to the outside, as a list of events in their order.
-use Rattle.std.specs.Prelude.{ℕ, List}
+-- What a call does to the outside, as a list of events in their order, and what of that was read and written.
+use Rattle.std.specs.{Prelude.{ℕ, ◌+◌, List, [], ◌∷◌, take}, List.{flat_map}}
 
 -- a read gave these octets, or none at the end of the input; a read failed; a write wrote its piece; a write failed, and of its
 -- piece so many of the first octets were written
@@ -8,3 +8,38 @@ pub data Event : Type 0 where
   ReadFailed : Event
   Wrote : (piece : List ℕ) → Event
   WriteFailed : (piece : List ℕ) → (count : ℕ) → Event
+
+-- the octets that an event read, and those that it wrote
+abbrev pub read_by : Event → List ℕ
+read_by (Read octets) = octets
+read_by ReadFailed = []
+read_by (Wrote piece) = []
+read_by (WriteFailed piece count) = []
+
+abbrev pub written_by : Event → List ℕ
+written_by (Read octets) = []
+written_by ReadFailed = []
+written_by (Wrote piece) = piece
+written_by (WriteFailed piece count) = take count piece
+
+-- all octets that some events read, and all that they wrote
+abbrev pub octets_read : List Event → List ℕ
+octets_read events = flat_map read_by events
+
+abbrev pub octets_written : List Event → List ℕ
+octets_written events = flat_map written_by events
+
+-- how many of some events are reads, failed or not, and how many are writes that did not fail
+abbrev pub reads_in : List Event → ℕ
+reads_in [] = 0
+reads_in (Read octets ∷ events) = 1 + reads_in events
+reads_in (ReadFailed ∷ events) = 1 + reads_in events
+reads_in (Wrote piece ∷ events) = reads_in events
+reads_in (WriteFailed piece count ∷ events) = reads_in events
+
+abbrev pub writes_in : List Event → ℕ
+writes_in [] = 0
+writes_in (Read octets ∷ events) = writes_in events
+writes_in (ReadFailed ∷ events) = writes_in events
+writes_in (Wrote piece ∷ events) = 1 + writes_in events
+writes_in (WriteFailed piece count ∷ events) = writes_in events

@@ -1,5 +1,4 @@
 pub mod Adapters
-pub mod Amounts
 pub mod Asked
 pub mod Events
 pub mod Faults

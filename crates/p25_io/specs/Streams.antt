@@ -1,7 +1,6 @@
 -- What a reader and a writer of std went through in some events.
-use Rattle.std.specs.{Prelude.{◌≡◌, ℕ, ◌+◌, List, [], ◌∷◌, ◌++◌, Option, length, take, Contains, IfSome}, List.{flat_map}}
-use Rattle.std.specs.Io.KnownBytes.{Appends, Consumes, IsAtEnd}
-use Rattle.p25_io.specs.{declared.streams.Streams.{Streams}, Events.{Event, Read, ReadFailed, Wrote, WriteFailed}}
+use Rattle.std.specs.{Prelude.{◌≡◌, ℕ, ◌+◌, List, [], ◌++◌, Option, length, Contains, IfSome}, Io.KnownBytes.{Appends, Consumes, IsAtEnd}}
+use Rattle.p25_io.specs.{declared.streams.Streams.{Streams}, Events.{Event, Read, octets_read, octets_written, reads_in, writes_in}}
 
 -- the reader and the writer, and the events that their port went through
 abbrev pub reader_in : {R W : Type 0} → Streams R W → R
@@ -15,48 +14,13 @@ events_on streams = streams.history.events
 
 -- how often the reader was asked, how many octets the writer took, and how often it was flushed
 abbrev pub asked_on : {R W : Type 0} → Streams R W → ℕ
-asked_on streams = streams.reader.calls.number
+asked_on streams = length streams.reader.calls.events
 
 abbrev pub taken_on : {R W : Type 0} → Streams R W → ℕ
-taken_on streams = streams.writer.octets.number
+taken_on streams = length (octets_written streams.writer.octets.events)
 
 abbrev pub flushed_on : {R W : Type 0} → Streams R W → ℕ
-flushed_on streams = streams.writer.flushes.number
-
--- the octets that an event read, and those that it wrote
-abbrev pub read_by : Event → List ℕ
-read_by (Read octets) = octets
-read_by ReadFailed = []
-read_by (Wrote piece) = []
-read_by (WriteFailed piece count) = []
-
-abbrev pub written_by : Event → List ℕ
-written_by (Read octets) = []
-written_by ReadFailed = []
-written_by (Wrote piece) = piece
-written_by (WriteFailed piece count) = take count piece
-
--- all octets that some events read, and all that they wrote
-abbrev pub octets_read : List Event → List ℕ
-octets_read events = flat_map read_by events
-
-abbrev pub octets_written : List Event → List ℕ
-octets_written events = flat_map written_by events
-
--- how many of some events are reads, failed or not, and how many are writes that did not fail
-abbrev pub reads_in : List Event → ℕ
-reads_in [] = 0
-reads_in (Read octets ∷ events) = 1 + reads_in events
-reads_in (ReadFailed ∷ events) = 1 + reads_in events
-reads_in (Wrote piece ∷ events) = reads_in events
-reads_in (WriteFailed piece count ∷ events) = reads_in events
-
-abbrev pub writes_in : List Event → ℕ
-writes_in [] = 0
-writes_in (Read octets ∷ events) = writes_in events
-writes_in (ReadFailed ∷ events) = writes_in events
-writes_in (Wrote piece ∷ events) = 1 + writes_in events
-writes_in (WriteFailed piece count ∷ events) = writes_in events
+flushed_on streams = length streams.writer.flushes.events
 
 -- these events were made on the streams, after those before. As far as the reader and the writer tell what they hold, the octets read
 -- stood first in the reader, which has none left where a read gave none, and those written stand last in the writer. The reader was

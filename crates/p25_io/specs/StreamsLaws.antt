@@ -3,8 +3,8 @@ use Rattle.std.specs.{Prelude.{◌≡◌, ℕ, ◌+◌, List, [], ◌∷◌, ◌
 use Rattle.std.proofs.Common.{sym, ap, subst, ◌∙◌, arith, append_assoc, append-nil, length-append, ◌⊎◌, inl, inr, ◌<◌}
 use Rattle.std.proofs.{KnownBytes.{Appends-nil, Appends-trans, Consumes-nil, Consumes-trans}, lemmas.Grind.{flat_map-append}}
 use Rattle.std.proofs.lemmas.List.Elements.{Contains-append_cases}
-use Rattle.p25_io.specs.{declared.streams.Streams.{Streams}, Events.{Event, Read, ReadFailed, Wrote, WriteFailed}}
-use Rattle.p25_io.specs.Streams.{StreamsGo, events_on, octets_read, octets_written, read_by, reader_in, reads_in, writer_in, writes_in, written_by}
+use Rattle.p25_io.specs.{declared.streams.Streams.{Streams}, Streams.{StreamsGo, events_on, reader_in, writer_in}}
+use Rattle.p25_io.specs.Events.{Event, Read, ReadFailed, Wrote, WriteFailed, octets_read, octets_written, read_by, reads_in, writes_in, written_by}
 
 reads_in-append : (xs ys : List Event) → reads_in (xs ++ ys) ≡ reads_in xs + reads_in ys
 reads_in-append [] ys = omega arith

@@ -1,25 +1,25 @@
 // One of std's readers and one of its writers, with what they were asked for, which exists only in proofs.
 ghost use Rattle.std.specs.{Prelude.{◌≡◌, ◌≤◌, ◌+◌, [], length, take, OnErr, OnOk, IfOk}, Io.{ReadsAtMost}, Io.KnownBytes.{ReadConsumes}};
 
-use super::tally::{Amount, Tally};
+use super::history::{History, Note};
 use crate::Failed;
 use std::io::{Read, Write};
 
-// A reader, and how often it was asked.
+// A reader, and a history with a read of nothing for each time it was asked.
 #[derive(Debug, Drop)]
 pub(crate) struct AskedReader<R> {
     pub inner: R,
-    pub calls: Tally,
+    pub calls: History,
 }
 
 impl<R: Read> AskedReader<R> {
     pub(crate) fn new(inner: R) -> AskedReader<R>
         ensures inner { result.inner ≡ inner }
-        ensures calls { result.calls.number ≡ 0 }
+        ensures calls { result.calls.events ≡ [] }
     {
         AskedReader {
             inner,
-            calls: Tally::new(),
+            calls: History::new(),
         }
     }
 
@@ -27,20 +27,20 @@ impl<R: Read> AskedReader<R> {
     pub(crate) fn read(&mut self, buf: &mut [u8]) -> Result<usize, Failed>
         ensures bound { ReadsAtMost result buf.new }
         ensures bytes { ReadConsumes (R.remaining self.old.inner) (R.remaining self.new.inner) result buf.new }
-        ensures once { self.new.calls.number ≡ self.old.calls.number + 1 }
+        ensures once { length self.new.calls.events ≡ length self.old.calls.events + 1 }
         ensures room { length buf.new ≡ length buf.old }
     {
-        self.calls = self.calls.more(&Amount::One);
+        self.calls = self.calls.then(&Note::Read(&[]));
         self.inner.read(buf).map_err(|_| Failed)
     }
 }
 
-// A writer, how many octets it took, and how often it was flushed.
+// A writer, a history with the octets that it took, and one with a write of nothing for each time it was flushed.
 #[derive(Debug, Drop)]
 pub(crate) struct AskedWriter<W> {
     pub inner: W,
-    pub octets: Tally,
-    pub flushes: Tally,
+    pub octets: History,
+    pub flushes: History,
 }
 
 impl<W: Write> AskedWriter<W> {
@@ -48,13 +48,13 @@ impl<W: Write> AskedWriter<W> {
 
     pub(crate) fn new(inner: W) -> AskedWriter<W>
         ensures inner { result.inner ≡ inner }
-        ensures octets { result.octets.number ≡ 0 }
-        ensures flushes { result.flushes.number ≡ 0 }
+        ensures octets { result.octets.events ≡ [] }
+        ensures flushes { result.flushes.events ≡ [] }
     {
         AskedWriter {
             inner,
-            octets: Tally::new(),
-            flushes: Tally::new(),
+            octets: History::new(),
+            flushes: History::new(),
         }
     }
 
@@ -64,7 +64,7 @@ impl<W: Write> AskedWriter<W> {
         ensures err { OnErr result (Took W.contents self.old [] 0 self.new) }
     {
         let count = self.inner.write(piece).map_err(|_| Failed)?;
-        self.octets = self.octets.more(&Amount::Octets(&piece[..count]));
+        self.octets = self.octets.then(&Note::Wrote(&piece[..count]));
         Ok(count)
     }
 
@@ -74,7 +74,7 @@ impl<W: Write> AskedWriter<W> {
         ensures err { OnErr result (Took W.contents self.old [] 0 self.new) }
     {
         self.inner.flush().map_err(|_| Failed)?;
-        self.flushes = self.flushes.more(&Amount::One);
+        self.flushes = self.flushes.then(&Note::Wrote(&[]));
         Ok(())
     }
 }

@@ -34,7 +34,6 @@ mod slice_sink;
 mod source;
 mod steady_source;
 mod streams;
-mod tally;
 mod tape;
 mod write_sink;
 

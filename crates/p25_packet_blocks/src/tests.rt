@@ -24,12 +24,14 @@ fn the_example_of_the_head(rt: HostRuntime) -> Result<(), Fail> {
     Ok(())
 }
 
-// The first bits of some words, the most significant bit first, and then bits 0.
-fn unit(words: &[u64], len: usize) -> BitBuf {
+// The first bits of some words, of which others stand from a place on in place of them, the most significant bit first, and then
+// bits 0.
+fn unit(words: &[u64], len: usize, from: usize, others: &[u64]) -> BitBuf {
     let mut bits = BitBuf::new();
-    for i in 0..11 {
+    for i in 0..11_usize {
+        let other = others.get(i.wrapping_sub(from));
         if bits.len() <= 640 {
-            bits.put_field(if i < words.len() { words[i] } else { 0 }, 64);
+            bits.put_field(*other.or(words.get(i)).unwrap_or(&0), 64);
         }
     }
     let mut bare = BitBuf::new();
@@ -90,7 +92,7 @@ fn assert_unit(rt: &impl Abort, nac: u16, head: PacketHead, bits: &BitBuf) {
 #[test]
 fn units_are_read_and_written(rt: HostRuntime) {
     for (nac, len, words) in UNITS {
-        let bare = unit(words, len);
+        let bare = unit(words, len, 0, &[]);
         match read_whole(&bare) {
             Ok(packet) => {
                 assert_written(&rt, nac, &packet, &bare);
@@ -103,8 +105,10 @@ fn units_are_read_and_written(rt: HostRuntime) {
 
 #[test]
 fn damaged_units(rt: HostRuntime) {
-    for (fails, len, words) in DAMAGED {
-        let bits = sent(&unit(words, len));
+    for (fails, place, from, others) in DAMAGED {
+        assert!(rt; place < UNITS.len());
+        let (_, len, words) = UNITS[place];
+        let bits = sent(&unit(words, len, from, others));
         assert!(rt; bits.len() >= 360);
         match read_packet_unit(&bits) {
             Ok((_, packet)) => {

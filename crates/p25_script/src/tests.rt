@@ -7,6 +7,16 @@ mod scripts;
 mod steps;
 
 use super::{Line, Step, step_text};
+use p25_line::LineFault;
+use std::process::Abort;
+use std::str::FromStr;
+
+// Asserts that lines are refused as events of a kind, each for its cause.
+fn refused<E: FromStr<Err = LineFault> + Drop>(rt: &impl Abort, rows: &[(&str, LineFault)]) {
+    for (line, fault) in rows {
+        assert_eq!(rt; line.parse::<E>().err(), Some(*fault));
+    }
+}
 
 // Whether a step has this text.
 fn is_text_of(step: &Step, text: &[u8]) -> bool {

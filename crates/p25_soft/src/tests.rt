@@ -1,4 +1,4 @@
-//! Levels, blocks read from them, and broken packets (PDU) that a program apart from this code made.
+//! Levels, blocks read from them, and broken packets (PDU) of header blocks that a program apart from this code made.
 
 ghost use Rattle.std.specs.Prelude.{◌≡◌, ◌*◌, ◌≤◌, length};
 ghost use Rattle.p25_soft.specs.Levels.{hard_bits};
@@ -6,72 +6,41 @@ ghost use Rattle.p25_soft.specs.Levels.{hard_bits};
 use super::{hard, nominal, read_soft, soften};
 use p25_bits::BitBuf;
 use p25_status::{Status, Statuses, weave};
-use p25_trellis::{Half, ThreeQuarter, read_block};
+use p25_trellis::{Half, ThreeQuarter, encode_block, read_block};
 use p25_units::{Begun, Need, need, unit_item};
 
-// The front of some packets (PDU): the sync, the network access code (NAC) 293 hex and the data unit identifier (DUID) C hex.
-const FRONT: u64 = 0x5575_F5FF_77FF_293C;
+// The octets of header blocks, with their check: of confirmed packets (PDU) of one block and of two, of an unconfirmed packet of one
+// block, and of a packet of the format 17 hex without blocks.
+const CONFIRMED: [u8; 12] = [0x56, 0xC0, 0, 0, 0, 1, 0x81, 0, 0x08, 0, 0x02, 0xD3];
 
-// A confirmed packet (PDU) of one block, of 560 bits without status symbols.
-const CONFIRMED: [u64; 8] = [
-    FRONT,
-    0xD60B_E02B_B372_C422,
-    0x22DE_2224_5052_2229,
-    0x2222_B022_2222_2122,
-    0xED22_22CC_2921_F282,
-    0x2222_2222_222E_2222,
-    0x2222_221F_2222_2222,
-    0x2252_2222_2222_2200,
+const TWO_BLOCKS: [u8; 12] = [
+    0x56, 0xC0, 0, 0xFE, 0xDC, 0xBA, 0x02, 0x03, 0x38, 0, 0x68, 0x74,
 ];
 
-// A confirmed packet (PDU) of two blocks, both of zeros, of 700 bits.
-const NO_BLOCKS: [u64; 11] = [
-    0x5575_F5FF_77FF_ABCC,
-    0xC425_E74B_DC0A_C42F,
-    0x4199_52CC_2052_8B42,
-    0x2F2D_3022_8362_262A,
-    0xBD22_65A1_F929_E222,
-    0x2222_2222_2222_2222,
-    0x2222_2222_2222_2222,
-    0x2222_2222_2222_2222,
-    0x2222_2222_2222_2222,
-    0x2222_2222_2222_2222,
-    0x2222_2222_2222_2220,
+const PLAIN: [u8; 12] = [0x35, 0xC0, 0, 0, 0, 1, 0x81, 0, 0, 0, 0x71, 0xA2];
+
+const FORMAT_17: [u8; 12] = [0x17, 0xC0, 0, 0, 0, 1, 0x80, 0, 0, 0, 0xE0, 0x91];
+
+// A confirmed block of zeros with its check.
+const GOOD: [u8; 18] = [
+    1, 0xFF, 0, 0, 0, 0, 0, 0, 0, 0, 0, 0, 0, 0, 0, 0, 0, 0,
 ];
 
-// An unconfirmed packet (PDU) of one block, of zeros, of 560 bits.
-const NO_CHECK: [u64; 8] = [
-    FRONT,
-    0xD60B_E02B_B372_2322,
-    0x22DE_22CD_9F52_2229,
-    0x2223_AB22_2222_2225,
-    0x9022_22CC_222C_1222,
-    0x2222_2222_2222_2222,
-    0x2222_2222_2222_2222,
-    0x2222_2222_2222_2200,
-];
-
-// A packet (PDU) of the format 17 hex without blocks, of 350 bits.
-const FORMAT_17: [u64; 6] = [
-    FRONT,
-    0xD60B_E02B_B372_2822,
-    0x22D2_22F1_EC52_2229,
-    0x2226_7022_2222_2229,
-    0xE322_22C2_2222_C000,
-    0,
-];
-
-// The first bits of some words, the most significant bit first, and then bits 0, with the status symbol 0 throughout.
-fn sent(words: &[u64], len: usize) -> BitBuf {
+// A packet (PDU) of at most two blocks under the network access code (NAC) 293 hex as it is sent, with the status symbol 0
+// throughout, by the octets of its header block and of its blocks. A block of zeros is the same at either rate.
+fn sent(header: &[u8; 12], blocks: &[[u8; 18]]) -> BitBuf {
     let mut bare = BitBuf::new();
-    for place in 0..len {
+    bare.put_field(0x5575_F5FF_77FF, 48);
+    bare.put_field(0x293C_D60B_E02B_B372, 64);
+    encode_block::<Half>(header, &mut bare);
+    for octets in blocks {
+        if bare.len() < 700 {
+            encode_block::<ThreeQuarter>(octets, &mut bare);
+        }
+    }
+    for _null in 0..(70 - bare.len() % 70) % 70 {
         if bare.len() < 25_200 {
-            let word = if place / 64 < words.len() {
-                words[place / 64]
-            } else {
-                0
-            };
-            bare.push((word >> (63 - place % 64)) & 1 == 1);
+            bare.push(false);
         }
     }
     let statuses = Statuses::filled(Status::default(), (bare.len() / 70).min(360));
@@ -125,21 +94,21 @@ fn soften_unit(levels: &[i8], raw: &mut BitBuf) -> Option<u32>
 
 #[test]
 fn broken_packets(rt: HostRuntime) {
-    // Rows: a unit, its number of bits, levels of it that are others, and how many blocks are replaced.
-    let rows: [(&[u64], usize, &[(usize, i8)], u32); 5] = [
-        (&CONFIRMED, 560, &[], 0),
-        (&CONFIRMED, 560, &[(164, -1), (165, 0)], 1),
+    // Rows: a header block, the blocks to follow, levels of the packet that are others, and how many blocks are replaced.
+    let rows: [(&[u8; 12], &[[u8; 18]], &[(usize, i8)], u32); 5] = [
+        (&CONFIRMED, &[GOOD], &[], 0),
+        (&CONFIRMED, &[GOOD], &[(164, -1), (165, 0)], 1),
         (
-            &NO_BLOCKS,
-            700,
+            &TWO_BLOCKS,
+            &[[0; 18], [0; 18]],
             &[(164, -1), (165, 0), (265, -1), (266, 0)],
             2,
         ),
-        (&NO_CHECK, 560, &[(158, -1), (159, 0), (185, -1)], 1),
-        (&FORMAT_17, 350, &[], 0),
+        (&PLAIN, &[[0; 18]], &[(158, -1), (159, 0), (185, -1)], 1),
+        (&FORMAT_17, &[], &[], 0),
     ];
-    for (words, len, changed, replaced) in rows {
-        let bits = sent(words, len);
+    for (header, blocks, changed, replaced) in rows {
+        let bits = sent(header, blocks);
         let mut levels = levels_of(&bits);
         for (place, level) in changed {
             assert!(rt; *place < 360);

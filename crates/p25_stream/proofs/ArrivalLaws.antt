@@ -1,6 +1,6 @@
 -- Units end to end are whole, by induction on their list: each is decided by its own bits. A unit after other bits is found there, by
 -- induction on the number of those bits: the first item of them ends before it, or it is a unit that covers its first bit.
-use Rattle.std.proofs.Common.{◌≡◌, ℕ, zero, suc, ◌+◌, ◌<◌, ◌≤◌, ◌⊎◌, inl, inr, Bool, true, false, List, [], ◌∷◌, ◌++◌, length, drop, refl, ap, ap₂, sym, ◌∙◌, subst, arith, append_assoc, append-nil, length-append, length-drop}
+use Rattle.std.proofs.Common.{◌≡◌, ℕ, zero, suc, ◌+◌, ◌<◌, ◌≤◌, ◌⊎◌, inl, inr, Bool, true, false, List, [], ◌∷◌, ◌++◌, length, drop, refl, ap, ap₂, sym, ◌∙◌, subst, arith, append_assoc, append-nil, length-append, length-drop, sum_by}
 use Rattle.std.proofs.{lemmas.Bool.{cases_lt}, lemmas.List.{drop-append-le, drop_all}, lemmas.List.Elements.{All-head, All-tail}, lemmas.List.Sums.{sum_by-cons}}
 use Rattle.p25_status.specs.Sync.{has_sync}
 use Rattle.p25_status.proofs.SyncLaws.{has_sync-append, has_sync-length}
@@ -57,46 +57,43 @@ units-whole ended at (arrival ∷ arrivals) more near =
     ∙ ap (λ (n : ℕ). whole_of at arrival ∷ (wholes_of (at + length bits) arrivals ++ items_by ended n more)) place
     ∙ ap (λ (items : List Item). items ++ items_by ended (at + length (bits ++ later)) more) (sym (wholes_of-cons at arrival arrivals))
 
--- a unit after other bits
-module _ (place : ℕ) (arrival : Arrival) (more : List Bool) (is : IsNearArrival arrival) where
-  abbrev rest : List Bool
-  rest = arrival.bits ++ more
+-- among the items of some bits are those of the bits from a place on, and the items before these end there
+pub record IsReached (at place : ℕ) (rest : List Bool) (items : List Item) : Type 0 where
+  pub before : List Item
+  pub among : items ≡ before ++ items_of place rest
+  pub ends : at + sum_by covered before ≡ place
 
+-- a place with a sync, after other bits
+module _ (place : ℕ) (rest : List Bool) (synced : has_sync rest ≡ true) where
   -- what is said of the items of some bits is said of those of bits that have one item more in front
-  later-hidden : (item : Item) (items : List Item) → IsHidden place items → IsHidden place (item ∷ items)
-  later-hidden item items hidden = record {
-    before = item ∷ hidden.before;
-    item = hidden.item;
-    after = hidden.after;
-    among = ap (λ (is : List Item). item ∷ is) hidden.among;
-    unit = hidden.unit;
-    begins = hidden.begins;
-    covers = hidden.covers;
-  }
+  later : (at : ℕ) (item : Item) (items : List Item) → IsHidden place items ⊎ IsReached (at + covered item) place rest items
+      → IsHidden place (item ∷ items) ⊎ IsReached at place rest (item ∷ items)
+  later at item items (inl hidden) =
+      inl (record {
+        before = item ∷ hidden.before;
+        item = hidden.item;
+        after = hidden.after;
+        among = ap (λ (is : List Item). item ∷ is) hidden.among;
+        unit = hidden.unit;
+        begins = hidden.begins;
+        covers = hidden.covers;
+      })
+  later at item items (inr reached) =
+      inr (record {
+        before = item ∷ reached.before;
+        among = ap (λ (is : List Item). item ∷ is) reached.among;
+        ends = omega (arith, sum_by-cons covered item reached.before, reached.ends);
+      })
 
-  later-found : (at : ℕ) (item : Item) (items : List Item) → IsFound (at + covered item) place arrival more items → IsFound at place arrival more (item ∷ items)
-  later-found at item items found = record {
-    before = item ∷ found.before;
-    among = ap (λ (is : List Item). item ∷ is) found.among;
-    ends = omega (arith, sum_by-cons covered item found.before, found.ends);
-  }
-
-  later : (at : ℕ) (item : Item) (items : List Item) → IsHidden place items ⊎ IsFound (at + covered item) place arrival more items
-      → IsHidden place (item ∷ items) ⊎ IsFound at place arrival more (item ∷ items)
-  later at item items (inl hidden) = inl (later-hidden item items hidden)
-  later at item items (inr found) = inr (later-found at item items found)
-
-  -- a first item that reaches past the place of the unit is a unit itself
+  -- a first item that reaches past the place is a unit
   module _ (at : ℕ) (bits : List Bool) (some : 0 < length bits) where
     no_gap : (start count : ℕ) → Gap start count ≡ first_item at (bits ++ rest) → length bits < count → ⊥
     no_gap start count same far =
         let gap = gap-first at (bits ++ rest) start count same in
         let behind : drop (length bits) (bits ++ rest) ≡ rest
         = drop-append-le (length bits) bits rest (omega arith) ∙ ap (λ (left : List Bool). left ++ rest) (drop_all (length bits) bits (omega arith)) in
-        let sync = has_sync-near arrival.frame is.sound is.sendable arrival.bits is.near in
-        let seen : has_sync rest ≡ true = has_sync-append arrival.bits more (has_sync-length arrival.bits sync) ∙ sync in
         let unseen : has_sync rest ≡ false = ap has_sync (sym behind) ∙ has_sync-before (bits ++ rest) (length bits) (omega (arith, gap.1)) in
-        let both : true ≡ false = sym seen ∙ unseen in
+        let both : true ≡ false = sym synced ∙ unseen in
         absurd (cc)
 
     reaching : (item : Item) → item ≡ first_item at (bits ++ rest) → length bits < covered item → IsUnitItem item
@@ -104,14 +101,11 @@ module _ (place : ℕ) (arrival : Arrival) (more : List Bool) (is : IsNearArriva
     reaching (Gap start count) same far = no_gap start count same far
     reaching item same far = tt
 
-  walk : (turns at : ℕ) (bits : List Bool) → length bits ≤ turns → place ≡ at + length bits → IsHidden place (items_of at (bits ++ rest)) ⊎ IsFound at place arrival more (items_of at (bits ++ rest))
+  walk : (turns at : ℕ) (bits : List Bool) → length bits ≤ turns → place ≡ at + length bits
+      → IsHidden place (items_of at (bits ++ rest)) ⊎ IsReached at place rest (items_of at (bits ++ rest))
   walk turns at [] few here =
       let same : at ≡ place = omega arith in
-      inr (record {
-        before = [];
-        among = items_by-arrival at arrival is true more ∙ ap (λ (n : ℕ). whole_of n arrival ∷ items_of (n + length arrival.bits) more) same;
-        ends = omega arith;
-      })
+      inr (record { before = []; among = ap (λ (p : ℕ). items_of p rest) same; ends = omega arith })
   walk zero at (bit ∷ bits) few here = absurd (omega arith)
   walk (suc turns) at (bit ∷ bits) few here =
       let front = bit ∷ bits in
@@ -136,9 +130,26 @@ module _ (place : ℕ) (arrival : Arrival) (more : List Bool) (is : IsNearArriva
             let behind : drop count all ≡ left ++ rest = drop-append-le count front rest near in
             let less : length left ≤ turns = omega (arith, length-drop count front, fits.0) in
             let place_is : place ≡ at + count + length left = omega (arith, length-drop count front) in
-            subst (λ (items : List Item). IsHidden place items ⊎ IsFound at place arrival more items) (sym (unfolds ∙ ap (λ (bits : List Bool). item ∷ items_of (at + count) bits) behind))
+            subst (λ (items : List Item). IsHidden place items ⊎ IsReached at place rest items) (sym (unfolds ∙ ap (λ (bits : List Bool). item ∷ items_of (at + count) bits) behind))
             (later at item (items_of (at + count) (left ++ rest)) (walk turns (at + count) left less place_is))
       ]
 
+  pub reached-after : (at : ℕ) (bits : List Bool) → place ≡ at + length bits
+      → IsHidden place (items_of at (bits ++ rest)) ⊎ IsReached at place rest (items_of at (bits ++ rest))
+  reached-after at bits = walk (length bits) at bits (omega arith)
+
+found : (at place : ℕ) (arrival : Arrival) (more : List Bool) (items : List Item) → IsNearArrival arrival
+    → IsHidden place items ⊎ IsReached at place (arrival.bits ++ more) items → IsHidden place items ⊎ IsFound at place arrival more items
+found at place arrival more items is (inl hidden) = inl hidden
+found at place arrival more items is (inr reached) =
+    inr (record {
+      before = reached.before;
+      among = reached.among ∙ ap (λ (is : List Item). reached.before ++ is) (items_by-arrival place arrival is true more);
+      ends = reached.ends;
+    })
+
 pub unit-found : UnitIsFound
-unit-found at bits arrival more is = walk (at + length bits) arrival more is (length bits) at bits (omega arith) refl
+unit-found at bits arrival more is =
+    let sync : has_sync arrival.bits ≡ true = has_sync-near arrival.frame is.sound is.sendable arrival.bits is.near in
+    let synced : has_sync (arrival.bits ++ more) ≡ true = has_sync-append arrival.bits more (has_sync-length arrival.bits sync) ∙ sync in
+    found at (at + length bits) arrival more _ is (reached-after (at + length bits) (arrival.bits ++ more) synced at bits refl)

@@ -1,7 +1,7 @@
 -- What a call comes to on streams that tell what they hold: what it comes to between a source and a sink that went through its events.
 use Rattle.std.proofs.Common.{◌≡◌, ℕ, true, List, ◌++◌, Option, Some, None, ap, sym, subst, ◌∙◌, arith}
 use Rattle.std.specs.Prelude.{IfSome}
-use Rattle.p25_io.specs.{Events.{Event}, Faults.{Rose}, Streams.{StreamsGo, octets_read, octets_written, reader_in, writer_in}, declared.streams.Streams.{Streams}}
+use Rattle.p25_io.specs.{Events.{Event, octets_read, octets_written}, Faults.{Rose}, Streams.{StreamsGo, reader_in, writer_in}, declared.streams.Streams.{Streams}}
 use Rattle.p25_filter.specs.{Futures.{Future}, Traces.{HasReadFault, HasWriteFault, IsLive, at_first}}
 use Rattle.p25_filter.proofs.StreamsLaws.{Told, ended-told, faults_told, octets_told, read-rose, read-told, read_faults, sink-chain, source-chain, write-rose, write_faults, wrote-told}
 use Rattle.p25_tool.specs.{CallClauses.{CallSays}, CallRuns.{IsCallRun}, Outputs.{command_future, output_by}, Runs.{Ran}, Words.{command_of}, Written.{HasEnded}, declared.command.Command.{Command}}

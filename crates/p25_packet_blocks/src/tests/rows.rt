@@ -4,21 +4,7 @@
 use p25_status::Field;
 
 // Units of packets (PDU) that are read and written: the network access code, the length in bits, the words.
-pub(super) const UNITS: [(u16, usize, &[u64]); 5] = [
-    (
-        0x293,
-        560,
-        &[
-            0x5575_F5FF_77FF_293C,
-            0xD60B_E02B_B372_C422,
-            0x22DE_2224_5052_2229,
-            0x2222_B022_2222_2122,
-            0xED22_22CC_2921_F282,
-            0x2222_2222_222E_2222,
-            0x2222_221F_2222_2222,
-            0x2252_2222_2222_2200,
-        ],
-    ),
+pub(super) const UNITS: [(u16, usize, &[u64]); 4] = [
     (
         0x293,
         560,
@@ -80,33 +66,29 @@ pub(super) const UNITS: [(u16, usize, &[u64]); 5] = [
     ),
 ];
 
-// Damaged units of packets (PDU): the field that fails, the length in bits, the words.
-pub(super) const DAMAGED: [(Option<Field>, usize, &[u64]); 8] = [
-    // a confirmed block zeroed
+// Damaged units of packets (PDU): the field that fails; which of the units it is, and the words that stand in it from a place on
+// in place of its own.
+pub(super) const DAMAGED: [(Option<Field>, usize, usize, &[u64]); 8] = [
+    // confirmed blocks zeroed
     (
         None,
-        560,
+        3,
+        5,
         &[
-            0x5575_F5FF_77FF_293C,
-            0xD60B_E02B_B372_C422,
-            0x22DE_2224_5052_2229,
-            0x2222_B022_2222_2122,
-            0xED22_22CC_2921_F222,
             0x2222_2222_2222_2222,
             0x2222_2222_2222_2222,
-            0x2222_2222_2222_2200,
+            0x2222_2222_2222_2222,
+            0x2222_2222_2222_2222,
+            0x2222_2222_2222_2222,
+            0x2222_2222_2222_2220,
         ],
     ),
     // a plain block zeroed
     (
         Some(Field::PacketCrc),
-        560,
+        0,
+        5,
         &[
-            0x5575_F5FF_77FF_293C,
-            0xD60B_E02B_B372_2322,
-            0x22DE_22CD_9F52_2229,
-            0x2223_AB22_2222_2225,
-            0x9022_22CC_222C_1222,
             0x2222_2222_2222_2222,
             0x2222_2222_2222_2222,
             0x2222_2222_2222_2200,
@@ -115,9 +97,9 @@ pub(super) const DAMAGED: [(Option<Field>, usize, &[u64]); 8] = [
     // the header block zeroed
     (
         Some(Field::PacketHeader),
-        350,
+        1,
+        1,
         &[
-            0x5575_F5FF_77FF_293C,
             0xD60B_E02B_B372_2222,
             0x2222_2222_2222_2222,
             0x2222_2222_2222_2222,
@@ -127,9 +109,9 @@ pub(super) const DAMAGED: [(Option<Field>, usize, &[u64]); 8] = [
     // format 17 hex
     (
         Some(Field::Format),
-        350,
+        1,
+        1,
         &[
-            0x5575_F5FF_77FF_293C,
             0xD60B_E02B_B372_2822,
             0x22D2_22F1_EC52_2229,
             0x2226_7022_2222_2229,
@@ -139,9 +121,9 @@ pub(super) const DAMAGED: [(Option<Field>, usize, &[u64]); 8] = [
     // the beginning of a packet of 127 blocks
     (
         Some(Field::Length),
-        350,
+        1,
+        1,
         &[
-            0x5575_F5FF_77FF_293C,
             0xD60B_E02B_B372_C422,
             0x2235_22F4_2052_2228,
             0x2226_8022_2228_2129,
@@ -150,39 +132,14 @@ pub(super) const DAMAGED: [(Option<Field>, usize, &[u64]); 8] = [
         ],
     ),
     // five wrong bits of the sync
-    (
-        Some(Field::Sync),
-        350,
-        &[
-            0xAD75_F5FF_77FF_293C,
-            0xD60B_E02B_B372_2522,
-            0x22D2_222D_5122_2229,
-            0x2221_A912_2222_222A,
-            0xAF92_22C2_2227_4000,
-        ],
-    ),
+    (Some(Field::Sync), 1, 0, &[0xAD75_F5FF_77FF_293C]),
     // twelve wrong bits of the identifier
-    (
-        Some(Field::Nid),
-        350,
-        &[
-            0x5575_F5FF_77FF_D6CC,
-            0xD60B_E02B_B372_2522,
-            0x22D2_222D_5122_2229,
-            0x2221_A912_2222_222A,
-            0xAF92_22C2_2227_4000,
-        ],
-    ),
+    (Some(Field::Nid), 1, 0, &[0x5575_F5FF_77FF_D6CC]),
     // DUID 3, that of a TDU
     (
         Some(Field::Duid),
-        350,
-        &[
-            0x5575_F5FF_77FF_2933,
-            0x3977_728C_ED6E_2522,
-            0x22D2_222D_5122_2229,
-            0x2221_A912_2222_222A,
-            0xAF92_22C2_2227_4000,
-        ],
+        1,
+        0,
+        &[0x5575_F5FF_77FF_2933, 0x3977_728C_ED6E_2522],
     ),
 ];

@@ -1,5 +1,6 @@
 //! Lines that are read and refused, and steps with their texts.
 
+use super::refused;
 use crate::{DuplexEventLine, DuplexStepText, duplex_closing, duplex_step_text, read_duplex_event};
 use p25_duplex::{DuplexEvent, DuplexStep, DuplexWorld, Side};
 use p25_line::{Line, LineFault};
@@ -18,36 +19,30 @@ fn the_example_of_the_head(rt: HostRuntime) -> Result<(), Fail> {
 }
 
 // Lines that are refused.
-const REFUSED: [(&[u8], LineFault); 16] = [
-    (b"", LineFault::Form),
-    (b"a  timeout", LineFault::Form),
-    (b"c timeout", LineFault::Kind),
-    (b"A timeout", LineFault::Kind),
-    (b"timeout", LineFault::Kind),
-    (b"a", LineFault::Key),
-    (b"a send", LineFault::Key),
-    (b"a send 61 62", LineFault::Key),
-    (b"a timeout x", LineFault::Key),
-    (b"b deliver ab -", LineFault::Key),
-    (b"deliver", LineFault::Key),
-    (b"deliver aa 3,3", LineFault::Key),
-    (b"deliver data -", LineFault::Key),
-    (b"deliver ab - -", LineFault::Key),
-    (b"a send 6", LineFault::Value),
-    (b"deliver ba 3,3", LineFault::Value),
+const REFUSED: [(&str, LineFault); 16] = [
+    ("", LineFault::Form),
+    ("a  timeout", LineFault::Form),
+    ("c timeout", LineFault::Kind),
+    ("A timeout", LineFault::Kind),
+    ("timeout", LineFault::Kind),
+    ("a", LineFault::Key),
+    ("a send", LineFault::Key),
+    ("a send 61 62", LineFault::Key),
+    ("a timeout x", LineFault::Key),
+    ("b deliver ab -", LineFault::Key),
+    ("deliver", LineFault::Key),
+    ("deliver aa 3,3", LineFault::Key),
+    ("deliver data -", LineFault::Key),
+    ("deliver ab - -", LineFault::Key),
+    ("a send 6", LineFault::Value),
+    ("deliver ba 3,3", LineFault::Value),
 ];
-
-// Whether a line is refused for this cause.
-fn is_refused(line: &[u8], fault: LineFault) -> bool {
-    matches!(read_duplex_event(line), Err(cause) if cause == fault)
-}
 
 #[test]
 fn refused_lines(rt: HostRuntime) {
-    for (line, fault) in &REFUSED {
-        assert!(rt; is_refused(line, *fault));
-    }
-    assert!(rt; is_refused(&[b'a'; 8_193], LineFault::Long));
+    refused::<DuplexEventLine>(&rt, &REFUSED);
+    let longest = [b'a'; 8_193];
+    assert_eq!(rt; read_duplex_event(&longest).err(), Some(LineFault::Long));
 }
 
 // The side at which the event of a line happens, and how many octets it sends or places it inverts.

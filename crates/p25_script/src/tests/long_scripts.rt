@@ -2,6 +2,7 @@
 
 ghost use Rattle.std.specs.Prelude.{◌≤◌};
 
+use super::refused;
 use crate::{LongEventLine, LongStepText, long_closing_text, long_step_text, read_long_event};
 use p25_fragments::{LongEvent, LongStep, LongWorld, Then};
 use p25_line::{Line, LineFault};
@@ -45,17 +46,11 @@ fn is_parsed_and_shown(alloc: Global, line: &str, want: &str) -> bool {
     }
 }
 
-// Whether a line is not parsed, for this cause.
-fn is_not_parsed(line: &str, fault: LineFault) -> bool {
-    matches!(line.parse::<LongEventLine>(), Err(cause) if cause == fault)
-}
-
 // An event is parsed from its line, and a step is shown with both pieces of its text.
 #[test]
 fn event_is_parsed_and_step_shown(rt: HostRuntime) {
     let text = "long taken parts=1\nsend taken ns=0 blocks=1\n";
     assert!(rt; is_parsed_and_shown(rt.alloc(), "long 6162", text));
-    assert!(rt; is_not_parsed("long 616", LineFault::Value));
 }
 
 // A line of a long message whose digits are all 0.
@@ -67,34 +62,29 @@ fn line_of_zeros<const N: usize>() -> [u8; N]
     line
 }
 
-// Whether a line is refused for this cause.
-fn is_refused(line: &[u8], fault: LineFault) -> bool {
-    matches!(read_long_event(line), Err(cause) if cause == fault)
-}
-
 // Lines that are refused.
-const REFUSED: [(&[u8], LineFault); 12] = [
-    (b"", LineFault::Form),
-    (b"long  61", LineFault::Form),
-    (b"send  61", LineFault::Form),
-    (b"send 61", LineFault::Kind),
-    (b"send", LineFault::Kind),
-    (b"longs 61", LineFault::Kind),
-    (b"long", LineFault::Key),
-    (b"long 6 1", LineFault::Key),
-    (b"timeout x", LineFault::Key),
-    (b"deliver voice -", LineFault::Key),
-    (b"long 616", LineFault::Value),
-    (b"long 6A", LineFault::Value),
+const REFUSED: [(&str, LineFault); 12] = [
+    ("", LineFault::Form),
+    ("long  61", LineFault::Form),
+    ("send  61", LineFault::Form),
+    ("send 61", LineFault::Kind),
+    ("send", LineFault::Kind),
+    ("longs 61", LineFault::Kind),
+    ("long", LineFault::Key),
+    ("long 6 1", LineFault::Key),
+    ("timeout x", LineFault::Key),
+    ("deliver voice -", LineFault::Key),
+    ("long 616", LineFault::Value),
+    ("long 6A", LineFault::Value),
 ];
 
 #[test]
 fn refused_lines(rt: HostRuntime) {
-    for (line, fault) in &REFUSED {
-        assert!(rt; is_refused(line, *fault));
-    }
-    assert!(rt; is_refused(&[b'a'; 8_193], LineFault::Long));
-    assert!(rt; is_refused(&line_of_zeros::<8_007>(), LineFault::Value));
+    refused::<LongEventLine>(&rt, &REFUSED);
+    let longest = [b'a'; 8_193];
+    assert_eq!(rt; read_long_event(&longest).err(), Some(LineFault::Long));
+    let zeros = line_of_zeros::<8_007>();
+    assert_eq!(rt; read_long_event(&zeros).err(), Some(LineFault::Value));
 }
 
 // Whether a line is read as a long message of so many octets.

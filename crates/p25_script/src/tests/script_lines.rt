@@ -1,39 +1,32 @@
 //! Lines of scripts, read and refused.
 
-use crate::{Event, Way, read_event};
+use super::refused;
+use crate::{Event, EventLine, Way, read_event};
 use p25_line::LineFault;
-use std::process::Abort;
 
-// A line is refused with a fault.
-fn refused(rt: &impl Abort, line: &[u8], fault: LineFault) {
-    assert_eq!(rt; read_event(line).err(), Some(fault));
-}
-
-const FAULTS: [(&[u8], LineFault); 15] = [
-    (b"", LineFault::Form),
-    (b"timeout ", LineFault::Form),
-    (b"send  61", LineFault::Form),
-    (b"timeouts", LineFault::Kind),
-    (b"Send 61", LineFault::Kind),
-    (b"data -", LineFault::Kind),
-    (b"send", LineFault::Key),
-    (b"send 61 62", LineFault::Key),
-    (b"timeout x", LineFault::Key),
-    (b"reopen now", LineFault::Key),
-    (b"deliver", LineFault::Key),
-    (b"deliver data", LineFault::Key),
-    (b"deliver data - -", LineFault::Key),
-    (b"deliver voice -", LineFault::Key),
-    (b"deliver voice 3,3", LineFault::Key),
+const FAULTS: [(&str, LineFault); 15] = [
+    ("", LineFault::Form),
+    ("timeout ", LineFault::Form),
+    ("send  61", LineFault::Form),
+    ("timeouts", LineFault::Kind),
+    ("Send 61", LineFault::Kind),
+    ("data -", LineFault::Kind),
+    ("send", LineFault::Key),
+    ("send 61 62", LineFault::Key),
+    ("timeout x", LineFault::Key),
+    ("reopen now", LineFault::Key),
+    ("deliver", LineFault::Key),
+    ("deliver data", LineFault::Key),
+    ("deliver data - -", LineFault::Key),
+    ("deliver voice -", LineFault::Key),
+    ("deliver voice 3,3", LineFault::Key),
 ];
 
 // The first fault of a line is told.
 #[test]
 fn first_faults(rt: HostRuntime) {
-    refused(&rt, &[b'a'; 8_193], LineFault::Long);
-    for (line, fault) in &FAULTS {
-        refused(&rt, line, *fault);
-    }
+    assert_eq!(rt; read_event(&[b'a'; 8_193]).err(), Some(LineFault::Long));
+    refused::<EventLine>(&rt, &FAULTS);
 }
 
 const VALUES: [&[u8]; 15] = [
@@ -59,9 +52,9 @@ const VALUES: [&[u8]; 15] = [
 fn refused_values(rt: HostRuntime) {
     let mut long = [b'0'; 5 + 4_058];
     long[..5].copy_from_slice(b"send ");
-    refused(&rt, &long, LineFault::Value);
+    assert_eq!(rt; read_event(&long).err(), Some(LineFault::Value));
     for line in &VALUES {
-        refused(&rt, line, LineFault::Value);
+        assert_eq!(rt; read_event(line).err(), Some(LineFault::Value));
     }
 }
 

@@ -5,49 +5,41 @@ use p25_calls::{Call, CallEnd, LinkControl};
 use p25_line::Line;
 use std::test::Fail;
 
+const CALL: Call = Call {
+    place: 10_008,
+    bits: 6_120,
+    nac: 0x029,
+    late: false,
+    end: CallEnd::Tdu,
+    links: 3,
+    broken: 1,
+    link: Some(LinkControl([0, 0, 0, 0, 0, 1, 0, 0, 0xA1])),
+    algid: Some(0xAA),
+};
+
 // A call of each end (with a TDU, with a TDULC, and open), and its text.
 const TEXTS: [(Call, &[u8]); 3] = [
     (
-        Call {
-            place: 0,
-            bits: 6120,
-            nac: 0x293,
-            late: false,
-            end: CallEnd::Tdu,
-            links: 3,
-            broken: 0,
-            link: Some(LinkControl([0, 0, 0, 0, 0, 1, 0, 0, 1])),
-            algid: Some(0x80),
-        },
-        b"call at=0 bits=6120 nac=293 entry=header end=tdu links=3 broken=0 lc=000000000001000001 alg=80",
+        CALL,
+        b"call at=10008 bits=6120 nac=029 entry=header end=tdu links=3 broken=1 lc=0000000000010000a1 alg=aa",
     ),
     (
         Call {
-            place: 6120,
-            bits: 3888,
-            nac: 0x293,
             late: true,
             end: CallEnd::Tdulc,
-            links: 2,
-            broken: 1,
-            link: Some(LinkControl([3; 9])),
-            algid: Some(0xAA),
+            algid: None,
+            ..CALL
         },
-        b"call at=6120 bits=3888 nac=293 entry=late end=tdulc links=2 broken=1 lc=030303030303030303 alg=aa",
+        b"call at=10008 bits=6120 nac=029 entry=late end=tdulc links=3 broken=1 lc=0000000000010000a1 alg=none",
     ),
     (
         Call {
-            place: 10_008,
-            bits: 1728,
-            nac: 0x029,
-            late: true,
+            place: 0,
             end: CallEnd::Open,
-            links: 1,
-            broken: 1,
             link: None,
-            algid: None,
+            ..CALL
         },
-        b"call at=10008 bits=1728 nac=029 entry=late end=open links=1 broken=1 lc=none alg=none",
+        b"call at=0 bits=6120 nac=029 entry=header end=open links=3 broken=1 lc=none alg=aa",
     ),
 ];
 

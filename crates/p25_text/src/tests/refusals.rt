@@ -10,13 +10,15 @@ fn refused(rt: &impl Abort, line: &[u8], fault: LineFault) {
     assert_eq!(rt; read_line(line).err(), Some(fault));
 }
 
-const FAULTS: [(&[u8], LineFault); 16] = [
+const FAULTS: [(&[u8], LineFault); 18] = [
     (b"", LineFault::Form),
     (b"tdu nac=000 ", LineFault::Form),
     (b"tdu  nac=000", LineFault::Form),
+    (b"tdulc  nac=000 lc=000000000000000000", LineFault::Form),
     (b"tdu\tnac=000", LineFault::Form),
     (b"foo", LineFault::Kind),
     (b"TDU nac=000", LineFault::Kind),
+    (b"HDU nac=000", LineFault::Kind),
     (b"ldu3 nac=00A", LineFault::Kind),
     (b"tdu nak=000", LineFault::Key),
     (b"tdu", LineFault::Key),
@@ -43,7 +45,7 @@ fn first_faults(rt: HostRuntime) {
 
 // A value of a header (HDU) has as many digits as its key asks for. The format of a packet (PDU) is that of its kind, and there
 // are as many blocks or octets as its header asks for.
-const VALUES: [&[u8]; 28] = [
+const VALUES: [&[u8]; 31] = [
     b"hdu nac=000 mi=0 mfid=00 algid=00 kid=0000 tgid=0000",
     b"hdu nac=000 mi=000000000000000000 mfid=000 algid=00 kid=0000 tgid=0000",
     b"hdu nac=000 mi=000000000000000000 mfid=00 algid=0 kid=0000 tgid=0000",
@@ -72,6 +74,9 @@ const VALUES: [&[u8]; 28] = [
     b"plain nac=000 head=35c00000000181000000 octets=-",
     b"plain nac=000 head=35c00000000181000000 octets=00000000000000",
     b"response nac=000 head=23080000000181000000 octets=000000000000000000",
+    b"response nac=000 head=23080000000180000000 octets=00",
+    b"plain nac=000 head=56c00000000180000800 octets=-",
+    b"ldu1 nac=000 lc=000000000000000000 lsd=0000 voice=00",
 ];
 
 #[test]

@@ -17,13 +17,10 @@ const RESPONSE: [u64; 6] = [
 ];
 
 // Its header block zeroed.
-const NO_HEADER: [u64; 6] = [
+const NO_HEADER: [u64; 3] = [
     FRONT,
     0xD60B_E02B_B372_2222,
     0x2222_2222_2222_2222,
-    0x2222_2222_2222_2222,
-    0x2222_2222_2222_2000,
-    0,
 ];
 
 // A packet (PDU) of format 17 hex without blocks.
@@ -50,31 +47,23 @@ const CONFIRMED: [u64; 9] = [
 ];
 
 // An unconfirmed packet (PDU) of one block, of 560 bits, with its block zeroed.
-const NO_CHECK: [u64; 9] = [
+const NO_CHECK: [u64; 6] = [
     FRONT,
     0xD60B_E02B_B372_2322,
     0x22DE_22CD_9F52_2229,
     0x2223_AB22_2222_2225,
     0x9022_22CC_222C_1222,
     0x2222_2222_2222_2222,
-    0x2222_2222_2222_2222,
-    0x2222_2222_2222_2200,
-    0,
 ];
 
 // A confirmed packet (PDU) of two blocks, both zeroed, of 700 bits.
-const NO_BLOCKS: [u64; 11] = [
+const NO_BLOCKS: [u64; 6] = [
     0x5575_F5FF_77FF_ABCC,
     0xC425_E74B_DC0A_C42F,
     0x4199_52CC_2052_8B42,
     0x2F2D_3022_8362_262A,
     0xBD22_65A1_F929_E222,
     0x2222_2222_2222_2222,
-    0x2222_2222_2222_2222,
-    0x2222_2222_2222_2222,
-    0x2222_2222_2222_2222,
-    0x2222_2222_2222_2222,
-    0x2222_2222_2222_2220,
 ];
 
 // A confirmed packet (PDU) of 127 blocks, all zeroed.

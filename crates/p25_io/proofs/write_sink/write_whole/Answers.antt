@@ -1,4 +1,4 @@
-use Rattle.std.proofs.{Common.{◌-◌, arith, sym, subst, length-drop}, lemmas.List.{take_rest}, KnownBytes.{Appends-trans}}
+use Rattle.std.proofs.{Common.{arith, sym, subst, length-drop}, lemmas.List.{take_rest}, KnownBytes.{Appends-trans}}
 use Rattle.std.specs.Io.KnownBytes.{Appends}
 use Rattle.p25_io.proofs.StreamsSteps.{take-done_next}
 use Rattle.p25_io.proofs.write_sink.write_whole.Goals as goal
