@@ -2,7 +2,7 @@
 //!
 //! There is a level for every two bits, a number from -128 to 127: 96 stands for 01, 32 for 00, -32 for 10 and -96 for 11.
 
-ghost use Rattle.std.specs.Prelude.{◌≡◌, ◌*◌, ◌%◌, ◌≤◌, length};
+ghost use Rattle.std.specs.Prelude.{◌≡◌, ◌%◌, length};
 ghost use Rattle.p25_c.specs.{Levels.{octets_softened, softened_by}, Rooms.{IsWriting}};
 ghost use Rattle.p25_soft.specs.Levels.{hard_bits, hard_dibit, nominal_level};
 ghost use Rattle.p25_units.specs.Needs.{need_of};
@@ -11,7 +11,7 @@ use crate::building::write_bits;
 use crate::items::OUTSIDE;
 use crate::repeats::fill;
 use p25_bits::BitBuf;
-use p25_soft::{hard, nominal, soften};
+use p25_soft::{hard, hard_bits_of, nominal, soften};
 use p25_units::{Begun, Need, need, unit_item};
 
 // The most levels that a unit has.
@@ -51,19 +51,6 @@ pub extern "C" fn p25_soften(levels: &[i8], into: &mut [u8]) -> i32
     soften_unit(levels, &mut bits);
     fill(&mut bits);
     write_bits(&bits, into)
-}
-
-// The bits of the dibits that levels are nearest to.
-fn hard_bits_of(levels: &[i8]) -> BitBuf
-    requires { length levels.now ≤ 12960 }
-    ensures list { result ≡ hard_bits levels.now }
-    ensures len { length result ≡ 2 * length levels.now }
-{
-    let mut bits = BitBuf::new();
-    for level in levels {
-        bits.put_field(u64::from(hard(*level)), 2);
-    }
-    bits
 }
 
 // Replaces the blocks that fail of a packet (PDU), where the bits are those of one.

@@ -220,9 +220,7 @@ module _ (nac : ℕ) (status : Status) (nac_fits : nac < 4096) where
       let known = broken-of at bits place count ours duid fields is in
       broken-found nac duid status (take count bits) known.blocks known.long known.some at more fields nac_fits known.duid_fits known.kind known.fails
       ∙ ap₂ (λ (p n : ℕ). Broken p n nac duid fields) (sym known.here) known.all
-  item-found at bits more name (NoUnit place field) is unit = absurd (cc unit)
-  item-found at bits more name (Gap place count) is unit = absurd (cc unit)
-  item-found at bits more name (Cut place have) is unit = absurd (cc unit)
+  item-found at bits more name item is unit = absurd (cc unit)
 
 pub relayed-found : RelayedIsFound
 relayed-found nac status place bits more name nac_fits unit = item-found nac status nac_fits place bits more name (first_item place bits) refl unit

@@ -134,9 +134,7 @@ unit-synced item at bits name =
 named-relayed : (nac : ℕ) (status : Status) (item : Item) (name : ℕ × ℕ) → unit_name item ≡ Some name → (other : ℕ × ℕ) × (unit_name (relayed_item nac status item) ≡ Some other)
 named-relayed nac status (Whole place frame fixes) name unit = (_, refl)
 named-relayed nac status (Broken place count ours duid fields) name unit = (_, refl)
-named-relayed nac status (NoUnit place field) name unit = absurd (cc unit)
-named-relayed nac status (Gap place count) name unit = absurd (cc unit)
-named-relayed nac status (Cut place have) name unit = absurd (cc unit)
+named-relayed nac status item name unit = absurd (cc unit)
 
 pub relay-keeps : RelayKeepsUnits
 relay-keeps nac status bits before unit after name nac_fits is named =

@@ -84,10 +84,7 @@ module _ (nac : ℕ) (status : Status) (nac_fits : nac < 4096) where
   covered-relayed : (item : Item) → covered (relayed_item nac status item) ≡ covered item
   unfolding frame_length_of
   covered-relayed (Whole place frame fixes) = refl
-  covered-relayed (Broken place count ours duid fields) = refl
-  covered-relayed (NoUnit place field) = refl
-  covered-relayed (Gap place count) = refl
-  covered-relayed (Cut place have) = refl
+  covered-relayed item = refl
 
   unit-relayed : (item : Item) → is_rest item ≡ false → is_rest (relayed_item nac status item) ≡ false
   unit-relayed (Whole place frame fixes) unit = refl

@@ -121,10 +121,7 @@ same-item (Whole place frame fixes) other raw is = record {
   name = ap unit_name is.1;
   again = ap (λ (o : Item). repaired o (image_of frame)) is.1;
 }
-same-item (Broken place count nac duid fields) other raw is = record { rest = ap is_rest is; covers = ap covered is; name = ap unit_name is; again = ap (λ (o : Item). repaired o raw) is }
-same-item (NoUnit place field) other raw is = record { rest = ap is_rest is; covers = ap covered is; name = ap unit_name is; again = ap (λ (o : Item). repaired o raw) is }
-same-item (Gap place count) other raw is = record { rest = ap is_rest is; covers = ap covered is; name = ap unit_name is; again = ap (λ (o : Item). repaired o raw) is }
-same-item (Cut place have) other raw is = record { rest = ap is_rest is; covers = ap covered is; name = ap unit_name is; again = ap (λ (o : Item). repaired o raw) is }
+same-item item other raw is = record { rest = ap is_rest is; covers = ap covered is; name = ap unit_name is; again = ap (λ (o : Item). repaired o raw) is }
 
 again-parts : (item other : Item) (items others : List Item) → AreFoundAgain (item ∷ items) (other ∷ others) → IsFoundAgain item other × AreFoundAgain items others
 unfolding AreFoundAgain

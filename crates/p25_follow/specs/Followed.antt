@@ -8,17 +8,13 @@ use Rattle.p25_follow.specs.Chains.{chain_by}
 abbrev pub unit_name : Item → Option (ℕ × ℕ)
 unit_name (Whole place frame fixes) = Some (frame.unit.nac, body_duid frame.unit.body)
 unit_name (Broken place count nac duid fields) = Some (nac, duid)
-unit_name (NoUnit place field) = None
-unit_name (Gap place count) = None
-unit_name (Cut place have) = None
+unit_name item = None
 
 -- an item belongs to a stretch: no unit is there
 abbrev pub is_rest : Item → Bool
-is_rest (Whole place frame fixes) = false
-is_rest (Broken place count nac duid fields) = false
 is_rest (NoUnit place field) = true
 is_rest (Gap place count) = true
-is_rest (Cut place have) = false
+is_rest item = false
 
 -- what is written of a stretch that has begun, after a unit with a name or after none, and of the items after it, which lie end to
 -- end over some bits: units, and the bits of a unit that is cut, as they are, and each stretch by its chain

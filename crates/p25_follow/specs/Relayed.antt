@@ -14,9 +14,7 @@ relayed_broken nac duid status raw = woven (unit_front nac duid ++ drop 112 (bar
 abbrev pub relayed : ℕ → Status → Item → List Bool → List Bool
 relayed nac status (Whole place frame fixes) raw = image_of (bridged_frame nac status frame)
 relayed nac status (Broken place count ours duid fields) raw = relayed_broken nac duid status raw
-relayed nac status (NoUnit place field) raw = raw
-relayed nac status (Gap place count) raw = raw
-relayed nac status (Cut place have) raw = raw
+relayed nac status item raw = raw
 
 -- what is forwarded of items that lie end to end over some bits
 unfoldable pub relayed_by : ℕ → Status → List Item → List Bool → List Bool
@@ -30,19 +28,15 @@ relay_of nac status bits = relayed_by nac status (items_of 0 bits) bits
 -- an item has as many bits as a scan gives it: a broken unit whole blocks of 72, at least two and at most those of the longest unit, and
 -- a gap at most 4,096
 abbrev pub IsFitItem : Item → Type 0
-IsFitItem (Whole place frame fixes) = Unit {0}
 IsFitItem (Broken place count nac duid fields) = (count % 72 ≡ 0) × (144 ≤ count) × (count ≤ 25920)
-IsFitItem (NoUnit place field) = Unit {0}
 IsFitItem (Gap place count) = count ≤ 4096
-IsFitItem (Cut place have) = Unit {0}
+IsFitItem item = Unit {0}
 
 -- the item that the scan finds in place of a unit: whole with no fixes, or broken with the same failing fields
 abbrev pub relayed_item : ℕ → Status → Item → Item
 relayed_item nac status (Whole place frame fixes) = Whole place (bridged_frame nac status frame) 0
 relayed_item nac status (Broken place count ours duid fields) = Broken place count nac duid fields
-relayed_item nac status (NoUnit place field) = NoUnit place field
-relayed_item nac status (Gap place count) = Gap place count
-relayed_item nac status (Cut place have) = Cut place have
+relayed_item nac status item = item
 
 -- an item is among some items
 pub record IsAmong (item : Item) (items : List Item) : Type 0 where

@@ -19,10 +19,7 @@ repair_of = repaired_from 0
 -- an item is found again after a repair: a whole unit with any fixes, and each other item as it is
 unfoldable pub IsFoundAgain : Item → Item → Type 0
 IsFoundAgain (Whole place frame fixes) other = (left : ℕ) × (other ≡ Whole place frame left)
-IsFoundAgain (Broken place count nac duid fields) other = other ≡ Broken place count nac duid fields
-IsFoundAgain (NoUnit place field) other = other ≡ NoUnit place field
-IsFoundAgain (Gap place count) other = other ≡ Gap place count
-IsFoundAgain (Cut place have) other = other ≡ Cut place have
+IsFoundAgain item other = other ≡ item
 
 -- the items of a list are found again, one by one
 unfoldable pub AreFoundAgain : List Item → List Item → Type 0

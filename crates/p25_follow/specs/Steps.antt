@@ -11,8 +11,7 @@ link_length = 1728
 -- a kind that is told, where the bits of such a unit are there
 unfoldable pub fits_by : List Bool → Told → Option ℕ
 fits_by bits (Expected kind) = if nat_le (kind_length kind) (length bits) then Some kind else None
-fits_by bits Other = None
-fits_by bits Nothing = None
+fits_by bits told = None
 
 unfoldable pub fits_of : ℕ × ℕ → List Bool → Option ℕ
 fits_of before bits = fits_by bits (told_of before bits)

@@ -47,6 +47,5 @@ unfoldable pub told_of : ℕ × ℕ → List Bool → Told
 told_of before bits = if nat_lt (length bits) 114 then Nothing else told_by before (take 114 bits) (identifier_of (take 114 bits))
 
 abbrev pub is_nothing : Told → Bool
-is_nothing (Expected kind) = false
-is_nothing Other = false
 is_nothing Nothing = true
+is_nothing told = false

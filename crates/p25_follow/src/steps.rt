@@ -22,14 +22,8 @@ fn if_fits(told: Told, bits: &BitBuf, at: usize) -> Option<u8>
     ensures { result ≡ fits_by (drop at bits.now) told }
 {
     match told {
-        Told::Expected(kind) => {
-            if kind_length(kind) <= bits.len() - at {
-                Some(kind)
-            } else {
-                None
-            }
-        }
-        Told::Other | Told::Nothing => None,
+        Told::Expected(kind) if kind_length(kind) <= bits.len() - at => Some(kind),
+        _ => None,
     }
 }
 
@@ -48,10 +42,7 @@ fn is_end(before: &Nid, end: &Option<Nid>) -> bool
 fn is_nothing(told: Told) -> bool
     ensures { result ≡ is_nothing told }
 {
-    match told {
-        Told::Nothing => true,
-        Told::Expected(_) | Told::Other => false,
-    }
+    matches!(&told, Told::Nothing)
 }
 
 // Whether it is sure that units lie end to end from a place on, over at most so many logical link units of which nothing is told. What

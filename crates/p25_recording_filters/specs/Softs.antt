@@ -54,10 +54,7 @@ pub record IsHolding (scan : Scan) (levels : List ℤ) : Type 0 where
 -- an item is a broken packet (PDU) that begins at an even place
 abbrev pub is_even_packet : Item → Bool
 is_even_packet (Broken place count nac duid fields) = duid == duid_pdu && place % 2 == 0
-is_even_packet (Whole place frame fixes) = false
-is_even_packet (NoUnit place field) = false
-is_even_packet (Gap place count) = false
-is_even_packet (Cut place have) = false
+is_even_packet item = false
 
 -- the levels of an item among those from the group of its place on
 abbrev pub item_levels : Item → List ℤ → List ℤ

@@ -69,27 +69,18 @@ softened_packet fields levels sent = woven (softened_bare fields levels (blocks_
 -- the bits of an item, the blocks of a broken packet (PDU) replaced
 unfoldable pub softened : Item → List ℤ → List Bool → List Bool
 softened (Broken place count nac duid fields) levels sent = if duid == duid_pdu then softened_packet fields levels sent else sent
-softened (Whole place frame fixes) levels sent = sent
-softened (NoUnit place field) levels sent = sent
-softened (Gap place count) levels sent = sent
-softened (Cut place have) levels sent = sent
+softened item levels sent = sent
 
 -- how many blocks of an item are replaced
 unfoldable pub softened_count : Item → List Bool → ℕ
 softened_count (Broken place count nac duid fields) sent = if duid == duid_pdu then blocks_replaced fields (blocks_to_follow sent) else 0
-softened_count (Whole place frame fixes) sent = 0
-softened_count (NoUnit place field) sent = 0
-softened_count (Gap place count) sent = 0
-softened_count (Cut place have) sent = 0
+softened_count item sent = 0
 
 -- a broken item is the one that its bits are divided into: a unit of their length, with the fields that fail in it
 unfoldable pub IsReadFrom : Item → List Bool → Type 0
 IsReadFrom (Broken place count nac duid fields) sent =
     (need_of sent ≡ Length (length sent)) × (unit_item_of place sent ≡ Broken place count nac duid fields)
-IsReadFrom (Whole place frame fixes) sent = Unit {0}
-IsReadFrom (NoUnit place field) sent = Unit {0}
-IsReadFrom (Gap place count) sent = Unit {0}
-IsReadFrom (Cut place have) sent = Unit {0}
+IsReadFrom item sent = Unit {0}
 
 -- an item with the bits that it covers and the levels that they were read from
 pub record IsHeard (item : Item) (levels : List ℤ) (sent : List Bool) : Type 0 where

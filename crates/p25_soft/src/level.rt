@@ -1,7 +1,9 @@
 //! Levels, and the dibits that they stand for.
 
-ghost use Rattle.std.specs.Prelude.{◌≡◌, ◌<◌, ◌≤◌};
-ghost use Rattle.p25_soft.specs.Levels.{hard_dibit, nominal_level, squared_deviation};
+ghost use Rattle.std.specs.Prelude.{◌≡◌, ◌*◌, ◌<◌, ◌≤◌, length};
+ghost use Rattle.p25_soft.specs.Levels.{hard_bits, hard_dibit, nominal_level, squared_deviation};
+
+use p25_bits::BitBuf;
 
 /// Answers the level that stands for a dibit, which is below 4: 96 for 01, 32 for 00, -32 for 10 and -96 for 11. The levels
 /// are this project's own.
@@ -31,6 +33,19 @@ pub fn hard(level: i8) -> u8
     } else {
         3
     }
+}
+
+/// Answers the bits of the dibits that at most 12,960 levels are nearest to.
+pub fn hard_bits_of(levels: &[i8]) -> BitBuf
+    requires { length levels.now ≤ 12960 }
+    ensures list { result ≡ hard_bits levels.now }
+    ensures len { length result ≡ 2 * length levels.now }
+{
+    let mut bits = BitBuf::new();
+    for level in levels {
+        bits.put_field(u64::from(hard(*level)), 2);
+    }
+    bits
 }
 
 // The square of how far a level is from that of a dibit.

@@ -32,6 +32,6 @@ mod softening;
 #[cfg(test)]
 mod tests;
 
-pub use level::{hard, nominal};
+pub use level::{hard, hard_bits_of, nominal};
 pub use reading::read_soft;
 pub use softening::soften;

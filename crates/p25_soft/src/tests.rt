@@ -1,9 +1,9 @@
 //! Levels, blocks read from them, and broken packets (PDU) of header blocks that a program apart from this code made.
 
-ghost use Rattle.std.specs.Prelude.{◌≡◌, ◌*◌, ◌≤◌, length};
+ghost use Rattle.std.specs.Prelude.{◌≡◌, length};
 ghost use Rattle.p25_soft.specs.Levels.{hard_bits};
 
-use super::{hard, nominal, read_soft, soften};
+use super::{hard, hard_bits_of, nominal, read_soft, soften};
 use p25_bits::BitBuf;
 use p25_status::{Status, Statuses, weave};
 use p25_trellis::{Half, ThreeQuarter, encode_block, read_block};
@@ -62,18 +62,6 @@ fn levels_of(bits: &BitBuf) -> [i8; 360]
         }
     }
     levels
-}
-
-// The bits of the dibits that levels are nearest to.
-fn hard_bits_of(levels: &[i8]) -> BitBuf
-    requires { length levels.now ≤ 12960 }
-    ensures { result ≡ hard_bits levels.now }
-{
-    let mut bits = BitBuf::new();
-    for level in levels {
-        bits.put_field(u64::from(hard(*level)), 2);
-    }
-    bits
 }
 
 // Softens the unit that levels are, and answers how many blocks were replaced, or none where they are no unit.

@@ -3,8 +3,7 @@
 ghost use Rattle.std.specs.{Prelude.{◌≡◌, ◌↔◌, ℕ, ◌<◌, IfOk, Err, length, drop}, Option.{option_map}};
 ghost use Rattle.p25_line.specs.declared.fault.LineFault.TheVariants.{Long};
 ghost use Rattle.p25_units.specs.{UnitParts.{UnitParts}, Units.{IsSendableUnit}};
-ghost use Rattle.p25_text.specs.{Grammar.{body_in, read_line_of, read_words as unit_of_words, text_of, unit_in}, Names.{keys_of}, Voices.{voice_in}};
-ghost use Rattle.p25_text.specs.declared.names.UnitKind.TheVariants.{Hdu, Ldu2};
+ghost use Rattle.p25_text.specs.{Grammar.{body_in, read_line_of, read_words as unit_of_words, text_of, unit_in}, Names.{keys_of}};
 
 use super::names::UnitKind;
 use super::packets::{confirmed_value, plain_value};
@@ -84,10 +83,10 @@ fn read_body(kind: UnitKind, values: &Values) -> Option<Body>
 {
     match kind {
         UnitKind::Tdu => Some(Body::Voice(VoiceUnit::End)),
-        UnitKind::Tdulc => voice_body(tdulc_value(values.get(1))),
-        UnitKind::Hdu => voice_body(read_hdu(values)),
-        UnitKind::Ldu1 => voice_body(ldu1_value(values.get(1), values.get(2), values.get(3))),
-        UnitKind::Ldu2 => voice_body(read_ldu2(values)),
+        UnitKind::Tdulc => voice_body(tdulc_value(values)),
+        UnitKind::Hdu => voice_body(hdu_value(values)),
+        UnitKind::Ldu1 => voice_body(ldu1_value(values)),
+        UnitKind::Ldu2 => voice_body(ldu2_value(values)),
         UnitKind::Confirmed => packet_body(confirmed_value(values.get(1), values.get(2))),
         UnitKind::Plain => packet_body(plain_value(PLAIN_FORMAT, values.get(1), values.get(2))),
         UnitKind::Response => packet_body(plain_value(
@@ -96,34 +95,6 @@ fn read_body(kind: UnitKind, values: &Values) -> Option<Body>
             values.get(2),
         )),
     }
-}
-
-// The header (HDU) of the values of a line.
-fn read_hdu(values: &Values) -> Option<VoiceUnit>
-    requires { length values.now ≡ 6 }
-    ensures { result ≡ voice_in Hdu (drop 1 values.now) }
-{
-    hdu_value(
-        values.get(1),
-        values.get(2),
-        values.get(3),
-        values.get(4),
-        values.get(5),
-    )
-}
-
-// The LDU2, voice with encryption sync, of the values of a line.
-fn read_ldu2(values: &Values) -> Option<VoiceUnit>
-    requires { length values.now ≡ 6 }
-    ensures { result ≡ voice_in Ldu2 (drop 1 values.now) }
-{
-    ldu2_value(
-        values.get(1),
-        values.get(2),
-        values.get(3),
-        values.get(4),
-        values.get(5),
-    )
 }
 
 // What a voice unit (HDU, LDU1, LDU2 or TDULC) carries.

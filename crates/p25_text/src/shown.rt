@@ -40,10 +40,7 @@ impl FromStr for UnitLine {
     ghost from_str_gives = { λ line result. MatchResult result (λ unit. read_line_of line ≡ Ok unit.0) (λ fault. read_line_of line ≡ Err fault) };
 
     fn from_str(line: &str) -> Result<UnitLine, LineFault> {
-        match read_line(line.as_bytes()) {
-            Ok(unit) => Ok(UnitLine(unit)),
-            Err(fault) => Err(fault),
-        }
+        Ok(UnitLine(read_line(line.as_bytes())?))
     }
 }
 

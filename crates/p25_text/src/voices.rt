@@ -6,7 +6,7 @@ ghost use Rattle.p25_text.specs.{Voices.{frame_octets, frames_of, octets_behind,
 ghost use Rattle.p25_text.specs.declared.names.UnitKind.TheVariants.{Hdu, Ldu1, Ldu2, Tdulc};
 
 use super::names::{UnitKey, UnitKind};
-use super::values::octets_value;
+use super::values::{Values, octets_value};
 use super::write::{put_key, put_key_value, put_start};
 use p25_line::Line;
 use p25_link::{EncryptionSync, HeaderWord, LinkControl};
@@ -109,15 +109,16 @@ fn put_frames(voice: &Voice, out: &mut Line)
     }
 }
 
-/// Answers the header (HDU) of the values of its fields. `None` comes exactly where a value is not of its form.
-pub fn hdu_value(mi: &[u8], mfid: &[u8], algid: &[u8], kid: &[u8], tgid: &[u8]) -> Option<VoiceUnit>
-    ensures { result ≡ voice_in Hdu (mi.now ∷ mfid.now ∷ algid.now ∷ kid.now ∷ tgid.now ∷ []) }
+/// Answers the header (HDU) of the values of a line. `None` comes exactly where a value is not of its form.
+pub fn hdu_value(values: &Values) -> Option<VoiceUnit>
+    requires { length values.now ≡ 6 }
+    ensures { result ≡ voice_in Hdu (drop 1 values.now) }
 {
-    let mi = octets_value::<9>(mi)?;
-    let mfid = octets_value::<1>(mfid)?;
-    let algid = octets_value::<1>(algid)?;
-    let kid = octets_value::<2>(kid)?;
-    let tgid = octets_value::<2>(tgid)?;
+    let mi = octets_value::<9>(values.get(1))?;
+    let mfid = octets_value::<1>(values.get(2))?;
+    let algid = octets_value::<1>(values.get(3))?;
+    let kid = octets_value::<2>(values.get(4))?;
+    let tgid = octets_value::<2>(values.get(5))?;
     Some(VoiceUnit::Header(HeaderWord {
         mi,
         mfid: mfid[0],
@@ -127,14 +128,14 @@ pub fn hdu_value(mi: &[u8], mfid: &[u8], algid: &[u8], kid: &[u8], tgid: &[u8]) 
     }))
 }
 
-/// Answers the LDU1, voice with link control, of the values of its fields. `None` comes exactly where a value is not of its
-/// form.
-pub fn ldu1_value(link: &[u8], low: &[u8], voice: &[u8]) -> Option<VoiceUnit>
-    ensures { result ≡ voice_in Ldu1 (link.now ∷ low.now ∷ voice.now ∷ []) }
+/// Answers the LDU1, voice with link control, of the values of a line. `None` comes exactly where a value is not of its form.
+pub fn ldu1_value(values: &Values) -> Option<VoiceUnit>
+    requires { length values.now ≡ 4 }
+    ensures { result ≡ voice_in Ldu1 (drop 1 values.now) }
 {
-    let link = octets_value::<9>(link)?;
-    let low = octets_value::<2>(low)?;
-    let voice = octets_value::<162>(voice)?;
+    let link = octets_value::<9>(values.get(1))?;
+    let low = octets_value::<2>(values.get(2))?;
+    let voice = octets_value::<162>(values.get(3))?;
     Some(VoiceUnit::Link1 {
         link: LinkControl(link),
         low,
@@ -142,22 +143,16 @@ pub fn ldu1_value(link: &[u8], low: &[u8], voice: &[u8]) -> Option<VoiceUnit>
     })
 }
 
-/// Answers the LDU2, voice with encryption sync, of the values of its fields. `None` comes exactly where a value is not of its
-/// form.
-pub fn ldu2_value(
-    mi: &[u8],
-    algid: &[u8],
-    kid: &[u8],
-    low: &[u8],
-    voice: &[u8],
-) -> Option<VoiceUnit>
-    ensures { result ≡ voice_in Ldu2 (mi.now ∷ algid.now ∷ kid.now ∷ low.now ∷ voice.now ∷ []) }
+/// Answers the LDU2, voice with encryption sync, of the values of a line. `None` comes exactly where a value is not of its form.
+pub fn ldu2_value(values: &Values) -> Option<VoiceUnit>
+    requires { length values.now ≡ 6 }
+    ensures { result ≡ voice_in Ldu2 (drop 1 values.now) }
 {
-    let mi = octets_value::<9>(mi)?;
-    let algid = octets_value::<1>(algid)?;
-    let kid = octets_value::<2>(kid)?;
-    let low = octets_value::<2>(low)?;
-    let voice = octets_value::<162>(voice)?;
+    let mi = octets_value::<9>(values.get(1))?;
+    let algid = octets_value::<1>(values.get(2))?;
+    let kid = octets_value::<2>(values.get(3))?;
+    let low = octets_value::<2>(values.get(4))?;
+    let voice = octets_value::<162>(values.get(5))?;
     Some(VoiceUnit::Link2 {
         sync: EncryptionSync {
             mi,
@@ -169,12 +164,12 @@ pub fn ldu2_value(
     })
 }
 
-/// Answers the TDULC, a terminator with link control, of the value of its field. `None` comes exactly where it is not of its
-/// form.
-pub fn tdulc_value(link: &[u8]) -> Option<VoiceUnit>
-    ensures { result ≡ voice_in Tdulc (link.now ∷ []) }
+/// Answers the TDULC, a terminator with link control, of the values of a line. `None` comes exactly where a value is not of its form.
+pub fn tdulc_value(values: &Values) -> Option<VoiceUnit>
+    requires { length values.now ≡ 2 }
+    ensures { result ≡ voice_in Tdulc (drop 1 values.now) }
 {
-    let link = octets_value::<9>(link)?;
+    let link = octets_value::<9>(values.get(1))?;
     Some(VoiceUnit::EndLink {
         link: LinkControl(link),
     })

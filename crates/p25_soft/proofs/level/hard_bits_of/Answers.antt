@@ -1,8 +1,9 @@
-use Rattle.std.proofs.{Common.{rules, ◌++◌, ◌+◌, ◌<◌, ◌≤◌, List, Bool, length, take, get_or, ap, ap₂, sym, ◌∙◌, arith, pos, FitsSigned, w8}, lemmas.Int.{to_z-of_z}, lemmas.List.{take_all, take_more}}
+use Rattle.std.proofs.{Common.{rules, ◌≡◌, ◌++◌, ◌+◌, ◌*◌, ◌<◌, ◌≤◌, List, Bool, ℕ, length, take, get_or, ap, ap₂, sym, ◌∙◌, arith, ℤ, pos, FitsSigned, w8}, lemmas.Int.{to_z-of_z}}
+use Rattle.std.proofs.lemmas.List.{take_all, take_more}
 use Rattle.p25_bits.specs.Bits.{bits_of}
 use Rattle.p25_soft.specs.Levels.{hard_bits, hard_dibit}
 use Rattle.p25_soft.proofs.HardBitsLaws.{hard_bits-none, hard_bits-one_more}
-use Rattle.p25_soft.proofs.tests.hard_bits_of.Goals as goal
+use Rattle.p25_soft.proofs.level.hard_bits_of.Goals as goal
 
 pub loop-level-init : goal.loop-level-init
 loop-level-init c = record { so_far = c.new-bits.ensures ∙ sym hard_bits-none; len = ap length c.new-bits.ensures }
@@ -22,8 +23,8 @@ loop-level-preserved c =
       len = omega (arith, c.put_field.ensures.len, c.loop-level.invariant.len);
     }
 
-pub returns : goal.returns
-returns c =
+pub returns-clause-list : goal.returns-clause-list
+returns-clause-list c =
     let levels = c.args.levels.now in
     let all : length levels ≤ c.loop-level.level-index = c.loop-level-test.false in
     c.loop-level.invariant.so_far ∙ ap hard_bits (take_all c.loop-level.level-index levels all)
