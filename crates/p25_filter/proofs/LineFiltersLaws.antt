@@ -7,8 +7,7 @@ use Rattle.p25_line.specs.declared.{fault.LineFault.{LineFault}, fault.LineFault
 use Rattle.p25_filter.specs.{declared.ending.Ending.{Ending}, declared.ending.Ending.TheVariants.{BadLine, Done}, declared.ending.Refusal.{Refusal}}
 use Rattle.p25_filter.specs.{declared.ending.Refusal.TheVariants.{Ended, Memory}, declared.line_filter.LinePhase.{LinePhase}}
 use Rattle.p25_filter.specs.{declared.line_filter.LinePhase.TheVariants.{Reading, Ready, ReadyLast, Closing, Closed}, Futures.{IsClosed, IsIdle, IsPausing, IsRefusedBy, NextPiece, Progress}}
-use Rattle.p25_filter.specs.Lines.{closing_by, each_behind, lines_ending, lines_in, texts_before}
-use Rattle.p25_filter.specs.LineRules.{LineRules, LinesTaken, both_pieces, first_taken, lines_taken, written_for}
+use Rattle.p25_filter.specs.{Lines.{closing_by, each_behind, lines_ending, lines_in, texts_before}, LineRules.{LineRules, LinesTaken, both_pieces, first_taken, lines_taken, written_for}}
 use Rattle.p25_filter.specs.LineFilters.{IsLineGiven, IsTextGiven, LineFiltering, closes_with, ends_with, is_ended_phase, line_future, line_filtering, lines_left, pieces_of, taken_from}
 use Rattle.p25_filter.proofs.LinesLaws.{Contains-here, Contains-later, Contains-none, each_behind-from, each_behind-in, lines_in-end, lines_in-part, octets_before}
 
