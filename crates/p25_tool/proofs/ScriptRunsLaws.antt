@@ -15,7 +15,7 @@ use Rattle.p25_filter.specs.{declared.ending.Ending.{Ending}, declared.ending.En
 use Rattle.p25_filter.specs.{LineRules.{LineRules, LinesTaken, first_taken, lines_taken, written_for}, LineFilters.{first_line, line_future}}
 use Rattle.p25_filter.proofs.{LinesLaws.{each_behind-none}, SameLaws.{same-future}}
 use Rattle.p25_tool.specs.{declared.build.Build.{Build}, declared.command.Command.TheVariants.{Build as BuildIt, Stations, Fragments, Duplex}}
-use Rattle.p25_tool.specs.Machines.{DuplexAt, FragmentsAt, StationsAt, build_rules, script_rules, taken_by}
+use Rattle.p25_tool.specs.Machines.{DuplexAt, LongAt, StationsAt, build_rules, script_rules, taken_by}
 use Rattle.p25_tool.specs.Outputs.{closing_line, command_future, duplex_closing_lines, duplex_step_line, long_closing_line, step_line}
 
 concat_texts : {S : Type 0} (text : S → List ℕ) (steps : List S) → concat (map text steps) ≡ flat_map text steps
@@ -65,8 +65,8 @@ module _ {M W E S : Type 0} (rules : LineRules M) (wrap : W → M) (read : List 
 pub stations-alike : (made : WorldState) → made ≡ first_world → line_future script_rules (first_line (StationsAt made)) ≡ command_future Stations
 stations-alike made = alike script_rules StationsAt event_of world_step step_line (λ w line. refl) first_world made _ _ (λ events. refl) (λ events. refl)
 
-pub fragments-alike : (made : LongState) → made ≡ first_long → line_future script_rules (first_line (FragmentsAt made)) ≡ command_future Fragments
-fragments-alike made = alike script_rules FragmentsAt long_event_of long_step long_step_text_of (λ w line. refl) first_long made _ _ (λ events. refl) (λ events. refl)
+pub fragments-alike : (made : LongState) → made ≡ first_long → line_future script_rules (first_line (LongAt made)) ≡ command_future Fragments
+fragments-alike made = alike script_rules LongAt long_event_of long_step long_step_text_of (λ w line. refl) first_long made _ _ (λ events. refl) (λ events. refl)
 
 pub duplex-alike : (made : DuplexState) → made ≡ first_duplex → line_future script_rules (first_line (DuplexAt made)) ≡ command_future Duplex
 duplex-alike made = alike script_rules DuplexAt duplex_event_of duplex_step duplex_step_line (λ w line. refl) first_duplex made _ _ (λ events. refl) (λ events. refl)

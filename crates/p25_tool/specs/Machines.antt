@@ -1,5 +1,5 @@
 -- The machines of the commands over lines: what comes of each line, and what is written at the end.
-use Rattle.std.specs.{Prelude.{ℕ, true, false, List, [], ◌∷◌, Result}, Result.{result_map_both}}
+use Rattle.std.specs.{Prelude.{ℕ, true, false, List, [], Result}, Result.{result_map_both}}
 use Rattle.p25_line.specs.declared.fault.LineFault.{LineFault}
 use Rattle.p25_text.specs.Grammar.{read_line_of}
 use Rattle.p25_units.specs.Units.{image_octets}
@@ -9,7 +9,7 @@ use Rattle.p25_fragments.specs.{LongState.{LongState}, LongSteps.{long_step}}
 use Rattle.p25_duplex.specs.DuplexSteps.{DuplexState, duplex_step}
 use Rattle.p25_filter.specs.LineRules.{LineRules}
 use Rattle.p25_tool.specs.{declared.build.Build.{Build}, declared.scripts.ScriptWorld.{ScriptWorld}}
-use Rattle.p25_tool.specs.declared.scripts.ScriptWorld.TheVariants.{Stations, Fragments, Duplex}
+use Rattle.p25_tool.specs.declared.scripts.ScriptWorld.TheVariants.{Stations, Long, Duplex}
 use Rattle.p25_tool.specs.Outputs.{closing_line, duplex_closing_lines, duplex_step_line, long_closing_line, step_line}
 
 -- `build`: the octets of the unit that a line describes; nothing closes them, and no memory is wanted
@@ -23,12 +23,12 @@ build_rules = record {
 -- the state of the world in which the events of a script happen
 pub data ScriptState : Type 0 where
   StationsAt : WorldState → ScriptState
-  FragmentsAt : LongState → ScriptState
+  LongAt : LongState → ScriptState
   DuplexAt : DuplexState → ScriptState
 
 abbrev pub state_of : ScriptWorld → ScriptState
 state_of (Stations world) = StationsAt world.state
-state_of (Fragments world) = FragmentsAt world.state
+state_of (Long world) = LongAt world.state
 state_of (Duplex world) = DuplexAt world.state
 
 -- what comes of a line of a script: the world after the step of the event that it tells of, and the text of the step
@@ -40,12 +40,12 @@ taken_by wrap read step text world line =
 -- what comes of a line of `stations`, `fragments` and `duplex`, and what closes a run
 abbrev pub script_take : ScriptState → List ℕ → Result (ScriptState × List ℕ) LineFault
 script_take (StationsAt world) = taken_by StationsAt event_of world_step step_line world
-script_take (FragmentsAt world) = taken_by FragmentsAt long_event_of long_step long_step_text_of world
+script_take (LongAt world) = taken_by LongAt long_event_of long_step long_step_text_of world
 script_take (DuplexAt world) = taken_by DuplexAt duplex_event_of duplex_step duplex_step_line world
 
 abbrev pub script_closing : ScriptState → List ℕ
 script_closing (StationsAt world) = closing_line world
-script_closing (FragmentsAt world) = long_closing_line world
+script_closing (LongAt world) = long_closing_line world
 script_closing (DuplexAt world) = duplex_closing_lines world
 
 -- the machine of the three scripts: what closes the run comes at the end, and a step may want memory

@@ -118,7 +118,7 @@ fn run_command<P: Port>(alloc: Global, command: Command, port: &mut P) -> Filter
         Command::Stations => run_lines(Script(ScriptWorld::Stations(World::new(alloc))), port),
         Command::Calls => run_report(Calls::new(), port),
         Command::Duplex => run_lines(Script(ScriptWorld::Duplex(DuplexWorld::new(alloc))), port),
-        Command::Fragments => run_lines(Script(ScriptWorld::Fragments(LongWorld::new(alloc))), port),
+        Command::Fragments => run_lines(Script(ScriptWorld::Long(LongWorld::new(alloc))), port),
         Command::Soft => run_soft(port),
         Command::Sample { count } => run_sample(count, port),
     }

@@ -18,7 +18,7 @@ use std::marker::Model;
 #[derive(Drop)]
 pub(crate) enum ScriptWorld {
     Stations(World),
-    Fragments(LongWorld),
+    Long(LongWorld),
     Duplex(DuplexWorld),
 }
 
@@ -49,7 +49,7 @@ impl LineMachine for Script {
                 out.put(b"\n");
                 Ok(None)
             }
-            ScriptWorld::Fragments(world) => {
+            ScriptWorld::Long(world) => {
                 let event = read_long_event(line).map_err(NotTaken::Fault)?;
                 let step = world.step(&event).map_err(|_| NotTaken::Memory)?;
                 let mut behind = Line::new();
@@ -68,7 +68,7 @@ impl LineMachine for Script {
     fn close(&self, out: &mut Line) {
         match &self.0 {
             ScriptWorld::Stations(world) => closing_text(world, out),
-            ScriptWorld::Fragments(world) => long_closing_text(world, out),
+            ScriptWorld::Long(world) => long_closing_text(world, out),
             ScriptWorld::Duplex(world) => return put_closing_lines(world, out),
         }
         out.put(b"\n");
