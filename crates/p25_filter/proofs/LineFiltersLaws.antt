@@ -2,15 +2,14 @@
 -- refused whatever its octets are, so what is kept of it serves as well as all of it: by induction on the octets that come.
 use Rattle.std.proofs.Common.{◌≡◌, ℕ, ◌+◌, ◌<◌, ◌≤◌, ◌-◌, min, Bool, true, false, cond, nat_eq, nat_lt, List, [], ◌∷◌, ◌++◌, length, take, Option, Some, None, Result, Ok, Err, refl, ap, ap₂, sym, subst, ◌∙◌, arith, append_assoc, append-nil, length-append, length-take}
 use Rattle.std.proofs.{lemmas.List.{take_all, take_min}, Math.Seq.{take-append-add}, lemmas.Bool.Decides.{nat_tests}, lemmas.Bool.{cond-true, lt-ltb}}
-use Rattle.std.specs.{Prelude.{Contains}, List.{concat}}
-use Rattle.p25_line.specs.declared.fault.LineFault.TheVariants.{Long}
+use Rattle.std.specs.{Prelude.{Contains, is_ok}, List.{concat}}
+use Rattle.p25_line.specs.declared.{fault.LineFault.{LineFault}, fault.LineFault.TheVariants.{Long}}
 use Rattle.p25_filter.specs.{declared.ending.Ending.{Ending}, declared.ending.Ending.TheVariants.{BadLine, Done}, declared.ending.Refusal.{Refusal}}
 use Rattle.p25_filter.specs.{declared.ending.Refusal.TheVariants.{Ended, Memory}, declared.line_filter.LinePhase.{LinePhase}}
-use Rattle.p25_filter.specs.{declared.line_filter.LinePhase.TheVariants.{Reading, Ready, ReadyLast, Closing, Closed}, Futures.{IsClosed, IsIdle, IsRefusedBy, NextPiece, Progress}}
-use Rattle.p25_filter.specs.Lines.{closing_by, each_behind, lines_ending, lines_in, read_of, refusal_in, texts_before}
-use Rattle.p25_filter.specs.LineRules.{LineRules, both_pieces, machine_after, texts_of, written_before, written_for}
-use Rattle.p25_filter.specs.LineFilters.{IsLineGiven, IsTextGiven, LineFiltering, closes_with, ends_with, is_ended_phase, line_future, line_filtering, lines_left, pieces_of}
-use Rattle.p25_filter.proofs.LinesLaws.{Contains-here, Contains-later, Contains-none, each_behind-from, each_behind-in, lines_in-end, lines_in-part, octets_before, read_of-err, read_of-ok, refusal_in-err, refusal_in-ok}
+use Rattle.p25_filter.specs.{declared.line_filter.LinePhase.TheVariants.{Reading, Ready, ReadyLast, Closing, Closed}, Futures.{IsClosed, IsIdle, IsPausing, IsRefusedBy, NextPiece, Progress}}
+use Rattle.p25_filter.specs.{Lines.{closing_by, each_behind, lines_ending, lines_in, texts_before}, LineRules.{LineRules, LinesTaken, both_pieces, first_taken, lines_taken, written_for}}
+use Rattle.p25_filter.specs.LineFilters.{IsLineGiven, IsTextGiven, LineFiltering, closes_with, ends_with, is_ended_phase, line_future, line_filtering, lines_left, pieces_of, taken_from}
+use Rattle.p25_filter.proofs.LinesLaws.{Contains-here, Contains-later, Contains-none, each_behind-from, each_behind-in, lines_in-end, lines_in-part, octets_before}
 
 -- where memory may be wanting, and where it may not
 wanting : (wants : Bool) (texts : List (List ℕ)) (pause : List ℕ) → wants ≡ true → Contains texts pause → Contains (cond wants texts []) pause
@@ -75,43 +74,28 @@ module _ {X : Type 0} (f : List (List ℕ) → X) (x : X) (first : (line : List 
   kept-first : (line : List ℕ) (lines : List (List ℕ)) → f (line ∷ lines) ≡ f (take 8193 line ∷ lines)
   kept-first line lines = either (λ l. f (l ∷ lines)) line (λ also long. first line lines long ∙ sym (first (take 8193 line) lines also))
 
-module _ {M E : Type 0} (rules : LineRules M E) where
-  -- lines that are read alike
-  record AreReadAlike (number : ℕ) (lines others : List (List ℕ)) : Type 0 where
-    pub events : read_of rules.read lines ≡ read_of rules.read others
-    pub refusal : refusal_in rules.read number lines ≡ refusal_in rules.read number others
-
-  -- what is written for an event and those after it, and before each of them
-  written-next : (ended : Bool) (refusal : Option Ending) (machine : M) (event : E) (events : List E) (then : M) (text : List ℕ) → rules.step machine event ≡ (then, text)
-      → written_for rules ended refusal machine (event ∷ events) ≡ text ++ written_for rules ended refusal then events
-  unfolding written_for texts_of machine_after
-  written-next ended refusal machine event events then text step =
-      ap (λ (x : M × List ℕ). (x.1 ++ concat (texts_of rules.step x.0 events)) ++ closing_by ended refusal (rules.closing (machine_after rules.step x.0 events))) step
-      ∙ append_assoc text (concat (texts_of rules.step then events)) (closing_by ended refusal (rules.closing (machine_after rules.step then events)))
-
-  before-next : (machine : M) (event : E) (events : List E) (then : M) (text : List ℕ) → rules.step machine event ≡ (then, text)
-      → written_before rules machine (event ∷ events) ≡ [] ∷ each_behind text (written_before rules then events)
-  unfolding written_before texts_of texts_before
-  before-next machine event events then text step = ap (λ (x : M × List ℕ). [] ∷ each_behind x.1 (texts_before (texts_of rules.step x.0 events))) step
+module _ {M : Type 0} (rules : LineRules M) where
+  -- what comes of lines, by what comes of the first
+  taken-first : (number : ℕ) (machine : M) (line : List ℕ) (lines : List (List ℕ)) (is : Result (M × List ℕ) LineFault) → rules.take machine line ≡ is
+      → lines_taken rules.take number machine (line ∷ lines) ≡ first_taken number machine (λ next. lines_taken rules.take (number + 1) next lines) is
+  unfolding lines_taken
+  taken-first number machine line lines is same = ap (first_taken number machine (λ next. lines_taken rules.take (number + 1) next lines)) same
 
   -- the texts after which memory may be wanting
-  abbrev pauses_of : Option (List ℕ) → M → List E → List (List ℕ)
-  pauses_of behind machine events = cond rules.wants (each_behind (both_pieces [] behind) (written_before rules machine events)) []
+  abbrev pub pauses_of : Option (List ℕ) → LinesTaken M → List (List ℕ)
+  pauses_of behind taken = cond rules.wants (each_behind (both_pieces [] behind) (texts_before taken.texts)) []
 
-  -- octets come, and the lines that are left are read as those that were
+  -- octets come, and of the lines that are left comes what came of those that were
   comes : (machine : M) (lines : ℕ) (behind : Option (List ℕ)) (octets line then : List ℕ) (next : LinePhase)
-      → ((ended : Bool) (more : List ℕ) → AreReadAlike (lines + 1) (lines_in ended line (octets ++ more)) (lines_left next then ended more))
+      → ((ended : Bool) (more : List ℕ) → lines_taken rules.take (lines + 1) machine (lines_in ended line (octets ++ more))
+      ≡ lines_taken rules.take (lines + 1) machine (lines_left next then ended more))
       → ((ended : Bool) → ended ≡ closes_with next ended) → ((ended : Bool) → ended ≡ ends_with next ended)
       → Progress (line_future rules (line_filtering machine line lines behind Reading)) octets [] (line_future rules (line_filtering machine then lines behind next))
   unfolding line_future
   comes machine lines behind octets line then next left closes ends = record {
-    writes = λ ended more.
-        let were = lines_in ended line (octets ++ more) in
-        ap (λ (b : Bool). both_pieces [] behind ++ written_for rules b (refusal_in rules.read (lines + 1) were) machine (read_of rules.read were)) (closes ended)
-        ∙ ap₂ (λ (r : Option Ending) (es : List E). both_pieces [] behind ++ written_for rules (closes_with next ended) r machine es)
-        (left ended more).refusal (left ended more).events;
-    ends = λ ended more. ap₂ lines_ending (ends ended) (left ended more).refusal;
-    pauses = λ ended more pause is. subst (λ (es : List E). Contains (pauses_of behind machine es) pause) (sym (left ended more).events) is;
+    writes = λ ended more. ap₂ (λ (b : Bool) (t : LinesTaken M). both_pieces [] behind ++ written_for rules b t) (closes ended) (left ended more);
+    ends = λ ended more. ap₂ (λ (b : Bool) (t : LinesTaken M). lines_ending b t.refusal) (ends ended) (left ended more);
+    pauses = λ ended more pause is. subst (λ (t : LinesTaken M). Contains (pauses_of behind t) pause) (sym (left ended more)) is;
   }
 
   -- what holds while a line is read holds of work before an octet
@@ -131,22 +115,18 @@ module _ {M E : Type 0} (rules : LineRules M E) where
       take-min n = let other : min (length octets) n ≡ min n (length octets) = omega arith in ap (λ (k : ℕ). take k octets) other ∙ take_min n octets
 
   -- the steps of `push_some`: of a line that has begun some octets are kept, and the line goes on or ends
-  module _ (too_long : (line : List ℕ) → 8192 < length line → rules.read line ≡ Err Long) (work now : LineFiltering M) (octets : List ℕ) (count : ℕ)
+  module _ (too_long : (machine : M) (line : List ℕ) → 8192 < length line → rules.take machine line ≡ Err Long) (work now : LineFiltering M) (octets : List ℕ) (count : ℕ)
       (before : count ≡ octets_before octets) (none : pieces_of work.phase ≡ 0) (going : is_ended_phase work.phase ≡ false) where
     abbrev pub whole : List ℕ
     whole = work.line ++ take count octets
 
-    abbrev number : ℕ
-    number = work.lines + 1
+    -- what comes of lines
+    abbrev came : List (List ℕ) → LinesTaken M
+    came = lines_taken rules.take (work.lines + 1) work.machine
 
-    -- what is read of lines that are alike where what is kept of the first serves as well as all of it
-    alike : (lines others : List (List ℕ))
-        → ((X : Type 0) (f : List (List ℕ) → X) (x : X) → ((line : List ℕ) (more : List (List ℕ)) → 8192 < length line → f (line ∷ more) ≡ x) → f lines ≡ f others)
-        → AreReadAlike number lines others
-    alike lines others same = record {
-      events = same (List E) (read_of rules.read) [] (λ line more is. read_of-err rules.read line more Long (too_long line is));
-      refusal = same (Option Ending) (refusal_in rules.read number) (Some (BadLine number Long)) (λ line more is. refusal_in-err rules.read number line more Long (too_long line is));
-    }
+    -- of lines of which the first is too long comes that
+    first-long : (line : List ℕ) (lines : List (List ℕ)) → 8192 < length line → came (line ∷ lines) ≡ record { texts = []; machine = work.machine; refusal = Some (BadLine (work.lines + 1) Long) }
+    first-long line lines long = taken-first (work.lines + 1) work.machine line lines (Err Long) (too_long work.machine line long)
 
     goes-on : (then : List ℕ) (next : LinePhase) → now ≡ line_filtering work.machine then work.lines work.behind next → (taken : List ℕ)
         → Progress (line_future rules (line_filtering work.machine work.line work.lines work.behind Reading)) taken
@@ -163,9 +143,8 @@ module _ {M E : Type 0} (rules : LineRules M E) where
     step-part is =
         goes-on (take 8193 whole) Reading is (take count octets)
         (comes work.machine work.lines work.behind (take count octets) work.line (take 8193 whole) Reading
-        (λ ended more. alike (lines_in ended work.line (take count octets ++ more)) (lines_in ended (take 8193 whole) more)
-        (λ X f x first. ap f (subst (λ (n : ℕ). lines_in ended work.line (take n octets ++ more) ≡ lines_in ended (work.line ++ take n octets) more) (sym before)
-        (lines_in-part ended work.line octets more)) ∙ kept-same f x first ended whole more))
+        (λ ended more. ap came (subst (λ (n : ℕ). lines_in ended work.line (take n octets ++ more) ≡ lines_in ended (work.line ++ take n octets) more) (sym before)
+        (lines_in-part ended work.line octets more)) ∙ kept-same came _ first-long ended whole more)
         (λ ended. refl) (λ ended. refl))
 
     -- the line ends
@@ -174,9 +153,8 @@ module _ {M E : Type 0} (rules : LineRules M E) where
     step-end there is =
         goes-on (take 8193 whole) Ready is (take (count + 1) octets)
         (comes work.machine work.lines work.behind (take (count + 1) octets) work.line (take 8193 whole) Ready
-        (λ ended more. alike (lines_in ended work.line (take (count + 1) octets ++ more)) (take 8193 whole ∷ lines_in ended [] more)
-        (λ X f x first. ap f (subst (λ (n : ℕ). n < length octets → lines_in ended work.line (take (n + 1) octets ++ more) ≡ (work.line ++ take n octets) ∷ lines_in ended [] more) (sym before)
-        (lines_in-end ended work.line octets more) there) ∙ kept-first f x first whole (lines_in ended [] more)))
+        (λ ended more. ap came (subst (λ (n : ℕ). n < length octets → lines_in ended work.line (take (n + 1) octets ++ more) ≡ (work.line ++ take n octets) ∷ lines_in ended [] more) (sym before)
+        (lines_in-end ended work.line octets more) there) ∙ kept-first came _ first-long whole (lines_in ended [] more))
         (λ ended. refl) (λ ended. refl))
 
   -- the steps of `finish`: the input ends after a line that has begun, or none
@@ -185,11 +163,11 @@ module _ {M E : Type 0} (rules : LineRules M E) where
   unfolding line_future lines_in
   working-finish machine line lines behind some =
       let last : cond (nat_lt 0 (length line)) (line ∷ []) [] ≡ line ∷ [] = cond-true (nat_lt 0 (length line)) (line ∷ []) [] (lt-ltb 0 (length line) some) in
+      let same = ap (lines_taken rules.take (lines + 1) machine) (sym last) in
       record {
-        writes = λ ended more.
-            ap (λ (ls : List (List ℕ)). both_pieces [] behind ++ written_for rules true (refusal_in rules.read (lines + 1) ls) machine (read_of rules.read ls)) (sym last);
-        ends = λ ended more. ap (λ (ls : List (List ℕ)). lines_ending true (refusal_in rules.read (lines + 1) ls)) (sym last);
-        pauses = λ ended more. ap (λ (ls : List (List ℕ)). pauses_of behind machine (read_of rules.read ls)) (sym last);
+        writes = λ ended more. ap (λ (t : LinesTaken M). both_pieces [] behind ++ written_for rules true t) same;
+        ends = λ ended more. ap (λ (t : LinesTaken M). lines_ending true t.refusal) same;
+        pauses = λ ended more. ap (pauses_of behind) same;
       }
 
   working-finish_none : (machine : M) (line : List ℕ) (lines : ℕ) (behind : Option (List ℕ)) → length line ≡ 0
@@ -223,7 +201,7 @@ module _ {M E : Type 0} (rules : LineRules M E) where
         writes = λ ended more. refl;
         ends = λ ended more. refl;
         pauses = λ ended more pause there.
-            let texts = written_before rules before.machine (read_of rules.read (lines_left before.phase before.line ended more)) in
+            let texts = texts_before (taken_from rules before ended more).texts in
             let now_there = when_wanting rules.wants _ pause there in
             let part = each_behind-from [] texts pause now_there.1 in
             wanting rules.wants _ (out ++ pause) now_there.0
@@ -233,7 +211,7 @@ module _ {M E : Type 0} (rules : LineRules M E) where
   -- what is written at the end is given
   working-close : (machine : M) (line : List ℕ) (lines : ℕ)
       → NextPiece (line_future rules (line_filtering machine line lines None Closing)) (Ok true) (rules.closing machine) (line_future rules (line_filtering machine line lines None Closed))
-  unfolding NextPiece line_future written_for written_before texts_of machine_after texts_before each_behind read_of refusal_in
+  unfolding NextPiece line_future written_for texts_before each_behind lines_taken
   working-close machine line lines = record {
     writes = λ ended more. sym (append-nil (rules.closing machine));
     ends = λ ended more. refl;
@@ -243,102 +221,103 @@ module _ {M E : Type 0} (rules : LineRules M E) where
   module _ (machine : M) (line : List ℕ) (lines : ℕ) (phase next : LinePhase)
       (left : (ended : Bool) (more : List ℕ) → lines_left phase line ended more ≡ line ∷ lines_left next [] ended more)
       (ends : (ended : Bool) → ends_with next ended ≡ ends_with phase ended) (closes : (ended : Bool) → closes_with next ended ≡ closes_with phase ended) where
-    -- what the lines that are left are read as, where the first is an event
-    events-left : (ended : Bool) (more : List ℕ) (event : E) → rules.read line ≡ Ok event
-        → read_of rules.read (lines_left phase line ended more) ≡ event ∷ read_of rules.read (lines_left next [] ended more)
-    events-left ended more event is = ap (read_of rules.read) (left ended more) ∙ read_of-ok rules.read line (lines_left next [] ended more) event is
+    -- what comes of the lines that are left
+    abbrev comes-left : Bool → List ℕ → LinesTaken M
+    comes-left ended more = lines_taken rules.take (lines + 1) machine (lines_left phase line ended more)
 
-    refusal-left : (ended : Bool) (more : List ℕ) (event : E) → rules.read line ≡ Ok event
-        → refusal_in rules.read (lines + 1) (lines_left phase line ended more) ≡ refusal_in rules.read (lines + 1 + 1) (lines_left next [] ended more)
-    refusal-left ended more event is =
-        ap (refusal_in rules.read (lines + 1)) (left ended more) ∙ refusal_in-ok rules.read (lines + 1) line (lines_left next [] ended more) event is
+    abbrev rest-left : Bool → List ℕ → M → LinesTaken M
+    rest-left ended more then = lines_taken rules.take (lines + 1 + 1) then (lines_left next [] ended more)
 
-    before-left : (ended : Bool) (more : List ℕ) (event : E) → rules.read line ≡ Ok event → (then : M) (text : List ℕ) → rules.step machine event ≡ (then, text)
-        → written_before rules machine (read_of rules.read (lines_left phase line ended more))
-        ≡ [] ∷ each_behind text (written_before rules then (read_of rules.read (lines_left next [] ended more)))
-    before-left ended more event is then text step =
-        ap (written_before rules machine) (events-left ended more event is) ∙ before-next machine event (read_of rules.read (lines_left next [] ended more)) then text step
+    left-first : (ended : Bool) (more : List ℕ) (is : Result (M × List ℕ) LineFault) → rules.take machine line ≡ is → comes-left ended more ≡ first_taken (lines + 1) machine (rest-left ended more) is
+    left-first ended more is same =
+        ap (lines_taken rules.take (lines + 1) machine) (left ended more) ∙ taken-first (lines + 1) machine line (lines_left next [] ended more) is same
 
-    -- a line that is there was read as an event, and the first piece of its text is given
-    text-given : (event : E) → rules.read line ≡ Ok event → (then : M) (out : List ℕ) (behind : Option (List ℕ)) → rules.step machine event ≡ (then, both_pieces out behind)
+    before-left : (ended : Bool) (more : List ℕ) (then : M) (text : List ℕ) → rules.take machine line ≡ Ok (then, text)
+        → texts_before (comes-left ended more).texts ≡ [] ∷ each_behind text (texts_before (rest-left ended more then).texts)
+    unfolding texts_before
+    before-left ended more then text is = ap (λ (t : LinesTaken M). texts_before t.texts) (left-first ended more (Ok (then, text)) is)
+
+    -- a line that is there was taken, and the first piece of its text is given
+    text-given : (then : M) (out : List ℕ) (behind : Option (List ℕ)) → rules.take machine line ≡ Ok (then, both_pieces out behind)
         → Progress (line_future rules (line_filtering machine line lines None phase)) [] out (line_future rules (line_filtering then [] (lines + 1) behind next))
-    unfolding line_future
-    text-given event is then out behind step = record {
+    unfolding line_future written_for
+    text-given then out behind is = record {
       writes = λ ended more.
-          let events = read_of rules.read (lines_left next [] ended more) in
-          let refusal = refusal_in rules.read (lines + 1 + 1) (lines_left next [] ended more) in
-          ap₂ (λ (r : Option Ending) (es : List E). written_for rules (closes_with phase ended) r machine es) (refusal-left ended more event is) (events-left ended more event is)
-          ∙ written-next (closes_with phase ended) refusal machine event events then (both_pieces out behind) step
-          ∙ pieces-append out behind (written_for rules (closes_with phase ended) refusal then events)
-          ∙ ap (λ (b : Bool). out ++ (both_pieces [] behind ++ written_for rules b refusal then events)) (sym (closes ended));
+          let after = rest-left ended more then in
+          ap (written_for rules (closes_with phase ended)) (left-first ended more (Ok (then, both_pieces out behind)) is)
+          ∙ append_assoc (both_pieces out behind) (concat after.texts) (closing_by (closes_with phase ended) after.refusal (rules.closing after.machine))
+          ∙ pieces-append out behind (written_for rules (closes_with phase ended) after)
+          ∙ ap (λ (b : Bool). out ++ (both_pieces [] behind ++ written_for rules b after)) (sym (closes ended));
       ends = λ ended more.
-          ap (lines_ending (ends_with phase ended)) (refusal-left ended more event is)
-          ∙ ap (λ (b : Bool). lines_ending b (refusal_in rules.read (lines + 1 + 1) (lines_left next [] ended more))) (sym (ends ended));
+          ap (λ (t : LinesTaken M). lines_ending (ends_with phase ended) t.refusal) (left-first ended more (Ok (then, both_pieces out behind)) is)
+          ∙ ap (λ (b : Bool). lines_ending b (rest-left ended more then).refusal) (sym (ends ended));
       pauses = λ ended more pause there.
-          let events = read_of rules.read (lines_left next [] ended more) in
+          let texts = texts_before (rest-left ended more then).texts in
           let now = when_wanting rules.wants _ pause there in
-          let part = each_behind-from (both_pieces [] behind) (written_before rules then events) pause now.1 in
-          let after = each_behind (both_pieces out behind) (written_before rules then events) in
+          let part = each_behind-from (both_pieces [] behind) texts pause now.1 in
+          let after = each_behind (both_pieces out behind) texts in
           let whole = pieces-append out behind part.0 ∙ ap (λ (zs : List ℕ). out ++ zs) part.2 in
-          let later = Contains-later [] after (both_pieces out behind ++ part.0) (each_behind-in (both_pieces out behind) (written_before rules then events) part.0 part.1) in
+          let later = Contains-later [] after (both_pieces out behind ++ part.0) (each_behind-in (both_pieces out behind) texts part.0 part.1) in
           wanting rules.wants _ (out ++ pause) now.0
-          (each_behind-in [] (written_before rules machine (read_of rules.read (lines_left phase line ended more))) (out ++ pause)
-          (subst (λ (ts : List (List ℕ)). Contains ts (out ++ pause)) (sym (before-left ended more event is then (both_pieces out behind) step))
+          (each_behind-in [] (texts_before (comes-left ended more).texts) (out ++ pause)
+          (subst (λ (ts : List (List ℕ)). Contains ts (out ++ pause)) (sym (before-left ended more then (both_pieces out behind) is))
           (subst (λ (zs : List ℕ). Contains ([] ∷ after) zs) whole later)));
     }
+
+    -- memory was wanting for a line that is there
+    wanting-given : (is : Result (M × List ℕ) LineFault) → rules.take machine line ≡ is → is_ok is ≡ true → rules.wants ≡ true
+        → IsPausing (line_future rules (line_filtering machine line lines None phase))
+    unfolding line_future
+    wanting-given (Ok next) is ok wants =
+        λ ended more.
+        wanting rules.wants _ [] wants
+        (each_behind-in [] (texts_before (comes-left ended more).texts) []
+        (subst (λ (ts : List (List ℕ)). Contains ts []) (sym (before-left ended more next.0 next.1 is))
+        (Contains-here [] (each_behind next.1 (texts_before (rest-left ended more next.0).texts)))))
+    wanting-given (Err fault) is ok wants = cc ok
 
     -- a line that is there was taken or refused, or memory was wanting for it
     line-given : (now : LineFiltering M) (answer : Result Bool Refusal) (out : List ℕ)
         → IsLineGiven rules next (line_filtering machine line lines None phase) answer out now
         → NextPiece (line_future rules (line_filtering machine line lines None phase)) answer out (line_future rules now)
-    unfolding NextPiece IsRefusedBy line_future written_for texts_of machine_after
+    unfolding NextPiece IsRefusedBy line_future written_for
     line-given now (Ok true) out (same, given) =
         subst (λ (n : LineFiltering M). Progress (line_future rules (line_filtering machine line lines None phase)) [] out (line_future rules n)) (sym given.now_is)
-        (text-given given.event given.read given.machine out given.behind given.step)
+        (text-given given.machine out given.behind given.taken)
     line-given now (Ok false) out (same, given) = cc same
-    line-given now (Err Memory) out (same, given) =
-        λ ended more.
-        let step = rules.step machine given.event in
-        wanting rules.wants _ [] given.wants
-        (each_behind-in [] (written_before rules machine (read_of rules.read (lines_left phase line ended more))) []
-        (subst (λ (ts : List (List ℕ)). Contains ts []) (sym (before-left ended more given.event given.read step.0 step.1 refl))
-        (Contains-here [] (each_behind step.1 (written_before rules step.0 (read_of rules.read (lines_left next [] ended more)))))))
+    line-given now (Err Memory) out (same, (wants, ok)) = wanting-given (rules.take machine line) refl ok wants
     line-given now (Err (Ended ending)) out (same, (fault, is, refused)) =
-        let refusal : (ended : Bool) (more : List ℕ) → refusal_in rules.read (lines + 1) (lines_left phase line ended more) ≡ Some (BadLine (lines + 1) fault)
-        = λ ended more. ap (refusal_in rules.read (lines + 1)) (left ended more) ∙ refusal_in-err rules.read (lines + 1) line (lines_left next [] ended more) fault refused in
         record {
-          writes = λ ended more.
-              ap₂ (λ (r : Option Ending) (es : List E). written_for rules (closes_with phase ended) r machine es) (refusal ended more)
-              (ap (read_of rules.read) (left ended more) ∙ read_of-err rules.read line (lines_left next [] ended more) fault refused);
-          ends = λ ended more. ap (lines_ending (ends_with phase ended)) (refusal ended more) ∙ ap (λ (e : Ending). Some e) (sym is);
+          writes = λ ended more. ap (written_for rules (closes_with phase ended)) (left-first ended more (Err fault) refused);
+          ends = λ ended more.
+              ap (λ (t : LinesTaken M). lines_ending (ends_with phase ended) t.refusal) (left-first ended more (Err fault) refused)
+              ∙ ap (λ (e : Ending). Some e) (sym is);
         }
 
   -- with no line to take and no piece to give, what the octets so far decide is written, and nothing refuses them; at the end
   -- all is done
   working-idle : (machine : M) (line : List ℕ) (lines : ℕ) (phase : LinePhase) → pieces_of phase ≡ 0
       → IsIdle (is_ended_phase phase) (line_future rules (line_filtering machine line lines None phase))
-  unfolding IsIdle line_future lines_in written_for texts_of machine_after read_of refusal_in
+  unfolding IsIdle line_future lines_in written_for lines_taken
   working-idle machine line lines Reading none = (refl, refl)
   working-idle machine line lines Closed none = λ ended more. refl
   working-idle machine line lines phase none = absurd (omega arith)
 
   working-done : (machine : M) (line : List ℕ) (lines : ℕ) (behind : Option (List ℕ)) (ended : Bool) (more : List ℕ)
       → (line_future rules (line_filtering machine line lines behind Closed)).ends ended more ≡ Some Done
-  unfolding line_future refusal_in
+  unfolding line_future lines_taken
   working-done machine line lines behind ended more = refl
 
   -- the steps of `take_line`: the text of the line that is there was given
   pub text-taken : (before : LineFiltering M) (machine then : M) (line items after : List ℕ) (lines : ℕ) (old behind : Option (List ℕ)) (out : List ℕ) (was phase : LinePhase)
-      (event : E) → line_filtering machine items lines old was ≡ before → line ≡ items → after ≡ [] → rules.read line ≡ Ok event
-      → rules.step machine event ≡ (then, both_pieces out behind) → IsTextGiven rules phase before out (line_filtering then after (lines + 1) behind phase)
-  text-taken before machine then line items after lines old behind out was phase event view slice none read step =
+      → line_filtering machine items lines old was ≡ before → line ≡ items → after ≡ []
+      → rules.take machine line ≡ Ok (then, both_pieces out behind) → IsTextGiven rules phase before out (line_filtering then after (lines + 1) behind phase)
+  text-taken before machine then line items after lines old behind out was phase view slice none taken =
       subst (λ (w : LineFiltering M). IsTextGiven rules phase w out (line_filtering then after (lines + 1) behind phase)) view
       (record {
-        event = event;
         machine = then;
         behind = behind;
-        read = ap rules.read (sym slice) ∙ read;
-        step = step;
+        taken = ap (rules.take machine) (sym slice) ∙ taken;
         now_is = ap (λ (zs : List ℕ). line_filtering then zs (lines + 1) behind phase) none;
       })
 

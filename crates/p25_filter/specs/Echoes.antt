@@ -5,12 +5,13 @@ use Rattle.p25_line.specs.{declared.fault.LineFault.{LineFault}, declared.fault.
 use Rattle.p25_filter.specs.LineRules.{LineRules}
 
 -- the line itself; an empty line has the fault form, and one of more than 8,192 octets the fault long
-abbrev pub echo_of : List ℕ → Result (List ℕ) LineFault
-echo_of line = if nat_lt 8192 (length line) then Err Long else (if nat_lt 0 (length line) then Ok line else Err Form)
+abbrev pub echo_of : {M : Type 0} → M → List ℕ → Result (M × List ℕ) LineFault
+echo_of machine line = if nat_lt 8192 (length line) then Err Long else (if nat_lt 0 (length line) then Ok (machine, line) else Err Form)
 
 -- each line is given back, nothing closes them, and no memory is wanted
-abbrev pub echo_rules : {M : Type 0} → LineRules M (List ℕ)
-echo_rules = record { read = echo_of; step = λ machine line. (machine, line); closing = λ machine. []; wants = false }
+abbrev pub echo_rules : {M : Type 0} → LineRules M
+echo_rules = record { take = echo_of; closing = λ machine. []; wants = false }
 
-pub echo_long : (line : List ℕ) → 8192 < length line → echo_of line ≡ Err Long
-echo_long line long = ap (λ b. if b then Err Long else if nat_lt 0 (length line) then Ok line else Err Form) (lt-ltb 8192 (length line) long)
+pub echo_long : {M : Type 0} → (machine : M) (line : List ℕ) → 8192 < length line → echo_of machine line ≡ Err Long
+echo_long machine line long =
+    ap (λ b. if b then Err Long else if nat_lt 0 (length line) then Ok (machine, line) else Err Form) (lt-ltb 8192 (length line) long)

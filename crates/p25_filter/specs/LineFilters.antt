@@ -4,7 +4,8 @@ use Rattle.p25_line.specs.declared.fault.LineFault.{LineFault}
 use Rattle.p25_filter.specs.{declared.ending.Ending.TheVariants.{BadLine}, declared.ending.Refusal.{Refusal}}
 use Rattle.p25_filter.specs.{declared.ending.Refusal.TheVariants.{Ended, Memory}, declared.line_filter.LinePhase.{LinePhase}}
 use Rattle.p25_filter.specs.{declared.line_filter.LinePhase.TheVariants.{Reading, Ready, ReadyLast, Closing, Closed}, Futures.{Future}}
-use Rattle.p25_filter.specs.{Lines.{each_behind, lines_ending, lines_in, read_of, refusal_in}, LineRules.{LineRules, both_pieces, written_before, written_for}}
+use Rattle.p25_filter.specs.Lines.{each_behind, lines_ending, lines_in, texts_before}
+use Rattle.p25_filter.specs.LineRules.{IsWanting, LineRules, LinesTaken, both_pieces, lines_taken, written_for}
 
 -- the machine, the octets kept of the line that has begun or is there, how many lines were taken, the second piece of a text
 -- whose first was given out, and how far the work has come
@@ -65,39 +66,30 @@ abbrev pub piece_behind : Option (List ℕ) → ℕ
 piece_behind None = 0
 piece_behind (Some second) = 1
 
+-- what comes of the lines that are still to be taken
+abbrev pub taken_from : {M : Type 0} → LineRules M → LineFiltering M → Bool → List ℕ → LinesTaken M
+taken_from rules work ended more = lines_taken rules.take (work.lines + 1) work.machine (lines_left work.phase work.line ended more)
+
 -- what is still written, how the call ends, and after which texts memory may be wanting, by the lines that are still to be taken
-unfoldable pub line_future : {M E : Type 0} → LineRules M E → LineFiltering M → Future
+unfoldable pub line_future : {M : Type 0} → LineRules M → LineFiltering M → Future
 line_future rules work = record {
-  writes = λ ended more.
-      let lines = lines_left work.phase work.line ended more in
-      both_pieces [] work.behind
-      ++ written_for rules (closes_with work.phase ended) (refusal_in rules.read (work.lines + 1) lines) work.machine (read_of rules.read lines);
-  ends = λ ended more.
-      lines_ending (ends_with work.phase ended) (refusal_in rules.read (work.lines + 1) (lines_left work.phase work.line ended more));
+  writes = λ ended more. both_pieces [] work.behind ++ written_for rules (closes_with work.phase ended) (taken_from rules work ended more);
+  ends = λ ended more. lines_ending (ends_with work.phase ended) (taken_from rules work ended more).refusal;
   pauses = λ ended more.
-      let events = read_of rules.read (lines_left work.phase work.line ended more) in
-      if rules.wants then each_behind (both_pieces [] work.behind) (written_before rules work.machine events) else [];
+      if rules.wants then each_behind (both_pieces [] work.behind) (texts_before (taken_from rules work ended more).texts) else [];
 }
 
--- a line that is there was read as an event, and the text for it given out in one piece or two
-pub record IsTextGiven {M E : Type 0} (rules : LineRules M E) (phase : LinePhase) (before : LineFiltering M) (out : List ℕ) (now : LineFiltering M)
+-- a line that is there was taken, and the text for it given out in one piece or two
+pub record IsTextGiven {M : Type 0} (rules : LineRules M) (phase : LinePhase) (before : LineFiltering M) (out : List ℕ) (now : LineFiltering M)
     : Type 0 where
-  pub event : E
   pub machine : M
   pub behind : Option (List ℕ)
-  pub read : rules.read before.line ≡ Ok event
-  pub step : rules.step before.machine event ≡ (machine, both_pieces out behind)
+  pub taken : rules.take before.machine before.line ≡ Ok (machine, both_pieces out behind)
   pub now_is : now ≡ line_filtering machine [] (before.lines + 1) behind phase
 
--- a line that is there is an event, and memory is wanting for it
-pub record IsWanting {M E : Type 0} (rules : LineRules M E) (before : LineFiltering M) : Type 0 where
-  pub wants : rules.wants ≡ true
-  pub event : E
-  pub read : rules.read before.line ≡ Ok event
-
 -- a line that is there was taken, or it was not and all is as it was
-abbrev pub IsLineGiven : {M E : Type 0} → LineRules M E → LinePhase → LineFiltering M → Result Bool Refusal → List ℕ → LineFiltering M → Type 0
+abbrev pub IsLineGiven : {M : Type 0} → LineRules M → LinePhase → LineFiltering M → Result Bool Refusal → List ℕ → LineFiltering M → Type 0
 IsLineGiven rules phase before (Ok answer) out now = (answer ≡ true) × IsTextGiven rules phase before out now
-IsLineGiven rules phase before (Err Memory) out now = (now ≡ before) × IsWanting rules before
+IsLineGiven rules phase before (Err Memory) out now = (now ≡ before) × IsWanting rules before.machine before.line
 IsLineGiven rules phase before (Err (Ended ending)) out now =
-    (now ≡ before) × ((fault : LineFault) × (ending ≡ BadLine (before.lines + 1) fault) × (rules.read before.line ≡ Err fault))
+    (now ≡ before) × ((fault : LineFault) × (ending ≡ BadLine (before.lines + 1) fault) × (rules.take before.machine before.line ≡ Err fault))

@@ -1,39 +1,48 @@
--- Machines over lines: what each line is read as, what each event is answered with, and what comes of all lines.
-use Rattle.std.specs.{Prelude.{ℕ, Bool, List, [], ◌∷◌, ◌++◌, Option, Some, None, Result}, List.{concat}}
+-- Machines over lines: what comes of a line, and of lines up to the first that is refused.
+use Rattle.std.specs.{Prelude.{◌≡◌, ℕ, ◌+◌, Bool, true, List, [], ◌∷◌, ◌++◌, Option, Some, None, Result, Ok, Err, IsOk}, List.{concat}}
 use Rattle.p25_line.specs.declared.fault.LineFault.{LineFault}
-use Rattle.p25_filter.specs.{declared.ending.Ending.{Ending}, Lines.{closing_by, texts_before}}
+use Rattle.p25_filter.specs.{declared.ending.Ending.{Ending}, declared.ending.Ending.TheVariants.{BadLine}, Lines.{closing_by}}
+use Rattle.p25_filter.specs.{declared.line_machine.NotTaken.{NotTaken}, declared.line_machine.NotTaken.TheVariants.{Fault, Memory}}
 
--- a machine over lines: what a line is read as, or its fault; the machine after an event, and the text for it; what is written at
--- the end of the input; and whether memory may be wanting at an event
-pub record LineRules (M E : Type 0) : Type 0 where
-  pub read : List ℕ → Result E LineFault
-  pub step : M → E → M × List ℕ
+-- a machine over lines: the machine after a line and the text for it, or the line's fault; what is written at the end of the input;
+-- and whether memory may be wanting for a line
+pub record LineRules (M : Type 0) : Type 0 where
+  pub take : M → List ℕ → Result (M × List ℕ) LineFault
   pub closing : M → List ℕ
   pub wants : Bool
-
--- the text of what a step tells
-abbrev pub told_by : {M E S : Type 0} → (M → E → M × S) → (S → List ℕ) → M → E → M × List ℕ
-told_by step text machine event = ((step machine event).0, text (step machine event).1)
-
--- the machine after some events, and the texts for them
-unfoldable pub machine_after : {M E : Type 0} → (M → E → M × List ℕ) → M → List E → M
-machine_after step machine [] = machine
-machine_after step machine (event ∷ events) = machine_after step (step machine event).0 events
-
-unfoldable pub texts_of : {M E : Type 0} → (M → E → M × List ℕ) → M → List E → List (List ℕ)
-texts_of step machine [] = []
-texts_of step machine (event ∷ events) = (step machine event).1 ∷ texts_of step (step machine event).0 events
 
 -- a text in two pieces, of which the second may be missing
 abbrev pub both_pieces : List ℕ → Option (List ℕ) → List ℕ
 both_pieces first None = first
 both_pieces first (Some second) = first ++ second
 
--- what is written for events, where the input has ended or not and a line after them is refused or none is
-unfoldable pub written_for : {M E : Type 0} → LineRules M E → Bool → Option Ending → M → List E → List ℕ
-written_for rules ended refusal machine events =
-    concat (texts_of rules.step machine events) ++ closing_by ended refusal (rules.closing (machine_after rules.step machine events))
+-- a line has no fault, and memory may be wanting for it
+abbrev pub IsWanting : {M : Type 0} → LineRules M → M → List ℕ → Type 0
+IsWanting rules machine line = (rules.wants ≡ true) × IsOk (rules.take machine line)
 
--- what is written before each of some events
-unfoldable pub written_before : {M E : Type 0} → LineRules M E → M → List E → List (List ℕ)
-written_before rules machine events = texts_before (texts_of rules.step machine events)
+-- a line was taken, and the text for it given out in one piece or two; or it was not, and the machine is as it was
+abbrev pub IsLineTaken : {M : Type 0} → LineRules M → M → List ℕ → Result (Option (List ℕ)) NotTaken → List ℕ → M → Type 0
+IsLineTaken rules machine line (Ok second) out now = rules.take machine line ≡ Ok (now, both_pieces out second)
+IsLineTaken rules machine line (Err Memory) out now = (now ≡ machine) × IsWanting rules machine line
+IsLineTaken rules machine line (Err (Fault fault)) out now = (now ≡ machine) × (rules.take machine line ≡ Err fault)
+
+-- what came of lines, up to the first that is refused: the texts for them, the machine after them, and the refusal with its number
+pub record LinesTaken (M : Type 0) : Type 0 where
+  pub texts : List (List ℕ)
+  pub machine : M
+  pub refusal : Option Ending
+
+-- what comes of a line of this number and of the lines after it, by what comes of the line
+abbrev pub first_taken : {M : Type 0} → ℕ → M → (M → LinesTaken M) → Result (M × List ℕ) LineFault → LinesTaken M
+first_taken number machine rest (Ok next) = record (rest next.0) { texts = next.1 ∷ (rest next.0).texts }
+first_taken number machine rest (Err fault) = record { texts = []; machine = machine; refusal = Some (BadLine number fault) }
+
+-- what comes of lines, of which the first has this number
+unfoldable pub lines_taken : {M : Type 0} → (M → List ℕ → Result (M × List ℕ) LineFault) → ℕ → M → List (List ℕ) → LinesTaken M
+lines_taken take number machine [] = record { texts = []; machine = machine; refusal = None }
+lines_taken take number machine (line ∷ lines) =
+    first_taken number machine (λ next. lines_taken take (number + 1) next lines) (take machine line)
+
+-- what is written for lines, where the input has ended with them or not
+unfoldable pub written_for : {M : Type 0} → LineRules M → Bool → LinesTaken M → List ℕ
+written_for rules ended taken = concat taken.texts ++ closing_by ended taken.refusal (rules.closing taken.machine)

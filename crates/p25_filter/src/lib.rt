@@ -20,9 +20,8 @@
 //! far decide is written before the next read, no write is empty, and nothing comes after a fault. `laws::order_laws` says what
 //! this comes to. Between a source and a sink (`Pair`), what stands after each way to end is `Filtered`.
 //!
-//! A command over lines is a `LineMachine`, which reads each line as an event and answers it with a text, and `LineFilter` is the
-//! filter that it makes. Contracts see it by its `LineRules`: the event of a line, or its fault; and the machine after an event and
-//! the text for it.
+//! A command over lines is a `LineMachine`, which answers each line with a text, and `LineFilter` is the filter that it makes.
+//! Contracts see it by its `LineRules`: the machine after a line and the text for it, or the line's fault.
 #![tactic(auto)]
 
 mod ending;
@@ -37,7 +36,7 @@ pub use ending::{Ending, FilterEnd, Refusal};
 pub use filter::Filter;
 pub use input::run_on;
 pub use line_filter::LineFilter;
-pub use line_machine::LineMachine;
+pub use line_machine::{LineMachine, NotTaken};
 
 #[cfg(test)]
 mod tests;

@@ -5,7 +5,7 @@ ghost use Rattle.p25_filter.specs.LineFilters.{first_line, lines_ready, IsLineGi
 
 use super::ending::{Ending, Refusal};
 use super::filter::Filter;
-use super::line_machine::LineMachine;
+use super::line_machine::{LineMachine, NotTaken};
 use arrayvec::ArrayVec;
 use p25_line::Line;
 use std::marker::Model;
@@ -83,16 +83,7 @@ impl<M: LineMachine> LineFilter<M> {
         requires none { self.old.behind ≡ None }
         ensures { IsLineGiven M.rules phase self.old result out.new self.new }
     {
-        let event = match M::read(self.line.as_slice()) {
-            Ok(event) => event,
-            Err(fault) => {
-                return Err(Refusal::Ended(Ending::BadLine {
-                    line: self.lines + 1,
-                    fault,
-                }));
-            }
-        };
-        match self.machine.take(event, out) {
+        match self.machine.take_line(self.line.as_slice(), out) {
             Ok(second) => {
                 hold(&mut self.behind, second);
                 self.line.clear();
@@ -100,7 +91,11 @@ impl<M: LineMachine> LineFilter<M> {
                 self.phase = phase;
                 Ok(true)
             }
-            Err(_) => Err(Refusal::Memory),
+            Err(NotTaken::Fault(fault)) => Err(Refusal::Ended(Ending::BadLine {
+                line: self.lines + 1,
+                fault,
+            })),
+            Err(NotTaken::Memory) => Err(Refusal::Memory),
         }
     }
 

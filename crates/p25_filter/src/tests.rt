@@ -4,7 +4,6 @@
 use super::*;
 use p25_io::{Call, MemorySource, Pair, SliceSink, SteadySource, Tape};
 use p25_line::{Line, LineFault};
-use std::alloc::AllocError;
 use std::test::Fail;
 
 // Gives each line back, and refuses an empty one.
@@ -12,29 +11,19 @@ use std::test::Fail;
 struct Echo;
 
 impl LineMachine for Echo {
-    ghost use Rattle.std.specs.Prelude.{⊤};
     ghost use Rattle.p25_filter.specs.Echoes.{echo_rules, echo_long};
-
-    type Event = Line;
 
     ghost rules = { echo_rules };
 
-    ghost IsRead = { λ _. ⊤ };
-
-    fn read(line: &[u8]) -> Result<Line, LineFault> {
+    fn take_line(&mut self, line: &[u8], out: &mut Line) -> Result<Option<Line>, NotTaken> {
         if line.len() > 8_192 {
-            return Err(LineFault::Long);
+            return Err(NotTaken::Fault(LineFault::Long));
         }
         if line.len() == 0 {
-            return Err(LineFault::Form);
+            return Err(NotTaken::Fault(LineFault::Form));
         }
-        let mut event = Line::new();
-        event.put(line);
-        Ok(event)
-    }
-
-    fn take(&mut self, event: Line, out: &mut Line) -> Result<Option<Line>, AllocError> {
-        *out = event;
+        out.clear();
+        out.put(line);
         Ok(None)
     }
 

@@ -1,7 +1,7 @@
 -- What the work on lines writes from the first octet on is what the command is defined to write: the texts of what its steps tell,
--- and what closes them. By recursion on the events.
-use Rattle.std.proofs.Common.{◌≡◌, ℕ, Bool, true, false, cond, List, [], ◌∷◌, ◌++◌, map, Result, refl, ap, ap₂, ◌∙◌}
-use Rattle.std.specs.List.{concat, flat_map}
+-- and what closes them. By recursion on the lines.
+use Rattle.std.proofs.Common.{◌≡◌, ℕ, ◌+◌, cond, List, [], ◌∷◌, ◌++◌, map, Option, Some, Result, Ok, Err, refl, ap, ap₂, ◌∙◌}
+use Rattle.std.specs.{List.{concat, flat_map}, Result.{result_map_both}}
 use Rattle.p25_line.specs.declared.fault.LineFault.{LineFault}
 use Rattle.p25_status.specs.declared.symbols.Status.{Status}
 use Rattle.p25_text.specs.Grammar.{read_line_of}
@@ -11,69 +11,77 @@ use Rattle.p25_stations.specs.{Steps.{world_step}, WorldState.{WorldState, first
 use Rattle.p25_script.specs.{Script.{event_of}, LongScript.{long_event_of}, LongTexts.{long_step_text_of}, DuplexLines.{duplex_event_of}}
 use Rattle.p25_fragments.specs.{LongState.{LongState, first_long}, LongSteps.{long_step}}
 use Rattle.p25_duplex.specs.DuplexSteps.{DuplexState, first_duplex, duplex_step}
-use Rattle.p25_filter.specs.{Lines.{closing_by, lines_future, lines_in, read_of, refusal_in, texts_before}, LineRules.{machine_after, texts_of, told_by, written_before, written_for}}
-use Rattle.p25_filter.specs.LineFilters.{first_line, line_future}
+use Rattle.p25_filter.specs.{declared.ending.Ending.{Ending}, declared.ending.Ending.TheVariants.{BadLine}, Lines.{closing_by, lines_ending, lines_future, lines_in, read_of, refusal_in, texts_before}}
+use Rattle.p25_filter.specs.{LineRules.{LineRules, LinesTaken, first_taken, lines_taken, written_for}, LineFilters.{first_line, line_future}}
 use Rattle.p25_filter.proofs.{LinesLaws.{each_behind-none}, SameLaws.{same-future}}
 use Rattle.p25_tool.specs.{declared.build.Build.{Build}, declared.command.Command.TheVariants.{Build as BuildIt, Stations, Fragments, Duplex}}
-use Rattle.p25_tool.specs.Machines.{build_rules, duplex_rules, fragment_rules, station_rules}
+use Rattle.p25_tool.specs.Machines.{DuplexAt, LongAt, StationsAt, build_rules, script_rules, taken_by}
 use Rattle.p25_tool.specs.Outputs.{closing_line, command_future, duplex_closing_lines, duplex_step_line, long_closing_line, step_line}
 
-module _ {W E S : Type 0} (read : List ℕ → Result E LineFault) (step : W → E → W × S) (text : S → List ℕ) (closing : W → List ℕ) (wants : Bool) where
-  told : (events : List E) (w : W) → texts_of (told_by step text) w events ≡ map text (steps_by step w events)
-  unfolding texts_of steps_by
-  told [] w = refl
-  told (event ∷ events) w = ap (λ (ts : List (List ℕ)). text (step w event).1 ∷ ts) (told events (step w event).0)
+concat_texts : {S : Type 0} (text : S → List ℕ) (steps : List S) → concat (map text steps) ≡ flat_map text steps
+concat_texts text [] = refl
+concat_texts text (step ∷ steps) = ap (λ (zs : List ℕ). text step ++ zs) (concat_texts text steps)
 
-  run_behind : (events : List E) (w : W) → machine_after (told_by step text) w events ≡ run_by step w events
-  unfolding machine_after run_by
-  run_behind [] w = refl
-  run_behind (event ∷ events) w = run_behind events (step w event).0
+module _ {M W E S : Type 0} (rules : LineRules M) (wrap : W → M) (read : List ℕ → Result E LineFault) (step : W → E → W × S) (text : S → List ℕ)
+    (takes : (w : W) (line : List ℕ) → rules.take (wrap w) line ≡ taken_by wrap read step text w line) where
+  -- what events come to, before a refusal or none
+  abbrev come_of : W → List E → Option Ending → LinesTaken M
+  come_of w events refusal = record { texts = map text (steps_by step w events); machine = wrap (run_by step w events); refusal = refusal }
 
-  concat_texts : (steps : List S) → concat (map text steps) ≡ flat_map text steps
-  concat_texts [] = refl
-  concat_texts (step ∷ steps) = ap (λ (zs : List ℕ). text step ++ zs) (concat_texts steps)
+  -- what comes of lines is what the events come to that they are read as
+  came : (lines : List (List ℕ)) (number : ℕ) (w : W) → lines_taken rules.take number (wrap w) lines ≡ come_of w (read_of read lines) (refusal_in read number lines)
+  unfolding lines_taken steps_by run_by read_of refusal_in
+  came [] number w = refl
+  came (line ∷ lines) number w = ap (first_taken number (wrap w) after) (takes w line) ∙ by_read (came lines (number + 1)) (read line)
+    where
+      after : M → LinesTaken M
+      after next = lines_taken rules.take (number + 1) next lines
 
-  script-alike : (first made : W) → made ≡ first → line_future (record { read = read; step = told_by step text; closing = closing; wants = wants }) (first_line made)
-      ≡ lines_future read (steps_by step first) text (λ events. closing (run_by step first events)) wants
-  unfolding line_future written_for written_before
-  script-alike first made same =
-      ap (λ (w : W). line_future (record { read = read; step = told_by step text; closing = closing; wants = wants }) (first_line w)) same ∙ same-future
+      by_read : ((v : W) → after (wrap v) ≡ come_of v (read_of read lines) (refusal_in read (number + 1) lines)) → (is : Result E LineFault)
+          → first_taken number (wrap w) after (result_map_both (λ event. (wrap (step w event).0, text (step w event).1)) (λ fault. fault) is)
+          ≡ come_of w (elim is [ Ok event ↦ event ∷ read_of read lines | Err fault ↦ [] ])
+          (elim is [ Ok event ↦ refusal_in read (number + 1) lines | Err fault ↦ Some (BadLine number fault) ])
+      by_read rest (Ok event) = ap (λ (t : LinesTaken M). record t { texts = text (step w event).1 ∷ t.texts }) (rest (step w event).0)
+      by_read rest (Err fault) = refl
+
+  alike : (first made : W) (steps : List E → List S) (closing : List E → List ℕ) → ((events : List E) → steps_by step first events ≡ steps events)
+      → ((events : List E) → rules.closing (wrap (run_by step first events)) ≡ closing events) → made ≡ first
+      → line_future rules (first_line (wrap made)) ≡ lines_future read steps text closing rules.wants
+  unfolding line_future written_for
+  alike first made steps closing stepped closed same =
+      ap (λ (w : W). line_future rules (first_line (wrap w))) same ∙ same-future
       (λ is octets.
       let lines = lines_in is [] octets in
       let events = read_of read lines in
-      ap₂ (λ (zs : List ℕ) (w : W). zs ++ closing_by is (refusal_in read 1 lines) (closing w))
-      (ap concat (told events first) ∙ concat_texts (steps_by step first events)) (run_behind events first))
-      (λ is octets. refl)
+      ap (written_for rules is) (came lines 1 first)
+      ∙ ap₂ (λ (zs os : List ℕ). zs ++ closing_by is (refusal_in read 1 lines) os) (concat_texts text (steps_by step first events) ∙ ap (flat_map text) (stepped events)) (closed events))
+      (λ is octets. ap (λ (t : LinesTaken M). lines_ending is t.refusal) (came (lines_in is [] octets) 1 first))
       (λ is octets.
-      let events = read_of read (lines_in is [] octets) in
-      ap (λ (ts : List (List ℕ)). cond wants ts []) (each_behind-none (texts_before (texts_of (told_by step text) first events)) ∙ ap texts_before (told events first)))
+      let lines = lines_in is [] octets in
+      ap (λ (ts : List (List ℕ)). cond rules.wants ts [])
+      (each_behind-none (texts_before (lines_taken rules.take 1 (wrap first) lines).texts)
+      ∙ ap (λ (t : LinesTaken M). texts_before t.texts) (came lines 1 first) ∙ ap (λ (ss : List S). texts_before (map text ss)) (stepped (read_of read lines))))
 
-pub stations-alike : (made : WorldState) → made ≡ first_world → line_future station_rules (first_line made) ≡ command_future Stations
-stations-alike = script-alike event_of world_step step_line closing_line true first_world
+pub stations-alike : (made : WorldState) → made ≡ first_world → line_future script_rules (first_line (StationsAt made)) ≡ command_future Stations
+stations-alike made = alike script_rules StationsAt event_of world_step step_line (λ w line. refl) first_world made _ _ (λ events. refl) (λ events. refl)
 
-pub fragments-alike : (made : LongState) → made ≡ first_long → line_future fragment_rules (first_line made) ≡ command_future Fragments
-fragments-alike = script-alike long_event_of long_step long_step_text_of long_closing_line true first_long
+pub fragments-alike : (made : LongState) → made ≡ first_long → line_future script_rules (first_line (LongAt made)) ≡ command_future Fragments
+fragments-alike made = alike script_rules LongAt long_event_of long_step long_step_text_of (λ w line. refl) first_long made _ _ (λ events. refl) (λ events. refl)
 
-pub duplex-alike : (made : DuplexState) → made ≡ first_duplex → line_future duplex_rules (first_line made) ≡ command_future Duplex
-duplex-alike = script-alike duplex_event_of duplex_step duplex_step_line duplex_closing_lines true first_duplex
+pub duplex-alike : (made : DuplexState) → made ≡ first_duplex → line_future script_rules (first_line (DuplexAt made)) ≡ command_future Duplex
+duplex-alike made = alike script_rules DuplexAt duplex_event_of duplex_step duplex_step_line (λ w line. refl) first_duplex made _ _ (λ events. refl) (λ events. refl)
 
--- a step of `build` tells the unit and the status symbol
-building : Build → UnitParts → Build × (Status × UnitParts)
-building build unit = (build, (build.status, unit))
+-- a step of `build` tells its unit, and no world is behind it
+building : Unit {0} → UnitParts → Unit {0} × UnitParts
+building none unit = (none, unit)
 
-image_told : Status × UnitParts → List ℕ
-image_told told = image_octets told.0 told.1
-
-images : (status : Status) (units : List UnitParts) → flat_map image_told (steps_by building (record { status = status }) units) ≡ flat_map (image_octets status) units
-unfolding steps_by building image_told
-images status [] = refl
-images status (unit ∷ units) = ap (λ (zs : List ℕ). image_octets status unit ++ zs) (images status units)
+units-told : (none : Unit {0}) (units : List UnitParts) → steps_by building none units ≡ units
+unfolding steps_by building
+units-told none [] = refl
+units-told none (unit ∷ units) = ap (λ us. unit ∷ us) (units-told none units)
 
 pub build-alike : (status : Status) (made : Build) → made ≡ record { status = status } → line_future build_rules (first_line made) ≡ command_future (BuildIt status)
-unfolding building image_told
+unfolding building
 build-alike status made same =
-    script-alike read_line_of building image_told (λ build. []) false (record { status = status }) made same ∙ same-future
-    (λ is octets.
-    let lines = lines_in is [] octets in
-    ap (λ (zs : List ℕ). zs ++ closing_by is (refusal_in read_line_of 1 lines) []) (images status (read_of read_line_of lines)))
-    (λ is octets. refl) (λ is octets. refl)
+    ap (λ (b : Build). line_future build_rules (first_line b)) same
+    ∙ alike build_rules (λ none. record { status = status }) read_line_of building (image_octets status) (λ none line. refl) tt tt _ _ (units-told tt) (λ units. refl) refl

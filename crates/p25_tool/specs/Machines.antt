@@ -1,25 +1,53 @@
--- The rules of the commands over lines: what a line is read as, what it is answered with, and what is written at the end.
-use Rattle.std.specs.Prelude.{true, false, []}
+-- The machines of the commands over lines: what comes of each line, and what is written at the end.
+use Rattle.std.specs.{Prelude.{ℕ, true, false, List, [], Result}, Result.{result_map_both}}
+use Rattle.p25_line.specs.declared.fault.LineFault.{LineFault}
 use Rattle.p25_text.specs.Grammar.{read_line_of}
-use Rattle.p25_units.specs.{UnitParts.{UnitParts}, Units.{image_octets}}
-use Rattle.p25_stations.specs.{Steps.{world_step}, WorldState.{WorldState}, declared.step.Event.{Event}}
+use Rattle.p25_units.specs.Units.{image_octets}
+use Rattle.p25_stations.specs.{Steps.{world_step}, WorldState.{WorldState}}
 use Rattle.p25_script.specs.{Script.{event_of}, LongScript.{long_event_of}, LongTexts.{long_step_text_of}, DuplexLines.{duplex_event_of}}
-use Rattle.p25_fragments.specs.{LongState.{LongState}, LongSteps.{long_step}, declared.long_step.LongEvent.{LongEvent}}
-use Rattle.p25_duplex.specs.{DuplexSteps.{DuplexState, duplex_step}, declared.event.DuplexEvent.{DuplexEvent}}
-use Rattle.p25_filter.specs.LineRules.{LineRules, told_by}
-use Rattle.p25_tool.specs.{declared.build.Build.{Build}, Outputs.{closing_line, duplex_closing_lines, duplex_step_line, long_closing_line, step_line}}
+use Rattle.p25_fragments.specs.{LongState.{LongState}, LongSteps.{long_step}}
+use Rattle.p25_duplex.specs.DuplexSteps.{DuplexState, duplex_step}
+use Rattle.p25_filter.specs.LineRules.{LineRules}
+use Rattle.p25_tool.specs.{declared.build.Build.{Build}, declared.scripts.ScriptWorld.{ScriptWorld}}
+use Rattle.p25_tool.specs.declared.scripts.ScriptWorld.TheVariants.{Stations, Long, Duplex}
+use Rattle.p25_tool.specs.Outputs.{closing_line, duplex_closing_lines, duplex_step_line, long_closing_line, step_line}
 
 -- `build`: the octets of the unit that a line describes; nothing closes them, and no memory is wanted
-abbrev pub build_rules : LineRules Build UnitParts
-build_rules = record { read = read_line_of; step = λ build unit. (build, image_octets build.status unit); closing = λ build. []; wants = false }
+abbrev pub build_rules : LineRules Build
+build_rules = record {
+  take = λ build line. result_map_both (λ unit. (build, image_octets build.status unit)) (λ fault. fault) (read_line_of line);
+  closing = λ build. [];
+  wants = false;
+}
 
--- `stations`, `fragments` and `duplex`: the step of the event that a line tells of; what closes the run comes at the end, and a
--- step may want memory
-abbrev pub station_rules : LineRules WorldState Event
-station_rules = record { read = event_of; step = told_by world_step step_line; closing = closing_line; wants = true }
+-- the state of the world in which the events of a script happen
+pub data ScriptState : Type 0 where
+  StationsAt : WorldState → ScriptState
+  LongAt : LongState → ScriptState
+  DuplexAt : DuplexState → ScriptState
 
-abbrev pub fragment_rules : LineRules LongState LongEvent
-fragment_rules = record { read = long_event_of; step = told_by long_step long_step_text_of; closing = long_closing_line; wants = true }
+abbrev pub state_of : ScriptWorld → ScriptState
+state_of (Stations world) = StationsAt world.state
+state_of (Long world) = LongAt world.state
+state_of (Duplex world) = DuplexAt world.state
 
-abbrev pub duplex_rules : LineRules DuplexState DuplexEvent
-duplex_rules = record { read = duplex_event_of; step = told_by duplex_step duplex_step_line; closing = duplex_closing_lines; wants = true }
+-- what comes of a line of a script: the world after the step of the event that it tells of, and the text of the step
+abbrev pub taken_by : {M W E S : Type 0} → (W → M) → (List ℕ → Result E LineFault) → (W → E → W × S) → (S → List ℕ) → W → List ℕ
+    → Result (M × List ℕ) LineFault
+taken_by wrap read step text world line =
+    result_map_both (λ event. (wrap (step world event).0, text (step world event).1)) (λ fault. fault) (read line)
+
+-- what comes of a line of `stations`, `fragments` and `duplex`, and what closes a run
+abbrev pub script_take : ScriptState → List ℕ → Result (ScriptState × List ℕ) LineFault
+script_take (StationsAt world) = taken_by StationsAt event_of world_step step_line world
+script_take (LongAt world) = taken_by LongAt long_event_of long_step long_step_text_of world
+script_take (DuplexAt world) = taken_by DuplexAt duplex_event_of duplex_step duplex_step_line world
+
+abbrev pub script_closing : ScriptState → List ℕ
+script_closing (StationsAt world) = closing_line world
+script_closing (LongAt world) = long_closing_line world
+script_closing (DuplexAt world) = duplex_closing_lines world
+
+-- the machine of the three scripts: what closes the run comes at the end, and a step may want memory
+abbrev pub script_rules : LineRules ScriptState
+script_rules = record { take = script_take; closing = script_closing; wants = true }

@@ -4,13 +4,12 @@ ghost use Rattle.std.specs.Prelude.{◌≡◌};
 ghost use Rattle.p25_units.specs.Units.{IsSendableBody, image_octets};
 
 use p25_bits::BitBuf;
-use p25_filter::LineMachine;
-use p25_line::{Line, LineFault};
+use p25_filter::{LineMachine, NotTaken};
+use p25_line::Line;
 use p25_recording_filters::parts::put_octets;
 use p25_status::Status;
 use p25_text::read_line;
 use p25_units::{Frame, Unit, image};
-use std::alloc::AllocError;
 
 // The units that the lines of an input describe, with one status symbol everywhere.
 #[derive(Drop)]
@@ -19,23 +18,14 @@ pub(crate) struct Build {
 }
 
 impl LineMachine for Build {
-    ghost use Rattle.p25_units.specs.Units.{IsSendableBody};
     ghost use Rattle.p25_tool.specs.{Machines.{build_rules}, LongLines.{build_long}};
-
-    type Event = Unit;
 
     ghost rules = { build_rules };
 
-    ghost IsRead = { λ unit. IsSendableBody unit.body };
-
     ghost long = { build_long };
 
-    fn read(line: &[u8]) -> Result<Unit, LineFault> {
-        read_line(line)
-    }
-
-    fn take(&mut self, event: Unit, out: &mut Line) -> Result<Option<Line>, AllocError> {
-        put_image(event, self.status, out);
+    fn take_line(&mut self, line: &[u8], out: &mut Line) -> Result<Option<Line>, NotTaken> {
+        put_image(read_line(line).map_err(NotTaken::Fault)?, self.status, out);
         Ok(None)
     }
 

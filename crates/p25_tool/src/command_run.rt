@@ -11,7 +11,7 @@ use super::build::Build;
 use super::command::Command;
 use super::outcome::{Outcome, outcome_of};
 use super::sampling::run_sample;
-use super::scripts::{Duplex, Fragments, Stations};
+use super::scripts::{Script, ScriptWorld};
 use super::words::Words;
 use p25_duplex::DuplexWorld;
 use p25_filter::{FilterEnd, LineFilter, LineMachine};
@@ -115,10 +115,10 @@ fn run_command<P: Port>(alloc: Global, command: Command, port: &mut P) -> Filter
         }
         Command::Follow => run_report(Followed::new(), port),
         Command::Build { status } => run_lines(Build { status }, port),
-        Command::Stations => run_lines(Stations(World::new(alloc)), port),
+        Command::Stations => run_lines(Script(ScriptWorld::Stations(World::new(alloc))), port),
         Command::Calls => run_report(Calls::new(), port),
-        Command::Duplex => run_lines(Duplex(DuplexWorld::new(alloc)), port),
-        Command::Fragments => run_lines(Fragments(LongWorld::new(alloc)), port),
+        Command::Duplex => run_lines(Script(ScriptWorld::Duplex(DuplexWorld::new(alloc))), port),
+        Command::Fragments => run_lines(Script(ScriptWorld::Long(LongWorld::new(alloc))), port),
         Command::Soft => run_soft(port),
         Command::Sample { count } => run_sample(count, port),
     }

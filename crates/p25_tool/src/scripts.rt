@@ -3,133 +3,75 @@
 ghost use Rattle.std.specs.Prelude.{◌≡◌};
 ghost use Rattle.p25_tool.specs.Outputs.{duplex_closing_lines};
 
-use p25_duplex::{DuplexEvent, DuplexWorld, Side};
-use p25_filter::LineMachine;
-use p25_fragments::{LongEvent, LongWorld};
-use p25_line::{Line, LineFault};
+use p25_duplex::{DuplexWorld, Side};
+use p25_filter::{LineMachine, NotTaken};
+use p25_fragments::LongWorld;
+use p25_line::Line;
 use p25_script::{
-    Event, World, closing_text, duplex_closing, duplex_step_text, long_closing_text,
-    long_step_text, read_duplex_event, read_event, read_long_event, step_text,
+    closing_text, duplex_closing, duplex_step_text, long_closing_text, long_step_text,
+    read_duplex_event, read_event, read_long_event, step_text,
 };
-use std::alloc::AllocError;
+use p25_stations::World;
 use std::marker::Model;
 
 // The world in which the events of a script happen.
 #[derive(Drop)]
-pub(crate) struct Stations(pub(crate) World);
-
-impl Model for Stations {
-    ghost use Rattle.p25_stations.specs.WorldState.{WorldState};
-
-    ghost Value = { WorldState };
-
-    ghost view = { λ s. s.0.state };
+pub(crate) enum ScriptWorld {
+    Stations(World),
+    Long(LongWorld),
+    Duplex(DuplexWorld),
 }
 
-impl LineMachine for Stations {
-    ghost use Rattle.std.specs.Prelude.{⊤};
-    ghost use Rattle.p25_tool.specs.{Machines.{station_rules}, LongLines.{station_long}};
-
-    type Event = Event;
-
-    ghost rules = { station_rules };
-
-    ghost IsRead = { λ _. ⊤ };
-
-    ghost long = { station_long };
-
-    fn read(line: &[u8]) -> Result<Event, LineFault> {
-        read_event(line)
-    }
-
-    fn take(&mut self, event: Event, out: &mut Line) -> Result<Option<Line>, AllocError> {
-        step_text(&self.0.step(&event)?, out);
-        out.put(b"\n");
-        Ok(None)
-    }
-
-    fn close(&self, out: &mut Line) {
-        closing_text(&self.0, out);
-        out.put(b"\n");
-    }
-}
-
-// The world in which the events of a script of long messages happen.
+// The machine over the lines of a script.
 #[derive(Drop)]
-pub(crate) struct Fragments(pub(crate) LongWorld);
+pub(crate) struct Script(pub(crate) ScriptWorld);
 
-impl Model for Fragments {
-    ghost use Rattle.p25_fragments.specs.LongState.{LongState};
+impl Model for Script {
+    ghost use Rattle.p25_tool.specs.Machines.{ScriptState, state_of};
 
-    ghost Value = { LongState };
+    ghost Value = { ScriptState };
 
-    ghost view = { λ s. s.0.state };
+    ghost view = { λ s. state_of s.0 };
 }
 
-impl LineMachine for Fragments {
-    ghost use Rattle.std.specs.Prelude.{⊤};
-    ghost use Rattle.p25_tool.specs.{Machines.{fragment_rules}, LongLines.{fragment_long}};
+impl LineMachine for Script {
+    ghost use Rattle.p25_tool.specs.{Machines.{script_rules}, LongLines.{script_long}};
 
-    type Event = LongEvent;
+    ghost rules = { script_rules };
 
-    ghost rules = { fragment_rules };
+    ghost long = { script_long };
 
-    ghost IsRead = { λ _. ⊤ };
-
-    ghost long = { fragment_long };
-
-    fn read(line: &[u8]) -> Result<LongEvent, LineFault> {
-        read_long_event(line)
-    }
-
-    fn take(&mut self, event: LongEvent, out: &mut Line) -> Result<Option<Line>, AllocError> {
-        let mut behind = Line::new();
-        long_step_text(&self.0.step(&event)?, out, &mut behind);
-        Ok(Some(behind))
+    fn take_line(&mut self, line: &[u8], out: &mut Line) -> Result<Option<Line>, NotTaken> {
+        match &mut self.0 {
+            ScriptWorld::Stations(world) => {
+                let event = read_event(line).map_err(NotTaken::Fault)?;
+                step_text(&world.step(&event).map_err(|_| NotTaken::Memory)?, out);
+                out.put(b"\n");
+                Ok(None)
+            }
+            ScriptWorld::Long(world) => {
+                let event = read_long_event(line).map_err(NotTaken::Fault)?;
+                let step = world.step(&event).map_err(|_| NotTaken::Memory)?;
+                let mut behind = Line::new();
+                long_step_text(&step, out, &mut behind);
+                Ok(Some(behind))
+            }
+            ScriptWorld::Duplex(world) => {
+                let event = read_duplex_event(line).map_err(NotTaken::Fault)?;
+                duplex_step_text(&world.step(&event).map_err(|_| NotTaken::Memory)?, out);
+                out.put(b"\n");
+                Ok(None)
+            }
+        }
     }
 
     fn close(&self, out: &mut Line) {
-        long_closing_text(&self.0, out);
+        match &self.0 {
+            ScriptWorld::Stations(world) => closing_text(world, out),
+            ScriptWorld::Long(world) => long_closing_text(world, out),
+            ScriptWorld::Duplex(world) => return put_closing_lines(world, out),
+        }
         out.put(b"\n");
-    }
-}
-
-// The world in which the events of a script of both stations happen.
-#[derive(Drop)]
-pub(crate) struct Duplex(pub(crate) DuplexWorld);
-
-impl Model for Duplex {
-    ghost use Rattle.p25_duplex.specs.DuplexSteps.{DuplexState};
-
-    ghost Value = { DuplexState };
-
-    ghost view = { λ d. d.0.state };
-}
-
-impl LineMachine for Duplex {
-    ghost use Rattle.std.specs.Prelude.{⊤};
-    ghost use Rattle.p25_tool.specs.{Machines.{duplex_rules}, LongLines.{duplex_long}};
-
-    type Event = DuplexEvent;
-
-    ghost rules = { duplex_rules };
-
-    ghost IsRead = { λ _. ⊤ };
-
-    ghost long = { duplex_long };
-
-    fn read(line: &[u8]) -> Result<DuplexEvent, LineFault> {
-        read_duplex_event(line)
-    }
-
-    fn take(&mut self, event: DuplexEvent, out: &mut Line) -> Result<Option<Line>, AllocError> {
-        duplex_step_text(&self.0.step(&event)?, out);
-        out.put(b"\n");
-        Ok(None)
-    }
-
-    fn close(&self, out: &mut Line) {
-        put_closing_lines(&self.0, out);
     }
 }
 
