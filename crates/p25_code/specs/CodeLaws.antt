@@ -54,4 +54,4 @@ columns_of {information} {checks} {radius} code = code.rows ++ check_columns che
 
 -- its shape, as code has it
 abbrev pub shape_of : {information checks radius : ℕ} → SystematicCode information checks radius → Shape
-shape_of {information} {checks} {radius} code = record { 0 = information; 1 = checks; 2 = radius }
+shape_of {information} {checks} {radius} code = record { information = information; checks = checks; radius = radius }

@@ -13,7 +13,11 @@ use p25_code::{CheckedCode, Shape};
 pub struct Golay18;
 
 impl CheckedCode for Golay18 {
-    const SHAPE: Shape = Shape(6, 12, 3);
+    const SHAPE: Shape = Shape {
+        information: 6,
+        checks: 12,
+        radius: 3,
+    };
 
     ghost SHAPE = { shape_of golay18_code };
 

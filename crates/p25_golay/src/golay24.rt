@@ -37,7 +37,11 @@ static MESSAGES: [[u16; 64]; 2] = [
 ];
 
 impl CheckedCode for Golay24 {
-    const SHAPE: Shape = Shape(12, 12, 3);
+    const SHAPE: Shape = Shape {
+        information: 12,
+        checks: 12,
+        radius: 3,
+    };
 
     ghost SHAPE = { shape_of golay24_code };
 

@@ -21,7 +21,11 @@ static CHECKS: [u16; 64] = sums! {
 };
 
 impl CheckedCode for Hamming10 {
-    const SHAPE: Shape = Shape(6, 4, 1);
+    const SHAPE: Shape = Shape {
+        information: 6,
+        checks: 4,
+        radius: 1,
+    };
 
     ghost SHAPE = { shape_of hamming10_code };
 

@@ -32,7 +32,11 @@ static MESSAGES: [u16; 256] = sums! {
 };
 
 impl CheckedCode for Lsd16 {
-    const SHAPE: Shape = Shape(8, 8, 2);
+    const SHAPE: Shape = Shape {
+        information: 8,
+        checks: 8,
+        radius: 2,
+    };
 
     ghost SHAPE = { shape_of lsd16_code };
 

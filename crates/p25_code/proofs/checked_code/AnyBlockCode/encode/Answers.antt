@@ -6,6 +6,6 @@ use Rattle.p25_code.proofs.checked_code.AnyBlockCode.encode.Goals as goal
 pub returns : goal.returns
 returns g c =
     let shape = g.C.CheckedCode.SHAPE in
-    encode_by_number g.C.CheckedCode.code.IsWord shape.0 (shape.0 + shape.1)
+    encode_by_number g.C.CheckedCode.code.IsWord shape.information (shape.information + shape.checks)
     c.args.info.now c.put_number.new.bits c.number_of.result c.encode_number.result c.requires.info
     c.number_of.ensures.value c.encode_number.ensures.encoding (c.put_number.ensures ∙ ap₂ bits_of c.requires.word c.from.ensures)

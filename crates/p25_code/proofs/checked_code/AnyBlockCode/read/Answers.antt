@@ -6,6 +6,6 @@ pub returns : goal.returns
 returns g c =
     let shape = g.C.CheckedCode.SHAPE in
     let code = g.C.CheckedCode.code in
-    read_by_number code.IsWord shape.2 (shape.0 + shape.1) code.is.reading code.is.reads
+    read_by_number code.IsWord shape.radius (shape.information + shape.checks) code.is.reading code.is.reads
     c.args.word.now c.put_reading.new.word c.number_of-received.result c.read_number.result c.put_reading.result
     c.requires.word c.number_of-received.ensures.value c.read_number.ensures.reading c.put_reading.ensures

@@ -4,10 +4,10 @@ use Rattle.p25_code.proofs.checked_code.AnyNumberCode.encode_number.Goals as goa
 
 pub returns-clause-encoding : goal.returns-clause-encoding
 returns-clause-encoding g c =
-    encodes_number g.C.CheckedCode.code c.args.info c.from.result _ c.SHAPE.result.1 c.requires.info
-    (c.from.ensures ∙ c.check_bits.ensures) (ap (λ s. s.1) c.SHAPE.ensures) refl
+    encodes_number g.C.CheckedCode.code c.args.info c.from.result _ c.SHAPE.result.checks c.requires.info
+    (c.from.ensures ∙ c.check_bits.ensures) (ap (λ s. s.checks) c.SHAPE.ensures) refl
 
 pub returns-clause-fits : goal.returns-clause-fits
 returns-clause-fits g c =
-    word_fits g.C.CheckedCode.code c.args.info c.from.result _ c.SHAPE.result.1 c.requires.info
-    (c.from.ensures ∙ c.check_bits.ensures) (ap (λ s. s.1) c.SHAPE.ensures) refl
+    word_fits g.C.CheckedCode.code c.args.info c.from.result _ c.SHAPE.result.checks c.requires.info
+    (c.from.ensures ∙ c.check_bits.ensures) (ap (λ s. s.checks) c.SHAPE.ensures) refl
