@@ -2,7 +2,7 @@
 use Rattle.std.specs.{Prelude.{◌≡◌, ℕ, ◌+◌, Bool, true, List, [], ◌∷◌, ◌++◌, Option, Some, None, Result, Ok, Err, IsOk}, List.{concat}}
 use Rattle.p25_line.specs.declared.fault.LineFault.{LineFault}
 use Rattle.p25_filter.specs.{declared.ending.Ending.{Ending}, declared.ending.Ending.TheVariants.{BadLine}, Lines.{closing_by}}
-use Rattle.p25_filter.specs.{declared.line_machine.NotTaken.{NotTaken}, declared.line_machine.NotTaken.TheVariants.{Fault, Memory}}
+use Rattle.p25_filter.specs.{declared.line_machine.LineRefusal.{LineRefusal}, declared.line_machine.LineRefusal.TheVariants.{Fault, Memory}}
 
 -- a machine over lines: the machine after a line and the text for it, or the line's fault; what is written at the end of the input;
 -- and whether memory may be wanting for a line
@@ -21,7 +21,7 @@ abbrev pub IsWanting : {M : Type 0} → LineRules M → M → List ℕ → Type 
 IsWanting rules machine line = (rules.wants ≡ true) × IsOk (rules.take machine line)
 
 -- a line was taken, and the text for it given out in one piece or two; or it was not, and the machine is as it was
-abbrev pub IsLineTaken : {M : Type 0} → LineRules M → M → List ℕ → Result (Option (List ℕ)) NotTaken → List ℕ → M → Type 0
+abbrev pub IsLineTaken : {M : Type 0} → LineRules M → M → List ℕ → Result (Option (List ℕ)) LineRefusal → List ℕ → M → Type 0
 IsLineTaken rules machine line (Ok second) out now = rules.take machine line ≡ Ok (now, both_pieces out second)
 IsLineTaken rules machine line (Err Memory) out now = (now ≡ machine) × IsWanting rules machine line
 IsLineTaken rules machine line (Err (Fault fault)) out now = (now ≡ machine) × (rules.take machine line ≡ Err fault)

@@ -36,7 +36,7 @@ pub use ending::{Ending, FilterEnd, Refusal};
 pub use filter::Filter;
 pub use input::run_on;
 pub use line_filter::LineFilter;
-pub use line_machine::{LineMachine, NotTaken};
+pub use line_machine::{LineMachine, LineRefusal};
 
 #[cfg(test)]
 mod tests;

@@ -5,7 +5,7 @@ ghost use Rattle.p25_filter.specs.LineFilters.{first_line, lines_ready, IsLineGi
 
 use super::ending::{Ending, Refusal};
 use super::filter::Filter;
-use super::line_machine::{LineMachine, NotTaken};
+use super::line_machine::{LineMachine, LineRefusal};
 use arrayvec::ArrayVec;
 use p25_line::Line;
 use std::marker::Model;
@@ -83,7 +83,7 @@ impl<M: LineMachine> LineFilter<M> {
         requires none { self.old.behind ≡ None }
         ensures { IsLineGiven M.rules phase self.old result out.new self.new }
     {
-        match self.machine.take_line(self.line.as_slice(), out) {
+        match self.machine.take(self.line.as_slice(), out) {
             Ok(second) => {
                 hold(&mut self.behind, second);
                 self.line.clear();
@@ -91,11 +91,11 @@ impl<M: LineMachine> LineFilter<M> {
                 self.phase = phase;
                 Ok(true)
             }
-            Err(NotTaken::Fault(fault)) => Err(Refusal::Ended(Ending::BadLine {
+            Err(LineRefusal::Fault(fault)) => Err(Refusal::Ended(Ending::BadLine {
                 line: self.lines + 1,
                 fault,
             })),
-            Err(NotTaken::Memory) => Err(Refusal::Memory),
+            Err(LineRefusal::Memory) => Err(Refusal::Memory),
         }
     }
 

@@ -7,13 +7,13 @@ ghost use Rattle.p25_filter.specs.LineRules.{IsLineTaken, LineRules};
 use p25_line::{Line, LineFault};
 use thiserror::Error;
 
-/// Why a machine did not take a line.
+/// Why a line was not taken. It is shown as the word of the fault, or as the program tells of memory; no clause says so.
 #[derive(Clone, Copy, Debug, PartialEq, Eq, Error)]
-pub enum NotTaken {
-    /// The line is refused.
+pub enum LineRefusal {
+    /// The line is refused, for this cause.
     #[error("{0}")]
     Fault(LineFault),
-    /// There is not enough memory.
+    /// The line has no fault, and there is not enough memory for it.
     #[error("out of memory")]
     Memory,
 }
@@ -28,7 +28,7 @@ pub trait LineMachine {
     /// Takes a line, without the LF that ends it. Sets `out` to the text for it, or to the first of the two pieces of the text,
     /// and answers the second piece where there is one. Or answers why the line is not taken, and the machine is as before;
     /// memory is wanting only where it may be, and for a line without a fault.
-    fn take_line(&mut self, line: &[u8], out: &mut Line) -> Result<Option<Line>, NotTaken>
+    fn take(&mut self, line: &[u8], out: &mut Line) -> Result<Option<Line>, LineRefusal>
         ensures { IsLineTaken rules self.old line.now result out.new self.new };
 
     /// Sets `out` to what is written at the end of the input.

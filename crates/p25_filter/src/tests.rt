@@ -15,12 +15,12 @@ impl LineMachine for Echo {
 
     ghost rules = { echo_rules };
 
-    fn take_line(&mut self, line: &[u8], out: &mut Line) -> Result<Option<Line>, NotTaken> {
+    fn take(&mut self, line: &[u8], out: &mut Line) -> Result<Option<Line>, LineRefusal> {
         if line.len() > 8_192 {
-            return Err(NotTaken::Fault(LineFault::Long));
+            return Err(LineRefusal::Fault(LineFault::Long));
         }
         if line.len() == 0 {
-            return Err(NotTaken::Fault(LineFault::Form));
+            return Err(LineRefusal::Fault(LineFault::Form));
         }
         out.clear();
         out.put(line);

@@ -4,7 +4,7 @@ ghost use Rattle.std.specs.Prelude.{◌≡◌};
 ghost use Rattle.p25_units.specs.Units.{IsSendableBody, image_octets};
 
 use p25_bits::BitBuf;
-use p25_filter::{LineMachine, NotTaken};
+use p25_filter::{LineMachine, LineRefusal};
 use p25_line::Line;
 use p25_recording_filters::parts::put_octets;
 use p25_status::Status;
@@ -24,8 +24,9 @@ impl LineMachine for Build {
 
     ghost long = { build_long };
 
-    fn take_line(&mut self, line: &[u8], out: &mut Line) -> Result<Option<Line>, NotTaken> {
-        put_image(read_line(line).map_err(NotTaken::Fault)?, self.status, out);
+    fn take(&mut self, line: &[u8], out: &mut Line) -> Result<Option<Line>, LineRefusal> {
+        let unit = read_line(line).map_err(LineRefusal::Fault)?;
+        put_image(unit, self.status, out);
         Ok(None)
     }
 

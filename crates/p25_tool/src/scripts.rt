@@ -4,7 +4,7 @@ ghost use Rattle.std.specs.Prelude.{◌≡◌};
 ghost use Rattle.p25_tool.specs.Outputs.{duplex_closing_lines};
 
 use p25_duplex::{DuplexWorld, Side};
-use p25_filter::{LineMachine, NotTaken};
+use p25_filter::{LineMachine, LineRefusal};
 use p25_fragments::LongWorld;
 use p25_line::Line;
 use p25_script::{
@@ -41,24 +41,24 @@ impl LineMachine for Script {
 
     ghost long = { script_long };
 
-    fn take_line(&mut self, line: &[u8], out: &mut Line) -> Result<Option<Line>, NotTaken> {
+    fn take(&mut self, line: &[u8], out: &mut Line) -> Result<Option<Line>, LineRefusal> {
         match &mut self.0 {
             ScriptWorld::Stations(world) => {
-                let event = read_event(line).map_err(NotTaken::Fault)?;
-                step_text(&world.step(&event).map_err(|_| NotTaken::Memory)?, out);
+                let event = read_event(line).map_err(LineRefusal::Fault)?;
+                step_text(&world.step(&event).map_err(|_| LineRefusal::Memory)?, out);
                 out.put(b"\n");
                 Ok(None)
             }
             ScriptWorld::Long(world) => {
-                let event = read_long_event(line).map_err(NotTaken::Fault)?;
-                let step = world.step(&event).map_err(|_| NotTaken::Memory)?;
+                let event = read_long_event(line).map_err(LineRefusal::Fault)?;
+                let step = world.step(&event).map_err(|_| LineRefusal::Memory)?;
                 let mut behind = Line::new();
                 long_step_text(&step, out, &mut behind);
                 Ok(Some(behind))
             }
             ScriptWorld::Duplex(world) => {
-                let event = read_duplex_event(line).map_err(NotTaken::Fault)?;
-                duplex_step_text(&world.step(&event).map_err(|_| NotTaken::Memory)?, out);
+                let event = read_duplex_event(line).map_err(LineRefusal::Fault)?;
+                duplex_step_text(&world.step(&event).map_err(|_| LineRefusal::Memory)?, out);
                 out.put(b"\n");
                 Ok(None)
             }

@@ -10,7 +10,7 @@ pub returns-in-Ok : goal.returns-in-Ok
 returns-in-Ok g c =
     let s = c.self.inside in (
       refl,
-      text-taken g.M.LineMachine.rules c.args.self.now s.machine c.take_line.new.self _ s.line.items _ s.lines s.behind _ c.take_line.new.out s.phase c.args.phase
+      text-taken g.M.LineMachine.rules c.args.self.now s.machine c.take.new.self _ s.line.items _ s.lines s.behind _ c.take.new.out s.phase c.args.phase
           c.self.view_is c.as_slice.ensures.value c.clear.ensures
-          (c.in-Ok.ensures ∙ ap (λ b. Ok (c.take_line.new.self, both_pieces c.take_line.new.out b)) (sym c.hold.ensures)),
+          (c.in-Ok.ensures ∙ ap (λ b. Ok (c.take.new.self, both_pieces c.take.new.out b)) (sym c.hold.ensures)),
     )
