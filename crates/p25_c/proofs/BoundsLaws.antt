@@ -66,9 +66,7 @@ first-bounded at bits (Whole place frame fixes) is some most =
 first-bounded at bits (Broken place count nac duid fields) is some most =
     let sound = subst IsSoundItem (sym is) (IsSoundItem-first_item at bits) in
     record { some = some; most = most; nac = sound.nac_fits; duid = sound.duid_fits }
-first-bounded at bits (NoUnit place field) is some most = record { some = some; most = most; nac = omega arith; duid = omega arith }
-first-bounded at bits (Gap place count) is some most = record { some = some; most = most; nac = omega arith; duid = omega arith }
-first-bounded at bits (Cut place have) is some most = record { some = some; most = most; nac = omega arith; duid = omega arith }
+first-bounded at bits item is some most = record { some = some; most = most; nac = omega arith; duid = omega arith }
 
 pub items-bounded : ItemsAreBounded
 items-bounded ended begin from octets item items asked =
@@ -116,10 +114,7 @@ Makes change =
 module _ (change : Item → List Bool → List Bool) (makes : Makes change) where
   first-made : (at : ℕ) (bits : List Bool) (item : Item) (items : List Item) → item ≡ first_item at bits → IfOk (first_changed change (item ∷ items) bits) AreUnitOctets
   first-made at bits (Whole place frame fixes) items is = makes at bits place frame fixes (sym is) (take (covered (Whole place frame fixes)) bits)
-  first-made at bits (Broken place count nac duid fields) items is = tt
-  first-made at bits (NoUnit place field) items is = tt
-  first-made at bits (Gap place count) items is = tt
-  first-made at bits (Cut place have) items is = tt
+  first-made at bits item items is = tt
 
   items-made : (at : ℕ) (bits : List Bool) (items : List Item) → items_by true at bits ≡ items → IfOk (first_changed change items bits) AreUnitOctets
   items-made at bits [] is = tt

@@ -1,6 +1,6 @@
 -- What is written under a network access code (NAC) and with a status symbol, by their numbers; and units at the beginning of octets.
 use Rattle.std.proofs.Common.{◌≡◌, ℕ, ℤ, pos, ◌+◌, ◌*◌, ◌<◌, ◌&&◌, inl, inr, Bool, true, List, [], length, Result, Option, Some, refl, ap, subst, sym, ◌∙◌, arith, to_z, of_z, w32}
-use Rattle.std.proofs.lemmas.Bool.{le-leb}
+use Rattle.std.proofs.lemmas.{Bool.{le-leb}, Int.{to_z-of_z}}
 use Rattle.p25_bits.specs.Bits.{octet_bits}
 use Rattle.p25_status.specs.{Status.{same_status, status_number}, declared.symbols.Status.{Status}}
 use Rattle.p25_stream.specs.{Items.{items_of}, Repeats.{bridged, repaired}}
@@ -8,16 +8,28 @@ use Rattle.p25_units.specs.declared.item.Item.{Item}
 use Rattle.p25_c.specs.{Building.{IsRefused, IsWritingUnder, unit_bridged, unit_repaired, wrong_nac, wrong_status}, Items.{is_inside, items_asked}, Places.{asked_changed, bridged_at, repaired_at}}
 use Rattle.p25_c.specs.Rooms.{IsWriting}
 use Rattle.p25_c.proofs.ItemsLaws.{items_asked-inside}
+use mir.Val.{SFits}
+
+-- ---- answers of 32 bits
+
+-- what is answered of another call is told as it is
+pub writing-told : (what : Result (List ℕ) ℤ) (room left : List ℕ) (answer : ℤ) → SFits w32 answer → IsWriting what room left answer
+    → IsWriting what room left (to_z w32 (of_z w32 answer))
+writing-told what room left answer fits written = subst (IsWriting what room left) (sym (to_z-of_z w32 answer fits)) written
+
+pub told-back : (answer : ℤ) {told : ℤ} → SFits w32 answer → to_z w32 (of_z w32 answer) ≡ told → answer ≡ told
+told-back answer fits same = sym (to_z-of_z w32 answer fits) ∙ same
 
 -- ---- under two numbers
 
 -- with the symbol of its number
-pub under-sent : (nac status : ℕ) (symbol : Status) (what : Status → Result (List ℕ) ℤ) (room left : List ℕ) (answer : ℤ) → (nac < 4096) × (status_number symbol ≡ status)
-    → IsWriting (what symbol) room left answer → IsWritingUnder nac status what room left answer
-under-sent nac status symbol what room left answer fits written = record {
-  strange_code = λ above. absurd (omega (arith, above, fits.0));
-  strange_symbol = λ few above. absurd (omega (arith, above, fits.1, symbol.below));
-  sent = λ few other number. subst (λ (s : Status). IsWriting (what s) room left answer) (same_status symbol other (fits.1 ∙ sym number)) written;
+pub under-sent : (nac status : ℕ) (symbol : Status) (what : Status → Result (List ℕ) ℤ) (room left : List ℕ) (answer : ℤ) → SFits w32 answer
+    → (nac < 4096) × (status_number symbol ≡ status) → IsWriting (what symbol) room left answer → IsWritingUnder nac status what room left (to_z w32 (of_z w32 answer))
+under-sent nac status symbol what room left answer fits sent written = record {
+  strange_code = λ above. absurd (omega (arith, above, sent.0));
+  strange_symbol = λ few above. absurd (omega (arith, above, sent.1, symbol.below));
+  sent = λ few other number. subst (λ (s : Status). IsWriting (what s) room left (to_z w32 (of_z w32 answer))) (same_status symbol other (sent.1 ∙ sym number))
+      (writing-told (what symbol) room left answer fits written);
 }
 
 -- where one of the two is too large
@@ -56,12 +68,12 @@ pub refused-none : (nac status count : ℕ) (answer : ℤ) → IsRefused nac sta
 refused-none nac status count answer refused same = not-counted nac status count answer refused (sym (refused-same nac status answer refused) ∙ same)
 
 -- the same is written of what is the same
-pub under-as : (nac status : ℕ) (what other : Status → Result (List ℕ) ℤ) (room left : List ℕ) (answer : ℤ) → ((symbol : Status) → what symbol ≡ other symbol)
-    → IsWritingUnder nac status what room left answer → IsWritingUnder nac status other room left answer
-under-as nac status what other room left answer same written = record {
-  strange_code = written.strange_code;
-  strange_symbol = written.strange_symbol;
-  sent = λ few symbol number. subst (λ (r : Result (List ℕ) ℤ). IsWriting r room left answer) (same symbol) (written.sent few symbol number);
+pub under-as : (nac status : ℕ) (what other : Status → Result (List ℕ) ℤ) (room left : List ℕ) (answer : ℤ) → SFits w32 answer → ((symbol : Status) → what symbol ≡ other symbol)
+    → IsWritingUnder nac status what room left answer → IsWritingUnder nac status other room left (to_z w32 (of_z w32 answer))
+under-as nac status what other room left answer fits same written = record {
+  strange_code = λ above. writing-told _ room left answer fits (written.strange_code above);
+  strange_symbol = λ few above. writing-told _ room left answer fits (written.strange_symbol few above);
+  sent = λ few symbol number. writing-told _ room left answer fits (subst (λ (r : Result (List ℕ) ℤ). IsWriting r room left answer) (same symbol) (written.sent few symbol number));
 }
 
 -- ---- from the first bit on

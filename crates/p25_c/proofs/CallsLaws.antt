@@ -17,6 +17,26 @@ inside-bounds begin from count yes' =
     let before = first_so _ _ yes' in
     (leb-true begin from (second_so _ _ (first_so _ _ before)), leb-true from (begin + 8 * count) (second_so _ _ before))
 
+-- where bits begin with an item, they and more begin with it, and go on behind it
+pub told-first : (ended : Bool) (from : ℕ) (here more : List Bool) (item : Item) (items : List Item) → items_by ended from here ≡ item ∷ items → (ended ≡ true → more ≡ [])
+    → (covered item ≤ length here) × (items_by true from (here ++ more) ≡ item ∷ items_by true (from + covered item) (drop (covered item) here ++ more))
+told-first ended from here more item items some goes =
+    let parts = items_by-first ended from here item items some in
+    let fits = covered-first_item from here parts.0 in
+    let there : covered item ≤ length here = subst (λ (i : Item). covered i ≤ length here) (sym parts.1) fits.1 in
+    let before : Scan = record { place = from; held = here; finished = ended } in
+    let now : Scan = record { place = from + covered item; held = drop (covered item) here; finished = ended } in
+    let gave : Gave before item (take (covered item) here) now = record {
+      items = some ∙ ap (λ (xs : List Item). item ∷ xs) parts.2;
+      some = subst (λ (i : Item). 0 < covered i) (sym parts.1) fits.0;
+      there = there;
+      raw_bits = refl;
+      left = refl;
+      place = refl;
+      same = refl;
+    } in
+    (there, gave-items before now item (take (covered item) here) true more gave (λ done. (refl, goes done)))
+
 module _ (recording : List ℕ) (from : ℕ) (piece : Given) (is : IsPiece recording piece) where
   abbrev bits : List Bool
   bits = octet_bits recording
@@ -48,25 +68,12 @@ module _ (recording : List ℕ) (from : ℕ) (piece : Given) (is : IsPiece recor
       let bounds = inside-bounds piece.begin from (length piece.octets) asked.0 in
       let more = octet_bits is.after in
       let joined = piece-bits bounds.0 bounds.1 in
-      let parts = items_by-first piece.ended from here first items asked.1 in
-      let fits = covered-first_item from here parts.0 in
-      let before : Scan = record { place = from; held = here; finished = piece.ended } in
-      let now : Scan = record { place = from + covered first; held = drop (covered first) here; finished = piece.ended } in
-      let there : covered first ≤ length here = subst (λ (i : Item). covered i ≤ length here) (sym parts.1) fits.1 in
-      let gave : Gave before first (take (covered first) here) now = record {
-        items = asked.1 ∙ ap (λ (xs : List Item). first ∷ xs) parts.2;
-        some = subst (λ (i : Item). 0 < covered i) (sym parts.1) fits.0;
-        there = there;
-        raw_bits = refl;
-        left = refl;
-        place = refl;
-        same = refl;
-      } in
+      let next = told-first piece.ended from here more first items asked.1 (λ ended. ap octet_bits (is.ends ended) ∙ octet_bits-nil) in
       let later : drop (covered first) here ++ more ≡ drop (from + covered first) bits
-      = sym (drop-append-le (covered first) here more there) ∙ ap (drop (covered first)) (sym joined) ∙ drop-drop (covered first) from bits in
+      = sym (drop-append-le (covered first) here more next.0) ∙ ap (drop (covered first)) (sym joined) ∙ drop-drop (covered first) from bits in
       let told : items_by true from (drop from bits) ≡ first ∷ items_by true (from + covered first) (drop (from + covered first) bits)
       = ap (items_by true from) joined
-      ∙ gave-items before now first (take (covered first) here) true more gave (λ ended. (refl, ap octet_bits (is.ends ended) ∙ octet_bits-nil))
+      ∙ next.1
       ∙ ap (λ (zs : List Bool). first ∷ items_by true (from + covered first) zs) later in
       subst (λ (i : Item). items_by true from (drop from bits) ≡ i ∷ items_by true (from + covered i) (drop (from + covered i) bits)) same told
 

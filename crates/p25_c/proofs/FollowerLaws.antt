@@ -55,18 +55,12 @@ told-back reached parts few =
 piece-told : (parts : FollowedParts) (item : Item) (raw : List Bool) → followed_reporting.piece parts (item_held (parts_of item)) raw ≡ followed_reporting.piece parts item raw
 unfolding written_before written_item
 piece-told parts (Whole place frame fixes) raw = refl
-piece-told parts (Broken place count nac duid fields) raw = refl
-piece-told parts (NoUnit place field) raw = refl
-piece-told parts (Gap place count) raw = refl
-piece-told parts (Cut place have) raw = refl
+piece-told parts item raw = refl
 
 behind-told : (parts : FollowedParts) (item : Item) (raw : List Bool) → followed_reporting.behind parts (item_held (parts_of item)) raw ≡ followed_reporting.behind parts item raw
 unfolding written_before written_item behind_item
 behind-told parts (Whole place frame fixes) raw = refl
-behind-told parts (Broken place count nac duid fields) raw = refl
-behind-told parts (NoUnit place field) raw = refl
-behind-told parts (Gap place count) raw = refl
-behind-told parts (Cut place have) raw = refl
+behind-told parts item raw = refl
 
 -- ---- a series
 

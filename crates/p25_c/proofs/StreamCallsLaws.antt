@@ -1,15 +1,14 @@
 -- What a series of calls on a stream tells, by induction on the calls: the bits that are left have the items that were not told.
-use Rattle.std.proofs.Common.{◌≡◌, ℕ, ◌+◌, ◌-◌, ◌*◌, ◌<◌, ◌≤◌, inl, inr, Bool, true, false, List, [], ◌∷◌, ◌++◌, length, take, drop, Option, Some, None, refl, ap, ap₂, sym, subst, ◌∙◌, arith, append_assoc, append-nil}
+use Rattle.std.proofs.Common.{◌≡◌, ℕ, ◌+◌, ◌-◌, ◌*◌, ◌<◌, ◌≤◌, inl, inr, Bool, true, false, List, [], ◌∷◌, ◌++◌, length, drop, Option, Some, None, refl, ap, ap₂, sym, ◌∙◌, arith, append_assoc, append-nil}
 use Rattle.std.proofs.{lemmas.Bool.{cases_Bool, cond-false, cond-true}, lemmas.List.{drop-append-le, drop-drop}, lemmas.List.Concat.{flat_map-append}}
 use Rattle.std.specs.List.{flat_map}
 use Rattle.p25_bits.specs.Bits.{bits_of, octet_bits}
 use Rattle.p25_bits.proofs.BitsLaws.{bits_of-zero, length-octet_bits, octet_bits-nil}
-use Rattle.p25_stream.specs.{Items.{items_by, items_of}, Scan.{Gave, Scan}}
-use Rattle.p25_stream.proofs.{ItemsLaws.{covered-first_item, items_by-first}, ScanLaws.{gave-items}}
+use Rattle.p25_stream.specs.Items.{items_by, items_of}
 use Rattle.p25_units.specs.{Items.{covered}, declared.item.Item.{Item}}
 use Rattle.p25_c.specs.{Items.{items_asked}, StreamCalls.{AreCalls, Leads, StreamCall, StreamsTellAll, StreamsTellTheFirst, Told, Took, bits_in, bits_taken, items_in_call, items_told}}
 use Rattle.p25_c.specs.{Streams.{bits_left, fresh_stream, has_ended, is_stream, octets_held, stream_asked, stream_moved}, declared.stream.Stream.{Stream}}
-use Rattle.p25_c.proofs.{CallsLaws.{inside-bounds}, ItemsLaws.{items_asked-some}}
+use Rattle.p25_c.proofs.{CallsLaws.{inside-bounds, told-first}, ItemsLaws.{items_asked-some}}
 
 -- the numbers fit a stream where items may be asked for
 pub stream-asked : (stream : Stream) (items : List Item) → stream_asked stream ≡ Some items
@@ -49,29 +48,16 @@ told-next stream item items more asked goes =
     let next = stream_moved (Some (item ∷ items)) stream in
     let some = items_asked-some (has_ended stream) stream.begin from (octets_held stream) (item ∷ items) (stream-asked stream (item ∷ items) asked).1 in
     let bounds = inside-bounds stream.begin from (length (octets_held stream)) some.0 in
-    let parts = items_by-first (has_ended stream) from here item items some.1 in
-    let fits = covered-first_item from here parts.0 in
-    let there : count ≤ length here = subst (λ (i : Item). covered i ≤ length here) (sym parts.1) fits.1 in
-    let before : Scan = record { place = from; held = here; finished = has_ended stream } in
-    let now : Scan = record { place = from + count; held = drop count here; finished = has_ended stream } in
-    let gave : Gave before item (take count here) now = record {
-      items = some.1 ∙ ap (λ (xs : List Item). item ∷ xs) parts.2;
-      some = subst (λ (i : Item). 0 < covered i) (sym parts.1) fits.0;
-      there = there;
-      raw_bits = refl;
-      left = refl;
-      place = refl;
-      same = refl;
-    } in
+    let first = told-first (has_ended stream) from here (waiting ++ more) item items some.1 goes in
     let joined : bits_left stream ≡ here ++ waiting = left-parts stream bounds.1 in
     let later : bits_left next ≡ drop count here ++ waiting
     = ap (λ (k : ℕ). drop k (octet_bits (octets_held stream) ++ waiting)) (moved-far stream.begin from count bounds.0)
     ∙ sym (drop-drop count (from - stream.begin) (octet_bits (octets_held stream) ++ waiting))
     ∙ ap (drop count) joined
-    ∙ drop-append-le count here waiting there in
+    ∙ drop-append-le count here waiting first.0 in
     ap (λ (bits : List Bool). items_by true from (bits ++ more)) joined
     ∙ ap (items_by true from) (append_assoc here waiting more)
-    ∙ gave-items before now item (take count here) true (waiting ++ more) gave (λ ended. (refl, goes ended))
+    ∙ first.1
     ∙ ap (λ (bits : List Bool). item ∷ items_by true (from + count) bits) (sym (append_assoc (drop count here) waiting more))
     ∙ ap (λ (bits : List Bool). item ∷ items_by true (from + count) (bits ++ more)) (sym later)
   where

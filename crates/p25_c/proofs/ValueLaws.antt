@@ -26,10 +26,7 @@ whole-told place bits fixes text nac body = refl
 pub units-told : UnitsAreTold
 units-told (Whole place frame fixes) others =
     whole-told place (frame_length_of frame.unit) fixes (length (item_text_of (Whole place frame fixes))) frame.unit.nac frame.unit.body
-units-told (Broken place count nac duid fields) others = refl
-units-told (NoUnit place field) others = refl
-units-told (Gap place count) others = refl
-units-told (Cut place have) others = refl
+units-told item others = refl
 
 frames-back : (frames : List VoiceFrame) → frames_held (frame_octets frames) ≡ frames
 frames-back [] = refl
@@ -77,9 +74,7 @@ some-same a b same = cc
 unit-begins : (item : Item) (unit : UnitSeen) → Some unit ≡ unit_of item → unit.place ≡ place_of item
 unit-begins (Whole place frame fixes) unit is = ap (λ (u : UnitSeen). u.place) (some-same unit (whole_unit place frame) is)
 unit-begins (Broken place count nac duid fields) unit is = ap (λ (u : UnitSeen). u.place) (some-same unit (broken_unit place count nac duid) is)
-unit-begins (NoUnit place field) unit is = cc
-unit-begins (Gap place count) unit is = cc
-unit-begins (Cut place have) unit is = cc
+unit-begins item unit is = cc
 
 next-by : (item : Item) (unit : Option UnitSeen) → unit ≡ unit_of item → (reached taken : ℕ) (pending : Option Call) → IfSome pending (IsPending reached taken) → place_of item ≡ reached
     → IfSome (unit_pending pending unit) (IsPending (place_of item + covered item) (taken + 1))

@@ -78,10 +78,7 @@ unit_fields unit = body_fields unit.nac unit.body
 -- the unit that an item is, where it is a whole one
 abbrev pub item_unit : Item → Option UnitParts
 item_unit (Whole place frame fixes) = Some frame.unit
-item_unit (Broken place count nac duid fields) = None
-item_unit (NoUnit place field) = None
-item_unit (Gap place count) = None
-item_unit (Cut place have) = None
+item_unit item = None
 
 abbrev pub first_unit : List Item → Option UnitParts
 first_unit [] = None

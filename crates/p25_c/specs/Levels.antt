@@ -7,10 +7,8 @@ use Rattle.p25_c.specs.Places.{filled, outside}
 
 -- the bits of levels by what they need: where they are those of one unit, the blocks that fail of a packet (PDU) are read from the levels
 abbrev pub softened_by : Need → List ℤ → List Bool → List Bool
-softened_by NoSync levels sent = sent
-softened_by (More count) levels sent = sent
 softened_by (Length count) levels sent = if count == length sent then softened (unit_item_of 0 sent) levels sent else sent
-softened_by (NoLength field) levels sent = sent
+softened_by need levels sent = sent
 
 abbrev pub unit_softened : List ℤ → List Bool
 unit_softened levels = softened_by (need_of (hard_bits levels)) levels (hard_bits levels)

@@ -53,20 +53,20 @@ no_packet nac head = record {
   octets = replicate 2032 0;
 }
 
--- with the identifier and the lengths of a header, with its flags and its number, and with what the header of a response says
-abbrev pub with_lengths : PacketHead → PacketParts → PacketParts
-with_lengths head told = record told { llid = head_llid head; format = head_format head; blocks = head_blocks head; pad = head_pad head }
-
-abbrev pub with_flags : PacketHead → PacketParts → PacketParts
-with_flags head told = record told { full = flag (head_is_full head); syn = flag (head_syn head); number = head_number head }
-
-abbrev pub with_response : PacketHead → PacketParts → PacketParts
-with_response head told =
-    record told { response_class = response_class head; response_type = response_kind head; response_status = response_status head }
-
 -- the header of a packet under a network access code (NAC), with nothing behind it
 abbrev pub head_told : ℕ → PacketHead → PacketParts
-head_told nac head = with_response head (with_flags head (with_lengths head (no_packet nac head.0)))
+head_told nac head = record (no_packet nac head.0) {
+  llid = head_llid head;
+  format = head_format head;
+  full = flag (head_is_full head);
+  blocks = head_blocks head;
+  pad = head_pad head;
+  syn = flag (head_syn head);
+  number = head_number head;
+  response_class = response_class head;
+  response_type = response_kind head;
+  response_status = response_status head;
+}
 
 -- the slots of a confirmed packet behind its header
 abbrev pub slots_told : List Slot → PacketParts → PacketParts

@@ -2,7 +2,7 @@
 
 ghost use Rattle.std.specs.Prelude.{◌≡◌, ◌+◌, ◌^◌, ◌<◌, None, Option, Some, IfSome};
 ghost use Rattle.p25_calls.specs.{Seen.{unit_end}, Taking.{linked_pending}};
-ghost use Rattle.p25_c.specs.VoiceCalls.{call_answer, call_asked, call_held, call_left, call_told, caller_left, end_held, end_number, finished_left, has_link, is_kept, last_asked, link_held, link_octets, may_take, no_call, number_held, pending_held, state_told, unit_told};
+ghost use Rattle.p25_c.specs.VoiceCalls.{call_answer, call_asked, call_held, call_left, call_told, caller_left, end_held, end_number, finished_left, is_kept, last_asked, link_octets, may_take, no_call, pending_held, state_told, unit_told};
 
 use crate::fields::FieldParts;
 use crate::items::ItemParts;
@@ -163,8 +163,8 @@ fn unit_told(item: &ItemParts, fields: &FieldParts) -> Option<UnitSeen>
     let (broken, link, algid) = match item.kind {
         1 => (
             false,
-            link_held(fields.has_lc, &fields.lc),
-            number_held(fields.has_mi, fields.algid),
+            (fields.has_lc != 0).then_some(LinkControl(fields.lc)),
+            (fields.has_mi != 0).then_some(fields.algid),
         ),
         2 => (true, None, None),
         _ => return None,
@@ -200,17 +200,13 @@ fn state_told(reached: u64, taken: u32, pending: &Option<Call>) -> CallerState
 fn pending_held(caller: &CallerState) -> Option<Call>
     ensures { result ≡ pending_held caller.now }
 {
-    if caller.is_open == 0 {
-        return None;
-    }
-    Some(call_held(&caller.run))
+    (caller.is_open != 0).then_some(call_held(&caller.run))
 }
 
 // A call as numbers and octets.
 fn call_told(call: &Call) -> CallParts
     ensures { result ≡ call_told call.now }
 {
-    let (has_lc, lc) = link_octets(&call.link);
     CallParts {
         place: call.place,
         bits: call.bits,
@@ -219,10 +215,10 @@ fn call_told(call: &Call) -> CallParts
         nac: call.nac,
         late: u8::from(call.late),
         end: end_number(call.end),
-        has_lc,
+        has_lc: u8::from(call.link.is_some()),
         has_algid: u8::from(call.algid.is_some()),
         algid: call.algid.unwrap_or(0),
-        lc,
+        lc: link_octets(&call.link),
     }
 }
 
@@ -238,8 +234,8 @@ fn call_held(parts: &CallParts) -> Call
         end: end_held(parts.end),
         links: parts.links,
         broken: parts.broken,
-        link: link_held(parts.has_lc, &parts.lc),
-        algid: number_held(parts.has_algid, parts.algid),
+        link: (parts.has_lc != 0).then_some(LinkControl(parts.lc)),
+        algid: (parts.has_algid != 0).then_some(parts.algid),
     }
 }
 
@@ -262,35 +258,14 @@ fn no_call() -> CallParts
     }
 }
 
-// Whether there is link control, and its octets.
-fn link_octets(link: &Option<LinkControl>) -> (u8, [u8; 9])
-    ensures there { result.0 ≡ has_link link.now }
-    ensures octets { result.1 ≡ link_octets link.now }
+// The octets of link control, where it is there.
+fn link_octets(link: &Option<LinkControl>) -> [u8; 9]
+    ensures { result ≡ link_octets link.now }
 {
     match link {
-        Some(link) => {
-            let octets = link.0;
-            (1, octets)
-        }
-        None => (0, [0; 9]),
+        Some(link) => link.0,
+        None => [0; 9],
     }
-}
-
-// Link control of its octets, where it is there.
-fn link_held(there: u8, octets: &[u8; 9]) -> Option<LinkControl>
-    ensures { result ≡ link_held there octets.now }
-{
-    if there == 0 {
-        return None;
-    }
-    Some(LinkControl(*octets))
-}
-
-// A number where it is there.
-fn number_held(there: u8, number: u8) -> Option<u8>
-    ensures { result ≡ number_held there number }
-{
-    if there == 0 { None } else { Some(number) }
 }
 
 // The number of an end.

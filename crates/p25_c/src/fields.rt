@@ -1,6 +1,6 @@
 //! The fields of a unit without a text, and voice units built from them.
 
-ghost use Rattle.std.specs.Prelude.{◌≡◌, ℕ, ◌<◌, ◌≤◌, pos, length, true};
+ghost use Rattle.std.specs.Prelude.{◌≡◌, ℕ, ◌<◌, ◌≤◌, pos, true};
 ghost use Rattle.p25_c.specs.Building.{IsWritingUnder};
 ghost use Rattle.p25_c.specs.Fields.{body_fields, fields_answer, fields_built, fields_left, frame_octets, frames_held, item_unit, no_fields, unit_answer, unit_left, voice_fields, voice_held};
 ghost use Rattle.p25_c.specs.{Items.{items_asked}, Rooms.{IsWriting}};
@@ -115,77 +115,52 @@ fn voice_fields(nac: u16, voice: &VoiceUnit) -> FieldParts
     ensures { result ≡ voice_fields nac voice.now }
 {
     match voice {
-        VoiceUnit::Header(word) => header_fields(nac, word),
-        VoiceUnit::Link1 { link, low, voice } => link1_fields(nac, link, low, voice),
-        VoiceUnit::Link2 { sync, low, voice } => link2_fields(nac, sync, low, voice),
+        VoiceUnit::Header(word) => FieldParts {
+            has_mi: 1,
+            has_tgid: 1,
+            mi: word.mi,
+            mfid: word.mfid,
+            algid: word.algid,
+            kid: word.kid,
+            tgid: word.tgid,
+            ..no_fields(nac, HDU)
+        },
+        VoiceUnit::Link1 { link, low, voice } => FieldParts {
+            has_lc: 1,
+            has_voice: 1,
+            lc: link.0,
+            lsd: *low,
+            voice: frame_octets(voice.frames()),
+            ..no_fields(nac, LDU1)
+        },
+        VoiceUnit::Link2 { sync, low, voice } => FieldParts {
+            has_mi: 1,
+            has_voice: 1,
+            mi: sync.mi,
+            algid: sync.algid,
+            kid: sync.kid,
+            lsd: *low,
+            voice: frame_octets(voice.frames()),
+            ..no_fields(nac, LDU2)
+        },
         VoiceUnit::End => no_fields(nac, TDU),
-        VoiceUnit::EndLink { link } => {
-            let mut fields = no_fields(nac, TDULC);
-            let octets = link.0;
-            fields.has_lc = 1;
-            fields.lc = octets;
-            fields
-        }
+        VoiceUnit::EndLink { link } => FieldParts {
+            has_lc: 1,
+            lc: link.0,
+            ..no_fields(nac, TDULC)
+        },
     }
 }
 
-// The fields of a header (HDU).
-fn header_fields(nac: u16, word: &HeaderWord) -> FieldParts
-    ensures { result ≡ voice_fields nac (VoiceUnit.Header word.now) }
+// The octets of voice frames.
+fn frame_octets(frames: &[VoiceFrame; 9]) -> [[u8; 18]; 9]
+    ensures { result ≡ frame_octets frames.now }
 {
-    let mut fields = no_fields(nac, HDU);
-    fields.has_mi = 1;
-    fields.has_tgid = 1;
-    let mi = word.mi;
-    fields.mi = mi;
-    fields.mfid = word.mfid;
-    fields.algid = word.algid;
-    fields.kid = word.kid;
-    fields.tgid = word.tgid;
-    fields
-}
-
-// The fields of an LDU1.
-fn link1_fields(nac: u16, link: &LinkControl, low: &[u8; 2], voice: &Voice) -> FieldParts
-    ensures { result ≡ voice_fields nac (VoiceUnit.Link1 link.now low.now voice.now) }
-{
-    let mut fields = no_fields(nac, LDU1);
-    fields.has_lc = 1;
-    fields.has_voice = 1;
-    let octets = link.0;
-    let low = *low;
-    fields.lc = octets;
-    fields.lsd = low;
-    put_frames(voice.frames(), &mut fields.voice);
-    fields
-}
-
-// The fields of an LDU2.
-fn link2_fields(nac: u16, sync: &EncryptionSync, low: &[u8; 2], voice: &Voice) -> FieldParts
-    ensures { result ≡ voice_fields nac (VoiceUnit.Link2 sync.now low.now voice.now) }
-{
-    let mut fields = no_fields(nac, LDU2);
-    fields.has_mi = 1;
-    fields.has_voice = 1;
-    let mi = sync.mi;
-    let low = *low;
-    fields.mi = mi;
-    fields.algid = sync.algid;
-    fields.kid = sync.kid;
-    fields.lsd = low;
-    put_frames(voice.frames(), &mut fields.voice);
-    fields
-}
-
-// Sets octets to those of voice frames.
-fn put_frames(frames: &[VoiceFrame], octets: &mut [[u8; 18]])
-    requires { length frames.now ≡ length octets.old }
-    ensures { octets.new ≡ frame_octets frames.now }
-{
-    for i in 0..frames.len() {
-        let frame = frames[i].0;
-        octets[i] = frame;
+    let mut octets = [[0; 18]; 9];
+    for i in 0..9 {
+        octets[i] = frames[i].0;
     }
+    octets
 }
 
 /// Writes the octets of the voice unit of `fields` into `octets`, with one status symbol everywhere, and answers how many, 18 to
@@ -257,19 +232,10 @@ fn frames_held(octets: &[[u8; 18]; 9]) -> Voice
     ensures { result ≡ frames_held octets.now }
 {
     let mut frames = [VoiceFrame([0; 18]); 9];
-    take_frames(octets, &mut frames);
-    Voice::new(frames)
-}
-
-// Sets voice frames to those of octets.
-fn take_frames(octets: &[[u8; 18]], frames: &mut [VoiceFrame])
-    requires { length octets.now ≡ length frames.old }
-    ensures { frames.new ≡ frames_held octets.now }
-{
-    for i in 0..octets.len() {
-        let frame = octets[i];
-        frames[i] = VoiceFrame(frame);
+    for i in 0..9 {
+        frames[i] = VoiceFrame(octets[i]);
     }
+    Voice::new(frames)
 }
 
 #[cfg(test)]

@@ -1,7 +1,7 @@
 //! Packets (PDU) as numbers and octets.
 
 ghost use Rattle.std.specs.{Prelude.{◌≡◌, ◌*◌, ◌≤◌, ◌==◌, count_by, length, map}, List.{flat_map}};
-ghost use Rattle.p25_c.specs.Packets.{bits_packet, head_told, is_bad, no_packet, packet_answer, packet_asked, packet_bad, packet_fault, packet_left, packet_told, slot_good, slot_octets, slot_serial, slots_told, unit_bits, with_flags, with_lengths, with_response};
+ghost use Rattle.p25_c.specs.Packets.{bits_packet, head_told, is_bad, no_packet, packet_answer, packet_asked, packet_bad, packet_fault, packet_left, packet_told, slot_good, slot_octets, slot_serial, slots_told, unit_bits};
 ghost use Rattle.p25_bits.specs.Bits.{octet_bits};
 
 use crate::building::NO_UNIT;
@@ -156,11 +156,19 @@ fn head_told(nac: u16, head: &PacketHead) -> PacketParts
     ensures { result ≡ head_told nac head.now }
 {
     let octets = head.0;
-    let mut told = no_packet(nac, octets);
-    tell_lengths(head, &mut told);
-    tell_flags(head, &mut told);
-    tell_response(head, &mut told);
-    told
+    PacketParts {
+        llid: head.llid(),
+        format: head.format(),
+        full: u8::from(head.is_full()),
+        blocks: head.blocks(),
+        pad: head.pad(),
+        syn: u8::from(head.syn()),
+        number: head.number(),
+        response_class: head.class(),
+        response_type: head.kind(),
+        response_status: head.status(),
+        ..no_packet(nac, octets)
+    }
 }
 
 // The numbers of no packet, with the octets of a header.
@@ -186,34 +194,6 @@ fn no_packet(nac: u16, head: [u8; 10]) -> PacketParts
         serials: [0; 127],
         octets: [0; 2032],
     }
-}
-
-// Tells the identifier and the lengths of a header.
-fn tell_lengths(head: &PacketHead, told: &mut PacketParts)
-    ensures { told.new ≡ with_lengths head.now told.old }
-{
-    told.llid = head.llid();
-    told.format = head.format();
-    told.blocks = head.blocks();
-    told.pad = head.pad();
-}
-
-// Tells the flags of a header, and its number.
-fn tell_flags(head: &PacketHead, told: &mut PacketParts)
-    ensures { told.new ≡ with_flags head.now told.old }
-{
-    told.full = u8::from(head.is_full());
-    told.syn = u8::from(head.syn());
-    told.number = head.number();
-}
-
-// Tells what the header of a response says.
-fn tell_response(head: &PacketHead, told: &mut PacketParts)
-    ensures { told.new ≡ with_response head.now told.old }
-{
-    told.response_class = head.class();
-    told.response_type = head.kind();
-    told.response_status = head.status();
 }
 
 // Sets octets to 1 for each slot that is good and to 0 for each other, octets to the serial numbers of the slots, and octets to theirs, sixteen

@@ -99,10 +99,7 @@ pub extern "C" fn p25_repair_at(octets: &[u8], begin: u64, from: u64, into: &mut
 fn is_whole(item: &Item) -> bool
     ensures { result ≡ is_whole_item item.now }
 {
-    match item {
-        Item::Whole { .. } => true,
-        Item::Broken { .. } | Item::NoUnit { .. } | Item::Gap { .. } | Item::Cut { .. } => false,
-    }
+    matches!(item, Item::Whole { .. })
 }
 
 /// Writes the whole unit that begins at bit `from` of a recording under another network access code (NAC) and with one status symbol

@@ -8,27 +8,15 @@ pub overflow_sub-item : goal.overflow_sub-item
 overflow_sub-item c =
     (can-follow c.args.follower.now c.args.item.now c.args.begin (length c.args.octets.now) (sym c.may_follow.ensures ∙ c.if-not-may_follow.false)).order
 
-pub cut-requires-clause-there : goal.cut-requires-clause-there
-cut-requires-clause-there c =
+pub cut-requires : goal.cut-requires
+cut-requires c =
     let can = can-follow c.args.follower.now c.args.item.now c.args.begin (length c.args.octets.now) (sym c.may_follow.ensures ∙ c.if-not-may_follow.false) in
-    omega (arith, can.there, can.order)
+    record { there = omega (arith, can.there, can.order); few = can.few; near = omega (arith, can.near) }
 
-pub cut-requires-clause-few : goal.cut-requires-clause-few
-cut-requires-clause-few c =
-    (can-follow c.args.follower.now c.args.item.now c.args.begin (length c.args.octets.now) (sym c.may_follow.ensures ∙ c.if-not-may_follow.false)).few
-
-pub cut-requires-clause-near : goal.cut-requires-clause-near
-cut-requires-clause-near c =
+pub item_held-requires : goal.item_held-requires
+item_held-requires c =
     let can = can-follow c.args.follower.now c.args.item.now c.args.begin (length c.args.octets.now) (sym c.may_follow.ensures ∙ c.if-not-may_follow.false) in
-    omega (arith, can.near)
-
-pub item_held-requires-clause-told : goal.item_held-requires-clause-told
-item_held-requires-clause-told c =
-    (can-follow c.args.follower.now c.args.item.now c.args.begin (length c.args.octets.now) (sym c.may_follow.ensures ∙ c.if-not-may_follow.false)).told
-
-pub item_held-requires-clause-few : goal.item_held-requires-clause-few
-item_held-requires-clause-few c =
-    (can-follow c.args.follower.now c.args.item.now c.args.begin (length c.args.octets.now) (sym c.may_follow.ensures ∙ c.if-not-may_follow.false)).few
+    record { told = can.told; few = can.few }
 
 pub put-requires-clause-raw : goal.put-requires-clause-raw
 put-requires-clause-raw c = λ _.

@@ -17,21 +17,11 @@ returns-then-not-find_item c =
     relay-none c.args.nac c.args.status _ (drop (c.args.from - c.args.begin) (octet_bits c.args.octets.now)) c.args.into.now
     (items_asked-inside true c.args.begin c.args.from c.args.octets.now [] (sym c.is_inside.ensures ∙ c.if-not-is_inside.false) (c.find_item.ensures.none c.if-not-find_item.true).0)
 
-pub relay_found-requires-clause-fits : goal.relay_found-requires-clause-fits
-relay_found-requires-clause-fits c =
-    (found-at c.args.begin c.args.from c.args.octets.now c.find_item.new.item (sym c.is_inside.ensures ∙ c.if-not-is_inside.false) (c.find_item.ensures.first c.if-not-find_item.false)).fits
-
-pub relay_found-requires-clause-there : goal.relay_found-requires-clause-there
-relay_found-requires-clause-there c =
-    (found-at c.args.begin c.args.from c.args.octets.now c.find_item.new.item (sym c.is_inside.ensures ∙ c.if-not-is_inside.false) (c.find_item.ensures.first c.if-not-find_item.false)).there
-
-pub relay_found-requires-clause-few : goal.relay_found-requires-clause-few
-relay_found-requires-clause-few c =
-    (found-at c.args.begin c.args.from c.args.octets.now c.find_item.new.item (sym c.is_inside.ensures ∙ c.if-not-is_inside.false) (c.find_item.ensures.first c.if-not-find_item.false)).few
-
-pub relay_found-requires-clause-near : goal.relay_found-requires-clause-near
-relay_found-requires-clause-near c =
-    (found-at c.args.begin c.args.from c.args.octets.now c.find_item.new.item (sym c.is_inside.ensures ∙ c.if-not-is_inside.false) (c.find_item.ensures.first c.if-not-find_item.false)).near
+pub relay_found-requires : goal.relay_found-requires
+relay_found-requires c =
+    let inside = sym c.is_inside.ensures ∙ c.if-not-is_inside.false in
+    let found = found-at c.args.begin c.args.from c.args.octets.now c.find_item.new.item inside (c.find_item.ensures.first c.if-not-find_item.false) in
+    record { sound = search rules; fits = found.fits; there = found.there; few = found.few; near = found.near; nac = c.requires }
 
 pub returns : goal.returns
 returns c =
