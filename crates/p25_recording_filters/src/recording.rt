@@ -61,7 +61,7 @@ impl<R: Report> Recording<R> {
         Recording {
             report,
             scanner: Scanner::new(),
-            item: Item::Cut { place: 0, have: 0 },
+            item: Item::empty(),
             raw: BitBuf::new(),
             phase: Phase::Reading,
         }

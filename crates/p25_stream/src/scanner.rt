@@ -145,7 +145,7 @@ impl Scanner {
         ensures given { MatchOption result ((given self.old ≡ []) × (self.new ≡ self.old) × (raw.new ≡ raw.old)) (λ item. Gave self.old item raw.new self.new) }
         ensures sound { IfSome result IsSoundItem }
     {
-        let mut item = Item::Cut { place: 0, have: 0 };
+        let mut item = Item::empty();
         if self.next_in(raw, &mut item) {
             Some(item)
         } else {
@@ -178,7 +178,7 @@ impl Scanner {
             (λ item. Gave self.old item (take (covered item) self.old.held) self.new) }
         ensures sound { IfSome result IsSoundItem }
     {
-        let mut item = Item::Cut { place: 0, have: 0 };
+        let mut item = Item::empty();
         if self.next_item_in(&mut item) {
             Some(item)
         } else {

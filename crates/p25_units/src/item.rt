@@ -3,7 +3,7 @@
 ghost use Rattle.std.specs.Prelude.{◌≡◌, ◌^◌, ◌<◌, ◌≤◌, ℕ, length, drop};
 ghost use Rattle.p25_bits.specs.Bits.{part};
 ghost use Rattle.p25_units.specs.{Begins.{IsBegun}, Items.{IsSoundItem, covered, place_of, unit_item_of}, Needs.{need_of}, declared.frame.Frame.{Frame}};
-ghost use Rattle.p25_units.specs.{declared.item.Item.TheVariants.{Broken, Whole}, declared.needs.Need.TheVariants.{Length}};
+ghost use Rattle.p25_units.specs.{declared.item.Item.TheVariants.{Broken, Cut, Whole}, declared.needs.Need.TheVariants.{Length}};
 
 use crate::begun::Begun;
 use crate::frame::{Frame, frame_length};
@@ -48,6 +48,13 @@ pub enum Item {
 }
 
 impl Item {
+    /// Answers an item of no bits: room for an item that is to be read.
+    pub fn empty() -> Item
+        ensures { result ≡ Cut 0 0 }
+    {
+        Item::Cut { place: 0, have: 0 }
+    }
+
     /// Answers how many bits the item covers.
     pub fn covered(&self) -> u64
         ensures value { result ≡ covered self.now }
@@ -117,7 +124,7 @@ pub fn unit_item(bits: &BitBuf, at: usize, count: usize, begun: Begun, place: u6
     ensures item { result ≡ unit_item_of place (part at count bits.now) }
     ensures sound { IsSoundItem result }
 {
-    let mut item = Item::Cut { place, have: 0 };
+    let mut item = Item::empty();
     unit_item_in(bits, at, count, begun, place, &mut BitBuf::new(), &mut item);
     item
 }

@@ -17,11 +17,7 @@ const RESPONSE: [u64; 6] = [
 ];
 
 // Its header block zeroed.
-const NO_HEADER: [u64; 3] = [
-    FRONT,
-    0xD60B_E02B_B372_2222,
-    0x2222_2222_2222_2222,
-];
+const NO_HEADER: [u64; 3] = [FRONT, 0xD60B_E02B_B372_2222, 0x2222_2222_2222_2222];
 
 // A packet (PDU) of format 17 hex without blocks.
 const FORMAT_17: [u64; 6] = [
