@@ -22,9 +22,7 @@ const PLAIN: [u8; 12] = [0x35, 0xC0, 0, 0, 0, 1, 0x81, 0, 0, 0, 0x71, 0xA2];
 const FORMAT_17: [u8; 12] = [0x17, 0xC0, 0, 0, 0, 1, 0x80, 0, 0, 0, 0xE0, 0x91];
 
 // A confirmed block of zeros with its check.
-const GOOD: [u8; 18] = [
-    1, 0xFF, 0, 0, 0, 0, 0, 0, 0, 0, 0, 0, 0, 0, 0, 0, 0, 0,
-];
+const GOOD: [u8; 18] = [1, 0xFF, 0, 0, 0, 0, 0, 0, 0, 0, 0, 0, 0, 0, 0, 0, 0, 0];
 
 // A packet (PDU) of at most two blocks under the network access code (NAC) 293 hex as it is sent, with the status symbol 0
 // throughout, by the octets of its header block and of its blocks. A block of zeros is the same at either rate.
