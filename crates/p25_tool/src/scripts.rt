@@ -2,7 +2,7 @@
 
 ghost use Rattle.std.specs.Prelude.{◌≡◌};
 ghost use Rattle.p25_filter.specs.LineRules.{IsLineTaken};
-ghost use Rattle.p25_tool.specs.{Machines.{DuplexAt, LongAt, StationsAt, script_rules}, Outputs.{duplex_closing_lines}};
+ghost use Rattle.p25_tool.specs.{Machines.{LongAt, script_rules}, Outputs.{duplex_closing_lines}};
 
 use p25_duplex::{DuplexWorld, Side};
 use p25_filter::{LineMachine, LineRefusal};
@@ -44,9 +44,19 @@ impl LineMachine for Script {
 
     fn take(&mut self, line: &[u8], out: &mut Line) -> Result<Option<Line>, LineRefusal> {
         match &mut self.0 {
-            ScriptWorld::Stations(world) => take_single(world, line, out),
+            ScriptWorld::Stations(world) => {
+                let event = read_event(line).map_err(LineRefusal::Fault)?;
+                step_text(&world.step(&event).map_err(|_| LineRefusal::Memory)?, out);
+                out.put(b"\n");
+                Ok(None)
+            }
             ScriptWorld::Long(world) => take_long(world, line, out),
-            ScriptWorld::Duplex(world) => take_duplex(world, line, out),
+            ScriptWorld::Duplex(world) => {
+                let event = read_duplex_event(line).map_err(LineRefusal::Fault)?;
+                duplex_step_text(&world.step(&event).map_err(|_| LineRefusal::Memory)?, out);
+                out.put(b"\n");
+                Ok(None)
+            }
         }
     }
 
@@ -60,18 +70,7 @@ impl LineMachine for Script {
     }
 }
 
-// Takes a line of `stations`. What is held of a line is large: so that of each script is apart from the others.
-#[inline(never)]
-fn take_single(world: &mut World, line: &[u8], out: &mut Line) -> Result<Option<Line>, LineRefusal>
-    ensures { IsLineTaken script_rules (StationsAt world.old.state) line.now result out.new (StationsAt world.new.state) }
-{
-    let event = read_event(line).map_err(LineRefusal::Fault)?;
-    step_text(&world.step(&event).map_err(|_| LineRefusal::Memory)?, out);
-    out.put(b"\n");
-    Ok(None)
-}
-
-// Takes a line of `fragments`.
+// Takes a line of `fragments`. What it holds is large: so it is apart from its caller.
 #[inline(never)]
 fn take_long(
     world: &mut LongWorld,
@@ -85,21 +84,6 @@ fn take_long(
     let mut behind = Line::new();
     long_step_text(&step, out, &mut behind);
     Ok(Some(behind))
-}
-
-// Takes a line of `duplex`.
-#[inline(never)]
-fn take_duplex(
-    world: &mut DuplexWorld,
-    line: &[u8],
-    out: &mut Line,
-) -> Result<Option<Line>, LineRefusal>
-    ensures { IsLineTaken script_rules (DuplexAt world.old.state) line.now result out.new (DuplexAt world.new.state) }
-{
-    let event = read_duplex_event(line).map_err(LineRefusal::Fault)?;
-    duplex_step_text(&world.step(&event).map_err(|_| LineRefusal::Memory)?, out);
-    out.put(b"\n");
-    Ok(None)
 }
 
 // Sets `out` to the lines that close a run: one of each side, and one with the number of false passes.
