@@ -2,7 +2,7 @@
 
 ghost use Rattle.std.specs.Prelude.{◌≡◌};
 ghost use Rattle.p25_filter.specs.LineRules.{IsLineTaken};
-ghost use Rattle.p25_tool.specs.{Machines.{LongAt, script_rules}, Outputs.{duplex_closing_lines}};
+ghost use Rattle.p25_tool.specs.{Machines.{DuplexAt, LongAt, script_rules}, Outputs.{duplex_closing_lines}};
 
 use p25_duplex::{DuplexWorld, Side};
 use p25_filter::{LineMachine, LineRefusal};
@@ -51,12 +51,7 @@ impl LineMachine for Script {
                 Ok(None)
             }
             ScriptWorld::Long(world) => take_long(world, line, out),
-            ScriptWorld::Duplex(world) => {
-                let event = read_duplex_event(line).map_err(LineRefusal::Fault)?;
-                duplex_step_text(&world.step(&event).map_err(|_| LineRefusal::Memory)?, out);
-                out.put(b"\n");
-                Ok(None)
-            }
+            ScriptWorld::Duplex(world) => take_duplex(world, line, out),
         }
     }
 
@@ -70,7 +65,7 @@ impl LineMachine for Script {
     }
 }
 
-// Takes a line of `fragments`. What it holds is large: so it is apart from its caller.
+// Takes a line of `fragments`. What it holds is large: so it is apart from its caller, as that of `duplex` is.
 #[inline(never)]
 fn take_long(
     world: &mut LongWorld,
@@ -84,6 +79,21 @@ fn take_long(
     let mut behind = Line::new();
     long_step_text(&step, out, &mut behind);
     Ok(Some(behind))
+}
+
+// Takes a line of `duplex`.
+#[inline(never)]
+fn take_duplex(
+    world: &mut DuplexWorld,
+    line: &[u8],
+    out: &mut Line,
+) -> Result<Option<Line>, LineRefusal>
+    ensures { IsLineTaken script_rules (DuplexAt world.old.state) line.now result out.new (DuplexAt world.new.state) }
+{
+    let event = read_duplex_event(line).map_err(LineRefusal::Fault)?;
+    duplex_step_text(&world.step(&event).map_err(|_| LineRefusal::Memory)?, out);
+    out.put(b"\n");
+    Ok(None)
 }
 
 // Sets `out` to the lines that close a run: one of each side, and one with the number of false passes.
