@@ -138,6 +138,14 @@ module _ {E S : Type 0} (read : Reading E) (steps : List E → List S) (line : S
     counted = counted;
   }
 
+-- what a run of a command says where its input is the script of some events
+abbrev pub RunsAs : {E : Type 0} → Command → (List ℕ → List E → Type 0) → (Option (List ℕ) → Option (List ℕ) → List E → Outcome → Type 0) → Type 0
+RunsAs {E} command IsScriptFor HasRunFor =
+    (told left first last : Option (List ℕ)) (input : List ℕ) (events : List E)
+    → IsScriptFor input events → told ≡ Some input → (end : FilterEnd) (outcome : Outcome) → outcome ≡ filter_outcome end
+    → Filtered told left first last (command_future command) end → (outcome ≡ answer_of command input) ⊎ ((outcome ≡ Memory) × CanWantMemory command)
+    → HasRunFor first last events outcome
+
 -- Scripts of the stations.
 
 is_event : (line : List ℕ) (event : Event) → event_of line ≡ Ok event → IsEvent event
@@ -150,9 +158,7 @@ tells-lists events = record {
   acknowledged = omega (arith, run-acknowledged events first_world);
 }
 
-pub script-run : (told left first last : Option (List ℕ)) (input : List ℕ) (events : List Event)
-    → IsScriptOf input events → told ≡ Some input → (end : FilterEnd) (outcome : Outcome) → outcome ≡ filter_outcome end
-    → Filtered told left first last (command_future Stations) end → (outcome ≡ answer_of Stations input) ⊎ ((outcome ≡ Memory) × CanWantMemory Stations) → HasRun first last events outcome
+pub script-run : RunsAs Stations IsScriptOf HasRun
 script-run told left first last input events script is_told =
     run-of event_of (steps_of first_world) step_line (λ all. closing_line (world_run first_world all)) Stations refl told left first last input events script is_told
     (λ all. (world_run first_world all).false_passes) IsCleanRun _ TellsLists
@@ -176,9 +182,7 @@ tells-long_lists events = record {
   acknowledged = omega (arith, run-finished events first_long);
 }
 
-pub long-script-run : (told left first last : Option (List ℕ)) (input : List ℕ) (events : List LongEvent)
-    → IsLongScriptOf input events → told ≡ Some input → (end : FilterEnd) (outcome : Outcome) → outcome ≡ filter_outcome end
-    → Filtered told left first last (command_future Fragments) end → (outcome ≡ answer_of Fragments input) ⊎ ((outcome ≡ Memory) × CanWantMemory Fragments) → HasLongRun first last events outcome
+pub long-script-run : RunsAs Fragments IsLongScriptOf HasLongRun
 long-script-run told left first last input events script is_told =
     let fit = each-read long_event_of IsLongEvent is-long_event (lines_in true [] input) events script.lines in
     run-of long_event_of (long_steps_of first_long) long_step_text_of (λ all. long_closing_line (long_run first_long all)) Fragments refl told left first last input events script is_told
@@ -202,9 +206,7 @@ tells-lists_of events B = record {
   acknowledged = omega (arith, duplex-acknowledged B events first_duplex);
 }
 
-pub duplex-script-run : (told left first last : Option (List ℕ)) (input : List ℕ) (events : List DuplexEvent)
-    → IsDuplexScriptOf input events → told ≡ Some input → (end : FilterEnd) (outcome : Outcome) → outcome ≡ filter_outcome end
-    → Filtered told left first last (command_future Duplex) end → (outcome ≡ answer_of Duplex input) ⊎ ((outcome ≡ Memory) × CanWantMemory Duplex) → HasDuplexRun first last events outcome
+pub duplex-script-run : RunsAs Duplex IsDuplexScriptOf HasDuplexRun
 duplex-script-run told left first last input events script is_told =
     let fit = each-read duplex_event_of IsDuplexEvent is-duplex_event (lines_in true [] input) events script.lines in
     run-of duplex_event_of (duplex_steps first_duplex) duplex_step_line (λ all. duplex_closing_lines (duplex_run first_duplex all)) Duplex refl told left first last input events script is_told
