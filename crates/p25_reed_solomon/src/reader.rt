@@ -41,19 +41,11 @@ pub(crate) fn read_erased(word: &mut [Sym], k: usize, erased: &[bool]) -> Readin
     if !find_errors(&syndromes, checks, erased, errors) {
         return Reading::Beyond;
     }
-    add_to(word, errors);
-    Reading::Found {
-        fixes: weight(errors),
-    }
-}
-
-// Adds to each symbol the one at its place.
-fn add_to(word: &mut [Sym], errors: &[Sym])
-    requires { length errors.now ≡ length word.old }
-    ensures { (j : ℕ) → j < length word.old → coefficient gf64 word.new j ≡ gf64.add (coefficient gf64 word.old j) (coefficient gf64 errors.now j) }
-{
     for j in 0..errors.len() {
         word[j] = word[j].add(errors[j]);
+    }
+    Reading::Found {
+        fixes: weight(errors),
     }
 }
 

@@ -1,4 +1,4 @@
-use Rattle.std.proofs.{Common.{◌≡◌, ℕ, ◌-◌, length, ap, sym, ◌∙◌, subst, refl, inl, inr, arith}, lemmas.Bool.{both_ways, cases_lt}}
+use Rattle.std.proofs.{Common.{◌≡◌, ℕ, ◌-◌, ◌<◌, length, ap, sym, ◌∙◌, subst, refl, inl, inr, arith}, lemmas.Bool.{both_ways, cases_lt}}
 use Rattle.p25_bits.proofs.DistanceLaws.{distance_by-same}
 use Rattle.p25_gf64.specs.{declared.symbol.Sym.{Sym}, Gf64.{gf64}}
 use Rattle.p25_algebra.specs.{Sums.{nonzeros}, Series.{coefficient}}
@@ -62,12 +62,13 @@ returns c =
     let errors = coefficient gf64 c.find_errors.new.out in
     let explains : Explains n (n - k) c.are_syndromes_zero.new.out c.args.erased.now errors = subst (λ m. Explains m (n - k) c.are_syndromes_zero.new.out c.args.erased.now errors) c.requires.erased
     (c.find_errors.ensures.found c.if-not-find_errors.false) in
-    let long : length c.add_to.new.word ≡ n = omega arith in
+    let long = c.loop-j.invariant.long in
+    let added : (j : ℕ) → j < n → coefficient gf64 c.loop-j.word j ≡ gf64.add (coefficient gf64 c.args.word.now j) (errors j) = λ j below. c.loop-j.invariant.added j (omega (arith, below)) in
     let count = ap (λ m. nonzeros gf64 m errors) (c.find_errors.ensures.places ∙ c.requires.erased) in
-    let changed = changed_letters n c.args.word.now c.add_to.new.word errors refl long c.add_to.ensures in
+    let changed = changed_letters n c.args.word.now c.loop-j.word errors refl long added in
     record {
-      word_of_set = corrected n k c.args.word.now c.add_to.new.word c.are_syndromes_zero.new.out c.args.erased.now errors c.requires.code refl long
-          (c.are_syndromes_zero.ensures.values c.if-are_syndromes_zero.false) explains c.add_to.ensures;
+      word_of_set = corrected n k c.args.word.now c.loop-j.word c.are_syndromes_zero.new.out c.args.erased.now errors c.requires.code refl long
+          (c.are_syndromes_zero.ensures.values c.if-are_syndromes_zero.false) explains added;
       fixes_is = c.weight.ensures ∙ count ∙ sym changed;
-      within = cost_of_errors n k c.args.word.now c.add_to.new.word c.are_syndromes_zero.new.out c.args.erased.now errors refl long c.requires.erased explains c.add_to.ensures;
+      within = cost_of_errors n k c.args.word.now c.loop-j.word c.are_syndromes_zero.new.out c.args.erased.now errors refl long c.requires.erased explains added;
     }
