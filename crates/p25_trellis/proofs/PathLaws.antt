@@ -1,6 +1,6 @@
 -- Paths, their nibbles and what they carry.
-use Rattle.std.proofs.Common.{◌≡◌, ℕ, suc, ◌+◌, ◌^◌, ◌<◌, ◌≤◌, Bool, List, [], ◌∷◌, ◌++◌, length, take, drop, get_or, set, refl, ap, ap₂, sym, subst, ◌∙◌, arith, append_assoc, All}
-use Rattle.std.proofs.{lemmas.List.{take-append-drop, take_more_set, drop_more, length-take-le}, lemmas.List.Elements.{All-take}, lemmas.Nat.{pow_pos}}
+use Rattle.std.proofs.Common.{◌≡◌, ℕ, suc, ◌+◌, ◌^◌, ◌<◌, ◌≤◌, Bool, List, [], ◌∷◌, ◌++◌, length, take, drop, get_or, replicate, set, refl, ap, ap₂, sym, subst, ◌∙◌, arith, append_assoc, length-set, All}
+use Rattle.std.proofs.{lemmas.List.{drop-set-lt, take-append-drop, take_more_set, drop_more, length-take-le}, lemmas.List.Elements.{All-replicate, All-set, All-take}, lemmas.Nat.{pow_pos}}
 use Rattle.p25_bits.specs.Numbers.{number_bits}
 use Rattle.p25_trellis.specs.Trellis.{IsPath, IsBlock, Carries, nibbles_from, sent_bits}
 use Rattle.p25_bits.proofs.NumbersLaws.{length-number_bits, number_bits-octets, same_from_number_bits}
@@ -8,6 +8,18 @@ use Rattle.p25_bits.proofs.NumbersLaws.{length-number_bits, number_bits-octets, 
 -- a power of two is not 0
 pub power-pos : (width states : ℕ) → states ≡ 2 ^ width → 0 < states
 power-pos width states is = rw is (pow_pos width)
+
+-- zeros are a path
+pub IsPath-zeros : (states : ℕ) → 0 < states → IsPath states (replicate 49 0)
+IsPath-zeros states some = record { long = refl; below = All-replicate (λ (symbol : ℕ). symbol < states) 49 0 some; last = refl }
+
+-- and a path stays one where a symbol before the last is set
+pub IsPath-set : (states : ℕ) (path : List ℕ) (step symbol : ℕ) → step < 48 → symbol < states → IsPath states path → IsPath states (set path step symbol)
+IsPath-set states path step symbol early small is = record {
+  long = length-set path step symbol ∙ is.long;
+  below = All-set (λ (s : ℕ). s < states) path step symbol small is.below;
+  last = drop-set-lt 48 path step symbol early ∙ is.last;
+}
 
 -- nibbles of one more symbol
 pub nibbles_from-cons : (point : ℕ → ℕ → ℕ) (state symbol : ℕ) (symbols : List ℕ) → nibbles_from point state (symbol ∷ symbols) ≡ point state symbol ∷ nibbles_from point symbol symbols
