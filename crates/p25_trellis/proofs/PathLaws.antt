@@ -9,16 +9,27 @@ use Rattle.p25_bits.proofs.NumbersLaws.{length-number_bits, number_bits-octets, 
 pub power-pos : (width states : ℕ) → states ≡ 2 ^ width → 0 < states
 power-pos width states is = rw is (pow_pos width)
 
--- zeros are a path
-pub IsPath-zeros : (states : ℕ) → 0 < states → IsPath states (replicate 49 0)
-IsPath-zeros states some = record { long = refl; below = All-replicate (λ (symbol : ℕ). symbol < states) 49 0 some; last = refl }
+-- a path in the making, with the symbols so far set and zeros behind them, and the state after them
+pub record IsPathTo (states : ℕ) (path : List ℕ) (state : ℕ) : Type 0 where
+  pub is_path : IsPath states path
+  pub row : state < states
 
--- and a path stays one where a symbol before the last is set
-pub IsPath-set : (states : ℕ) (path : List ℕ) (step symbol : ℕ) → step < 48 → symbol < states → IsPath states path → IsPath states (set path step symbol)
-IsPath-set states path step symbol early small is = record {
-  long = length-set path step symbol ∙ is.long;
-  below = All-set (λ (s : ℕ). s < states) path step symbol small is.below;
-  last = drop-set-lt 48 path step symbol early ∙ is.last;
+-- it begins as zeros, in state 0
+pub IsPathTo-begins : (states : ℕ) → 0 < states → IsPathTo states (replicate 49 0) 0
+IsPathTo-begins states some = record {
+  is_path = record { long = refl; below = All-replicate (λ (symbol : ℕ). symbol < states) 49 0 some; last = refl };
+  row = some;
+}
+
+-- and goes on by one more symbol
+pub IsPathTo-more : (states : ℕ) (path : List ℕ) (state step symbol : ℕ) → IsPathTo states path state → step < 48 → symbol < states → IsPathTo states (set path step symbol) symbol
+IsPathTo-more states path state step symbol so_far early below = record {
+  is_path = record {
+    long = length-set path step symbol ∙ so_far.is_path.long;
+    below = All-set (λ (s : ℕ). s < states) path step symbol below so_far.is_path.below;
+    last = drop-set-lt 48 path step symbol early ∙ so_far.is_path.last;
+  };
+  row = below;
 }
 
 -- nibbles of one more symbol
