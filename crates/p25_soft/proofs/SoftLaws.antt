@@ -5,7 +5,7 @@ use Rattle.p25_bits.specs.{Distance.{distance_of}, Numbers.{number_bits, octets_
 use Rattle.p25_bits.proofs.NumbersLaws.{length-numbers_from}
 use Rattle.p25_trellis.specs.{Trellis.{IsFirstLeast, IsFirstLeastReading, IsPath, Carries, sent_bits}, Nearest.{block_from}}
 use Rattle.p25_trellis.proofs.{ApartLaws.{length-sent_bits, length-block}, FirstPathLaws.{same_reading}}
-use Rattle.p25_trellis.proofs.{NearestLaws.{IsFirstLeast-first_least_end, Carries-octets_from, IsBlock-block_from, same_block_from}, PathLaws.{power-pos, same_octets}}
+use Rattle.p25_trellis.proofs.{NearestLaws.{IsFirstLeast-first_least_end, Carries-octets_from, least_reading, IsBlock-block_from, same_block_from}, PathLaws.{power-pos, same_octets}}
 use Rattle.p25_soft.specs.{Levels.{bits_deviation, deviation_of, dibits_of, hard_bits, nominal_level, nominal_levels}, SoftPaths.{soft_cost, soft_path, soft_octets, soft_block}}
 use Rattle.p25_soft.proofs.DeviationLaws.{deviation-same, deviation-triangle, far-bits, hard_bits-nominal, length-dibits_of}
 
@@ -19,12 +19,7 @@ pub soft_reading : (states width : ℕ) (point : ℕ → ℕ → ℕ) (levels : 
     → IsFirstLeastReading states width (soft_cost point levels) (soft_octets states width point levels) (soft_cost point levels (soft_path states point levels))
 unfolding soft_octets
 soft_reading states width point levels some =
-    let first = IsFirstLeast-soft_path states point levels some in record {
-      path = soft_path states point levels;
-      first_least = first;
-      carries = Carries-octets_from states width (soft_path states point levels) first.is_path;
-      total_is = refl;
-    }
+    least_reading states width (soft_cost point levels) (soft_path states point levels) (IsFirstLeast-soft_path states point levels some)
 
 -- and no others are
 pub same_soft : (states width : ℕ) (point : ℕ → ℕ → ℕ) (levels : List ℤ) (octets : List ℕ) (cost : ℕ) → 0 < states

@@ -234,9 +234,9 @@ unfolding rest_in
 rest_in-first table = refl
 
 -- the lowest symbol at which a value is the least
-pub IsLowestLeast-first : (states : ℕ) (value : ℕ → ℕ) (symbol least : ℕ) → symbol < states → value symbol ≡ least
+pub IsLowestLeast-first : {states : ℕ} {value : ℕ → ℕ} {symbol least : ℕ} → symbol < states → value symbol ≡ least
     → ((other : ℕ) → other < states → least ≤ value other) → ((other : ℕ) → other < symbol → value other ≢ least) → IsLowestLeast states value symbol least
-IsLowestLeast-first states value symbol least below is none_less before = record {
+IsLowestLeast-first {states} {value} {symbol} {least} below is none_less before = record {
   below = below;
   is = is;
   none_less = none_less;
@@ -247,20 +247,20 @@ IsLowestLeast-first states value symbol least below is none_less before = record
 }
 
 -- where no symbol before the last has the least value, the last has
-pub IsLowestLeast-last : (states last : ℕ) (value : ℕ → ℕ) (least : ℕ) → last + 1 ≡ states → (symbol : ℕ) × (symbol < states) × (value symbol ≡ least)
+pub IsLowestLeast-last : {states last : ℕ} {value : ℕ → ℕ} {least : ℕ} → last + 1 ≡ states → (symbol : ℕ) × (symbol < states) × (value symbol ≡ least)
     → ((other : ℕ) → other < states → least ≤ value other) → ((other : ℕ) → other < last → value other ≢ least) → IsLowestLeast states value last least
-IsLowestLeast-last states last value least count some none_less before = elim (cases_lt some.0 last) [
+IsLowestLeast-last {states} {last} {value} {least} count some none_less before = elim (cases_lt some.0 last) [
   | inl lower ↦ absurd (before some.0 lower some.2)
   | inr not_lower ↦
       let same : some.0 ≡ last = omega (arith, some.1) in
-      IsLowestLeast-first states value last least (omega arith) (ap value (sym same) ∙ some.2) none_less before
+      IsLowestLeast-first (omega arith) (ap value (sym same) ∙ some.2) none_less before
 ]
 
 -- no symbol of a step costs less, with what follows it, than the least that can follow the state
-pub rest-least : (states : ℕ) (point cost : ℕ → ℕ → ℕ) (rests : List ℕ) (step state : ℕ) → HasLeastFrom states point cost rests 0 → step < 48 → state < states
+pub rest-least : {states : ℕ} {point cost : ℕ → ℕ → ℕ} {rests : List ℕ} {step state : ℕ} → HasLeastFrom states point cost rests 0 → step < 48 → state < states
     → (symbol : ℕ) → symbol < states → rest_in rests step state ≤ step_cost point cost rests step state symbol
 unfolding step_cost
-rest-least states point cost rests step state has early row symbol below =
+rest-least {states} {point} {cost} {rests} {step} {state} has early row symbol below =
     let before = 47 - step in
     let next : suc step + before ≡ 48 = omega arith in
     let here : step + suc before ≡ 48 = omega arith in
@@ -273,10 +273,10 @@ rest-least states point cost rests step state has early row symbol below =
     )
 
 -- and some symbol costs just that
-pub rest-reached : (states : ℕ) (point cost : ℕ → ℕ → ℕ) (rests : List ℕ) (step state : ℕ) → HasLeastFrom states point cost rests 0 → step < 48 → state < states
+pub rest-reached : {states : ℕ} {point cost : ℕ → ℕ → ℕ} {rests : List ℕ} {step state : ℕ} → HasLeastFrom states point cost rests 0 → step < 48 → state < states
     → (symbol : ℕ) × (symbol < states) × (step_cost point cost rests step state symbol ≡ rest_in rests step state)
 unfolding step_cost
-rest-reached states point cost rests step state has early row =
+rest-reached {states} {point} {cost} {rests} {step} {state} has early row =
     let before = 47 - step in
     let next : suc step + before ≡ 48 = omega arith in
     let here : step + suc before ≡ 48 = omega arith in
@@ -290,5 +290,5 @@ rest-reached states point cost rests step state has early row =
     found (y ∷ ys) is costs before next =
         let count : 47 - step ≡ before = omega arith in
         let rest = has.at (suc step) before y (omega arith) next is.0 in
-        let low : rest_in rests step state ≤ cost step (point state y) + rest_in rests (suc step) y = rest-least states point cost rests step state has early row y is.0 in
+        let low : rest_in rests step state ≤ cost step (point state y) + rest_in rests (suc step) y = rest-least has early row y is.0 in
         (y, is.0, omega (arith, costs, symbols_cost-cons point cost step state y ys, rest.none_less ys (subst (λ (k : ℕ). IsEnd states k ys) count is.1), low))

@@ -74,9 +74,9 @@ path_cost-distance states point received bits some small long are path is =
     ∙ ap (distance_of (number_bits 4 (interleaved nibbles))) (sym are)
 
 -- costs that are the same for every path have the same first least path
-pub IsFirstLeastReading-same : (states width : ℕ) (f g : List ℕ → ℕ) (octets : List ℕ) (total : ℕ) → ((path : List ℕ) → IsPath states path → f path ≡ g path)
+pub IsFirstLeastReading-same : {states width : ℕ} {f g : List ℕ → ℕ} {octets : List ℕ} {total : ℕ} → ((path : List ℕ) → IsPath states path → f path ≡ g path)
     → IsFirstLeastReading states width f octets total → IsFirstLeastReading states width g octets total
-IsFirstLeastReading-same states width f g octets total same reading =
+IsFirstLeastReading-same {states} {f = f} {g} same reading =
     let first = reading.first_least in
     let here = same reading.path first.is_path in record {
       path = reading.path;

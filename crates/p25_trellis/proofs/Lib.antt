@@ -1,4 +1,3 @@
-pub mod RateSteps
 mod TablesSteps
 pub mod InterleaveLaws
 pub mod PathLaws

@@ -87,17 +87,17 @@ Carries-octets_from states width path is =
       information = sym (take_all (8 * (6 * width)) bits all) ∙ sym (number_bits-numbers_from 8 (6 * width) bits fits) ∙ number_bits-octets (octets_from (6 * width) bits);
     }
 
+-- the octets that the first least path carries, and what it costs, are its reading
+pub least_reading : (states width : ℕ) (cost : List ℕ → ℕ) (path : List ℕ) → IsFirstLeast states cost path
+    → IsFirstLeastReading states width cost (octets_from (6 * width) (number_bits width (take 48 path))) (cost path)
+least_reading states width cost path first = record { path = path; first_least = first; carries = Carries-octets_from states width path first.is_path; total_is = refl }
+
 -- the octets and the distance that the functions give are those of the first nearest path
 pub nearest_reading : (states width : ℕ) (point : ℕ → ℕ → ℕ) (received : List Bool) → 0 < states
     → IsFirstLeastReading states width (distance_from point received) (nearest_octets states width point received) (nearest_distance states point received)
 unfolding nearest_octets nearest_distance
 nearest_reading states width point received some =
-    let first = IsFirstLeast-nearest_path states point received some in record {
-      path = nearest_path states point received;
-      first_least = first;
-      carries = Carries-octets_from states width (nearest_path states point received) first.is_path;
-      total_is = refl;
-    }
+    least_reading states width (distance_from point received) (nearest_path states point received) (IsFirstLeast-nearest_path states point received some)
 
 -- and no others are
 pub same_nearest : (states width : ℕ) (point : ℕ → ℕ → ℕ) (received : List Bool) (octets : List ℕ) (distance : ℕ) → 0 < states

@@ -1,6 +1,6 @@
 -- Paths, their nibbles and what they carry.
-use Rattle.std.proofs.Common.{◌≡◌, ℕ, suc, ◌+◌, ◌^◌, ◌<◌, ◌≤◌, Bool, List, [], ◌∷◌, ◌++◌, length, take, drop, get_or, set, refl, ap, ap₂, sym, subst, ◌∙◌, arith, append_assoc, All}
-use Rattle.std.proofs.{lemmas.List.{take-append-drop, take_more_set, drop_more, length-take-le}, lemmas.List.Elements.{All-take}, lemmas.Nat.{pow_pos}}
+use Rattle.std.proofs.Common.{◌≡◌, ℕ, suc, ◌+◌, ◌^◌, ◌<◌, ◌≤◌, Bool, List, [], ◌∷◌, ◌++◌, length, take, drop, get_or, replicate, set, refl, ap, ap₂, sym, subst, ◌∙◌, arith, append_assoc, length-set, All}
+use Rattle.std.proofs.{lemmas.List.{drop-set-lt, take-append-drop, take_more_set, drop_more, length-take-le}, lemmas.List.Elements.{All-replicate, All-set, All-take}, lemmas.Nat.{pow_pos}}
 use Rattle.p25_bits.specs.Numbers.{number_bits}
 use Rattle.p25_trellis.specs.Trellis.{IsPath, IsBlock, Carries, nibbles_from, sent_bits}
 use Rattle.p25_bits.proofs.NumbersLaws.{length-number_bits, number_bits-octets, same_from_number_bits}
@@ -8,6 +8,29 @@ use Rattle.p25_bits.proofs.NumbersLaws.{length-number_bits, number_bits-octets, 
 -- a power of two is not 0
 pub power-pos : (width states : ℕ) → states ≡ 2 ^ width → 0 < states
 power-pos width states is = rw is (pow_pos width)
+
+-- a path in the making, with the symbols so far set and zeros behind them, and the state after them
+pub record IsPathTo (states : ℕ) (path : List ℕ) (state : ℕ) : Type 0 where
+  pub is_path : IsPath states path
+  pub row : state < states
+
+-- it begins as zeros, in state 0
+pub IsPathTo-begins : (states : ℕ) → 0 < states → IsPathTo states (replicate 49 0) 0
+IsPathTo-begins states some = record {
+  is_path = record { long = refl; below = All-replicate (λ (symbol : ℕ). symbol < states) 49 0 some; last = refl };
+  row = some;
+}
+
+-- and goes on by one more symbol
+pub IsPathTo-more : (states : ℕ) (path : List ℕ) (state step symbol : ℕ) → IsPathTo states path state → step < 48 → symbol < states → IsPathTo states (set path step symbol) symbol
+IsPathTo-more states path state step symbol so_far early below = record {
+  is_path = record {
+    long = length-set path step symbol ∙ so_far.is_path.long;
+    below = All-set (λ (s : ℕ). s < states) path step symbol below so_far.is_path.below;
+    last = drop-set-lt 48 path step symbol early ∙ so_far.is_path.last;
+  };
+  row = below;
+}
 
 -- nibbles of one more symbol
 pub nibbles_from-cons : (point : ℕ → ℕ → ℕ) (state symbol : ℕ) (symbols : List ℕ) → nibbles_from point state (symbol ∷ symbols) ≡ point state symbol ∷ nibbles_from point symbol symbols

@@ -1,5 +1,5 @@
--- The laws of the tables of points, from tests over the whole table that compute.
-use Rattle.std.specs.Prelude.{◌≡◌, ◌≢◌, ℕ, zero, suc, ◌+◌, ◌*◌, ◌^◌, ◌/◌, ◌<◌, ◌≤◌, Bool, true, false, if◌then◌else◌, ◌==◌, nat_le, nat_lt, ◌&&◌, ◌||◌, ◌∷◌, replicate, refl}
+-- The laws of the tables of points, from tests over the whole table that compute, and what the tables of the code have.
+use Rattle.std.specs.Prelude.{◌≡◌, ◌≢◌, ℕ, zero, suc, ◌+◌, ◌*◌, ◌^◌, ◌/◌, ◌<◌, ◌≤◌, Bool, true, false, if◌then◌else◌, ◌==◌, nat_le, nat_lt, ◌&&◌, ◌||◌, List, ◌∷◌, length, replicate, slice_index, refl}
 use Rattle.std.proofs.{Common.{inl, inr, sym, subst, arith}, lemmas.Bool.{cases_Bool, leb-true, ltb-true, eqb-true, and_parts}}
 use Rattle.std.proofs.lemmas.List.Elements.{All-cons, All-replicate}
 use Rattle.p25_bits.specs.{Bits.{bits_of}, Distance.{distance_by, distance_of}, Numbers.{number_bits}}
@@ -22,6 +22,30 @@ pub record IsRate (states bits octets apart : ℕ) (point parted : ℕ → ℕ �
   pub reached : SomeApart states point apart
   -- of two paths that leave one state by two symbols, the step and what must follow it differ in `apart` bits
   pub parts : (state x y : ℕ) → state < states → x < states → y < states → x ≢ y → apart ≤ nibble_distance (point state x) (point state y) + parted x y
+
+-- a rate whose symbols have so many bits and whose paths that part differ in at least `apart` bits: the four bits of the point in a
+-- state's row and a symbol's column, and in how many bits at least the paths from two states differ until they meet
+pub record TrellisRate (bits apart : ℕ) : Type 0 where
+  pub point : ℕ → ℕ → ℕ
+  pub parted : ℕ → ℕ → ℕ
+  pub laws : IsRate (2 ^ bits) bits (6 * bits) apart point parted
+
+-- the tables of a rate with so many states: its points, a row for each state; which symbol sends a nibble from a state, 8 where none
+-- does; and in how many bits the point of a state and a symbol differs from a nibble
+pub record AreTables (states : ℕ) (point : ℕ → ℕ → ℕ) (points symbols distances : List ℕ) : Type 0 where
+  pub points_long : length points ≡ states * states
+  pub points_small : (place : ℕ) → slice_index points place < 16
+  pub point_at : (state symbol : ℕ) → state < states → symbol < states
+      → slice_index point_nibbles (slice_index points (state * states + symbol)) ≡ point state symbol
+  pub symbols_long : length symbols ≡ 128
+  pub sends : (state nibble : ℕ) → state < states → nibble < 16 → slice_index symbols (8 * nibble + state) < states
+      → point state (slice_index symbols (8 * nibble + state)) ≡ nibble
+  pub none : (state nibble : ℕ) → state < states → nibble < 16 → states ≤ slice_index symbols (8 * nibble + state)
+      → (slice_index symbols (8 * nibble + state) ≡ 8) × ((symbol : ℕ) → symbol < states → point state symbol ≢ nibble)
+  pub distances_long : length distances ≡ 128 * states
+  pub distance_at : (state symbol nibble : ℕ) → state < states → symbol < states → nibble < 16
+      → slice_index distances (8 * (nibble * states + symbol) + state) ≡ nibble_distance (point state symbol) nibble
+  pub distances_small : (place : ℕ) → slice_index distances place ≤ 4
 
 -- in how many bits at least the half-rate paths from two states differ until they meet
 unfoldable pub half_parted : ℕ → ℕ → ℕ
@@ -135,6 +159,10 @@ half_passes = record { nibbles = refl; stays_parted = refl; parts = refl; togeth
 pub half_is_rate : IsRate 4 2 12 5 half_point half_parted
 half_is_rate = rate-of_tests half_passes refl (omega arith) (omega arith) refl (omega arith) (omega arith) (omega arith)
 
+-- half rate
+abbrev pub half_rate : TrellisRate 2 5
+half_rate = record { point = half_point; parted = half_parted; laws = half_is_rate }
+
 three_quarter_passes : PassesTests 8 2 3 three_quarter_point three_quarter_parted
 unfolding nibbles_test parted_test parts_test passed_below three_quarter_point point_in three_quarter_rows point_nibbles three_quarter_parted nibble_distance
     bits_of distance_by sent_bits number_bits interleaved each_fourth nibbles_from
@@ -142,3 +170,7 @@ three_quarter_passes = record { nibbles = refl; stays_parted = refl; parts = ref
 
 pub three_quarter_is_rate : IsRate 8 3 18 3 three_quarter_point three_quarter_parted
 three_quarter_is_rate = rate-of_tests three_quarter_passes refl (omega arith) (omega arith) refl (omega arith) (omega arith) (omega arith)
+
+-- three-quarter rate
+abbrev pub three_quarter_rate : TrellisRate 3 3
+three_quarter_rate = record { point = three_quarter_point; parted = three_quarter_parted; laws = three_quarter_is_rate }

@@ -81,21 +81,6 @@ fn fill_step<R: Rate>(costs: &[u32], rests: &mut [u32], step: usize)
     }
 }
 
-// The least that can follow each state at each step.
-fn least_rests<R: Rate>(costs: &[u32]) -> [u32; BLOCK_RESTS]
-    requires costs { length costs.now ≡ 784 }
-    requires low { All (λ cost. cost ≤ 2 ^ 24) costs.now }
-    ensures least { HasLeastFrom R.STATES R.point_of (cost_in costs.now) result 0 }
-    ensures len { length result ≡ 392 }
-{
-    let mut rests = [0; BLOCK_RESTS];
-    fill_last::<R>(costs, &mut rests);
-    for step in (0..48).rev() {
-        fill_step::<R>(costs, &mut rests, step);
-    }
-    rests
-}
-
 /// Sets `octets` to those of the first least path by a table of costs, and answers what that path costs: no path costs
 /// less, and of several that cost as little it is the first in dictionary order of symbols.
 ///
@@ -108,7 +93,11 @@ pub fn read_costs<R: Rate>(costs: &[u32], octets: &mut [u8]) -> u32
     requires octets { length octets.old ≡ R.OCTETS }
     ensures { IsFirstLeastReading R.STATES R.BITS_PER_SYMBOL (path_cost R.point_of (cost_in costs.now)) octets.new result }
 {
-    let rests = least_rests::<R>(costs);
+    let mut rests = [0; BLOCK_RESTS];
+    fill_last::<R>(costs, &mut rests);
+    for step in (0..48).rev() {
+        fill_step::<R>(costs, &mut rests, step);
+    }
     take_path::<R, _>(
         |step, state| best_symbol::<R>(costs, &rests, step, state).symbol,
         octets,

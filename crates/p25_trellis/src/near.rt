@@ -58,20 +58,6 @@ fn fill_last<R: Rate>(received: &[u8; 49], rests: &mut [u8])
     }
 }
 
-// Fills in the least that can follow each state at a step, where what follows the next step is there.
-fn fill_step<R: Rate>(received: &[u8; 49], rests: &mut [u8], step: usize)
-    requires nibbles { All (λ n. n < 16) received.now }
-    requires rests { length rests.old ≡ 392 }
-    requires step { step < 48 }
-    requires after { HasLeastFrom R.STATES R.point_of (received_cost received.now) rests.old (suc step) }
-    ensures { HasLeastFrom R.STATES R.point_of (received_cost received.now) rests.new step }
-{
-    let least = least_at::<R>(received[step], &rests[8 * step + 8..8 * step + 16]);
-    for state in 0..usize::from(R::STATES) {
-        rests[8 * step + state] = least[state];
-    }
-}
-
 // The least that can follow each state at each step.
 pub(crate) fn near_rests<R: Rate>(received: &[u8; 49]) -> [u8; BLOCK_RESTS]
     requires { All (λ n. n < 16) received.now }
@@ -81,7 +67,10 @@ pub(crate) fn near_rests<R: Rate>(received: &[u8; 49]) -> [u8; BLOCK_RESTS]
     let mut rests = [0; BLOCK_RESTS];
     fill_last::<R>(received, &mut rests);
     for step in (0..48).rev() {
-        fill_step::<R>(received, &mut rests, step);
+        let least = least_at::<R>(received[step], &rests[8 * step + 8..8 * step + 16]);
+        for state in 0..usize::from(R::STATES) {
+            rests[8 * step + state] = least[state];
+        }
     }
     rests
 }

@@ -1,9 +1,9 @@
-//! The two rates: their tables of points, and the nibbles of the points.
+//! The two rates: their numbers and their tables of points, the nibbles of the points, and what every rate is by its tables.
 
-ghost use Rattle.std.specs.Prelude.{◌≡◌, ◌≢◌, ℕ, ◌<◌, ◌≤◌, length, slice_index};
+ghost use Rattle.std.specs.Prelude.{◌≡◌, ◌≢◌, ℕ, ◌*◌, ◌^◌, ◌<◌, ◌≤◌, length, slice_index};
 ghost use Rattle.p25_trellis.specs.{Tables.{nibble_distance}, TableLaws.{IsRate}};
 
-use super::tables::{HALF_DISTANCES, HALF_SYMBOLS, THREE_QUARTER_DISTANCES, THREE_QUARTER_SYMBOLS};
+use super::tables::RateTables;
 
 /// A rate of the trellis code: a table of points with a row for each state and a column for each symbol. The state after
 /// a symbol is that symbol (TIA-102.BAAA, Trellis Coding).
@@ -94,80 +94,82 @@ pub struct Half;
 #[derive(Clone, Copy, Debug, PartialEq, Eq)]
 pub struct ThreeQuarter;
 
-impl Rate for Half {
-    const STATES: u8 = 4;
-
-    const BITS_PER_SYMBOL: u32 = 2;
-
-    const OCTETS: usize = 12;
-
-    const APART: u32 = 5;
-
-    ghost use Rattle.p25_trellis.specs.{Tables.{half_point}, TableLaws.{half_parted, half_is_rate}};
-
-    ghost STATES = { 4 };
-
-    ghost BITS_PER_SYMBOL = { 2 };
-
-    ghost OCTETS = { 12 };
-
-    ghost APART = { 5 };
-
-    ghost point_of = { half_point };
-
-    ghost parted = { half_parted };
-
-    fn point(state: u8, symbol: u8) -> u8 {
-        NIBBLES[usize::from(HALF_POINTS[usize::from(4 * state + symbol)])]
-    }
-
-    fn symbol_sending(state: u8, nibble: u8) -> u8 {
-        HALF_SYMBOLS[8 * usize::from(nibble) + usize::from(state)]
-    }
-
-    fn distances(symbol: u8, nibble: u8) -> &'static [u8] {
-        let at = 32 * usize::from(nibble) + 8 * usize::from(symbol);
-        &HALF_DISTANCES[at..at + 8]
-    }
-
-    ghost table = { half_is_rate };
+/// The numbers of a rate from which its others follow.
+#[derive(Clone, Copy)]
+pub(crate) struct RateNumbers {
+    // The number of bits that a symbol stands for: 2 of a dibit or 3 of a tribit.
+    pub(crate) bits: u32,
+    // The least number of sent bits in which two different paths differ.
+    pub(crate) apart: u32,
 }
 
-impl Rate for ThreeQuarter {
-    const STATES: u8 = 8;
+/// A rate that is told by its numbers and its points.
+pub(crate) trait RatePoints {
+    ghost use Rattle.p25_trellis.specs.{TableLaws.{TrellisRate}, declared.rate.RateNumbers.{RateNumbers}};
 
-    const BITS_PER_SYMBOL: u32 = 3;
+    const NUMBERS: RateNumbers;
 
-    const OCTETS: usize = 18;
+    ghost NUMBERS: { RateNumbers };
 
-    const APART: u32 = 3;
+    // The points, how far paths part, and the laws of both.
+    ghost rate: { TrellisRate NUMBERS.bits NUMBERS.apart };
+}
 
-    ghost use Rattle.p25_trellis.specs.{Tables.{three_quarter_point}, TableLaws.{three_quarter_parted, three_quarter_is_rate}};
+impl RatePoints for Half {
+    ghost use Rattle.p25_trellis.specs.TableLaws.{half_rate};
 
-    ghost STATES = { 8 };
+    const NUMBERS: RateNumbers = RateNumbers { bits: 2, apart: 5 };
 
-    ghost BITS_PER_SYMBOL = { 3 };
+    ghost NUMBERS = { record { bits = 2; apart = 5 } };
 
-    ghost OCTETS = { 18 };
+    ghost rate = { half_rate };
+}
 
-    ghost APART = { 3 };
+impl RatePoints for ThreeQuarter {
+    ghost use Rattle.p25_trellis.specs.TableLaws.{three_quarter_rate};
 
-    ghost point_of = { three_quarter_point };
+    const NUMBERS: RateNumbers = RateNumbers { bits: 3, apart: 3 };
 
-    ghost parted = { three_quarter_parted };
+    ghost NUMBERS = { record { bits = 3; apart = 3 } };
+
+    ghost rate = { three_quarter_rate };
+}
+
+// There is a state, and a symbol, for each value of a symbol's bits, and a block is 48 symbols.
+impl<T: RateTables> Rate for T {
+    const STATES: u8 = 1 << T::NUMBERS.bits;
+
+    const BITS_PER_SYMBOL: u32 = T::NUMBERS.bits;
+
+    const OCTETS: usize = 6 * T::NUMBERS.bits as usize;
+
+    const APART: u32 = T::NUMBERS.apart;
+
+    ghost STATES = { 2 ^ T.NUMBERS.bits };
+
+    ghost BITS_PER_SYMBOL = { T.NUMBERS.bits };
+
+    ghost OCTETS = { 6 * T.NUMBERS.bits };
+
+    ghost APART = { T.NUMBERS.apart };
+
+    ghost point_of = { T.rate.point };
+
+    ghost parted = { T.rate.parted };
 
     fn point(state: u8, symbol: u8) -> u8 {
-        NIBBLES[usize::from(THREE_QUARTER_POINTS[usize::from(8 * state + symbol)])]
+        let place = usize::from(state) * usize::from(Self::STATES) + usize::from(symbol);
+        NIBBLES[usize::from(T::tables().points[place])]
     }
 
     fn symbol_sending(state: u8, nibble: u8) -> u8 {
-        THREE_QUARTER_SYMBOLS[8 * usize::from(nibble) + usize::from(state)]
+        T::tables().symbols[8 * usize::from(nibble) + usize::from(state)]
     }
 
     fn distances(symbol: u8, nibble: u8) -> &'static [u8] {
-        let at = 64 * usize::from(nibble) + 8 * usize::from(symbol);
-        &THREE_QUARTER_DISTANCES[at..at + 8]
+        let at = 8 * (usize::from(nibble) * usize::from(Self::STATES) + usize::from(symbol));
+        &T::tables().distances[at..at + 8]
     }
 
-    ghost table = { three_quarter_is_rate };
+    ghost table = { T.rate.laws };
 }

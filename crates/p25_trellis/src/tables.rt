@@ -1,4 +1,54 @@
-//! Tables for the search of a path: which symbol sends a nibble, and how far the points of a symbol are from a nibble.
+//! The tables of each rate, as the search of a path reads them: its points, which symbol sends a nibble, and how far the points of a
+//! symbol are from a nibble.
+
+ghost use Rattle.std.specs.Prelude.{ℕ, ◌^◌};
+ghost use Rattle.p25_trellis.specs.TableLaws.{AreTables};
+
+use super::rate::{HALF_POINTS, Half, RatePoints, THREE_QUARTER_POINTS, ThreeQuarter};
+
+/// The tables of a rate.
+#[derive(Clone, Copy)]
+pub(crate) struct Tables {
+    // The points, a row for each state.
+    pub(crate) points: &'static [u8],
+    // Which symbol sends a nibble from a state, at place 8 · nibble + state; 8 where none does.
+    pub(crate) symbols: &'static [u8],
+    // In how many bits the point of a state and a symbol differs from a nibble, at place 8 · (nibble · states + symbol) + state.
+    pub(crate) distances: &'static [u8],
+}
+
+/// A rate whose tables are there.
+pub(crate) trait RateTables: RatePoints {
+    /// Answers the tables.
+    fn tables() -> Tables
+        ensures { AreTables (2 ^ Self.NUMBERS.bits) Self.rate.point result.points.now result.symbols.now result.distances.now };
+}
+
+impl RateTables for Half {
+    #[inline(always)]
+    fn tables() -> Tables {
+        HALF_TABLES
+    }
+}
+
+impl RateTables for ThreeQuarter {
+    #[inline(always)]
+    fn tables() -> Tables {
+        THREE_QUARTER_TABLES
+    }
+}
+
+const HALF_TABLES: Tables = Tables {
+    points: &HALF_POINTS,
+    symbols: &HALF_SYMBOLS,
+    distances: &HALF_DISTANCES,
+};
+
+const THREE_QUARTER_TABLES: Tables = Tables {
+    points: &THREE_QUARTER_POINTS,
+    symbols: &THREE_QUARTER_SYMBOLS,
+    distances: &THREE_QUARTER_DISTANCES,
+};
 
 // Which symbol sends a nibble from a state at half rate, at place 8 · nibble + state; 8 where none does.
 pub(crate) const HALF_SYMBOLS: [u8; 128] = [

@@ -76,21 +76,20 @@ returns-in-Some g c =
 
 pub returns-in-None : goal.returns-in-None
 returns-in-None g c =
-    let states = g.R.Rate.STATES in
-    let width = g.R.Rate.BITS_PER_SYMBOL in
+    let law = g.met.R.Rate.table in
     let point = g.R.Rate.point_of in
     let received = c.gather-received.result in
-    let bits = number_bits 4 (interleaved received) in
-    let some = power-pos width states g.met.R.Rate.table.states_of_bits in
     let rests = c.near_rests-rests.result in
     let octets = c.take_path.new.octets in
+    let some = power-pos g.R.Rate.BITS_PER_SYMBOL g.R.Rate.STATES law.states_of_bits in
     let costs
-    = subst (λ (total : ℕ). IsFirstLeastReading states width (path_cost point (received_cost received)) octets total)
+    = subst (λ (total : ℕ). IsFirstLeastReading g.R.Rate.STATES g.R.Rate.BITS_PER_SYMBOL (path_cost point (received_cost received)) octets total)
     (rest_in-first rests ∙ sym c.from.ensures)
     (c.take_path.ensures (received_cost received) rests c.near_rests-rests.ensures.least
     (record { at = λ step state symbol early row answers. (rest_in rests step state, search rules) })) in
-    let reading = IsFirstLeastReading-same states width (path_cost point (received_cost received)) (distance_from point bits) octets c.from.result
-    (path_cost-distance states point received bits some g.met.R.Rate.table.nibbles c.gather-received.ensures.len refl)
+    let reading
+    = IsFirstLeastReading-same
+    (path_cost-distance g.R.Rate.STATES point received (number_bits 4 (interleaved received)) some law.nibbles c.gather-received.ensures.len refl)
     costs in
-    let read = read_from g.met.R.Rate.table c.args.bits.now c.args.at received octets c.from.result (c.gather-received.ensures.sent ∙ c.take_nibbles.ensures.value) c.requires.there reading in
+    let read = read_from law c.args.bits.now c.args.at received octets c.from.result (c.gather-received.ensures.sent ∙ c.take_nibbles.ensures.value) c.requires.there reading in
     record { nearest = read.nearest; octets = read.octets_are; distance = read.distance_is; near = read.near }

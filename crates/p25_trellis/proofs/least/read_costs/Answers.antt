@@ -5,15 +5,16 @@ use Rattle.p25_trellis.proofs.least.read_costs.Goals as goal
 
 pub take_path-requires-clause-callable : goal.take_path-requires-clause-callable
 take_path-requires-clause-callable g c = λ step state early row.
-    let fits : (symbol : ℕ) → symbol < g.R.Rate.STATES → step_cost g.R.Rate.point_of (cost_in c.args.costs.now) c.least_rests-rests.result step state symbol < 2 ^ 32
-    = λ symbol below. step_cost-lt g.R.Rate.STATES g.R.Rate.point_of c.args.costs.now c.least_rests-rests.result step state symbol c.requires.low
-    (HasLeastFrom-later g.R.Rate.STATES g.R.Rate.point_of (cost_in c.args.costs.now) c.least_rests-rests.result 0 (suc step) (omega arith) c.least_rests-rests.ensures.least) early below in
+    let fits : (symbol : ℕ) → symbol < g.R.Rate.STATES → step_cost g.R.Rate.point_of (cost_in c.args.costs.now) c.loop-step.rests step state symbol < 2 ^ 32
+    = λ symbol below. step_cost-lt g.R.Rate.STATES g.R.Rate.point_of c.args.costs.now c.loop-step.rests step state symbol c.requires.low
+    (HasLeastFrom-later g.R.Rate.STATES g.R.Rate.point_of (cost_in c.args.costs.now) c.loop-step.rests c.loop-step.step (suc step) (omega arith) c.loop-step.invariant.least) early below in
     search rules
 
 pub returns : goal.returns
 returns g c =
-    let rests = c.least_rests-rests.result in
+    let rests = c.loop-step.rests in
+    let least = HasLeastFrom-later g.R.Rate.STATES g.R.Rate.point_of (cost_in c.args.costs.now) rests c.loop-step.step 0 (omega arith) c.loop-step.invariant.least in
     subst
     (λ (total : ℕ). IsFirstLeastReading g.R.Rate.STATES g.R.Rate.BITS_PER_SYMBOL (path_cost g.R.Rate.point_of (cost_in c.args.costs.now)) c.take_path.new.octets total)
     (rest_in-first rests)
-    (c.take_path.ensures (cost_in c.args.costs.now) rests c.least_rests-rests.ensures.least (record { at = λ step state symbol early row answers. search rules }))
+    (c.take_path.ensures (cost_in c.args.costs.now) rests least (record { at = λ step state symbol early row answers. search rules }))

@@ -19,30 +19,14 @@ loop-symbol-preserved g c =
 
 pub returns-then-symbol_distance-least : goal.returns-then-symbol_distance-least
 returns-then-symbol_distance-least g c =
-    let states = g.R.Rate.STATES in
-    let point = g.R.Rate.point_of in
-    let cost = received_cost c.args.received.now in
-    let rests = c.args.rests.now in
-    let step = c.args.step in
-    let state = c.args.state in
-    IsLowestLeast-first states (step_cost point cost rests step state) c.loop-symbol.symbol (rest_in rests step state)
-    (omega (arith, c.loop-symbol-test.true, c.STATES-symbol-end.ensures))
-    (sym c.symbol_distance.ensures ∙ c.if-symbol_distance-least.true ∙ rest_read rests step state c.from.result c.from.ensures)
-    (rest-least states point cost rests step state c.requires.least c.requires.step c.requires.state)
+    IsLowestLeast-first (omega (arith, c.loop-symbol-test.true, c.STATES-symbol-end.ensures))
+    (sym c.symbol_distance.ensures ∙ c.if-symbol_distance-least.true ∙ rest_read c.args.rests.now c.args.step c.args.state c.from.result c.from.ensures)
+    (rest-least c.requires.least c.requires.step c.requires.state)
     c.loop-symbol.invariant
 
 pub returns : goal.returns
 returns g c =
-    let states = g.R.Rate.STATES in
-    let point = g.R.Rate.point_of in
-    let cost = received_cost c.args.received.now in
-    let rests = c.args.rests.now in
-    let step = c.args.step in
-    let state = c.args.state in
-    let last = c.STATES.result - 1 in
-    let some = power-pos g.R.Rate.BITS_PER_SYMBOL states g.met.R.Rate.table.states_of_bits in
-    let count : last + 1 ≡ states = omega (arith, c.STATES.ensures, some) in
-    IsLowestLeast-last states last (step_cost point cost rests step state) (rest_in rests step state) count
-    (rest-reached states point cost rests step state c.requires.least c.requires.step c.requires.state)
-    (rest-least states point cost rests step state c.requires.least c.requires.step c.requires.state)
+    let some = power-pos g.R.Rate.BITS_PER_SYMBOL g.R.Rate.STATES g.met.R.Rate.table.states_of_bits in
+    let count : c.STATES.result - 1 + 1 ≡ g.R.Rate.STATES = omega (arith, c.STATES.ensures, some) in
+    IsLowestLeast-last count (rest-reached c.requires.least c.requires.step c.requires.state) (rest-least c.requires.least c.requires.step c.requires.state)
     (λ other lower. c.loop-symbol.invariant other (omega (arith, lower, c.loop-symbol-test.false, c.STATES.ensures, c.STATES-symbol-end.ensures)))

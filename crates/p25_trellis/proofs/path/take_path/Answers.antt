@@ -1,7 +1,6 @@
-use Rattle.std.proofs.{Common.{◌≡◌, ℕ, ◌+◌, ◌<◌, List, [], ◌∷◌, ◌++◌, take, refl, sym, ap, subst, ◌∙◌, arith, length-set}, lemmas.List.{take-append-drop, drop-set-lt}}
-use Rattle.std.proofs.lemmas.List.Elements.{All-replicate, All-set}
+use Rattle.std.proofs.{Common.{◌≡◌, ℕ, ◌+◌, List, [], ◌∷◌, ◌++◌, take, refl, sym, ap, subst, ◌∙◌, arith}, lemmas.List.{take-append-drop}}
 use Rattle.p25_trellis.specs.{Costs.{path_cost, symbols_cost}, Least.{rest_in}}
-use Rattle.p25_trellis.proofs.{PathLaws.{power-pos}, FirstPathLaws.{IsFirstLeastEnd, IsFirstLeastEnd-last, IsFirstLeast-from_end, IsFirstLeast-total, completes_more}}
+use Rattle.p25_trellis.proofs.{PathLaws.{power-pos, IsPathTo-begins, IsPathTo-more}, FirstPathLaws.{IsFirstLeastEnd, IsFirstLeastEnd-last, IsFirstLeast-from_end, IsFirstLeast-total, completes_more}}
 use Rattle.p25_trellis.proofs.path.take_path.Goals as goal
 
 pub loop-step-init : goal.loop-step-init
@@ -10,10 +9,7 @@ loop-step-init g c =
       completes = λ cost rests least chooses before end place is.
           let whole : before ≡ 48 = omega (arith, place) in
           subst (λ (b : ℕ). IsFirstLeastEnd g.R.Rate.STATES b (symbols_cost g.R.Rate.point_of cost 0 0) end) whole is;
-      small = All-replicate (λ (symbol : ℕ). symbol < g.R.Rate.STATES) 49 0 some;
-      row = some;
-      last = refl;
-      long = refl;
+      path = IsPathTo-begins g.R.Rate.STATES some;
     }
 
 pub loop-step-preserved : goal.loop-step-preserved
@@ -23,19 +19,13 @@ loop-step-preserved g c =
     let path = c.loop-step.path in
     let symbol = c.choose-state.result in
     let now = c.loop-step.invariant in
-    let below = c.requires.below step state symbol c.loop-step-test.true now.row c.choose-state.ensures in record {
+    let below = c.requires.below step state symbol c.loop-step-test.true now.path.row c.choose-state.ensures in record {
       completes = λ cost rests least chooses.
-          let choice = chooses.at step state symbol c.loop-step-test.true now.row c.choose-state.ensures in
-          completes_more g.R.Rate.STATES g.R.Rate.point_of cost rests path step state symbol choice.0 least c.loop-step-test.true now.long choice.1
+          let choice = chooses.at step state symbol c.loop-step-test.true now.path.row c.choose-state.ensures in
+          completes_more g.R.Rate.STATES g.R.Rate.point_of cost rests path step state symbol choice.0 least c.loop-step-test.true now.path.is_path.long choice.1
           (now.completes cost rests least chooses);
-      small = All-set (λ (s : ℕ). s < g.R.Rate.STATES) path step symbol below now.small;
-      row = below;
-      last = drop-set-lt 48 path step symbol c.loop-step-test.true ∙ now.last;
-      long = length-set path step symbol ∙ now.long;
+      path = IsPathTo-more g.R.Rate.STATES path state step symbol now.path c.loop-step-test.true below;
     }
-
-pub octets_of-requires-clause-path : goal.octets_of-requires-clause-path
-octets_of-requires-clause-path g c = record { long = c.loop-step.invariant.long; below = c.loop-step.invariant.small; last = c.loop-step.invariant.last }
 
 pub returns : goal.returns
 returns g c = λ cost rests least chooses.
@@ -46,7 +36,7 @@ returns g c = λ cost rests least chooses.
     let place : c.loop-step.step + 0 ≡ 48 = omega arith in
     let some = power-pos g.R.Rate.BITS_PER_SYMBOL states g.met.R.Rate.table.states_of_bits in
     let whole : take c.loop-step.step path ++ 0 ∷ [] ≡ path
-    = ap (λ n. take n path ++ 0 ∷ []) (sym done) ∙ ap (λ (zs : List ℕ). take 48 path ++ zs) (sym c.loop-step.invariant.last) ∙ take-append-drop 48 path in
+    = ap (λ n. take n path ++ 0 ∷ []) (sym done) ∙ ap (λ (zs : List ℕ). take 48 path ++ zs) (sym c.loop-step.invariant.path.is_path.last) ∙ take-append-drop 48 path in
     let ends = subst (λ (p : List ℕ). IsFirstLeastEnd states 48 (symbols_cost point cost 0 0) p) whole
     (c.loop-step.invariant.completes cost rests least chooses 0 (0 ∷ []) place
     (IsFirstLeastEnd-last states (symbols_cost point cost c.loop-step.step c.loop-step.state))) in

@@ -1,6 +1,6 @@
-use Rattle.std.proofs.Common.{◌≡◌, ℕ, ◌+◌, ◌<◌, List, [], ◌∷◌, ◌++◌, All, take, drop, length}
+use Rattle.std.proofs.Common.{◌≡◌, ℕ, ◌+◌, List, ◌++◌, take}
 use Rattle.p25_trellis.specs.{Costs.{symbols_cost}, Least.{Chooses, HasLeastFrom}}
-use Rattle.p25_trellis.proofs.FirstPathLaws.{IsFirstLeastEnd}
+use Rattle.p25_trellis.proofs.{FirstPathLaws.{IsFirstLeastEnd}, PathLaws.{IsPathTo}}
 use Rattle.p25_trellis.proofs.path.take_path.Given as goal
 
 abbrev pub invariant-loop-step : goal.invariant-loop-step
@@ -10,8 +10,5 @@ invariant-loop-step g l = record {
       → (before : ℕ) (end : List ℕ) → l.step + before ≡ 48
       → IsFirstLeastEnd g.R.Rate.STATES before (symbols_cost g.R.Rate.point_of cost l.step l.state) end
       → IsFirstLeastEnd g.R.Rate.STATES 48 (symbols_cost g.R.Rate.point_of cost 0 0) (take l.step l.path ++ end);
-  small : All (λ (symbol : ℕ). symbol < g.R.Rate.STATES) l.path;
-  row : l.state < g.R.Rate.STATES;
-  last : drop 48 l.path ≡ 0 ∷ [];
-  long : length l.path ≡ 49;
+  path : IsPathTo g.R.Rate.STATES l.path l.state;
 }

@@ -1,6 +1,6 @@
 use Rattle.std.proofs.Common.{◌≡◌, length}
 use Rattle.p25_trellis.specs.{Costs.{cost_in}, Least.{HasLeastFrom}}
-use Rattle.p25_trellis.proofs.least.least_rests.Given as goal
+use Rattle.p25_trellis.proofs.least.read_costs.Given as goal
 
 abbrev pub invariant-loop-step : goal.invariant-loop-step
 invariant-loop-step g l = record {
