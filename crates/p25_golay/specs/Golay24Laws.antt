@@ -24,8 +24,8 @@ unfolding all_bits is_heavy systematic syndrome_of weight_of bits_of
 heavy = refl
 
 -- so the tests of the table say yes
-pub table : IsSystematic check_rows 12 12 3 8
-table = record { rows_long = refl; fit = refl; heavy = heavy; few = omega arith; few_checks = omega arith; close = omega arith }
+pub table : IsSystematic check_rows 24 12 8
+table = record { rows_long = refl; fit = refl; heavy = heavy; begins = omega arith; few = omega arith; few_checks = omega arith; some = omega arith }
 
 -- the generator is of this degree
 generator_degree : HasDegree 0xC75 11
@@ -109,8 +109,8 @@ from_checked word is =
     record { long = long; even = even; divisible = divisible-remainders generator_degree not_constant (take 23 word) none }
 
 -- the code, by its check bits
-abbrev pub golay24_code : SystematicCode 12 12 3
-golay24_code = record { apart = 8; rows = check_rows; IsWord = IsGolay24; is = is_checked_code table to_checked from_checked }
+abbrev pub golay24_code : SystematicCode 24 12 8
+golay24_code = record { rows = check_rows; IsWord = IsGolay24; is = is_checked_code table to_checked from_checked }
 
 -- the word within 3 bits of what was received, or none
 abbrev pub golay24_reading_of : List Bool → Option (List Bool)
