@@ -35,15 +35,21 @@ syndrome_of-lt checks (first ∷ rows) (bit ∷ info) fit =
 syndrome_of-lt checks rows info fit = pow_pos checks
 
 module _ {rows : List ℕ} {n k d : ℕ} (code : IsSystematic rows n k d) where
+  -- as many check bits as stand behind the information
   abbrev checks : ℕ
   checks = n - k
 
-  -- a word has as many letters as there are rows and checks
+  -- there is a letter for each row and each check
   letters : length rows + checks ≡ n
   letters = omega (arith, code.rows_long, code.begins)
 
+  -- a word that passes has as many
   pub length_checked : (word : List Bool) → IsChecked (rows ++ check_columns checks) word → length word ≡ n
   length_checked word is = is.long ∙ length-append rows (check_columns checks) ∙ ap (λ m. length rows + m) (length-check_columns checks) ∙ letters
+
+  -- and its information one for each row
+  length-information : (word : List Bool) → IsChecked (rows ++ check_columns checks) word → length (take (length rows) word) ≡ length rows
+  length-information word is = length-take-le (length rows) word (omega (arith, letters, length_checked word is))
 
   -- a systematic word passes
   pub systematic_checked : (info : List Bool) → length info ≡ length rows → IsChecked (rows ++ check_columns checks) (systematic rows checks info)
@@ -68,10 +74,8 @@ module _ {rows : List ℕ} {n k d : ℕ} (code : IsSystematic rows n k d) where
       let k = length rows in
       let info = take k word in
       let rest = drop k word in
-      let whole = length_checked word is in
-      let inside : k ≤ length word = omega (arith, letters) in
-      let beginning = length-take-le k word inside in
-      let back : length rest ≡ checks = omega (arith, letters, length-drop k word) in
+      let beginning = length-information word is in
+      let back : length rest ≡ checks = omega (arith, letters, length_checked word is, length-drop k word) in
       let parts = syndrome_of-append rows (check_columns checks) info rest beginning ∙ ap (bit_xor (syndrome_of rows info)) (syndrome_of-check_columns checks rest back) in
       let none = sym parts ∙ ap (syndrome_of (rows ++ check_columns checks)) (take-append-drop k word) ∙ is.passes in
       let sum = same_from_xor (syndrome_of rows info) (field_of rest) none in
@@ -101,9 +105,7 @@ module _ {rows : List ℕ} {n k d : ℕ} (code : IsSystematic rows n k d) where
   checked_sum word is =
       let k = length rows in
       let info = take k word in
-      let whole = length_checked word is in
-      let inside : k ≤ length word = omega (arith, letters) in
-      let beginning = length-take-le k word inside in
+      let beginning = length-information word is in
       ap (drop k) (checked_systematic word is)
       ∙ ap (λ n. drop n (info ++ bits_of checks (syndrome_of rows info))) (sym beginning)
       ∙ drop-append_seam info (bits_of checks (syndrome_of rows info))
@@ -119,9 +121,7 @@ module _ {rows : List ℕ} {n k d : ℕ} (code : IsSystematic rows n k d) where
       let k = length rows in
       let info = take k word in
       let e = checked_systematic word is in
-      let whole = length_checked word is in
-      let inside : k ≤ length word = omega (arith, letters) in
-      let beginning = length-take-le k word inside in
+      let beginning = length-information word is in
       let test = all_bits-each info (is_heavy rows checks d) (ap (λ n. all_bits n (is_heavy rows checks d)) beginning ∙ code.heavy) in
       elim (or_cases (eqb (weight_of info) 0) (leb d (weight_of (systematic rows checks info))) test) [
         | inl zeros ↦
