@@ -4,7 +4,11 @@ use Rattle.std.proofs.Common.{◌≡◌, ℕ, ◌/◌, ◌%◌, ◌^◌, ◌<◌
 use Rattle.p25_bits.specs.{Bits.{bits_of}, Numbers.{each_below}}
 use Rattle.p25_code.specs.{Binary.{syndrome_of, check_columns}, WrongBits.{number_sum, AreInverse}}
 use Rattle.p25_code.proofs.{SumTablesLaws.{sums_of, entry-is}, WrongLaws.{number_sum-append, number_sum-mod, are_inverse}}
-use Rattle.p25_golay.specs.{Golay24Laws.{check_rows, message_rows}, declared.golay24.fn.Golay24.{check_bits.TheConstants.{CHECKS}, wrong_bits.TheConstants.{MESSAGES}}}
+use Rattle.p25_golay.specs.{Golay24Laws.{check_rows}, declared.golay24.fn.Golay24.{check_bits.TheConstants.{CHECKS}, wrong_bits.TheConstants.{MESSAGES}}}
+
+-- the messages of the words with one 1 among the check bits
+abbrev message_rows : List ℕ
+message_rows = 0xA4F ∷ 0xF68 ∷ 0x7B4 ∷ 0x3DA ∷ 0x1ED ∷ 0xAB9 ∷ 0xF13 ∷ 0xDC6 ∷ 0x6E3 ∷ 0x93E ∷ 0x49F ∷ 0xC75 ∷ []
 
 -- the entries of a number of twelve bits: of its first six in the first table, and of its last six in the second
 abbrev entries_of : List (List ℕ) → ℕ → ℕ

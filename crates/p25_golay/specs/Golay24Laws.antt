@@ -14,10 +14,6 @@ use Rattle.p25_golay.specs.Golay24.{IsGolay24}
 abbrev pub check_rows : List ℕ
 check_rows = 0xC75 ∷ 0x63B ∷ 0xF68 ∷ 0x7B4 ∷ 0x3DA ∷ 0xD99 ∷ 0x6CD ∷ 0x367 ∷ 0xDC6 ∷ 0xA97 ∷ 0x93E ∷ 0x8EB ∷ []
 
--- the messages of the words with one 1 among the check bits
-abbrev pub message_rows : List ℕ
-message_rows = 0xA4F ∷ 0xF68 ∷ 0x7B4 ∷ 0x3DA ∷ 0x1ED ∷ 0xAB9 ∷ 0xF13 ∷ 0xDC6 ∷ 0x6E3 ∷ 0x93E ∷ 0x49F ∷ 0xC75 ∷ []
-
 -- every word but that of zeros has at least eight ones
 heavy : all_bits 12 (is_heavy check_rows 12 8) ≡ true
 unfolding all_bits is_heavy systematic syndrome_of weight_of bits_of

@@ -1,10 +1,14 @@
 -- The tables hold the check bits of all messages, and the messages of all check bits: the checker computes each entry, and that
 -- each list of rows undoes the other.
-use Rattle.std.proofs.Common.{◌≡◌, ℕ, ◌<◌, get_or, refl}
+use Rattle.std.proofs.Common.{◌≡◌, ℕ, ◌<◌, List, [], ◌∷◌, get_or, refl}
 use Rattle.p25_bits.specs.{Bits.{bits_of}, Numbers.{each_below}}
 use Rattle.p25_code.specs.{Binary.{syndrome_of, check_columns}, WrongBits.{number_sum, AreInverse}}
 use Rattle.p25_code.proofs.{SumTablesLaws.{entry-is}, WrongLaws.{are_inverse}}
-use Rattle.p25_hamming.specs.{Lsd16Laws.{check_rows, message_rows}, declared.lsd16.fn.Lsd16.{check_bits.TheConstants.{CHECKS}, wrong_bits.TheConstants.{MESSAGES}}}
+use Rattle.p25_hamming.specs.{Lsd16Laws.{check_rows}, declared.lsd16.fn.Lsd16.{check_bits.TheConstants.{CHECKS}, wrong_bits.TheConstants.{MESSAGES}}}
+
+-- the messages of the words with one 1 among the check bits
+abbrev message_rows : List ℕ
+message_rows = 0x9C ∷ 0x4E ∷ 0x27 ∷ 0x8F ∷ 0xDB ∷ 0xF1 ∷ 0xE4 ∷ 0x72 ∷ []
 
 pub checks_are : (info : ℕ) → info < 256 → get_or CHECKS info 0 ≡ number_sum check_rows info
 unfolding each_below number_sum syndrome_of bits_of

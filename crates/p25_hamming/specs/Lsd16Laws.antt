@@ -11,10 +11,6 @@ use Rattle.p25_hamming.specs.Lsd16.{IsLsd16}
 abbrev pub check_rows : List ℕ
 check_rows = 0x4E ∷ 0x27 ∷ 0x8F ∷ 0xDB ∷ 0xF1 ∷ 0xE4 ∷ 0x72 ∷ 0x39 ∷ []
 
--- the messages of the words with one 1 among the check bits
-abbrev pub message_rows : List ℕ
-message_rows = 0x9C ∷ 0x4E ∷ 0x27 ∷ 0x8F ∷ 0xDB ∷ 0xF1 ∷ 0xE4 ∷ 0x72 ∷ []
-
 -- with the check columns they are the remainders of x^15 to x^0
 columns-remainders : check_rows ++ check_columns 8 ≡ remainders 0x139 8 16
 unfolding check_columns remainders power_remainder
