@@ -1,13 +1,13 @@
 -- The words that a check matrix lets pass, where its last columns are check columns: they are the systematic words, and a
 -- computed test of all information gives their least distance.
-use Rattle.std.proofs.Common.{◌≡◌, ◌≢◌, ◌⊎◌, ℕ, ◌+◌, ◌^◌, ◌<◌, ◌≤◌, inl, inr, Bool, true, false, cond, eqb, ltb, leb, List, ◌∷◌, ◌++◌, length, take, drop, bit_xor, ap, ap₂, sym, ◌∙◌, subst, arith, length-append, take-append-drop, length-drop}
+use Rattle.std.proofs.Common.{◌≡◌, ◌≢◌, ◌⊎◌, ℕ, ◌+◌, ◌-◌, ◌^◌, ◌<◌, ◌≤◌, inl, inr, Bool, true, false, cond, eqb, ltb, leb, List, ◌∷◌, ◌++◌, length, take, drop, bit_xor, ap, ap₂, sym, ◌∙◌, subst, arith, length-append, take-append-drop, length-drop}
 use Rattle.std.proofs.{Math.Nat.{mod-eq_of_lt}, Math.Seq.{take-append_seam, drop-append_seam}, lemmas.List.{length-take-le}, lemmas.Bool.{cases_eq, and_parts, or_cases, eqb-true, leb-true, ltb-true}}
 use Rattle.std.proofs.lemmas.Nat.{xor_lt, pow_pos}
 use Rattle.std.specs.{Bool.{beq}, Cmp.{bool_eq_equiv}, Int.Bits.{xor_self}}
 use Rattle.p25_bits.specs.{Bits.{bits_of, field_of}, Distance.{distance_of}}
 use Rattle.p25_bits.proofs.{BitsLaws.{length-bits_of, field_of-bits_of, bits_of-field_of}, DivisibleLaws.{same_from_xor}, DistanceLaws.{same_from_distance_of}}
 use Rattle.p25_code.specs.{Words.{IsEncoding}, Readings.{Tested}, Letters.{same_bit}, Binary.{syndrome_of, IsChecked, check_columns, rows_fit, systematic, weight_of}}
-use Rattle.p25_code.specs.CodeLaws.{IsBlockCode, IsSystematic, is_heavy, all_bits}
+use Rattle.p25_code.specs.CodeLaws.{IsBlockCode, IsSystematic, is_heavy, all_bits, radius_of}
 use Rattle.p25_code.proofs.WeightLaws.{all_bits-each, sum_of_words, length-sum_of_words, weight_of-append, weight_of-bits_of, weight_of-sum_of_words, syndrome_of-zeros, syndrome_of-sum_of_words}
 use Rattle.p25_code.proofs.SyndromeLaws.{syndrome_of-append, syndrome_of-check_columns, length-check_columns, change_of-is}
 
@@ -34,10 +34,22 @@ syndrome_of-lt checks (first ∷ rows) (bit ∷ info) fit =
     chosen false h = pow_pos checks
 syndrome_of-lt checks rows info fit = pow_pos checks
 
-module _ {rows : List ℕ} {information checks radius apart : ℕ} (code : IsSystematic rows information checks radius apart) where
-  -- a word has as many letters as there are rows and checks
-  pub length_checked : (word : List Bool) → IsChecked (rows ++ check_columns checks) word → length word ≡ length rows + checks
-  length_checked word is = is.long ∙ length-append rows (check_columns checks) ∙ ap (λ n. length rows + n) (length-check_columns checks)
+module _ {rows : List ℕ} {n k d : ℕ} (code : IsSystematic rows n k d) where
+  -- as many check bits as stand behind the information
+  abbrev checks : ℕ
+  checks = n - k
+
+  -- there is a letter for each row and each check
+  letters : length rows + checks ≡ n
+  letters = omega (arith, code.rows_long, code.begins)
+
+  -- a word that passes has as many
+  pub length_checked : (word : List Bool) → IsChecked (rows ++ check_columns checks) word → length word ≡ n
+  length_checked word is = is.long ∙ length-append rows (check_columns checks) ∙ ap (λ m. length rows + m) (length-check_columns checks) ∙ letters
+
+  -- and its information one for each row
+  length-information : (word : List Bool) → IsChecked (rows ++ check_columns checks) word → length (take (length rows) word) ≡ length rows
+  length-information word is = length-take-le (length rows) word (omega (arith, letters, length_checked word is))
 
   -- a systematic word passes
   pub systematic_checked : (info : List Bool) → length info ≡ length rows → IsChecked (rows ++ check_columns checks) (systematic rows checks info)
@@ -62,10 +74,8 @@ module _ {rows : List ℕ} {information checks radius apart : ℕ} (code : IsSys
       let k = length rows in
       let info = take k word in
       let rest = drop k word in
-      let whole = length_checked word is in
-      let inside : k ≤ length word = omega arith in
-      let beginning = length-take-le k word inside in
-      let back : length rest ≡ checks = omega (arith, length-drop k word) in
+      let beginning = length-information word is in
+      let back : length rest ≡ checks = omega (arith, letters, length_checked word is, length-drop k word) in
       let parts = syndrome_of-append rows (check_columns checks) info rest beginning ∙ ap (bit_xor (syndrome_of rows info)) (syndrome_of-check_columns checks rest back) in
       let none = sym parts ∙ ap (syndrome_of (rows ++ check_columns checks)) (take-append-drop k word) ∙ is.passes in
       let sum = same_from_xor (syndrome_of rows info) (field_of rest) none in
@@ -73,7 +83,7 @@ module _ {rows : List ℕ} {information checks radius apart : ℕ} (code : IsSys
 
   -- the systematic word of some information is its encoding in a set whose words are those that pass
   pub encodes : (IsWord : List Bool → Type 0) → ((w : List Bool) → IsChecked (rows ++ check_columns checks) w → IsWord w)
-      → (info : List Bool) → length info ≡ information → IsEncoding IsWord information info (systematic rows checks info)
+      → (info : List Bool) → length info ≡ k → IsEncoding IsWord k info (systematic rows checks info)
   unfolding systematic
   encodes IsWord from info long = record {
     word_of_set = from (systematic rows checks info) (systematic_checked info (long ∙ sym code.rows_long));
@@ -81,12 +91,12 @@ module _ {rows : List ℕ} {information checks radius apart : ℕ} (code : IsSys
   }
 
   -- a word whose last bits are the sum of the rows passes
-  pub sum_checked : (word : List Bool) → length word ≡ length rows + checks
+  pub sum_checked : (word : List Bool) → length word ≡ n
       → drop (length rows) word ≡ bits_of checks (syndrome_of rows (take (length rows) word)) → IsChecked (rows ++ check_columns checks) word
   unfolding systematic
   sum_checked word long e =
       let k = length rows in
-      let inside : k ≤ length word = omega arith in
+      let inside : k ≤ length word = omega (arith, letters) in
       subst (IsChecked (rows ++ check_columns checks)) (ap (λ bits. take k word ++ bits) (sym e) ∙ take-append-drop k word) (systematic_checked (take k word) (length-take-le k word inside))
 
   -- and in a word that passes they are
@@ -95,9 +105,7 @@ module _ {rows : List ℕ} {information checks radius apart : ℕ} (code : IsSys
   checked_sum word is =
       let k = length rows in
       let info = take k word in
-      let whole = length_checked word is in
-      let inside : k ≤ length word = omega arith in
-      let beginning = length-take-le k word inside in
+      let beginning = length-information word is in
       ap (drop k) (checked_systematic word is)
       ∙ ap (λ n. drop n (info ++ bits_of checks (syndrome_of rows info))) (sym beginning)
       ∙ drop-append_seam info (bits_of checks (syndrome_of rows info))
@@ -107,26 +115,24 @@ module _ {rows : List ℕ} {information checks radius apart : ℕ} (code : IsSys
   one_checked v w isv isw same = checked_systematic v isv ∙ ap (systematic rows checks) same ∙ sym (checked_systematic w isw)
 
   -- a word that passes is that of zeros, or it is heavy
-  heavy_checked : (word : List Bool) → IsChecked (rows ++ check_columns checks) word → (weight_of word ≡ 0) ⊎ (apart ≤ weight_of word)
+  heavy_checked : (word : List Bool) → IsChecked (rows ++ check_columns checks) word → (weight_of word ≡ 0) ⊎ (d ≤ weight_of word)
   unfolding is_heavy systematic
   heavy_checked word is =
       let k = length rows in
       let info = take k word in
       let e = checked_systematic word is in
-      let whole = length_checked word is in
-      let inside : k ≤ length word = omega arith in
-      let beginning = length-take-le k word inside in
-      let test = all_bits-each info (is_heavy rows checks apart) (ap (λ n. all_bits n (is_heavy rows checks apart)) beginning ∙ code.heavy) in
-      elim (or_cases (eqb (weight_of info) 0) (leb apart (weight_of (systematic rows checks info))) test) [
+      let beginning = length-information word is in
+      let test = all_bits-each info (is_heavy rows checks d) (ap (λ n. all_bits n (is_heavy rows checks d)) beginning ∙ code.heavy) in
+      elim (or_cases (eqb (weight_of info) 0) (leb d (weight_of (systematic rows checks info))) test) [
         | inl zeros ↦
             let light = eqb-true (weight_of info) 0 zeros in
             inl (ap weight_of e ∙ weight_of-append info (bits_of checks (syndrome_of rows info))
             ∙ ap₂ ◌+◌ light (ap (λ n. weight_of (bits_of checks n)) (syndrome_of-zeros rows info light) ∙ weight_of-bits_of checks))
-        | inr far ↦ inr (subst (λ w. apart ≤ weight_of w) (sym e) (leb-true apart (weight_of (systematic rows checks info)) far))
+        | inr far ↦ inr (subst (λ w. d ≤ weight_of w) (sym e) (leb-true d (weight_of (systematic rows checks info)) far))
       ]
 
   -- two different words differ in at least as many bits as the test says
-  pub far_checked : (v w : List Bool) → IsChecked (rows ++ check_columns checks) v → IsChecked (rows ++ check_columns checks) w → v ≢ w → apart ≤ distance_of v w
+  pub far_checked : (v w : List Bool) → IsChecked (rows ++ check_columns checks) v → IsChecked (rows ++ check_columns checks) w → v ≢ w → d ≤ distance_of v w
   far_checked v w isv isw differ =
       let long : length v ≡ length w = isv.long ∙ sym isw.long in
       let columns = rows ++ check_columns checks in
@@ -142,13 +148,13 @@ module _ {rows : List ℕ} {information checks radius apart : ℕ} (code : IsSys
 
   -- the laws of the code, in a set whose words are those that pass
   pub is_code : (IsWord : List Bool → Type 0) → ((w : List Bool) → IsWord w → IsChecked (rows ++ check_columns checks) w)
-      → IsBlockCode beq IsWord (information + checks) information radius apart
+      → IsBlockCode beq IsWord n k (radius_of d) d
   is_code IsWord to = record {
     compares = bool_eq_equiv;
     alike = same_bit;
-    long = λ word is. length_checked word (to word is) ∙ ap (λ k. k + checks) code.rows_long;
-    one_word = λ v w isv isw same. one_checked v w (to v isv) (to w isw) (subst (λ k. take k v ≡ take k w) (sym code.rows_long) same);
+    long = λ word is. length_checked word (to word is);
+    one_word = λ v w isv isw same. one_checked v w (to v isv) (to w isw) (subst (λ m. take m v ≡ take m w) (sym code.rows_long) same);
     far_apart = λ v w isv isw differ. far_checked v w (to v isv) (to w isw) differ;
-    close = code.close;
-    begins = omega arith;
+    close = omega (arith, code.some);
+    begins = code.begins;
   }

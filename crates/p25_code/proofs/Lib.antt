@@ -7,4 +7,5 @@ pub mod SystematicLaws
 pub mod RemainderLaws
 pub mod ParityLaws
 pub mod WrongLaws
+pub mod SumTablesLaws
 pub mod NumberCodeLaws

@@ -1,11 +1,11 @@
 -- Words that are read as numbers: by the wrong bits of what was received, and what a reader of bits makes of them.
-use Rattle.std.proofs.Common.{◌≡◌, ℕ, ◌^◌, ◌<◌, ◌≤◌, Bool, List, length, Option, Some, None, bit_xor, refl, ap, ap₂, sym, ◌∙◌, subst, arith, mod-eq_of_lt, ◌++◌, ◌/◌, ◌%◌, bit_or, ◌+◌, ◌*◌}
+use Rattle.std.proofs.Common.{◌≡◌, ℕ, ◌^◌, ◌<◌, ◌≤◌, Bool, List, length, Option, Some, None, bit_xor, refl, ap, ap₂, sym, ◌∙◌, subst, arith, mod-eq_of_lt, ◌++◌, ◌/◌, ◌%◌, bit_or, ◌+◌, ◌-◌, ◌*◌}
 use Rattle.std.proofs.{Math.Nat.{mul_comm}, lemmas.Nat.{mod_below, shr_below, pow-add, mul-add-lt, or_shifted, shl_whole, xor_lt, pow_pos, ones_le_self, zero_from_ones}}
 use Rattle.std.specs.{Bool.{beq}, Int.Bits.{xor_self, xor_zero_r}, Int.RustNames.{count_ones}, Option.{MatchOption, option_map}}
 use Rattle.p25_bits.specs.{Bits.{bits_of, field_of}, Distance.{distance_by, distance_of}}
 use Rattle.p25_bits.proofs.{BitsLaws.{length-bits_of, bits_of-joined, bits_of-field_of, field_of-bits_of, field_of-lt}, DistanceLaws.{distance_of-bits_of}, DivisibleLaws.{same_from_xor}}
 use Rattle.p25_code.specs.{declared.code.Reading.{Reading}, declared.code.Reading.TheVariants.{Found, Beyond}, Words.{IsEncoding, IsReading}, Readings.{IsReadAs}}
-use Rattle.p25_code.specs.{Binary.{syndrome_of, IsChecked, systematic}, WrongBits.{number_sum, AreWrong, NoneWrong}, CodeLaws.{SystematicCode, columns_of}}
+use Rattle.p25_code.specs.{Binary.{syndrome_of, IsChecked, systematic}, WrongBits.{number_sum, AreWrong, NoneWrong}, CodeLaws.{SystematicCode, columns_of, radius_of}}
 use Rattle.p25_code.proofs.{ReadingLaws.{one_reading}, ParityLaws.{number_sum-xor, number_sum-zero}, SystematicLaws.{encodes_by}, WrongLaws.{twice, length-columns, number_sum-lt, number_sum-parts}}
 
 module _ (columns : List ℕ) (radius received sum : ℕ) (fits : received < 2 ^ length columns) (sums : number_sum columns received ≡ sum) where
@@ -60,85 +60,89 @@ one_place places checks same few =
     let whole : 1 * 2 ^ checks ≡ 2 ^ checks = omega arith in
     ap (λ m. 1 * 2 ^ m % 2 ^ 32) same ∙ shl_whole 1 1 checks 32 one (omega arith) ∙ whole
 
+-- a word is its information and its check bits
+bits_are : {n k d : ℕ} → SystematicCode n k d → k + (n - k) ≡ n
+bits_are code = omega (arith, code.is.table.begins)
+
 -- the information is what stands before the check bits
-pub information_fits : (received k checks places : ℕ) → places ≡ checks → received < 2 ^ (k + checks) → received / 2 ^ places < 2 ^ k
-information_fits received k checks places shift fits =
-    subst (λ m. received / 2 ^ m < 2 ^ k) (sym shift) (shr_below received k checks fits)
+pub information_fits : {n k d : ℕ} → SystematicCode n k d → (received places : ℕ) → places ≡ n - k → received < 2 ^ n → received / 2 ^ places < 2 ^ k
+information_fits {n} {k} {d} code received places shift fits =
+    subst (λ m. received / 2 ^ m < 2 ^ k) (sym shift) (shr_below received k (n - k) (subst (λ m. received < 2 ^ m) (sym (bits_are code)) fits))
 
 -- the columns are as many as a word has bits
-length-columns_of : {k checks radius : ℕ} (code : SystematicCode k checks radius) → length (columns_of code) ≡ k + checks
-length-columns_of {k} {checks} {radius} code = length-columns code.rows checks ∙ ap (λ m. m + checks) code.is.table.rows_long
+length-columns_of : {n k d : ℕ} (code : SystematicCode n k d) → length (columns_of code) ≡ n
+length-columns_of {n} {k} {d} code = length-columns code.rows (n - k) ∙ ap (λ m. m + (n - k)) code.is.table.rows_long ∙ bits_are code
 
 -- the reading of a word of the columns is that of the code
-read_as : {k checks radius : ℕ} (code : SystematicCode k checks radius) (bits : List Bool) (answer : Option (List Bool)) → length bits ≡ k + checks
-    → IsReadAs beq (IsChecked (columns_of code)) radius bits answer → answer ≡ code.is.reading bits
-read_as {k} {checks} {radius} code bits answer long is_read =
+read_as : {n k d : ℕ} (code : SystematicCode n k d) (bits : List Bool) (answer : Option (List Bool)) → length bits ≡ n
+    → IsReadAs beq (IsChecked (columns_of code)) (radius_of d) bits answer → answer ≡ code.is.reading bits
+read_as {n} {k} {d} code bits answer long is_read =
     one_reading code.is.laws bits answer (code.is.reading bits) long
-    (read_as_same_set (IsChecked (columns_of code)) code.IsWord radius bits answer code.is.passing code.is.passes is_read)
+    (read_as_same_set (IsChecked (columns_of code)) code.IsWord (radius_of d) bits answer code.is.passing code.is.passes is_read)
     (code.is.reads bits)
 
 -- a received number, and the check bits of its information
-module _ {k checks radius : ℕ} (code : SystematicCode k checks radius) (received check places : ℕ) (fits : received < 2 ^ (k + checks)) (shift : places ≡ checks)
+module _ {n k d : ℕ} (code : SystematicCode n k d) (received check places : ℕ) (fits : received < 2 ^ n) (shift : places ≡ n - k)
     (is : check ≡ number_sum code.rows (received / 2 ^ places)) where
   -- the sum of those and of the received check bits
   abbrev whole_sum : ℕ
   whole_sum = bit_xor check (received % (1 * 2 ^ places % 2 ^ 32))
 
-  whole_sum_is : whole_sum ≡ bit_xor (number_sum code.rows (received / 2 ^ checks)) (received % 2 ^ checks)
+  whole_sum_is : whole_sum ≡ bit_xor (number_sum code.rows (received / 2 ^ (n - k))) (received % 2 ^ (n - k))
   whole_sum_is =
       ap₂ bit_xor (is ∙ ap (λ m. number_sum code.rows (received / 2 ^ m)) shift)
-      (ap (λ m. received % m) (one_place places checks shift code.is.table.few_checks))
+      (ap (λ m. received % m) (one_place places (n - k) shift code.is.table.few_checks))
 
   -- it is the sum of all
   sum_is : number_sum (columns_of code) received ≡ whole_sum
-  sum_is = number_sum-parts code.rows checks received ∙ sym whole_sum_is
+  sum_is = number_sum-parts code.rows (n - k) received ∙ sym whole_sum_is
 
   fits_columns : received < 2 ^ length (columns_of code)
   fits_columns = subst (λ m. received < 2 ^ m) (sym (length-columns_of code)) fits
 
-  pub sum_fits : whole_sum < 2 ^ checks
+  pub sum_fits : whole_sum < 2 ^ (n - k)
   sum_fits =
-      subst (λ m. m < 2 ^ checks) (sym whole_sum_is)
-      (xor_lt checks (number_sum code.rows (received / 2 ^ checks)) (received % 2 ^ checks)
-      (number_sum-lt checks code.rows (received / 2 ^ checks) code.is.table.fit) (mod_below received (2 ^ checks) (pow_pos checks)))
+      subst (λ m. m < 2 ^ (n - k)) (sym whole_sum_is)
+      (xor_lt (n - k) (number_sum code.rows (received / 2 ^ (n - k))) (received % 2 ^ (n - k))
+      (number_sum-lt (n - k) code.rows (received / 2 ^ (n - k)) code.is.table.fit) (mod_below received (2 ^ (n - k)) (pow_pos (n - k))))
 
   -- what is read as a number is the reading of the bits
-  read_number_as : (answer : Option (List Bool)) → IsReadAs beq (IsChecked (columns_of code)) radius (bits_of (length (columns_of code)) received) answer
-      → answer ≡ code.is.reading (bits_of (k + checks) received)
+  read_number_as : (answer : Option (List Bool)) → IsReadAs beq (IsChecked (columns_of code)) (radius_of d) (bits_of (length (columns_of code)) received) answer
+      → answer ≡ code.is.reading (bits_of n received)
   read_number_as answer is_read =
-      read_as code (bits_of (k + checks) received) answer (length-bits_of (k + checks) received)
-      (subst (λ m. IsReadAs beq (IsChecked (columns_of code)) radius (bits_of m received) answer) (length-columns_of code) is_read)
+      read_as code (bits_of n received) answer (length-bits_of n received)
+      (subst (λ m. IsReadAs beq (IsChecked (columns_of code)) (radius_of d) (bits_of m received) answer) (length-columns_of code) is_read)
 
   -- the word without the wrong bits
-  pub read_without : (wrong : ℕ) → AreWrong (columns_of code) radius whole_sum wrong
-      → Some (bits_of (k + checks) (bit_xor received wrong)) ≡ code.is.reading (bits_of (k + checks) received)
+  pub read_without : (wrong : ℕ) → AreWrong (columns_of code) (radius_of d) whole_sum wrong
+      → Some (bits_of n (bit_xor received wrong)) ≡ code.is.reading (bits_of n received)
   read_without wrong are =
       ap (λ m. Some (bits_of m (bit_xor received wrong))) (sym (length-columns_of code))
-      ∙ read_number_as _ (without_wrong (columns_of code) radius received whole_sum fits_columns sum_is wrong are)
+      ∙ read_number_as _ (without_wrong (columns_of code) (radius_of d) received whole_sum fits_columns sum_is wrong are)
 
-  pub without_fits : (wrong : ℕ) → AreWrong (columns_of code) radius whole_sum wrong → bit_xor received wrong < 2 ^ (k + checks)
-  without_fits wrong are = xor_lt (k + checks) received wrong fits (subst (λ m. wrong < 2 ^ m) (length-columns_of code) are.fits)
+  pub without_fits : (wrong : ℕ) → AreWrong (columns_of code) (radius_of d) whole_sum wrong → bit_xor received wrong < 2 ^ n
+  without_fits wrong are = xor_lt n received wrong fits (subst (λ m. wrong < 2 ^ m) (length-columns_of code) are.fits)
 
   -- a word whose check bits are those of its information is read as it is
-  pub read_clean : whole_sum ≡ 0 → Some (bits_of (k + checks) received) ≡ code.is.reading (bits_of (k + checks) received)
+  pub read_clean : whole_sum ≡ 0 → Some (bits_of n received) ≡ code.is.reading (bits_of n received)
   read_clean none =
-      ap (λ m. Some (bits_of (k + checks) m)) (sym (xor_zero_r received))
-      ∙ read_without 0 (subst (λ s. AreWrong (columns_of code) radius s 0) (sym none) (none_are_wrong (columns_of code) radius))
+      ap (λ m. Some (bits_of n m)) (sym (xor_zero_r received))
+      ∙ read_without 0 (subst (λ s. AreWrong (columns_of code) (radius_of d) s 0) (sym none) (none_are_wrong (columns_of code) (radius_of d)))
 
   -- where none are few enough there is no reading
-  pub read_none : NoneWrong (columns_of code) radius whole_sum
-      → (answer : Option ℕ) → answer ≡ None → option_map (bits_of (k + checks)) answer ≡ code.is.reading (bits_of (k + checks) received)
+  pub read_none : NoneWrong (columns_of code) (radius_of d) whole_sum
+      → (answer : Option ℕ) → answer ≡ None → option_map (bits_of n) answer ≡ code.is.reading (bits_of n received)
   read_none none answer e =
-      ap (option_map (bits_of (k + checks))) e ∙ read_number_as None (none_within (columns_of code) radius received whole_sum fits_columns sum_is none)
+      ap (option_map (bits_of n)) e ∙ read_number_as None (none_within (columns_of code) (radius_of d) received whole_sum fits_columns sum_is none)
 
 -- within the radius one list of wrong bits makes a syndrome
-pub one_wrong : {k checks radius : ℕ} (code : SystematicCode k checks radius) (syndrome a b : ℕ)
-    → AreWrong (columns_of code) radius syndrome a → AreWrong (columns_of code) radius syndrome b → a ≡ b
-one_wrong {k} {checks} {radius} code syndrome a b first second =
+pub one_wrong : {n k d : ℕ} (code : SystematicCode n k d) (syndrome a b : ℕ)
+    → AreWrong (columns_of code) (radius_of d) syndrome a → AreWrong (columns_of code) (radius_of d) syndrome b → a ≡ b
+one_wrong {n} {k} {d} code syndrome a b first second =
     let m = length (columns_of code) in
-    let long : length (bits_of m a) ≡ k + checks = length-bits_of m a ∙ length-columns_of code in
-    let read : (wrong : ℕ) → AreWrong (columns_of code) radius syndrome wrong → Some (bits_of m (bit_xor a wrong)) ≡ code.is.reading (bits_of m a)
-    = λ wrong are. read_as code (bits_of m a) (Some (bits_of m (bit_xor a wrong))) long (without_wrong (columns_of code) radius a syndrome first.fits first.sums wrong are) in
+    let long : length (bits_of m a) ≡ n = length-bits_of m a ∙ length-columns_of code in
+    let read : (wrong : ℕ) → AreWrong (columns_of code) (radius_of d) syndrome wrong → Some (bits_of m (bit_xor a wrong)) ≡ code.is.reading (bits_of m a)
+    = λ wrong are. read_as code (bits_of m a) (Some (bits_of m (bit_xor a wrong))) long (without_wrong (columns_of code) (radius_of d) a syndrome first.fits first.sums wrong are) in
     let same = read a first ∙ sym (read b second) in
     let bits : bits_of m (bit_xor a a) ≡ bits_of m (bit_xor a b) = cc in
     let numbers : bit_xor a a ≡ bit_xor a b
@@ -176,29 +180,30 @@ reading_put IsWord radius n old new (Some number) reading is put =
 reading_put IsWord radius n old new None reading is put = subst (IsReading beq IsWord radius old new) (sym put.0) (record { unchanged = put.1; none_within = is })
 
 -- the information and then its check bits, as a number
-module _ {k checks radius : ℕ} (code : SystematicCode k checks radius) (info check word places : ℕ) (small : info < 2 ^ k) (sums : check ≡ number_sum code.rows info)
-    (shift : places ≡ checks) (joined : word ≡ bit_or (info * 2 ^ places % 2 ^ 32) check) where
-  check_fits : check < 2 ^ checks
-  check_fits = subst (λ m. m < 2 ^ checks) (sym sums) (number_sum-lt checks code.rows info code.is.table.fit)
+module _ {n k d : ℕ} (code : SystematicCode n k d) (info check word places : ℕ) (small : info < 2 ^ k) (sums : check ≡ number_sum code.rows info)
+    (shift : places ≡ n - k) (joined : word ≡ bit_or (info * 2 ^ places % 2 ^ 32) check) where
+  check_fits : check < 2 ^ (n - k)
+  check_fits = subst (λ m. m < 2 ^ (n - k)) (sym sums) (number_sum-lt (n - k) code.rows info code.is.table.fit)
 
-  word_is : word ≡ info * 2 ^ checks + check
+  word_is : word ≡ info * 2 ^ (n - k) + check
   word_is =
+      let few : k + (n - k) ≤ 32 = omega (arith, bits_are code, code.is.table.few) in
       joined ∙ ap (λ m. bit_or (info * 2 ^ m % 2 ^ 32) check) shift
-      ∙ ap (λ m. bit_or m check) (shl_whole info k checks 32 small code.is.table.few) ∙ or_shifted info checks check check_fits
+      ∙ ap (λ m. bit_or m check) (shl_whole info k (n - k) 32 small few) ∙ or_shifted info (n - k) check check_fits
 
-  pub word_fits : word < 2 ^ (k + checks)
+  pub word_fits : word < 2 ^ n
   word_fits =
-      let bound : 2 ^ checks * 2 ^ k ≡ 2 ^ (k + checks) = mul_comm (2 ^ checks) (2 ^ k) ∙ sym (pow-add 2 k checks) in
-      subst (λ m. m < 2 ^ (k + checks)) (sym word_is) (subst (λ m. info * 2 ^ checks + check < m) bound (mul-add-lt info (2 ^ checks) check (2 ^ k) small check_fits))
+      let bound : 2 ^ (n - k) * 2 ^ k ≡ 2 ^ n = mul_comm (2 ^ (n - k)) (2 ^ k) ∙ sym (pow-add 2 k (n - k)) ∙ ap (λ m. 2 ^ m) (bits_are code) in
+      subst (λ m. m < 2 ^ n) (sym word_is) (subst (λ m. info * 2 ^ (n - k) + check < m) bound (mul-add-lt info (2 ^ (n - k)) check (2 ^ k) small check_fits))
 
   -- it is the encoding
-  pub encodes_number : IsEncoding code.IsWord k (bits_of k info) (bits_of (k + checks) word)
+  pub encodes_number : IsEncoding code.IsWord k (bits_of k info) (bits_of n word)
   unfolding systematic number_sum
   encodes_number =
-      let made : bits_of (k + checks) word ≡ systematic code.rows checks (bits_of k info)
-      = ap (bits_of (k + checks)) word_is
-      ∙ bits_of-joined k checks info check check_fits
-      ∙ ap (λ m. bits_of k info ++ bits_of checks m) (sums ∙ ap (λ m. syndrome_of code.rows (bits_of m info)) code.is.table.rows_long) in
+      let made : bits_of n word ≡ systematic code.rows (n - k) (bits_of k info)
+      = ap₂ bits_of (sym (bits_are code)) word_is
+      ∙ bits_of-joined k (n - k) info check check_fits
+      ∙ ap (λ m. bits_of k info ++ bits_of (n - k) m) (sums ∙ ap (λ m. syndrome_of code.rows (bits_of m info)) code.is.table.rows_long) in
       subst (IsEncoding code.IsWord k (bits_of k info)) (sym made) (encodes_by code (bits_of k info) (length-bits_of k info))
 
 -- what a reader by numbers leaves and answers is the reading of the bits

@@ -1,14 +1,14 @@
 -- What makes a systematic binary code of a set of words: the test of its table, and that its words are those that the rows let pass.
-use Rattle.std.specs.{Prelude.{◌≡◌, ℕ, ◌+◌, ◌++◌, Bool, List, length}, Bool.{beq}}
-use Rattle.p25_code.specs.{Words.{IsEncoding}, Binary.{IsChecked, check_columns, systematic}, CodeLaws.{IsCheckedCode, IsSystematic, SystematicCode}}
+use Rattle.std.specs.{Prelude.{◌≡◌, ℕ, ◌-◌, ◌++◌, Bool, List, length}, Bool.{beq}}
+use Rattle.p25_code.specs.{Words.{IsEncoding}, Binary.{IsChecked, check_columns, systematic}, CodeLaws.{IsCheckedCode, IsSystematic, SystematicCode, radius_of}}
 use Rattle.p25_code.specs.Readings.{IsReadAs-reading_of, Tested, bits_searched, reading_of, tested_as}
 use Rattle.p25_code.proofs.BinaryLaws.{IsChecked-tested, encodes, is_code}
 
-pub is_checked_code : {k checks radius apart : ℕ} {rows : List ℕ} {IsWord : List Bool → Type 0} → IsSystematic rows k checks radius apart
-    → ((word : List Bool) → IsWord word → IsChecked (rows ++ check_columns checks) word)
-    → ((word : List Bool) → IsChecked (rows ++ check_columns checks) word → IsWord word) → IsCheckedCode k checks radius apart rows IsWord
-is_checked_code {k} {checks} {radius} {apart} {rows} {IsWord} table passes passing =
-    let columns = rows ++ check_columns checks in
+pub is_checked_code : {n k d : ℕ} {rows : List ℕ} {IsWord : List Bool → Type 0} → IsSystematic rows n k d
+    → ((word : List Bool) → IsWord word → IsChecked (rows ++ check_columns (n - k)) word)
+    → ((word : List Bool) → IsChecked (rows ++ check_columns (n - k)) word → IsWord word) → IsCheckedCode n k d rows IsWord
+is_checked_code {n} {k} {d} {rows} {IsWord} table passes passing =
+    let columns = rows ++ check_columns (n - k) in
     let tested : Tested IsWord = tested_as (IsChecked columns) IsWord passing passes (IsChecked-tested columns) in
     let laws = is_code table IsWord passes in
     record {
@@ -16,11 +16,11 @@ is_checked_code {k} {checks} {radius} {apart} {rows} {IsWord} table passes passi
       passes = passes;
       passing = passing;
       laws = laws;
-      reading = reading_of bits_searched beq IsWord tested (k + checks) radius;
-      reads = IsReadAs-reading_of bits_searched beq IsWord tested (k + checks) radius laws.long;
+      reading = reading_of bits_searched beq IsWord tested n (radius_of d);
+      reads = IsReadAs-reading_of bits_searched beq IsWord tested n (radius_of d) laws.long;
     }
 
 -- the information and its check bits are the encoding
-pub encodes_by : {k checks radius : ℕ} (code : SystematicCode k checks radius) (info : List Bool) → length info ≡ k
-    → IsEncoding code.IsWord k info (systematic code.rows checks info)
+pub encodes_by : {n k d : ℕ} (code : SystematicCode n k d) (info : List Bool) → length info ≡ k
+    → IsEncoding code.IsWord k info (systematic code.rows (n - k) info)
 encodes_by code = encodes code.is.table code.IsWord code.is.passing

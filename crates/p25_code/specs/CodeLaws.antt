@@ -1,8 +1,8 @@
 -- The laws of block codes, and of systematic binary codes by their check bits, each as one record.
-use Rattle.std.specs.Prelude.{◌≡◌, ◌≢◌, ℕ, zero, suc, ◌+◌, ◌*◌, ◌≤◌, ◌<◌, Bool, true, false, ◌&&◌, ◌||◌, ◌==◌, nat_le, List, [], ◌∷◌, ◌++◌, length, take, Option}
+use Rattle.std.specs.Prelude.{◌≡◌, ◌≢◌, ℕ, zero, suc, ◌-◌, ◌*◌, ◌/◌, ◌≤◌, ◌<◌, Bool, true, false, ◌&&◌, ◌||◌, ◌==◌, nat_le, List, [], ◌∷◌, ◌++◌, length, take, Option}
 use Rattle.std.specs.{Bool.{beq}, Cmp.{IsEquivalence}}
 use Rattle.p25_bits.specs.Distance.{distance_by}
-use Rattle.p25_code.specs.{declared.checked_code.Shape.{Shape}, Readings.{IsReadAs}, Binary.{IsChecked, check_columns, rows_fit, systematic, weight_of}}
+use Rattle.p25_code.specs.{declared.checked_code.Parameters.{Parameters}, Readings.{IsReadAs}, Binary.{IsChecked, check_columns, rows_fit, systematic, weight_of}}
 
 -- the laws of a block code, as one record
 pub record IsBlockCode {L : Type 0} (same : L → L → Bool) (IsWord : List L → Type 0) (n k radius apart : ℕ) : Type 0 where
@@ -23,35 +23,40 @@ all_bits (suc n) test = all_bits n (λ bits. test (true ∷ bits)) && all_bits n
 unfoldable pub is_heavy : List ℕ → ℕ → ℕ → List Bool → Bool
 is_heavy rows checks apart info = weight_of info == 0 || nat_le apart (weight_of (systematic rows checks info))
 
--- what the tests of a table of rows say: the rows fit, no word but that of zeros is light, and the numbers are those of a small code
-pub record IsSystematic (rows : List ℕ) (information checks radius apart : ℕ) : Type 0 where
-  pub rows_long : length rows ≡ information
-  pub fit : rows_fit checks rows ≡ true
-  pub heavy : all_bits (length rows) (is_heavy rows checks apart) ≡ true
-  pub few : information + checks ≤ 32
-  pub few_checks : checks ≤ 16
-  pub close : 2 * radius < apart
+-- the radius of a least distance: within it of any list is one word at most
+abbrev pub radius_of : ℕ → ℕ
+radius_of d = (d - 1) / 2
+
+-- what the tests of a table of rows say of a code (n,k,d): the rows fit, no word but that of zeros is light, and the numbers are those of
+-- a small code
+pub record IsSystematic (rows : List ℕ) (n k d : ℕ) : Type 0 where
+  pub rows_long : length rows ≡ k
+  pub fit : rows_fit (n - k) rows ≡ true
+  pub heavy : all_bits (length rows) (is_heavy rows (n - k) d) ≡ true
+  pub begins : k ≤ n
+  pub few : n ≤ 32
+  pub few_checks : n - k ≤ 16
+  pub some : 0 < d
 
 -- what is known of words by the rows of their check bits: they are what the check matrix lets pass, and a block code that a function reads
-pub record IsCheckedCode (information checks radius apart : ℕ) (rows : List ℕ) (IsWord : List Bool → Type 0) : Type 0 where
-  pub table : IsSystematic rows information checks radius apart
-  pub passes : (word : List Bool) → IsWord word → IsChecked (rows ++ check_columns checks) word
-  pub passing : (word : List Bool) → IsChecked (rows ++ check_columns checks) word → IsWord word
-  pub laws : IsBlockCode beq IsWord (information + checks) information radius apart
+pub record IsCheckedCode (n k d : ℕ) (rows : List ℕ) (IsWord : List Bool → Type 0) : Type 0 where
+  pub table : IsSystematic rows n k d
+  pub passes : (word : List Bool) → IsWord word → IsChecked (rows ++ check_columns (n - k)) word
+  pub passing : (word : List Bool) → IsChecked (rows ++ check_columns (n - k)) word → IsWord word
+  pub laws : IsBlockCode beq IsWord n k (radius_of d) d
   pub reading : List Bool → Option (List Bool)
-  pub reads : (received : List Bool) → IsReadAs beq IsWord radius received (reading received)
+  pub reads : (received : List Bool) → IsReadAs beq IsWord (radius_of d) received (reading received)
 
--- a systematic binary code: its least distance, the check bits of the messages with one 1, in order, its words, and what is known of them
-pub record SystematicCode (information checks radius : ℕ) : Type 1 where
-  pub apart : ℕ
+-- a systematic binary code (n,k,d): the check bits of the messages with one 1, in order, its words, and what is known of them
+pub record SystematicCode (n k d : ℕ) : Type 1 where
   pub rows : List ℕ
   pub IsWord : List Bool → Type 0
-  pub is : IsCheckedCode information checks radius apart rows IsWord
+  pub is : IsCheckedCode n k d rows IsWord
 
 -- the columns of its check matrix
-abbrev pub columns_of : {information checks radius : ℕ} → SystematicCode information checks radius → List ℕ
-columns_of {information} {checks} {radius} code = code.rows ++ check_columns checks
+abbrev pub columns_of : {n k d : ℕ} → SystematicCode n k d → List ℕ
+columns_of {n} {k} {d} code = code.rows ++ check_columns (n - k)
 
--- its shape, as code has it
-abbrev pub shape_of : {information checks radius : ℕ} → SystematicCode information checks radius → Shape
-shape_of {information} {checks} {radius} code = record { information = information; checks = checks; radius = radius }
+-- its parameters, as code has them
+abbrev pub parameters_of : {n k d : ℕ} → SystematicCode n k d → Parameters
+parameters_of {n} {k} {d} code = record { n = n; k = k; d = d }

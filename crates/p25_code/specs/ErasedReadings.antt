@@ -1,6 +1,6 @@
 -- Readings of lists with erasures as functions: the word of the set within the cost, or none where no word costs so little.
 use Rattle.std.specs.Prelude.{◌≡◌, ℕ, ◌≤◌, Bool, List, length, Option, Some, None}
-use Rattle.p25_code.specs.{Erasures.{erased_cost, NoneWithinCost}, Readings.{Tested, Searched, IsWordWithin, word_within, IsWordWithin-word_within}}
+use Rattle.p25_code.specs.{Erasures.{erased_cost, NoneWithinCost}, Readings.{Tested, Searched, word_within, word_within-meets}}
 
 -- a word of the set is within the cost
 pub record IsWithinCost {L : Type 0} (same : L → L → Bool) (IsWord : List L → Type 0) (most : ℕ) (list : List (Option L)) (word : List L) : Type 0 where
@@ -20,11 +20,7 @@ erased_reading_of letters same IsWord test n most list = word_within letters IsW
 pub IsErasedReadAs-erased_reading_of : {L : Type 0} (letters : Searched L) (same : L → L → Bool) (IsWord : List L → Type 0) (test : Tested IsWord) (n most : ℕ)
     → ((word : List L) → IsWord word → length word ≡ n) → (list : List (Option L))
     → IsErasedReadAs same IsWord most list (erased_reading_of letters same IsWord test n most list)
-unfolding IsErasedReadAs IsWordWithin erased_reading_of
-IsErasedReadAs-erased_reading_of {L} letters same IsWord test n most long list =
-    read (erased_reading_of letters same IsWord test n most list)
-    (IsWordWithin-word_within letters IsWord test n (erased_cost same list) most long)
-  where
-    read : (answer : Option (List L)) → IsWordWithin IsWord (erased_cost same list) most answer → IsErasedReadAs same IsWord most list answer
-    read (Some word) is = record { word_of_set = is.0; within = is.1 }
-    read None is = record { dearer = is }
+unfolding IsErasedReadAs erased_reading_of
+IsErasedReadAs-erased_reading_of letters same IsWord test n most long list =
+    word_within-meets letters IsWord test n (erased_cost same list) most long (IsErasedReadAs same IsWord most list)
+    (λ word is near. record { word_of_set = is; within = near }) (λ none. record { dearer = none })

@@ -111,6 +111,19 @@ IsWordWithin-word_within {L} letters IsWord test n cost most long =
     read (Some word) is = is.1
     read None is = λ word w. elim (cases_lt most (cost word)) [ inl dear ↦ dear | inr cheap ↦ absurd (is word (long word w) (w, cheap)) ]
 
+-- so what holds of each word of the set that costs at most so much, and of none where every word costs more, holds of it
+pub word_within-meets : {L : Type 0} (letters : Searched L) (IsWord : List L → Type 0) (test : Tested IsWord) (n : ℕ) (cost : List L → ℕ) (most : ℕ)
+    → ((word : List L) → IsWord word → length word ≡ n) → (P : Option (List L) → Type 0)
+    → ((word : List L) → IsWord word → cost word ≤ most → P (Some word)) → (((word : List L) → IsWord word → most < cost word) → P None)
+    → P (word_within letters IsWord test n cost most)
+unfolding IsWordWithin
+word_within-meets {L} letters IsWord test n cost most long P some none =
+    read (word_within letters IsWord test n cost most) (IsWordWithin-word_within letters IsWord test n cost most long)
+  where
+    read : (answer : Option (List L)) → IsWordWithin IsWord cost most answer → P answer
+    read (Some word) is = some word is.0 is.1
+    read None is = none is
+
 -- a word of the set lies within the radius of what was received
 pub record IsNear {L : Type 0} (same : L → L → Bool) (IsWord : List L → Type 0) (radius : ℕ) (received word : List L) : Type 0 where
   pub word_of_set : IsWord word
@@ -133,11 +146,7 @@ reading_of letters same IsWord test n radius received = word_within letters IsWo
 pub IsReadAs-reading_of : {L : Type 0} (letters : Searched L) (same : L → L → Bool) (IsWord : List L → Type 0) (test : Tested IsWord) (n radius : ℕ)
     → ((word : List L) → IsWord word → length word ≡ n) → (received : List L)
     → IsReadAs same IsWord radius received (reading_of letters same IsWord test n radius received)
-unfolding IsReadAs IsWordWithin reading_of
-IsReadAs-reading_of {L} letters same IsWord test n radius long received =
-    read (reading_of letters same IsWord test n radius received)
-    (IsWordWithin-word_within letters IsWord test n (distance_by same received) radius long)
-  where
-    read : (answer : Option (List L)) → IsWordWithin IsWord (distance_by same received) radius answer → IsReadAs same IsWord radius received answer
-    read (Some word) is = record { word_of_set = is.0; within = is.1 }
-    read None is = record { farther = is }
+unfolding IsReadAs reading_of
+IsReadAs-reading_of letters same IsWord test n radius long received =
+    word_within-meets letters IsWord test n (distance_by same received) radius long (IsReadAs same IsWord radius received)
+    (λ word is near. record { word_of_set = is; within = near }) (λ none. record { farther = none })

@@ -1,67 +1,70 @@
 //! Systematic binary codes by their check bits.
 
-ghost use Rattle.std.specs.Prelude.{◌≡◌, ◌+◌, ◌^◌, ◌<◌, MatchOption};
+ghost use Rattle.std.specs.Prelude.{◌≡◌, ◌-◌, ◌^◌, ◌<◌, MatchOption};
 
 use crate::code::{BlockCode, Reading};
 use crate::number_code::{NumberCode, put_reading};
 use p25_bits::{number_of, put_number};
 
-/// The shape of a systematic code: how many bits of a word are information, how many behind them are check bits, and the radius, which
-/// is the most wrong bits that are corrected.
+/// The three numbers by which the standard names a code, as in Golay (24,12,8): a word has n bits, of which the first k are the information,
+/// and any two words differ in at least d bits. So n - k check bits stand behind the information, and the radius, the most wrong bits that
+/// are corrected, is (d - 1) / 2, rounded down.
 #[derive(Clone, Copy, Debug, PartialEq, Eq)]
-pub struct Shape {
-    pub information: usize,
-    pub checks: u32,
-    pub radius: u32,
+pub struct Parameters {
+    pub n: usize,
+    pub k: usize,
+    pub d: usize,
 }
 
 /// A systematic binary code of at most 32 bits, by its check bits: the information, and then at most 16 bits, the sum over GF(2) of
 /// the rows at whose places the information is 1. A type that says which check bits those are, and which bits are wrong where others
 /// were received, is a `BlockCode` and a `NumberCode`.
 pub trait CheckedCode {
-    ghost use Rattle.p25_code.specs.{declared.checked_code.Shape.{Shape}, CodeLaws.{SystematicCode, columns_of}, WrongBits.{number_sum, AreWrong, NoneWrong}};
+    ghost use Rattle.p25_code.specs.declared.checked_code.Parameters.{Parameters};
+    ghost use Rattle.p25_code.specs.{CodeLaws.{SystematicCode, columns_of, radius_of}, WrongBits.{number_sum, AreWrong, NoneWrong}};
 
-    /// How many bits are information and how many are check bits, and the radius.
-    const SHAPE: Shape;
+    /// How many bits a word has, how many of them are information, and the least distance.
+    const PARAMETERS: Parameters;
 
-    ghost SHAPE: { Shape };
+    ghost PARAMETERS: { Parameters };
 
     // The words of the code by the rows of their check bits, and what is known of them.
-    ghost code: { SystematicCode SHAPE.information SHAPE.checks SHAPE.radius };
+    ghost code: { SystematicCode PARAMETERS.n PARAMETERS.k PARAMETERS.d };
 
     /// Answers the check bits of the information, the first the highest.
     fn check_bits(info: u32) -> u16
-        requires { info < 2 ^ SHAPE.information }
+        requires { info < 2 ^ PARAMETERS.k }
         ensures { result ≡ number_sum code.rows info };
 
     /// Answers the wrong bits of a word by its syndrome, the sum over GF(2) of the received check bits and those of the received
     /// information: a number of as many bits as the word, the first the highest, with a 1 for each of at most as many wrong bits as the
     /// radius says. None comes exactly where no such bits make that syndrome.
     fn wrong_bits(syndrome: u16) -> Option<u32>
-        requires { syndrome < 2 ^ SHAPE.checks }
-        ensures { MatchOption result (NoneWrong (columns_of code) SHAPE.radius syndrome) (AreWrong (columns_of code) SHAPE.radius syndrome) };
+        requires { syndrome < 2 ^ (PARAMETERS.n - PARAMETERS.k) }
+        ensures { let radius = radius_of PARAMETERS.d in
+            MatchOption result (NoneWrong (columns_of code) radius syndrome) (AreWrong (columns_of code) radius syndrome) };
 }
 
 impl<C: CheckedCode> BlockCode for C {
-    ghost use Rattle.p25_code.specs.Letters.{same_bit};
+    ghost use Rattle.p25_code.specs.{CodeLaws.{radius_of}, Letters.{same_bit}};
 
-    const N: usize = C::SHAPE.information + C::SHAPE.checks as usize;
+    const N: usize = C::PARAMETERS.n;
 
-    const K: usize = C::SHAPE.information;
+    const K: usize = C::PARAMETERS.k;
 
     type Letter = bool;
 
-    ghost N = { C.SHAPE.information + C.SHAPE.checks };
+    ghost N = { C.PARAMETERS.n };
 
-    ghost K = { C.SHAPE.information };
+    ghost K = { C.PARAMETERS.k };
 
     ghost HasCode = { Unit {0} };
 
     ghost IsWord = { C.code.IsWord };
 
-    ghost radius_is = { C.SHAPE.radius };
+    ghost radius_is = { radius_of C.PARAMETERS.d };
 
-    ghost distance_is = { C.code.apart };
+    ghost distance_is = { C.PARAMETERS.d };
 
     ghost reading_is = { C.code.is.reading };
 
@@ -80,7 +83,7 @@ impl<C: CheckedCode> BlockCode for C {
     ghost begins = { λ _. C.code.is.laws.begins };
 
     fn radius() -> usize {
-        C::SHAPE.radius as usize
+        (C::PARAMETERS.d - 1) / 2
     }
 
     fn encode(info: &[bool], word: &mut [bool]) {
@@ -97,11 +100,13 @@ impl<C: CheckedCode> NumberCode for C {
     ghost fits_number = { λ _. C.code.is.table.few };
 
     fn encode_number(info: u32) -> u32 {
-        (info << C::SHAPE.checks) | u32::from(C::check_bits(info))
+        let Parameters { n, k, .. } = C::PARAMETERS;
+        (info << (n - k)) | u32::from(C::check_bits(info))
     }
 
     fn read_number(received: u32) -> Option<u32> {
-        let checks = C::SHAPE.checks;
+        let Parameters { n, k, .. } = C::PARAMETERS;
+        let checks = n - k;
         let syndrome = C::check_bits(received >> checks) ^ (received % (1 << checks)) as u16;
         if syndrome == 0 {
             return Some(received);

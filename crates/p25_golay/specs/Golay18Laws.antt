@@ -16,8 +16,8 @@ unfolding all_bits is_heavy systematic syndrome_of weight_of bits_of
 heavy = refl
 
 -- so the tests of the table say yes
-pub table : IsSystematic short_rows 6 12 3 8
-table = record { rows_long = refl; fit = refl; heavy = heavy; few = omega arith; few_checks = omega arith; close = omega arith }
+pub table : IsSystematic short_rows 18 6 8
+table = record { rows_long = refl; fit = refl; heavy = heavy; begins = omega arith; few = omega arith; few_checks = omega arith; some = omega arith }
 
 -- a zero in front adds nothing to a sum
 zero_first : (column : ℕ) (columns : List ℕ) (word : List Bool) → syndrome_of (column ∷ columns) (false ∷ word) ≡ syndrome_of columns word
@@ -50,8 +50,8 @@ from_short word is = record {
 }
 
 -- the code, by its check bits
-abbrev pub golay18_code : SystematicCode 6 12 3
-golay18_code = record { apart = 8; rows = short_rows; IsWord = IsGolay18; is = is_checked_code table to_short from_short }
+abbrev pub golay18_code : SystematicCode 18 6 8
+golay18_code = record { rows = short_rows; IsWord = IsGolay18; is = is_checked_code table to_short from_short }
 
 -- the word within 3 bits of what was received, or none
 abbrev pub golay18_reading_of : List Bool → Option (List Bool)

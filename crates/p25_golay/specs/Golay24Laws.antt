@@ -14,18 +14,14 @@ use Rattle.p25_golay.specs.Golay24.{IsGolay24}
 abbrev pub check_rows : List ℕ
 check_rows = 0xC75 ∷ 0x63B ∷ 0xF68 ∷ 0x7B4 ∷ 0x3DA ∷ 0xD99 ∷ 0x6CD ∷ 0x367 ∷ 0xDC6 ∷ 0xA97 ∷ 0x93E ∷ 0x8EB ∷ []
 
--- the messages of the words with one 1 among the check bits
-abbrev pub message_rows : List ℕ
-message_rows = 0xA4F ∷ 0xF68 ∷ 0x7B4 ∷ 0x3DA ∷ 0x1ED ∷ 0xAB9 ∷ 0xF13 ∷ 0xDC6 ∷ 0x6E3 ∷ 0x93E ∷ 0x49F ∷ 0xC75 ∷ []
-
 -- every word but that of zeros has at least eight ones
 heavy : all_bits 12 (is_heavy check_rows 12 8) ≡ true
 unfolding all_bits is_heavy systematic syndrome_of weight_of bits_of
 heavy = refl
 
 -- so the tests of the table say yes
-pub table : IsSystematic check_rows 12 12 3 8
-table = record { rows_long = refl; fit = refl; heavy = heavy; few = omega arith; few_checks = omega arith; close = omega arith }
+pub table : IsSystematic check_rows 24 12 8
+table = record { rows_long = refl; fit = refl; heavy = heavy; begins = omega arith; few = omega arith; few_checks = omega arith; some = omega arith }
 
 -- the generator is of this degree
 generator_degree : HasDegree 0xC75 11
@@ -109,8 +105,8 @@ from_checked word is =
     record { long = long; even = even; divisible = divisible-remainders generator_degree not_constant (take 23 word) none }
 
 -- the code, by its check bits
-abbrev pub golay24_code : SystematicCode 12 12 3
-golay24_code = record { apart = 8; rows = check_rows; IsWord = IsGolay24; is = is_checked_code table to_checked from_checked }
+abbrev pub golay24_code : SystematicCode 24 12 8
+golay24_code = record { rows = check_rows; IsWord = IsGolay24; is = is_checked_code table to_checked from_checked }
 
 -- the word within 3 bits of what was received, or none
 abbrev pub golay24_reading_of : List Bool → Option (List Bool)

@@ -1,10 +1,10 @@
 //! The shortened Golay code (18,6).
 
-ghost use Rattle.p25_code.specs.CodeLaws.{shape_of};
+ghost use Rattle.p25_code.specs.CodeLaws.{parameters_of};
 ghost use Rattle.p25_golay.specs.Golay18Laws.{golay18_code};
 
 use crate::golay24::Golay24;
-use p25_code::{CheckedCode, Shape};
+use p25_code::{CheckedCode, Parameters};
 
 /// The shortened Golay code (18,6): the words of the Golay code (24,12) that begin with six zeros, without those six. Any
 /// two words differ in at least 8 bits; three wrong bits are corrected. A list that is near to a word of the longer code
@@ -13,13 +13,9 @@ use p25_code::{CheckedCode, Shape};
 pub struct Golay18;
 
 impl CheckedCode for Golay18 {
-    const SHAPE: Shape = Shape {
-        information: 6,
-        checks: 12,
-        radius: 3,
-    };
+    const PARAMETERS: Parameters = Parameters { n: 18, k: 6, d: 8 };
 
-    ghost SHAPE = { shape_of golay18_code };
+    ghost PARAMETERS = { parameters_of golay18_code };
 
     ghost code = { golay18_code };
 

@@ -1,33 +1,23 @@
 -- The tables hold the check bits of all messages, and the messages of all check bits: the checker computes each entry, and that
 -- each list of rows undoes the other.
-use Rattle.std.proofs.Common.{◌≡◌, ℕ, ◌<◌, List, map, get_or, refl, ap, ◌∙◌}
+use Rattle.std.proofs.Common.{◌≡◌, ℕ, ◌<◌, List, [], ◌∷◌, get_or, refl}
 use Rattle.p25_bits.specs.{Bits.{bits_of}, Numbers.{each_below}}
-use Rattle.p25_bits.proofs.NumbersLaws.{get_or-each_below}
 use Rattle.p25_code.specs.{Binary.{syndrome_of, check_columns}, WrongBits.{number_sum, AreInverse}}
-use Rattle.p25_code.proofs.WrongLaws.{are_inverse}
-use Rattle.p25_hamming.specs.{Lsd16Laws.{check_rows, message_rows}, declared.lsd16.TheConstants.{CHECKS, MESSAGES}}
+use Rattle.p25_code.proofs.{SumTablesLaws.{entry-is}, WrongLaws.{are_inverse}}
+use Rattle.p25_hamming.specs.{Lsd16Laws.{check_rows}, declared.lsd16.fn.Lsd16.{check_bits.TheConstants.{CHECKS}, wrong_bits.TheConstants.{MESSAGES}}}
 
-checks_computed : CHECKS ≡ each_below 256 (number_sum check_rows)
+-- the messages of the words with one 1 among the check bits
+abbrev message_rows : List ℕ
+message_rows = 0x9C ∷ 0x4E ∷ 0x27 ∷ 0x8F ∷ 0xDB ∷ 0xF1 ∷ 0xE4 ∷ 0x72 ∷ []
+
+pub checks_are : (info : ℕ) → info < 256 → get_or CHECKS info 0 ≡ number_sum check_rows info
 unfolding each_below number_sum syndrome_of bits_of
-checks_computed = refl
+checks_are = entry-is check_rows CHECKS refl
 
-messages_computed : MESSAGES ≡ each_below 256 (number_sum message_rows)
+pub messages_are : (checks : ℕ) → checks < 256 → get_or MESSAGES checks 0 ≡ number_sum message_rows checks
 unfolding each_below number_sum syndrome_of bits_of
-messages_computed = refl
-
-pub checks-is : (info : ℕ) → info < 256 → get_or CHECKS info 0 ≡ number_sum check_rows info
-checks-is info small = ap (λ (table : List ℕ). get_or table info 0) checks_computed ∙ get_or-each_below 256 (number_sum check_rows) info 0 small
-
-pub messages-is : (checks : ℕ) → checks < 256 → get_or MESSAGES checks 0 ≡ number_sum message_rows checks
-messages-is checks small = ap (λ (table : List ℕ). get_or table checks 0) messages_computed ∙ get_or-each_below 256 (number_sum message_rows) checks 0 small
-
-single_checks : map (number_sum message_rows) check_rows ≡ check_columns 8
-unfolding number_sum syndrome_of bits_of check_columns
-single_checks = refl
-
-single_messages : map (number_sum check_rows) message_rows ≡ check_columns 8
-unfolding number_sum syndrome_of bits_of check_columns
-single_messages = refl
+messages_are = entry-is message_rows MESSAGES refl
 
 pub rows_inverse : AreInverse check_rows message_rows
-rows_inverse = are_inverse check_rows message_rows refl single_checks single_messages
+unfolding number_sum syndrome_of bits_of check_columns
+rows_inverse = are_inverse check_rows message_rows refl refl refl

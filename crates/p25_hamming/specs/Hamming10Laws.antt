@@ -12,8 +12,8 @@ unfolding all_bits is_heavy systematic syndrome_of weight_of bits_of
 heavy = refl
 
 -- so the tests of the table say yes
-pub table : IsSystematic check_rows 6 4 1 3
-table = record { rows_long = refl; fit = refl; heavy = heavy; few = omega arith; few_checks = omega arith; close = omega arith }
+pub table : IsSystematic check_rows 10 6 3
+table = record { rows_long = refl; fit = refl; heavy = heavy; begins = omega arith; few = omega arith; few_checks = omega arith; some = omega arith }
 
 -- the words are those that the check matrix lets pass
 pub to_checked : (word : List Bool) → IsHamming10 word → IsChecked (check_rows ++ check_columns 4) word
@@ -24,8 +24,8 @@ pub from_checked : (word : List Bool) → IsChecked (check_rows ++ check_columns
 from_checked word is = record { long = length_checked table word is; checks = checked_sum table word is }
 
 -- the code, by its check bits
-abbrev pub hamming10_code : SystematicCode 6 4 1
-hamming10_code = record { apart = 3; rows = check_rows; IsWord = IsHamming10; is = is_checked_code table to_checked from_checked }
+abbrev pub hamming10_code : SystematicCode 10 6 3
+hamming10_code = record { rows = check_rows; IsWord = IsHamming10; is = is_checked_code table to_checked from_checked }
 
 -- the word within 1 bit of what was received, or none
 abbrev pub hamming10_reading_of : List Bool → Option (List Bool)

@@ -11,10 +11,6 @@ use Rattle.p25_hamming.specs.Lsd16.{IsLsd16}
 abbrev pub check_rows : List ℕ
 check_rows = 0x4E ∷ 0x27 ∷ 0x8F ∷ 0xDB ∷ 0xF1 ∷ 0xE4 ∷ 0x72 ∷ 0x39 ∷ []
 
--- the messages of the words with one 1 among the check bits
-abbrev pub message_rows : List ℕ
-message_rows = 0x9C ∷ 0x4E ∷ 0x27 ∷ 0x8F ∷ 0xDB ∷ 0xF1 ∷ 0xE4 ∷ 0x72 ∷ []
-
 -- with the check columns they are the remainders of x^15 to x^0
 columns-remainders : check_rows ++ check_columns 8 ≡ remainders 0x139 8 16
 unfolding check_columns remainders power_remainder
@@ -30,8 +26,8 @@ unfolding all_bits is_heavy systematic syndrome_of weight_of bits_of
 heavy = refl
 
 -- so the tests of the table say yes
-pub table : IsSystematic check_rows 8 8 2 5
-table = record { rows_long = refl; fit = refl; heavy = heavy; few = omega arith; few_checks = omega arith; close = omega arith }
+pub table : IsSystematic check_rows 16 8 5
+table = record { rows_long = refl; fit = refl; heavy = heavy; begins = omega arith; few = omega arith; few_checks = omega arith; some = omega arith }
 
 -- the generator is not a constant
 not_constant : 1 < 2 ^ 8
@@ -53,8 +49,8 @@ from_checked word is =
     record { long = long; divisible = divisible-remainders generator_degree not_constant word (sym (same_sum word long) ∙ is.passes) }
 
 -- the code, by its check bits
-abbrev pub lsd16_code : SystematicCode 8 8 2
-lsd16_code = record { apart = 5; rows = check_rows; IsWord = IsLsd16; is = is_checked_code table to_checked from_checked }
+abbrev pub lsd16_code : SystematicCode 16 8 5
+lsd16_code = record { rows = check_rows; IsWord = IsLsd16; is = is_checked_code table to_checked from_checked }
 
 -- the word within 2 bits of what was received, or none
 abbrev pub lsd16_reading_of : List Bool → Option (List Bool)

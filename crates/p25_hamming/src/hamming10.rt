@@ -1,10 +1,10 @@
 //! The Hamming code (10,6).
 
-ghost use Rattle.p25_code.specs.CodeLaws.{shape_of};
+ghost use Rattle.p25_code.specs.CodeLaws.{parameters_of};
 ghost use Rattle.p25_hamming.specs.Hamming10Laws.{hamming10_code};
 
 use p25_bits::sums;
-use p25_code::{CheckedCode, Shape, wrong_by_rows};
+use p25_code::{CheckedCode, Parameters, wrong_by_rows};
 
 /// The shortened Hamming code (10,6): ten bits, of which the first six are the information and the last four the sum over
 /// GF(2) of the check rows of those that are 1. Any two words differ in at least 3 bits; one wrong bit is corrected.
@@ -15,23 +15,17 @@ pub struct Hamming10;
 // The check bits of the messages with one 1, in order.
 const CHECK_ROWS: [u16; 6] = [0b1110, 0b1101, 0b1011, 0b0111, 0b0011, 0b1100];
 
-// The check bits of all messages.
-static CHECKS: [u16; 64] = sums! {
-    CHECK_ROWS[0], CHECK_ROWS[1], CHECK_ROWS[2], CHECK_ROWS[3], CHECK_ROWS[4], CHECK_ROWS[5]
-};
-
 impl CheckedCode for Hamming10 {
-    const SHAPE: Shape = Shape {
-        information: 6,
-        checks: 4,
-        radius: 1,
-    };
+    const PARAMETERS: Parameters = Parameters { n: 10, k: 6, d: 3 };
 
-    ghost SHAPE = { shape_of hamming10_code };
+    ghost PARAMETERS = { parameters_of hamming10_code };
 
     ghost code = { hamming10_code };
 
     fn check_bits(info: u32) -> u16 {
+        // The check bits of all messages.
+        static CHECKS: [u16; 64] =
+            sums! { CHECK_ROWS[0], CHECK_ROWS[1], CHECK_ROWS[2], CHECK_ROWS[3], CHECK_ROWS[4], CHECK_ROWS[5] };
         CHECKS[info as usize]
     }
 
