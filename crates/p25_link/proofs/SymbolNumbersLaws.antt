@@ -1,6 +1,6 @@
 -- Symbols and octets by the numbers that their bits write: one more of them in the loops that turn one into the other, nine octets and a
 -- number after them, and the fields of a number.
-use Rattle.std.proofs.Common.{◌≡◌, ℕ, ◌+◌, ◌-◌, ◌*◌, ◌/◌, ◌%◌, ◌^◌, ◌<◌, ◌≤◌, Bool, List, [], ◌∷◌, ◌++◌, length, take, drop, map, get_or, set, ap, ap₂, sym, ◌∙◌, arith, length-append, length-drop}
+use Rattle.std.proofs.Common.{◌≡◌, ℕ, ◌+◌, ◌-◌, ◌*◌, ◌/◌, ◌%◌, ◌^◌, ◌<◌, ◌≤◌, Bool, List, [], ◌∷◌, ◌++◌, length, take, drop, map, get_or, set, ap, ap₂, sym, ◌∙◌, arith, length-append, length-drop, length-take}
 use Rattle.std.proofs.{Math.Nat.{mod-eq_of_lt}, Math.Pow.{pow_mono}, lemmas.List.{append-nil, drop_at, length-take-le, map-append, take-append-drop, take_all, take_more, take_more_set}}
 use Rattle.p25_bits.specs.{Bits.{bits_of, field_of, octet_bits, part}, Numbers.{number_bits, octets_from}}
 use Rattle.p25_bits.proofs.BitsLaws.{length-bits_of, length-octet_bits, octet_bits-append, octet_bits-cons, octet_bits-nil, bits_of-field_of, bits_of-joined, field_of-append, field_of-bits_of, field_of-lt, take-bits_of, drop-bits_of}
@@ -49,6 +49,13 @@ octet_bits-one x = octet_bits-cons x [] ∙ ap (λ (xs : List Bool). bits_of 8 x
 -- so many bits at most write no larger number
 pub few_bits-lt : (bits : List Bool) (most : ℕ) → length bits ≤ most → field_of bits < 2 ^ most
 few_bits-lt bits most few = omega (arith, field_of-lt bits, pow_mono few)
+
+-- so the number of eight octets at most, or of twenty symbols, leaves room for one more
+pub octets_room : (octets : List ℕ) (i : ℕ) → i < 9 → field_of (octet_bits (take i octets)) < 2 ^ 64
+octets_room octets i few = few_bits-lt (octet_bits (take i octets)) 64 (omega (arith, length-octet_bits (take i octets), length-take i octets))
+
+pub symbols_room : (symbols : List Sym) (i : ℕ) → i ≤ 20 → field_of (symbol_bits (take i symbols)) < 2 ^ 120
+symbols_room symbols i few = few_bits-lt (symbol_bits (take i symbols)) 120 (omega (arith, length-symbol_bits (take i symbols), length-take i symbols))
 
 -- the number that some bits write, and then those of one more number
 appended : (front : List Bool) (width low : ℕ) → low < 2 ^ width → field_of (front ++ bits_of width low) ≡ field_of front * 2 ^ width + low

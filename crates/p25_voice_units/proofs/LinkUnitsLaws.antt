@@ -1,5 +1,5 @@
 -- Units with voice, LDU1 and LDU2: what both kinds have in common gives their readings and their fixes.
-use Rattle.std.proofs.Common.{◌≡◌, ℕ, ◌+◌, ◌≤◌, Bool, List, ◌++◌, length, slice_index, Ok, Err, option_map, refl, ap, sym, ◌∙◌, arith}
+use Rattle.std.proofs.Common.{◌≡◌, ℕ, ◌+◌, ◌≤◌, Bool, List, ◌++◌, length, slice_index, option_map, refl, ap, sym, ◌∙◌, arith}
 use Rattle.p25_gf64.specs.declared.symbol.Sym.{Sym}
 use Rattle.p25_hamming.specs.Hamming10Laws.{hamming10_reading_of}
 use Rattle.p25_reed_solomon.specs.{Encoding.{rs_word}, RsReadings.{rs_erased_reading_of}, Words.{IsCode}}

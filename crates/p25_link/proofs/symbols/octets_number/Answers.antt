@@ -1,21 +1,17 @@
-use Rattle.std.proofs.{Common.{sym, ap, ◌∙◌, ◌<◌, ◌^◌, ◌≡◌, ℕ, List, take, arith, length-take}, lemmas.List.{take_all}}
+use Rattle.std.proofs.{Common.{sym, ap, ◌∙◌, ◌≡◌, arith}, lemmas.List.{take_all}}
 use Rattle.p25_bits.specs.Bits.{field_of, octet_bits}
 use Rattle.p25_bits.proofs.BitsLaws.{field_of-nil, length-octet_bits, octet_bits-nil}
-use Rattle.p25_link.proofs.SymbolNumbersLaws.{few_bits-lt, octets_more}
+use Rattle.p25_link.proofs.SymbolNumbersLaws.{few_bits-lt, octets_more, octets_room}
 use Rattle.p25_link.proofs.symbols.octets_number.Goals as goal
-
--- the number of eight octets at most leaves room for one more
-room : (octets : List ℕ) (i : ℕ) → i < 9 → field_of (octet_bits (take i octets)) < 2 ^ 64
-room octets i few = few_bits-lt (octet_bits (take i octets)) 64 (omega (arith, length-octet_bits (take i octets), length-take i octets))
 
 pub loop-octet-init : goal.loop-octet-init
 loop-octet-init c = sym (ap field_of octet_bits-nil ∙ field_of-nil)
 
 pub overflow_mul-number : goal.overflow_mul-number
-overflow_mul-number c = omega (arith, room c.args.octets.now c.loop-octet.octet-index (omega arith), c.loop-octet.invariant)
+overflow_mul-number c = omega (arith, octets_room c.args.octets.now c.loop-octet.octet-index (omega arith), c.loop-octet.invariant)
 
 pub overflow_add-number : goal.overflow_add-number
-overflow_add-number c = omega (arith, room c.args.octets.now c.loop-octet.octet-index (omega arith), c.loop-octet.invariant)
+overflow_add-number c = omega (arith, octets_room c.args.octets.now c.loop-octet.octet-index (omega arith), c.loop-octet.invariant)
 
 pub loop-octet-preserved : goal.loop-octet-preserved
 loop-octet-preserved c = octets_more c.args.octets.now c.loop-octet.octet-index c.from.result c.loop-octet.number (omega arith) c.from.ensures (omega arith) c.loop-octet.invariant

@@ -7,10 +7,10 @@ use Rattle.p25_link.proofs.encryption.HeaderWord.from_symbols.Goals as goal
 pub returns : goal.returns
 unfolding header_of_symbols header_of_bits
 returns c =
-    let symbols = c.args.symbols.now in
     let rest = c.symbols_number-rest in
-    let mfid = rest_field symbols 8 0 8 rest.result (omega arith) rest.ensures.value (lit≤ tt) in
-    let algid = rest_field symbols 8 8 8 rest.result (omega arith) rest.ensures.value (lit≤ tt) in
-    let kid = rest_field symbols 8 16 16 rest.result (omega arith) rest.ensures.value (lit≤ tt) in
-    let tgid : rest.result % 2 ^ 16 ≡ field_of (part 104 16 (symbol_bits symbols)) = omega (arith, rest_field symbols 8 32 16 rest.result (omega arith) rest.ensures.value (lit≤ tt)) in
-    made_word header_symbols header_of_symbols IsHeaderWord 20 header_words symbols _ (omega arith) (same_header _ _ c.first_octets-mi.ensures.list mfid algid kid tgid)
+    let mfid = rest_field c.args.symbols.now 8 0 8 rest.result (omega arith) rest.ensures.value (lit≤ tt) in
+    let algid = rest_field c.args.symbols.now 8 8 8 rest.result (omega arith) rest.ensures.value (lit≤ tt) in
+    let kid = rest_field c.args.symbols.now 8 16 16 rest.result (omega arith) rest.ensures.value (lit≤ tt) in
+    let tgid : rest.result % 2 ^ 16 ≡ field_of (part 104 16 (symbol_bits c.args.symbols.now))
+    = omega (arith, rest_field c.args.symbols.now 8 32 16 rest.result (omega arith) rest.ensures.value (lit≤ tt)) in
+    made_word header_symbols header_of_symbols IsHeaderWord 20 header_words c.args.symbols.now _ (omega arith) (same_header _ _ c.first_octets-mi.ensures.list mfid algid kid tgid)
