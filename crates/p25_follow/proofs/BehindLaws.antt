@@ -5,7 +5,7 @@ use Rattle.std.specs.{Prelude.{option_map, slice_index}, List.{flat_map}}
 use Rattle.p25_bits.specs.{Bits.{field_of, part}, Numbers.{octets_from}}
 use Rattle.p25_bits.proofs.NumbersLaws.{each_below-same, joined_below-same}
 use Rattle.p25_hamming.specs.Lsd16Laws.{lsd16_reading_of}
-use Rattle.p25_link.specs.{Words.{header_of_symbols, link_of_symbols, sync_of_symbols}, declared.link_control.LinkControl.{LinkControl}, declared.encryption_sync.EncryptionSync.{EncryptionSync}}
+use Rattle.p25_link.specs.{Words.{header_of_symbols, link_of_symbols, sync_of_symbols}, declared.link_control.LinkControl.{LinkControl}, declared.encryption.EncryptionSync.{EncryptionSync}}
 use Rattle.p25_coded_fields.specs.Layouts.{Layout, field_reading_of, outer_word_of, places_from, received_in, symbols_or_erasures}
 use Rattle.p25_status.specs.{declared.fields.Field.{Field}, declared.fields.Field.TheVariants.{LinkControl as LinkField, EncryptionSync as SyncField, Format}}
 use Rattle.p25_bch_nid.specs.Duids.{duid_hdu, duid_tdu, duid_ldu1, duid_ldu2, duid_tdulc}

@@ -5,9 +5,9 @@ use Rattle.p25_bits.proofs.BitsLaws.{length-bits_of, field_of-bits_of}
 use Rattle.p25_bits.proofs.NumbersLaws.{number_bits-octets, length-number_bits, numbers_from-number_bits, number_bits-numbers_from, numbers_from-append, bits_of-field}
 use Rattle.p25_bits.proofs.PartLaws.{part_add, part_left, part_last, part_whole}
 use Rattle.p25_gf64.specs.declared.symbol.Sym.{Sym}
-use Rattle.p25_link.specs.{declared.link_control.LinkControl.{LinkControl}, declared.encryption_sync.EncryptionSync.{EncryptionSync}, declared.header_word.HeaderWord.{HeaderWord}}
+use Rattle.p25_link.specs.{declared.link_control.LinkControl.{LinkControl}, declared.encryption.EncryptionSync.{EncryptionSync}, declared.encryption.HeaderWord.{HeaderWord}}
 use Rattle.p25_link.specs.Symbols.{symbols_in, symbol_bits}
-use Rattle.p25_link.specs.Words.{link_word_bits, sync_word_bits, header_word_bits, link_of_bits, sync_of_bits, header_of_bits, link_symbols, sync_symbols, header_symbols, link_of_symbols, sync_of_symbols, header_of_symbols, AreNineOctets, IsLinkControl, IsEncryptionSync, IsHeaderWord}
+use Rattle.p25_link.specs.Words.{link_word_bits, sync_word_bits, header_word_bits, link_of_bits, sync_of_bits, header_of_bits, link_symbols, sync_symbols, header_symbols, link_of_symbols, sync_of_symbols, header_of_symbols, AreNineOctets, AreSymbolsOf, IsLinkControl, IsEncryptionSync, IsHeaderWord, IsWordOf}
 use Rattle.p25_link.proofs.SymbolsLaws.{length-symbols_in, length-symbol_bits, symbol_bits-all, symbols_in-symbol_bits}
 
 -- nine octets have 72 bits
@@ -47,6 +47,37 @@ joined bits before at width is there =
     let behind : 0 + at ≡ at = omega arith in
     ap₂ ◌++◌ is (bits_of-field width at bits there ∙ ap (λ n. part n width bits) (sym behind)) ∙ part_add 0 at width bits
 
+-- words and their symbols undo each other, and each word has so many
+pub record UndoEachOther {W : Type 0} (symbols_of : W → List Sym) (of_symbols : List Sym → W) (Keeps : W → Type 0) (count : ℕ) : Type 0 where
+  pub back : (word : W) → Keeps word → of_symbols (symbols_of word) ≡ word
+  pub symbols_back : (symbols : List Sym) → length symbols ≡ count → symbols_of (of_symbols symbols) ≡ symbols
+  pub count_of : (word : W) → length (symbols_of word) ≡ count
+
+-- where words and their bits do
+undone_by_bits : {W : Type 0} (bits_in : W → List Bool) (of_bits : List Bool → W) (Keeps : W → Type 0) (count : ℕ)
+    → ((word : W) → Keeps word → length (bits_in word) ≡ 6 * count) → ((word : W) → Keeps word → of_bits (bits_in word) ≡ word)
+    → ((bits : List Bool) → length bits ≡ 6 * count → bits_in (of_bits bits) ≡ bits)
+    → UndoEachOther (λ word. symbols_in count (bits_in word)) (λ symbols. of_bits (symbol_bits symbols)) Keeps count
+undone_by_bits bits_in of_bits Keeps count many word_back bits_back = record {
+  back = λ word keeps. ap of_bits (symbol_bits-all count (bits_in word) (many word keeps)) ∙ word_back word keeps;
+  symbols_back = λ symbols long.
+      ap (symbols_in count) (bits_back (symbol_bits symbols) (length-symbol_bits symbols ∙ ap (λ n. 6 * n) long)) ∙ symbols_in-symbol_bits count symbols long;
+  count_of = λ word. length-symbols_in count (bits_in word);
+}
+
+-- the symbols of a word that were made, and the word of symbols
+module _ {W : Type 0} (symbols_of : W → List Sym) (of_symbols : List Sym → W) (Keeps : W → Type 0) (count : ℕ) (laws : UndoEachOther symbols_of of_symbols Keeps count) where
+  pub made_symbols : (word : W) (symbols : List Sym) → Keeps word → symbols ≡ symbols_of word → AreSymbolsOf symbols_of of_symbols Keeps count word symbols
+  made_symbols word symbols keeps is = record {
+    value = is;
+    len = ap length is ∙ laws.count_of word;
+    back = ap of_symbols is ∙ laws.back word keeps;
+    sound = keeps;
+  }
+
+  pub made_word : (symbols : List Sym) (word : W) → length symbols ≡ count → word ≡ of_symbols symbols → IsWordOf symbols_of of_symbols symbols word
+  made_word symbols word long is = record { value = is; back = ap symbols_of is ∙ laws.symbols_back symbols long }
+
 -- link control and its bits
 pub length-link_word_bits : (link : LinkControl) → IsLinkControl link → length (link_word_bits link) ≡ 72
 unfolding link_word_bits
@@ -59,6 +90,16 @@ link_of_its_bits link keeps = ap (λ octets. record { 0 = octets }) (nine_back l
 bits_of_their_link : (bits : List Bool) → length bits ≡ 72 → link_word_bits (link_of_bits bits) ≡ bits
 unfolding link_of_bits link_word_bits
 bits_of_their_link bits long = nine_bits bits (omega (arith, long)) ∙ part_whole 72 bits long
+
+pub link_words : UndoEachOther link_symbols link_of_symbols IsLinkControl 12
+unfolding link_symbols link_of_symbols
+link_words = undone_by_bits link_word_bits link_of_bits IsLinkControl 12 length-link_word_bits link_of_its_bits bits_of_their_link
+
+-- encryption sync of the same fields is the same
+pub same_sync : (a b : EncryptionSync) → a.mi ≡ b.mi → a.algid ≡ b.algid → a.kid ≡ b.kid → a ≡ b
+same_sync a b mi algid kid =
+    let made : List ℕ → ℕ → ℕ → EncryptionSync = λ octets m n. record { mi = octets; algid = m; kid = n } in
+    ap (λ octets. made octets a.algid a.kid) mi ∙ ap₂ (made b.mi) algid kid
 
 -- encryption sync and its bits
 pub length-sync_word_bits : (sync : EncryptionSync) → IsEncryptionSync sync → length (sync_word_bits sync) ≡ 96
@@ -80,9 +121,7 @@ sync_of_its_bits sync keeps =
     let algid : field_of (part 72 8 bits) ≡ sync.algid
     = field_kept 72 8 first (bits_of 16 sync.kid) (omega (arith, ten)) ∙ last_back 72 8 sync.algid octets nine keeps.algid in
     let kid : field_of (part 80 16 bits) ≡ sync.kid = last_back 80 16 sync.kid first ten keeps.kid in
-    ap (λ n. record { mi = octets_from 9 bits; algid = field_of (part 72 8 bits); kid = n }) kid
-    ∙ ap (λ n. record { mi = octets_from 9 bits; algid = n; kid = sync.kid }) algid
-    ∙ ap (λ ns. record { mi = ns; algid = sync.algid; kid = sync.kid }) mi
+    same_sync _ sync mi algid kid
 
 bits_of_their_sync : (bits : List Bool) → length bits ≡ 96 → sync_word_bits (sync_of_bits bits) ≡ bits
 unfolding sync_of_bits sync_word_bits
@@ -90,6 +129,16 @@ bits_of_their_sync bits long =
     let octets = octet_bits (octets_from 9 bits) in
     let first = octets ++ bits_of 8 (field_of (part 72 8 bits)) in
     joined bits first 80 16 (joined bits octets 72 8 (nine_bits bits (omega (arith, long))) (omega (arith, long))) (omega (arith, long)) ∙ part_whole 96 bits long
+
+pub sync_words : UndoEachOther sync_symbols sync_of_symbols IsEncryptionSync 16
+unfolding sync_symbols sync_of_symbols
+sync_words = undone_by_bits sync_word_bits sync_of_bits IsEncryptionSync 16 length-sync_word_bits sync_of_its_bits bits_of_their_sync
+
+-- header words of the same fields are the same
+pub same_header : (a b : HeaderWord) → a.mi ≡ b.mi → a.mfid ≡ b.mfid → a.algid ≡ b.algid → a.kid ≡ b.kid → a.tgid ≡ b.tgid → a ≡ b
+same_header a b mi mfid algid kid tgid =
+    let made : List ℕ → ℕ → ℕ → ℕ → ℕ → HeaderWord = λ octets l m n o. record { mi = octets; mfid = l; algid = m; kid = n; tgid = o } in
+    ap (λ octets. made octets a.mfid a.algid a.kid a.tgid) mi ∙ ap₂ (λ l m. made b.mi l m a.kid a.tgid) mfid algid ∙ ap₂ (made b.mi b.mfid b.algid) kid tgid
 
 -- the header word and its bits
 pub length-header_word_bits : (word : HeaderWord) → IsHeaderWord word → length (header_word_bits word) ≡ 120
@@ -131,11 +180,7 @@ header_of_its_bits word keeps =
     let kid : field_of (part 88 16 bits) ≡ word.kid
     = field_kept 88 16 third (bits_of 16 word.tgid) (omega (arith, thirteen)) ∙ last_back 88 16 word.kid second eleven keeps.kid in
     let tgid : field_of (part 104 16 bits) ≡ word.tgid = last_back 104 16 word.tgid third thirteen keeps.tgid in
-    ap (λ n. record { mi = octets_from 9 bits; mfid = field_of (part 72 8 bits); algid = field_of (part 80 8 bits); kid = field_of (part 88 16 bits); tgid = n }) tgid
-    ∙ ap (λ n. record { mi = octets_from 9 bits; mfid = field_of (part 72 8 bits); algid = field_of (part 80 8 bits); kid = n; tgid = word.tgid }) kid
-    ∙ ap (λ n. record { mi = octets_from 9 bits; mfid = field_of (part 72 8 bits); algid = n; kid = word.kid; tgid = word.tgid }) algid
-    ∙ ap (λ n. record { mi = octets_from 9 bits; mfid = n; algid = word.algid; kid = word.kid; tgid = word.tgid }) mfid
-    ∙ ap (λ ns. record { mi = ns; mfid = word.mfid; algid = word.algid; kid = word.kid; tgid = word.tgid }) mi
+    same_header _ word mi mfid algid kid tgid
 
 bits_of_their_header : (bits : List Bool) → length bits ≡ 120 → header_word_bits (header_of_bits bits) ≡ bits
 unfolding header_of_bits header_word_bits
@@ -150,43 +195,6 @@ bits_of_their_header bits long =
     let thirteen = joined bits second 88 16 eleven (omega (arith, long)) in
     joined bits third 104 16 thirteen (omega (arith, long)) ∙ part_whole 120 bits long
 
--- words and their symbols
-pub link_back : (link : LinkControl) → IsLinkControl link → link_of_symbols (link_symbols link) ≡ link
-unfolding link_of_symbols link_symbols
-link_back link keeps = ap link_of_bits (symbol_bits-all 12 (link_word_bits link) (length-link_word_bits link keeps)) ∙ link_of_its_bits link keeps
-
-pub link_symbols_back : (symbols : List Sym) → length symbols ≡ 12 → link_symbols (link_of_symbols symbols) ≡ symbols
-unfolding link_of_symbols link_symbols
-link_symbols_back symbols long =
-    ap (symbols_in 12) (bits_of_their_link (symbol_bits symbols) (length-symbol_bits symbols ∙ ap (λ n. 6 * n) long)) ∙ symbols_in-symbol_bits 12 symbols long
-
-pub sync_back : (sync : EncryptionSync) → IsEncryptionSync sync → sync_of_symbols (sync_symbols sync) ≡ sync
-unfolding sync_of_symbols sync_symbols
-sync_back sync keeps = ap sync_of_bits (symbol_bits-all 16 (sync_word_bits sync) (length-sync_word_bits sync keeps)) ∙ sync_of_its_bits sync keeps
-
-pub sync_symbols_back : (symbols : List Sym) → length symbols ≡ 16 → sync_symbols (sync_of_symbols symbols) ≡ symbols
-unfolding sync_of_symbols sync_symbols
-sync_symbols_back symbols long =
-    ap (symbols_in 16) (bits_of_their_sync (symbol_bits symbols) (length-symbol_bits symbols ∙ ap (λ n. 6 * n) long)) ∙ symbols_in-symbol_bits 16 symbols long
-
-pub header_back : (word : HeaderWord) → IsHeaderWord word → header_of_symbols (header_symbols word) ≡ word
-unfolding header_of_symbols header_symbols
-header_back word keeps = ap header_of_bits (symbol_bits-all 20 (header_word_bits word) (length-header_word_bits word keeps)) ∙ header_of_its_bits word keeps
-
-pub header_symbols_back : (symbols : List Sym) → length symbols ≡ 20 → header_symbols (header_of_symbols symbols) ≡ symbols
-unfolding header_of_symbols header_symbols
-header_symbols_back symbols long =
-    ap (symbols_in 20) (bits_of_their_header (symbol_bits symbols) (length-symbol_bits symbols ∙ ap (λ n. 6 * n) long)) ∙ symbols_in-symbol_bits 20 symbols long
-
--- the symbols are as many as the word has
-pub length-link_symbols : (link : LinkControl) → length (link_symbols link) ≡ 12
-unfolding link_symbols
-length-link_symbols link = length-symbols_in 12 (link_word_bits link)
-
-pub length-sync_symbols : (sync : EncryptionSync) → length (sync_symbols sync) ≡ 16
-unfolding sync_symbols
-length-sync_symbols sync = length-symbols_in 16 (sync_word_bits sync)
-
-pub length-header_symbols : (word : HeaderWord) → length (header_symbols word) ≡ 20
-unfolding header_symbols
-length-header_symbols word = length-symbols_in 20 (header_word_bits word)
+pub header_words : UndoEachOther header_symbols header_of_symbols IsHeaderWord 20
+unfolding header_symbols header_of_symbols
+header_words = undone_by_bits header_word_bits header_of_bits IsHeaderWord 20 length-header_word_bits header_of_its_bits bits_of_their_header

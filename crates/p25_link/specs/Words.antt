@@ -3,8 +3,8 @@
 use Rattle.std.specs.Prelude.{◌≡◌, ℕ, ◌<◌, ◌^◌, Bool, List, ◌++◌, length, All}
 use Rattle.p25_bits.specs.{Bits.{bits_of, field_of, octet_bits, part}, Numbers.{octets_from}}
 use Rattle.p25_gf64.specs.declared.symbol.Sym.{Sym}
-use Rattle.p25_link.specs.{declared.link_control.LinkControl.{LinkControl}, declared.encryption_sync.EncryptionSync.{EncryptionSync}}
-use Rattle.p25_link.specs.{declared.header_word.HeaderWord.{HeaderWord}, Symbols.{symbols_in, symbol_bits}}
+use Rattle.p25_link.specs.{declared.link_control.LinkControl.{LinkControl}, declared.encryption.EncryptionSync.{EncryptionSync}}
+use Rattle.p25_link.specs.{declared.encryption.HeaderWord.{HeaderWord}, Symbols.{symbols_in, symbol_bits}}
 
 -- the 72 bits of link control (LC): its nine octets
 unfoldable pub link_word_bits : LinkControl → List Bool
@@ -82,3 +82,16 @@ pub record IsHeaderWord (word : HeaderWord) : Type 0 where
   pub algid : word.algid < 2 ^ 8
   pub kid : word.kid < 2 ^ 16
   pub tgid : word.tgid < 2 ^ 16
+
+-- the symbols of a word are those of its kind, so many, and the word of them is that word, which keeps what every one of its kind keeps
+pub record AreSymbolsOf {W : Type 0} (symbols_of : W → List Sym) (of_symbols : List Sym → W) (Keeps : W → Type 0)
+    (count : ℕ) (word : W) (symbols : List Sym) : Type 0 where
+  pub value : symbols ≡ symbols_of word
+  pub len : length symbols ≡ count
+  pub back : of_symbols symbols ≡ word
+  pub sound : Keeps word
+
+-- the word of symbols is that of its kind, and they are its symbols
+pub record IsWordOf {W : Type 0} (symbols_of : W → List Sym) (of_symbols : List Sym → W) (symbols : List Sym) (word : W) : Type 0 where
+  pub value : word ≡ of_symbols symbols
+  pub back : symbols_of word ≡ symbols

@@ -2,8 +2,8 @@
 
 ghost use Rattle.std.specs.Prelude.{◌≡◌, List, length};
 ghost use Rattle.p25_gf64.specs.declared.symbol.Sym.{Sym};
-ghost use Rattle.p25_link.specs.{declared.link_control.LinkControl.{LinkControl}, declared.encryption_sync.EncryptionSync.{EncryptionSync}};
-ghost use Rattle.p25_link.specs.declared.header_word.HeaderWord.{HeaderWord};
+ghost use Rattle.p25_link.specs.{declared.link_control.LinkControl.{LinkControl}, declared.encryption.EncryptionSync.{EncryptionSync}};
+ghost use Rattle.p25_link.specs.declared.encryption.HeaderWord.{HeaderWord};
 ghost use Rattle.p25_link.specs.Words.{link_symbols, link_of_symbols, IsLinkControl, sync_symbols, sync_of_symbols, IsEncryptionSync, header_symbols, header_of_symbols, IsHeaderWord};
 
 /// **Theorem.** Words and symbols undo each other.

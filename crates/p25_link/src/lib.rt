@@ -21,15 +21,13 @@
 //! `link_of_symbols`, `sync_of_symbols` and `header_of_symbols`. `word_laws` says that each undoes the other.
 #![tactic(auto)]
 
-mod encryption_sync;
-mod header_word;
+mod encryption;
 pub mod laws;
 mod link_control;
 mod symbols;
 #[cfg(test)]
 mod tests;
 
-pub use encryption_sync::EncryptionSync;
-pub use header_word::HeaderWord;
+pub use encryption::{EncryptionSync, HeaderWord};
 pub use link_control::{LinkControl, LinkKind};
 pub use symbols::{put_symbols, symbols_number};

@@ -1,10 +1,10 @@
 //! Link control (LC).
 
-ghost use Rattle.std.specs.Prelude.{◌≡◌, ◌≢◌, ◌↔◌, ◌+◌, ◌*◌, length, slice_index};
-ghost use Rattle.p25_link.specs.{Words.{link_symbols, link_of_symbols, IsLinkControl}, Kinds.{link_kind_of, group_call, individual_call}};
+ghost use Rattle.std.specs.Prelude.{◌≡◌, ◌≢◌, ◌↔◌, ◌+◌, ◌*◌, slice_index};
+ghost use Rattle.p25_link.specs.{Words.{link_symbols, link_of_symbols, AreSymbolsOf, IsLinkControl, IsWordOf}, Kinds.{link_kind_of, group_call, individual_call}};
 ghost use Rattle.p25_bits.specs.Numbers.{triple_at};
 
-use crate::symbols::{first_octets, octets_number, put_symbols, symbols_number};
+use crate::symbols::{first_octets, symbols_of};
 use p25_bits::{pair_at, triple_at};
 use p25_gf64::Sym;
 
@@ -42,22 +42,16 @@ pub enum LinkKind {
 impl LinkControl {
     /// Answers the twelve symbols of the nine octets of link control (LC). TIA-102.BAAA, Link Control Word.
     pub fn symbols(&self) -> [Sym; 12]
-        ensures value { result ≡ link_symbols self.now }
-        ensures len { length result ≡ 12 }
-        ensures back { link_of_symbols result ≡ self.now }
-        ensures sound { IsLinkControl self.now }
+        ensures { AreSymbolsOf link_symbols link_of_symbols IsLinkControl 12 self.now result }
     {
-        let mut symbols = [Sym::ZERO; 12];
-        put_symbols(octets_number(&self.0), &mut symbols);
-        symbols
+        symbols_of(&self.0, 0)
     }
 
     /// Answers the link control (LC) whose symbols these are. TIA-102.BAAA, Link Control Word.
     pub fn from_symbols(symbols: &[Sym; 12]) -> LinkControl
-        ensures value { result ≡ link_of_symbols symbols.now }
-        ensures back { link_symbols result ≡ symbols.now }
+        ensures { IsWordOf link_symbols link_of_symbols symbols.now result }
     {
-        LinkControl(first_octets(symbols_number(symbols), 72))
+        LinkControl(first_octets(symbols))
     }
 
     /// Answers what link control (LC) says of the call. Other comes exactly where the first octet is neither 00 nor 03 hex.

@@ -1,6 +1,6 @@
 //! Symbols of six bits and octets, by the numbers that their bits write.
 
-ghost use Rattle.std.specs.Prelude.{◌≡◌, ◌+◌, ◌*◌, ◌^◌, ◌<◌, ◌≤◌, length};
+ghost use Rattle.std.specs.Prelude.{◌≡◌, ◌+◌, ◌-◌, ◌*◌, ◌^◌, ◌<◌, ◌≤◌, ◌++◌, length};
 ghost use Rattle.p25_bits.specs.{Bits.{bits_of, field_of, octet_bits}, Numbers.{octets_from}};
 ghost use Rattle.p25_link.specs.{Words.{AreNineOctets}, Symbols.{symbols_in, symbol_bits}};
 
@@ -19,16 +19,31 @@ pub(crate) fn octets_number(octets: &[u8; 9]) -> u128
     number
 }
 
-// Answers the nine octets that the first of `width` bits of a number write.
-pub(crate) fn first_octets(number: u128, width: u32) -> [u8; 9]
-    requires least { 72 ≤ width }
-    requires most { width ≤ 128 }
-    ensures list { result ≡ octets_from 9 (bits_of width number) }
+// Answers the symbols of nine octets and of the last bits of a number after them, as many bits as the symbols have left.
+pub(crate) fn symbols_of<const N: usize>(octets: &[u8; 9], rest: u64) -> [Sym; N]
+    requires least { 12 ≤ N }
+    requires most { N ≤ 20 }
+    requires fits { rest < 2 ^ (6 * N - 72) }
+    ensures list { result ≡ symbols_in N (octet_bits octets.now ++ bits_of (6 * N - 72) rest) }
+    ensures len { length result ≡ N }
+    ensures nine { AreNineOctets octets.now }
+{
+    let number = (octets_number(octets) << (6 * N - 72)) + u128::from(rest);
+    let mut symbols = [Sym::ZERO; N];
+    put_symbols(number, &mut symbols);
+    symbols
+}
+
+// Answers the nine octets that the bits of the first twelve symbols write.
+pub(crate) fn first_octets(symbols: &[Sym]) -> [u8; 9]
+    requires { 12 ≤ length symbols.now }
+    ensures list { result ≡ octets_from 9 (symbol_bits symbols.now) }
     ensures len { length result ≡ 9 }
 {
+    let number = symbols_number(&symbols[..12]);
     let mut octets = [0; 9];
     for i in 0..9 {
-        octets[i] = ((number >> (width - 8 - 8 * i as u32)) % 256) as u8;
+        octets[i] = ((number >> (64 - 8 * i as u32)) % 256) as u8;
     }
     octets
 }

@@ -1,7 +1,7 @@
 -- What units carry, from the parts that were drawn one after the other: the states between them add up.
 use Rattle.std.proofs.Common.{◌≡◌, ℕ, ◌+◌, ◌-◌, ◌*◌, ◌%◌, ◌<◌, ◌≢◌, inl, inr, List, [], ◌∷◌, ◌++◌, length, get_or, refl, ap, sym, ◌∙◌, arith}
 use Rattle.p25_bits.proofs.NumbersLaws.{length-each_below, each_below-more, each_below-zero, get_or-each_below}
-use Rattle.p25_link.specs.{declared.link_control.LinkControl.{LinkControl}, declared.encryption_sync.EncryptionSync.{EncryptionSync}}
+use Rattle.p25_link.specs.{declared.link_control.LinkControl.{LinkControl}, declared.encryption.EncryptionSync.{EncryptionSync}}
 use Rattle.p25_voice_units.specs.{declared.voice.VoiceFrame.{VoiceFrame}, declared.unit.VoiceUnit.TheVariants.{Link1 as ldu1_unit, Link2 as ldu2_unit}}
 use Rattle.p25_packet_blocks.specs.{ConfirmedParts.{ConfirmedParts}, Parts.{PlainParts}, Heads.{head_format, head_blocks}, Kinds.{IsConfirmed, IsPlain}, Whole.{AreGood, IsWholePacket}}
 use Rattle.p25_packet_blocks.specs.{declared.head.PacketHead.{PacketHead}, declared.block.Slot.{Slot}, declared.block.Slot.TheVariants.{Bad}}

@@ -2,7 +2,7 @@
 use Rattle.std.proofs.Common.{◌≡◌, ℕ, ◌<◌, Bool, List, ◌∷◌, length, Option, Some, None, Result, Ok, Err, refl, sym, ◌∙◌, subst, arith}
 use Rattle.std.specs.Prelude.{IfErr}
 use Rattle.p25_status.specs.{declared.fields.Field.{Field}, declared.fields.Field.TheVariants.{LinkControl as LinkField, EncryptionSync as SyncField}}
-use Rattle.p25_link.specs.{declared.header_word.HeaderWord.{HeaderWord}, declared.link_control.LinkControl.{LinkControl}}
+use Rattle.p25_link.specs.{declared.encryption.HeaderWord.{HeaderWord}, declared.link_control.LinkControl.{LinkControl}}
 use Rattle.p25_voice_units.specs.{declared.unit.VoiceUnit.{VoiceUnit}, declared.unit.VoiceUnit.TheVariants.{Link1, Link2, End}, FieldLayouts.{link_layout, tdulc_layout}, Lengths.{voice_length_of}}
 use Rattle.p25_voice_units.specs.Readings.{missing, failing, header_from, ldu_from, tdulc_from, ldu1_in, ldu2_in, header_in, link_in, sync_in, low_in, voice_in, voice_reading_of}
 use Rattle.p25_voice_units.proofs.{KindsLaws.{reading-header, reading-end, reading-ldu1, reading-ldu2, reading-tdulc}, LengthsLaws.{length-cases}}

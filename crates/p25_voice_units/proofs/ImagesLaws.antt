@@ -6,8 +6,8 @@ use Rattle.p25_golay.specs.{Golay18.{IsGolay18}, Golay18Laws.{golay18_code, gola
 use Rattle.p25_gf64.specs.declared.symbol.Sym.{Sym}
 use Rattle.p25_reed_solomon.specs.{Words.{IsCode}, Encoding.{rs_word}}
 use Rattle.p25_reed_solomon.proofs.EncodingLaws.{IsEncoding-rs_word}
-use Rattle.p25_link.specs.{declared.link_control.LinkControl.{LinkControl}, declared.header_word.HeaderWord.{HeaderWord}, Words.{header_symbols, link_symbols, sync_symbols}}
-use Rattle.p25_link.proofs.WordsLaws.{length-header_symbols, length-link_symbols, length-sync_symbols}
+use Rattle.p25_link.specs.{declared.link_control.LinkControl.{LinkControl}, declared.encryption.HeaderWord.{HeaderWord}, Words.{header_symbols, link_symbols, sync_symbols}}
+use Rattle.p25_link.proofs.WordsLaws.{header_words, link_words, sync_words}
 use Rattle.p25_coded_fields.specs.Layouts.{places_from}
 use Rattle.p25_voice_units.specs.{declared.voice.VoiceFrame.{VoiceFrame}, declared.unit.VoiceUnit.{VoiceUnit}, declared.unit.VoiceUnit.TheVariants.{Header, Link1, Link2, End, EndLink}}
 use Rattle.p25_voice_units.specs.{Layouts.{hdu_rows, ldu_rows, tdu_rows, tdulc_rows}, FieldLayouts.{word_places}, Lengths.{voice_duid, voice_length_of}}
@@ -37,7 +37,7 @@ length-outer n k info code long = (IsEncoding-rs_word n k info code long).word_o
 pub header_suits : (word : HeaderWord) → AreRows 18 770 (contents golay18_word 1 (rs_word 36 20 (header_symbols word)) [] []) hdu_rows
 unfolding word_places places_from
 header_suits word =
-    let long = length-outer 36 20 (header_symbols word) header_code (length-header_symbols word) in
+    let long = length-outer 36 20 (header_symbols word) header_code (header_words.count_of word) in
     record { stand = refl; fit = ap (λ n. rows_supplied 1 n 0 0 hdu_rows) long; counted = refl; fill = refl; cover = sym long; inside = refl }
 
 pub ldu_suits : (k : ℕ) (info : List Sym) (low : List ℕ) (voice : List VoiceFrame)
@@ -61,7 +61,7 @@ end_suits = record { stand = refl; fit = refl; counted = refl; fill = refl; cove
 pub tdulc_suits : (link : LinkControl) → AreRows 24 420 (contents golay24_word 2 (rs_word 24 12 (link_symbols link)) [] []) tdulc_rows
 unfolding word_places places_from
 tdulc_suits link =
-    let long = length-outer 24 12 (link_symbols link) link_code (length-link_symbols link) in
+    let long = length-outer 24 12 (link_symbols link) link_code (link_words.count_of link) in
     record { stand = refl; fit = ap (λ n. rows_supplied 2 n 0 0 tdulc_rows) long; counted = refl; fill = refl; cover = sym long; inside = refl }
 
 -- a terminator has no inner words
@@ -74,9 +74,9 @@ pub length-voice_image_of : (nac : ℕ) (unit : VoiceUnit) → IsSendableVoice u
 unfolding IsSendableVoice voice_image_of voice_body
 length-voice_image_of nac (Header word) keeps = length-header ∙ ap Some (sym (length-unit (golay18_carried _) (header_suits word) nac 0))
 length-voice_image_of nac (Link1 link low voice) keeps =
-    length-ldu1 ∙ ap Some (sym (length-unit (hamming10_carried _ low voice keeps.speech) (ldu_suits 12 _ low voice link_code (length-link_symbols link) keeps.speech) nac 5))
+    length-ldu1 ∙ ap Some (sym (length-unit (hamming10_carried _ low voice keeps.speech) (ldu_suits 12 _ low voice link_code (link_words.count_of link) keeps.speech) nac 5))
 length-voice_image_of nac (Link2 sync low voice) keeps =
-    length-ldu2 ∙ ap Some (sym (length-unit (hamming10_carried _ low voice keeps.speech) (ldu_suits 16 _ low voice sync_code (length-sync_symbols sync) keeps.speech) nac 10))
+    length-ldu2 ∙ ap Some (sym (length-unit (hamming10_carried _ low voice keeps.speech) (ldu_suits 16 _ low voice sync_code (sync_words.count_of sync) keeps.speech) nac 10))
 length-voice_image_of nac End keeps = length-end ∙ ap Some (sym (length-unit (golay18_carried []) end_suits nac 3))
 length-voice_image_of nac (EndLink link) keeps = length-tdulc ∙ ap Some (sym (length-unit (golay24_carried _) (tdulc_suits link) nac 15))
 
@@ -84,18 +84,18 @@ length-voice_image_of nac (EndLink link) keeps = length-tdulc ∙ ap Some (sym (
 pub IsVoiceImage-iff : (nac : ℕ) (unit : VoiceUnit) (bare : List Bool) → IsSendableVoice unit → IsVoiceImage nac unit bare ↔ (bare ≡ voice_image_of nac unit)
 unfolding IsSendableVoice IsVoiceImage voice_image_of voice_body
 IsVoiceImage-iff nac (Header word) bare keeps =
-    unit_form (golay18_carried _) (header_suits word) 36 20 header_code (header_symbols word) (length-header_symbols word) refl golay18_reading_of nac 0 bare
+    unit_form (golay18_carried _) (header_suits word) 36 20 header_code (header_symbols word) (header_words.count_of word) refl golay18_reading_of nac 0 bare
 IsVoiceImage-iff nac (Link1 link low voice) bare keeps =
     let info = link_symbols link in
-    let long = length-link_symbols link in
+    let long = link_words.count_of link in
     unit_form (hamming10_carried _ low voice keeps.speech) (ldu_suits 12 info low voice link_code long keeps.speech) 24 12 link_code info long refl hamming10_reading_of nac 5 bare
 IsVoiceImage-iff nac (Link2 sync low voice) bare keeps =
     let info = sync_symbols sync in
-    let long = length-sync_symbols sync in
+    let long = sync_words.count_of sync in
     unit_form (hamming10_carried _ low voice keeps.speech) (ldu_suits 16 info low voice sync_code long keeps.speech) 24 16 sync_code info long refl hamming10_reading_of nac 10 bare
 IsVoiceImage-iff nac End bare keeps = (
   λ laid. laid_out-only (golay18_carried []) end_suits nac 3 bare laid (λ i inside. absurd (omega (arith, inside, no_words i))),
   λ is. laid_out (golay18_carried []) end_suits nac 3 bare is,
 )
 IsVoiceImage-iff nac (EndLink link) bare keeps =
-    unit_form (golay24_carried _) (tdulc_suits link) 24 12 link_code (link_symbols link) (length-link_symbols link) refl golay24_reading_of nac 15 bare
+    unit_form (golay24_carried _) (tdulc_suits link) 24 12 link_code (link_symbols link) (link_words.count_of link) refl golay24_reading_of nac 15 bare

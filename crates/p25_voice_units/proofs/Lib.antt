@@ -13,3 +13,4 @@ pub mod ReadingLaws
 pub mod RadiusLaws
 pub mod FixesLaws
 pub mod CountedLaws
+pub mod LinkUnitsLaws

@@ -8,9 +8,9 @@ use Rattle.p25_bits.proofs.PartLaws.{length-part}
 use Rattle.p25_code.specs.{Words.{IsEncoding}, Readings.{IsReadAs}}
 use Rattle.p25_code.proofs.ReadingLaws.{read_as_sent}
 use Rattle.p25_hamming.specs.{Lsd16.{IsLsd16}, Lsd16Laws.{lsd16_code, lsd16_reading_of}, Hamming10Laws.{hamming10_reading_of}}
-use Rattle.p25_link.specs.{Words.{header_of_symbols, header_symbols, link_of_symbols, link_symbols, sync_of_symbols, sync_symbols}, declared.header_word.HeaderWord.{HeaderWord}}
+use Rattle.p25_link.specs.{Words.{header_of_symbols, header_symbols, link_of_symbols, link_symbols, sync_of_symbols, sync_symbols}, declared.encryption.HeaderWord.{HeaderWord}}
 use Rattle.p25_link.specs.declared.link_control.LinkControl.{LinkControl}
-use Rattle.p25_link.proofs.WordsLaws.{header_back, link_back, sync_back, header_symbols_back, link_symbols_back, sync_symbols_back}
+use Rattle.p25_link.proofs.WordsLaws.{header_words, link_words, sync_words}
 use Rattle.p25_coded_fields.proofs.{WithinLaws.{field_within, near_from_lost, near_itself}, CodesLaws.{near_from_reading, field_information}}
 use Rattle.p25_voice_units.specs.{declared.layout.Piece.TheVariants.{Nulls}, declared.unit.VoiceUnit.{VoiceUnit}, declared.unit.VoiceUnit.TheVariants.{Header, Link1, Link2, End, EndLink}}
 use Rattle.p25_voice_units.specs.{declared.voice.VoiceFrame.{VoiceFrame}, Layouts.{ldu_rows, hdu_rows, tdulc_rows}, FieldLayouts.{link_layout, word_places, header_layout, sync_layout, tdulc_layout}}
@@ -63,21 +63,21 @@ pub voice_within : (nac : ℕ) (unit : VoiceUnit) (sent received : List Bool) �
 unfolding IsSendableVoice IsVoiceImage IsVoiceWithin header_in link_in sync_in header_from tdulc_from ldu1_in ldu2_in
 voice_within nac (Header word) sent received keeps is long near =
     reading-header received
-    ∙ ap header_from (ap (option_map header_of_symbols) (field_within header_codes (header_symbols word) sent received is.1 near) ∙ ap Some (header_back word keeps))
+    ∙ ap header_from (ap (option_map header_of_symbols) (field_within header_codes (header_symbols word) sent received is.1 near) ∙ ap Some (header_words.back word keeps))
 voice_within nac (Link1 link low voice) sent received keeps is long near =
     reading-ldu1 received
     ∙ ldu_within LinkField (λ link low. Link1 link low (voice_in received)) (link_in link_layout received) link low voice sent received
-    (ap (option_map link_of_symbols) (field_within link_codes (link_symbols link) sent received is.1 near.field) ∙ ap Some (link_back link keeps.word))
+    (ap (option_map link_of_symbols) (field_within link_codes (link_symbols link) sent received is.1 near.field) ∙ ap Some (link_words.back link keeps.word))
     keeps.speech is.0.pieces (long ∙ is.0.long) near.low
 voice_within nac (Link2 sync low voice) sent received keeps is long near =
     reading-ldu2 received
     ∙ ldu_within SyncField (λ sync low. Link2 sync low (voice_in received)) (sync_in received) sync low voice sent received
-    (ap (option_map sync_of_symbols) (field_within sync_codes (sync_symbols sync) sent received is.1 near.field) ∙ ap Some (sync_back sync keeps.word))
+    (ap (option_map sync_of_symbols) (field_within sync_codes (sync_symbols sync) sent received is.1 near.field) ∙ ap Some (sync_words.back sync keeps.word))
     keeps.speech is.0.pieces (long ∙ is.0.long) near.low
 voice_within nac End sent received keeps is long near = reading-end received
 voice_within nac (EndLink link) sent received keeps is long near =
     reading-tdulc received
-    ∙ ap tdulc_from (ap (option_map link_of_symbols) (field_within tdulc_codes (link_symbols link) sent received is.1 near) ∙ ap Some (link_back link keeps))
+    ∙ ap tdulc_from (ap (option_map link_of_symbols) (field_within tdulc_codes (link_symbols link) sent received is.1 near) ∙ ap Some (link_words.back link keeps))
 
 -- by whole inner words is within radius too
 pub within_from_words : (nac : ℕ) (unit : VoiceUnit) (sent received : List Bool)
@@ -249,7 +249,7 @@ unfolding IsVoiceImage IsVoiceWithin header_in link_in sync_in ldu1_in ldu2_in
 voice_whole nac (Header word) sent received is read =
     let part_read = header_parts (header_in received) word (sym (reading-header received) ∙ read) in
     near_from_reading (word_places 18 hdu_rows) 18 1 36 20 golay18_reading_of header_code (header_symbols word) sent received is.1
-    (symbols_read header_of_symbols header_symbols 20 (field_reading_of header_layout received) word header_symbols_back
+    (symbols_read header_of_symbols header_symbols 20 (field_reading_of header_layout received) word header_words.symbols_back
     (field_information (word_places 18 hdu_rows) 18 1 36 20 golay18_reading_of header_code received) part_read)
 voice_whole nac (Link1 link low voice) sent received is read =
     let parts = ldu_read_parts LinkField (λ word octets. Link1 word octets (voice_in received))
@@ -257,7 +257,7 @@ voice_whole nac (Link1 link low voice) sent received is read =
     (sym (reading-ldu1 received) ∙ read) in
     record {
       field = near_from_reading (word_places 10 ldu_rows) 10 1 24 12 hamming10_reading_of link_code (link_symbols link) sent received is.1
-          (symbols_read link_of_symbols link_symbols 12 (field_reading_of link_layout received) link link_symbols_back
+          (symbols_read link_of_symbols link_symbols 12 (field_reading_of link_layout received) link link_words.symbols_back
           (field_information (word_places 10 ldu_rows) 10 1 24 12 hamming10_reading_of link_code received) parts.word_read);
       low = low_words_whole low voice sent received is.0.pieces parts.first_read parts.second_read;
     }
@@ -267,7 +267,7 @@ voice_whole nac (Link2 sync low voice) sent received is read =
     (sym (reading-ldu2 received) ∙ read) in
     record {
       field = near_from_reading (word_places 10 ldu_rows) 10 1 24 16 hamming10_reading_of sync_code (sync_symbols sync) sent received is.1
-          (symbols_read sync_of_symbols sync_symbols 16 (field_reading_of sync_layout received) sync sync_symbols_back
+          (symbols_read sync_of_symbols sync_symbols 16 (field_reading_of sync_layout received) sync sync_words.symbols_back
           (field_information (word_places 10 ldu_rows) 10 1 24 16 hamming10_reading_of sync_code received) parts.word_read);
       low = low_words_whole low voice sent received is.0.pieces parts.first_read parts.second_read;
     }
@@ -275,5 +275,5 @@ voice_whole nac End sent received is read = tt
 voice_whole nac (EndLink link) sent received is read =
     let part_read = tdulc_parts (link_in tdulc_layout received) link (sym (reading-tdulc received) ∙ read) in
     near_from_reading (word_places 24 tdulc_rows) 24 2 24 12 golay24_reading_of link_code (link_symbols link) sent received is.1
-    (symbols_read link_of_symbols link_symbols 12 (field_reading_of tdulc_layout received) link link_symbols_back
+    (symbols_read link_of_symbols link_symbols 12 (field_reading_of tdulc_layout received) link link_words.symbols_back
     (field_information (word_places 24 tdulc_rows) 24 2 24 12 golay24_reading_of link_code received) part_read)

@@ -8,7 +8,7 @@ use Rattle.p25_gf64.specs.declared.symbol.Sym.{Sym}
 use Rattle.p25_hamming.specs.Lsd16Laws.{lsd16_reading_of}
 use Rattle.p25_link.specs.Symbols.{symbol_bits}
 use Rattle.p25_link.specs.Words.{header_of_bits, header_of_symbols, link_of_bits, link_of_symbols, sync_of_bits, sync_of_symbols, AreNineOctets, IsHeaderWord, IsLinkControl, IsEncryptionSync}
-use Rattle.p25_link.specs.{declared.header_word.HeaderWord.{HeaderWord}, declared.link_control.LinkControl.{LinkControl}}
+use Rattle.p25_link.specs.{declared.encryption.HeaderWord.{HeaderWord}, declared.link_control.LinkControl.{LinkControl}}
 use Rattle.p25_status.specs.{declared.fields.Field.{Field}, declared.fields.Field.TheVariants.{LinkControl as LinkField, EncryptionSync as SyncField}}
 use Rattle.p25_coded_fields.specs.Layouts.{field_reading_of}
 use Rattle.p25_voice_units.specs.{declared.unit.VoiceUnit.{VoiceUnit}, declared.unit.VoiceUnit.TheVariants.{Link1, Link2, End}, Layouts.{ldu_rows}}

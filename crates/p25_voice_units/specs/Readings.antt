@@ -3,8 +3,8 @@ use Rattle.std.specs.Prelude.{ℕ, Bool, if◌then◌else◌, ◌==◌, List, []
 use Rattle.std.specs.List.{flat_map}
 use Rattle.p25_bits.specs.{Bits.{field_of, part}, Numbers.{octets_from}}
 use Rattle.p25_hamming.specs.Lsd16Laws.{lsd16_reading_of}
-use Rattle.p25_link.specs.{Words.{header_of_symbols, link_of_symbols, sync_of_symbols}, declared.encryption_sync.EncryptionSync.{EncryptionSync}}
-use Rattle.p25_link.specs.{declared.header_word.HeaderWord.{HeaderWord}, declared.link_control.LinkControl.{LinkControl}}
+use Rattle.p25_link.specs.{Words.{header_of_symbols, link_of_symbols, sync_of_symbols}, declared.encryption.EncryptionSync.{EncryptionSync}}
+use Rattle.p25_link.specs.{declared.encryption.HeaderWord.{HeaderWord}, declared.link_control.LinkControl.{LinkControl}}
 use Rattle.p25_coded_fields.specs.Layouts.{Layout, field_reading_of}
 use Rattle.p25_status.specs.declared.fields.Field.{Field}
 use Rattle.p25_status.specs.declared.fields.Field.TheVariants.{HeaderWord as HeaderField, LinkControl as LinkField, EncryptionSync as SyncField, LowSpeed1, LowSpeed2}

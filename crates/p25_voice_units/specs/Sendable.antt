@@ -1,7 +1,7 @@
 -- What voice units keep by their types.
 use Rattle.std.specs.Prelude.{◌≡◌, ℕ, ◌<◌, List, length, All}
 use Rattle.p25_link.specs.{Words.{IsHeaderWord, IsLinkControl, IsEncryptionSync}, declared.link_control.LinkControl.{LinkControl}}
-use Rattle.p25_link.specs.declared.encryption_sync.EncryptionSync.{EncryptionSync}
+use Rattle.p25_link.specs.declared.encryption.EncryptionSync.{EncryptionSync}
 use Rattle.p25_voice_units.specs.{declared.voice.VoiceFrame.{VoiceFrame}, declared.unit.VoiceUnit.{VoiceUnit}}
 use Rattle.p25_voice_units.specs.declared.unit.VoiceUnit.TheVariants.{Header, Link1, Link2, End, EndLink}
 

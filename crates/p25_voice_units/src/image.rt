@@ -5,7 +5,7 @@ ghost use Rattle.p25_coded_fields.specs.Written.{Encodes};
 ghost use Rattle.p25_bits.specs.Bits.{octet_bits};
 ghost use Rattle.p25_reed_solomon.specs.{Encoding.{rs_word}, Words.{IsCode}};
 ghost use Rattle.p25_voice_units.specs.{Images.{piece_bits, rows_bits, contents, voice_body, voice_image_of}, Lengths.{voice_duid, voice_length_of}};
-ghost use Rattle.p25_voice_units.specs.{Readings.{voice_reading_of}, Pieces.{piece_fits, piece_length}, Sendable.{IsSendableVoice, IsSpeech}};
+ghost use Rattle.p25_voice_units.specs.{Readings.{voice_reading_of}, Pieces.{piece_fits, piece_length, IsInnerCode}, Sendable.{IsSendableVoice, IsSpeech}};
 
 use crate::layout::{HDU_ROWS, LDU_ROWS, Piece, TDU_ROWS, TDULC_ROWS};
 use crate::unit::VoiceUnit;
@@ -38,9 +38,7 @@ fn put_piece<I: NumberCode>(
     frames: &[VoiceFrame],
     out: &mut BitBuf,
 )
-    requires code { I.HasCode }
-    requires small { I.N ≤ 24 }
-    requires sixes { 6 * (I.K / 6) ≡ I.K }
+    requires inner { IsInnerCode I.HasCode I.N I.K }
     requires fits { piece_fits (I.K / 6) (length symbols.now) (length low.now) (length frames.now) piece ≡ true }
     requires room { length out.old + piece_length I.N piece ≤ 25928 }
     ensures list { (encoding : List Bool → List Bool) → Encodes I.IsWord I.K encoding
@@ -70,9 +68,7 @@ fn put_rows<I: NumberCode>(
     frames: &[VoiceFrame],
     out: &mut BitBuf,
 )
-    requires code { I.HasCode }
-    requires small { I.N ≤ 24 }
-    requires sixes { 6 * (I.K / 6) ≡ I.K }
+    requires inner { IsInnerCode I.HasCode I.N I.K }
     requires fits { list_all (λ row. piece_fits (I.K / 6) (length symbols.now) (length low.now) (length frames.now) row.1) rows.now ≡ true }
     requires room { length out.old + sum_by (λ row. piece_length I.N row.1) rows.now ≤ 25928 }
     ensures list { (encoding : List Bool → List Bool) → Encodes I.IsWord I.K encoding
@@ -92,10 +88,8 @@ fn put_coded_rows<I: NumberCode, const N: usize, const K: usize>(
     frames: &[VoiceFrame],
     out: &mut BitBuf,
 )
-    requires inner { I.HasCode }
     requires outer { IsCode N K }
-    requires small { I.N ≤ 24 }
-    requires sixes { 6 * (I.K / 6) ≡ I.K }
+    requires inner { IsInnerCode I.HasCode I.N I.K }
     requires information { length information.now ≡ K }
     requires fits { list_all (λ row. piece_fits (I.K / 6) N (length low.now) (length frames.now) row.1) rows.now ≡ true }
     requires room { length out.old + sum_by (λ row. piece_length I.N row.1) rows.now ≤ 25928 }

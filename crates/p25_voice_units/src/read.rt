@@ -1,12 +1,12 @@
 //! Voice units (HDU, LDU1, LDU2, TDU and TDULC) read from bits.
 
-ghost use Rattle.std.specs.Prelude.{◌≡◌, ◌+◌, ◌*◌, ◌/◌, ◌<◌, ◌≤◌, ◌++◌, All, Bool, List, Some, IfErr, IfSome, length, option_map, slice_index, ℕ};
+ghost use Rattle.std.specs.Prelude.{◌≡◌, ◌⊎◌, ◌+◌, ◌*◌, ◌/◌, ◌<◌, ◌≤◌, ◌++◌, All, Bool, List, Some, IfErr, IfSome, length, option_map, slice_index, ℕ};
 ghost use Rattle.p25_gf64.specs.declared.symbol.Sym.{Sym as symbol};
 ghost use Rattle.p25_hamming.specs.Hamming10Laws.{hamming10_reading_of};
 ghost use Rattle.p25_reed_solomon.specs.{Encoding.{rs_word}, Words.{IsCode}, RsReadings.{rs_erased_reading_of}};
 ghost use Rattle.p25_coded_fields.specs.{Fixes.{field_fixes_of}, Layouts.{field_layout, field_reading_of}, Written.{Encodes}};
 ghost use Rattle.p25_voice_units.specs.{FieldLayouts.{tdulc_layout, word_places}, Fixes.{AreFixes, low_fixes_of}, Images.{hamming10_word}, Layouts.{ldu_rows}};
-ghost use Rattle.p25_voice_units.specs.Lengths.{voice_length_of};
+ghost use Rattle.p25_voice_units.specs.{Lengths.{voice_length_of}, Pieces.{IsInnerCode}};
 ghost use Rattle.p25_voice_units.specs.Readings.{voice_in, low_in, header_in, link_in, missing, failing, header_from, ldu_from, tdulc_from, voice_reading_of};
 ghost use Rattle.p25_voice_units.specs.declared.unit.VoiceUnit.{VoiceUnit as voice_unit};
 ghost use Rattle.p25_status.specs.Outcomes.{read_or, IfRead};
@@ -32,10 +32,8 @@ fn read_symbols<I: NumberCode, const N: usize, const K: usize>(
     places: &[usize],
     symbols: &mut [Sym],
 ) -> Option<u32>
-    requires code { I.HasCode }
+    requires inner { IsInnerCode I.HasCode I.N I.K }
     requires outer { IsCode N K }
-    requires small { I.N ≤ 24 }
-    requires sixes { 6 * (I.K / 6) ≡ I.K }
     requires some { 0 < I.K }
     requires short { N ≤ 36 }
     requires places { length places.now * (I.K / 6) ≡ N }
@@ -181,6 +179,33 @@ fn read_tdulc(bare: &BitBuf, unit: &mut VoiceUnit) -> Outcome
     }
 }
 
+// Sets `unit` to a logical link data unit: by its data unit identifier (DUID) an LDU1 or an LDU2.
+fn read_logical_link(duid: u8, bare: &BitBuf, unit: &mut VoiceUnit) -> Outcome
+    requires kind { (duid ≡ 5) ⊎ (duid ≡ 10) }
+    requires there { 1680 ≤ length bare.now }
+    ensures value { read_or result unit.new ≡ voice_reading_of duid bare.now }
+    ensures wrong { IfRead result (λ wrong. AreFixes unit.new bare.now wrong) }
+    ensures most { IfRead result (λ wrong. wrong ≤ 864) }
+{
+    let (mut link, mut sync, mut low) = ([Sym::ZERO; 12], [Sym::ZERO; 16], [0; 2]);
+    let outcome = if duid == LDU1 {
+        read_ldu::<12>(bare, Field::LinkControl, &mut link, &mut low)
+    } else {
+        read_ldu::<16>(bare, Field::EncryptionSync, &mut sync, &mut low)
+    };
+    if let Outcome::Read { .. } = outcome {
+        let voice = read_frames(bare);
+        *unit = if duid == LDU1 {
+            let link = LinkControl::from_symbols(&link);
+            VoiceUnit::Link1 { link, low, voice }
+        } else {
+            let sync = EncryptionSync::from_symbols(&sync);
+            VoiceUnit::Link2 { sync, low, voice }
+        };
+    }
+    outcome
+}
+
 /// Answers the voice unit (HDU, LDU1, LDU2, TDU or TDULC) of a data unit identifier (DUID) that bits without status symbols read
 /// as. There are as many bits as a unit of that kind has. Each field is read by its own codes: the header word, the link control
 /// and the encryption sync as `read_field` does, each low speed word where one of its code lies within 2 bits. Voice frames are
@@ -210,35 +235,14 @@ pub fn read_voice_in(duid: u8, bare: &BitBuf, unit: &mut VoiceUnit) -> Outcome
     ensures wrong { IfRead result (λ wrong. AreFixes unit.new bare.now wrong) }
     ensures most { IfRead result (λ wrong. wrong ≤ 864) }
 {
-    let (mut link, mut sync, mut low) = ([Sym::ZERO; 12], [Sym::ZERO; 16], [0; 2]);
     match duid {
         HDU => read_hdu(bare, unit),
         TDU => {
             *unit = VoiceUnit::End;
             Outcome::Read { wrong: 0 }
         }
-        LDU1 => match read_ldu::<12>(bare, Field::LinkControl, &mut link, &mut low) {
-            Outcome::Read { wrong } => {
-                *unit = VoiceUnit::Link1 {
-                    link: LinkControl::from_symbols(&link),
-                    low,
-                    voice: read_frames(bare),
-                };
-                Outcome::Read { wrong }
-            }
-            Outcome::Failing { fields } => Outcome::Failing { fields },
-        },
-        LDU2 => match read_ldu::<16>(bare, Field::EncryptionSync, &mut sync, &mut low) {
-            Outcome::Read { wrong } => {
-                *unit = VoiceUnit::Link2 {
-                    sync: EncryptionSync::from_symbols(&sync),
-                    low,
-                    voice: read_frames(bare),
-                };
-                Outcome::Read { wrong }
-            }
-            Outcome::Failing { fields } => Outcome::Failing { fields },
-        },
+        LDU1 => read_logical_link(duid, bare, unit),
+        LDU2 => read_logical_link(duid, bare, unit),
         TDULC => read_tdulc(bare, unit),
         _ => Outcome::Failing {
             fields: FieldList::new(),

@@ -1,16 +1,10 @@
-use Rattle.std.proofs.Common.{ap, ◌∙◌, arith}
-use Rattle.p25_bits.specs.Bits.{bits_of}
-use Rattle.p25_link.specs.Words.{link_symbols}
-use Rattle.p25_link.proofs.{SymbolNumbersLaws.{symbols_bits}, WordsLaws.{link_symbols_back}, WordBitsLaws.{link_taken}}
+use Rattle.std.proofs.Common.{ap, arith, List, ℕ}
+use Rattle.p25_link.specs.{declared.link_control.LinkControl.{LinkControl}, Words.{link_symbols, link_of_bits, link_of_symbols, IsLinkControl}}
+use Rattle.p25_link.proofs.WordsLaws.{link_words, made_word}
 use Rattle.p25_link.proofs.link_control.LinkControl.from_symbols.Goals as goal
 
-made : goal.returns-clause-value
-made c =
-    link_taken c.args.symbols.now (bits_of 72 c.symbols_number.result) c.first_octets.result
-    (symbols_bits c.args.symbols.now 12 c.symbols_number.result (omega arith) c.symbols_number.ensures.value) c.first_octets.ensures.list
-
-pub returns-clause-value : goal.returns-clause-value
-returns-clause-value c = made c
-
-pub returns-clause-back : goal.returns-clause-back
-returns-clause-back c = ap link_symbols (made c) ∙ link_symbols_back c.args.symbols.now (omega arith)
+pub returns : goal.returns
+unfolding link_of_symbols link_of_bits
+returns c =
+    let made : List ℕ → LinkControl = λ octets. record { 0 = octets } in
+    made_word link_symbols link_of_symbols IsLinkControl 12 link_words c.args.symbols.now _ (omega arith) (ap made c.first_octets.ensures.list)
