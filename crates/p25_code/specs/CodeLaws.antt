@@ -2,7 +2,8 @@
 use Rattle.std.specs.Prelude.{◌≡◌, ◌≢◌, ℕ, zero, suc, ◌-◌, ◌*◌, ◌/◌, ◌≤◌, ◌<◌, Bool, true, false, ◌&&◌, ◌||◌, ◌==◌, nat_le, List, [], ◌∷◌, ◌++◌, length, take, Option}
 use Rattle.std.specs.{Bool.{beq}, Cmp.{IsEquivalence}}
 use Rattle.p25_bits.specs.Distance.{distance_by}
-use Rattle.p25_code.specs.{declared.checked_code.Parameters.{Parameters}, Readings.{IsReadAs}, Binary.{IsChecked, check_columns, rows_fit, systematic, weight_of}}
+use Rattle.p25_code.specs.{declared.checked_code.Parameters.{Parameters}, Readings.{IsReadAs}}
+use Rattle.p25_code.specs.Binary.{IsChecked, check_columns, rows_fit, systematic, weight_of}
 
 -- the laws of a block code, as one record
 pub record IsBlockCode {L : Type 0} (same : L → L → Bool) (IsWord : List L → Type 0) (n k radius apart : ℕ) : Type 0 where

@@ -20,8 +20,8 @@ pub struct Parameters {
 /// the rows at whose places the information is 1. A type that says which check bits those are, and which bits are wrong where others
 /// were received, is a `BlockCode` and a `NumberCode`.
 pub trait CheckedCode {
-    ghost use Rattle.p25_code.specs.declared.checked_code.Parameters.{Parameters};
-    ghost use Rattle.p25_code.specs.{CodeLaws.{SystematicCode, columns_of, radius_of}, WrongBits.{number_sum, AreWrong, NoneWrong}};
+    ghost use Rattle.p25_code.specs.{declared.checked_code.Parameters.{Parameters}, CodeLaws.{SystematicCode, columns_of, radius_of}};
+    ghost use Rattle.p25_code.specs.WrongBits.{number_sum, AreWrong, NoneWrong};
 
     /// How many bits a word has, how many of them are information, and the least distance.
     const PARAMETERS: Parameters;

@@ -4,8 +4,7 @@ use Rattle.p25_line.specs.declared.fault.LineFault.{LineFault}
 use Rattle.p25_filter.specs.{declared.ending.Ending.TheVariants.{BadLine}, declared.ending.Refusal.{Refusal}}
 use Rattle.p25_filter.specs.{declared.ending.Refusal.TheVariants.{Ended, Memory}, declared.line_filter.LinePhase.{LinePhase}}
 use Rattle.p25_filter.specs.{declared.line_filter.LinePhase.TheVariants.{Reading, Ready, ReadyLast, Closing, Closed}, Futures.{Future}}
-use Rattle.p25_filter.specs.Lines.{each_behind, lines_ending, lines_in, texts_before}
-use Rattle.p25_filter.specs.LineRules.{IsWanting, LineRules, LinesTaken, lines_taken, written_for}
+use Rattle.p25_filter.specs.{Lines.{each_behind, lines_ending, lines_in, texts_before}, LineRules.{IsWanting, LineRules, LinesTaken, lines_taken, written_for}}
 
 -- the machine, the octets kept of the line that has begun or is there, how many lines were taken, the second piece of a text
 -- whose first was given out, and how far the work has come

@@ -1,7 +1,8 @@
 //! Link control (LC).
 
 ghost use Rattle.std.specs.Prelude.{◌≡◌, ◌≢◌, ◌↔◌, ◌+◌, ◌*◌, slice_index};
-ghost use Rattle.p25_link.specs.{Words.{link_symbols, link_of_symbols, AreSymbolsOf, IsLinkControl, IsWordOf}, Kinds.{link_kind_of, group_call, individual_call}};
+ghost use Rattle.p25_link.specs.Words.{link_symbols, link_of_symbols, AreSymbolsOf, IsLinkControl, IsWordOf};
+ghost use Rattle.p25_link.specs.Kinds.{link_kind_of, group_call, individual_call};
 ghost use Rattle.p25_bits.specs.Numbers.{triple_at};
 
 use crate::symbols::{first_octets, symbols_of};

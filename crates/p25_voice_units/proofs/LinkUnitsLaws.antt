@@ -9,9 +9,9 @@ use Rattle.p25_link.proofs.WordsLaws.{link_words, sync_words}
 use Rattle.p25_status.specs.{Outcomes.{read_or, IfRead}, declared.fields.Field.{Field}, declared.fields.Field.TheVariants.{LinkControl as LinkField, EncryptionSync as SyncField}}
 use Rattle.p25_status.specs.{declared.outcome.Outcome.{Outcome}, declared.outcome.Outcome.TheVariants.{Read, Failing}}
 use Rattle.p25_unit_front.specs.Front.{unit_front}
-use Rattle.p25_voice_units.specs.{declared.unit.VoiceUnit.{VoiceUnit}, declared.unit.VoiceUnit.TheVariants.{Link1, Link2}, declared.voice.VoiceFrame.{VoiceFrame}}
-use Rattle.p25_voice_units.specs.{FieldLayouts.{word_places}, Fixes.{link_looked, low_fixes_of, voice_looked, AreFixes}, Images.{contents, hamming10_word, rows_bits, voice_body, voice_image_of}}
-use Rattle.p25_voice_units.specs.{Layouts.{ldu_rows}, Readings.{voice_in, low_in, link_in, sync_in, ldu_from, ldu1_in, ldu2_in, voice_reading_of}, Sendable.{IsSpeech, IsSendableVoice}}
+use Rattle.p25_voice_units.specs.{declared.unit.VoiceUnit.{VoiceUnit}, declared.unit.VoiceUnit.TheVariants.{Link1, Link2}, declared.voice.VoiceFrame.{VoiceFrame}, FieldLayouts.{word_places}}
+use Rattle.p25_voice_units.specs.{Fixes.{link_looked, low_fixes_of, voice_looked, AreFixes}, Images.{contents, hamming10_word, rows_bits, voice_body, voice_image_of}, Layouts.{ldu_rows}}
+use Rattle.p25_voice_units.specs.{Readings.{voice_in, low_in, link_in, sync_in, ldu_from, ldu1_in, ldu2_in, voice_reading_of}, Sendable.{IsSpeech, IsSendableVoice}}
 use Rattle.p25_voice_units.proofs.{CodesLaws.{link_code, sync_code}, CountedLaws.{ldu_fixes}, KindsLaws.{ldu_read, reading-ldu1, reading-ldu2}, ReadingLaws.{unit_read}}
 
 -- the coded field of a unit with voice, by how many of its symbols are information

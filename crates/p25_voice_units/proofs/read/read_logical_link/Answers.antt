@@ -2,8 +2,7 @@ use Rattle.std.proofs.Common.{◌≡◌, ◌⊎◌, inl, inr, ℕ}
 use Rattle.p25_link.specs.Words.{link_symbols, link_of_symbols, sync_symbols, sync_of_symbols}
 use Rattle.p25_status.specs.declared.fields.Field.TheVariants.{LinkControl as LinkField, EncryptionSync as SyncField}
 use Rattle.p25_voice_units.specs.declared.unit.VoiceUnit.TheVariants.{Link1, Link2}
-use Rattle.p25_voice_units.proofs.LinkUnitsLaws.{AreParts, ldu1_kind, ldu2_kind, kind_read, kind_fails}
-use Rattle.p25_voice_units.proofs.read.read_logical_link.Goals.{then-duid-eq-LDU1, else-duid-eq-LDU1}
+use Rattle.p25_voice_units.proofs.{LinkUnitsLaws.{AreParts, ldu1_kind, ldu2_kind, kind_read, kind_fails}, read.read_logical_link.Goals.{then-duid-eq-LDU1, else-duid-eq-LDU1}}
 use Rattle.p25_voice_units.proofs.read.read_logical_link.Goals as goal
 
 -- the kind that is not the first is the second
