@@ -1,13 +1,13 @@
 -- The line of an event is read as that event, and a line that is read is the line of its event. By cases on what each step of the reading found.
-use Rattle.std.proofs.Common.{◌≡◌, ℕ, ◌<◌, ◌≤◌, ◌&&◌, true, List, [], ◌∷◌, length, Option, Some, None, Result, Ok, Err, refl, ap, ap₂, subst, ◌∙◌, arith}
-use Rattle.std.specs.{Prelude.{IfOk}, List.{list_all}}
-use Rattle.p25_line.specs.{LineReadings.{keyed_or_fault, named_or_fault, value_or_fault}, Words.{is_word}, declared.fault.LineFault.{LineFault}}
-use Rattle.p25_line.proofs.{LineReadLaws.{WordLaws, line_read-facts, line_read-words}, WordsLaws.{named-word}}
+use Rattle.std.proofs.Common.{◌≡◌, ℕ, ◌<◌, ◌&&◌, true, List, [], ◌∷◌, length, Option, Some, None, Ok, refl, ap, ap₂, subst, ◌∙◌, arith}
+use Rattle.std.specs.List.{list_all}
+use Rattle.p25_line.specs.{LineReadings.{keyed_or_fault, value_or_fault}, Words.{is_word}}
+use Rattle.p25_line.proofs.{LineReadLaws.{WordLaws}, WordsLaws.{named-word}}
 use Rattle.p25_script.specs.{declared.names.EventKind.{EventKind}, declared.names.EventKind.TheVariants.{Send as SendLine, Timeout as TimeoutLine, Reopen as ReopenLine, Deliver as DeliverLine}}
 use Rattle.p25_script.specs.{Script.{event_kinds, event_named, event_word}, Values.{message_in, places_in}}
-use Rattle.p25_script.specs.DuplexLines.{IsDuplexScripted, direction_word, duplex_by_words, duplex_event_of, duplex_starts, duplex_text, duplex_words, event_behind, event_of_side, hearer_named, start_named, start_word}
+use Rattle.p25_script.specs.DuplexLines.{IsDuplexScripted, direction_word, duplex_by_words, duplex_starts, duplex_words, event_behind, event_of_side, hearer_named, start_word}
 use Rattle.p25_script.specs.{declared.duplex_read.DuplexStart.{DuplexStart}, declared.duplex_read.DuplexStart.TheVariants.{Acts, Delivery}}
-use Rattle.p25_script.proofs.ValueLaws.{message-message_in, message-word, message_in-text, places-places_in, places-word, places_in-text}
+use Rattle.p25_script.proofs.{LineLaws.{from-words}, ValueLaws.{message-message_in, message-word, message_in-text, places-places_in, places-word, places_in-text}}
 use Rattle.p25_duplex.specs.{declared.side.Side.{Side}, declared.side.Side.TheVariants.{A, B}, DuplexSteps.{side_word}, declared.event.DuplexEvent.{DuplexEvent}}
 use Rattle.p25_duplex.specs.{declared.event.DuplexEvent.TheVariants.{Send, Timeout, Reopen, Deliver}, DuplexRuns.{IsDuplexEvent}}
 
@@ -86,39 +86,13 @@ from_others (Acts side) (second ∷ others) event found = from_side side second 
 from_others Delivery (direction ∷ word ∷ []) event found = from_delivery direction word (hearer_named direction) (places_in word) event refl refl found
 from_others start others event found = cc found
 
-from_start : (first : List ℕ) (others : List (List ℕ)) (start : Option DuplexStart) (event : DuplexEvent)
-    → start_named first ≡ start → named_or_fault event_behind start others ≡ Ok event → ReadFrom (first ∷ others) event
-from_start first others None event named found = cc found
-from_start first others (Some start) event named found =
-    let word = named-word start_word duplex_starts first start named in
-    let read = from_others start others event found in
-    (read.0 ∙ ap (λ w. w ∷ others) word, read.1)
-
-from_words : (words : List (List ℕ)) (event : DuplexEvent) → duplex_by_words words ≡ Ok event → ReadFrom words event
-from_words [] event found = cc found
-from_words (first ∷ others) event found = from_start first others (start_named first) event refl found
-
 -- ---- so lines and events tell each other
 
-duplex_laws : WordLaws duplex_words duplex_by_words IsDuplexScripted
-duplex_laws = record { some = words-some; are_words = words-words; back = by_words-words; again = from_words }
-
-pub event_of-text : (event : DuplexEvent) → IsDuplexScripted event → length (duplex_text event) ≤ 8192 → duplex_event_of (duplex_text event) ≡ Ok event
-unfolding duplex_event_of duplex_text
-event_of-text event fits short = line_read-words duplex_laws event fits short
+pub duplex_laws : WordLaws duplex_words duplex_by_words IsDuplexScripted
+duplex_laws = record { some = words-some; are_words = words-words; back = by_words-words; again = from-words duplex_words IsDuplexScripted start_word duplex_starts event_behind from_others }
 
 -- and the laws of the duplex world speak of it
-is-event : (event : DuplexEvent) → IsDuplexScripted event → IsDuplexEvent event
+pub is-event : (event : DuplexEvent) → IsDuplexScripted event → IsDuplexEvent event
 unfolding IsDuplexEvent
 is-event (Send side message) fits = fits
 is-event event fits = tt
-
--- as the reader tells it
-pub read-facts : (line : List ℕ) (result : Result DuplexEvent LineFault)
-    → result ≡ duplex_event_of line → (IfOk result (λ event. duplex_text event ≡ line)) × (IfOk result (λ event. IsDuplexScripted event))
-unfolding duplex_event_of duplex_text
-read-facts line result same = line_read-facts duplex_laws line result same
-
-pub read-event : (line : List ℕ) (result : Result DuplexEvent LineFault) → result ≡ duplex_event_of line → IfOk result (λ event. IsDuplexEvent event)
-read-event line (Err fault) same = tt
-read-event line (Ok event) same = is-event event (read-facts line (Ok event) same).1

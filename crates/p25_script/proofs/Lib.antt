@@ -1,5 +1,6 @@
 pub mod PlacesLaws
 pub mod ValueLaws
+pub mod LineLaws
 pub mod ScriptLaws
 pub mod ReadLaws
 pub mod LongReadSteps

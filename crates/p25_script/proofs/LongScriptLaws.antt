@@ -1,12 +1,11 @@
 -- The words of an event are read as that event, and words that are read are those of their event. By the first word.
-use Rattle.std.proofs.Common.{◌≡◌, ℕ, ◌<◌, ◌≤◌, ◌&&◌, true, false, List, [], ◌∷◌, length, Option, Some, None, Result, Err, Ok, inl, inr, refl, sym, ap, ap₂, subst, ◌∙◌, arith}
+use Rattle.std.proofs.Common.{◌≡◌, ℕ, ◌<◌, ◌&&◌, true, false, List, [], ◌∷◌, length, Option, Some, None, Result, Err, Ok, inl, inr, refl, sym, ap, ap₂, subst, ◌∙◌, arith}
 use Rattle.std.proofs.{lemmas.Bool.{cases_Bool, cond-true, cond-false, false≢true}, lemmas.Slice.Eq.{bytes_eq-Decides}}
-use Rattle.std.specs.{Prelude.{codes, IfOk}, List.{list_all}, Str.{bytes_eq}}
+use Rattle.std.specs.{Prelude.{codes}, List.{list_all}, Str.{bytes_eq}}
 use Rattle.p25_line.specs.{LineReadings.{value_or_fault}, Words.{is_word}, declared.fault.LineFault.{LineFault}, declared.fault.LineFault.TheVariants.{Kind as WrongKind}}
-use Rattle.p25_line.proofs.{LineReadLaws.{IsLineOf, WordLaws, line_read-facts, line_read-words, words-line_read}, OctetsLaws.{octets-word, octets_up_to-text, text-octets_up_to}}
+use Rattle.p25_line.proofs.{LineReadLaws.{WordLaws}, OctetsLaws.{octets-word, octets_up_to-text, text-octets_up_to}}
 use Rattle.p25_stations.specs.{declared.step.Event.{Event}, declared.step.Event.TheVariants.{Send}}
-use Rattle.p25_script.specs.Script.{event_by_words, event_words}
-use Rattle.p25_script.specs.LongScript.{IsLongScripted, inner_or_fault, long_event_by_words, long_event_of, long_event_text, long_event_words, long_in, long_message_in, other_event}
+use Rattle.p25_script.specs.{Script.{event_by_words, event_words}, LongScript.{IsLongScripted, inner_or_fault, long_event_by_words, long_event_words, long_in, long_message_in, other_event}}
 use Rattle.p25_script.proofs.ScriptLaws.{event_laws}
 use Rattle.p25_fragments.specs.{LongRuns.{IsNoOffer}, declared.long_step.LongEvent.{LongEvent}, declared.long_step.LongEvent.TheVariants.{Long, Inner}}
 
@@ -88,19 +87,5 @@ from_words (first ∷ others) event found =
 
 -- ---- so lines and events tell each other
 
-long_event_laws : WordLaws long_event_words long_event_by_words IsLongScripted
+pub long_event_laws : WordLaws long_event_words long_event_by_words IsLongScripted
 long_event_laws = record { some = words-some; are_words = words-words; back = by_words-words; again = from_words }
-
-pub long_event_of-text : (event : LongEvent) → IsLongScripted event → length (long_event_text event) ≤ 8192 → long_event_of (long_event_text event) ≡ Ok event
-unfolding long_event_of long_event_text
-long_event_of-text event fits short = line_read-words long_event_laws event fits short
-
-pub IsLineOf-long_event_of : (line : List ℕ) (event : LongEvent) → long_event_of line ≡ Ok event → IsLineOf long_event_words IsLongScripted line event
-unfolding long_event_of
-IsLineOf-long_event_of line event found = words-line_read long_event_laws line event found
-
--- the two, as the reader tells them
-pub read-facts : (line : List ℕ) (result : Result LongEvent LineFault)
-    → result ≡ long_event_of line → (IfOk result (λ event. long_event_text event ≡ line)) × (IfOk result (λ event. IsLongScripted event))
-unfolding long_event_of long_event_text
-read-facts line result same = line_read-facts long_event_laws line result same

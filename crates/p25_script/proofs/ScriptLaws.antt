@@ -1,14 +1,15 @@
 -- The line of an event is read as that event, and a line that is read is the line of its event. By cases on what each step of the reading found.
-use Rattle.std.proofs.Common.{◌≡◌, ℕ, ◌+◌, ◌*◌, ◌<◌, ◌≤◌, ◌&&◌, true, List, [], ◌∷◌, length, Option, Some, None, Result, Ok, refl, ap, ap₂, subst, ◌∙◌, arith}
-use Rattle.std.specs.{Prelude.{IfOk}, List.{list_all}}
-use Rattle.p25_line.specs.{LineReadings.{keyed_or_fault, named_or_fault, value_or_fault}, Words.{is_word}, declared.fault.LineFault.{LineFault}}
-use Rattle.p25_line.proofs.{LineReadLaws.{IsLineOf, WordLaws, line_read-facts, line_read-words, words-line_read}, WordsLaws.{named-word}}
+use Rattle.std.proofs.Common.{◌≡◌, ℕ, ◌+◌, ◌*◌, ◌<◌, ◌≤◌, ◌&&◌, true, List, [], ◌∷◌, length, Option, Some, None, Ok, refl, ap, ap₂, subst, ◌∙◌, arith}
+use Rattle.std.specs.List.{list_all}
+use Rattle.p25_line.specs.{LineReadings.{keyed_or_fault, value_or_fault}, Words.{is_word}}
+use Rattle.p25_line.proofs.{LineReadLaws.{WordLaws}, WordsLaws.{named-word}}
 use Rattle.p25_stations.specs.{Runs.{IsEvent}, declared.step.Event.{Event}, declared.step.Event.TheVariants.{Send, Timeout, Reopen, ToReceiver, ToSender}}
 use Rattle.p25_delivery.specs.SoundHalves.{IsMessage}
 use Rattle.p25_messages.specs.{declared.step_kind.Way.{Way}, declared.step_kind.Way.TheVariants.{Packets, Answers}}
-use Rattle.p25_script.specs.Script.{IsScripted, delivery, event_by_words, event_in, event_kinds, event_named, event_of, event_text, event_word, event_words, way_named, way_word, ways}
+use Rattle.p25_script.specs.Script.{IsScripted, delivery, event_by_words, event_in, event_kinds, event_text, event_word, event_words, way_named, way_word, ways}
 use Rattle.p25_script.specs.{Values.{ArePlaces, message_in, places_in, places_text}, declared.names.EventKind.{EventKind}}
 use Rattle.p25_script.specs.declared.names.EventKind.TheVariants.{Send as SendLine, Timeout as TimeoutLine, Reopen as ReopenLine, Deliver as DeliverLine}
+use Rattle.p25_script.proofs.LineLaws.{from-words}
 use Rattle.p25_script.proofs.ValueLaws.{length-message_text, length-places_text, message-message_in, message-word, message_in-text, places-places_in, places-word, places_in-text}
 
 -- ---- the line of an event is read as it
@@ -72,35 +73,10 @@ from_others ReopenLine [] event found =
 from_others DeliverLine (first ∷ word ∷ []) event found = from_delivery first word (way_named first) (places_in word) event refl refl found
 from_others kind others event found = cc found
 
-from_kind : (first : List ℕ) (others : List (List ℕ)) (kind : Option EventKind) (event : Event) → event_named first ≡ kind → named_or_fault event_in kind others ≡ Ok event
-    → ReadFrom (first ∷ others) event
-from_kind first others None event named found = cc found
-from_kind first others (Some kind) event named found =
-    let word = named-word event_word event_kinds first kind named in
-    let read = from_others kind others event found in
-    (read.0 ∙ ap (λ w. w ∷ others) word, read.1)
-
-from_words : (words : List (List ℕ)) (event : Event) → event_by_words words ≡ Ok event → ReadFrom words event
-from_words [] event found = cc found
-from_words (first ∷ others) event found = from_kind first others (event_named first) event refl found
-
 -- ---- so lines and events tell each other
 
 pub event_laws : WordLaws event_words event_by_words IsScripted
-event_laws = record { some = event_words-some; are_words = event_words-words; back = event_by_words-words; again = from_words }
-
-pub event_of-event_text : (event : Event) → IsScripted event → length (event_text event) ≤ 8192 → event_of (event_text event) ≡ Ok event
-unfolding event_of event_text
-event_of-event_text event fits short = line_read-words event_laws event fits short
-
-pub IsLineOf-event_of : (line : List ℕ) (event : Event) → event_of line ≡ Ok event → IsLineOf event_words IsScripted line event
-unfolding event_of
-IsLineOf-event_of line event found = words-line_read event_laws line event found
-
--- the two, as the reader tells them
-pub read-facts : (line : List ℕ) (result : Result Event LineFault) → result ≡ event_of line → (IfOk result (λ event. event_text event ≡ line)) × (IfOk result (λ event. IsScripted event))
-unfolding event_of event_text
-read-facts line result same = line_read-facts event_laws line result same
+event_laws = record { some = event_words-some; are_words = event_words-words; back = event_by_words-words; again = from-words event_words IsScripted event_word event_kinds event_in from_others }
 
 -- ---- how long lines are
 

@@ -1,9 +1,10 @@
 -- Lines of a script of the duplex world: the line of an event, and the event of a line.
 use Rattle.std.specs.{Prelude.{ℕ, List, [], ◌∷◌, codes, Option, Some, Result, Ok, Err}, List.{find, join_with_byte}, Str.{bytes_eq}}
-use Rattle.p25_line.specs.{LineReadings.{keyed_or_fault, line_read, named_or_fault, value_or_fault}, Octets.{octets_text}, declared.fault.LineFault.{LineFault}}
-use Rattle.p25_line.specs.declared.fault.LineFault.TheVariants.{Form, Key}
+use Rattle.p25_line.specs.{LineReadings.{keyed_or_fault, line_read, value_or_fault}, Octets.{octets_text}, declared.fault.LineFault.{LineFault}}
+use Rattle.p25_line.specs.declared.fault.LineFault.TheVariants.{Key}
 use Rattle.p25_delivery.specs.SoundHalves.{IsMessage}
-use Rattle.p25_script.specs.{Script.{event_word, event_named}, Values.{ArePlaces, message_in, places_in, places_text}, declared.names.EventKind.{EventKind}}
+use Rattle.p25_script.specs.{Script.{event_word, event_named, read_by_kind}, Values.{ArePlaces, message_in, places_in, places_text}}
+use Rattle.p25_script.specs.declared.names.EventKind.{EventKind}
 use Rattle.p25_script.specs.declared.names.EventKind.TheVariants.{Send as SendLine, Timeout as TimeoutLine, Reopen as ReopenLine, Deliver as DeliverLine}
 use Rattle.p25_script.specs.{declared.duplex_read.DuplexStart.{DuplexStart}, declared.duplex_read.DuplexStart.TheVariants.{Acts, Delivery}}
 use Rattle.p25_duplex.specs.{declared.side.Side.{Side}, declared.side.Side.TheVariants.{A, B}, DuplexSteps.{side_word}}
@@ -68,11 +69,10 @@ event_behind (Acts side) (word ∷ others) = event_of_side side (event_named wor
 event_behind Delivery (direction ∷ places ∷ []) = keyed_or_fault Deliver (hearer_named direction) (places_in places)
 event_behind start others = Err Key
 
--- the event of the words of a line, of which there is one at least
+-- the event of the words of a line
 abbrev pub duplex_by_words : List (List ℕ) → Result DuplexEvent LineFault
-duplex_by_words (first ∷ others) = named_or_fault event_behind (start_named first) others
-duplex_by_words [] = Err Form
+duplex_by_words words = read_by_kind start_named event_behind words
 
 -- the event of a line, or the first cause for which the line is refused: Long, Form, Kind, Key, Value
-unfoldable pub duplex_event_of : List ℕ → Result DuplexEvent LineFault
+abbrev pub duplex_event_of : List ℕ → Result DuplexEvent LineFault
 duplex_event_of line = line_read duplex_by_words line

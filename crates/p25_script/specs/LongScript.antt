@@ -62,5 +62,5 @@ long_event_by_words (first ∷ others) = long_event_by first others
 long_event_by_words [] = Err Form
 
 -- the event of a line, or the first cause for which the line is refused: Long, Form, Kind, Key, Value
-unfoldable pub long_event_of : List ℕ → Result LongEvent LineFault
+abbrev pub long_event_of : List ℕ → Result LongEvent LineFault
 long_event_of line = line_read long_event_by_words line

@@ -82,11 +82,15 @@ event_in ReopenLine [] = Ok Reopen
 event_in DeliverLine (way ∷ places ∷ []) = keyed_or_fault delivery (way_named way) (places_in places)
 event_in kind others = Err Key
 
--- the event of the words of a line, of which there is one at least
+-- what the words of a line are read as by the kind that the first of them names, where there is one at least
+abbrev pub read_by_kind : {K X : Type 0} → (List ℕ → Option K) → (K → List (List ℕ) → Result X LineFault) → List (List ℕ) → Result X LineFault
+read_by_kind named read (first ∷ others) = named_or_fault read (named first) others
+read_by_kind named read [] = Err Form
+
+-- the event of the words of a line
 abbrev pub event_by_words : List (List ℕ) → Result Event LineFault
-event_by_words (first ∷ others) = named_or_fault event_in (event_named first) others
-event_by_words [] = Err Form
+event_by_words words = read_by_kind event_named event_in words
 
 -- the event of a line, or the first cause for which the line is refused: Long, Form, Kind, Key, Value
-unfoldable pub event_of : List ℕ → Result Event LineFault
+abbrev pub event_of : List ℕ → Result Event LineFault
 event_of line = line_read event_by_words line

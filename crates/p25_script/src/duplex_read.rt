@@ -4,11 +4,13 @@ ghost use Rattle.std.specs.Prelude.{◌≡◌, ◌↔◌, ◌<◌, ◌≤◌, []
 ghost use Rattle.p25_line.specs.declared.fault.LineFault.TheVariants.{Long};
 ghost use Rattle.p25_duplex.specs.{DuplexRuns.{IsDuplexEvent}, declared.event.DuplexEvent.{DuplexEvent as event_type}};
 ghost use Rattle.p25_script.specs.DuplexLines.{IsDuplexScripted, direction_word, duplex_by_words, duplex_event_of, duplex_text, event_behind, hearer_named, start_named, start_word};
+ghost use Rattle.p25_script.specs.DuplexReadLaws.{duplex_not_long};
 
 use super::names::EventKind;
+use super::shown::{DuplexEventLine, ScriptEvent};
 use super::values::{message_value, places_value};
 use p25_duplex::{DuplexEvent, Side};
-use p25_line::{LineFault, LineReader, LineWords, read_whole};
+use p25_line::{LineFault, LineWords, read_whole};
 
 /// What the first word of a line tells.
 #[derive(Clone, Copy)]
@@ -76,24 +78,7 @@ pub fn read_duplex_event(line: &[u8]) -> Result<DuplexEvent, LineFault>
     ensures kept { IfOk result (λ event. IsDuplexEvent event) }
     ensures each { (event : event_type) → IsDuplexScripted event → length line.now ≤ 8192 → duplex_text event ≡ line.now → result ≡ Ok event }
 {
-    read_whole::<DuplexLines>(line)
-}
-
-// Lines of a script of both stations.
-struct DuplexLines;
-
-impl LineReader for DuplexLines {
-    ghost use Rattle.p25_script.specs.DuplexReadLaws.{duplex_not_long};
-
-    type Value = DuplexEvent;
-
-    ghost words_read = { duplex_by_words };
-
-    ghost not_long = { duplex_not_long };
-
-    fn read_words(words: &LineWords) -> Result<DuplexEvent, LineFault> {
-        read_duplex_words(words)
-    }
+    read_whole::<DuplexEventLine>(line)
 }
 
 // The event of the words of a line.
@@ -157,5 +142,15 @@ fn read_delivery(second: &[u8], places: &[u8]) -> Result<DuplexEvent, LineFault>
     match places_value(places) {
         Some(flips) => Ok(DuplexEvent::Deliver { to, flips }),
         None => Err(LineFault::Value),
+    }
+}
+
+impl ScriptEvent for DuplexEvent {
+    ghost by_words = { duplex_by_words };
+
+    ghost not_long = { duplex_not_long };
+
+    fn read_words(words: &LineWords) -> Result<DuplexEvent, LineFault> {
+        read_duplex_words(words)
     }
 }

@@ -22,12 +22,14 @@
 //! - In a script in which both stations send, a line is a side, `a` or `b`, with what it does, or `deliver` with a direction, `ab` or
 //!   `ba`, and the places. The text of its step begins with the letter of the side that acts or hears.
 //!
-//! `StepText`, `LongStepText` and `DuplexStepText` are a step whose `{}` writes its text; `EventLine`, `LongEventLine` and
-//! `DuplexEventLine` are an event that `parse` reads as `read_event` and its kin do.
+//! A `StepText` is a step of any of the three forms, whose `{}` writes its text; an `EventLine` is an event that `parse` reads as
+//! `read_event` and its kin do. `LongStepText`, `DuplexStepText`, `LongEventLine` and `DuplexEventLine` are names of those of the other
+//! two forms.
 #![tactic(auto)]
 
 mod closing;
 mod duplex_read;
+mod duplex_steps;
 pub mod laws;
 mod long_read;
 mod long_steps;
@@ -41,6 +43,7 @@ mod values;
 
 pub use closing::{closing_text, long_closing_text};
 pub use duplex_read::read_duplex_event;
+pub use duplex_steps::duplex_step_text;
 pub use long_read::read_long_event;
 pub use long_steps::long_step_text;
 pub use p25_duplex::duplex_closing;
@@ -48,6 +51,7 @@ pub use p25_line::{Line, LineFault};
 pub use p25_stations::{Event, Step, StepKind, Way, World};
 pub use read::read_event;
 pub use shown::{
-    DuplexEventLine, DuplexStepText, EventLine, LongEventLine, LongStepText, StepText,
+    DuplexEventLine, DuplexStepText, EventLine, LongEventLine, LongStepText, ScriptEvent,
+    ScriptStep, StepText,
 };
-pub use steps::{duplex_step_text, step_text};
+pub use steps::step_text;

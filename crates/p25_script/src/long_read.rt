@@ -4,11 +4,13 @@ ghost use Rattle.std.specs.{Prelude.{◌≡◌, ◌↔◌, ◌<◌, ◌≤◌, �
 ghost use Rattle.p25_line.specs.declared.fault.LineFault.TheVariants.{Long};
 ghost use Rattle.p25_fragments.specs.declared.long_step.LongEvent.{LongEvent as event_type};
 ghost use Rattle.p25_script.specs.LongScript.{IsLongScripted, long_event_by_words, long_event_of, long_event_text, other_event};
+ghost use Rattle.p25_script.specs.LongReadLaws.{long_event_not_long};
 
 use super::read::read_event_words;
+use super::shown::{LongEventLine, ScriptEvent};
 use super::values::message_value;
 use p25_fragments::LongEvent;
-use p25_line::{LineFault, LineReader, LineWords, read_whole};
+use p25_line::{LineFault, LineWords, read_whole};
 
 /// Answers the event whose line this is. Each line that is accepted is the line of its event, and the line of each event,
 /// where it is not too long, is accepted. The first of these causes that applies is answered: Long, above 8,192 octets; Form,
@@ -23,24 +25,7 @@ pub fn read_long_event(line: &[u8]) -> Result<LongEvent, LineFault>
     ensures fits { IfOk result (λ event. IsLongScripted event) }
     ensures each { (event : event_type) → IsLongScripted event → length line.now ≤ 8192 → long_event_text event ≡ line.now → result ≡ Ok event }
 {
-    read_whole::<LongLines>(line)
-}
-
-// Lines of a script of long messages.
-struct LongLines;
-
-impl LineReader for LongLines {
-    ghost use Rattle.p25_script.specs.LongReadLaws.{long_event_not_long};
-
-    type Value = LongEvent;
-
-    ghost words_read = { long_event_by_words };
-
-    ghost not_long = { long_event_not_long };
-
-    fn read_words(words: &LineWords) -> Result<LongEvent, LineFault> {
-        read_long_words(words)
-    }
+    read_whole::<LongEventLine>(line)
 }
 
 // The event of the words of a line.
@@ -85,5 +70,15 @@ fn read_other(first: &[u8], words: &LineWords) -> Result<LongEvent, LineFault>
     match read_event_words(words) {
         Ok(event) => Ok(LongEvent::Inner(event)),
         Err(fault) => Err(fault),
+    }
+}
+
+impl ScriptEvent for LongEvent {
+    ghost by_words = { long_event_by_words };
+
+    ghost not_long = { long_event_not_long };
+
+    fn read_words(words: &LineWords) -> Result<LongEvent, LineFault> {
+        read_long_words(words)
     }
 }

@@ -4,6 +4,7 @@ ghost use Rattle.std.specs.Prelude.{◌≡◌, ◌+◌, ◌≤◌, ◌++◌, [],
 ghost use Rattle.p25_script.specs.{StepTexts.{step_text_of}, LongTexts.{ended_line, first_line_of, line_before, line_behind, long_step_text_of}};
 ghost use Rattle.p25_line.specs.Octets.{octets_text};
 
+use super::shown::ScriptStep;
 use super::steps::step_text;
 use p25_fragments::{LongMessage, LongStep, Then};
 use p25_line::Line;
@@ -24,6 +25,14 @@ pub fn long_step_text(step: &LongStep, out: &mut Line, behind: &mut Line)
             put_first(&step.first, out);
             put_behind(then, behind);
         }
+    }
+}
+
+impl ScriptStep for LongStep {
+    ghost shown = { long_step_text_of };
+
+    fn put_text(&self, out: &mut Line, behind: &mut Line) {
+        long_step_text(self, out, behind);
     }
 }
 

@@ -4,10 +4,12 @@ ghost use Rattle.std.specs.Prelude.{◌≡◌, ◌↔◌, ◌<◌, ◌≤◌, If
 ghost use Rattle.p25_line.specs.{LineReadings.{keyed_or_fault}, declared.fault.LineFault.TheVariants.{Long}};
 ghost use Rattle.p25_stations.specs.declared.step.Event.{Event as event_type};
 ghost use Rattle.p25_script.specs.{Script.{IsScripted, delivery, event_by_words, event_in, event_of, event_text, way_named, word_count}, Values.{places_in}};
+ghost use Rattle.p25_script.specs.ScriptReadLaws.{event_not_long};
 
 use super::names::{EventKind, named_way};
+use super::shown::{EventLine, ScriptEvent};
 use super::values::{message_value, places_value};
-use p25_line::{LineFault, LineReader, LineWords, read_whole};
+use p25_line::{LineFault, LineWords, read_whole};
 use p25_stations::{Event, Way};
 
 /// Answers the event whose line this is. Each line that is accepted is the line of its event, and the line of each event,
@@ -22,24 +24,7 @@ pub fn read_event(line: &[u8]) -> Result<Event, LineFault>
     ensures fits { IfOk result (λ event. IsScripted event) }
     ensures each { (event : event_type) → IsScripted event → length line.now ≤ 8192 → event_text event ≡ line.now → result ≡ Ok event }
 {
-    read_whole::<EventLines>(line)
-}
-
-// Lines of a script.
-struct EventLines;
-
-impl LineReader for EventLines {
-    ghost use Rattle.p25_script.specs.ScriptReadLaws.{event_not_long};
-
-    type Value = Event;
-
-    ghost words_read = { event_by_words };
-
-    ghost not_long = { event_not_long };
-
-    fn read_words(words: &LineWords) -> Result<Event, LineFault> {
-        read_event_words(words)
-    }
+    read_whole::<EventLine>(line)
 }
 
 /// Answers the event of the words of a line, or why they are refused: Kind, Key or Value, as `read_event` says.
@@ -85,5 +70,15 @@ fn read_delivery(way: &[u8], places: &[u8]) -> Result<Event, LineFault>
     match way {
         Way::Packets => Ok(Event::ToReceiver(flips)),
         Way::Answers => Ok(Event::ToSender(flips)),
+    }
+}
+
+impl ScriptEvent for Event {
+    ghost by_words = { event_by_words };
+
+    ghost not_long = { event_not_long };
+
+    fn read_words(words: &LineWords) -> Result<Event, LineFault> {
+        read_event_words(words)
     }
 }

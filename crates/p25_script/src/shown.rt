@@ -1,104 +1,92 @@
-//! Steps as `{}` shows them, and events as `parse` reads them. A trait of the kit can be implemented
-//! for types of this crate alone, so each has a newtype here.
+//! Steps as `{}` shows them, and events as `parse` reads them, of each form of scripts. A trait of the kit can be implemented
+//! for types of this crate alone, so a step and an event each have a newtype here.
 
-ghost use Rattle.std.specs.Prelude.{◌≡◌, Some, Ok, Err, MatchResult};
-ghost use Rattle.p25_script.specs.{DuplexLines.{duplex_event_of}, LongScript.{long_event_of}, Script.{event_of}, LongTexts.{long_step_text_of}};
-ghost use Rattle.p25_script.specs.StepTexts.{duplex_step_text_of, step_text_of};
+ghost use Rattle.std.specs.Prelude.{◌≡◌, ◌≢◌, ◌++◌, ℕ, List, Some, Result, Ok, Err, MatchResult};
+ghost use Rattle.p25_line.specs.{LineReadings.{line_read}, declared.fault.LineFault.{LineFault as fault_type}, declared.fault.LineFault.TheVariants.{Long}};
 
-use super::duplex_read::read_duplex_event;
-use super::long_read::read_long_event;
-use super::long_steps::long_step_text;
-use super::read::read_event;
-use super::steps::{duplex_step_text, step_text};
 use p25_duplex::{DuplexEvent, DuplexStep};
 use p25_fragments::{LongEvent, LongStep};
-use p25_line::{Line, LineFault};
+use p25_line::{Line, LineFault, LineReader, LineWords, read_whole};
 use p25_stations::{Event, Step};
 use std::fmt;
 use std::str::FromStr;
 
-/// A step as its text, which `{}` writes.
-#[derive(Clone, Copy)]
-pub struct StepText<'a>(pub &'a Step);
+/// A step of one of the forms of scripts.
+pub trait ScriptStep {
+    // The text of a step.
+    ghost shown: { Self → List ℕ };
 
-impl fmt::Display for StepText<'_> {
-    ghost output = { λ text. Some (step_text_of text.0.now) };
-
-    fn fmt<W: fmt::Write>(&self, f: &mut fmt::Formatter<W>) -> fmt::Result {
-        let mut line = Line::new();
-        step_text(self.0, &mut line);
-        fmt::Display::fmt(&line, f)
-    }
+    /// Sets `out` and `behind` to the two pieces of the text of a step, one after the other. A text in one piece leaves `behind`
+    /// empty.
+    fn put_text(&self, out: &mut Line, behind: &mut Line)
+        ensures { out.new ++ behind.new ≡ shown self.now };
 }
 
-/// A step of long messages as its text, one or two lines each with its end, which `{}` writes.
-#[derive(Clone, Copy)]
-pub struct LongStepText<'a>(pub &'a LongStep);
+/// A step as its text, which `{}` writes.
+#[derive_where(Clone, Copy)]
+pub struct StepText<'a, S = Step>(pub &'a S);
 
-impl fmt::Display for LongStepText<'_> {
-    ghost output = { λ text. Some (long_step_text_of text.0.now) };
+/// A step of long messages as its text, one or two lines each with its end.
+pub type LongStepText<'a> = StepText<'a, LongStep>;
+
+/// A step of stations that both send as its text.
+pub type DuplexStepText<'a> = StepText<'a, DuplexStep>;
+
+impl<S: ScriptStep> fmt::Display for StepText<'_, S> {
+    ghost output = { λ text. Some (S.shown text.0.now) };
 
     fn fmt<W: fmt::Write>(&self, f: &mut fmt::Formatter<W>) -> fmt::Result {
-        let mut first = Line::new();
+        let mut out = Line::new();
         let mut behind = Line::new();
-        long_step_text(self.0, &mut first, &mut behind);
-        fmt::Display::fmt(&first, f)?;
+        self.0.put_text(&mut out, &mut behind);
+        fmt::Display::fmt(&out, f)?;
         fmt::Display::fmt(&behind, f)
     }
 }
 
-/// A step of stations that both send as its text, which `{}` writes.
-#[derive(Clone, Copy)]
-pub struct DuplexStepText<'a>(pub &'a DuplexStep);
+/// An event of one of the forms of scripts.
+pub trait ScriptEvent {
+    // What the words of a line are read as, or why they are refused.
+    ghost by_words: { List (List ℕ) → Result Self fault_type };
 
-impl fmt::Display for DuplexStepText<'_> {
-    ghost output = { λ text. Some (duplex_step_text_of text.0.now) };
+    // Words are never refused as a line that is too long.
+    ghost not_long: { (words : List (List ℕ)) → by_words words ≢ Err Long };
 
-    fn fmt<W: fmt::Write>(&self, f: &mut fmt::Formatter<W>) -> fmt::Result {
-        let mut line = Line::new();
-        duplex_step_text(self.0, &mut line);
-        fmt::Display::fmt(&line, f)
+    /// Answers the event of the words of a line, or why they are refused.
+    fn read_words(words: &LineWords) -> Result<Self, LineFault>
+        ensures { result ≡ by_words words.now };
+}
+
+/// An event that `parse` reads from its line, as `read_event` and its kin do.
+#[derive(Drop)]
+pub struct EventLine<E = Event>(pub E);
+
+/// An event of long messages that `parse` reads from its line.
+pub type LongEventLine = EventLine<LongEvent>;
+
+/// An event of stations that both send, which `parse` reads from its line.
+pub type DuplexEventLine = EventLine<DuplexEvent>;
+
+// Here the type stands for the form of such lines alone, and no value of it is made.
+impl<E: ScriptEvent> LineReader for EventLine<E> {
+    type Value = E;
+
+    ghost words_read = { E.by_words };
+
+    ghost not_long = { E.not_long };
+
+    fn read_words(words: &LineWords) -> Result<E, LineFault> {
+        E::read_words(words)
     }
 }
 
-/// An event that `parse` reads from its line, as `read_event` does.
-#[derive(Drop)]
-pub struct EventLine(pub Event);
-
-impl FromStr for EventLine {
+impl<E: ScriptEvent> FromStr for EventLine<E> {
     type Err = LineFault;
 
-    ghost from_str_gives = { λ line result. MatchResult result (λ event. event_of line ≡ Ok event.0) (λ fault. event_of line ≡ Err fault) };
+    ghost from_str_gives = { λ line result. MatchResult result (λ event. line_read E.by_words line ≡ Ok event.0)
+        (λ fault. line_read E.by_words line ≡ Err fault) };
 
-    fn from_str(line: &str) -> Result<EventLine, LineFault> {
-        Ok(EventLine(read_event(line.as_bytes())?))
-    }
-}
-
-/// An event of long messages that `parse` reads from its line, as `read_long_event` does.
-#[derive(Drop)]
-pub struct LongEventLine(pub LongEvent);
-
-impl FromStr for LongEventLine {
-    type Err = LineFault;
-
-    ghost from_str_gives = { λ line result. MatchResult result (λ event. long_event_of line ≡ Ok event.0) (λ fault. long_event_of line ≡ Err fault) };
-
-    fn from_str(line: &str) -> Result<LongEventLine, LineFault> {
-        Ok(LongEventLine(read_long_event(line.as_bytes())?))
-    }
-}
-
-/// An event of stations that both send, which `parse` reads from its line, as `read_duplex_event` does.
-#[derive(Drop)]
-pub struct DuplexEventLine(pub DuplexEvent);
-
-impl FromStr for DuplexEventLine {
-    type Err = LineFault;
-
-    ghost from_str_gives = { λ line result. MatchResult result (λ event. duplex_event_of line ≡ Ok event.0) (λ fault. duplex_event_of line ≡ Err fault) };
-
-    fn from_str(line: &str) -> Result<DuplexEventLine, LineFault> {
-        Ok(DuplexEventLine(read_duplex_event(line.as_bytes())?))
+    fn from_str(line: &str) -> Result<EventLine<E>, LineFault> {
+        Ok(EventLine(read_whole::<EventLine<E>>(line.as_bytes())?))
     }
 }

@@ -3,10 +3,10 @@
 ghost use Rattle.std.specs.Prelude.{◌≡◌, ◌+◌, ◌*◌, ◌<◌, ◌≤◌, Bool, true, ◌++◌, [], ◌∷◌, length, if◌then◌else◌, codes, decimal};
 ghost use Rattle.p25_messages.specs.declared.step_kind.StepKind.TheVariants.{Taken, Retry};
 ghost use Rattle.p25_line.specs.{CommaLists.{comma_text}, Octets.{octets_text}};
-ghost use Rattle.p25_script.specs.{StepTexts.{duplex_step_text_of, flags_text, kind_text, serials_of, step_text_of}, Script.{way_word}};
+ghost use Rattle.p25_script.specs.{StepTexts.{flags_text, kind_text, serials_of, step_text_of}, Script.{way_word}};
 
 use super::names::word_of_way;
-use p25_duplex::DuplexStep;
+use super::shown::ScriptStep;
 use p25_line::Line;
 use p25_messages::Message;
 use p25_packet_blocks::{Flags, flags_make};
@@ -27,19 +27,13 @@ pub fn step_text(step: &Step, out: &mut Line)
     }
 }
 
-/// Sets `out` to the text of a step, without the end of its line: the letter of the side that acts or hears, a space, and the
-/// text of what the step was. It has at most 4,208 octets.
-#[tactic(auto, unfolding(crate::specs::StepTexts::duplex_step_text_of))]
-pub fn duplex_step_text(step: &DuplexStep, out: &mut Line)
-    ensures text { out.new ≡ duplex_step_text_of step.now }
-    ensures short { length out.new ≤ 4208 }
-{
-    let mut text = Line::new();
-    step_text(&step.step, &mut text);
-    out.clear();
-    out.put(step.side.word());
-    out.put(b" ");
-    out.put(text.octets());
+impl ScriptStep for Step {
+    ghost shown = { step_text_of };
+
+    fn put_text(&self, out: &mut Line, behind: &mut Line) {
+        step_text(self, out);
+        behind.clear();
+    }
 }
 
 // Appends the text of a kind of step.

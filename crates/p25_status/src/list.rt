@@ -65,20 +65,20 @@ impl<T: Copy + Default, const MOST: usize> BoundedList<T, MOST> {
         self.len() == 0
     }
 
-    /// Answers all items, in order.
-    pub fn as_slice(&self) -> &[T]
-        ensures value { result.now ≡ self.now }
-        ensures most { length self.now ≤ MOST }
-    {
-        self.items.as_slice()
-    }
-
     /// Answers a copy of item `i`.
     pub fn get(&self, i: usize) -> T
         requires { i < length self.now }
         ensures { slice_get self.now i ≡ Some result }
     {
         self.items.as_slice()[i]
+    }
+
+    /// Answers all items, in order.
+    pub fn as_slice(&self) -> &[T]
+        ensures value { result.now ≡ self.now }
+        ensures most { length self.now ≤ MOST }
+    {
+        self.items.as_slice()
     }
 
     /// Appends an item.

@@ -7,10 +7,11 @@ use Rattle.p25_delivery.specs.Runs.{EachIs}
 use Rattle.p25_io.specs.Octets.{Appended}
 use Rattle.p25_io.proofs.OctetsLaws.{Appended-same}
 use Rattle.p25_line.specs.declared.fault.LineFault.{LineFault}
+use Rattle.p25_line.proofs.LineReadLaws.{words-line_read}
 use Rattle.p25_stations.specs.{Runs.{IsCleanRun, IsEvent, steps_of, world_run}, WorldState.{first_world}, declared.step.Event.{Event}}
 use Rattle.p25_stations.proofs.{CleanLaws.{run-orderly}, FalsePassLaws.{clean-from_none}, StepListsLaws.{run-acknowledged, run-delivered, run-sent}}
 use Rattle.p25_script.specs.{Script.{event_of}, LongScript.{IsLongScripted, long_event_of}, LongTexts.{long_step_text_of}, DuplexLines.{duplex_event_of}}
-use Rattle.p25_script.proofs.{ScriptLaws.{IsEvent-IsScripted, IsLineOf-event_of}, LongScriptLaws.{IsLineOf-long_event_of}, DuplexLineLaws.{read-event}}
+use Rattle.p25_script.proofs.{ScriptLaws.{IsEvent-IsScripted, event_laws}, LongScriptLaws.{long_event_laws}, DuplexLineLaws.{duplex_laws, is-event}}
 use Rattle.p25_fragments.specs.{LongState.{first_long}, LongRuns.{IsCleanLongRun, IsLongEvent, long_run, long_steps_of}, declared.long_step.LongEvent.{LongEvent}}
 use Rattle.p25_fragments.specs.declared.long_step.LongEvent.TheVariants.{Long, Inner}
 use Rattle.p25_fragments.proofs.{LongHistoryLaws.{long-clean}, LongListsLaws.{run-finished, run-taken, run-whole}, LongRunLaws.{long-orderly, long-unrefused}}
@@ -149,7 +150,7 @@ RunsAs {E} command IsScriptFor HasRunFor =
 -- Scripts of the stations.
 
 is_event : (line : List ℕ) (event : Event) → event_of line ≡ Ok event → IsEvent event
-is_event line event same = IsEvent-IsScripted event (IsLineOf-event_of line event same).fits
+is_event line event same = IsEvent-IsScripted event (words-line_read event_laws line event same).fits
 
 tells-lists : (events : List Event) → TellsLists events
 tells-lists events = record {
@@ -169,7 +170,7 @@ script-run told left first last input events script is_told =
 
 is-long_event : (line : List ℕ) (event : LongEvent) → long_event_of line ≡ Ok event → IsLongEvent event
 unfolding IsLongScripted IsLongEvent
-is-long_event line event same = by_event event (IsLineOf-long_event_of line event same).fits
+is-long_event line event same = by_event event (words-line_read long_event_laws line event same).fits
   where
     by_event : (event : LongEvent) → IsLongScripted event → IsLongEvent event
     by_event (Long message) fits = fits.short
@@ -192,7 +193,7 @@ long-script-run told left first last input events script is_told =
 -- Scripts of both stations.
 
 is-duplex_event : (line : List ℕ) (event : DuplexEvent) → duplex_event_of line ≡ Ok event → IsDuplexEvent event
-is-duplex_event line event same = read-event line (Ok event) (sym same)
+is-duplex_event line event same = is-event event (words-line_read duplex_laws line event same).fits
 
 tells-lists_of : (events : List DuplexEvent) (side : Side) → TellsListsOf events side
 tells-lists_of events A = record {

@@ -4,7 +4,7 @@ use Rattle.std.proofs.Common.{ap}
 use Rattle.p25_line.specs.declared.fault.LineFault.TheVariants.{Long}
 use Rattle.p25_line.proofs.LineReadLaws.{line_read-long}
 use Rattle.p25_text.specs.Grammar.{read_line_of, read_words}
-use Rattle.p25_script.specs.{Script.{event_by_words, event_of}, LongScript.{long_event_by_words, long_event_of}, DuplexLines.{duplex_by_words, duplex_event_of}}
+use Rattle.p25_script.specs.{Script.{event_by_words}, LongScript.{long_event_by_words}, DuplexLines.{duplex_by_words}}
 use Rattle.p25_tool.specs.{declared.build.Build.{Build}, Machines.{ScriptState, StationsAt, LongAt, DuplexAt, build_rules, script_rules}}
 
 pub build_long : (build : Build) (line : List ℕ) → 8192 < length line → build_rules.take build line ≡ Err Long
@@ -12,7 +12,6 @@ unfolding read_line_of
 build_long build line long = ap (result_map_both _ _) (line_read-long read_words line long)
 
 pub script_long : (script : ScriptState) (line : List ℕ) → 8192 < length line → script_rules.take script line ≡ Err Long
-unfolding event_of long_event_of duplex_event_of
 script_long (StationsAt world) line long = ap (result_map_both _ _) (line_read-long event_by_words line long)
 script_long (LongAt world) line long = ap (result_map_both _ _) (line_read-long long_event_by_words line long)
 script_long (DuplexAt world) line long = ap (result_map_both _ _) (line_read-long duplex_by_words line long)

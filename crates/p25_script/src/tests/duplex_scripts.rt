@@ -1,7 +1,7 @@
 //! Lines that are read and refused, and steps with their texts.
 
 use super::refused;
-use crate::{DuplexEventLine, DuplexStepText, duplex_closing, duplex_step_text, read_duplex_event};
+use crate::{DuplexEventLine, StepText, duplex_closing, duplex_step_text, read_duplex_event};
 use p25_duplex::{DuplexEvent, DuplexStep, DuplexWorld, Side};
 use p25_line::{Line, LineFault};
 use std::alloc::Global;
@@ -85,7 +85,7 @@ fn parsed_step(world: &mut DuplexWorld, line: &str) -> Option<DuplexStep> {
 // Whether a line is parsed, and its step is shown as this text.
 fn is_shown(alloc: Global, world: &mut DuplexWorld, line: &str, want: &str) -> bool {
     match parsed_step(world, line) {
-        Some(step) => match DuplexStepText(&step).to_string(alloc) {
+        Some(step) => match StepText(&step).to_string(alloc) {
             Ok(text) => text.as_str() == want,
             Err(_) => false,
         },

@@ -3,7 +3,7 @@
 ghost use Rattle.std.specs.Prelude.{◌≤◌};
 
 use super::refused;
-use crate::{LongEventLine, LongStepText, long_closing_text, long_step_text, read_long_event};
+use crate::{LongEventLine, StepText, long_closing_text, long_step_text, read_long_event};
 use p25_fragments::{LongEvent, LongStep, LongWorld, Then};
 use p25_line::{Line, LineFault};
 use std::alloc::Global;
@@ -31,7 +31,7 @@ fn parsed_step(world: &mut LongWorld, line: &str) -> Option<LongStep> {
 
 // Whether a step is shown as this text.
 fn is_shown(alloc: Global, step: &LongStep, want: &str) -> bool {
-    match LongStepText(step).to_string(alloc) {
+    match StepText(step).to_string(alloc) {
         Ok(text) => text.as_str() == want,
         Err(_) => false,
     }

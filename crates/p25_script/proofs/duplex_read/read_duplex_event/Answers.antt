@@ -1,23 +1,12 @@
-use Rattle.std.proofs.Common.{◌≡◌, ◌≤◌, length, sym, ap, subst, ◌∙◌}
-use Rattle.p25_script.specs.DuplexLines.{duplex_event_of}
-use Rattle.p25_script.proofs.DuplexLineLaws.{event_of-text, read-event, read-facts}
+use Rattle.std.proofs.lemmas.Result.{IfOk-weaker}
+use Rattle.p25_duplex.specs.DuplexRuns.{IsDuplexEvent}
+use Rattle.p25_script.specs.DuplexLines.{IsDuplexScripted, duplex_text}
+use Rattle.p25_script.proofs.{LineLaws.{line_read-told}, DuplexLineLaws.{duplex_laws, is-event}}
 use Rattle.p25_script.proofs.duplex_read.read_duplex_event.Goals as goal
 
-read : (c : goal.After-read_whole) → c.read_whole.result ≡ duplex_event_of c.args.line.now
-unfolding duplex_event_of
-read c = c.read_whole.ensures.read
-
-pub returns-clause-event : goal.returns-clause-event
-returns-clause-event c = read c
-
-pub returns-clause-text : goal.returns-clause-text
-returns-clause-text c = (read-facts c.args.line.now c.read_whole.result (read c)).0
-
-pub returns-clause-fits : goal.returns-clause-fits
-returns-clause-fits c = (read-facts c.args.line.now c.read_whole.result (read c)).1
-
-pub returns-clause-kept : goal.returns-clause-kept
-returns-clause-kept c = read-event c.args.line.now c.read_whole.result (read c)
-
-pub returns-clause-each : goal.returns-clause-each
-returns-clause-each c event fits short text = read c ∙ ap duplex_event_of (sym text) ∙ event_of-text event fits (subst (λ line. length line ≤ 8192) (sym text) short)
+pub returns : goal.returns
+unfolding duplex_text
+returns c =
+    let told = line_read-told duplex_laws c.args.line.now c.read_whole.result c.read_whole.ensures.read in
+    let kept = IfOk-weaker c.read_whole.result IsDuplexScripted IsDuplexEvent is-event told.fits in
+    record { event = c.read_whole.ensures.read; long = c.read_whole.ensures.long; text = told.text; fits = told.fits; kept = kept; each = told.each }
