@@ -75,26 +75,6 @@ pub(crate) fn near_rests<R: Rate>(received: &[u8; 49]) -> [u8; BLOCK_RESTS]
     rests
 }
 
-// The distance of a symbol after a state, together with the least that can follow it.
-fn symbol_distance<R: Rate>(
-    received: &[u8; 49],
-    rests: &[u8],
-    step: usize,
-    state: u8,
-    symbol: u8,
-) -> u8
-    requires nibbles { All (λ n. n < 16) received.now }
-    requires rests { length rests.now ≡ 392 }
-    requires step { step < 48 }
-    requires state { state < R.STATES }
-    requires symbol { symbol < R.STATES }
-    requires low { rest_in rests.now (suc step) symbol ≤ 192 }
-    ensures { result ≡ step_cost R.point_of (received_cost received.now) rests.now step state symbol }
-{
-    R::distances(symbol, received[step])[usize::from(state)]
-        + rests[8 * (step + 1) + usize::from(symbol)]
-}
-
 // The lowest of the symbols that lead from a state to the least that can follow it.
 pub(crate) fn first_symbol<R: Rate>(received: &[u8; 49], rests: &[u8], step: usize, state: u8) -> u8
     requires nibbles { All (λ n. n < 16) received.now }
@@ -106,7 +86,8 @@ pub(crate) fn first_symbol<R: Rate>(received: &[u8; 49], rests: &[u8], step: usi
 {
     let least = rests[8 * step + usize::from(state)];
     for symbol in 0..R::STATES - 1 {
-        if symbol_distance::<R>(received, rests, step, state, symbol) == least {
+        let distance = R::distances(symbol, received[step])[usize::from(state)];
+        if distance + rests[8 * (step + 1) + usize::from(symbol)] == least {
             return symbol;
         }
     }

@@ -1,4 +1,4 @@
-use Rattle.std.proofs.Common.{◌≡◌, ℕ, suc, ◌-◌, ◌<◌, length, length-set, get_or, refl, ◌∙◌, arith}
+use Rattle.std.proofs.Common.{suc, ◌-◌, ◌<◌, length-set, get_or, refl, ◌∙◌, arith}
 use Rattle.p25_trellis.specs.Costs.{received_cost}
 use Rattle.p25_trellis.proofs.{CostLaws.{IsLeastEnd-at, HasLeastFrom-later, HasLeastFrom-write, here_more}, NearSteps.{near_rest-le, next_rest, IsLowestLeast-step}}
 use Rattle.p25_trellis.proofs.near.near_rests.Goals as goal
