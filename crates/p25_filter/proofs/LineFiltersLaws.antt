@@ -7,7 +7,7 @@ use Rattle.p25_line.specs.declared.{fault.LineFault.{LineFault}, fault.LineFault
 use Rattle.p25_filter.specs.{declared.ending.Ending.{Ending}, declared.ending.Ending.TheVariants.{BadLine, Done}, declared.ending.Refusal.{Refusal}}
 use Rattle.p25_filter.specs.{declared.ending.Refusal.TheVariants.{Ended, Memory}, declared.line_filter.LinePhase.{LinePhase}}
 use Rattle.p25_filter.specs.{declared.line_filter.LinePhase.TheVariants.{Reading, Ready, ReadyLast, Closing, Closed}, Futures.{IsClosed, IsIdle, IsPausing, IsRefusedBy, NextPiece, Progress}}
-use Rattle.p25_filter.specs.{Lines.{closing_by, each_behind, lines_ending, lines_in, texts_before}, LineRules.{LineRules, LinesTaken, first_taken, lines_taken, written_for}}
+use Rattle.p25_filter.specs.{Lines.{closing_by, each_behind, lines_ending, lines_in, texts_before}, LineRules.{LineRules, LinesTaken, both_pieces, first_taken, lines_taken, written_for}}
 use Rattle.p25_filter.specs.LineFilters.{IsLineGiven, IsTextGiven, LineFiltering, closes_with, ends_with, is_ended_phase, line_future, line_filtering, lines_left, pieces_of, taken_from}
 use Rattle.p25_filter.proofs.LinesLaws.{Contains-here, Contains-later, Contains-none, each_behind-from, each_behind-in, lines_in-end, lines_in-part, octets_before}
 
@@ -31,6 +31,11 @@ is_closed ReadyLast none ended = absurd (omega arith)
 is_closed Closing none ended = absurd (omega arith)
 is_closed Closed none ended = refl
 is_closed phase none ended = cc
+
+-- two pieces and what follows them
+pieces-append : (out : List ℕ) (behind : Option (List ℕ)) (more : List ℕ) → both_pieces out behind ++ more ≡ out ++ (both_pieces [] behind ++ more)
+pieces-append out None more = refl
+pieces-append out (Some second) more = append_assoc out second more
 
 -- what is the same of all lists of lines with a first line that is too long is the same whatever that line is
 module _ {X : Type 0} (f : List (List ℕ) → X) (x : X) (first : (line : List ℕ) (lines : List (List ℕ)) → 8192 < length line → f (line ∷ lines) ≡ x) where
@@ -77,18 +82,18 @@ module _ {M : Type 0} (rules : LineRules M) where
   taken-first number machine line lines is same = ap (first_taken number machine (λ next. lines_taken rules.take (number + 1) next lines)) same
 
   -- the texts after which memory may be wanting
-  abbrev pub pauses_of : List ℕ → LinesTaken M → List (List ℕ)
-  pauses_of behind taken = cond rules.wants (each_behind behind (texts_before taken.texts)) []
+  abbrev pub pauses_of : Option (List ℕ) → LinesTaken M → List (List ℕ)
+  pauses_of behind taken = cond rules.wants (each_behind (both_pieces [] behind) (texts_before taken.texts)) []
 
   -- octets come, and of the lines that are left comes what came of those that were
-  comes : (machine : M) (lines : ℕ) (behind : List ℕ) (octets line then : List ℕ) (next : LinePhase)
+  comes : (machine : M) (lines : ℕ) (behind : Option (List ℕ)) (octets line then : List ℕ) (next : LinePhase)
       → ((ended : Bool) (more : List ℕ) → lines_taken rules.take (lines + 1) machine (lines_in ended line (octets ++ more))
       ≡ lines_taken rules.take (lines + 1) machine (lines_left next then ended more))
       → ((ended : Bool) → ended ≡ closes_with next ended) → ((ended : Bool) → ended ≡ ends_with next ended)
       → Progress (line_future rules (line_filtering machine line lines behind Reading)) octets [] (line_future rules (line_filtering machine then lines behind next))
   unfolding line_future
   comes machine lines behind octets line then next left closes ends = record {
-    writes = λ ended more. ap₂ (λ (b : Bool) (t : LinesTaken M). behind ++ written_for rules b t) (closes ended) (left ended more);
+    writes = λ ended more. ap₂ (λ (b : Bool) (t : LinesTaken M). both_pieces [] behind ++ written_for rules b t) (closes ended) (left ended more);
     ends = λ ended more. ap₂ (λ (b : Bool) (t : LinesTaken M). lines_ending b t.refusal) (ends ended) (left ended more);
     pauses = λ ended more pause is. subst (λ (t : LinesTaken M). Contains (pauses_of behind t) pause) (sym (left ended more)) is;
   }
@@ -153,25 +158,25 @@ module _ {M : Type 0} (rules : LineRules M) where
         (λ ended. refl) (λ ended. refl))
 
   -- the steps of `finish`: the input ends after a line that has begun, or none
-  working-finish : (machine : M) (line : List ℕ) (lines : ℕ) (behind : List ℕ) → 0 < length line
+  working-finish : (machine : M) (line : List ℕ) (lines : ℕ) (behind : Option (List ℕ)) → 0 < length line
       → IsClosed (line_future rules (line_filtering machine line lines behind Reading)) (line_future rules (line_filtering machine line lines behind ReadyLast))
   unfolding line_future lines_in
   working-finish machine line lines behind some =
       let last : cond (nat_lt 0 (length line)) (line ∷ []) [] ≡ line ∷ [] = cond-true (nat_lt 0 (length line)) (line ∷ []) [] (lt-ltb 0 (length line) some) in
       let same = ap (lines_taken rules.take (lines + 1) machine) (sym last) in
       record {
-        writes = λ ended more. ap (λ (t : LinesTaken M). behind ++ written_for rules true t) same;
+        writes = λ ended more. ap (λ (t : LinesTaken M). both_pieces [] behind ++ written_for rules true t) same;
         ends = λ ended more. ap (λ (t : LinesTaken M). lines_ending true t.refusal) same;
         pauses = λ ended more. ap (pauses_of behind) same;
       }
 
-  working-finish_none : (machine : M) (line : List ℕ) (lines : ℕ) (behind : List ℕ) → length line ≡ 0
+  working-finish_none : (machine : M) (line : List ℕ) (lines : ℕ) (behind : Option (List ℕ)) → length line ≡ 0
       → IsClosed (line_future rules (line_filtering machine line lines behind Reading)) (line_future rules (line_filtering machine line lines behind Closing))
   unfolding line_future lines_in
   working-finish_none machine [] lines behind none = record { writes = λ ended more. refl; ends = λ ended more. refl; pauses = λ ended more. refl }
   working-finish_none machine (octet ∷ line) lines behind none = absurd (omega arith)
 
-  module _ (machine : M) (line : List ℕ) (lines : ℕ) (behind : List ℕ) (phase : LinePhase) (none : pieces_of phase ≡ 0) (going : is_ended_phase phase ≡ false) where
+  module _ (machine : M) (line : List ℕ) (lines : ℕ) (behind : Option (List ℕ)) (phase : LinePhase) (none : pieces_of phase ≡ 0) (going : is_ended_phase phase ≡ false) where
     abbrev pub closes-as : LinePhase → Type 0
     closes-as next = IsClosed (line_future rules (line_filtering machine line lines behind phase)) (line_future rules (line_filtering machine line lines behind next))
 
@@ -186,12 +191,12 @@ module _ {M : Type 0} (rules : LineRules M) where
         phase none going (working-finish_none machine line lines behind empty)
 
   -- the steps of `next`: a second piece is given
-  pub step-behind : (before now : LineFiltering M) (out : List ℕ) → before.behind ≡ out → now ≡ record before { behind = [] }
+  pub step-behind : (before now : LineFiltering M) (out : List ℕ) → before.behind ≡ Some out → now ≡ record before { behind = None }
       → NextPiece (line_future rules before) (Ok true) out (line_future rules now)
   unfolding NextPiece line_future
   step-behind before now out same is =
       subst (λ (n : LineFiltering M). Progress (line_future rules before) [] out (line_future rules n)) (sym is)
-      (subst (λ (b : List ℕ). Progress (line_future rules (record before { behind = b })) [] out (line_future rules (record before { behind = [] }))) (sym same)
+      (subst (λ (b : Option (List ℕ)). Progress (line_future rules (record before { behind = b })) [] out (line_future rules (record before { behind = None }))) (sym same)
       (record {
         writes = λ ended more. refl;
         ends = λ ended more. refl;
@@ -205,7 +210,7 @@ module _ {M : Type 0} (rules : LineRules M) where
 
   -- what is written at the end is given
   working-close : (machine : M) (line : List ℕ) (lines : ℕ)
-      → NextPiece (line_future rules (line_filtering machine line lines [] Closing)) (Ok true) (rules.closing machine) (line_future rules (line_filtering machine line lines [] Closed))
+      → NextPiece (line_future rules (line_filtering machine line lines None Closing)) (Ok true) (rules.closing machine) (line_future rules (line_filtering machine line lines None Closed))
   unfolding NextPiece line_future written_for texts_before each_behind lines_taken
   working-close machine line lines = record {
     writes = λ ended more. sym (append-nil (rules.closing machine));
@@ -233,35 +238,35 @@ module _ {M : Type 0} (rules : LineRules M) where
     before-left ended more then text is = ap (λ (t : LinesTaken M). texts_before t.texts) (left-first ended more (Ok (then, text)) is)
 
     -- a line that is there was taken, and the first piece of its text is given
-    text-given : (then : M) (out : List ℕ) (behind : List ℕ) → rules.take machine line ≡ Ok (then, out ++ behind)
-        → Progress (line_future rules (line_filtering machine line lines [] phase)) [] out (line_future rules (line_filtering then [] (lines + 1) behind next))
+    text-given : (then : M) (out : List ℕ) (behind : Option (List ℕ)) → rules.take machine line ≡ Ok (then, both_pieces out behind)
+        → Progress (line_future rules (line_filtering machine line lines None phase)) [] out (line_future rules (line_filtering then [] (lines + 1) behind next))
     unfolding line_future written_for
     text-given then out behind is = record {
       writes = λ ended more.
           let after = rest-left ended more then in
-          ap (written_for rules (closes_with phase ended)) (left-first ended more (Ok (then, out ++ behind)) is)
-          ∙ append_assoc (out ++ behind) (concat after.texts) (closing_by (closes_with phase ended) after.refusal (rules.closing after.machine))
-          ∙ append_assoc out behind (written_for rules (closes_with phase ended) after)
-          ∙ ap (λ (b : Bool). out ++ (behind ++ written_for rules b after)) (sym (closes ended));
+          ap (written_for rules (closes_with phase ended)) (left-first ended more (Ok (then, both_pieces out behind)) is)
+          ∙ append_assoc (both_pieces out behind) (concat after.texts) (closing_by (closes_with phase ended) after.refusal (rules.closing after.machine))
+          ∙ pieces-append out behind (written_for rules (closes_with phase ended) after)
+          ∙ ap (λ (b : Bool). out ++ (both_pieces [] behind ++ written_for rules b after)) (sym (closes ended));
       ends = λ ended more.
-          ap (λ (t : LinesTaken M). lines_ending (ends_with phase ended) t.refusal) (left-first ended more (Ok (then, out ++ behind)) is)
+          ap (λ (t : LinesTaken M). lines_ending (ends_with phase ended) t.refusal) (left-first ended more (Ok (then, both_pieces out behind)) is)
           ∙ ap (λ (b : Bool). lines_ending b (rest-left ended more then).refusal) (sym (ends ended));
       pauses = λ ended more pause there.
           let texts = texts_before (rest-left ended more then).texts in
           let now = when_wanting rules.wants _ pause there in
-          let part = each_behind-from behind texts pause now.1 in
-          let after = each_behind (out ++ behind) texts in
-          let whole = append_assoc out behind part.0 ∙ ap (λ (zs : List ℕ). out ++ zs) part.2 in
-          let later = Contains-later [] after (out ++ behind ++ part.0) (each_behind-in (out ++ behind) texts part.0 part.1) in
+          let part = each_behind-from (both_pieces [] behind) texts pause now.1 in
+          let after = each_behind (both_pieces out behind) texts in
+          let whole = pieces-append out behind part.0 ∙ ap (λ (zs : List ℕ). out ++ zs) part.2 in
+          let later = Contains-later [] after (both_pieces out behind ++ part.0) (each_behind-in (both_pieces out behind) texts part.0 part.1) in
           wanting rules.wants _ (out ++ pause) now.0
           (each_behind-in [] (texts_before (comes-left ended more).texts) (out ++ pause)
-          (subst (λ (ts : List (List ℕ)). Contains ts (out ++ pause)) (sym (before-left ended more then (out ++ behind) is))
+          (subst (λ (ts : List (List ℕ)). Contains ts (out ++ pause)) (sym (before-left ended more then (both_pieces out behind) is))
           (subst (λ (zs : List ℕ). Contains ([] ∷ after) zs) whole later)));
     }
 
     -- memory was wanting for a line that is there
     wanting-given : (is : Result (M × List ℕ) LineFault) → rules.take machine line ≡ is → is_ok is ≡ true → rules.wants ≡ true
-        → IsPausing (line_future rules (line_filtering machine line lines [] phase))
+        → IsPausing (line_future rules (line_filtering machine line lines None phase))
     unfolding line_future
     wanting-given (Ok next) is ok wants =
         λ ended more.
@@ -273,11 +278,11 @@ module _ {M : Type 0} (rules : LineRules M) where
 
     -- a line that is there was taken or refused, or memory was wanting for it
     line-given : (now : LineFiltering M) (answer : Result Bool Refusal) (out : List ℕ)
-        → IsLineGiven rules next (line_filtering machine line lines [] phase) answer out now
-        → NextPiece (line_future rules (line_filtering machine line lines [] phase)) answer out (line_future rules now)
+        → IsLineGiven rules next (line_filtering machine line lines None phase) answer out now
+        → NextPiece (line_future rules (line_filtering machine line lines None phase)) answer out (line_future rules now)
     unfolding NextPiece IsRefusedBy line_future written_for
     line-given now (Ok true) out (same, given) =
-        subst (λ (n : LineFiltering M). Progress (line_future rules (line_filtering machine line lines [] phase)) [] out (line_future rules n)) (sym given.now_is)
+        subst (λ (n : LineFiltering M). Progress (line_future rules (line_filtering machine line lines None phase)) [] out (line_future rules n)) (sym given.now_is)
         (text-given given.machine out given.behind given.taken)
     line-given now (Ok false) out (same, given) = cc same
     line-given now (Err Memory) out (same, (wants, ok)) = wanting-given (rules.take machine line) refl ok wants
@@ -292,21 +297,21 @@ module _ {M : Type 0} (rules : LineRules M) where
   -- with no line to take and no piece to give, what the octets so far decide is written, and nothing refuses them; at the end
   -- all is done
   working-idle : (machine : M) (line : List ℕ) (lines : ℕ) (phase : LinePhase) → pieces_of phase ≡ 0
-      → IsIdle (is_ended_phase phase) (line_future rules (line_filtering machine line lines [] phase))
+      → IsIdle (is_ended_phase phase) (line_future rules (line_filtering machine line lines None phase))
   unfolding IsIdle line_future lines_in written_for lines_taken
   working-idle machine line lines Reading none = (refl, refl)
   working-idle machine line lines Closed none = λ ended more. refl
   working-idle machine line lines phase none = absurd (omega arith)
 
-  working-done : (machine : M) (line : List ℕ) (lines : ℕ) (behind : List ℕ) (ended : Bool) (more : List ℕ)
+  working-done : (machine : M) (line : List ℕ) (lines : ℕ) (behind : Option (List ℕ)) (ended : Bool) (more : List ℕ)
       → (line_future rules (line_filtering machine line lines behind Closed)).ends ended more ≡ Some Done
   unfolding line_future lines_taken
   working-done machine line lines behind ended more = refl
 
   -- the steps of `take_line`: the text of the line that is there was given
-  pub text-taken : (before : LineFiltering M) (machine then : M) (line items after : List ℕ) (lines : ℕ) (old behind : List ℕ) (out : List ℕ) (was phase : LinePhase)
+  pub text-taken : (before : LineFiltering M) (machine then : M) (line items after : List ℕ) (lines : ℕ) (old behind : Option (List ℕ)) (out : List ℕ) (was phase : LinePhase)
       → line_filtering machine items lines old was ≡ before → line ≡ items → after ≡ []
-      → rules.take machine line ≡ Ok (then, out ++ behind) → IsTextGiven rules phase before out (line_filtering then after (lines + 1) behind phase)
+      → rules.take machine line ≡ Ok (then, both_pieces out behind) → IsTextGiven rules phase before out (line_filtering then after (lines + 1) behind phase)
   text-taken before machine then line items after lines old behind out was phase view slice none taken =
       subst (λ (w : LineFiltering M). IsTextGiven rules phase w out (line_filtering then after (lines + 1) behind phase)) view
       (record {
@@ -317,13 +322,13 @@ module _ {M : Type 0} (rules : LineRules M) where
       })
 
   -- what holds at a phase with no second piece holds of work that is there
-  at_phase : (P : LineFiltering M → Type 0) (work : LineFiltering M) (phase : LinePhase) → work.phase ≡ phase → work.behind ≡ []
-      → P (line_filtering work.machine work.line work.lines [] phase) → P work
+  at_phase : (P : LineFiltering M → Type 0) (work : LineFiltering M) (phase : LinePhase) → work.phase ≡ phase → work.behind ≡ None
+      → P (line_filtering work.machine work.line work.lines None phase) → P work
   at_phase P work phase is none holds =
       subst (λ (p : LinePhase). P (line_filtering work.machine work.line work.lines work.behind p)) (sym is)
-      (subst (λ (b : List ℕ). P (line_filtering work.machine work.line work.lines b phase)) (sym none) holds)
+      (subst (λ (b : Option (List ℕ)). P (line_filtering work.machine work.line work.lines b phase)) (sym none) holds)
 
-  module _ (before now : LineFiltering M) (answer : Result Bool Refusal) (out : List ℕ) (none : before.behind ≡ []) where
+  module _ (before now : LineFiltering M) (answer : Result Bool Refusal) (out : List ℕ) (none : before.behind ≡ None) where
     pub step-line : before.phase ≡ Ready → IsLineGiven rules Reading before answer out now → NextPiece (line_future rules before) answer out (line_future rules now)
     step-line is =
         at_phase (λ w. IsLineGiven rules Reading w answer out now → NextPiece (line_future rules w) answer out (line_future rules now)) before Ready is none
@@ -334,7 +339,7 @@ module _ {M : Type 0} (rules : LineRules M) where
         at_phase (λ w. IsLineGiven rules Closing w answer out now → NextPiece (line_future rules w) answer out (line_future rules now)) before ReadyLast is none
         (line-given before.machine before.line before.lines ReadyLast Closing (λ ended more. refl) (λ ended. refl) (λ ended. refl) now answer out)
 
-  pub step-close : (before now : LineFiltering M) (out : List ℕ) → before.phase ≡ Closing → before.behind ≡ [] → out ≡ rules.closing before.machine → now ≡ record before { phase = Closed }
+  pub step-close : (before now : LineFiltering M) (out : List ℕ) → before.phase ≡ Closing → before.behind ≡ None → out ≡ rules.closing before.machine → now ≡ record before { phase = Closed }
       → NextPiece (line_future rules before) (Ok true) out (line_future rules now)
   step-close before now out is none same then =
       subst (λ (n : LineFiltering M). NextPiece (line_future rules before) (Ok true) out (line_future rules n)) (sym then)
@@ -346,9 +351,9 @@ module _ {M : Type 0} (rules : LineRules M) where
   unfolding NextPiece
   step-none before now out same = ap (line_future rules) same
 
-  pub step-idle : (work : LineFiltering M) → pieces_of work.phase ≡ 0 → work.behind ≡ [] → IsIdle (is_ended_phase work.phase) (line_future rules work)
+  pub step-idle : (work : LineFiltering M) → pieces_of work.phase ≡ 0 → work.behind ≡ None → IsIdle (is_ended_phase work.phase) (line_future rules work)
   step-idle work none empty =
-      subst (λ (b : List ℕ). IsIdle (is_ended_phase work.phase) (line_future rules (line_filtering work.machine work.line work.lines b work.phase))) (sym empty)
+      subst (λ (b : Option (List ℕ)). IsIdle (is_ended_phase work.phase) (line_future rules (line_filtering work.machine work.line work.lines b work.phase))) (sym empty)
       (working-idle work.machine work.line work.lines work.phase none)
 
   pub step-done : (work : LineFiltering M) → is_ended_phase work.phase ≡ true → pieces_of work.phase ≡ 0 → (ended : Bool) (more : List ℕ)

@@ -11,16 +11,20 @@ pub record LineRules (M : Type 0) : Type 0 where
   pub closing : M → List ℕ
   pub wants : Bool
 
+-- a text in two pieces, of which the second may be missing
+abbrev pub both_pieces : List ℕ → Option (List ℕ) → List ℕ
+both_pieces first None = first
+both_pieces first (Some second) = first ++ second
+
 -- a line has no fault, and memory may be wanting for it
 abbrev pub IsWanting : {M : Type 0} → LineRules M → M → List ℕ → Type 0
 IsWanting rules machine line = (rules.wants ≡ true) × IsOk (rules.take machine line)
 
--- a line was taken, and the text for it given out in two pieces, of which the second may be empty; or it was not, the machine is as it was
--- and there is no second piece
-abbrev pub IsLineTaken : {M : Type 0} → LineRules M → M → List ℕ → Result (Unit {0}) LineRefusal → List ℕ → List ℕ → M → Type 0
-IsLineTaken rules machine line (Ok taken) out behind now = rules.take machine line ≡ Ok (now, out ++ behind)
-IsLineTaken rules machine line (Err Memory) out behind now = (now ≡ machine) × (behind ≡ []) × IsWanting rules machine line
-IsLineTaken rules machine line (Err (Fault fault)) out behind now = (now ≡ machine) × (behind ≡ []) × (rules.take machine line ≡ Err fault)
+-- a line was taken, and the text for it given out in one piece or two; or it was not, and the machine is as it was
+abbrev pub IsLineTaken : {M : Type 0} → LineRules M → M → List ℕ → Result (Option (List ℕ)) LineRefusal → List ℕ → M → Type 0
+IsLineTaken rules machine line (Ok second) out now = rules.take machine line ≡ Ok (now, both_pieces out second)
+IsLineTaken rules machine line (Err Memory) out now = (now ≡ machine) × IsWanting rules machine line
+IsLineTaken rules machine line (Err (Fault fault)) out now = (now ≡ machine) × (rules.take machine line ≡ Err fault)
 
 -- what came of lines, up to the first that is refused: the texts for them, the machine after them, and the refusal with its number
 pub record LinesTaken (M : Type 0) : Type 0 where

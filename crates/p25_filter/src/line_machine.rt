@@ -1,6 +1,6 @@
 //! What a command makes of the lines of its input, one after the other.
 
-ghost use Rattle.std.specs.Prelude.{◌≡◌, ℕ, ◌<◌, List, [], length, Err};
+ghost use Rattle.std.specs.Prelude.{◌≡◌, ℕ, ◌<◌, List, length, Err};
 ghost use Rattle.p25_line.specs.declared.fault.LineFault.TheVariants.{Long};
 ghost use Rattle.p25_filter.specs.LineRules.{IsLineTaken, LineRules};
 
@@ -25,12 +25,11 @@ pub trait LineMachine {
     // What the machine answers to a line, what it writes at the end of the input, and whether memory may be wanting for a line.
     ghost rules: { LineRules Self };
 
-    /// Takes a line, without the LF that ends it. Sets `out` to the text for it, or to the first of the two pieces of the text;
-    /// then `behind`, which is empty before, becomes the second. Or answers why the line is not taken, and the machine and `behind`
-    /// are as before; memory is wanting only where it may be, and for a line without a fault.
-    fn take(&mut self, line: &[u8], out: &mut Line, behind: &mut Line) -> Result<(), LineRefusal>
-        requires { behind.old ≡ [] }
-        ensures { IsLineTaken rules self.old line.now result out.new behind.new self.new };
+    /// Takes a line, without the LF that ends it. Sets `out` to the text for it, or to the first of the two pieces of the text,
+    /// and answers the second piece where there is one. Or answers why the line is not taken, and the machine is as before;
+    /// memory is wanting only where it may be, and for a line without a fault.
+    fn take(&mut self, line: &[u8], out: &mut Line) -> Result<Option<Line>, LineRefusal>
+        ensures { IsLineTaken rules self.old line.now result out.new self.new };
 
     /// Sets `out` to what is written at the end of the input.
     fn close(&self, out: &mut Line)

@@ -15,7 +15,7 @@ impl LineMachine for Echo {
 
     ghost rules = { echo_rules };
 
-    fn take(&mut self, line: &[u8], out: &mut Line, _behind: &mut Line) -> Result<(), LineRefusal> {
+    fn take(&mut self, line: &[u8], out: &mut Line) -> Result<Option<Line>, LineRefusal> {
         if line.len() > 8_192 {
             return Err(LineRefusal::Fault(LineFault::Long));
         }
@@ -24,7 +24,7 @@ impl LineMachine for Echo {
         }
         out.clear();
         out.put(line);
-        Ok(())
+        Ok(None)
     }
 
     fn close(&self, out: &mut Line) {

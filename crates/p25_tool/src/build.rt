@@ -24,10 +24,10 @@ impl LineMachine for Build {
 
     ghost long = { build_long };
 
-    fn take(&mut self, line: &[u8], out: &mut Line, _behind: &mut Line) -> Result<(), LineRefusal> {
+    fn take(&mut self, line: &[u8], out: &mut Line) -> Result<Option<Line>, LineRefusal> {
         let unit = read_line(line).map_err(LineRefusal::Fault)?;
         put_image(unit, self.status, out);
-        Ok(())
+        Ok(None)
     }
 
     fn close(&self, out: &mut Line) {

@@ -1,6 +1,6 @@
 //! The work of `stations`, `fragments` and `duplex`: each line of the input as the event of a world of stations that it tells of.
 
-ghost use Rattle.std.specs.Prelude.{◌≡◌, []};
+ghost use Rattle.std.specs.{Prelude.{◌≡◌, None}, Result.{result_map_both}};
 ghost use Rattle.p25_filter.specs.LineRules.{IsLineTaken};
 ghost use Rattle.p25_tool.specs.{Machines.{DuplexAt, LongAt, script_rules}, Outputs.{duplex_closing_lines}};
 
@@ -42,16 +42,19 @@ impl LineMachine for Script {
 
     ghost long = { script_long };
 
-    fn take(&mut self, line: &[u8], out: &mut Line, behind: &mut Line) -> Result<(), LineRefusal> {
+    fn take(&mut self, line: &[u8], out: &mut Line) -> Result<Option<Line>, LineRefusal> {
         match &mut self.0 {
             ScriptWorld::Stations(world) => {
                 let event = read_event(line).map_err(LineRefusal::Fault)?;
                 step_text(&world.step(&event).map_err(|_| LineRefusal::Memory)?, out);
                 out.put(b"\n");
-                Ok(())
+                Ok(None)
             }
-            ScriptWorld::Long(world) => take_long(world, line, out, behind),
-            ScriptWorld::Duplex(world) => take_duplex(world, line, out),
+            ScriptWorld::Long(world) => take_long(world, line, out),
+            ScriptWorld::Duplex(world) => {
+                take_duplex(world, line, out)?;
+                Ok(None)
+            }
         }
     }
 
@@ -71,21 +74,20 @@ fn take_long(
     world: &mut LongWorld,
     line: &[u8],
     out: &mut Line,
-    behind: &mut Line,
-) -> Result<(), LineRefusal>
-    requires { behind.old ≡ [] }
-    ensures { IsLineTaken script_rules (LongAt world.old.state) line.now result out.new behind.new (LongAt world.new.state) }
+) -> Result<Option<Line>, LineRefusal>
+    ensures { IsLineTaken script_rules (LongAt world.old.state) line.now result out.new (LongAt world.new.state) }
 {
     let event = read_long_event(line).map_err(LineRefusal::Fault)?;
     let step = world.step(&event).map_err(|_| LineRefusal::Memory)?;
-    long_step_text(&step, out, behind);
-    Ok(())
+    let mut behind = Line::new();
+    long_step_text(&step, out, &mut behind);
+    Ok(Some(behind))
 }
 
-// Takes a line of `duplex`.
+// Takes a line of `duplex`. Its text is one piece.
 #[inline(never)]
 fn take_duplex(world: &mut DuplexWorld, line: &[u8], out: &mut Line) -> Result<(), LineRefusal>
-    ensures { IsLineTaken script_rules (DuplexAt world.old.state) line.now result out.new [] (DuplexAt world.new.state) }
+    ensures { IsLineTaken script_rules (DuplexAt world.old.state) line.now (result_map_both (λ taken. None) (λ refusal. refusal) result) out.new (DuplexAt world.new.state) }
 {
     let event = read_duplex_event(line).map_err(LineRefusal::Fault)?;
     duplex_step_text(&world.step(&event).map_err(|_| LineRefusal::Memory)?, out);

@@ -1,16 +1,16 @@
-use Rattle.std.proofs.Common.{◌≡◌, true, [], Ok, ap, sym, subst, ◌∙◌}
+use Rattle.std.proofs.Common.{◌≡◌, true, None, Ok, ap, sym, subst, ◌∙◌}
 use Rattle.p25_filter.specs.{declared.line_filter.LinePhase.TheVariants.{Closed}, Futures.{NextPiece}, LineFilters.{LineFiltering, line_future, pieces_of}}
 use Rattle.p25_filter.proofs.LineFiltersLaws.{step-behind, step-close, step-idle, step-last, step-line, step-none}
 use Rattle.p25_filter.proofs.line_filter.LineFilterFilter.next.Goals as goal
 
 -- with no second piece the work is as it was
-unchanged : {M : Type 0} (was before : LineFiltering M) (P : LineFiltering M → Type 0) → (was.behind ≡ []) × (before ≡ was) → (before.behind ≡ [] → P before) → P was
+unchanged : {M : Type 0} (was before : LineFiltering M) (P : LineFiltering M → Type 0) → (was.behind ≡ None) × (before ≡ was) → (before.behind ≡ None → P before) → P was
 unchanged was before P (none, same) holds = subst P same (holds (ap (λ w. w.behind) same ∙ none))
 
 pub returns-then-give_behind-clause-piece : goal.returns-then-give_behind-clause-piece
 returns-then-give_behind-clause-piece g c =
     let given = c.give_behind.ensures.given c.if-give_behind.true in
-    step-behind g.M.LineMachine.rules c.args.self.now c.give_behind.new.self c.give_behind.new.out given.0 given.2
+    step-behind g.M.LineMachine.rules c.args.self.now c.give_behind.new.self c.give_behind.new.out given.0 given.1
 
 pub returns-in-Reading-clause-piece : goal.returns-in-Reading-clause-piece
 returns-in-Reading-clause-piece g c = step-none g.M.LineMachine.rules _ _ _ (c.give_behind.ensures.none c.if-give_behind.false).1
