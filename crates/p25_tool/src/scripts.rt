@@ -87,7 +87,8 @@ fn take_long(
 // Takes a line of `duplex`. Its text is one piece.
 #[inline(never)]
 fn take_duplex(world: &mut DuplexWorld, line: &[u8], out: &mut Line) -> Result<(), LineRefusal>
-    ensures { IsLineTaken script_rules (DuplexAt world.old.state) line.now (result_map_both (λ taken. None) (λ refusal. refusal) result) out.new (DuplexAt world.new.state) }
+    ensures { IsLineTaken script_rules (DuplexAt world.old.state) line.now (result_map_both (λ taken. None) (λ refusal. refusal) result) out.new
+        (DuplexAt world.new.state) }
 {
     let event = read_duplex_event(line).map_err(LineRefusal::Fault)?;
     duplex_step_text(&world.step(&event).map_err(|_| LineRefusal::Memory)?, out);
