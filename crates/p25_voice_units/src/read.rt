@@ -2,6 +2,7 @@
 
 ghost use Rattle.std.specs.Prelude.{◌≡◌, ◌⊎◌, ◌+◌, ◌*◌, ◌/◌, ◌<◌, ◌≤◌, ◌++◌, All, Bool, List, Some, IfErr, IfSome, length, option_map, slice_index, ℕ};
 ghost use Rattle.p25_gf64.specs.declared.symbol.Sym.{Sym as symbol};
+ghost use Rattle.p25_bch_nid.specs.Duids.{duid_ldu1, duid_ldu2};
 ghost use Rattle.p25_hamming.specs.Hamming10Laws.{hamming10_reading_of};
 ghost use Rattle.p25_reed_solomon.specs.{Encoding.{rs_word}, Words.{IsCode}, RsReadings.{rs_erased_reading_of}};
 ghost use Rattle.p25_coded_fields.specs.{Fixes.{field_fixes_of}, Layouts.{field_layout, field_reading_of}, Written.{Encodes}};
@@ -181,7 +182,7 @@ fn read_tdulc(bare: &BitBuf, unit: &mut VoiceUnit) -> Outcome
 
 // Sets `unit` to a logical link data unit: by its data unit identifier (DUID) an LDU1 or an LDU2.
 fn read_logical_link(duid: u8, bare: &BitBuf, unit: &mut VoiceUnit) -> Outcome
-    requires kind { (duid ≡ 5) ⊎ (duid ≡ 10) }
+    requires kind { (duid ≡ duid_ldu1) ⊎ (duid ≡ duid_ldu2) }
     requires there { 1680 ≤ length bare.now }
     ensures value { read_or result unit.new ≡ voice_reading_of duid bare.now }
     ensures wrong { IfRead result (λ wrong. AreFixes unit.new bare.now wrong) }

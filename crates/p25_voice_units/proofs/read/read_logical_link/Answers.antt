@@ -1,4 +1,5 @@
 use Rattle.std.proofs.Common.{◌≡◌, ◌⊎◌, inl, inr, ℕ}
+use Rattle.p25_bch_nid.specs.Duids.{duid_ldu1, duid_ldu2}
 use Rattle.p25_link.specs.Words.{link_symbols, link_of_symbols, sync_symbols, sync_of_symbols}
 use Rattle.p25_status.specs.declared.fields.Field.TheVariants.{LinkControl as LinkField, EncryptionSync as SyncField}
 use Rattle.p25_voice_units.specs.declared.unit.VoiceUnit.TheVariants.{Link1, Link2}
@@ -6,7 +7,7 @@ use Rattle.p25_voice_units.proofs.{LinkUnitsLaws.{AreParts, ldu1_kind, ldu2_kind
 use Rattle.p25_voice_units.proofs.read.read_logical_link.Goals as goal
 
 -- the kind that is not the first is the second
-second_kind : (duid : ℕ) → (duid ≡ 5) ⊎ (duid ≡ 10) → (duid ≡ 5 → ⊥) → duid ≡ 10
+second_kind : (duid : ℕ) → (duid ≡ duid_ldu1) ⊎ (duid ≡ duid_ldu2) → (duid ≡ duid_ldu1 → ⊥) → duid ≡ duid_ldu2
 second_kind duid (inl first) other = absurd (other first)
 second_kind duid (inr second) other = second
 
@@ -19,7 +20,7 @@ returns-then-duid-eq-LDU1-2 c =
           rw (w.outcome-is, w.link-is, w.low-is) (record { value = read.value; wrong = read.wrong; most = read.most })
       | else-duid-eq-LDU1 w ↦ absurd (w.if-duid-eq-LDU1.false c.if-duid-eq-LDU1-2.true)
     ] in
-    let read = kind_read 5 12 LinkField Link1 link_symbols link_of_symbols ldu1_kind c.args.bare.now join.link join.low join.outcome c.from_symbols-link.result c.read_frames-voice.result
+    let read = kind_read duid_ldu1 12 LinkField Link1 link_symbols link_of_symbols ldu1_kind c.args.bare.now join.link join.low join.outcome c.from_symbols-link.result c.read_frames-voice.result
     c.args.duid c.if-duid-eq-LDU1-2.true c.requires.there parts c.from_symbols-link.ensures c.read_frames-voice.ensures in
     record { value = read.value; wrong = read.wrong; most = read.most }
 
@@ -33,7 +34,7 @@ returns-else-duid-eq-LDU1-2 c =
           rw (w.outcome-is, w.sync-is, w.low-is) (record { value = read.value; wrong = read.wrong; most = read.most })
     ] in
     let second = second_kind c.args.duid c.requires.kind c.if-duid-eq-LDU1-2.false in
-    let read = kind_read 10 16 SyncField Link2 sync_symbols sync_of_symbols ldu2_kind c.args.bare.now join.sync join.low join.outcome c.from_symbols-sync.result c.read_frames-voice.result
+    let read = kind_read duid_ldu2 16 SyncField Link2 sync_symbols sync_of_symbols ldu2_kind c.args.bare.now join.sync join.low join.outcome c.from_symbols-sync.result c.read_frames-voice.result
     c.args.duid second c.requires.there parts c.from_symbols-sync.ensures c.read_frames-voice.ensures in
     record { value = read.value; wrong = read.wrong; most = read.most }
 
@@ -44,11 +45,11 @@ returns-in_default-clause-value c =
     elim c.if-duid-eq-LDU1.branch [
       | then-duid-eq-LDU1 w ↦
           let read = w.read_ldu-outcome.ensures in
-          kind_fails 5 12 LinkField Link1 link_symbols link_of_symbols ldu1_kind c.args.bare.now join.link join.low join.outcome fails.field-0 c.args.unit.now
+          kind_fails duid_ldu1 12 LinkField Link1 link_symbols link_of_symbols ldu1_kind c.args.bare.now join.link join.low join.outcome fails.field-0 c.args.unit.now
           c.args.duid w.if-duid-eq-LDU1.true (rw (w.outcome-is, w.link-is, w.low-is) (record { value = read.value; wrong = read.wrong; most = read.most })) fails.is
       | else-duid-eq-LDU1 w ↦
           let read = w.read_ldu-outcome-else-duid-eq-LDU1.ensures in
           let second = second_kind c.args.duid c.requires.kind w.if-duid-eq-LDU1.false in
-          kind_fails 10 16 SyncField Link2 sync_symbols sync_of_symbols ldu2_kind c.args.bare.now join.sync join.low join.outcome fails.field-0 c.args.unit.now
+          kind_fails duid_ldu2 16 SyncField Link2 sync_symbols sync_of_symbols ldu2_kind c.args.bare.now join.sync join.low join.outcome fails.field-0 c.args.unit.now
           c.args.duid second (rw (w.outcome-is, w.sync-is, w.low-is) (record { value = read.value; wrong = read.wrong; most = read.most })) fails.is
     ]
