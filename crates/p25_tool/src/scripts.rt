@@ -13,6 +13,7 @@ use p25_script::{
     read_duplex_event, read_event, read_long_event, step_text,
 };
 use p25_stations::World;
+use std::alloc::AllocError;
 use std::marker::Model;
 
 // The world in which the events of a script happen.
@@ -68,7 +69,7 @@ impl LineMachine for Script {
     }
 }
 
-// Takes a line of `fragments`. What it holds is large: so it is apart from its caller, as that of `duplex` is.
+// Takes a line of `fragments`. An event and its step are large: so they are apart from those of other scripts, and are not moved.
 #[inline(never)]
 fn take_long(
     world: &mut LongWorld,
@@ -77,11 +78,17 @@ fn take_long(
 ) -> Result<Option<Line>, LineRefusal>
     ensures { IsLineTaken script_rules (LongAt world.old.state) line.now result out.new (LongAt world.new.state) }
 {
-    let event = read_long_event(line).map_err(LineRefusal::Fault)?;
-    let step = world.step(&event).map_err(|_| LineRefusal::Memory)?;
-    let mut behind = Line::new();
-    long_step_text(&step, out, &mut behind);
-    Ok(Some(behind))
+    match &read_long_event(line) {
+        Err(fault) => Err(LineRefusal::Fault(*fault)),
+        Ok(event) => match &world.step(event) {
+            Err(AllocError) => Err(LineRefusal::Memory),
+            Ok(step) => {
+                let mut behind = Line::new();
+                long_step_text(step, out, &mut behind);
+                Ok(Some(behind))
+            }
+        },
+    }
 }
 
 // Takes a line of `duplex`. Its text is one piece.
@@ -90,10 +97,17 @@ fn take_duplex(world: &mut DuplexWorld, line: &[u8], out: &mut Line) -> Result<(
     ensures { IsLineTaken script_rules (DuplexAt world.old.state) line.now (result_map_both (λ taken. None) (λ refusal. refusal) result) out.new
         (DuplexAt world.new.state) }
 {
-    let event = read_duplex_event(line).map_err(LineRefusal::Fault)?;
-    duplex_step_text(&world.step(&event).map_err(|_| LineRefusal::Memory)?, out);
-    out.put(b"\n");
-    Ok(())
+    match &read_duplex_event(line) {
+        Err(fault) => Err(LineRefusal::Fault(*fault)),
+        Ok(event) => match &world.step(event) {
+            Err(_) => Err(LineRefusal::Memory),
+            Ok(step) => {
+                duplex_step_text(step, out);
+                out.put(b"\n");
+                Ok(())
+            }
+        },
+    }
 }
 
 // Sets `out` to the lines that close a run: one of each side, and one with the number of false passes.
