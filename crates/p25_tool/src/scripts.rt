@@ -2,7 +2,7 @@
 
 ghost use Rattle.std.specs.{Prelude.{◌≡◌, None}, Result.{result_map_both}};
 ghost use Rattle.p25_filter.specs.LineRules.{IsLineTaken};
-ghost use Rattle.p25_tool.specs.{Machines.{DuplexAt, LongAt, script_rules}, Outputs.{duplex_closing_lines}};
+ghost use Rattle.p25_tool.specs.{Machines.{DuplexAt, LongAt, StationsAt, script_rules}, Outputs.{duplex_closing_lines}};
 
 use p25_duplex::{DuplexWorld, Side};
 use p25_filter::{LineMachine, LineRefusal};
@@ -13,7 +13,6 @@ use p25_script::{
     read_duplex_event, read_event, read_long_event, step_text,
 };
 use p25_stations::World;
-use std::alloc::AllocError;
 use std::marker::Model;
 
 // The world in which the events of a script happen.
@@ -46,9 +45,7 @@ impl LineMachine for Script {
     fn take(&mut self, line: &[u8], out: &mut Line) -> Result<Option<Line>, LineRefusal> {
         match &mut self.0 {
             ScriptWorld::Stations(world) => {
-                let event = read_event(line).map_err(LineRefusal::Fault)?;
-                step_text(&world.step(&event).map_err(|_| LineRefusal::Memory)?, out);
-                out.put(b"\n");
+                take_event(world, line, out)?;
                 Ok(None)
             }
             ScriptWorld::Long(world) => take_long(world, line, out),
@@ -69,7 +66,19 @@ impl LineMachine for Script {
     }
 }
 
-// Takes a line of `fragments`. An event and its step are large: so they are apart from those of other scripts, and are not moved.
+// Takes a line of `stations`. Events and steps are large: so those of a script are apart from those of the others.
+#[inline(never)]
+fn take_event(world: &mut World, line: &[u8], out: &mut Line) -> Result<(), LineRefusal>
+    ensures { IsLineTaken script_rules (StationsAt world.old.state) line.now (result_map_both (λ taken. None) (λ refusal. refusal) result) out.new
+        (StationsAt world.new.state) }
+{
+    let event = read_event(line).map_err(LineRefusal::Fault)?;
+    step_text(&world.step(&event).map_err(|_| LineRefusal::Memory)?, out);
+    out.put(b"\n");
+    Ok(())
+}
+
+// Takes a line of `fragments`.
 #[inline(never)]
 fn take_long(
     world: &mut LongWorld,
@@ -78,17 +87,11 @@ fn take_long(
 ) -> Result<Option<Line>, LineRefusal>
     ensures { IsLineTaken script_rules (LongAt world.old.state) line.now result out.new (LongAt world.new.state) }
 {
-    match &read_long_event(line) {
-        Err(fault) => Err(LineRefusal::Fault(*fault)),
-        Ok(event) => match &world.step(event) {
-            Err(AllocError) => Err(LineRefusal::Memory),
-            Ok(step) => {
-                let mut behind = Line::new();
-                long_step_text(step, out, &mut behind);
-                Ok(Some(behind))
-            }
-        },
-    }
+    let event = read_long_event(line).map_err(LineRefusal::Fault)?;
+    let step = world.step(&event).map_err(|_| LineRefusal::Memory)?;
+    let mut behind = Line::new();
+    long_step_text(&step, out, &mut behind);
+    Ok(Some(behind))
 }
 
 // Takes a line of `duplex`. Its text is one piece.
