@@ -1,13 +1,13 @@
 -- How the work on lines goes on: octets come, a line is taken, a piece is given, the input ends. A line that is too long is
 -- refused whatever its octets are, so what is kept of it serves as well as all of it: by induction on the octets that come.
-use Rattle.std.proofs.Common.{◌≡◌, ℕ, ◌+◌, ◌<◌, ◌≤◌, ◌-◌, min, Bool, true, false, cond, nat_eq, nat_lt, List, [], ◌∷◌, ◌++◌, length, take, Option, Some, None, Result, Ok, Err, refl, ap, ap₂, sym, subst, ◌∙◌, arith, append_assoc, append-nil, length-append, length-take}
+use Rattle.std.proofs.Common.{◌≡◌, ℕ, ◌+◌, ◌<◌, ◌≤◌, ◌-◌, min, Bool, true, false, cond, nat_eq, nat_lt, List, [], ◌∷◌, ◌++◌, length, take, Some, Result, Ok, Err, refl, ap, ap₂, sym, subst, ◌∙◌, arith, append_assoc, append-nil, length-append, length-take}
 use Rattle.std.proofs.{lemmas.List.{take_all, take_min}, Math.Seq.{take-append-add}, lemmas.Bool.Decides.{nat_tests}, lemmas.Bool.{cond-true, lt-ltb}}
 use Rattle.std.specs.{Prelude.{Contains, is_ok}, List.{concat}}
 use Rattle.p25_line.specs.declared.{fault.LineFault.{LineFault}, fault.LineFault.TheVariants.{Long}}
 use Rattle.p25_filter.specs.{declared.ending.Ending.{Ending}, declared.ending.Ending.TheVariants.{BadLine, Done}, declared.ending.Refusal.{Refusal}}
 use Rattle.p25_filter.specs.{declared.ending.Refusal.TheVariants.{Ended, Memory}, declared.line_filter.LinePhase.{LinePhase}}
 use Rattle.p25_filter.specs.{declared.line_filter.LinePhase.TheVariants.{Reading, Ready, ReadyLast, Closing, Closed}, Futures.{IsClosed, IsIdle, IsPausing, IsRefusedBy, NextPiece, Progress}}
-use Rattle.p25_filter.specs.{Lines.{closing_by, each_behind, lines_ending, lines_in, texts_before}, LineRules.{LineRules, LinesTaken, both_pieces, first_taken, lines_taken, written_for}}
+use Rattle.p25_filter.specs.{Lines.{closing_by, each_behind, lines_ending, lines_in, texts_before}, LineRules.{LineRules, LinesTaken, first_taken, lines_taken, with_second, written_for}}
 use Rattle.p25_filter.specs.LineFilters.{IsLineGiven, IsTextGiven, LineFiltering, closes_with, ends_with, is_ended_phase, line_future, line_filtering, lines_left, pieces_of, taken_from}
 use Rattle.p25_filter.proofs.LinesLaws.{Contains-here, Contains-later, Contains-none, each_behind-from, each_behind-in, lines_in-end, lines_in-part, octets_before}
 
@@ -31,11 +31,6 @@ is_closed ReadyLast none ended = absurd (omega arith)
 is_closed Closing none ended = absurd (omega arith)
 is_closed Closed none ended = refl
 is_closed phase none ended = cc
-
--- two pieces and what follows them
-pieces-append : (out : List ℕ) (behind : Option (List ℕ)) (more : List ℕ) → both_pieces out behind ++ more ≡ out ++ (both_pieces [] behind ++ more)
-pieces-append out None more = refl
-pieces-append out (Some second) more = append_assoc out second more
 
 -- what is the same of all lists of lines with a first line that is too long is the same whatever that line is
 module _ {X : Type 0} (f : List (List ℕ) → X) (x : X) (first : (line : List ℕ) (lines : List (List ℕ)) → 8192 < length line → f (line ∷ lines) ≡ x) where
@@ -75,6 +70,11 @@ module _ {X : Type 0} (f : List (List ℕ) → X) (x : X) (first : (line : List 
   kept-first line lines = either (λ l. f (l ∷ lines)) line (λ also long. first line lines long ∙ sym (first (take 8193 line) lines also))
 
 module _ {M : Type 0} (rules : LineRules M) where
+  -- a text in one piece or two, and what follows it
+  with_second-append : (machine : M) (more : Bool) (out rest : List ℕ) → with_second rules machine more out ++ rest ≡ out ++ (with_second rules machine more [] ++ rest)
+  with_second-append machine false out rest = refl
+  with_second-append machine true out rest = append_assoc out (rules.second machine) rest
+
   -- what comes of lines, by what comes of the first
   taken-first : (number : ℕ) (machine : M) (line : List ℕ) (lines : List (List ℕ)) (is : Result (M × List ℕ) LineFault) → rules.take machine line ≡ is
       → lines_taken rules.take number machine (line ∷ lines) ≡ first_taken number machine (λ next. lines_taken rules.take (number + 1) next lines) is
@@ -82,20 +82,20 @@ module _ {M : Type 0} (rules : LineRules M) where
   taken-first number machine line lines is same = ap (first_taken number machine (λ next. lines_taken rules.take (number + 1) next lines)) same
 
   -- the texts after which memory may be wanting
-  abbrev pub pauses_of : Option (List ℕ) → LinesTaken M → List (List ℕ)
-  pauses_of behind taken = cond rules.wants (each_behind (both_pieces [] behind) (texts_before taken.texts)) []
+  abbrev pub pauses_of : M → Bool → LinesTaken M → List (List ℕ)
+  pauses_of machine behind taken = cond rules.wants (each_behind (with_second rules machine behind []) (texts_before taken.texts)) []
 
   -- octets come, and of the lines that are left comes what came of those that were
-  comes : (machine : M) (lines : ℕ) (behind : Option (List ℕ)) (octets line then : List ℕ) (next : LinePhase)
+  comes : (machine : M) (lines : ℕ) (behind : Bool) (octets line then : List ℕ) (next : LinePhase)
       → ((ended : Bool) (more : List ℕ) → lines_taken rules.take (lines + 1) machine (lines_in ended line (octets ++ more))
       ≡ lines_taken rules.take (lines + 1) machine (lines_left next then ended more))
       → ((ended : Bool) → ended ≡ closes_with next ended) → ((ended : Bool) → ended ≡ ends_with next ended)
       → Progress (line_future rules (line_filtering machine line lines behind Reading)) octets [] (line_future rules (line_filtering machine then lines behind next))
   unfolding line_future
   comes machine lines behind octets line then next left closes ends = record {
-    writes = λ ended more. ap₂ (λ (b : Bool) (t : LinesTaken M). both_pieces [] behind ++ written_for rules b t) (closes ended) (left ended more);
+    writes = λ ended more. ap₂ (λ (b : Bool) (t : LinesTaken M). with_second rules machine behind [] ++ written_for rules b t) (closes ended) (left ended more);
     ends = λ ended more. ap₂ (λ (b : Bool) (t : LinesTaken M). lines_ending b t.refusal) (ends ended) (left ended more);
-    pauses = λ ended more pause is. subst (λ (t : LinesTaken M). Contains (pauses_of behind t) pause) (sym (left ended more)) is;
+    pauses = λ ended more pause is. subst (λ (t : LinesTaken M). Contains (pauses_of machine behind t) pause) (sym (left ended more)) is;
   }
 
   -- what holds while a line is read holds of work before an octet
@@ -158,25 +158,25 @@ module _ {M : Type 0} (rules : LineRules M) where
         (λ ended. refl) (λ ended. refl))
 
   -- the steps of `finish`: the input ends after a line that has begun, or none
-  working-finish : (machine : M) (line : List ℕ) (lines : ℕ) (behind : Option (List ℕ)) → 0 < length line
+  working-finish : (machine : M) (line : List ℕ) (lines : ℕ) (behind : Bool) → 0 < length line
       → IsClosed (line_future rules (line_filtering machine line lines behind Reading)) (line_future rules (line_filtering machine line lines behind ReadyLast))
   unfolding line_future lines_in
   working-finish machine line lines behind some =
       let last : cond (nat_lt 0 (length line)) (line ∷ []) [] ≡ line ∷ [] = cond-true (nat_lt 0 (length line)) (line ∷ []) [] (lt-ltb 0 (length line) some) in
       let same = ap (lines_taken rules.take (lines + 1) machine) (sym last) in
       record {
-        writes = λ ended more. ap (λ (t : LinesTaken M). both_pieces [] behind ++ written_for rules true t) same;
+        writes = λ ended more. ap (λ (t : LinesTaken M). with_second rules machine behind [] ++ written_for rules true t) same;
         ends = λ ended more. ap (λ (t : LinesTaken M). lines_ending true t.refusal) same;
-        pauses = λ ended more. ap (pauses_of behind) same;
+        pauses = λ ended more. ap (pauses_of machine behind) same;
       }
 
-  working-finish_none : (machine : M) (line : List ℕ) (lines : ℕ) (behind : Option (List ℕ)) → length line ≡ 0
+  working-finish_none : (machine : M) (line : List ℕ) (lines : ℕ) (behind : Bool) → length line ≡ 0
       → IsClosed (line_future rules (line_filtering machine line lines behind Reading)) (line_future rules (line_filtering machine line lines behind Closing))
   unfolding line_future lines_in
   working-finish_none machine [] lines behind none = record { writes = λ ended more. refl; ends = λ ended more. refl; pauses = λ ended more. refl }
   working-finish_none machine (octet ∷ line) lines behind none = absurd (omega arith)
 
-  module _ (machine : M) (line : List ℕ) (lines : ℕ) (behind : Option (List ℕ)) (phase : LinePhase) (none : pieces_of phase ≡ 0) (going : is_ended_phase phase ≡ false) where
+  module _ (machine : M) (line : List ℕ) (lines : ℕ) (behind : Bool) (phase : LinePhase) (none : pieces_of phase ≡ 0) (going : is_ended_phase phase ≡ false) where
     abbrev pub closes-as : LinePhase → Type 0
     closes-as next = IsClosed (line_future rules (line_filtering machine line lines behind phase)) (line_future rules (line_filtering machine line lines behind next))
 
@@ -191,12 +191,14 @@ module _ {M : Type 0} (rules : LineRules M) where
         phase none going (working-finish_none machine line lines behind empty)
 
   -- the steps of `next`: a second piece is given
-  pub step-behind : (before now : LineFiltering M) (out : List ℕ) → before.behind ≡ Some out → now ≡ record before { behind = None }
-      → NextPiece (line_future rules before) (Ok true) out (line_future rules now)
+  pub step-behind : (before now : LineFiltering M) (out : List ℕ) → before.behind ≡ true → out ≡ rules.second before.machine
+      → now ≡ record before { behind = false } → NextPiece (line_future rules before) (Ok true) out (line_future rules now)
   unfolding NextPiece line_future
-  step-behind before now out same is =
+  step-behind before now out there same is =
+      let second = rules.second before.machine in
       subst (λ (n : LineFiltering M). Progress (line_future rules before) [] out (line_future rules n)) (sym is)
-      (subst (λ (b : Option (List ℕ)). Progress (line_future rules (record before { behind = b })) [] out (line_future rules (record before { behind = None }))) (sym same)
+      (subst (λ (o : List ℕ). Progress (line_future rules before) [] o (line_future rules (record before { behind = false }))) (sym same)
+      (subst (λ (b : Bool). Progress (line_future rules (record before { behind = b })) [] second (line_future rules (record before { behind = false }))) (sym there)
       (record {
         writes = λ ended more. refl;
         ends = λ ended more. refl;
@@ -204,13 +206,13 @@ module _ {M : Type 0} (rules : LineRules M) where
             let texts = texts_before (taken_from rules before ended more).texts in
             let now_there = when_wanting rules.wants _ pause there in
             let part = each_behind-from [] texts pause now_there.1 in
-            wanting rules.wants _ (out ++ pause) now_there.0
-            (each_behind-in out texts pause (subst (λ (zs : List ℕ). Contains texts zs) part.2 part.1));
-      }))
+            wanting rules.wants _ (second ++ pause) now_there.0
+            (each_behind-in second texts pause (subst (λ (zs : List ℕ). Contains texts zs) part.2 part.1));
+      })))
 
   -- what is written at the end is given
   working-close : (machine : M) (line : List ℕ) (lines : ℕ)
-      → NextPiece (line_future rules (line_filtering machine line lines None Closing)) (Ok true) (rules.closing machine) (line_future rules (line_filtering machine line lines None Closed))
+      → NextPiece (line_future rules (line_filtering machine line lines false Closing)) (Ok true) (rules.closing machine) (line_future rules (line_filtering machine line lines false Closed))
   unfolding NextPiece line_future written_for texts_before each_behind lines_taken
   working-close machine line lines = record {
     writes = λ ended more. sym (append-nil (rules.closing machine));
@@ -238,35 +240,35 @@ module _ {M : Type 0} (rules : LineRules M) where
     before-left ended more then text is = ap (λ (t : LinesTaken M). texts_before t.texts) (left-first ended more (Ok (then, text)) is)
 
     -- a line that is there was taken, and the first piece of its text is given
-    text-given : (then : M) (out : List ℕ) (behind : Option (List ℕ)) → rules.take machine line ≡ Ok (then, both_pieces out behind)
-        → Progress (line_future rules (line_filtering machine line lines None phase)) [] out (line_future rules (line_filtering then [] (lines + 1) behind next))
+    text-given : (then : M) (out : List ℕ) (behind : Bool) → rules.take machine line ≡ Ok (then, with_second rules then behind out)
+        → Progress (line_future rules (line_filtering machine line lines false phase)) [] out (line_future rules (line_filtering then [] (lines + 1) behind next))
     unfolding line_future written_for
     text-given then out behind is = record {
       writes = λ ended more.
           let after = rest-left ended more then in
-          ap (written_for rules (closes_with phase ended)) (left-first ended more (Ok (then, both_pieces out behind)) is)
-          ∙ append_assoc (both_pieces out behind) (concat after.texts) (closing_by (closes_with phase ended) after.refusal (rules.closing after.machine))
-          ∙ pieces-append out behind (written_for rules (closes_with phase ended) after)
-          ∙ ap (λ (b : Bool). out ++ (both_pieces [] behind ++ written_for rules b after)) (sym (closes ended));
+          ap (written_for rules (closes_with phase ended)) (left-first ended more (Ok (then, with_second rules then behind out)) is)
+          ∙ append_assoc (with_second rules then behind out) (concat after.texts) (closing_by (closes_with phase ended) after.refusal (rules.closing after.machine))
+          ∙ with_second-append then behind out (written_for rules (closes_with phase ended) after)
+          ∙ ap (λ (b : Bool). out ++ (with_second rules then behind [] ++ written_for rules b after)) (sym (closes ended));
       ends = λ ended more.
-          ap (λ (t : LinesTaken M). lines_ending (ends_with phase ended) t.refusal) (left-first ended more (Ok (then, both_pieces out behind)) is)
+          ap (λ (t : LinesTaken M). lines_ending (ends_with phase ended) t.refusal) (left-first ended more (Ok (then, with_second rules then behind out)) is)
           ∙ ap (λ (b : Bool). lines_ending b (rest-left ended more then).refusal) (sym (ends ended));
       pauses = λ ended more pause there.
           let texts = texts_before (rest-left ended more then).texts in
           let now = when_wanting rules.wants _ pause there in
-          let part = each_behind-from (both_pieces [] behind) texts pause now.1 in
-          let after = each_behind (both_pieces out behind) texts in
-          let whole = pieces-append out behind part.0 ∙ ap (λ (zs : List ℕ). out ++ zs) part.2 in
-          let later = Contains-later [] after (both_pieces out behind ++ part.0) (each_behind-in (both_pieces out behind) texts part.0 part.1) in
+          let part = each_behind-from (with_second rules then behind []) texts pause now.1 in
+          let after = each_behind (with_second rules then behind out) texts in
+          let whole = with_second-append then behind out part.0 ∙ ap (λ (zs : List ℕ). out ++ zs) part.2 in
+          let later = Contains-later [] after (with_second rules then behind out ++ part.0) (each_behind-in (with_second rules then behind out) texts part.0 part.1) in
           wanting rules.wants _ (out ++ pause) now.0
           (each_behind-in [] (texts_before (comes-left ended more).texts) (out ++ pause)
-          (subst (λ (ts : List (List ℕ)). Contains ts (out ++ pause)) (sym (before-left ended more then (both_pieces out behind) is))
+          (subst (λ (ts : List (List ℕ)). Contains ts (out ++ pause)) (sym (before-left ended more then (with_second rules then behind out) is))
           (subst (λ (zs : List ℕ). Contains ([] ∷ after) zs) whole later)));
     }
 
     -- memory was wanting for a line that is there
     wanting-given : (is : Result (M × List ℕ) LineFault) → rules.take machine line ≡ is → is_ok is ≡ true → rules.wants ≡ true
-        → IsPausing (line_future rules (line_filtering machine line lines None phase))
+        → IsPausing (line_future rules (line_filtering machine line lines false phase))
     unfolding line_future
     wanting-given (Ok next) is ok wants =
         λ ended more.
@@ -278,11 +280,11 @@ module _ {M : Type 0} (rules : LineRules M) where
 
     -- a line that is there was taken or refused, or memory was wanting for it
     line-given : (now : LineFiltering M) (answer : Result Bool Refusal) (out : List ℕ)
-        → IsLineGiven rules next (line_filtering machine line lines None phase) answer out now
-        → NextPiece (line_future rules (line_filtering machine line lines None phase)) answer out (line_future rules now)
+        → IsLineGiven rules next (line_filtering machine line lines false phase) answer out now
+        → NextPiece (line_future rules (line_filtering machine line lines false phase)) answer out (line_future rules now)
     unfolding NextPiece IsRefusedBy line_future written_for
     line-given now (Ok true) out (same, given) =
-        subst (λ (n : LineFiltering M). Progress (line_future rules (line_filtering machine line lines None phase)) [] out (line_future rules n)) (sym given.now_is)
+        subst (λ (n : LineFiltering M). Progress (line_future rules (line_filtering machine line lines false phase)) [] out (line_future rules n)) (sym given.now_is)
         (text-given given.machine out given.behind given.taken)
     line-given now (Ok false) out (same, given) = cc same
     line-given now (Err Memory) out (same, (wants, ok)) = wanting-given (rules.take machine line) refl ok wants
@@ -297,21 +299,21 @@ module _ {M : Type 0} (rules : LineRules M) where
   -- with no line to take and no piece to give, what the octets so far decide is written, and nothing refuses them; at the end
   -- all is done
   working-idle : (machine : M) (line : List ℕ) (lines : ℕ) (phase : LinePhase) → pieces_of phase ≡ 0
-      → IsIdle (is_ended_phase phase) (line_future rules (line_filtering machine line lines None phase))
+      → IsIdle (is_ended_phase phase) (line_future rules (line_filtering machine line lines false phase))
   unfolding IsIdle line_future lines_in written_for lines_taken
   working-idle machine line lines Reading none = (refl, refl)
   working-idle machine line lines Closed none = λ ended more. refl
   working-idle machine line lines phase none = absurd (omega arith)
 
-  working-done : (machine : M) (line : List ℕ) (lines : ℕ) (behind : Option (List ℕ)) (ended : Bool) (more : List ℕ)
+  working-done : (machine : M) (line : List ℕ) (lines : ℕ) (behind : Bool) (ended : Bool) (more : List ℕ)
       → (line_future rules (line_filtering machine line lines behind Closed)).ends ended more ≡ Some Done
   unfolding line_future lines_taken
   working-done machine line lines behind ended more = refl
 
   -- the steps of `take_line`: the text of the line that is there was given
-  pub text-taken : (before : LineFiltering M) (machine then : M) (line items after : List ℕ) (lines : ℕ) (old behind : Option (List ℕ)) (out : List ℕ) (was phase : LinePhase)
+  pub text-taken : (before : LineFiltering M) (machine then : M) (line items after : List ℕ) (lines : ℕ) (old behind : Bool) (out : List ℕ) (was phase : LinePhase)
       → line_filtering machine items lines old was ≡ before → line ≡ items → after ≡ []
-      → rules.take machine line ≡ Ok (then, both_pieces out behind) → IsTextGiven rules phase before out (line_filtering then after (lines + 1) behind phase)
+      → rules.take machine line ≡ Ok (then, with_second rules then behind out) → IsTextGiven rules phase before out (line_filtering then after (lines + 1) behind phase)
   text-taken before machine then line items after lines old behind out was phase view slice none taken =
       subst (λ (w : LineFiltering M). IsTextGiven rules phase w out (line_filtering then after (lines + 1) behind phase)) view
       (record {
@@ -322,13 +324,13 @@ module _ {M : Type 0} (rules : LineRules M) where
       })
 
   -- what holds at a phase with no second piece holds of work that is there
-  at_phase : (P : LineFiltering M → Type 0) (work : LineFiltering M) (phase : LinePhase) → work.phase ≡ phase → work.behind ≡ None
-      → P (line_filtering work.machine work.line work.lines None phase) → P work
+  at_phase : (P : LineFiltering M → Type 0) (work : LineFiltering M) (phase : LinePhase) → work.phase ≡ phase → work.behind ≡ false
+      → P (line_filtering work.machine work.line work.lines false phase) → P work
   at_phase P work phase is none holds =
       subst (λ (p : LinePhase). P (line_filtering work.machine work.line work.lines work.behind p)) (sym is)
-      (subst (λ (b : Option (List ℕ)). P (line_filtering work.machine work.line work.lines b phase)) (sym none) holds)
+      (subst (λ (b : Bool). P (line_filtering work.machine work.line work.lines b phase)) (sym none) holds)
 
-  module _ (before now : LineFiltering M) (answer : Result Bool Refusal) (out : List ℕ) (none : before.behind ≡ None) where
+  module _ (before now : LineFiltering M) (answer : Result Bool Refusal) (out : List ℕ) (none : before.behind ≡ false) where
     pub step-line : before.phase ≡ Ready → IsLineGiven rules Reading before answer out now → NextPiece (line_future rules before) answer out (line_future rules now)
     step-line is =
         at_phase (λ w. IsLineGiven rules Reading w answer out now → NextPiece (line_future rules w) answer out (line_future rules now)) before Ready is none
@@ -339,7 +341,7 @@ module _ {M : Type 0} (rules : LineRules M) where
         at_phase (λ w. IsLineGiven rules Closing w answer out now → NextPiece (line_future rules w) answer out (line_future rules now)) before ReadyLast is none
         (line-given before.machine before.line before.lines ReadyLast Closing (λ ended more. refl) (λ ended. refl) (λ ended. refl) now answer out)
 
-  pub step-close : (before now : LineFiltering M) (out : List ℕ) → before.phase ≡ Closing → before.behind ≡ None → out ≡ rules.closing before.machine → now ≡ record before { phase = Closed }
+  pub step-close : (before now : LineFiltering M) (out : List ℕ) → before.phase ≡ Closing → before.behind ≡ false → out ≡ rules.closing before.machine → now ≡ record before { phase = Closed }
       → NextPiece (line_future rules before) (Ok true) out (line_future rules now)
   step-close before now out is none same then =
       subst (λ (n : LineFiltering M). NextPiece (line_future rules before) (Ok true) out (line_future rules n)) (sym then)
@@ -351,9 +353,9 @@ module _ {M : Type 0} (rules : LineRules M) where
   unfolding NextPiece
   step-none before now out same = ap (line_future rules) same
 
-  pub step-idle : (work : LineFiltering M) → pieces_of work.phase ≡ 0 → work.behind ≡ None → IsIdle (is_ended_phase work.phase) (line_future rules work)
+  pub step-idle : (work : LineFiltering M) → pieces_of work.phase ≡ 0 → work.behind ≡ false → IsIdle (is_ended_phase work.phase) (line_future rules work)
   step-idle work none empty =
-      subst (λ (b : Option (List ℕ)). IsIdle (is_ended_phase work.phase) (line_future rules (line_filtering work.machine work.line work.lines b work.phase))) (sym empty)
+      subst (λ (b : Bool). IsIdle (is_ended_phase work.phase) (line_future rules (line_filtering work.machine work.line work.lines b work.phase))) (sym empty)
       (working-idle work.machine work.line work.lines work.phase none)
 
   pub step-done : (work : LineFiltering M) → is_ended_phase work.phase ≡ true → pieces_of work.phase ≡ 0 → (ended : Bool) (more : List ℕ)

@@ -1,28 +1,29 @@
 -- Machines over lines: what comes of a line, and of lines up to the first that is refused.
-use Rattle.std.specs.{Prelude.{◌≡◌, ℕ, ◌+◌, Bool, true, List, [], ◌∷◌, ◌++◌, Option, Some, None, Result, Ok, Err, IsOk}, List.{concat}}
+use Rattle.std.specs.{Prelude.{◌≡◌, ℕ, ◌+◌, Bool, true, false, List, [], ◌∷◌, ◌++◌, Option, Some, None, Result, Ok, Err, IsOk}, List.{concat}}
 use Rattle.p25_line.specs.declared.fault.LineFault.{LineFault}
 use Rattle.p25_filter.specs.{declared.ending.Ending.{Ending}, declared.ending.Ending.TheVariants.{BadLine}, Lines.{closing_by}}
 use Rattle.p25_filter.specs.{declared.line_machine.LineRefusal.{LineRefusal}, declared.line_machine.LineRefusal.TheVariants.{Fault, Memory}}
 
--- a machine over lines: the machine after a line and the text for it, or the line's fault; what is written at the end of the input;
--- and whether memory may be wanting for a line
+-- a machine over lines: the machine after a line and the text for it, or the line's fault; the second piece of the text for its last
+-- line, where that has two; what is written at the end of the input; and whether memory may be wanting for a line
 pub record LineRules (M : Type 0) : Type 0 where
   pub take : M → List ℕ → Result (M × List ℕ) LineFault
+  pub second : M → List ℕ
   pub closing : M → List ℕ
   pub wants : Bool
 
--- a text in two pieces, of which the second may be missing
-abbrev pub both_pieces : List ℕ → Option (List ℕ) → List ℕ
-both_pieces first None = first
-both_pieces first (Some second) = first ++ second
+-- a text in one piece, or in this and the second one of a machine
+abbrev pub with_second : {M : Type 0} → LineRules M → M → Bool → List ℕ → List ℕ
+with_second rules machine false first = first
+with_second rules machine true first = first ++ rules.second machine
 
 -- a line has no fault, and memory may be wanting for it
 abbrev pub IsWanting : {M : Type 0} → LineRules M → M → List ℕ → Type 0
 IsWanting rules machine line = (rules.wants ≡ true) × IsOk (rules.take machine line)
 
--- a line was taken, and the text for it given out in one piece or two; or it was not, and the machine is as it was
-abbrev pub IsLineTaken : {M : Type 0} → LineRules M → M → List ℕ → Result (Option (List ℕ)) LineRefusal → List ℕ → M → Type 0
-IsLineTaken rules machine line (Ok second) out now = rules.take machine line ≡ Ok (now, both_pieces out second)
+-- a line was taken, and the text for it is what was given out, or that and a second piece; or it was not, and the machine is as it was
+abbrev pub IsLineTaken : {M : Type 0} → LineRules M → M → List ℕ → Result Bool LineRefusal → List ℕ → M → Type 0
+IsLineTaken rules machine line (Ok more) out now = rules.take machine line ≡ Ok (now, with_second rules now more out)
 IsLineTaken rules machine line (Err Memory) out now = (now ≡ machine) × IsWanting rules machine line
 IsLineTaken rules machine line (Err (Fault fault)) out now = (now ≡ machine) × (rules.take machine line ≡ Err fault)
 

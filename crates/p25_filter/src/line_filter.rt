@@ -1,6 +1,6 @@
 //! The work of a command on the lines of its input.
 
-ghost use Rattle.std.specs.{Prelude.{◌≡◌, ◌+◌, ◌^◌, ◌≤◌, ◌++◌, ◌==◌, true, false, Some, None, length, take}, List.{position_or_len}};
+ghost use Rattle.std.specs.{Prelude.{◌≡◌, ◌+◌, ◌^◌, ◌≤◌, ◌++◌, ◌==◌, false, length, take}, List.{position_or_len}};
 ghost use Rattle.p25_filter.specs.LineFilters.{first_line, lines_ready, IsLineGiven};
 
 use super::ending::{Ending, Refusal};
@@ -35,8 +35,8 @@ pub struct LineFilter<M: LineMachine> {
     machine: M,
     line: ArrayVec<u8, 8_193>,
     lines: u64,
-    // The second piece of a text whose first was given out.
-    behind: Option<Line>,
+    // Whether the second piece of the text for the last line is still to be given.
+    behind: bool,
     phase: LinePhase,
 }
 
@@ -60,7 +60,7 @@ impl<M: LineMachine> LineFilter<M> {
             machine,
             line: ArrayVec::new(),
             lines: 0,
-            behind: None,
+            behind: false,
             phase: LinePhase::Reading,
         }
     }
@@ -80,12 +80,12 @@ impl<M: LineMachine> LineFilter<M> {
     fn take_line(&mut self, phase: LinePhase, out: &mut Line) -> Result<bool, Refusal>
         requires ready { lines_ready self.old.phase ≡ 1 }
         requires taken { lines_ready phase ≡ 0 }
-        requires none { self.old.behind ≡ None }
+        requires none { self.old.behind ≡ false }
         ensures { IsLineGiven M.rules phase self.old result out.new self.new }
     {
         match self.machine.take(self.line.as_slice(), out) {
-            Ok(second) => {
-                hold(&mut self.behind, second);
+            Ok(more) => {
+                self.behind = more;
                 self.line.clear();
                 self.lines += 1;
                 self.phase = phase;
@@ -97,34 +97,6 @@ impl<M: LineMachine> LineFilter<M> {
             })),
             Err(LineRefusal::Memory) => Err(Refusal::Memory),
         }
-    }
-
-    // Sets `out` to the second piece of a text, where one is there, and answers whether it is.
-    fn give_behind(&mut self, out: &mut Line) -> bool
-        ensures given { result ≡ true → (self.old.behind ≡ Some out.new) × (self.new ≡ record self.old { behind = None }) }
-        ensures none { result ≡ false → (self.old.behind ≡ None) × (self.new ≡ self.old) }
-    {
-        // A piece is large: it is copied only where there is one.
-        match &self.behind {
-            None => return false,
-            Some(second) => {
-                let _ = second.len();
-                out.clear();
-                out.put(second.octets());
-            }
-        }
-        self.behind = None;
-        true
-    }
-}
-
-// Holds the second piece of a text, where there is one. It is large, and moved only then.
-fn hold(behind: &mut Option<Line>, second: Option<Line>)
-    requires { behind.old ≡ None }
-    ensures { behind.new ≡ second }
-{
-    if second.is_some() {
-        *behind = second;
     }
 }
 
@@ -142,14 +114,14 @@ fn line_length(octets: &[u8]) -> usize
 }
 
 impl<M: LineMachine> Filter for LineFilter<M> {
-    ghost use Rattle.std.specs.Prelude.{◌≡◌, ◌+◌, None};
+    ghost use Rattle.std.specs.Prelude.{◌≡◌, ◌+◌, false};
     ghost use Rattle.p25_filter.specs.LineFilters.{line_future, is_ended_phase, lines_ready, pieces_of, piece_behind};
 
     ghost future = { line_future M.rules };
 
     ghost is_finished = { λ s. is_ended_phase s.phase };
 
-    ghost IsDrained = { λ s. (pieces_of s.phase ≡ 0) × (s.behind ≡ None) };
+    ghost IsDrained = { λ s. (pieces_of s.phase ≡ 0) × (s.behind ≡ false) };
 
     ghost pieces_left = { λ s. pieces_of s.phase + piece_behind s.behind };
 
@@ -174,7 +146,9 @@ impl<M: LineMachine> Filter for LineFilter<M> {
     }
 
     fn next(&mut self, out: &mut Line) -> Result<bool, Refusal> {
-        if self.give_behind(out) {
+        if self.behind {
+            self.machine.second(out);
+            self.behind = false;
             return Ok(true);
         }
         match self.phase {

@@ -25,11 +25,15 @@ pub trait LineMachine {
     // What the machine answers to a line, what it writes at the end of the input, and whether memory may be wanting for a line.
     ghost rules: { LineRules Self };
 
-    /// Takes a line, without the LF that ends it. Sets `out` to the text for it, or to the first of the two pieces of the text,
-    /// and answers the second piece where there is one. Or answers why the line is not taken, and the machine is as before;
-    /// memory is wanting only where it may be, and for a line without a fault.
-    fn take(&mut self, line: &[u8], out: &mut Line) -> Result<Option<Line>, LineRefusal>
+    /// Takes a line, without the LF that ends it. Sets `out` to the text for it, or to the first of two pieces of the text, and
+    /// answers whether there is a second one. Or answers why the line is not taken, and the machine is as before; memory is wanting
+    /// only where it may be, and for a line without a fault.
+    fn take(&mut self, line: &[u8], out: &mut Line) -> Result<bool, LineRefusal>
         ensures { IsLineTaken rules self.old line.now result out.new self.new };
+
+    /// Sets `out` to the second piece of the text for the last line, where `take` answered that there is one.
+    fn second(&self, out: &mut Line)
+        ensures { out.new ≡ rules.second self.now };
 
     /// Sets `out` to what is written at the end of the input.
     fn close(&self, out: &mut Line)

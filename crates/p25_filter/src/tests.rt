@@ -15,7 +15,7 @@ impl LineMachine for Echo {
 
     ghost rules = { echo_rules };
 
-    fn take(&mut self, line: &[u8], out: &mut Line) -> Result<Option<Line>, LineRefusal> {
+    fn take(&mut self, line: &[u8], out: &mut Line) -> Result<bool, LineRefusal> {
         if line.len() > 8_192 {
             return Err(LineRefusal::Fault(LineFault::Long));
         }
@@ -24,7 +24,11 @@ impl LineMachine for Echo {
         }
         out.clear();
         out.put(line);
-        Ok(None)
+        Ok(false)
+    }
+
+    fn second(&self, out: &mut Line) {
+        out.clear();
     }
 
     fn close(&self, out: &mut Line) {

@@ -4,7 +4,7 @@ ghost use Rattle.std.specs.Prelude.{◌≡◌, ◌≤◌, length};
 ghost use Rattle.p25_script.specs.StepTexts.{duplex_step_text_of};
 
 use super::shown::ScriptStep;
-use super::steps::step_text;
+use super::steps::put_step_text;
 use p25_duplex::DuplexStep;
 use p25_line::Line;
 
@@ -15,12 +15,10 @@ pub fn duplex_step_text(step: &DuplexStep, out: &mut Line)
     ensures text { out.new ≡ duplex_step_text_of step.now }
     ensures short { length out.new ≤ 4208 }
 {
-    let mut text = Line::new();
-    step_text(&step.step, &mut text);
     out.clear();
     out.put(step.side.word());
     out.put(b" ");
-    out.put(text.octets());
+    put_step_text(&step.step, out);
 }
 
 impl ScriptStep for DuplexStep {

@@ -15,16 +15,12 @@ use p25_text::parts::put_field_name;
 
 /// Sets `out` to the text of a step, without the end of its line. The texts of deliveries begin with `data` or `answer`; that
 /// of a false pass ends with ` false`.
-#[tactic(auto, unfolding(crate::specs::StepTexts::step_text_of))]
 pub fn step_text(step: &Step, out: &mut Line)
     ensures text { out.new ≡ step_text_of step.now }
     ensures short { length out.new ≤ 4206 }
 {
     out.clear();
-    put_kind(&step.kind, out);
-    if step.false_pass {
-        out.put(b" false");
-    }
+    put_step_text(step, out);
 }
 
 impl ScriptStep for Step {
@@ -33,6 +29,19 @@ impl ScriptStep for Step {
     fn put_text(&self, out: &mut Line, behind: &mut Line) {
         step_text(self, out);
         behind.clear();
+    }
+}
+
+// Appends the text of a step.
+#[tactic(auto, unfolding(crate::specs::StepTexts::step_text_of))]
+pub(crate) fn put_step_text(step: &Step, out: &mut Line)
+    requires { length out.old + 4206 ≤ 8192 }
+    ensures text { out.new ≡ out.old ++ step_text_of step.now }
+    ensures short { length out.new ≤ length out.old + 4206 }
+{
+    put_kind(&step.kind, out);
+    if step.false_pass {
+        out.put(b" false");
     }
 }
 

@@ -24,10 +24,14 @@ impl LineMachine for Build {
 
     ghost long = { build_long };
 
-    fn take(&mut self, line: &[u8], out: &mut Line) -> Result<Option<Line>, LineRefusal> {
+    fn take(&mut self, line: &[u8], out: &mut Line) -> Result<bool, LineRefusal> {
         let unit = read_line(line).map_err(LineRefusal::Fault)?;
         put_image(unit, self.status, out);
-        Ok(None)
+        Ok(false)
+    }
+
+    fn second(&self, out: &mut Line) {
+        out.clear();
     }
 
     fn close(&self, out: &mut Line) {

@@ -17,6 +17,7 @@ use p25_duplex::DuplexWorld;
 use p25_filter::{FilterEnd, LineFilter, LineMachine};
 use p25_fragments::LongWorld;
 use p25_io::{Pair, Port, Sink, Source, Tape};
+use p25_line::Line;
 use p25_recording_filters::{
     Calls, Change, Changed, Check, Followed, Recording, Report, Show, Soft,
 };
@@ -118,7 +119,10 @@ fn run_command<P: Port>(alloc: Global, command: Command, port: &mut P) -> Filter
         Command::Stations => run_lines(Script(ScriptWorld::Stations(World::new(alloc))), port),
         Command::Calls => run_report(Calls::new(), port),
         Command::Duplex => run_lines(Script(ScriptWorld::Duplex(DuplexWorld::new(alloc))), port),
-        Command::Fragments => run_lines(Script(ScriptWorld::Long(LongWorld::new(alloc))), port),
+        Command::Fragments => run_lines(
+            Script(ScriptWorld::Long(LongWorld::new(alloc), Line::new())),
+            port,
+        ),
         Command::Soft => run_soft(port),
         Command::Sample { count } => run_sample(count, port),
     }

@@ -1,6 +1,6 @@
 //! The work of `stations`, `fragments` and `duplex`: each line of the input as the event of a world of stations that it tells of.
 
-ghost use Rattle.std.specs.{Prelude.{◌≡◌, None}, Result.{result_map_both}};
+ghost use Rattle.std.specs.Prelude.{◌≡◌};
 ghost use Rattle.p25_filter.specs.LineRules.{IsLineTaken};
 ghost use Rattle.p25_tool.specs.{Machines.{DuplexAt, LongAt, StationsAt, script_rules}, Outputs.{duplex_closing_lines}};
 
@@ -19,7 +19,8 @@ use std::marker::Model;
 #[derive(Drop)]
 pub(crate) enum ScriptWorld {
     Stations(World),
-    Long(LongWorld),
+    // With the second piece of the text of the last step.
+    Long(LongWorld, Line),
     Duplex(DuplexWorld),
 }
 
@@ -42,24 +43,25 @@ impl LineMachine for Script {
 
     ghost long = { script_long };
 
-    fn take(&mut self, line: &[u8], out: &mut Line) -> Result<Option<Line>, LineRefusal> {
+    fn take(&mut self, line: &[u8], out: &mut Line) -> Result<bool, LineRefusal> {
         match &mut self.0 {
-            ScriptWorld::Stations(world) => {
-                take_event(world, line, out)?;
-                Ok(None)
-            }
-            ScriptWorld::Long(world) => take_long(world, line, out),
-            ScriptWorld::Duplex(world) => {
-                take_duplex(world, line, out)?;
-                Ok(None)
-            }
+            ScriptWorld::Stations(world) => take_event(world, line, out),
+            ScriptWorld::Long(world, second) => take_long(world, line, out, second),
+            ScriptWorld::Duplex(world) => take_duplex(world, line, out),
+        }
+    }
+
+    fn second(&self, out: &mut Line) {
+        out.clear();
+        if let ScriptWorld::Long(_, second) = &self.0 {
+            out.put(second.octets());
         }
     }
 
     fn close(&self, out: &mut Line) {
         match &self.0 {
             ScriptWorld::Stations(world) => closing_text(world, out),
-            ScriptWorld::Long(world) => long_closing_text(world, out),
+            ScriptWorld::Long(world, _) => long_closing_text(world, out),
             ScriptWorld::Duplex(world) => return put_closing_lines(world, out),
         }
         out.put(b"\n");
@@ -68,37 +70,35 @@ impl LineMachine for Script {
 
 // Takes a line of `stations`. Events and steps are large: so those of a script are apart from those of the others.
 #[inline(never)]
-fn take_event(world: &mut World, line: &[u8], out: &mut Line) -> Result<(), LineRefusal>
-    ensures { IsLineTaken script_rules (StationsAt world.old.state) line.now (result_map_both (λ taken. None) (λ refusal. refusal) result) out.new
-        (StationsAt world.new.state) }
+fn take_event(world: &mut World, line: &[u8], out: &mut Line) -> Result<bool, LineRefusal>
+    ensures { IsLineTaken script_rules (StationsAt world.old.state) line.now result out.new (StationsAt world.new.state) }
 {
     let event = read_event(line).map_err(LineRefusal::Fault)?;
     step_text(&world.step(&event).map_err(|_| LineRefusal::Memory)?, out);
     out.put(b"\n");
-    Ok(())
+    Ok(false)
 }
 
-// Takes a line of `fragments`.
+// Takes a line of `fragments`. Its text has two pieces.
 #[inline(never)]
 fn take_long(
     world: &mut LongWorld,
     line: &[u8],
     out: &mut Line,
-) -> Result<Option<Line>, LineRefusal>
-    ensures { IsLineTaken script_rules (LongAt world.old.state) line.now result out.new (LongAt world.new.state) }
+    second: &mut Line,
+) -> Result<bool, LineRefusal>
+    ensures { IsLineTaken script_rules (LongAt world.old.state second.old) line.now result out.new (LongAt world.new.state second.new) }
 {
     let event = read_long_event(line).map_err(LineRefusal::Fault)?;
     let step = world.step(&event).map_err(|_| LineRefusal::Memory)?;
-    let mut behind = Line::new();
-    long_step_text(&step, out, &mut behind);
-    Ok(Some(behind))
+    long_step_text(&step, out, second);
+    Ok(true)
 }
 
-// Takes a line of `duplex`. Its text is one piece.
+// Takes a line of `duplex`.
 #[inline(never)]
-fn take_duplex(world: &mut DuplexWorld, line: &[u8], out: &mut Line) -> Result<(), LineRefusal>
-    ensures { IsLineTaken script_rules (DuplexAt world.old.state) line.now (result_map_both (λ taken. None) (λ refusal. refusal) result) out.new
-        (DuplexAt world.new.state) }
+fn take_duplex(world: &mut DuplexWorld, line: &[u8], out: &mut Line) -> Result<bool, LineRefusal>
+    ensures { IsLineTaken script_rules (DuplexAt world.old.state) line.now result out.new (DuplexAt world.new.state) }
 {
     match &read_duplex_event(line) {
         Err(fault) => Err(LineRefusal::Fault(*fault)),
@@ -107,7 +107,7 @@ fn take_duplex(world: &mut DuplexWorld, line: &[u8], out: &mut Line) -> Result<(
             Ok(step) => {
                 duplex_step_text(step, out);
                 out.put(b"\n");
-                Ok(())
+                Ok(false)
             }
         },
     }

@@ -1,16 +1,11 @@
-use Rattle.std.proofs.Common.{Ok, ap, refl, sym, ◌∙◌}
-use Rattle.p25_filter.specs.{LineFilters.{LineFiltering}, LineRules.{both_pieces}}
+use Rattle.std.proofs.Common.{refl}
 use Rattle.p25_filter.proofs.LineFiltersLaws.{text-taken}
 use Rattle.p25_filter.proofs.line_filter.LineFilter.take_line.Goals as goal
-
-pub hold-requires : goal.hold-requires
-hold-requires g c = ap (λ (w : LineFiltering g.row.M.Denot). w.behind) c.self.view_is ∙ c.requires.none
 
 pub returns-in-Ok : goal.returns-in-Ok
 returns-in-Ok g c =
     let s = c.self.inside in (
       refl,
       text-taken g.M.LineMachine.rules c.args.self.now s.machine c.take.new.self _ s.line.items _ s.lines s.behind _ c.take.new.out s.phase c.args.phase
-          c.self.view_is c.as_slice.ensures.value c.clear.ensures
-          (c.in-Ok.ensures ∙ ap (λ b. Ok (c.take.new.self, both_pieces c.take.new.out b)) (sym c.hold.ensures)),
+          c.self.view_is c.as_slice.ensures.value c.clear.ensures c.in-Ok.ensures,
     )
