@@ -44,7 +44,7 @@ returns-in-Duplex g c = alike-run g.P.Port.moves _ _ _ Duplex _ _ c.in-Duplex.is
 pub returns-in-Fragments : goal.returns-in-Fragments
 returns-in-Fragments g c =
     alike-run g.P.Port.moves _ _ _ Fragments _ _ c.in-Fragments.is
-    (fragments-alike _ c.new-in-Fragments.ensures.state) (λ count is. cc) c.run_lines-in-Fragments.ensures
+    (fragments-alike _ _ c.new-in-Fragments.ensures.state c.new-in-Fragments-2.ensures) (λ count is. cc) c.run_lines-in-Fragments.ensures
 
 pub returns-in-Soft : goal.returns-in-Soft
 returns-in-Soft g c = alike-run g.P.Port.moves _ _ _ Soft _ _ c.in-Soft.is soft-alike (λ count is. cc) c.run_soft.ensures
