@@ -81,20 +81,6 @@ pub fn read_duplex_event(line: &[u8]) -> Result<DuplexEvent, LineFault>
     read_whole::<DuplexEventLine>(line)
 }
 
-// The event of the words of a line.
-fn read_duplex_words(words: &LineWords) -> Result<DuplexEvent, LineFault>
-    ensures { result ≡ duplex_by_words words.now }
-{
-    let Some(start) = DuplexStart::named(words.first()) else {
-        return Err(LineFault::Kind);
-    };
-    match words.count() {
-        2 => read_two(start, words.get(1)),
-        3 => read_three(start, words.get(1), words.get(2)),
-        _ => Err(LineFault::Key),
-    }
-}
-
 // The event of a line of two words.
 fn read_two(start: DuplexStart, second: &[u8]) -> Result<DuplexEvent, LineFault>
     ensures { result ≡ event_behind start (second.now ∷ []) }
@@ -150,7 +136,15 @@ impl ScriptEvent for DuplexEvent {
 
     ghost not_long = { duplex_not_long };
 
+    #[inline(never)]
     fn read_words(words: &LineWords) -> Result<DuplexEvent, LineFault> {
-        read_duplex_words(words)
+        let Some(start) = DuplexStart::named(words.first()) else {
+            return Err(LineFault::Kind);
+        };
+        match words.count() {
+            2 => read_two(start, words.get(1)),
+            3 => read_three(start, words.get(1), words.get(2)),
+            _ => Err(LineFault::Key),
+        }
     }
 }

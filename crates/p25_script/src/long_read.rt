@@ -6,11 +6,11 @@ ghost use Rattle.p25_fragments.specs.declared.long_step.LongEvent.{LongEvent as 
 ghost use Rattle.p25_script.specs.LongScript.{IsLongScripted, long_event_by_words, long_event_of, long_event_text, other_event};
 ghost use Rattle.p25_script.specs.LongReadLaws.{long_event_not_long};
 
-use super::read::read_event_words;
 use super::shown::{LongEventLine, ScriptEvent};
 use super::values::message_value;
 use p25_fragments::LongEvent;
 use p25_line::{LineFault, LineWords, read_whole};
+use p25_stations::Event;
 
 /// Answers the event whose line this is. Each line that is accepted is the line of its event, and the line of each event,
 /// where it is not too long, is accepted. The first of these causes that applies is answered: Long, above 8,192 octets; Form,
@@ -26,23 +26,6 @@ pub fn read_long_event(line: &[u8]) -> Result<LongEvent, LineFault>
     ensures each { (event : event_type) → IsLongScripted event → length line.now ≤ 8192 → long_event_text event ≡ line.now → result ≡ Ok event }
 {
     read_whole::<LongEventLine>(line)
-}
-
-// The event of the words of a line.
-fn read_long_words(words: &LineWords) -> Result<LongEvent, LineFault>
-    ensures { result ≡ long_event_by_words words.now }
-{
-    let first = words.first();
-    if !is_same(first, b"long") {
-        return read_other(first, words);
-    }
-    if !has_two(words) {
-        return Err(LineFault::Key);
-    }
-    match message_value(words.get(1)) {
-        Some(message) => Ok(LongEvent::Long(message)),
-        None => Err(LineFault::Value),
-    }
 }
 
 // Whether a line has two words.
@@ -67,7 +50,7 @@ fn read_other(first: &[u8], words: &LineWords) -> Result<LongEvent, LineFault>
     if is_same(first, b"send") {
         return Err(LineFault::Kind);
     }
-    match read_event_words(words) {
+    match Event::read_words(words) {
         Ok(event) => Ok(LongEvent::Inner(event)),
         Err(fault) => Err(fault),
     }
@@ -78,7 +61,18 @@ impl ScriptEvent for LongEvent {
 
     ghost not_long = { long_event_not_long };
 
+    #[inline(never)]
     fn read_words(words: &LineWords) -> Result<LongEvent, LineFault> {
-        read_long_words(words)
+        let first = words.first();
+        if !is_same(first, b"long") {
+            return read_other(first, words);
+        }
+        if !has_two(words) {
+            return Err(LineFault::Key);
+        }
+        match message_value(words.get(1)) {
+            Some(message) => Ok(LongEvent::Long(message)),
+            None => Err(LineFault::Value),
+        }
     }
 }

@@ -27,19 +27,6 @@ pub fn read_event(line: &[u8]) -> Result<Event, LineFault>
     read_whole::<EventLine>(line)
 }
 
-/// Answers the event of the words of a line, or why they are refused: Kind, Key or Value, as `read_event` says.
-pub fn read_event_words(words: &LineWords) -> Result<Event, LineFault>
-    ensures { result ≡ event_by_words words.now }
-{
-    let Some(kind) = EventKind::named(words.first()) else {
-        return Err(LineFault::Kind);
-    };
-    if words.count() != kind.words() {
-        return Err(LineFault::Key);
-    }
-    read_kind(kind, words)
-}
-
 // The event of a line of a kind, which has as many words as that kind.
 fn read_kind(kind: EventKind, words: &LineWords) -> Result<Event, LineFault>
     requires { length words.now ≡ word_count kind }
@@ -78,7 +65,14 @@ impl ScriptEvent for Event {
 
     ghost not_long = { event_not_long };
 
+    #[inline(never)]
     fn read_words(words: &LineWords) -> Result<Event, LineFault> {
-        read_event_words(words)
+        let Some(kind) = EventKind::named(words.first()) else {
+            return Err(LineFault::Kind);
+        };
+        if words.count() != kind.words() {
+            return Err(LineFault::Key);
+        }
+        read_kind(kind, words)
     }
 }

@@ -52,7 +52,8 @@ pub trait ScriptEvent {
     // Words are never refused as a line that is too long.
     ghost not_long: { (words : List (List ℕ)) → by_words words ≢ Err Long };
 
-    /// Answers the event of the words of a line, or why they are refused.
+    /// Answers the event of the words of a line, or why they are refused. It is called apart: an event is large, and each function
+    /// that answers one has a place for it.
     fn read_words(words: &LineWords) -> Result<Self, LineFault>
         ensures { result ≡ by_words words.now };
 }

@@ -4,15 +4,15 @@ ghost use Rattle.std.specs.Prelude.{◌≡◌};
 ghost use Rattle.p25_filter.specs.LineRules.{IsLineTaken};
 ghost use Rattle.p25_tool.specs.{Machines.{DuplexAt, LongAt, StationsAt, script_rules}, Outputs.{duplex_closing_lines}};
 
-use p25_duplex::{DuplexWorld, Side};
+use p25_duplex::{DuplexEvent, DuplexWorld, Side};
 use p25_filter::{LineMachine, LineRefusal};
-use p25_fragments::LongWorld;
-use p25_line::Line;
+use p25_fragments::{LongEvent, LongWorld};
+use p25_line::{Line, LineWords};
 use p25_script::{
-    closing_text, duplex_closing, duplex_step_text, long_closing_text, long_step_text,
-    read_duplex_event, read_event, read_long_event, step_text,
+    ScriptEvent, closing_text, duplex_closing, duplex_step_text, long_closing_text, long_step_text,
+    step_text,
 };
-use p25_stations::World;
+use p25_stations::{Event, World};
 use std::marker::Model;
 
 // The world in which the events of a script happen.
@@ -72,10 +72,12 @@ impl LineMachine for Script {
 
 // Takes a line of `stations`. Events and steps are large: so those of a script are apart from those of the others.
 #[inline(never)]
+#[tactic(auto, unfolding(p25_line::specs::LineReadings::line_read))]
 fn take_event(world: &mut World, line: &[u8], out: &mut Line) -> Result<bool, LineRefusal>
     ensures { IsLineTaken script_rules (StationsAt world.old.state) line.now result out.new (StationsAt world.new.state) }
 {
-    let event = read_event(line).map_err(LineRefusal::Fault)?;
+    let words = LineWords::read(line).map_err(LineRefusal::Fault)?;
+    let event = Event::read_words(&words).map_err(LineRefusal::Fault)?;
     step_text(&world.step(&event).map_err(|_| LineRefusal::Memory)?, out);
     out.put(b"\n");
     Ok(false)
@@ -83,6 +85,7 @@ fn take_event(world: &mut World, line: &[u8], out: &mut Line) -> Result<bool, Li
 
 // Takes a line of `fragments`. Its text has two pieces.
 #[inline(never)]
+#[tactic(auto, unfolding(p25_line::specs::LineReadings::line_read))]
 fn take_long(
     world: &mut LongWorld,
     line: &[u8],
@@ -91,7 +94,8 @@ fn take_long(
 ) -> Result<bool, LineRefusal>
     ensures { IsLineTaken script_rules (LongAt world.old.state second.old) line.now result out.new (LongAt world.new.state second.new) }
 {
-    let event = read_long_event(line).map_err(LineRefusal::Fault)?;
+    let words = LineWords::read(line).map_err(LineRefusal::Fault)?;
+    let event = LongEvent::read_words(&words).map_err(LineRefusal::Fault)?;
     let step = world.step(&event).map_err(|_| LineRefusal::Memory)?;
     long_step_text(&step, out, second);
     Ok(true)
@@ -99,10 +103,12 @@ fn take_long(
 
 // Takes a line of `duplex`.
 #[inline(never)]
+#[tactic(auto, unfolding(p25_line::specs::LineReadings::line_read))]
 fn take_duplex(world: &mut DuplexWorld, line: &[u8], out: &mut Line) -> Result<bool, LineRefusal>
     ensures { IsLineTaken script_rules (DuplexAt world.old.state) line.now result out.new (DuplexAt world.new.state) }
 {
-    match &read_duplex_event(line) {
+    let words = LineWords::read(line).map_err(LineRefusal::Fault)?;
+    match &DuplexEvent::read_words(&words) {
         Err(fault) => Err(LineRefusal::Fault(*fault)),
         Ok(event) => match &world.step(event) {
             Err(_) => Err(LineRefusal::Memory),

@@ -1,6 +1,6 @@
 use Rattle.std.proofs.Common.{sym, ◌∙◌}
 use Rattle.p25_script.proofs.ReadLaws.{right_kind, wrong_count, wrong_kind}
-use Rattle.p25_script.proofs.read.read_event_words.Goals as goal
+use Rattle.p25_script.proofs.read.EventScriptEvent.read_words.Goals as goal
 
 pub returns-in_default : goal.returns-in_default
 returns-in_default c = sym (wrong_kind c.args.words.now c.first.result.now c.first.ensures (sym c.in_default.ensures))

@@ -2,7 +2,7 @@ use Rattle.std.proofs.{Common.{◌≡◌, length, ap, sym, ◌∙◌}, lemmas.Bo
 use Rattle.p25_line.specs.LineReadings.{value_or_fault}
 use Rattle.p25_fragments.specs.declared.long_step.LongEvent.TheVariants.{Long}
 use Rattle.p25_script.proofs.LongReadSteps.{other_word, right_count, wrong_count}
-use Rattle.p25_script.proofs.long_read.read_long_words.Goals as goal
+use Rattle.p25_script.proofs.long_read.LongEventScriptEvent.read_words.Goals as goal
 
 pub returns-then-not-is_same : goal.returns-then-not-is_same
 returns-then-not-is_same c = c.read_other.ensures ∙ sym (other_word c.args.words.now c.first-first.result.now c.first-first.ensures (sym c.is_same.ensures ∙ c.if-not-is_same.true))

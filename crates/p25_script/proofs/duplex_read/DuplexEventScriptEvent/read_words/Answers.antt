@@ -1,6 +1,6 @@
 use Rattle.std.proofs.Common.{◌≡◌, length, sym, ◌∙◌, arith}
 use Rattle.p25_script.proofs.DuplexReadSteps.{other-words, three-words, two-words, wrong-start}
-use Rattle.p25_script.proofs.duplex_read.read_duplex_words.Goals as goal
+use Rattle.p25_script.proofs.duplex_read.DuplexEventScriptEvent.read_words.Goals as goal
 
 pub returns-in_default : goal.returns-in_default
 returns-in_default c = sym (wrong-start c.args.words.now c.first.result.now c.first.ensures (sym c.in_default.ensures))
