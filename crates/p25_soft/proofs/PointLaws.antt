@@ -1,5 +1,5 @@
 -- What a path costs in the table of points is what its sent bits deviate from the levels: step by step along the path, then in the order of sending.
-use Rattle.std.proofs.Common.{◌≡◌, ◌≢◌, ℕ, suc, ◌+◌, ◌*◌, ◌/◌, ◌%◌, ◌^◌, ◌<◌, ◌≤◌, ◌&&◌, Bool, true, eqb, List, [], ◌∷◌, ◌++◌, length, drop, get_or, set, refl, ap, ap₂, sym, ◌∙◌, arith, All, below_more, get_or-set_same, get_or-set_other, ℤ, pos}
+use Rattle.std.proofs.Common.{◌≡◌, ◌≢◌, ℕ, suc, ◌+◌, ◌*◌, ◌/◌, ◌%◌, ◌<◌, ◌&&◌, Bool, true, eqb, List, [], ◌∷◌, ◌++◌, length, drop, get_or, set, refl, ap, ap₂, sym, ◌∙◌, arith, All, below_more, get_or-set_same, get_or-set_other, ℤ, pos}
 use Rattle.std.proofs.{lemmas.Bool.{eqb-true, and_parts}, lemmas.List.{drop_more}, lemmas.List.Elements.{All-head, All-tail, All-from_get_or}}
 use Rattle.std.specs.Int.{bit_at}
 use Rattle.p25_bits.specs.{Bits.{bits_of, digit_of}, Numbers.{number_bits}}
@@ -20,18 +20,6 @@ places_more places place inside so_far =
     below_more (λ k. get_or (set places place place) k 0 ≡ k) place
     (λ k below. let other : k ≢ place = omega arith in get_or-set_other places place k place 0 other ∙ so_far k below)
     (get_or-set_same places place place 0 inside)
-
--- one more entry of the table is written
-pub entries_more : (levels : List ℤ) (places costs : List ℕ) (entry cost : ℕ) → entry < length costs
-    → ((k : ℕ) → k < entry → (get_or costs k 0 ≡ point_deviation levels (k % 16) (get_or places (k / 16) 0)) × (get_or costs k 0 ≤ 2 ^ 24))
-    → cost ≡ point_deviation levels (entry % 16) (get_or places (entry / 16) 0) → cost ≤ 2 ^ 24 → (k : ℕ) → k < entry + 1
-    → (get_or (set costs entry cost) k 0 ≡ point_deviation levels (k % 16) (get_or places (k / 16) 0)) × (get_or (set costs entry cost) k 0 ≤ 2 ^ 24)
-entries_more levels places costs entry cost inside so_far is low =
-    below_more
-    (λ k. (get_or (set costs entry cost) k 0 ≡ point_deviation levels (k % 16) (get_or places (k / 16) 0)) × (get_or (set costs entry cost) k 0 ≤ 2 ^ 24))
-    entry
-    (λ k below. let other : k ≢ entry = omega arith in let same = get_or-set_other costs entry k cost 0 other in (same ∙ (so_far k below).0, omega (arith, same, (so_far k below).1)))
-    (let same = get_or-set_same costs entry cost 0 inside in (same ∙ is, omega (arith, same)))
 
 -- all entries are the table
 pub IsPointTable-from : (levels : List ℤ) (places costs : List ℕ) → length places ≡ 49 → ((k : ℕ) → k < 49 → get_or (interleaved places) k 0 ≡ k)

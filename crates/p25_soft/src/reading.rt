@@ -46,8 +46,11 @@ fn level_costs(levels: &[i8]) -> [u32; BLOCK_COSTS]
 {
     let places = sent_places();
     let mut costs = [0; BLOCK_COSTS];
-    for entry in 0..BLOCK_COSTS {
-        costs[entry] = point_cost(levels, usize::from(places[entry / 16]), (entry % 16) as u8);
+    for step in 0..BLOCK_POINTS {
+        let place = usize::from(places[step]);
+        for nibble in 0..16 {
+            costs[16 * step + usize::from(nibble)] = point_cost(levels, place, nibble);
+        }
     }
     costs
 }

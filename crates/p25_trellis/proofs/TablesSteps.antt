@@ -5,7 +5,8 @@ use Rattle.std.specs.Cmp.{first_so, second_so}
 use Rattle.p25_bits.specs.{Bits.{bits_of}, Distance.{distance_by}}
 use Rattle.p25_trellis.specs.declared.rate.TheConstants.{HALF_POINTS, THREE_QUARTER_POINTS}
 use Rattle.p25_trellis.specs.declared.tables.TheConstants.{HALF_SYMBOLS, HALF_DISTANCES, THREE_QUARTER_SYMBOLS, THREE_QUARTER_DISTANCES}
-use Rattle.p25_trellis.specs.{Tables.{point_nibbles, half_rows, three_quarter_rows, point_in, half_point, three_quarter_point, nibble_distance}, TableLaws.{AreTables, passed_below, passed_below-at}}
+use Rattle.p25_trellis.specs.Tables.{point_nibbles, half_rows, three_quarter_rows, point_in, half_point, three_quarter_point, nibble_distance}
+use Rattle.p25_trellis.specs.TableLaws.{AreTables, symbol_in, passed_below, passed_below-at}
 
 -- every entry is the point that its row and its column ask for
 unfoldable points_test : ℕ → (ℕ → ℕ → ℕ) → List ℕ → Bool
@@ -20,14 +21,14 @@ point-from_test states point points passed state symbol row column = eqb-true _ 
 -- every entry that is a symbol is one that sends the nibble of its place
 unfoldable sending_test : ℕ → (ℕ → ℕ → ℕ) → List ℕ → Bool
 sending_test states point symbols =
-    passed_below 16 (λ nibble. passed_below states (λ state. not (ltb (get_or symbols (8 * nibble + state) 0) states) || eqb (point state (get_or symbols (8 * nibble + state) 0)) nibble))
+    passed_below 16 (λ nibble. passed_below states (λ state. not (ltb (symbol_in symbols state nibble) states) || eqb (point state (symbol_in symbols state nibble)) nibble))
 
 second : (a b : Bool) → (not a || b) ≡ true → a ≡ true → b ≡ true
 second true b h is = h
 second false b h is = absurd (cc)
 
 sends-from_test : (states : ℕ) (point : ℕ → ℕ → ℕ) (symbols : List ℕ) → sending_test states point symbols ≡ true → (state nibble : ℕ) → state < states → nibble < 16
-    → get_or symbols (8 * nibble + state) 0 < states → point state (get_or symbols (8 * nibble + state) 0) ≡ nibble
+    → symbol_in symbols state nibble < states → point state (symbol_in symbols state nibble) ≡ nibble
 unfolding sending_test
 sends-from_test states point symbols passed state nibble row small is =
     eqb-true _ _ (second _ _ (passed_below-at states _ (passed_below-at 16 _ passed nibble small) state row) (lt-ltb _ _ is))
@@ -37,19 +38,19 @@ unfoldable none_test : ℕ → (ℕ → ℕ → ℕ) → List ℕ → Bool
 none_test states point symbols =
     passed_below 16 (
     λ nibble. passed_below states (
-    λ state. ltb (get_or symbols (8 * nibble + state) 0) states
-    || (eqb (get_or symbols (8 * nibble + state) 0) 8 && passed_below states (λ symbol. not (eqb (point state symbol) nibble)))))
+    λ state. ltb (symbol_in symbols state nibble) states
+    || (eqb (symbol_in symbols state nibble) 8 && passed_below states (λ symbol. not (eqb (point state symbol) nibble)))))
 
 other : (a b : Bool) → (a || b) ≡ true → a ≡ false → b ≡ true
 other true b h is = absurd (cc)
 other false b h is = h
 
 none-from_test : (states : ℕ) (point : ℕ → ℕ → ℕ) (symbols : List ℕ) → none_test states point symbols ≡ true → (state nibble : ℕ) → state < states → nibble < 16
-    → states ≤ get_or symbols (8 * nibble + state) 0
-    → (get_or symbols (8 * nibble + state) 0 ≡ 8) × ((symbol : ℕ) → symbol < states → point state symbol ≢ nibble)
+    → states ≤ symbol_in symbols state nibble
+    → (symbol_in symbols state nibble ≡ 8) × ((symbol : ℕ) → symbol < states → point state symbol ≢ nibble)
 unfolding none_test
 none-from_test states point symbols passed state nibble row small past =
-    let entry = get_or symbols (8 * nibble + state) 0 in
+    let entry = symbol_in symbols state nibble in
     let both = other (ltb entry states) _ (passed_below-at states _ (passed_below-at 16 _ passed nibble small) state row) (le-ltb entry states past) in (
       eqb-true entry 8 (first_so _ _ both),
       λ symbol inside same.
@@ -80,7 +81,7 @@ small-from_test count bound entries long some passed place = elim (cases_lt plac
 
 -- what the tables of a rate pass
 record TablesPass (states : ℕ) (point : ℕ → ℕ → ℕ) (points symbols distances : List ℕ) : Type 0 where
-  long : (length points ≡ states * states) × (length symbols ≡ 128) × (length distances ≡ 128 * states)
+  long : (length points ≡ states * states) × (length symbols ≡ 16) × (length distances ≡ 128 * states)
   small : passed_below (states * states) (λ i. ltb (get_or points i 0) 16) ≡ true
   low : passed_below (128 * states) (λ i. ltb (get_or distances i 0) 5) ≡ true
   point_at : points_test states point points ≡ true
@@ -102,14 +103,14 @@ are_tables {states} {point} {points} {symbols} {distances} passes = record {
 }
 
 half_pass : TablesPass 4 half_point HALF_POINTS HALF_SYMBOLS HALF_DISTANCES
-unfolding points_test sending_test none_test distances_test passed_below half_point point_in half_rows point_nibbles nibble_distance bits_of distance_by
+unfolding points_test sending_test none_test distances_test passed_below symbol_in half_point point_in half_rows point_nibbles nibble_distance bits_of distance_by
 half_pass = record { long = (refl, refl, refl); small = refl; low = refl; point_at = refl; sends = refl; none = refl; distance_at = refl }
 
 pub half_are_tables : AreTables 4 half_point HALF_POINTS HALF_SYMBOLS HALF_DISTANCES
 half_are_tables = are_tables half_pass
 
 three_quarter_pass : TablesPass 8 three_quarter_point THREE_QUARTER_POINTS THREE_QUARTER_SYMBOLS THREE_QUARTER_DISTANCES
-unfolding points_test sending_test none_test distances_test passed_below three_quarter_point point_in three_quarter_rows point_nibbles nibble_distance bits_of distance_by
+unfolding points_test sending_test none_test distances_test passed_below symbol_in three_quarter_point point_in three_quarter_rows point_nibbles nibble_distance bits_of distance_by
 three_quarter_pass = record { long = (refl, refl, refl); small = refl; low = refl; point_at = refl; sends = refl; none = refl; distance_at = refl }
 
 pub three_quarter_are_tables : AreTables 8 three_quarter_point THREE_QUARTER_POINTS THREE_QUARTER_SYMBOLS THREE_QUARTER_DISTANCES

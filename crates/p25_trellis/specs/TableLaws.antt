@@ -1,5 +1,5 @@
 -- The laws of the tables of points, from tests over the whole table that compute, and what the tables of the code have.
-use Rattle.std.specs.Prelude.{◌≡◌, ◌≢◌, ℕ, zero, suc, ◌+◌, ◌*◌, ◌^◌, ◌/◌, ◌<◌, ◌≤◌, Bool, true, false, if◌then◌else◌, ◌==◌, nat_le, nat_lt, ◌&&◌, ◌||◌, List, ◌∷◌, length, replicate, slice_index, refl}
+use Rattle.std.specs.Prelude.{◌≡◌, ◌≢◌, ℕ, zero, suc, ◌+◌, ◌*◌, ◌^◌, ◌/◌, ◌%◌, ◌<◌, ◌≤◌, Bool, true, false, if◌then◌else◌, ◌==◌, nat_le, nat_lt, ◌&&◌, ◌||◌, List, ◌∷◌, length, replicate, slice_index, refl}
 use Rattle.std.proofs.{Common.{inl, inr, sym, subst, arith}, lemmas.Bool.{cases_Bool, leb-true, ltb-true, eqb-true, and_parts}}
 use Rattle.std.proofs.lemmas.List.Elements.{All-cons, All-replicate}
 use Rattle.p25_bits.specs.{Bits.{bits_of}, Distance.{distance_by, distance_of}, Numbers.{number_bits}}
@@ -30,6 +30,10 @@ pub record TrellisRate (bits apart : ℕ) : Type 0 where
   pub parted : ℕ → ℕ → ℕ
   pub laws : IsRate (2 ^ bits) bits (6 * bits) apart point parted
 
+-- a table of symbols has a number for each nibble, with a hexadecimal digit for each state, the last for state 0
+unfoldable pub symbol_in : List ℕ → ℕ → ℕ → ℕ
+symbol_in symbols state nibble = slice_index symbols nibble / 2 ^ (4 * state) % 16
+
 -- the tables of a rate with so many states: its points, a row for each state; which symbol sends a nibble from a state, 8 where none
 -- does; and in how many bits the point of a state and a symbol differs from a nibble
 pub record AreTables (states : ℕ) (point : ℕ → ℕ → ℕ) (points symbols distances : List ℕ) : Type 0 where
@@ -37,11 +41,11 @@ pub record AreTables (states : ℕ) (point : ℕ → ℕ → ℕ) (points symbol
   pub points_small : (place : ℕ) → slice_index points place < 16
   pub point_at : (state symbol : ℕ) → state < states → symbol < states
       → slice_index point_nibbles (slice_index points (state * states + symbol)) ≡ point state symbol
-  pub symbols_long : length symbols ≡ 128
-  pub sends : (state nibble : ℕ) → state < states → nibble < 16 → slice_index symbols (8 * nibble + state) < states
-      → point state (slice_index symbols (8 * nibble + state)) ≡ nibble
-  pub none : (state nibble : ℕ) → state < states → nibble < 16 → states ≤ slice_index symbols (8 * nibble + state)
-      → (slice_index symbols (8 * nibble + state) ≡ 8) × ((symbol : ℕ) → symbol < states → point state symbol ≢ nibble)
+  pub symbols_long : length symbols ≡ 16
+  pub sends : (state nibble : ℕ) → state < states → nibble < 16 → symbol_in symbols state nibble < states
+      → point state (symbol_in symbols state nibble) ≡ nibble
+  pub none : (state nibble : ℕ) → state < states → nibble < 16 → states ≤ symbol_in symbols state nibble
+      → (symbol_in symbols state nibble ≡ 8) × ((symbol : ℕ) → symbol < states → point state symbol ≢ nibble)
   pub distances_long : length distances ≡ 128 * states
   pub distance_at : (state symbol nibble : ℕ) → state < states → symbol < states → nibble < 16
       → slice_index distances (8 * (nibble * states + symbol) + state) ≡ nibble_distance (point state symbol) nibble

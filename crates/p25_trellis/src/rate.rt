@@ -163,7 +163,7 @@ impl<T: RateTables> Rate for T {
     }
 
     fn symbol_sending(state: u8, nibble: u8) -> u8 {
-        T::tables().symbols[8 * usize::from(nibble) + usize::from(state)]
+        ((T::tables().symbols[usize::from(nibble)] >> (4 * state)) % 16) as u8
     }
 
     fn distances(symbol: u8, nibble: u8) -> &'static [u8] {

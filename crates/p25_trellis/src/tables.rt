@@ -11,8 +11,9 @@ use super::rate::{HALF_POINTS, Half, RatePoints, THREE_QUARTER_POINTS, ThreeQuar
 pub(crate) struct Tables {
     // The points, a row for each state.
     pub(crate) points: &'static [u8],
-    // Which symbol sends a nibble from a state, at place 8 · nibble + state; 8 where none does.
-    pub(crate) symbols: &'static [u8],
+    // Which symbol sends each nibble: a number for each nibble, with a hexadecimal digit for each state, the last for state 0. It is 8
+    // where no symbol does.
+    pub(crate) symbols: &'static [u32],
     // In how many bits the point of a state and a symbol differs from a nibble, at place 8 · (nibble · states + symbol) + state.
     pub(crate) distances: &'static [u8],
 }
@@ -50,28 +51,44 @@ const THREE_QUARTER_TABLES: Tables = Tables {
     distances: &THREE_QUARTER_DISTANCES,
 };
 
-// Which symbol sends a nibble from a state at half rate, at place 8 · nibble + state; 8 where none does.
-pub(crate) const HALF_SYMBOLS: [u8; 128] = [
-    8, 1, 8, 8, 8, 8, 8, 8, 2, 8, 8, 8, 8, 8, 8, 8, //
-    0, 8, 8, 8, 8, 8, 8, 8, 8, 3, 8, 8, 8, 8, 8, 8, //
-    8, 8, 3, 8, 8, 8, 8, 8, 8, 8, 8, 0, 8, 8, 8, 8, //
-    8, 8, 8, 2, 8, 8, 8, 8, 8, 8, 1, 8, 8, 8, 8, 8, //
-    8, 8, 8, 3, 8, 8, 8, 8, 8, 8, 0, 8, 8, 8, 8, 8, //
-    8, 8, 2, 8, 8, 8, 8, 8, 8, 8, 8, 1, 8, 8, 8, 8, //
-    1, 8, 8, 8, 8, 8, 8, 8, 8, 2, 8, 8, 8, 8, 8, 8, //
-    8, 0, 8, 8, 8, 8, 8, 8, 3, 8, 8, 8, 8, 8, 8, 8,
+// Which symbol sends each nibble at half rate, a digit for each state, the last for state 0; 8 where none does.
+pub(crate) const HALF_SYMBOLS: [u32; 16] = [
+    0x8888_8818,
+    0x8888_8882,
+    0x8888_8880,
+    0x8888_8838,
+    0x8888_8388,
+    0x8888_0888,
+    0x8888_2888,
+    0x8888_8188,
+    0x8888_3888,
+    0x8888_8088,
+    0x8888_8288,
+    0x8888_1888,
+    0x8888_8881,
+    0x8888_8828,
+    0x8888_8808,
+    0x8888_8883,
 ];
 
-// Which symbol sends a nibble from a state at three-quarter rate, at place 8 · nibble + state; 8 where none does.
-pub(crate) const THREE_QUARTER_SYMBOLS: [u8; 128] = [
-    8, 8, 5, 3, 1, 7, 8, 8, 3, 1, 8, 8, 8, 8, 7, 5, //
-    0, 6, 8, 8, 8, 8, 4, 2, 8, 8, 6, 4, 2, 0, 8, 8, //
-    7, 5, 8, 8, 8, 8, 3, 1, 8, 8, 1, 7, 5, 3, 8, 8, //
-    8, 8, 2, 0, 6, 4, 8, 8, 4, 2, 8, 8, 8, 8, 0, 6, //
-    5, 3, 8, 8, 8, 8, 1, 7, 8, 8, 3, 1, 7, 5, 8, 8, //
-    8, 8, 0, 6, 4, 2, 8, 8, 6, 4, 8, 8, 8, 8, 2, 0, //
-    8, 8, 7, 5, 3, 1, 8, 8, 1, 7, 8, 8, 8, 8, 5, 3, //
-    2, 0, 8, 8, 8, 8, 6, 4, 8, 8, 4, 2, 0, 6, 8, 8,
+// Which symbol sends each nibble at three-quarter rate, a digit for each state, the last for state 0; 8 where none does.
+pub(crate) const THREE_QUARTER_SYMBOLS: [u32; 16] = [
+    0x8871_3588,
+    0x5788_8813,
+    0x2488_8860,
+    0x8802_4688,
+    0x1388_8857,
+    0x8835_7188,
+    0x8846_0288,
+    0x6088_8824,
+    0x7188_8835,
+    0x8857_1388,
+    0x8824_6088,
+    0x0288_8846,
+    0x8813_5788,
+    0x3588_8871,
+    0x4688_8802,
+    0x8860_2488,
 ];
 
 // In how many bits the point of a state and a symbol differs from a nibble at half rate, at place 32 · nibble + 8 · symbol + state. It
