@@ -1,5 +1,5 @@
 # Makes the rows of the table. Reads the figures wished for (`name|case|figure`), of which one may be so many times another row above it
-# (``1.2 times `repair` `` of the same recording), and then the lines of what was timed: of a call
+# (``1.2 times `repair` `` of the same recording), and then the lines of what was timed, of several turns: of a call
 # `call|words|input|seconds|KiB|octets|COUNT UNITS|kind`, and of a coder `program|name|case|tenths of a nanosecond|sum`.
 BEGIN {
     FS = "|"
@@ -34,18 +34,30 @@ function rate(count, seconds,   parts) {
     return parts[1] == 0 || seconds == 0 ? "" : sprintf("%.0f %s", parts[1] / seconds, parts[2])
 }
 
-# The row of a call: of a recording its seconds are those of 16 MiB, and its memory is to be small.
-function row_of_call(   name, seconds, whole, speed, large) {
+# Keeps the least seconds of the calls of a row, and the most memory.
+function keep_call(   name) {
     name = $2 "|" $3
-    seconds = whole = $4
-    if ($8 == "recording") {
-        whole = seconds * 16 * mib / $6
-        speed = seconds > 0 ? sprintf("%.1f", $6 / seconds / 1000000) : ""
-        large = $5 > 4096 ? ", missed" : ""
+    if (!(name in call)) {
+        call[name] = $0
+        calls[++count_of_calls] = name
+        seconds_taken[name] = $4
+    }
+    if ($4 < seconds_taken[name]) seconds_taken[name] = $4
+    if ($5 > memory[name]) memory[name] = $5
+}
+
+# The row of a call: of a recording its seconds are those of 16 MiB, and its memory is to be small.
+function row_of_call(name,   parts, seconds, whole, speed, large) {
+    split(call[name], parts, "|")
+    seconds = whole = seconds_taken[name]
+    if (parts[8] == "recording") {
+        whole = seconds * 16 * mib / parts[6]
+        speed = seconds > 0 ? sprintf("%.1f", parts[6] / seconds / 1000000) : ""
+        large = memory[name] > 4096 ? ", missed" : ""
         taken[name] = whole
     }
     printf("| `%s` | %s | %.2f s | %s | %s | %s | | | %s |\n",
-        $2, $3, whole, speed, rate($7, seconds), $5 large, wished(name, whole))
+        parts[2], parts[3], whole, speed, rate(parts[7], seconds), memory[name] large, wished(name, whole))
 }
 
 # The row of a coder, beside the program that does the same.
@@ -77,7 +89,7 @@ FILENAME == ARGV[1] {
 }
 
 $1 == "call" {
-    row_of_call()
+    keep_call()
     next
 }
 
@@ -85,6 +97,7 @@ $1 == "call" {
 
 # What is of one name stands together.
 END {
+    for (n = 1; n <= count_of_calls; n++) row_of_call(calls[n])
     for (n = 1; n <= count_of_names; n++) {
         for (i = 1; i <= rows; i++) if (part[order[i]] == names[n]) row_of_coder(order[i])
     }
