@@ -1,15 +1,16 @@
 -- The least distances of a step, from those of the step after it: each is the least over the symbols, which are taken in one after another.
-use Rattle.std.proofs.{Common.{◌≡◌, ℕ, zero, suc, ◌+◌, ◌-◌, ◌*◌, ◌<◌, ◌≤◌, inl, inr, List, take, drop, get_or, refl, ap, ap₂, sym, subst, ◌∙◌, arith, min, add-one}, lemmas.Bool.{cases_lt}}
+use Rattle.std.proofs.Common.{◌≡◌, ℕ, zero, suc, ◌≢◌, ◌+◌, ◌-◌, ◌*◌, ◌/◌, ◌%◌, ◌<◌, ◌≤◌, inl, inr, List, take, drop, length, get_or, set, refl, ap, ap₂, sym, subst, ◌∙◌, arith, min}
+use Rattle.std.proofs.lemmas.Bool.{cases_lt}
 use borrow.Rule.Slice.PartMut.{mid_of}
 use Rattle.p25_bits.proofs.PartLaws.{get_or-part}
-use Rattle.p25_trellis.specs.{Tables.{nibble_distance}, Costs.{received_cost}, Least.{rest_in, step_cost, HasLeastFrom, IsLowestLeast}}
-use Rattle.p25_trellis.proofs.{CostLaws.{IsLowestLeast-one, IsLowestLeast-less, IsLowestLeast-kept, rest-le}, DistanceLaws.{nibble_distance-le}}
+use Rattle.p25_trellis.specs.{Tables.{nibble_distance}, Costs.{received_cost}, Least.{rest_in, step_cost, HasLeastFrom, HasLowestFrom, IsLowestLeast}}
+use Rattle.p25_trellis.proofs.{CostLaws.{IsLowestLeast-one, IsLowestLeast-less, IsLowestLeast-kept, rest-le, rest_in-other, rest_in-same}, DistanceLaws.{nibble_distance-le}}
 
--- the distance that a table has for a state is the cost of its nibble
-pub received_cost-is : (received distances : List ℕ) (step state nibble : ℕ)
-    → get_or distances state 0 ≡ nibble_distance nibble (get_or received step 0) → get_or distances state 0 ≡ received_cost received step nibble
+-- an eighth of the rank of the symbol 0 is the cost of its nibble
+pub received_cost-is : (received ranks : List ℕ) (step state nibble : ℕ)
+    → get_or ranks state 0 ≡ 8 * nibble_distance nibble (get_or received step 0) + 0 → get_or ranks state 0 / 8 ≡ received_cost received step nibble
 unfolding received_cost
-received_cost-is received distances step state nibble is = is
+received_cost-is received ranks step state nibble is = omega (arith, is)
 
 -- costs against nibbles received are at most four
 received_cost-le : (received : List ℕ) (step nibble : ℕ) → received_cost received step nibble ≤ 4
@@ -17,20 +18,12 @@ unfolding received_cost
 received_cost-le received step nibble = nibble_distance-le nibble (get_or received step 0)
 
 -- so what follows a step is at most four for each of 48 steps
-pub near_rest-le : (states : ℕ) (point : ℕ → ℕ → ℕ) (received rests : List ℕ) (step symbol : ℕ) → HasLeastFrom states point (received_cost received) rests (suc step) → step < 48 → symbol < states
+near_rest-le : (states : ℕ) (point : ℕ → ℕ → ℕ) (received rests : List ℕ) (step symbol : ℕ) → HasLeastFrom states point (received_cost received) rests (suc step) → step < 48 → symbol < states
     → rest_in rests (suc step) symbol ≤ 192
 near_rest-le states point received rests step symbol after early below = rest-le states point (received_cost received) rests 4 step symbol (received_cost-le received) after early below
 
--- what a symbol costs, as it is read
-pub near_sum : (point : ℕ → ℕ → ℕ) (received rests distances : List ℕ) (step state symbol entry column : ℕ) → entry ≡ state → column ≡ symbol
-    → get_or distances state 0 ≡ nibble_distance (point state symbol) (get_or received step 0)
-    → get_or distances entry 0 + get_or rests (8 * (step + 1) + column) 0 ≡ step_cost point (received_cost received) rests step state symbol
-unfolding step_cost received_cost rest_in
-near_sum point received rests distances step state symbol entry column is same each =
-    ap₂ ◌+◌ (ap (λ n. get_or distances n 0) is ∙ each) (rw add-one (ap (λ n. get_or rests (8 * suc step + n) 0) same))
-
 -- the eight entries of the step after one
-pub next_rest : (rests : List ℕ) (step symbol : ℕ) → symbol < 8 → get_or (mid_of (8 * step + 8) (8 * step + 16 - (8 * step + 8)) rests) symbol 0 ≡ rest_in rests (suc step) symbol
+next_rest : (rests : List ℕ) (step symbol : ℕ) → symbol < 8 → get_or (mid_of (8 * step + 8) (8 * step + 16 - (8 * step + 8)) rests) symbol 0 ≡ rest_in rests (suc step) symbol
 unfolding rest_in
 next_rest rests step symbol below =
     let eight : 8 * step + 16 - (8 * step + 8) ≡ 8 = omega arith in
@@ -38,7 +31,7 @@ next_rest rests step symbol below =
     ap (λ k. get_or (take k (drop (8 * step + 8) rests)) symbol 0) eight ∙ get_or-part (8 * step + 8) 8 symbol rests 0 below ∙ ap (λ k. get_or rests k 0) place
 
 -- values that agree have one lowest least
-pub IsLowestLeast-same : (states : ℕ) (f g : ℕ → ℕ) (symbol least : ℕ) → ((other : ℕ) → other < states → f other ≡ g other) → IsLowestLeast states f symbol least → IsLowestLeast states g symbol least
+IsLowestLeast-same : (states : ℕ) (f g : ℕ → ℕ) (symbol least : ℕ) → ((other : ℕ) → other < states → f other ≡ g other) → IsLowestLeast states f symbol least → IsLowestLeast states g symbol least
 IsLowestLeast-same states f g symbol least same was = record {
   below = was.below;
   is = sym (same symbol was.below) ∙ was.is;
@@ -59,33 +52,95 @@ IsLowestLeast-step states point received rests step state nibble symbol least fe
     (λ other below. ap₂ ◌+◌ (ap (nibble_distance (point state other)) is) (next_rest rests step other (omega arith)))
     was
 
--- and it fits an octet
-pub near_sum-lt : (rests distances : List ℕ) (step symbol entry column : ℕ) → column ≡ symbol → get_or distances entry 0 ≤ 4 → rest_in rests (suc step) symbol ≤ 192
-    → get_or distances entry 0 + get_or rests (8 * (step + 1) + column) 0 < 256
-unfolding rest_in
-near_sum-lt rests distances step symbol entry column same low few =
-    let next : get_or rests (8 * (step + 1) + column) 0 ≡ get_or rests (8 * suc step + symbol) 0 = rw add-one (ap (λ n. get_or rests (8 * suc step + n) 0) same) in
-    omega (arith, next, low, few)
-
--- the least that can follow a state, as it is read
+-- what a table has for a state at a step, as it is read
 pub rest_read : (rests : List ℕ) (step state column : ℕ) → column ≡ state → get_or rests (8 * step + column) 0 ≡ rest_in rests step state
 unfolding rest_in
 rest_read rests step state column same = ap (λ n. get_or rests (8 * step + n) 0) same
 
--- one symbol more lowers the least value
-pub lowered_more : (value : ℕ → ℕ) (n least new here : ℕ) → (n ≡ 0 → least ≡ 255) → (0 < n → (symbol : ℕ) × IsLowestLeast n value symbol least) → here ≡ value n → here ≤ 255
-    → new ≡ min least here → (symbol : ℕ) × IsLowestLeast (n + 1) value symbol new
-lowered_more value zero least new here first so_far is low lowered =
+-- so the least of a step fits an octet
+pub least-fits : (states : ℕ) (point : ℕ → ℕ → ℕ) (received rests : List ℕ) (step state symbol least : ℕ) → HasLeastFrom states point (received_cost received) rests (suc step) → step < 48
+    → IsLowestLeast states (step_cost point (received_cost received) rests step state) symbol least → least < 256
+unfolding step_cost
+least-fits states point received rests step state symbol least after early choice =
+    omega (arith, choice.is, received_cost-le received step (point state symbol), near_rest-le states point received rests step symbol after early choice.below)
+
+-- what a step costs hangs on what follows it alone
+pub IsLowestLeast-next : (states : ℕ) (point cost : ℕ → ℕ → ℕ) (rests others : List ℕ) (step state symbol least : ℕ) → states ≤ 8
+    → ((next : ℕ) → next < 8 → rest_in others (suc step) next ≡ rest_in rests (suc step) next)
+    → IsLowestLeast states (step_cost point cost rests step state) symbol least → IsLowestLeast states (step_cost point cost others step state) symbol least
+unfolding step_cost
+IsLowestLeast-next states point cost rests others step state symbol least few same was =
+    IsLowestLeast-same states (λ next. cost step (point state next) + rest_in rests (suc step) next) (λ next. cost step (point state next) + rest_in others (suc step) next) symbol least
+    (λ next below. ap (λ n. cost step (point state next) + n) (sym (same next (omega (arith, few, below)))))
+    was
+
+-- one symbol more lowers the least rank: the symbols before it are lower, so it has to have less
+pub lowered_more : (value : ℕ → ℕ) (n least new here : ℕ) → n < 8 → (n ≡ 0 → least ≡ 65535) → (0 < n → IsLowestLeast n value (least % 8) (least / 8)) → here ≡ 8 * value n + n
+    → here ≤ 65535 → new ≡ min least here → IsLowestLeast (n + 1) value (new % 8) (new / 8)
+lowered_more value zero least new here few first so_far is low lowered =
     let whole : new ≡ here = omega (arith, lowered, first refl, low) in
-    (0, IsLowestLeast-one value new (whole ∙ is))
-lowered_more value (suc n) least new here first so_far is low lowered =
+    let symbol : 0 ≡ new % 8 = omega (arith, whole, is) in
+    let cost : value 0 ≡ new / 8 = omega (arith, whole, is) in
+    subst (λ (k : ℕ). IsLowestLeast 1 value k (new / 8)) symbol (IsLowestLeast-one value (new / 8) (sym cost))
+lowered_more value (suc n) least new here few first so_far is low lowered =
     let was = so_far (omega arith) in
     elim (cases_lt here least) [
       | inl less ↦
           let whole : new ≡ here = omega (arith, lowered, less) in
-          (suc n, IsLowestLeast-less (suc n) value was.0 least new was.1 (whole ∙ is) (omega (arith, whole, less)))
+          let symbol : suc n ≡ new % 8 = omega (arith, whole, is, few) in
+          let cost : new / 8 ≡ value (suc n) = omega (arith, whole, is, few) in
+          subst (λ (k : ℕ). IsLowestLeast (suc n + 1) value k (new / 8)) symbol
+          (IsLowestLeast-less (suc n) value (least % 8) (least / 8) (new / 8) was cost (omega (arith, less, whole, was.below)))
       | inr not_less ↦
-          let whole : new ≡ least = omega (arith, lowered, not_less) in
-          let kept = IsLowestLeast-kept (suc n) value was.0 least here was.1 is (omega arith) in
-          (was.0, subst (λ (k : ℕ). IsLowestLeast (suc n + 1) value was.0 k) (sym whole) kept)
+          let whole : least ≡ new = omega (arith, lowered, not_less) in
+          let kept = IsLowestLeast-kept (suc n) value (least % 8) (least / 8) (value (suc n)) was refl (omega (arith, not_less, is, was.below)) in
+          subst (λ (k : ℕ). IsLowestLeast (suc n + 1) value (k % 8) (k / 8)) whole kept
     ]
+
+-- a write at a step changes no cost of a later step, and none of its own
+step_cost-write : (point cost : ℕ → ℕ → ℕ) (rests : List ℕ) (step column value later state symbol : ℕ) → column < 8 → symbol < 8 → step ≤ later
+    → step_cost point cost rests later state symbol ≡ step_cost point cost (set rests (8 * step + column) value) later state symbol
+unfolding step_cost
+step_cost-write point cost rests step column value later state symbol few low late =
+    let other : 8 * suc later + symbol ≢ 8 * step + column = omega arith in
+    ap (λ n. cost later (point state symbol) + n) (sym (rest_in-other rests step column (suc later) symbol value few low other))
+
+-- what two writes at a step leave of the lowest least at another place
+pub lowest-kept : (states : ℕ) (point cost : ℕ → ℕ → ℕ) (rests symbols : List ℕ) (step column least symbol later state : ℕ) → states ≤ 8 → column < 8 → step ≤ later → state < 8
+    → 8 * later + state ≢ 8 * step + column → IsLowestLeast states (step_cost point cost rests later state) (rest_in symbols later state) (rest_in rests later state)
+    → let written : List ℕ = set rests (8 * step + column) least in
+    IsLowestLeast states (step_cost point cost written later state) (rest_in (set symbols (8 * step + column) symbol) later state) (rest_in written later state)
+lowest-kept states point cost rests symbols step column least symbol later state few row late low other was =
+    let written = set rests (8 * step + column) least in
+    let same_symbol = sym (rest_in-other symbols step column later state symbol row low other) in
+    let same_least = sym (rest_in-other rests step column later state least row low other) in
+    subst (λ (n : ℕ). IsLowestLeast states (step_cost point cost written later state) n (rest_in written later state)) same_symbol
+    (subst (λ (n : ℕ). IsLowestLeast states (step_cost point cost written later state) (rest_in symbols later state) n) same_least
+    (IsLowestLeast-same states (step_cost point cost rests later state) (step_cost point cost written later state) (rest_in symbols later state) (rest_in rests later state)
+    (λ symbol below. step_cost-write point cost rests step column least later state symbol row (omega arith) late)
+    was))
+
+-- and what they write
+pub lowest-written : (states : ℕ) (point cost : ℕ → ℕ → ℕ) (rests symbols : List ℕ) (step state least symbol : ℕ) → states ≤ 8 → state < 8 → 8 * step + state < length rests
+    → 8 * step + state < length symbols → IsLowestLeast states (step_cost point cost rests step state) symbol least
+    → let written : List ℕ = set rests (8 * step + state) least in
+    IsLowestLeast states (step_cost point cost written step state) (rest_in (set symbols (8 * step + state) symbol) step state) (rest_in written step state)
+lowest-written states point cost rests symbols step state least symbol few row there inside was =
+    let written = set rests (8 * step + state) least in
+    let same_symbol = sym (rest_in-same symbols step state symbol inside) in
+    let same_least = sym (rest_in-same rests step state least there) in
+    subst (λ (n : ℕ). IsLowestLeast states (step_cost point cost written step state) n (rest_in written step state)) same_symbol
+    (subst (λ (n : ℕ). IsLowestLeast states (step_cost point cost written step state) symbol n) same_least
+    (IsLowestLeast-same states (step_cost point cost rests step state) (step_cost point cost written step state) symbol least
+    (λ other below. step_cost-write point cost rests step state least step state other row (omega arith) (omega arith))
+    was))
+
+-- two writes at a step leave what the tables have after it
+pub HasLowestFrom-write : {states : ℕ} {point cost : ℕ → ℕ → ℕ} {rests symbols : List ℕ} (step column least symbol : ℕ) → states ≤ 8 → column < 8
+    → HasLowestFrom states point cost rests symbols (suc step)
+    → HasLowestFrom states point cost (set rests (8 * step + column) least) (set symbols (8 * step + column) symbol) (suc step)
+HasLowestFrom-write {states} {point} {cost} {rests} {symbols} step column least symbol few row has = record {
+  at = λ later state late early below.
+      let other : 8 * later + state ≢ 8 * step + column = omega arith in
+      lowest-kept states point cost rests symbols step column least symbol later state few row (omega arith) (omega arith) other (has.at later state late early below);
+}

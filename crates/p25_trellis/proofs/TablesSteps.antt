@@ -3,10 +3,9 @@ use Rattle.std.proofs.Common.{◌≡◌, ◌≢◌, ℕ, ◌+◌, ◌*◌, ◌<�
 use Rattle.std.proofs.{lemmas.Bool.{eq-eqb, eqb-true, le-ltb, ltb-true, cases_lt, lt-ltb}, lemmas.List.{get_or_past}}
 use Rattle.std.specs.Cmp.{first_so, second_so}
 use Rattle.p25_bits.specs.{Bits.{bits_of}, Distance.{distance_by}}
-use Rattle.p25_trellis.specs.declared.rate.TheConstants.{HALF_POINTS, THREE_QUARTER_POINTS}
-use Rattle.p25_trellis.specs.declared.tables.TheConstants.{HALF_SYMBOLS, HALF_DISTANCES, THREE_QUARTER_SYMBOLS, THREE_QUARTER_DISTANCES}
+use Rattle.p25_trellis.specs.{declared.rate.TheConstants.{HALF_POINTS, THREE_QUARTER_POINTS}, declared.tables.TheConstants.{HALF_SYMBOLS, HALF_RANKS, THREE_QUARTER_SYMBOLS, THREE_QUARTER_RANKS}}
 use Rattle.p25_trellis.specs.Tables.{point_nibbles, half_rows, three_quarter_rows, point_in, half_point, three_quarter_point, nibble_distance}
-use Rattle.p25_trellis.specs.TableLaws.{AreTables, symbol_in, passed_below, passed_below-at}
+use Rattle.p25_trellis.specs.TableLaws.{AreTables, symbol_digit, passed_below, passed_below-at}
 
 -- every entry is the point that its row and its column ask for
 unfoldable points_test : ℕ → (ℕ → ℕ → ℕ) → List ℕ → Bool
@@ -21,14 +20,14 @@ point-from_test states point points passed state symbol row column = eqb-true _ 
 -- every entry that is a symbol is one that sends the nibble of its place
 unfoldable sending_test : ℕ → (ℕ → ℕ → ℕ) → List ℕ → Bool
 sending_test states point symbols =
-    passed_below 16 (λ nibble. passed_below states (λ state. not (ltb (symbol_in symbols state nibble) states) || eqb (point state (symbol_in symbols state nibble)) nibble))
+    passed_below 16 (λ nibble. passed_below states (λ state. not (ltb (symbol_digit symbols state nibble) states) || eqb (point state (symbol_digit symbols state nibble)) nibble))
 
 second : (a b : Bool) → (not a || b) ≡ true → a ≡ true → b ≡ true
 second true b h is = h
 second false b h is = absurd (cc)
 
 sends-from_test : (states : ℕ) (point : ℕ → ℕ → ℕ) (symbols : List ℕ) → sending_test states point symbols ≡ true → (state nibble : ℕ) → state < states → nibble < 16
-    → symbol_in symbols state nibble < states → point state (symbol_in symbols state nibble) ≡ nibble
+    → symbol_digit symbols state nibble < states → point state (symbol_digit symbols state nibble) ≡ nibble
 unfolding sending_test
 sends-from_test states point symbols passed state nibble row small is =
     eqb-true _ _ (second _ _ (passed_below-at states _ (passed_below-at 16 _ passed nibble small) state row) (lt-ltb _ _ is))
@@ -38,19 +37,19 @@ unfoldable none_test : ℕ → (ℕ → ℕ → ℕ) → List ℕ → Bool
 none_test states point symbols =
     passed_below 16 (
     λ nibble. passed_below states (
-    λ state. ltb (symbol_in symbols state nibble) states
-    || (eqb (symbol_in symbols state nibble) 8 && passed_below states (λ symbol. not (eqb (point state symbol) nibble)))))
+    λ state. ltb (symbol_digit symbols state nibble) states
+    || (eqb (symbol_digit symbols state nibble) 8 && passed_below states (λ symbol. not (eqb (point state symbol) nibble)))))
 
 other : (a b : Bool) → (a || b) ≡ true → a ≡ false → b ≡ true
 other true b h is = absurd (cc)
 other false b h is = h
 
 none-from_test : (states : ℕ) (point : ℕ → ℕ → ℕ) (symbols : List ℕ) → none_test states point symbols ≡ true → (state nibble : ℕ) → state < states → nibble < 16
-    → states ≤ symbol_in symbols state nibble
-    → (symbol_in symbols state nibble ≡ 8) × ((symbol : ℕ) → symbol < states → point state symbol ≢ nibble)
+    → states ≤ symbol_digit symbols state nibble
+    → (symbol_digit symbols state nibble ≡ 8) × ((symbol : ℕ) → symbol < states → point state symbol ≢ nibble)
 unfolding none_test
 none-from_test states point symbols passed state nibble row small past =
-    let entry = symbol_in symbols state nibble in
+    let entry = symbol_digit symbols state nibble in
     let both = other (ltb entry states) _ (passed_below-at states _ (passed_below-at 16 _ passed nibble small) state row) (le-ltb entry states past) in (
       eqb-true entry 8 (first_so _ _ both),
       λ symbol inside same.
@@ -58,17 +57,17 @@ none-from_test states point symbols passed state nibble row small past =
           let two : false ≡ true = sym (ap not (eq-eqb (point state symbol) nibble same)) ∙ differs in absurd (cc two),
     )
 
--- every entry is the distance that its place asks for
-unfoldable distances_test : ℕ → (ℕ → ℕ → ℕ) → List ℕ → Bool
-distances_test states point distances =
+-- every entry is the rank that its place asks for
+unfoldable ranks_test : ℕ → (ℕ → ℕ → ℕ) → List ℕ → Bool
+ranks_test states point ranks =
     passed_below 16 (
     λ nibble. passed_below states (
-    λ symbol. passed_below states (λ state. eqb (get_or distances (8 * (nibble * states + symbol) + state) 0) (nibble_distance (point state symbol) nibble))))
+    λ symbol. passed_below states (λ state. eqb (get_or ranks (8 * (nibble * states + symbol) + state) 0) (8 * nibble_distance (point state symbol) nibble + symbol))))
 
-distance-from_test : (states : ℕ) (point : ℕ → ℕ → ℕ) (distances : List ℕ) → distances_test states point distances ≡ true → (state symbol nibble : ℕ) → state < states
-    → symbol < states → nibble < 16 → get_or distances (8 * (nibble * states + symbol) + state) 0 ≡ nibble_distance (point state symbol) nibble
-unfolding distances_test
-distance-from_test states point distances passed state symbol nibble row column small =
+rank-from_test : (states : ℕ) (point : ℕ → ℕ → ℕ) (ranks : List ℕ) → ranks_test states point ranks ≡ true → (state symbol nibble : ℕ) → state < states
+    → symbol < states → nibble < 16 → get_or ranks (8 * (nibble * states + symbol) + state) 0 ≡ 8 * nibble_distance (point state symbol) nibble + symbol
+unfolding ranks_test
+rank-from_test states point ranks passed state symbol nibble row column small =
     eqb-true _ _ (passed_below-at states _ (passed_below-at states _ (passed_below-at 16 _ passed nibble small) symbol column) state row)
 
 -- no entry reaches a bound
@@ -80,38 +79,38 @@ small-from_test count bound entries long some passed place = elim (cases_lt plac
 ]
 
 -- what the tables of a rate pass
-record TablesPass (states : ℕ) (point : ℕ → ℕ → ℕ) (points symbols distances : List ℕ) : Type 0 where
-  long : (length points ≡ states * states) × (length symbols ≡ 16) × (length distances ≡ 128 * states)
+record TablesPass (states : ℕ) (point : ℕ → ℕ → ℕ) (points symbols ranks : List ℕ) : Type 0 where
+  long : (length points ≡ states * states) × (length symbols ≡ 16) × (length ranks ≡ 128 * states)
   small : passed_below (states * states) (λ i. ltb (get_or points i 0) 16) ≡ true
-  low : passed_below (128 * states) (λ i. ltb (get_or distances i 0) 5) ≡ true
+  low : passed_below (128 * states) (λ i. ltb (get_or ranks i 0) 40) ≡ true
   point_at : points_test states point points ≡ true
   sends : sending_test states point symbols ≡ true
   none : none_test states point symbols ≡ true
-  distance_at : distances_test states point distances ≡ true
+  rank_at : ranks_test states point ranks ≡ true
 
-are_tables : {states : ℕ} {point : ℕ → ℕ → ℕ} {points symbols distances : List ℕ} → TablesPass states point points symbols distances → AreTables states point points symbols distances
-are_tables {states} {point} {points} {symbols} {distances} passes = record {
+are_tables : {states : ℕ} {point : ℕ → ℕ → ℕ} {points symbols ranks : List ℕ} → TablesPass states point points symbols ranks → AreTables states point points symbols ranks
+are_tables {states} {point} {points} {symbols} {ranks} passes = record {
   points_long = passes.long.0;
   points_small = small-from_test (states * states) 16 points passes.long.0 (omega arith) passes.small;
   point_at = point-from_test states point points passes.point_at;
   symbols_long = passes.long.1;
   sends = sends-from_test states point symbols passes.sends;
   none = none-from_test states point symbols passes.none;
-  distances_long = passes.long.2;
-  distance_at = distance-from_test states point distances passes.distance_at;
-  distances_small = λ place. omega (arith, small-from_test (128 * states) 5 distances passes.long.2 (omega arith) passes.low place);
+  ranks_long = passes.long.2;
+  rank_at = rank-from_test states point ranks passes.rank_at;
+  ranks_small = λ place. omega (arith, small-from_test (128 * states) 40 ranks passes.long.2 (omega arith) passes.low place);
 }
 
-half_pass : TablesPass 4 half_point HALF_POINTS HALF_SYMBOLS HALF_DISTANCES
-unfolding points_test sending_test none_test distances_test passed_below symbol_in half_point point_in half_rows point_nibbles nibble_distance bits_of distance_by
-half_pass = record { long = (refl, refl, refl); small = refl; low = refl; point_at = refl; sends = refl; none = refl; distance_at = refl }
+half_pass : TablesPass 4 half_point HALF_POINTS HALF_SYMBOLS HALF_RANKS
+unfolding points_test sending_test none_test ranks_test passed_below symbol_digit half_point point_in half_rows point_nibbles nibble_distance bits_of distance_by
+half_pass = record { long = (refl, refl, refl); small = refl; low = refl; point_at = refl; sends = refl; none = refl; rank_at = refl }
 
-pub half_are_tables : AreTables 4 half_point HALF_POINTS HALF_SYMBOLS HALF_DISTANCES
+pub half_are_tables : AreTables 4 half_point HALF_POINTS HALF_SYMBOLS HALF_RANKS
 half_are_tables = are_tables half_pass
 
-three_quarter_pass : TablesPass 8 three_quarter_point THREE_QUARTER_POINTS THREE_QUARTER_SYMBOLS THREE_QUARTER_DISTANCES
-unfolding points_test sending_test none_test distances_test passed_below symbol_in three_quarter_point point_in three_quarter_rows point_nibbles nibble_distance bits_of distance_by
-three_quarter_pass = record { long = (refl, refl, refl); small = refl; low = refl; point_at = refl; sends = refl; none = refl; distance_at = refl }
+three_quarter_pass : TablesPass 8 three_quarter_point THREE_QUARTER_POINTS THREE_QUARTER_SYMBOLS THREE_QUARTER_RANKS
+unfolding points_test sending_test none_test ranks_test passed_below symbol_digit three_quarter_point point_in three_quarter_rows point_nibbles nibble_distance bits_of distance_by
+three_quarter_pass = record { long = (refl, refl, refl); small = refl; low = refl; point_at = refl; sends = refl; none = refl; rank_at = refl }
 
-pub three_quarter_are_tables : AreTables 8 three_quarter_point THREE_QUARTER_POINTS THREE_QUARTER_SYMBOLS THREE_QUARTER_DISTANCES
+pub three_quarter_are_tables : AreTables 8 three_quarter_point THREE_QUARTER_POINTS THREE_QUARTER_SYMBOLS THREE_QUARTER_RANKS
 three_quarter_are_tables = are_tables three_quarter_pass

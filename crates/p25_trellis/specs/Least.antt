@@ -35,6 +35,12 @@ pub record IsLowestLeast (states : ℕ) (value : ℕ → ℕ) (symbol least : �
 unfoldable pub step_cost : (ℕ → ℕ → ℕ) → (ℕ → ℕ → ℕ) → List ℕ → ℕ → ℕ → ℕ → ℕ
 step_cost point cost rests step state symbol = cost step (point state symbol) + rest_in rests (suc step) symbol
 
+-- beside a table of what the rest of a path costs another has, for each state at each step from one on, the lowest symbol that such a rest begins
+-- with
+pub record HasLowestFrom (states : ℕ) (point cost : ℕ → ℕ → ℕ) (rests symbols : List ℕ) (from : ℕ) : Type 0 where
+  pub at : (step state : ℕ) → from ≤ step → step < 48 → state < states
+      → IsLowestLeast states (step_cost point cost rests step state) (rest_in symbols step state) (rest_in rests step state)
+
 -- what answers, at each step and from each state, the lowest of the symbols that cost least with what follows them
 pub record Chooses (states : ℕ) (point cost : ℕ → ℕ → ℕ) (rests : List ℕ) (answers : ℕ → ℕ → ℕ → Type 0) : Type 0 where
   pub at : (step state symbol : ℕ) → step < 48 → state < states → answers step state symbol

@@ -31,25 +31,25 @@ pub record TrellisRate (bits apart : ℕ) : Type 0 where
   pub laws : IsRate (2 ^ bits) bits (6 * bits) apart point parted
 
 -- a table of symbols has a number for each nibble, with a hexadecimal digit for each state, the last for state 0
-unfoldable pub symbol_in : List ℕ → ℕ → ℕ → ℕ
-symbol_in symbols state nibble = slice_index symbols nibble / 2 ^ (4 * state) % 16
+unfoldable pub symbol_digit : List ℕ → ℕ → ℕ → ℕ
+symbol_digit symbols state nibble = slice_index symbols nibble / 2 ^ (4 * state) % 16
 
 -- the tables of a rate with so many states: its points, a row for each state; which symbol sends a nibble from a state, 8 where none
--- does; and in how many bits the point of a state and a symbol differs from a nibble
-pub record AreTables (states : ℕ) (point : ℕ → ℕ → ℕ) (points symbols distances : List ℕ) : Type 0 where
+-- does; and how a symbol ranks at a nibble after a state: eight times in how many bits its point differs from the nibble, and the symbol
+pub record AreTables (states : ℕ) (point : ℕ → ℕ → ℕ) (points symbols ranks : List ℕ) : Type 0 where
   pub points_long : length points ≡ states * states
   pub points_small : (place : ℕ) → slice_index points place < 16
   pub point_at : (state symbol : ℕ) → state < states → symbol < states
       → slice_index point_nibbles (slice_index points (state * states + symbol)) ≡ point state symbol
   pub symbols_long : length symbols ≡ 16
-  pub sends : (state nibble : ℕ) → state < states → nibble < 16 → symbol_in symbols state nibble < states
-      → point state (symbol_in symbols state nibble) ≡ nibble
-  pub none : (state nibble : ℕ) → state < states → nibble < 16 → states ≤ symbol_in symbols state nibble
-      → (symbol_in symbols state nibble ≡ 8) × ((symbol : ℕ) → symbol < states → point state symbol ≢ nibble)
-  pub distances_long : length distances ≡ 128 * states
-  pub distance_at : (state symbol nibble : ℕ) → state < states → symbol < states → nibble < 16
-      → slice_index distances (8 * (nibble * states + symbol) + state) ≡ nibble_distance (point state symbol) nibble
-  pub distances_small : (place : ℕ) → slice_index distances place ≤ 4
+  pub sends : (state nibble : ℕ) → state < states → nibble < 16 → symbol_digit symbols state nibble < states
+      → point state (symbol_digit symbols state nibble) ≡ nibble
+  pub none : (state nibble : ℕ) → state < states → nibble < 16 → states ≤ symbol_digit symbols state nibble
+      → (symbol_digit symbols state nibble ≡ 8) × ((symbol : ℕ) → symbol < states → point state symbol ≢ nibble)
+  pub ranks_long : length ranks ≡ 128 * states
+  pub rank_at : (state symbol nibble : ℕ) → state < states → symbol < states → nibble < 16
+      → slice_index ranks (8 * (nibble * states + symbol) + state) ≡ 8 * nibble_distance (point state symbol) nibble + symbol
+  pub ranks_small : (place : ℕ) → slice_index ranks place ≤ 39
 
 -- in how many bits at least the half-rate paths from two states differ until they meet
 unfoldable pub half_parted : ℕ → ℕ → ℕ

@@ -7,9 +7,9 @@ ghost use Rattle.p25_trellis.specs.Nearest.{nearest_octets, nearest_distance, bl
 
 use super::exact::path_along;
 use super::interleave::{gather, spread};
-use super::near::{first_symbol, near_rests};
+use super::near::read_near;
 use super::nibbles::{append_nibbles, take_nibbles};
-use super::path::{nibbles_of, octets_of, path_of, take_path};
+use super::path::{nibbles_of, octets_of, path_of};
 use super::rate::Rate;
 use p25_bits::BitBuf;
 
@@ -46,14 +46,7 @@ pub fn read_block<R: Rate>(bits: &BitBuf, at: usize, octets: &mut [u8]) -> u32
             octets_of::<R>(&path, octets);
             0
         }
-        None => {
-            let rests = near_rests::<R>(&received);
-            take_path::<R, _>(
-                |step, state| first_symbol::<R>(&received, &rests, step, state),
-                octets,
-            );
-            u32::from(rests[0])
-        }
+        None => read_near::<R>(&received, octets),
     }
 }
 

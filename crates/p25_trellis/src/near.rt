@@ -1,44 +1,45 @@
 //! The search of the first nearest path to nibbles that were received: from the last step to the first the least distance of what
-//! follows each state, all states of a step side by side, and then for each state the lowest symbol that attains it.
+//! follows each state and the lowest symbol that it begins with, all states of a step side by side, and then the path of these symbols.
 
-ghost use Rattle.std.specs.Prelude.{◌≡◌, ℕ, suc, ◌+◌, ◌<◌, ◌≤◌, All, length, min, slice_index};
-ghost use Rattle.p25_trellis.specs.{Tables.{nibble_distance}, Costs.{received_cost}, Least.{rest_in, step_cost, HasLeastFrom, IsLowestLeast}};
+ghost use Rattle.std.specs.Prelude.{◌≡◌, ℕ, ◌+◌, ◌*◌, ◌/◌, ◌%◌, ◌<◌, ◌≤◌, All, length, min, slice_index};
+ghost use Rattle.p25_trellis.specs.{Trellis.{IsFirstLeastReading}, Tables.{nibble_distance}, Costs.{path_cost, received_cost}};
+ghost use Rattle.p25_trellis.specs.Least.{rest_in, HasLeastFrom, HasLowestFrom, IsLowestLeast};
 
+use super::path::take_path;
 use super::rate::Rate;
 
 // The number of least distances of what follows a state: 8 for each of 49 steps.
 pub(crate) const BLOCK_RESTS: usize = 392;
 
-// Lowers each of eight least distances to that of a symbol and what follows it, where this is less.
+// Lowers each of eight least ranks to that of a symbol and what follows it, where this is less.
 #[inline(always)]
-fn lower(distances: &[u8], rest: u8, least: &mut [u8; 8])
-    requires eight { length distances.now ≡ 8 }
-    requires low { (state : ℕ) → slice_index distances.now state ≤ 4 }
-    requires rest { rest ≤ 192 }
-    ensures { (state : ℕ) → state < 8 → slice_index least.new state ≡ min (slice_index least.old state) (slice_index distances.now state + rest) }
+fn lower(ranks: &[u16], rest: u8, least: &mut [u16; 8])
+    requires eight { length ranks.now ≡ 8 }
+    requires low { (state : ℕ) → slice_index ranks.now state ≤ 39 }
+    ensures { (state : ℕ) → state < 8 → slice_index least.new state ≡ min (slice_index least.old state) (slice_index ranks.now state + 8 * rest) }
 {
+    let more = 8 * u16::from(rest);
     for state in 0..8 {
-        least[state] = least[state].min(distances[state] + rest);
+        least[state] = least[state].min(ranks[state] + more);
     }
 }
 
-// The least distance of each state at a step with what follows it, where `rests` has what follows the next step. There are eight
-// places; those after the last state mean nothing.
+// The least rank of each state at a step, where `rests` has the least distances of what follows the next step: eight times the least
+// distance of the step with what follows it, and the lowest symbol that attains it. There are eight places; those after the last state
+// mean nothing.
 #[inline(always)]
-fn least_at<R: Rate>(nibble: u8, rests: &[u8]) -> [u8; 8]
+fn least_at<R: Rate>(nibble: u8, rests: &[u8]) -> [u16; 8]
     requires nibble { nibble < 16 }
     requires rests { length rests.now ≡ 8 }
-    requires low { (symbol : ℕ) → symbol < R.STATES → slice_index rests.now symbol ≤ 192 }
     ensures least { (state : ℕ) → state < R.STATES
-        → (symbol : ℕ)
-        × IsLowestLeast R.STATES (λ other. nibble_distance (R.point_of state other) nibble + slice_index rests.now other) symbol
-        (slice_index result state) }
+        → IsLowestLeast R.STATES (λ other. nibble_distance (R.point_of state other) nibble + slice_index rests.now other)
+        (slice_index result state % 8) (slice_index result state / 8) }
     ensures len { length result ≡ 8 }
 {
-    let mut least = [255; 8];
+    let mut least = [0xFFFF; 8];
     for symbol in 0..R::STATES {
         lower(
-            R::distances(symbol, nibble),
+            R::ranks(symbol, nibble),
             rests[usize::from(symbol)],
             &mut least,
         );
@@ -52,44 +53,52 @@ fn fill_last<R: Rate>(received: &[u8; 49], rests: &mut [u8])
     requires rests { length rests.old ≡ 392 }
     ensures { HasLeastFrom R.STATES R.point_of (received_cost received.now) rests.new 48 }
 {
-    let distances = R::distances(0, received[48]);
+    let ranks = R::ranks(0, received[48]);
     for state in 0..usize::from(R::STATES) {
-        rests[384 + state] = distances[state];
+        rests[384 + state] = (ranks[state] / 8) as u8;
     }
 }
 
-// The least that can follow each state at each step.
-pub(crate) fn near_rests<R: Rate>(received: &[u8; 49]) -> [u8; BLOCK_RESTS]
+// Sets the least distance of what can follow each state at each step, and the lowest symbol that it begins with.
+fn fill_rests<R: Rate>(
+    received: &[u8; 49],
+    rests: &mut [u8; BLOCK_RESTS],
+    symbols: &mut [u8; BLOCK_RESTS],
+)
     requires { All (λ n. n < 16) received.now }
-    ensures least { HasLeastFrom R.STATES R.point_of (received_cost received.now) result 0 }
-    ensures len { length result ≡ 392 }
+    ensures least { HasLeastFrom R.STATES R.point_of (received_cost received.now) rests.new 0 }
+    ensures lowest { HasLowestFrom R.STATES R.point_of (received_cost received.now) rests.new symbols.new 0 }
 {
-    let mut rests = [0; BLOCK_RESTS];
-    fill_last::<R>(received, &mut rests);
+    fill_last::<R>(received, rests);
     for step in (0..48).rev() {
         let least = least_at::<R>(received[step], &rests[8 * step + 8..8 * step + 16]);
         for state in 0..usize::from(R::STATES) {
-            rests[8 * step + state] = least[state];
+            rests[8 * step + state] = (least[state] / 8) as u8;
+            symbols[8 * step + state] = (least[state] % 8) as u8;
         }
     }
-    rests
 }
 
-// The lowest of the symbols that lead from a state to the least that can follow it.
-pub(crate) fn first_symbol<R: Rate>(received: &[u8; 49], rests: &[u8], step: usize, state: u8) -> u8
-    requires nibbles { All (λ n. n < 16) received.now }
-    requires rests { length rests.now ≡ 392 }
+// The symbol that a table has for a state at a step.
+fn symbol_at(symbols: &[u8; BLOCK_RESTS], step: usize, state: u8) -> u8
     requires step { step < 48 }
-    requires state { state < R.STATES }
-    requires least { HasLeastFrom R.STATES R.point_of (received_cost received.now) rests.now 0 }
-    ensures { IsLowestLeast R.STATES (step_cost R.point_of (received_cost received.now) rests.now step state) result (rest_in rests.now step state) }
+    requires state { state < 8 }
+    ensures { result ≡ rest_in symbols.now step state }
 {
-    let least = rests[8 * step + usize::from(state)];
-    for symbol in 0..R::STATES - 1 {
-        let distance = R::distances(symbol, received[step])[usize::from(state)];
-        if distance + rests[8 * (step + 1) + usize::from(symbol)] == least {
-            return symbol;
-        }
-    }
-    R::STATES - 1
+    symbols[8 * step + usize::from(state)]
+}
+
+// Sets `octets` to those of the first nearest path to nibbles, and answers its distance. It is a function of its own, so that a block
+// that was sent without a wrong bit pays nothing for the search.
+#[inline(never)]
+pub(crate) fn read_near<R: Rate>(received: &[u8; 49], octets: &mut [u8]) -> u32
+    requires nibbles { All (λ n. n < 16) received.now }
+    requires octets { length octets.old ≡ R.OCTETS }
+    ensures { IsFirstLeastReading R.STATES R.BITS_PER_SYMBOL (path_cost R.point_of (received_cost received.now)) octets.new result }
+{
+    let mut rests = [0; BLOCK_RESTS];
+    let mut symbols = [0; BLOCK_RESTS];
+    fill_rests::<R>(received, &mut rests, &mut symbols);
+    take_path::<R, _>(|step, state| symbol_at(&symbols, step, state), octets);
+    u32::from(rests[0])
 }

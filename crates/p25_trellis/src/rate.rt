@@ -1,6 +1,6 @@
 //! The two rates: their numbers and their tables of points, the nibbles of the points, and what every rate is by its tables.
 
-ghost use Rattle.std.specs.Prelude.{◌≡◌, ◌≢◌, ℕ, ◌*◌, ◌^◌, ◌<◌, ◌≤◌, length, slice_index};
+ghost use Rattle.std.specs.Prelude.{◌≡◌, ◌≢◌, ℕ, ◌+◌, ◌*◌, ◌^◌, ◌<◌, ◌≤◌, length, slice_index};
 ghost use Rattle.p25_trellis.specs.{Tables.{nibble_distance}, TableLaws.{IsRate}};
 
 use super::tables::RateTables;
@@ -48,13 +48,14 @@ pub trait Rate {
         ensures sends { result < STATES → point_of state result ≡ nibble }
         ensures none { STATES ≤ result → (result ≡ 8) × ((symbol : ℕ) → symbol < STATES → point_of state symbol ≢ nibble) };
 
-    /// Answers in how many bits the points of a symbol differ from a nibble, the point of each state at its place. There are
-    /// eight places; those after the last state mean nothing.
-    fn distances(symbol: u8, nibble: u8) -> &'static [u8]
+    /// Answers how a symbol ranks at a nibble after each state: eight times in how many bits its point differs from the nibble, and the
+    /// symbol. So the lowest rank is that of the lowest of the nearest symbols. There are eight places; those after the last state mean
+    /// nothing.
+    fn ranks(symbol: u8, nibble: u8) -> &'static [u16]
         requires column { symbol < STATES }
         requires nibble { nibble < 16 }
-        ensures each { (state : ℕ) → state < STATES → slice_index result.now state ≡ nibble_distance (point_of state symbol) nibble }
-        ensures low { (state : ℕ) → slice_index result.now state ≤ 4 }
+        ensures each { (state : ℕ) → state < STATES → slice_index result.now state ≡ 8 * nibble_distance (point_of state symbol) nibble + symbol }
+        ensures low { (state : ℕ) → slice_index result.now state ≤ 39 }
         ensures len { length result.now ≡ 8 };
 
     // The laws of the table.
@@ -166,9 +167,9 @@ impl<T: RateTables> Rate for T {
         ((T::tables().symbols[usize::from(nibble)] >> (4 * state)) % 16) as u8
     }
 
-    fn distances(symbol: u8, nibble: u8) -> &'static [u8] {
+    fn ranks(symbol: u8, nibble: u8) -> &'static [u16] {
         let at = 8 * (usize::from(nibble) * usize::from(Self::STATES) + usize::from(symbol));
-        &T::tables().distances[at..at + 8]
+        &T::tables().ranks[at..at + 8]
     }
 
     ghost table = { T.rate.laws };

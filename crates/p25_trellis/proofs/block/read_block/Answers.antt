@@ -1,11 +1,9 @@
-use Rattle.std.proofs.{Common.{rules, ◌≡◌, ℕ, ◌+◌, ◌*◌, ◌<◌, ◌≤◌, All, Bool, List, length, drop, refl, sym, ap, subst, ◌∙◌, arith, length-drop}, lemmas.List.Elements.{All-same}}
-use Rattle.std.proofs.iter.Serving.{serving}
+use Rattle.std.proofs.{Common.{◌≡◌, ℕ, ◌+◌, ◌*◌, ◌<◌, ◌≤◌, All, Bool, List, length, drop, refl, sym, ap, subst, ◌∙◌, arith, length-drop}, lemmas.List.Elements.{All-same}}
 use Rattle.p25_bits.specs.{Bits.{part}, Numbers.{number_bits, numbers_from}}
-use Rattle.p25_trellis.specs.{Costs.{path_cost, received_cost}, Interleave.{interleaved}, Least.{rest_in}, TableLaws.{IsRate}, Trellis.{IsFirstLeastReading, IsNearReading, distance_from, sent_bits}}
-use Rattle.p25_trellis.specs.Nearest.{nearest_octets, nearest_distance}
+use Rattle.p25_trellis.specs.{Interleave.{interleaved}, TableLaws.{IsRate}, Trellis.{IsFirstLeastReading, IsNearReading, distance_from, sent_bits}, Nearest.{nearest_octets, nearest_distance}}
 use Rattle.p25_bits.proofs.{NumbersLaws.{All-numbers_from, number_bits-numbers_from}, PartLaws.{length-part}}
-use Rattle.p25_trellis.proofs.{CostLaws.{rest_in-first}, DistanceLaws.{path_cost-distance, IsFirstLeastReading-same}, ApartLaws.{same_from_sent_bits, IsNearReading-from}}
-use Rattle.p25_trellis.proofs.{ExactSteps.{IsFirstLeast-exact, at_no_distance}, InterleaveLaws.{All-from_interleaved}, NearestLaws.{same_nearest}, PathLaws.{power-pos}}
+use Rattle.p25_trellis.proofs.{DistanceLaws.{path_cost-distance, IsFirstLeastReading-same}, ApartLaws.{same_from_sent_bits, IsNearReading-from}, ExactSteps.{IsFirstLeast-exact, at_no_distance}}
+use Rattle.p25_trellis.proofs.{InterleaveLaws.{All-from_interleaved}, NearestLaws.{same_nearest}, PathLaws.{power-pos}}
 use Rattle.p25_trellis.proofs.block.read_block.Goals as goal
 
 -- the nibbles of a block, as they are before they are interleaved
@@ -46,13 +44,8 @@ read_from {states} {width} {apart = apart} {point} {parted} law bits at received
 pub path_along-requires : goal.path_along-requires
 path_along-requires g c = are_nibbles c.args.bits.now c.args.at c.gather-received.result (c.gather-received.ensures.sent ∙ c.take_nibbles.ensures.value)
 
-pub near_rests-rests-requires : goal.near_rests-rests-requires
-near_rests-rests-requires g c = are_nibbles c.args.bits.now c.args.at c.gather-received.result (c.gather-received.ensures.sent ∙ c.take_nibbles.ensures.value)
-
-pub take_path-requires-clause-callable : goal.take_path-requires-clause-callable
-take_path-requires-clause-callable g c =
-    let small = are_nibbles c.args.bits.now c.args.at c.gather-received.result (c.gather-received.ensures.sent ∙ c.take_nibbles.ensures.value) in
-    grind (serving, small)
+pub read_near-requires-clause-nibbles : goal.read_near-requires-clause-nibbles
+read_near-requires-clause-nibbles g c = are_nibbles c.args.bits.now c.args.at c.gather-received.result (c.gather-received.ensures.sent ∙ c.take_nibbles.ensures.value)
 
 pub returns-in-Some : goal.returns-in-Some
 unfolding sent_bits
@@ -77,19 +70,11 @@ returns-in-Some g c =
 pub returns-in-None : goal.returns-in-None
 returns-in-None g c =
     let law = g.met.R.Rate.table in
-    let point = g.R.Rate.point_of in
     let received = c.gather-received.result in
-    let rests = c.near_rests-rests.result in
-    let octets = c.take_path.new.octets in
     let some = power-pos g.R.Rate.BITS_PER_SYMBOL g.R.Rate.STATES law.states_of_bits in
-    let costs
-    = subst (λ (total : ℕ). IsFirstLeastReading g.R.Rate.STATES g.R.Rate.BITS_PER_SYMBOL (path_cost point (received_cost received)) octets total)
-    (rest_in-first rests ∙ sym c.from.ensures)
-    (c.take_path.ensures (received_cost received) rests c.near_rests-rests.ensures.least
-    (record { at = λ step state symbol early row answers. (rest_in rests step state, search rules) })) in
     let reading
     = IsFirstLeastReading-same
-    (path_cost-distance g.R.Rate.STATES point received (number_bits 4 (interleaved received)) some law.nibbles c.gather-received.ensures.len refl)
-    costs in
-    let read = read_from law c.args.bits.now c.args.at received octets c.from.result (c.gather-received.ensures.sent ∙ c.take_nibbles.ensures.value) c.requires.there reading in
+    (path_cost-distance g.R.Rate.STATES g.R.Rate.point_of received (number_bits 4 (interleaved received)) some law.nibbles c.gather-received.ensures.len refl)
+    c.read_near.ensures in
+    let read = read_from law c.args.bits.now c.args.at received c.read_near.new.octets c.read_near.result (c.gather-received.ensures.sent ∙ c.take_nibbles.ensures.value) c.requires.there reading in
     record { nearest = read.nearest; octets = read.octets_are; distance = read.distance_is; near = read.near }

@@ -1,11 +1,11 @@
-use Rattle.std.proofs.Common.{◌≡◌, ℕ, ◌+◌, ◌<◌, length, get_or}
+use Rattle.std.proofs.Common.{◌≡◌, ℕ, ◌+◌, ◌/◌, ◌%◌, ◌<◌, length, get_or}
 use Rattle.p25_trellis.specs.{Least.{IsLowestLeast}, Tables.{nibble_distance}}
 use Rattle.p25_trellis.proofs.near.least_at.Given as goal
 
 abbrev pub invariant-loop-symbol : goal.invariant-loop-symbol
 invariant-loop-symbol g l = record {
-  first : (state : ℕ) → state < 8 → l.symbol ≡ 0 → get_or l.least state 0 ≡ 255;
+  first : (state : ℕ) → state < 8 → l.symbol ≡ 0 → get_or l.least state 0 ≡ 65535;
   lowest : (state : ℕ) → state < g.R.Rate.STATES → 0 < l.symbol
-      → (symbol : ℕ) × IsLowestLeast l.symbol (λ other. nibble_distance (g.R.Rate.point_of state other) l.nibble + get_or l.rests other 0) symbol (get_or l.least state 0);
+      → IsLowestLeast l.symbol (λ other. nibble_distance (g.R.Rate.point_of state other) l.nibble + get_or l.rests other 0) (get_or l.least state 0 % 8) (get_or l.least state 0 / 8);
   long : length l.least ≡ 8;
 }
