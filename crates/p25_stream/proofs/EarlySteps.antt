@@ -1,7 +1,7 @@
--- Two counts of ones tell that eight places have no sync: where a sync stands at a place, the ones of a mask that lies within its
+-- Two counts of ones tell that eight or 16 places have no sync: where a sync stands at a place, the ones of a mask that lies within its
 -- ones are missed in no more places than it is wrong in. By induction on lists of bits.
-use Rattle.std.proofs.Common.{◌≡◌, ℕ, zero, suc, ◌+◌, ◌*◌, ◌^◌, ◌<◌, ◌≤◌, inl, inr, Bool, true, false, not, cond, ◌||◌, ◌&&◌, List, [], ◌∷◌, ◌++◌, length, take, drop, replicate, bit_and, refl, ap, ap₂, sym, ◌∙◌, subst, arith, mod-eq_of_lt, length-append, length-drop}
-use Rattle.std.proofs.{lemmas.Bool.{cases_Bool, and_from, and_parts}, Math.Seq.{take-length}, lemmas.List.{length-take-le, take-append-drop}, lemmas.Nat.{and_block, and_le_l, ones_cat}}
+use Rattle.std.proofs.Common.{◌≡◌, ℕ, zero, suc, ◌+◌, ◌*◌, ◌/◌, ◌^◌, ◌<◌, ◌≤◌, inl, inr, Bool, true, false, not, cond, ◌||◌, ◌&&◌, List, [], ◌∷◌, ◌++◌, length, take, drop, bit_and, refl, ap, ap₂, sym, ◌∙◌, subst, arith, mod-eq_of_lt, length-append, length-drop}
+use Rattle.std.proofs.{lemmas.Bool.{cases_Bool, cases_lt, and_from, and_parts}, Math.Seq.{take-length}, lemmas.List.{length-take-le, take-append-drop}, lemmas.Nat.{and_block, and_le_l, ones_cat}}
 use Rattle.std.specs.{Bool.{beq}, Int.RustNames.{count_ones}}
 use Rattle.p25_bits.specs.{Bits.{digit_of, bits_of, field_of, part}, Distance.{distance_by, distance_of}}
 use Rattle.p25_bits.proofs.{BitsLaws.{length-bits_of, field_of-cons, field_of-lt, field_of-nil, field_of-bits_of}, DistanceLaws.{distance_of-same, distance_by-append}, PartLaws.{length-part}}
@@ -49,11 +49,17 @@ within-append (m ∷ ms) (y ∷ ys) ns zs long a b =
     and_from (not m || y) (within (ms ++ ns) (ys ++ zs)) parts.0 (within-append ms ys ns zs (omega arith) parts.1 b)
 within-append ms ys ns zs long a b = absurd (omega arith)
 
-within-none : (n : ℕ) (ys : List Bool) → within (replicate n false) ys ≡ true
+within-none : (ms ys : List Bool) → within ms [] ≡ true → within ms ys ≡ true
 unfolding within
-within-none zero ys = refl
-within-none (suc n) [] = within-none n []
-within-none (suc n) (y ∷ ys) = within-none n ys
+within-none [] ys none = refl
+within-none (m ∷ ms) [] none = none
+within-none (m ∷ ms) (y ∷ ys) none =
+    let parts = and_parts (not m) (within ms []) none in
+    and_from (not m || y) (within ms ys) (or_left (not m) y parts.0) (within-none ms ys parts.1)
+  where
+    or_left : (a b : Bool) → a ≡ true → (a || b) ≡ true
+    or_left true b is = refl
+    or_left false b is = absurd (cc)
 
 -- a 1 of the mask is missed only where the bits are wrong
 missed_at : (x y m : Bool) → (not m || y) ≡ true → cond (m && m) 1 0 ≤ cond (x && m) 1 0 + cond (beq x y) 0 1
@@ -73,32 +79,32 @@ missed (x ∷ xs) (y ∷ ys) (m ∷ ms) a b is =
 missed xs ys ms a b is = absurd (omega arith)
 
 -- a mask has its ones within those of the sync, where the sync stands at a place
-record MaskFits (ms : List Bool) (place left : ℕ) : Type 0 where
-  pub front : take place ms ≡ replicate place false
-  pub inner : within (part place 48 ms) sync_bits ≡ true
-  pub back : drop 48 (drop place ms) ≡ replicate left false
+fits_at : List Bool → ℕ → Bool
+fits_at ms place = within (take place ms) [] && (within (part place 48 ms) sync_bits && within (drop 48 (drop place ms)) [])
 
 cut_at : (place : ℕ) (bits : List Bool) → bits ≡ take place bits ++ (part place 48 bits ++ drop 48 (drop place bits))
 cut_at place bits = sym (take-append-drop place bits) ∙ ap (λ (xs : List Bool). take place bits ++ xs) (sym (take-append-drop 48 (drop place bits)))
 
-module _ (bits ms : List Bool) (place left : ℕ) (long : length bits ≡ 55) (masks : length ms ≡ 55) (inside : place + 48 ≤ 55) where
+module _ (bits ms : List Bool) (place : ℕ) (masks : length ms ≡ length bits) (inside : place + 48 ≤ length bits) where
   synced_bits : List Bool
   synced_bits = take place bits ++ (sync_bits ++ drop 48 (drop place bits))
 
   length-inner : length (part place 48 bits) ≡ 48
-  length-inner = length-part place 48 bits (omega (arith, long))
+  length-inner = length-part place 48 bits inside
 
-  synced-within : MaskFits ms place left → within ms synced_bits ≡ true
-  unfolding synced_bits
+  synced-within : fits_at ms place ≡ true → within ms synced_bits ≡ true
+  unfolding fits_at synced_bits
   synced-within fits =
+      let parts = and_parts (within (take place ms) []) _ fits in
+      let ends = and_parts (within (part place 48 ms) sync_bits) (within (drop 48 (drop place ms)) []) parts.1 in
       subst (λ (xs : List Bool). within xs synced_bits ≡ true) (sym (cut_at place ms))
       (within-append (take place ms) (take place bits) (part place 48 ms ++ drop 48 (drop place ms)) (sync_bits ++ drop 48 (drop place bits))
-      (length-take-le place ms (omega (arith, masks)) ∙ sym (length-take-le place bits (omega (arith, long))))
-      (subst (λ (xs : List Bool). within xs (take place bits) ≡ true) (sym fits.front) (within-none place (take place bits)))
+      (length-take-le place ms (omega (arith, masks, inside)) ∙ sym (length-take-le place bits (omega (arith, inside))))
+      (within-none (take place ms) (take place bits) parts.0)
       (within-append (part place 48 ms) sync_bits (drop 48 (drop place ms)) (drop 48 (drop place bits))
-      (length-part place 48 ms (omega (arith, masks)) ∙ sym length-sync_bits)
-      fits.inner
-      (subst (λ (xs : List Bool). within xs (drop 48 (drop place bits)) ≡ true) (sym fits.back) (within-none left (drop 48 (drop place bits))))))
+      (length-part place 48 ms (omega (arith, masks, inside)) ∙ sym length-sync_bits)
+      ends.0
+      (within-none (drop 48 (drop place ms)) (drop 48 (drop place bits)) ends.1)))
 
   synced-distance : distance_of bits synced_bits ≡ distance_of (part place 48 bits) sync_bits
   unfolding synced_bits
@@ -109,99 +115,95 @@ module _ (bits ms : List Bool) (place left : ℕ) (long : length bits ≡ 55) (m
       (part place 48 bits) (drop 48 (drop place bits)) sync_bits (drop 48 (drop place bits)) (length-inner ∙ sym length-sync_bits))
       ∙ omega (arith, distance_of-same (drop 48 (drop place bits)))
 
-  length-synced : length synced_bits ≡ 55
+  length-synced : length synced_bits ≡ length bits
   unfolding synced_bits
   length-synced =
       length-append (take place bits) (sync_bits ++ drop 48 (drop place bits))
       ∙ omega (
         arith,
-        length-take-le place bits (omega (arith, long)),
+        length-take-le place bits (omega (arith, inside)),
         length-append sync_bits (drop 48 (drop place bits)),
         length-sync_bits,
         length-drop 48 (drop place bits),
         length-drop place bits,
-        long,
+        inside,
       )
 
   -- a place with a sync has most ones of the mask
-  most_ones : MaskFits ms place left → has_sync (part place 48 bits) ≡ true → both ms ms ≤ both bits ms + 4
+  most_ones : fits_at ms place ≡ true → has_sync (part place 48 bits) ≡ true → both ms ms ≤ both bits ms + 4
   most_ones fits yes' =
       let near = has_sync-distance (part place 48 bits) yes' in
       let whole : take 48 (part place 48 bits) ≡ part place 48 bits = ap (λ n. take n (part place 48 bits)) (sym length-inner) ∙ take-length (part place 48 bits) in
-      omega (arith, missed bits synced_bits ms (long ∙ sym length-synced) (long ∙ sym masks) (synced-within fits), synced-distance, near, ap (λ (xs : List Bool). distance_of xs sync_bits) whole)
+      omega (arith, missed bits synced_bits ms (sym length-synced) (sym masks) (synced-within fits), synced-distance, near, ap (λ (xs : List Bool). distance_of xs sync_bits) whole)
 
-  few_ones : MaskFits ms place left → both ms ms ≡ 21 → both bits ms < 17 → has_sync (part place 48 bits) ≡ false
-  few_ones fits all few =
+  few_ones : (least : ℕ) → fits_at ms place ≡ true → both ms ms ≡ least + 4 → both bits ms < least → has_sync (part place 48 bits) ≡ false
+  few_ones least fits all few =
       elim (cases_Bool (has_sync (part place 48 bits))) [ inr no' ↦ no' | inl yes' ↦ absurd (omega (arith, most_ones fits yes')) ]
 
--- the two masks
-even : List Bool
-even = bits_of 55 0xAAAA_AAAA_AA80
+-- it does so at every second place from one on, so many times
+fits_from : List Bool → ℕ → ℕ → Bool
+fits_from ms place zero = true
+fits_from ms place (suc n) = fits_at ms place && fits_from ms (suc (suc place)) n
 
-odd : List Bool
-odd = bits_of 55 0x5555_5555_5540
+fits_from-at : (ms : List Bool) (place n k : ℕ) → fits_from ms place n ≡ true → k < n → fits_at ms (place + 2 * k) ≡ true
+unfolding fits_from
+fits_from-at ms place zero k fits inside = absurd (omega arith)
+fits_from-at ms place (suc n) zero fits inside =
+    let same : place ≡ place + 2 * 0 = omega arith in
+    subst (λ (i : ℕ). fits_at ms i ≡ true) same (and_parts (fits_at ms place) _ fits).0
+fits_from-at ms place (suc n) (suc k) fits inside =
+    let same : suc (suc place) + 2 * k ≡ place + 2 * suc k = omega arith in
+    subst (λ (i : ℕ). fits_at ms i ≡ true) same (fits_from-at ms (suc (suc place)) n k (and_parts (fits_at ms place) _ fits).1 (omega arith))
 
-even-ones : both even even ≡ 21
-unfolding even both bits_of
-even-ones = refl
+-- two masks of `least` ones and four more: one fits at the even places and one at the odd ones
+record AreMasks (count least : ℕ) (even odd : List Bool) : Type 0 where
+  even_long : length even ≡ 47 + 2 * count
+  odd_long : length odd ≡ 47 + 2 * count
+  even_ones : both even even ≡ least + 4
+  odd_ones : both odd odd ≡ least + 4
+  even_fits : fits_from even 0 count ≡ true
+  odd_fits : fits_from odd 1 count ≡ true
 
-odd-ones : both odd odd ≡ 21
-unfolding odd both bits_of
-odd-ones = refl
-
-even-0 : MaskFits even 0 7
-unfolding even within bits_of sync_bits
-even-0 = record { front = refl; inner = refl; back = refl }
-
-even-2 : MaskFits even 2 5
-unfolding even within bits_of sync_bits
-even-2 = record { front = refl; inner = refl; back = refl }
-
-even-4 : MaskFits even 4 3
-unfolding even within bits_of sync_bits
-even-4 = record { front = refl; inner = refl; back = refl }
-
-even-6 : MaskFits even 6 1
-unfolding even within bits_of sync_bits
-even-6 = record { front = refl; inner = refl; back = refl }
-
-odd-1 : MaskFits odd 1 6
-unfolding odd within bits_of sync_bits
-odd-1 = record { front = refl; inner = refl; back = refl }
-
-odd-3 : MaskFits odd 3 4
-unfolding odd within bits_of sync_bits
-odd-3 = record { front = refl; inner = refl; back = refl }
-
-odd-5 : MaskFits odd 5 2
-unfolding odd within bits_of sync_bits
-odd-5 = record { front = refl; inner = refl; back = refl }
-
-odd-7 : MaskFits odd 7 0
-unfolding odd within bits_of sync_bits
-odd-7 = record { front = refl; inner = refl; back = refl }
+-- where both have too few ones in common with some bits, no place has a sync
+none_at : (count least : ℕ) (even odd bits : List Bool) → AreMasks count least even odd → length bits ≡ 47 + 2 * count → both bits even < least → both bits odd < least
+    → (place : ℕ) → place < 2 * count → has_sync (part place 48 bits) ≡ false
+none_at count least even odd bits masks long a b place inside =
+    let k = place / 2 in
+    elim (cases_lt (2 * k) place) [
+      | inl uneven ↦
+          let is : 1 + 2 * k ≡ place = omega (arith, uneven) in
+          let fits = subst (λ (i : ℕ). fits_at odd i ≡ true) is (fits_from-at odd 1 count k masks.odd_fits (omega arith)) in
+          few_ones bits odd place (masks.odd_long ∙ sym long) (omega (arith, long)) least fits masks.odd_ones b
+      | inr not_uneven ↦
+          let is : 0 + 2 * k ≡ place = omega (arith, not_uneven) in
+          let fits = subst (λ (i : ℕ). fits_at even i ≡ true) is (fits_from-at even 0 count k masks.even_fits (omega arith)) in
+          few_ones bits even place (masks.even_long ∙ sym long) (omega (arith, long)) least fits masks.even_ones a
+    ]
 
 -- the weight of a number's bits under a mask
-weight : (number mask : ℕ) → number < 2 ^ 55 → mask < 2 ^ 55 → count_ones (bit_and number mask) ≡ both (bits_of 55 number) (bits_of 55 mask)
-weight number mask small fits =
-    ap₂ (λ a b. count_ones (bit_and a b)) (sym (field_of-bits_of 55 number ∙ mod-eq_of_lt small)) (sym (field_of-bits_of 55 mask ∙ mod-eq_of_lt fits))
-    ∙ ones-and (bits_of 55 number) (bits_of 55 mask) (length-bits_of 55 number ∙ sym (length-bits_of 55 mask))
+weight : (width number mask : ℕ) → number < 2 ^ width → mask < 2 ^ width → count_ones (bit_and number mask) ≡ both (bits_of width number) (bits_of width mask)
+weight width number mask small fits =
+    ap₂ (λ a b. count_ones (bit_and a b)) (sym (field_of-bits_of width number ∙ mod-eq_of_lt small)) (sym (field_of-bits_of width mask ∙ mod-eq_of_lt fits))
+    ∙ ones-and (bits_of width number) (bits_of width mask) (length-bits_of width number ∙ sym (length-bits_of width mask))
 
--- eight places, four by each mask
-none_at : (bits : List Bool) → length bits ≡ 55 → both bits even < 17 → both bits odd < 17 → (place : ℕ) → place < 8 → has_sync (part place 48 bits) ≡ false
-unfolding even odd
-none_at bits long a b zero inside = few_ones bits even 0 7 long (length-bits_of 55 0xAAAA_AAAA_AA80) (omega arith) even-0 even-ones a
-none_at bits long a b (suc zero) inside = few_ones bits odd 1 6 long (length-bits_of 55 0x5555_5555_5540) (omega arith) odd-1 odd-ones b
-none_at bits long a b (suc (suc zero)) inside = few_ones bits even 2 5 long (length-bits_of 55 0xAAAA_AAAA_AA80) (omega arith) even-2 even-ones a
-none_at bits long a b (suc (suc (suc zero))) inside = few_ones bits odd 3 4 long (length-bits_of 55 0x5555_5555_5540) (omega arith) odd-3 odd-ones b
-none_at bits long a b (suc (suc (suc (suc zero)))) inside = few_ones bits even 4 3 long (length-bits_of 55 0xAAAA_AAAA_AA80) (omega arith) even-4 even-ones a
-none_at bits long a b (suc (suc (suc (suc (suc zero))))) inside = few_ones bits odd 5 2 long (length-bits_of 55 0x5555_5555_5540) (omega arith) odd-5 odd-ones b
-none_at bits long a b (suc (suc (suc (suc (suc (suc zero)))))) inside = few_ones bits even 6 1 long (length-bits_of 55 0xAAAA_AAAA_AA80) (omega arith) even-6 even-ones a
-none_at bits long a b (suc (suc (suc (suc (suc (suc (suc zero))))))) inside = few_ones bits odd 7 0 long (length-bits_of 55 0x5555_5555_5540) (omega arith) odd-7 odd-ones b
-none_at bits long a b (suc (suc (suc (suc (suc (suc (suc (suc place)))))))) inside = absurd (omega arith)
+-- the masks of eight places
+eight_masks : AreMasks 4 17 (bits_of 55 0xAAAA_AAAA_AA80) (bits_of 55 0x5555_5555_5540)
+unfolding both fits_from fits_at within bits_of sync_bits
+eight_masks = record { even_long = refl; odd_long = refl; even_ones = refl; odd_ones = refl; even_fits = refl; odd_fits = refl }
 
 pub none-of_eight : (number : ℕ) → number < 2 ^ 55 → count_ones (bit_and number 0xAAAA_AAAA_AA80) < 17
     → count_ones (bit_and number 0x5555_5555_5540) < 17 → (place : ℕ) → place < 8 → has_sync (part place 48 (bits_of 55 number)) ≡ false
-unfolding even odd
 none-of_eight number small a b =
-    none_at (bits_of 55 number) (length-bits_of 55 number) (omega (arith, weight number 0xAAAA_AAAA_AA80 small (omega arith))) (omega (arith, weight number 0x5555_5555_5540 small (omega arith)))
+    none_at 4 17 (bits_of 55 0xAAAA_AAAA_AA80) (bits_of 55 0x5555_5555_5540) (bits_of 55 number) eight_masks (length-bits_of 55 number)
+    (omega (arith, weight 55 number 0xAAAA_AAAA_AA80 small (omega arith))) (omega (arith, weight 55 number 0x5555_5555_5540 small (omega arith)))
+
+-- the masks of 16 places
+sixteen_masks : AreMasks 8 13 (bits_of 63 0xAAAA_AAAA_8000) (bits_of 63 0x5555_5555_4000)
+unfolding both fits_from fits_at within bits_of sync_bits
+sixteen_masks = record { even_long = refl; odd_long = refl; even_ones = refl; odd_ones = refl; even_fits = refl; odd_fits = refl }
+
+pub none-of_sixteen : (number : ℕ) → number < 2 ^ 63 → count_ones (bit_and number 0xAAAA_AAAA_8000) < 13
+    → count_ones (bit_and number 0x5555_5555_4000) < 13 → (place : ℕ) → place < 16 → has_sync (part place 48 (bits_of 63 number)) ≡ false
+none-of_sixteen number small a b =
+    none_at 8 13 (bits_of 63 0xAAAA_AAAA_8000) (bits_of 63 0x5555_5555_4000) (bits_of 63 number) sixteen_masks (length-bits_of 63 number)
+    (omega (arith, weight 63 number 0xAAAA_AAAA_8000 small (omega arith))) (omega (arith, weight 63 number 0x5555_5555_4000 small (omega arith)))

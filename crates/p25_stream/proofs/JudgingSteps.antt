@@ -1,21 +1,13 @@
 -- What the functions that judge bits need at each step: the windows of one number, and each answer as a case of what is
 -- remembered.
-use Rattle.std.proofs.Common.{◌≡◌, ℕ, zero, suc, ◌+◌, ◌-◌, ◌/◌, ◌%◌, ◌^◌, ◌<◌, ◌≤◌, inl, inr, Bool, true, false, List, ◌++◌, length, take, drop, ap, sym, ◌∙◌, subst, arith, append_assoc, mod-eq_of_lt, length-drop}
+use Rattle.std.proofs.Common.{◌≡◌, ℕ, zero, suc, ◌+◌, ◌-◌, ◌/◌, ◌%◌, ◌^◌, ◌<◌, ◌≤◌, inl, inr, Bool, true, false, List, ◌++◌, length, take, drop, ap, sym, ◌∙◌, subst, arith, append_assoc, length-drop}
 use Rattle.std.proofs.{lemmas.Bool.{cases_lt}, Math.Seq.{take-length}}
 use Rattle.p25_bits.specs.{Bits.{bits_of, field_of, part}, Distance.{distance_of}}
-use Rattle.p25_bits.proofs.{BitsLaws.{length-bits_of, bits_of-add, field_of-bits_of, same_from_field_of}, NumbersLaws.{bits_of-field}, PartLaws.{part-part, part_joined}}
+use Rattle.p25_bits.proofs.{BitsLaws.{length-bits_of, bits_of-add, bits_of-mod}, NumbersLaws.{bits_of-field}, PartLaws.{part-part, part_joined, part_left, part_right}}
 use Rattle.p25_status.specs.Sync.{has_sync, sync_bits, sync_slack}
 use Rattle.p25_status.proofs.SyncLaws.{has_sync-yes, has_sync-no, has_sync-take}
 use Rattle.p25_stream.specs.Items.{sync_place}
 use Rattle.p25_stream.proofs.SyncPlaceLaws.{sync_place-more}
-
--- 48 bits of a number that is at least so long
-low_bits : (number : ℕ) → bits_of 48 (number % 2 ^ 48) ≡ bits_of 48 number
-low_bits number =
-    let small : number % 2 ^ 48 < 2 ^ 48 = omega arith in
-    same_from_field_of (bits_of 48 (number % 2 ^ 48)) (bits_of 48 number)
-    (length-bits_of 48 (number % 2 ^ 48) ∙ sym (length-bits_of 48 number))
-    (field_of-bits_of 48 (number % 2 ^ 48) ∙ mod-eq_of_lt small ∙ sym (field_of-bits_of 48 number))
 
 -- the window of a number at a place
 pub window_of : (place count number : ℕ) → place < count → bits_of 48 (number / 2 ^ (count - 1 - place) % 2 ^ 48) ≡ part place 48 (bits_of (47 + count) number)
@@ -25,7 +17,7 @@ window_of place count number inside =
     let split : 47 + count ≡ (place + 48) + low = omega arith in
     let cut = ap (λ n. bits_of n number) split ∙ bits_of-add (place + 48) low number ∙ ap (λ (xs : List Bool). xs ++ bits_of low number) (bits_of-add place 48 high) in
     let front = bits_of place (high / 2 ^ 48) in
-    low_bits high
+    bits_of-mod 48 high
     ∙ sym (part_joined place 48 front (bits_of 48 high) (bits_of low number) (length-bits_of place (high / 2 ^ 48)) (length-bits_of 48 high))
     ∙ ap (part place 48) (sym (cut ∙ append_assoc front (bits_of 48 high) (bits_of low number)))
 
@@ -72,3 +64,22 @@ pub places-free : (bits : List Bool) (k count free number : ℕ) → k + 47 + co
 places-free bits k count zero number there few is none judged = omega arith
 places-free bits k count (suc free) number there few is none judged =
     searched-many bits k (suc free) (omega arith) none (λ place inside. sym (window_in bits k count place number there (omega arith) is) ∙ judged place inside)
+
+-- 16 places are the first eight, and eight more
+pub none-of_two_eights : (number : ℕ) → ((place : ℕ) → place < 8 → has_sync (part place 48 (bits_of 55 (number / 2 ^ 8))) ≡ false)
+    → ((place : ℕ) → place < 8 → has_sync (part place 48 (bits_of 55 (number % 2 ^ 55))) ≡ false) → (place : ℕ) → place < 16 → has_sync (part place 48 (bits_of 63 number)) ≡ false
+none-of_two_eights number high low place inside = elim (cases_lt place 8) [
+  | inl early ↦
+      let fits : place + 48 ≤ length (bits_of 55 (number / 2 ^ 8)) = omega (arith, length-bits_of 55 (number / 2 ^ 8)) in
+      ap (λ (xs : List Bool). has_sync (part place 48 xs)) (bits_of-add 55 8 number)
+      ∙ ap has_sync (part_left place 48 (bits_of 55 (number / 2 ^ 8)) (bits_of 8 number) fits)
+      ∙ high place early
+  | inr late ↦
+      let front = bits_of 8 (number / 2 ^ 55) in
+      let long : length front ≡ 8 = length-bits_of 8 (number / 2 ^ 55) in
+      ap (λ (xs : List Bool). has_sync (part place 48 xs)) (bits_of-add 8 55 number)
+      ∙ ap has_sync (part_right place 48 front (bits_of 55 number) (omega (arith, long)))
+      ∙ ap (λ n. has_sync (part (place - n) 48 (bits_of 55 number))) long
+      ∙ ap (λ (xs : List Bool). has_sync (part (place - 8) 48 xs)) (sym (bits_of-mod 55 number))
+      ∙ low (place - 8) (omega arith)
+]

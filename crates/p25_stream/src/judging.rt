@@ -26,6 +26,13 @@ const ONES_AT_ODD: u64 = 0x5555_5555_5540;
 // How many of these 21 bits are 1 at least where at most four bits of a sync are wrong.
 const ONES_LEAST: u32 = 17;
 
+// The same of the 63 bits from 16 places on: 17 bits that are 1 at the even places, and 17 at the odd ones.
+const WIDE_ONES_AT_EVEN: u64 = 0xAAAA_AAAA_8000;
+
+const WIDE_ONES_AT_ODD: u64 = 0x5555_5555_4000;
+
+const WIDE_ONES_LEAST: u32 = 13;
+
 // What is known of bits of which nothing is known yet.
 #[inline]
 pub(crate) fn beginning_anew(held: &BitBuf) -> Beginning
@@ -95,6 +102,25 @@ fn none_of_eight(number: u64) -> bool
         && (number & ONES_AT_ODD).count_ones() < ONES_LEAST
 }
 
+// Whether counts of ones tell that none of the first 16 places of 63 bits has a sync: two, or where they do not tell, those of each eight
+// places.
+fn none_of_sixteen(number: u64) -> bool
+    requires fits { number < 2 ^ 63 }
+    ensures { result ≡ true → (place : ℕ) → place < 16 → has_sync (part place 48 (bits_of 63 number)) ≡ false }
+{
+    few_of_sixteen(number)
+        || (none_of_eight(number >> AT_ONCE) && none_of_eight(number % (1 << (BEHIND + AT_ONCE))))
+}
+
+// Whether two counts of ones tell that none of the first 16 places of 63 bits has a sync.
+fn few_of_sixteen(number: u64) -> bool
+    requires fits { number < 2 ^ 63 }
+    ensures { result ≡ true → (place : ℕ) → place < 16 → has_sync (part place 48 (bits_of 63 number)) ≡ false }
+{
+    (number & WIDE_ONES_AT_EVEN).count_ones() < WIDE_ONES_LEAST
+        && (number & WIDE_ONES_AT_ODD).count_ones() < WIDE_ONES_LEAST
+}
+
 // What is known of bits that begin with a sync.
 fn beginning_at_sync(held: &BitBuf, begun: Begun) -> Beginning
     requires synced { has_sync held.now ≡ true }
@@ -154,12 +180,17 @@ fn none_of_many(held: &BitBuf, from: usize, count: usize) -> bool
 {
     // The number of bits held bounds every place below.
     let _ = held.len();
-    for k in 0..count {
-        if !none_of_eight(held.field(from + AT_ONCE * k, (BEHIND + AT_ONCE) as u32)) {
+    for k in 0..count / 2 {
+        let at = from + 2 * AT_ONCE * k;
+        if !none_of_sixteen(held.field(at, (BEHIND + 2 * AT_ONCE) as u32)) {
             return false;
         }
     }
-    true
+    if count % 2 == 0 {
+        return true;
+    }
+    let at = from + AT_ONCE * (count - 1);
+    none_of_eight(held.field(at, (BEHIND + AT_ONCE) as u32))
 }
 
 // Judges by all that is there to be read, apart from the caller.
