@@ -1,5 +1,6 @@
 -- How the work on a soft recording goes on: levels come, an item is given, the input ends.
-use Rattle.std.proofs.Common.{◌≡◌, ℕ, ◌+◌, ◌-◌, ◌%◌, ◌<◌, Bool, true, false, List, [], ◌∷◌, ◌++◌, length, drop, map, Some, Ok, refl, ap, ap₂, sym, subst, ◌∙◌, arith, append_assoc, append-nil, length-drop, ℤ}
+use Rattle.std.proofs.Common.{◌≡◌, ℕ, ◌+◌, ◌-◌, ◌%◌, ◌<◌, Bool, true, false, List, [], ◌++◌, length, drop, map, Some, Ok, refl, ap, ap₂, sym, subst, ◌∙◌, arith, append_assoc, append-nil, length-drop, ℤ}
+use Rattle.std.proofs.lemmas.List.{map-append}
 use Rattle.p25_units.specs.{declared.item.Item.{Item}, Items.{covered, place_of}, Units.{whole_octets}}
 use Rattle.p25_stream.specs.{Items.{items_by}, ItemLaws.{GaveItems}, Scan.{Scan, Gave, given}}
 use Rattle.p25_stream.proofs.ItemsLaws.{items_by-nil}
@@ -12,18 +13,19 @@ use Rattle.p25_recording_filters.specs.Softs.{IsHolding, PutSoftItem, SoftParts,
 use Rattle.p25_recording_filters.proofs.{OctetsLaws.{whole_octets-few}, SoftLevelsLaws.{filled-whole, grouped-whole, length-filled}}
 use Rattle.p25_recording_filters.proofs.SoftItemLaws.{changed-none, gone-there, place-given, written-given}
 
--- a level comes
-pub step-push : (before now : SoftParts) (octet : ℕ) (level : ℤ) → before.scan.finished ≡ false → now.scan.finished ≡ false → now.scan.place ≡ before.scan.place
-    → now.levels ≡ before.levels ++ level ∷ [] → level ≡ octet_level octet → now.kept ≡ before.kept → Progress (soft_future before) (octet ∷ []) [] (soft_future now)
+-- levels come
+pub step-push : (before now : SoftParts) (octets : List ℕ) → before.scan.finished ≡ false → now.scan.finished ≡ false → now.scan.place ≡ before.scan.place
+    → now.levels ≡ before.levels ++ map octet_level octets → now.kept ≡ before.kept → Progress (soft_future before) octets [] (soft_future now)
 unfolding soft_future
-step-push before now octet level going still place levels is kept =
-    subst (λ (b : Bool). Progress (soft_future_by b before) (octet ∷ []) [] (soft_future_by now.scan.finished now)) (sym going)
-    (subst (λ (b : Bool). Progress (soft_future_by false before) (octet ∷ []) [] (soft_future_by b now)) (sym still)
+step-push before now octets going still place levels kept =
+    subst (λ (b : Bool). Progress (soft_future_by b before) octets [] (soft_future_by now.scan.finished now)) (sym going)
+    (subst (λ (b : Bool). Progress (soft_future_by false before) octets [] (soft_future_by b now)) (sym still)
     (record {
       writes = λ ended more.
-          let lists : before.levels ++ map octet_level (octet ∷ more) ≡ now.levels ++ map octet_level more
-          = sym (append_assoc before.levels (octet_level octet ∷ []) (map octet_level more))
-          ∙ ap (λ (ls : List ℤ). ls ++ map octet_level more) (ap (λ (l : ℤ). before.levels ++ l ∷ []) (sym is) ∙ sym levels) in
+          let lists : before.levels ++ map octet_level (octets ++ more) ≡ now.levels ++ map octet_level more
+          = ap (λ (ls : List ℤ). before.levels ++ ls) (map-append octet_level octets more)
+          ∙ sym (append_assoc before.levels (map octet_level octets) (map octet_level more))
+          ∙ ap (λ (ls : List ℤ). ls ++ map octet_level more) (sym levels) in
           ap (λ (ls : List ℤ). soft_written ended before.scan.place ls before.kept) lists
           ∙ ap₂ (λ p (k : List Bool). soft_written ended p (now.levels ++ map octet_level more) k) (sym place) (sym kept);
       ends = λ ended more. refl;

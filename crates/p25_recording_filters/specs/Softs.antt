@@ -2,8 +2,7 @@
 use Rattle.std.specs.Prelude.{◌≡◌, ℕ, ◌+◌, ◌-◌, ◌*◌, ◌/◌, ◌%◌, ◌≤◌, Bool, true, false, ◌&&◌, if◌then◌else◌, ◌==◌, List, [], ◌++◌, length, drop, map, ℤ, Some, None}
 use Rattle.p25_bits.specs.Bits.{part}
 use Rattle.p25_bch_nid.specs.Duids.{duid_pdu}
-use Rattle.p25_units.specs.{Items.{covered, place_of}, declared.item.Item.{Item}, declared.item.Item.TheVariants.{Whole, Broken, NoUnit, Gap, Cut}}
-use Rattle.p25_units.specs.Units.{whole_octets}
+use Rattle.p25_units.specs.{Items.{covered, place_of}, declared.item.Item.{Item}, declared.item.Item.TheVariants.{Broken}, Units.{whole_octets}}
 use Rattle.p25_stream.specs.{Items.{items_by}, Scan.{Scan, Gave}}
 use Rattle.p25_soft.specs.{Levels.{hard_bits}, Softened.{IsHeard}}
 use Rattle.p25_filter.specs.{Futures.{Future}, declared.ending.Ending.TheVariants.{Done}}

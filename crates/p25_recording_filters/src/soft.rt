@@ -1,11 +1,11 @@
 //! The work of `soft` on a soft recording: its levels become bits, and the blocks of broken packets (PDU) are read again from them.
 
-ghost use Rattle.std.specs.Prelude.{◌≡◌, ◌≢◌, ◌+◌, ◌-◌, ◌%◌, ◌^◌, ◌<◌, ◌≤◌, true, false, [], ◌∷◌, ◌++◌, length, drop};
+ghost use Rattle.std.specs.Prelude.{◌≡◌, ◌≢◌, ◌+◌, ◌-◌, ◌%◌, ◌^◌, ◌<◌, ◌≤◌, true, false, [], ◌∷◌, ◌++◌, length, take, drop, map};
 ghost use Rattle.p25_bits.specs.Bits.{bits_of};
 ghost use Rattle.p25_stream.specs.Scan.{given};
 ghost use Rattle.p25_units.specs.{Items.{covered, place_of}, Units.{whole_octets}};
 ghost use Rattle.p25_soft.specs.Levels.{hard_bits};
-ghost use Rattle.p25_recording_filters.specs.{Commands.{unfilled}, SoftLevels.{filled, item_softened}};
+ghost use Rattle.p25_recording_filters.specs.{Commands.{unfilled}, SoftLevels.{filled, item_softened, octet_level}};
 ghost use Rattle.p25_recording_filters.specs.Softs.{IsHeardAmong, IsHolding, PutSoftItem, first_level, fresh_soft, is_even_packet};
 
 use crate::held_levels::HeldLevels;
@@ -72,6 +72,27 @@ fn hear(levels: &mut HeldLevels, level: i8, scanner: &mut Scanner)
     if len % 4 == 0 {
         scanner.push(group_octet(levels.part(len - 4, 4)));
     }
+}
+
+// Takes levels, at most those that fill a group, which is handed to the scanner once it is whole, and answers how many.
+fn hear_some(levels: &mut HeldLevels, octets: &[u8], scanner: &mut Scanner) -> usize
+    requires some { 0 < length octets.now }
+    requires drained { given scanner.old ≡ [] }
+    requires going { scanner.old.finished ≡ false }
+    requires holding { IsHolding scanner.old levels.old }
+    requires few { first_level scanner.old.place + length levels.old < 2 ^ 28 }
+    ensures list { levels.new ≡ levels.old ++ map octet_level (take result octets.now) }
+    ensures holding { IsHolding scanner.new levels.new }
+    ensures place { scanner.new.place ≡ scanner.old.place }
+    ensures going { scanner.new.finished ≡ false }
+    ensures some { 0 < result }
+    ensures there { result ≤ length octets.now }
+{
+    let count = (4 - levels.len() % 4).min(octets.len());
+    for i in 0..count {
+        hear(levels, octets[i].cast_signed(), scanner);
+    }
+    count
 }
 
 // Fills the last group, and hands it to the scanner.
@@ -185,8 +206,7 @@ impl Filter for Soft {
 
     fn push_some(&mut self, octets: &[u8]) -> usize {
         let _ = &self.kept;
-        hear(&mut self.levels, octets[0].cast_signed(), &mut self.scanner);
-        1
+        hear_some(&mut self.levels, octets, &mut self.scanner)
     }
 
     fn finish(&mut self) {
