@@ -29,13 +29,13 @@ joined_more-lt width i whole number small fits =
     omega (arith, power, pow-add 2 (width * i) width, mul-le-mul_right (2 ^ width) fits)
 
 -- few numbers have few bits
-pub joined-lt : (width i count whole : ℕ) → i ≤ count → width * count ≤ 28 → whole < 2 ^ (width * i) → whole < 2 ^ 28
-joined-lt width i count whole inside few fits =
-    let short : width * i ≤ 28 = omega (arith, few, mul-le-mul_left width inside) in
+pub joined-lt : (width i count most whole : ℕ) → i ≤ count → width * count ≤ most → whole < 2 ^ (width * i) → whole < 2 ^ most
+joined-lt width i count most whole inside few fits =
+    let short : width * i ≤ most = omega (arith, few, mul-le-mul_left width inside) in
     omega (arith, fits, pow_mono short)
 
 -- so what is joined can be moved up in its word
-pub moved_up : (width i count whole : ℕ) → i < count → width * count ≤ 28 → whole < 2 ^ (width * i) → whole * 2 ^ width % 2 ^ 64 ≡ whole * 2 ^ width
+pub moved_up : (width i count whole : ℕ) → i < count → width * count ≤ 64 → whole < 2 ^ (width * i) → whole * 2 ^ width % 2 ^ 64 ≡ whole * 2 ^ width
 moved_up width i count whole inside few fits =
     let more : i + 1 ≤ count = omega arith in
     let short : width * i + width ≤ 64 = omega (arith, few, count_more width i, mul-le-mul_left width more) in

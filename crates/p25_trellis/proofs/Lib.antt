@@ -9,5 +9,6 @@ pub mod ApartLaws
 pub mod ExactSteps
 pub mod NearSteps
 pub mod NearestBlockLaws
+pub mod FourthLaws
 pub mod NibbleSteps
 pub mod GroupSteps

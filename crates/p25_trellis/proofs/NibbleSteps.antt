@@ -1,32 +1,55 @@
--- Seven nibbles at a time: those that a word of 28 bits writes, and the word that they write.
-use Rattle.std.proofs.{Common.{append_assoc, ◌≡◌, ℕ, ◌+◌, ◌-◌, ◌*◌, ◌<◌, ◌≤◌, Bool, List, ◌++◌, length, take, drop, ap, ap₂, sym, ◌∙◌, arith, length-drop}, Math.Seq.{take-add}}
+-- The nibbles of a block, a fourth of them at a time: those that a word writes, and the word that they write.
+use Rattle.std.proofs.Common.{◌≡◌, ◌≢◌, ℕ, ◌+◌, ◌*◌, ◌<◌, ◌≤◌, Bool, List, ◌++◌, length, drop, get_or, set, ap, sym, ◌∙◌, arith, below_more, length-drop, get_or-set_same, get_or-set_other}
 use Rattle.std.proofs.lemmas.List.{drop-drop}
 use Rattle.p25_bits.specs.{Bits.{bits_of, field_of, part}, Numbers.{number_bits, numbers_from}}
-use Rattle.p25_bits.proofs.NumbersLaws.{number_bits-append, numbers_from-take, bits_of-field}
+use Rattle.p25_bits.proofs.NumbersLaws.{bits_of-field, number_bits-append, numbers_from-add, numbers_from-take}
+use Rattle.p25_trellis.specs.Interleave.{each_fourth, interleaved}
+use Rattle.p25_trellis.proofs.FourthLaws.{each_fourth-set_same, each_fourth-set_other}
 
--- the seven nibbles of a word that was read are those of the bits from its place on
-pub seven_read : (bits : List Bool) (at j word : ℕ) (seven : List ℕ) → j < 7 → at + 196 ≤ length bits → word ≡ field_of (part (at + 28 * j) 28 bits)
-    → seven ≡ numbers_from 4 7 (bits_of 28 word) → seven ≡ numbers_from 4 7 (drop (4 * (7 * j)) (drop at bits))
-seven_read bits at j word seven early there is written =
-    let fits : at + 28 * j + 28 ≤ length bits = omega arith in
-    let enough : 4 * 7 ≤ length (drop (at + 28 * j) bits) = omega (arith, length-drop (at + 28 * j) bits) in
-    let place : at + 28 * j ≡ at + 4 * (7 * j) = omega arith in
+-- one more of a fourth of the nibbles is set to what it has to be
+pub put_more : (from k : ℕ) (nibbles : List ℕ) (value : ℕ → ℕ) → k < length (each_fourth from nibbles)
+    → ((i : ℕ) → i < k → get_or (each_fourth from nibbles) i 0 ≡ value i)
+    → (i : ℕ) → i < k + 1 → get_or (each_fourth from (set nibbles (from + 4 * k) (value k))) i 0 ≡ value i
+put_more from k nibbles value inside so_far = below_more (λ i. get_or (each_fourth from (set nibbles (from + 4 * k) (value k))) i 0 ≡ value i) k before here
+  where
+    as_set : (i : ℕ) → get_or (each_fourth from (set nibbles (from + 4 * k) (value k))) i 0 ≡ get_or (set (each_fourth from nibbles) k (value k)) i 0
+    as_set i = ap (λ (xs : List ℕ). get_or xs i 0) (each_fourth-set_same from nibbles k (value k))
+
+    before : (i : ℕ) → i < k → get_or (each_fourth from (set nibbles (from + 4 * k) (value k))) i 0 ≡ value i
+    before i early =
+        let other : i ≢ k = omega arith in
+        as_set i ∙ get_or-set_other (each_fourth from nibbles) k i (value k) 0 other ∙ so_far i early
+
+    here : get_or (each_fourth from (set nibbles (from + 4 * k) (value k))) k 0 ≡ value k
+    here = as_set k ∙ get_or-set_same (each_fourth from nibbles) k (value k) 0 inside
+
+-- the fourths from elsewhere stay
+pub others_stay : (from other k value : ℕ) (nibbles : List ℕ) → from < 4 → other < 4 → other ≢ from → each_fourth other (set nibbles (from + 4 * k) value) ≡ each_fourth other nibbles
+others_stay from other k value nibbles early there apart =
+    each_fourth-set_other other nibbles (from + 4 * k) value (λ i same. apart (omega (arith, same, early, there)))
+
+-- the nibbles of a word that was read are those of the bits from its place on
+pub fourths_read : (bits : List Bool) (at place count word : ℕ) (fourths : List ℕ) → place + 4 * count ≤ 196 → at + 196 ≤ length bits
+    → word ≡ field_of (part (at + place) (4 * count) bits) → fourths ≡ numbers_from 4 count (bits_of (4 * count) word)
+    → fourths ≡ numbers_from 4 count (drop place (drop at bits))
+fourths_read bits at place count word fourths inside there is written =
+    let fits : at + place + 4 * count ≤ length bits = omega (arith, inside, there) in
+    let enough : 4 * count ≤ length (drop (at + place) bits) = omega (arith, fits, length-drop (at + place) bits) in
     written
-    ∙ ap (numbers_from 4 7) (ap (bits_of 28) is ∙ bits_of-field 28 (at + 28 * j) bits fits)
-    ∙ numbers_from-take 4 7 28 (drop (at + 28 * j) bits) (omega arith) enough
-    ∙ ap (λ n. numbers_from 4 7 (drop n bits)) place
-    ∙ ap (numbers_from 4 7) (sym (drop-drop (4 * (7 * j)) at bits))
+    ∙ ap (numbers_from 4 count) (ap (bits_of (4 * count)) is ∙ bits_of-field (4 * count) (at + place) bits fits)
+    ∙ numbers_from-take 4 count (4 * count) (drop (at + place) bits) (omega arith) enough
+    ∙ ap (numbers_from 4 count) (sym (drop-drop place at bits))
 
--- seven nibbles written after those before them
-pub seven_written : (j word : ℕ) (before written after : List Bool) (nibbles : List ℕ) → j < 7 → length nibbles ≡ 49 → after ≡ written ++ bits_of 28 word
-    → bits_of 28 word ≡ number_bits 4 (take (7 * j + 7 - 7 * j) (drop (7 * j) nibbles)) → written ≡ before ++ number_bits 4 (take (7 * j) nibbles)
-    → after ≡ before ++ number_bits 4 (take (7 * (j + 1)) nibbles)
-seven_written j word before written after nibbles early long is seven so_far =
-    let count : 7 * j + 7 - 7 * j ≡ 7 = omega arith in
-    let more : 7 * j + 7 ≡ 7 * (j + 1) = omega arith in
-    let beginning = take (7 * j) nibbles in
-    let group = take 7 (drop (7 * j) nibbles) in
-    is
-    ∙ ap₂ (λ (xs ys : List Bool). xs ++ ys) so_far (seven ∙ ap (λ n. number_bits 4 (take n (drop (7 * j) nibbles))) count)
-    ∙ append_assoc before (number_bits 4 beginning) (number_bits 4 group)
-    ∙ ap (λ (xs : List Bool). before ++ xs) (sym (number_bits-append 4 beginning group) ∙ ap (number_bits 4) (sym (take-add (7 * j) 7 nibbles) ∙ ap (λ n. take n nibbles) more))
+-- the four fourths that bits write, one after the other
+pub numbers_from-fourths : (bits : List Bool) → numbers_from 4 49 bits
+    ≡ numbers_from 4 13 bits ++ numbers_from 4 12 (drop 52 bits) ++ numbers_from 4 12 (drop 100 bits) ++ numbers_from 4 12 (drop 148 bits)
+numbers_from-fourths bits =
+    numbers_from-add 4 37 12 bits
+    ∙ ap (λ (xs : List ℕ). xs ++ numbers_from 4 12 (drop 148 bits))
+    (numbers_from-add 4 25 12 bits ∙ ap (λ (xs : List ℕ). xs ++ numbers_from 4 12 (drop 100 bits)) (numbers_from-add 4 13 12 bits))
+
+-- and the bits that interleaved nibbles write
+pub number_bits-interleaved : (nibbles : List ℕ) → number_bits 4 (interleaved nibbles)
+    ≡ number_bits 4 (each_fourth 0 nibbles) ++ number_bits 4 (each_fourth 1 nibbles) ++ number_bits 4 (each_fourth 2 nibbles) ++ number_bits 4 (each_fourth 3 nibbles)
+unfolding interleaved
+number_bits-interleaved nibbles = simp (number_bits-append)

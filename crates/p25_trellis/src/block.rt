@@ -6,7 +6,6 @@ ghost use Rattle.p25_trellis.specs.Trellis.{IsBlock, IsFirstLeastReading, IsNear
 ghost use Rattle.p25_trellis.specs.Nearest.{nearest_octets, nearest_distance, block_from};
 
 use super::exact::path_along;
-use super::interleave::{gather, spread};
 use super::near::read_near;
 use super::nibbles::{append_nibbles, take_nibbles};
 use super::path::{nibbles_of, octets_of, path_of};
@@ -24,7 +23,7 @@ pub fn encode_block<R: Rate>(octets: &[u8], out: &mut BitBuf)
     ensures len { length out.new ≡ length out.old + 196 }
 {
     let path = path_of::<R>(octets);
-    append_nibbles(&spread(&nibbles_of::<R>(&path)), out);
+    append_nibbles(&nibbles_of::<R>(&path), out);
 }
 
 /// Sets `octets` to those of the first nearest path to the 196 bits from place `at`, and answers its distance, the number
@@ -39,7 +38,7 @@ pub fn read_block<R: Rate>(bits: &BitBuf, at: usize, octets: &mut [u8]) -> u32
     ensures distance { result ≡ nearest_distance R.STATES R.point_of (part at 196 bits.now) }
     ensures near { IsNearReading R.STATES R.BITS_PER_SYMBOL R.point_of R.APART (part at 196 bits.now) octets.new result }
 {
-    let received = gather(&take_nibbles(bits, at));
+    let received = take_nibbles(bits, at);
     // Mostly they are the nibbles of a path: then no other is as near.
     match path_along::<R>(&received) {
         Some(path) => {

@@ -1,23 +1,18 @@
-use Rattle.std.proofs.{Common.{◌≡◌, ℕ, ◌*◌, ◌<◌, ◌++◌, List, Bool, length, ap, ◌∙◌, arith}, lemmas.List.Elements.{All-same}}
-use Rattle.p25_trellis.proofs.{PathLaws.{same_block}, NearestLaws.{same_block_from}, InterleaveLaws.{All-interleaved}}
+use Rattle.std.proofs.Common.{◌≡◌, ℕ, ◌*◌, ◌++◌, List, Bool, length, ap, ◌∙◌, arith}
+use Rattle.p25_trellis.proofs.{PathLaws.{same_block}, NearestLaws.{same_block_from}}
 use Rattle.p25_trellis.specs.{Interleave.{interleaved}, Trellis.{sent_bits}}
 use Rattle.p25_bits.specs.Numbers.{number_bits}
 use Rattle.p25_trellis.proofs.block.encode_block.Goals as goal
 
-pub append_nibbles-requires-clause-small : goal.append_nibbles-requires-clause-small
-append_nibbles-requires-clause-small g c =
-    let P : ℕ → Type 0 = λ n. n < 16 in
-    All-same P c.spread.result (interleaved c.nibbles_of.result) c.spread.ensures.sent (All-interleaved P c.nibbles_of.result c.nibbles_of.ensures.nibbles)
-
 pub returns-clause-block : goal.returns-clause-block
 unfolding sent_bits
 returns-clause-block g c = (
-  number_bits 4 c.spread.result,
+  number_bits 4 (interleaved c.nibbles_of.result),
   record {
     path = c.path_of-path.result;
     is_path = c.path_of-path.ensures.is_path;
     carries = c.path_of-path.ensures.carries;
-    sent = ap (number_bits 4) (c.spread.ensures.sent ∙ ap interleaved c.nibbles_of.ensures.value);
+    sent = ap (λ (nibbles : List ℕ). number_bits 4 (interleaved nibbles)) c.nibbles_of.ensures.value;
   },
   c.append_nibbles.ensures.list,
 )

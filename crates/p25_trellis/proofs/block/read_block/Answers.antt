@@ -42,10 +42,10 @@ read_from {states} {width} {apart = apart} {point} {parted} law bits at received
     }
 
 pub path_along-requires : goal.path_along-requires
-path_along-requires g c = are_nibbles c.args.bits.now c.args.at c.gather-received.result (c.gather-received.ensures.sent ∙ c.take_nibbles.ensures.value)
+path_along-requires g c = are_nibbles c.args.bits.now c.args.at c.take_nibbles-received.result c.take_nibbles-received.ensures.sent
 
 pub read_near-requires-clause-nibbles : goal.read_near-requires-clause-nibbles
-read_near-requires-clause-nibbles g c = are_nibbles c.args.bits.now c.args.at c.gather-received.result (c.gather-received.ensures.sent ∙ c.take_nibbles.ensures.value)
+read_near-requires-clause-nibbles g c = are_nibbles c.args.bits.now c.args.at c.take_nibbles-received.result c.take_nibbles-received.ensures.sent
 
 pub returns-in-Some : goal.returns-in-Some
 unfolding sent_bits
@@ -53,7 +53,7 @@ returns-in-Some g c =
     let law = g.met.R.Rate.table in
     let point = g.R.Rate.point_of in
     let path = c.in-Some.path in
-    let received = c.gather-received.result in
+    let received = c.take_nibbles-received.result in
     let sent = number_bits 4 (interleaved received) in
     let sends : sent_bits point path ≡ sent = ap (λ (nibbles : List ℕ). number_bits 4 (interleaved nibbles)) c.in-Some.ensures.1 in
     let some = power-pos g.R.Rate.BITS_PER_SYMBOL g.R.Rate.STATES law.states_of_bits in
@@ -64,17 +64,17 @@ returns-in-Some g c =
       carries = c.octets_of.ensures;
       total_is = sym (at_no_distance point sent path sends);
     } in
-    let read = read_from law c.args.bits.now c.args.at received c.octets_of.new.octets 0 (c.gather-received.ensures.sent ∙ c.take_nibbles.ensures.value) c.requires.there reading in
+    let read = read_from law c.args.bits.now c.args.at received c.octets_of.new.octets 0 c.take_nibbles-received.ensures.sent c.requires.there reading in
     record { nearest = read.nearest; octets = read.octets_are; distance = read.distance_is; near = read.near }
 
 pub returns-in-None : goal.returns-in-None
 returns-in-None g c =
     let law = g.met.R.Rate.table in
-    let received = c.gather-received.result in
+    let received = c.take_nibbles-received.result in
     let some = power-pos g.R.Rate.BITS_PER_SYMBOL g.R.Rate.STATES law.states_of_bits in
     let reading
     = IsFirstLeastReading-same
-    (path_cost-distance g.R.Rate.STATES g.R.Rate.point_of received (number_bits 4 (interleaved received)) some law.nibbles c.gather-received.ensures.len refl)
+    (path_cost-distance g.R.Rate.STATES g.R.Rate.point_of received (number_bits 4 (interleaved received)) some law.nibbles c.take_nibbles-received.ensures.len refl)
     c.read_near.ensures in
-    let read = read_from law c.args.bits.now c.args.at received c.read_near.new.octets c.read_near.result (c.gather-received.ensures.sent ∙ c.take_nibbles.ensures.value) c.requires.there reading in
+    let read = read_from law c.args.bits.now c.args.at received c.read_near.new.octets c.read_near.result c.take_nibbles-received.ensures.sent c.requires.there reading in
     record { nearest = read.nearest; octets = read.octets_are; distance = read.distance_is; near = read.near }

@@ -20,8 +20,8 @@ overflow_add-whole c =
     let small : c.from.result < 2 ^ width = subst (λ (n : ℕ). n < 2 ^ width) (sym c.from.ensures) (c.requires.small i 0 inside) in
     omega (
       arith,
-      moved_up width i (length c.args.numbers.now) whole inside c.requires.few c.loop-number.invariant.fits,
-      joined-lt width (i + 1) (length c.args.numbers.now) (whole * 2 ^ width + c.from.result) more c.requires.few (joined_more-lt width i whole c.from.result small c.loop-number.invariant.fits),
+      moved_up width i (length c.args.numbers.now) whole inside (omega (arith, c.requires.few)) c.loop-number.invariant.fits,
+      joined-lt width (i + 1) (length c.args.numbers.now) 28 (whole * 2 ^ width + c.from.result) more c.requires.few (joined_more-lt width i whole c.from.result small c.loop-number.invariant.fits),
     )
 
 pub loop-number-preserved : goal.loop-number-preserved
@@ -33,7 +33,7 @@ loop-number-preserved c =
     let inside : i < length c.args.numbers.now = omega arith in
     let small : number < 2 ^ width = subst (λ (n : ℕ). n < 2 ^ width) (sym c.from.ensures) (c.requires.small i 0 inside) in
     let moved : whole * 2 ^ width % 2 ^ 64 + number ≡ whole * 2 ^ width + number
-    = ap (λ n. n + number) (moved_up width i (length c.args.numbers.now) whole inside c.requires.few c.loop-number.invariant.fits) in record {
+    = ap (λ n. n + number) (moved_up width i (length c.args.numbers.now) whole inside (omega (arith, c.requires.few)) c.loop-number.invariant.fits) in record {
       bits = ap (bits_of (width * (i + 1))) moved ∙ joined_more width i whole number c.args.numbers.now inside c.from.ensures small c.loop-number.invariant.bits;
       fits = subst (λ (n : ℕ). n < 2 ^ (width * (i + 1))) (sym moved) (joined_more-lt width i whole number small c.loop-number.invariant.fits);
     }

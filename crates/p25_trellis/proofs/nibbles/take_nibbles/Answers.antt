@@ -1,32 +1,29 @@
-use Rattle.std.proofs.{Common.{refl, ◌≡◌, ◌-◌, ◌*◌, ◌+◌, ◌≤◌, length, take, drop, ap, sym, ◌∙◌, arith}, lemmas.List.{take_all}}
-use borrow.Rule.Slice.PartMut.{mid_of, same_len_mid}
-use Rattle.p25_bits.specs.{Bits.{bits_of}, Numbers.{numbers_from}}
-use Rattle.p25_bits.proofs.{NumbersLaws.{numbers_from-zero, length-numbers_from}, PartLaws.{length-part}}
-use Rattle.p25_trellis.proofs.{GroupSteps.{groups_more}, NibbleSteps.{seven_read}}
+use Rattle.std.proofs.{Common.{◌≡◌, ◌+◌, ◌++◌, ℕ, List, drop, ap, ap₂, sym, ◌∙◌, arith}, Math.Nat.{add-zero}}
+use Rattle.p25_bits.specs.{Bits.{field_of, part}, Numbers.{numbers_from}}
+use Rattle.p25_trellis.specs.Interleave.{each_fourth, interleaved}
+use Rattle.p25_trellis.proofs.NibbleSteps.{fourths_read, numbers_from-fourths}
 use Rattle.p25_trellis.proofs.nibbles.take_nibbles.Goals as goal
 
-pub loop-j-init : goal.loop-j-init
-loop-j-init c = record { so_far = sym (numbers_from-zero 4 (drop c.args.at c.args.bits.now)); long = refl }
-
-pub loop-j-preserved : goal.loop-j-preserved
-loop-j-preserved c =
-    let j = c.loop-j.j in
-    let nibbles = c.loop-j.nibbles in
-    let seven = c.put_apart.new.numbers in
-    let bits = drop c.args.at c.args.bits.now in
-    let there : 7 * j ≤ length nibbles = omega (arith, c.loop-j-test.true, c.loop-j.invariant.long) in
-    let inside : 7 * j + 7 ≤ length nibbles = omega (arith, c.loop-j-test.true, c.loop-j.invariant.long) in
-    let count : 7 * j + 7 - 7 * j ≡ 7 = omega arith in
-    let held : length (mid_of (7 * j) (7 * j + 7 - 7 * j) nibbles) ≡ 7 = ap (λ k. length (take k (drop (7 * j) nibbles))) count ∙ length-part (7 * j) 7 nibbles inside in
-    let written : seven ≡ numbers_from 4 7 (bits_of 28 c.field.result) = c.put_apart.ensures ∙ ap (λ n. numbers_from 4 n (bits_of (4 * n) c.field.result)) held in
-    let same : length seven ≡ length (mid_of (7 * j) (7 * j + 7 - 7 * j) nibbles) = ap length written ∙ length-numbers_from 4 7 (bits_of 28 c.field.result) ∙ sym held in record {
-      so_far = groups_more 4 7 j bits nibbles seven there
-          (seven_read c.args.bits.now c.args.at j c.field.result seven c.loop-j-test.true c.requires c.field.ensures.value written) c.loop-j.invariant.so_far;
-      long = same_len_mid (7 * j) (7 * j + 7 - 7 * j) nibbles seven same ∙ c.loop-j.invariant.long;
-    }
-
-pub returns-clause-value : goal.returns-clause-value
-returns-clause-value c =
-    let done : 7 ≡ c.loop-j.j = omega arith in
-    let all : length c.loop-j.nibbles ≤ 7 * c.loop-j.j = omega (arith, c.loop-j.invariant.long, done) in
-    sym (take_all (7 * c.loop-j.j) c.loop-j.nibbles all) ∙ c.loop-j.invariant.so_far ∙ ap (λ j. numbers_from 4 (7 * j) (drop c.args.at c.args.bits.now)) (sym done)
+pub returns-clause-sent : goal.returns-clause-sent
+unfolding interleaved
+returns-clause-sent c =
+    let bits = c.args.bits.now in
+    let at = c.args.at in
+    let nibbles = c.put_fourths-4.new.nibbles in
+    let join : List ℕ → List ℕ → List ℕ = λ xs ys. xs ++ ys in
+    let word : c.field.result ≡ field_of (part (at + 0) 52 bits) = c.field.ensures.value ∙ ap (λ i. field_of (part i 52 bits)) (sym (add-zero at)) in
+    let first : each_fourth 0 nibbles ≡ numbers_from 4 13 (drop at bits)
+    = c.put_fourths-4.ensures.others 0 (omega arith) (omega arith)
+    ∙ c.put_fourths-3.ensures.others 0 (omega arith) (omega arith)
+    ∙ c.put_fourths-2.ensures.others 0 (omega arith) (omega arith)
+    ∙ fourths_read bits at 0 13 c.field.result (each_fourth 0 c.put_fourths.new.nibbles) (omega arith) c.requires word c.put_fourths.ensures.set in
+    let second : each_fourth 1 nibbles ≡ numbers_from 4 12 (drop 52 (drop at bits))
+    = c.put_fourths-4.ensures.others 1 (omega arith) (omega arith)
+    ∙ c.put_fourths-3.ensures.others 1 (omega arith) (omega arith)
+    ∙ fourths_read bits at 52 12 c.field-2.result (each_fourth 1 c.put_fourths-2.new.nibbles) (omega arith) c.requires c.field-2.ensures.value c.put_fourths-2.ensures.set in
+    let third : each_fourth 2 nibbles ≡ numbers_from 4 12 (drop 100 (drop at bits))
+    = c.put_fourths-4.ensures.others 2 (omega arith) (omega arith)
+    ∙ fourths_read bits at 100 12 c.field-3.result (each_fourth 2 c.put_fourths-3.new.nibbles) (omega arith) c.requires c.field-3.ensures.value c.put_fourths-3.ensures.set in
+    let last : each_fourth 3 nibbles ≡ numbers_from 4 12 (drop 148 (drop at bits))
+    = fourths_read bits at 148 12 c.field-4.result (each_fourth 3 nibbles) (omega arith) c.requires c.field-4.ensures.value c.put_fourths-4.ensures.set in
+    ap₂ join (ap₂ join (ap₂ join first second) third) last ∙ sym (numbers_from-fourths (drop at bits))
