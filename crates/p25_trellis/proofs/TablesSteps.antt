@@ -3,19 +3,18 @@ use Rattle.std.proofs.Common.{◌≡◌, ◌≢◌, ℕ, ◌+◌, ◌*◌, ◌<�
 use Rattle.std.proofs.{lemmas.Bool.{eq-eqb, eqb-true, le-ltb, ltb-true, cases_lt, lt-ltb}, lemmas.List.{get_or_past}}
 use Rattle.std.specs.Cmp.{first_so, second_so}
 use Rattle.p25_bits.specs.{Bits.{bits_of}, Distance.{distance_by}}
-use Rattle.p25_trellis.specs.{declared.rate.TheConstants.{HALF_POINTS, THREE_QUARTER_POINTS}, declared.tables.TheConstants.{HALF_SYMBOLS, HALF_RANKS, THREE_QUARTER_SYMBOLS, THREE_QUARTER_RANKS}}
+use Rattle.p25_trellis.specs.declared.tables.TheConstants.{HALF_NIBBLES, HALF_SYMBOLS, HALF_RANKS, THREE_QUARTER_NIBBLES, THREE_QUARTER_SYMBOLS, THREE_QUARTER_RANKS}
 use Rattle.p25_trellis.specs.Tables.{point_nibbles, half_rows, three_quarter_rows, point_in, half_point, three_quarter_point, nibble_distance}
 use Rattle.p25_trellis.specs.TableLaws.{AreTables, symbol_digit, passed_below, passed_below-at}
 
--- every entry is the point that its row and its column ask for
-unfoldable points_test : ℕ → (ℕ → ℕ → ℕ) → List ℕ → Bool
-points_test states point points =
-    passed_below states (λ state. passed_below states (λ symbol. eqb (get_or point_nibbles (get_or points (state * states + symbol) 0) 0) (point state symbol)))
+-- every entry is the nibble that its row and its column ask for
+unfoldable nibble_test : ℕ → (ℕ → ℕ → ℕ) → List ℕ → Bool
+nibble_test states point nibbles = passed_below states (λ state. passed_below states (λ symbol. eqb (get_or nibbles (state * states + symbol) 0) (point state symbol)))
 
-point-from_test : (states : ℕ) (point : ℕ → ℕ → ℕ) (points : List ℕ) → points_test states point points ≡ true → (state symbol : ℕ) → state < states → symbol < states
-    → get_or point_nibbles (get_or points (state * states + symbol) 0) 0 ≡ point state symbol
-unfolding points_test
-point-from_test states point points passed state symbol row column = eqb-true _ _ (passed_below-at states _ (passed_below-at states _ passed state row) symbol column)
+nibble-from_test : (states : ℕ) (point : ℕ → ℕ → ℕ) (nibbles : List ℕ) → nibble_test states point nibbles ≡ true → (state symbol : ℕ) → state < states → symbol < states
+    → get_or nibbles (state * states + symbol) 0 ≡ point state symbol
+unfolding nibble_test
+nibble-from_test states point nibbles passed state symbol row column = eqb-true _ _ (passed_below-at states _ (passed_below-at states _ passed state row) symbol column)
 
 -- every entry that is a symbol is one that sends the nibble of its place
 unfoldable sending_test : ℕ → (ℕ → ℕ → ℕ) → List ℕ → Bool
@@ -79,20 +78,20 @@ small-from_test count bound entries long some passed place = elim (cases_lt plac
 ]
 
 -- what the tables of a rate pass
-record TablesPass (states : ℕ) (point : ℕ → ℕ → ℕ) (points symbols ranks : List ℕ) : Type 0 where
-  long : (length points ≡ states * states) × (length symbols ≡ 16) × (length ranks ≡ 128 * states)
-  small : passed_below (states * states) (λ i. ltb (get_or points i 0) 16) ≡ true
+record TablesPass (states : ℕ) (point : ℕ → ℕ → ℕ) (nibbles symbols ranks : List ℕ) : Type 0 where
+  long : (length nibbles ≡ states * states) × (length symbols ≡ 16) × (length ranks ≡ 128 * states)
+  small : passed_below (states * states) (λ i. ltb (get_or nibbles i 0) 16) ≡ true
   low : passed_below (128 * states) (λ i. ltb (get_or ranks i 0) 40) ≡ true
-  point_at : points_test states point points ≡ true
+  nibble_at : nibble_test states point nibbles ≡ true
   sends : sending_test states point symbols ≡ true
   none : none_test states point symbols ≡ true
   rank_at : ranks_test states point ranks ≡ true
 
-are_tables : {states : ℕ} {point : ℕ → ℕ → ℕ} {points symbols ranks : List ℕ} → TablesPass states point points symbols ranks → AreTables states point points symbols ranks
-are_tables {states} {point} {points} {symbols} {ranks} passes = record {
-  points_long = passes.long.0;
-  points_small = small-from_test (states * states) 16 points passes.long.0 (omega arith) passes.small;
-  point_at = point-from_test states point points passes.point_at;
+are_tables : {states : ℕ} {point : ℕ → ℕ → ℕ} {nibbles symbols ranks : List ℕ} → TablesPass states point nibbles symbols ranks → AreTables states point nibbles symbols ranks
+are_tables {states} {point} {nibbles} {symbols} {ranks} passes = record {
+  nibbles_long = passes.long.0;
+  nibbles_small = small-from_test (states * states) 16 nibbles passes.long.0 (omega arith) passes.small;
+  nibble_at = nibble-from_test states point nibbles passes.nibble_at;
   symbols_long = passes.long.1;
   sends = sends-from_test states point symbols passes.sends;
   none = none-from_test states point symbols passes.none;
@@ -101,16 +100,16 @@ are_tables {states} {point} {points} {symbols} {ranks} passes = record {
   ranks_small = λ place. omega (arith, small-from_test (128 * states) 40 ranks passes.long.2 (omega arith) passes.low place);
 }
 
-half_pass : TablesPass 4 half_point HALF_POINTS HALF_SYMBOLS HALF_RANKS
-unfolding points_test sending_test none_test ranks_test passed_below symbol_digit half_point point_in half_rows point_nibbles nibble_distance bits_of distance_by
-half_pass = record { long = (refl, refl, refl); small = refl; low = refl; point_at = refl; sends = refl; none = refl; rank_at = refl }
+half_pass : TablesPass 4 half_point HALF_NIBBLES HALF_SYMBOLS HALF_RANKS
+unfolding nibble_test sending_test none_test ranks_test passed_below symbol_digit half_point point_in half_rows point_nibbles nibble_distance bits_of distance_by
+half_pass = record { long = (refl, refl, refl); small = refl; low = refl; nibble_at = refl; sends = refl; none = refl; rank_at = refl }
 
-pub half_are_tables : AreTables 4 half_point HALF_POINTS HALF_SYMBOLS HALF_RANKS
+pub half_are_tables : AreTables 4 half_point HALF_NIBBLES HALF_SYMBOLS HALF_RANKS
 half_are_tables = are_tables half_pass
 
-three_quarter_pass : TablesPass 8 three_quarter_point THREE_QUARTER_POINTS THREE_QUARTER_SYMBOLS THREE_QUARTER_RANKS
-unfolding points_test sending_test none_test ranks_test passed_below symbol_digit three_quarter_point point_in three_quarter_rows point_nibbles nibble_distance bits_of distance_by
-three_quarter_pass = record { long = (refl, refl, refl); small = refl; low = refl; point_at = refl; sends = refl; none = refl; rank_at = refl }
+three_quarter_pass : TablesPass 8 three_quarter_point THREE_QUARTER_NIBBLES THREE_QUARTER_SYMBOLS THREE_QUARTER_RANKS
+unfolding nibble_test sending_test none_test ranks_test passed_below symbol_digit three_quarter_point point_in three_quarter_rows point_nibbles nibble_distance bits_of distance_by
+three_quarter_pass = record { long = (refl, refl, refl); small = refl; low = refl; nibble_at = refl; sends = refl; none = refl; rank_at = refl }
 
-pub three_quarter_are_tables : AreTables 8 three_quarter_point THREE_QUARTER_POINTS THREE_QUARTER_SYMBOLS THREE_QUARTER_RANKS
+pub three_quarter_are_tables : AreTables 8 three_quarter_point THREE_QUARTER_NIBBLES THREE_QUARTER_SYMBOLS THREE_QUARTER_RANKS
 three_quarter_are_tables = are_tables three_quarter_pass

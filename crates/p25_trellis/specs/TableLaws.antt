@@ -34,13 +34,12 @@ pub record TrellisRate (bits apart : ℕ) : Type 0 where
 unfoldable pub symbol_digit : List ℕ → ℕ → ℕ → ℕ
 symbol_digit symbols state nibble = slice_index symbols nibble / 2 ^ (4 * state) % 16
 
--- the tables of a rate with so many states: its points, a row for each state; which symbol sends a nibble from a state, 8 where none
+-- the tables of a rate with so many states: the nibbles of its points, a row for each state; which symbol sends a nibble from a state, 8 where none
 -- does; and how a symbol ranks at a nibble after a state: eight times in how many bits its point differs from the nibble, and the symbol
-pub record AreTables (states : ℕ) (point : ℕ → ℕ → ℕ) (points symbols ranks : List ℕ) : Type 0 where
-  pub points_long : length points ≡ states * states
-  pub points_small : (place : ℕ) → slice_index points place < 16
-  pub point_at : (state symbol : ℕ) → state < states → symbol < states
-      → slice_index point_nibbles (slice_index points (state * states + symbol)) ≡ point state symbol
+pub record AreTables (states : ℕ) (point : ℕ → ℕ → ℕ) (nibbles symbols ranks : List ℕ) : Type 0 where
+  pub nibbles_long : length nibbles ≡ states * states
+  pub nibbles_small : (place : ℕ) → slice_index nibbles place < 16
+  pub nibble_at : (state symbol : ℕ) → state < states → symbol < states → slice_index nibbles (state * states + symbol) ≡ point state symbol
   pub symbols_long : length symbols ≡ 16
   pub sends : (state nibble : ℕ) → state < states → nibble < 16 → symbol_digit symbols state nibble < states
       → point state (symbol_digit symbols state nibble) ≡ nibble

@@ -1,13 +1,14 @@
 //! Laws of the rates: how far their paths differ, and what the functions of blocks and readings are. Each function
 //! states what is proved, and calls at most other theorems.
 
-ghost use Rattle.std.specs.{Prelude.{◌≡◌, ℕ, ◌*◌, ◌<◌, ◌≤◌, Bool, List, All, length}, List.{concat}};
+ghost use Rattle.std.specs.{Prelude.{◌≡◌, ℕ, ◌*◌, ◌<◌, ◌≤◌, Bool, List, All, length, map, slice_index}, List.{concat}};
 ghost use Rattle.p25_bits.specs.Distance.{distance_of};
 ghost use Rattle.p25_trellis.specs.Nearest.{nearest_octets, nearest_distance, block_from, half_octets, three_quarter_octets, half_block, three_quarter_block};
 ghost use Rattle.p25_trellis.specs.Tables.{half_point, three_quarter_point, point_nibbles, half_rows, three_quarter_rows};
 ghost use Rattle.p25_trellis.specs.Trellis.{IsBlock, IsFirstLeastReading, SomeApart, ArePathsApart, distance_from};
 
-use super::rate::{HALF_POINTS, Half, NIBBLES, Rate, THREE_QUARTER_POINTS, ThreeQuarter};
+use super::rate::{Half, Rate, ThreeQuarter};
+use super::tables::{HALF_NIBBLES, THREE_QUARTER_NIBBLES};
 use crate::BLOCK_COSTS;
 
 /// The sent bits of two different paths of a rate differ in at least `APART` places, and those of some two in no more.
@@ -66,11 +67,10 @@ pub fn three_quarter_rate_near()
     nearest_laws::<ThreeQuarter>()
 }
 
-/// **Theorem.** The tables of points that the code reads are those of the definitions, row by row, and so are the nibbles of the points.
+/// **Theorem.** The tables that the code reads have the nibbles of the points of the definitions, row by row.
 pub fn tables_are_as_defined()
-    ensures nibbles { NIBBLES ≡ point_nibbles }
-    ensures half { HALF_POINTS ≡ concat half_rows }
-    ensures three_quarter { THREE_QUARTER_POINTS ≡ concat three_quarter_rows }
+    ensures half { HALF_NIBBLES ≡ map (λ point. slice_index point_nibbles point) (concat half_rows) }
+    ensures three_quarter { THREE_QUARTER_NIBBLES ≡ map (λ point. slice_index point_nibbles point) (concat three_quarter_rows) }
 {}
 
 /// **Theorem.** A block has a cost for each of the 16 nibbles at each of its 49 places.

@@ -1,4 +1,4 @@
-//! The two rates: their numbers and their tables of points, the nibbles of the points, and what every rate is by its tables.
+//! The two rates: their numbers, and what every rate is by its tables.
 
 ghost use Rattle.std.specs.Prelude.{◌≡◌, ◌≢◌, ℕ, ◌+◌, ◌*◌, ◌^◌, ◌<◌, ◌≤◌, length, slice_index};
 ghost use Rattle.p25_trellis.specs.{Tables.{nibble_distance}, TableLaws.{IsRate}};
@@ -61,31 +61,6 @@ pub trait Rate {
     // The laws of the table.
     ghost table: { IsRate STATES BITS_PER_SYMBOL OCTETS APART point_of parted };
 }
-
-// The four bits of each point.
-pub(crate) const NIBBLES: [u8; 16] = [
-    0x2, 0xA, 0x7, 0xF, 0xE, 0x6, 0xB, 0x3, 0xD, 0x5, 0x8, 0x0, 0x1, 0x9, 0x4, 0xC,
-];
-
-// The points of half rate, a row of four for each state.
-pub(crate) const HALF_POINTS: [u8; 16] = [
-    0, 15, 12, 3, //
-    4, 11, 8, 7, //
-    13, 2, 1, 14, //
-    9, 6, 5, 10,
-];
-
-// The points of three-quarter rate, a row of eight for each state.
-pub(crate) const THREE_QUARTER_POINTS: [u8; 64] = [
-    0, 8, 4, 12, 2, 10, 6, 14, //
-    4, 12, 2, 10, 6, 14, 0, 8, //
-    1, 9, 5, 13, 3, 11, 7, 15, //
-    5, 13, 3, 11, 7, 15, 1, 9, //
-    3, 11, 7, 15, 1, 9, 5, 13, //
-    7, 15, 1, 9, 5, 13, 3, 11, //
-    2, 10, 6, 14, 0, 8, 4, 12, //
-    6, 14, 0, 8, 4, 12, 2, 10,
-];
 
 /// Half rate: 12 octets as 48 symbols of two bits. TIA-102.BAAA, Trellis Coding.
 #[derive(Clone, Copy, Debug, PartialEq, Eq)]
@@ -159,8 +134,7 @@ impl<T: RateTables> Rate for T {
     ghost parted = { T.rate.parted };
 
     fn point(state: u8, symbol: u8) -> u8 {
-        let place = usize::from(state) * usize::from(Self::STATES) + usize::from(symbol);
-        NIBBLES[usize::from(T::tables().points[place])]
+        T::tables().nibbles[usize::from(state) * usize::from(Self::STATES) + usize::from(symbol)]
     }
 
     fn symbol_sending(state: u8, nibble: u8) -> u8 {

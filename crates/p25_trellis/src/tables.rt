@@ -1,16 +1,16 @@
-//! The tables of each rate, as the search of a path reads them: its points, which symbol sends a nibble, and how a symbol
+//! The tables of each rate, as the search of a path reads them: the nibbles of its points, which symbol sends a nibble, and how a symbol
 //! ranks at a nibble.
 
 ghost use Rattle.std.specs.Prelude.{ℕ, ◌^◌};
 ghost use Rattle.p25_trellis.specs.TableLaws.{AreTables};
 
-use super::rate::{HALF_POINTS, Half, RatePoints, THREE_QUARTER_POINTS, ThreeQuarter};
+use super::rate::{Half, RatePoints, ThreeQuarter};
 
 /// The tables of a rate.
 #[derive(Clone, Copy)]
 pub(crate) struct Tables {
-    // The points, a row for each state.
-    pub(crate) points: &'static [u8],
+    // The four bits of each point, a row for each state with a number for each symbol.
+    pub(crate) nibbles: &'static [u8],
     // Which symbol sends each nibble: a number for each nibble, with a hexadecimal digit for each state, the last for state 0. It is 8
     // where no symbol does.
     pub(crate) symbols: &'static [u32],
@@ -23,7 +23,7 @@ pub(crate) struct Tables {
 pub(crate) trait RateTables: RatePoints {
     /// Answers the tables.
     fn tables() -> Tables
-        ensures { AreTables (2 ^ Self.NUMBERS.bits) Self.rate.point result.points.now result.symbols.now result.ranks.now };
+        ensures { AreTables (2 ^ Self.NUMBERS.bits) Self.rate.point result.nibbles.now result.symbols.now result.ranks.now };
 }
 
 impl RateTables for Half {
@@ -41,16 +41,36 @@ impl RateTables for ThreeQuarter {
 }
 
 const HALF_TABLES: Tables = Tables {
-    points: &HALF_POINTS,
+    nibbles: &HALF_NIBBLES,
     symbols: &HALF_SYMBOLS,
     ranks: &HALF_RANKS,
 };
 
 const THREE_QUARTER_TABLES: Tables = Tables {
-    points: &THREE_QUARTER_POINTS,
+    nibbles: &THREE_QUARTER_NIBBLES,
     symbols: &THREE_QUARTER_SYMBOLS,
     ranks: &THREE_QUARTER_RANKS,
 };
+
+// The four bits of each point of half rate, a row of four for each state.
+pub(crate) const HALF_NIBBLES: [u8; 16] = [
+    0x2, 0xC, 0x1, 0xF, //
+    0xE, 0x0, 0xD, 0x3, //
+    0x9, 0x7, 0xA, 0x4, //
+    0x5, 0xB, 0x6, 0x8,
+];
+
+// The four bits of each point of three-quarter rate, a row of eight for each state.
+pub(crate) const THREE_QUARTER_NIBBLES: [u8; 64] = [
+    0x2, 0xD, 0xE, 0x1, 0x7, 0x8, 0xB, 0x4, //
+    0xE, 0x1, 0x7, 0x8, 0xB, 0x4, 0x2, 0xD, //
+    0xA, 0x5, 0x6, 0x9, 0xF, 0x0, 0x3, 0xC, //
+    0x6, 0x9, 0xF, 0x0, 0x3, 0xC, 0xA, 0x5, //
+    0xF, 0x0, 0x3, 0xC, 0xA, 0x5, 0x6, 0x9, //
+    0x3, 0xC, 0xA, 0x5, 0x6, 0x9, 0xF, 0x0, //
+    0x7, 0x8, 0xB, 0x4, 0x2, 0xD, 0xE, 0x1, //
+    0xB, 0x4, 0x2, 0xD, 0xE, 0x1, 0x7, 0x8,
+];
 
 // Which symbol sends each nibble at half rate, a digit for each state, the last for state 0; 8 where none does.
 pub(crate) const HALF_SYMBOLS: [u32; 16] = [

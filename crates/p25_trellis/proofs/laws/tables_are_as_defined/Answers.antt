@@ -4,8 +4,4 @@ use Rattle.p25_trellis.proofs.laws.tables_are_as_defined.Goals as goal
 
 pub returns : goal.returns
 unfolding point_nibbles half_rows three_quarter_rows
-returns c = record {
-  nibbles = refl;
-  half = refl;
-  three_quarter = refl;
-}
+returns c = record { half = refl; three_quarter = refl }
