@@ -8,9 +8,10 @@ ghost use Rattle.p25_status.specs.Outcomes.{IfRead};
 use crate::block::Slots;
 use crate::failing::failing_blocks;
 use crate::head::{CONFIRMED_FORMAT, PLAIN_FORMAT, PacketHead, RESPONSE_FORMAT, ReadHead};
-use crate::read::{check_agrees, read_octets, read_slots};
+use crate::read::{BLOCK_LENGTH, BLOCKS_AT, check_agrees, read_slots};
 use p25_bits::BitBuf;
 use p25_status::{BoundedList, Field, Outcome};
+use p25_trellis::{Half, read_block};
 use std::marker::Model;
 
 /// A list of at most 1,520 octets, as many as a packet (PDU) of 127 blocks that is not confirmed has before its CRC.
@@ -189,7 +190,14 @@ impl Packet {
         let count = (12 * blocks).saturating_sub(4);
         let mut room = [0; 1524];
         let octets = &mut room[..12 * blocks];
-        let wrong = read_octets(bare, blocks, octets);
+        let mut wrong = 0;
+        for j in 0..blocks {
+            wrong += read_block::<Half>(
+                bare,
+                BLOCKS_AT + BLOCK_LENGTH * j,
+                &mut octets[12 * j..12 * j + 12],
+            );
+        }
         if blocks > 0 && !check_agrees(octets, count) {
             return Err(Field::PacketCrc);
         }

@@ -3,8 +3,8 @@
 ghost use Rattle.std.specs.Prelude.{◌≡◌, ◌+◌, ◌*◌, ◌≤◌, ◌==◌, length, take, drop, IfOk};
 ghost use Rattle.p25_bits.specs.{Bits.{part}, Numbers.{octets_number}};
 ghost use Rattle.p25_crc.specs.Values.{crc32_of};
-ghost use Rattle.p25_packet_blocks.specs.Fixes.{half_distance, three_quarter_distance};
-ghost use Rattle.p25_packet_blocks.specs.Reading.{head_reading_of, read_head_of, slot_from, slots_read, octets_read, packet_reading_of, HasItsLength};
+ghost use Rattle.p25_packet_blocks.specs.Fixes.{three_quarter_distance};
+ghost use Rattle.p25_packet_blocks.specs.Reading.{head_reading_of, read_head_of, slot_from, slots_read, packet_reading_of, HasItsLength};
 
 use crate::block::{Block, Slot, Slots};
 use crate::head::{PacketHead, ReadHead};
@@ -84,27 +84,6 @@ pub(crate) fn read_slots(bare: &BitBuf, blocks: usize, slots: &mut Slots) -> u32
     for j in 0..blocks {
         wrong += read_block::<ThreeQuarter>(bare, BLOCKS_AT + BLOCK_LENGTH * j, &mut octets);
         slots.push(slot_in(&octets));
-    }
-    wrong
-}
-
-// Sets the octets to those of the blocks to follow of a packet (PDU) at half rate, and answers how many bits of the blocks were
-// wrong.
-pub(crate) fn read_octets(bare: &BitBuf, blocks: usize, octets: &mut [u8]) -> u32
-    requires blocks { blocks ≤ 127 }
-    requires octets { length octets.old ≡ 12 * blocks }
-    requires there { 308 + 196 * blocks ≤ length bare.now }
-    ensures octets { octets.new ≡ octets_read blocks bare.now }
-    ensures wrong { result ≡ half_distance blocks bare.now }
-    ensures few { result ≤ 25088 }
-{
-    let mut wrong = 0;
-    for j in 0..blocks {
-        wrong += read_block::<Half>(
-            bare,
-            BLOCKS_AT + BLOCK_LENGTH * j,
-            &mut octets[12 * j..12 * j + 12],
-        );
     }
     wrong
 }
