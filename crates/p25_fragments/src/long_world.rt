@@ -32,14 +32,7 @@ impl Model for LongWorld {
 fn offers(event: &LongEvent) -> bool
     ensures { result ≡ offers_beside event.now }
 {
-    match event {
-        LongEvent::Long(_) => false,
-        LongEvent::Inner(Event::Send(_)) => true,
-        LongEvent::Inner(Event::Timeout) => false,
-        LongEvent::Inner(Event::Reopen) => false,
-        LongEvent::Inner(Event::ToReceiver(_)) => false,
-        LongEvent::Inner(Event::ToSender(_)) => false,
-    }
+    matches!(event, LongEvent::Inner(Event::Send(_)))
 }
 
 // The laws of the world speak of each event that offers no message to the inner world.
@@ -49,13 +42,6 @@ fn event_fits(event: &LongEvent)
     if let LongEvent::Long(message) = event {
         let _ = message.octets();
     }
-}
-
-// Answers whether one of two things is so.
-fn either(first: bool, second: bool) -> bool
-    ensures { result ≡ (first || second) }
-{
-    first || second
 }
 
 impl LongWorld {
@@ -142,8 +128,7 @@ impl LongWorld {
         ensures spare { self.old.spare ≤ self.new.spare + 1 }
     {
         event_fits(event);
-        let beside = either(self.beside, offers(event));
-        self.beside = beside;
+        self.beside |= offers(event);
         self.stations.step_ready(event)
     }
 

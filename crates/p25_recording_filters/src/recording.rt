@@ -1,8 +1,7 @@
 //! The work of a command on a recording: its items, as they are decided, and what a report writes of them.
 
-ghost use Rattle.std.specs.Prelude.{◌≡◌, [], true, false, take, Result, Ok};
-ghost use Rattle.p25_stream.specs.Scan.{Gave, given};
-ghost use Rattle.p25_units.specs.Items.{IsSoundItem, covered};
+ghost use Rattle.std.specs.Prelude.{◌≡◌, [], Result, Ok};
+ghost use Rattle.p25_stream.specs.Scan.{given};
 ghost use Rattle.p25_recording_filters.specs.Recordings.{fresh, IsClosing};
 
 use crate::report::Report;
@@ -83,22 +82,6 @@ impl<R: Report> Recording<R> {
     }
 }
 
-// Sets `item` to the next item of a scanner, and `raw` to the bits that it covers where the report looks at them, and answers
-// whether there is one. Bits that nobody looks at are not copied.
-fn take_item<R: Report>(scanner: &mut Scanner, item: &mut Item, raw: &mut BitBuf) -> bool
-    ensures given { result ≡ true → Gave scanner.old item.new (take (covered item.new) scanner.old.held) scanner.new }
-    ensures bits { result ≡ true → R.LOOKS_AT_BITS ≡ true → raw.new ≡ take (covered item.new) scanner.old.held }
-    ensures left { R.LOOKS_AT_BITS ≡ false → raw.new ≡ raw.old }
-    ensures none { result ≡ false → (given scanner.old ≡ []) × (scanner.new ≡ scanner.old) × (item.new ≡ item.old) }
-    ensures sound { result ≡ true → IsSoundItem item.new }
-{
-    if R::LOOKS_AT_BITS {
-        scanner.next_in(raw, item)
-    } else {
-        scanner.next_item_in(item)
-    }
-}
-
 impl<R: Report> Filter for Recording<R> {
     ghost use Rattle.std.specs.Prelude.{◌≡◌, ◌≢◌, ◌+◌, [], length};
     ghost use Rattle.p25_stream.specs.Scan.{given};
@@ -130,7 +113,13 @@ impl<R: Report> Filter for Recording<R> {
             return Ok(self.close(out));
         }
         item_laws();
-        if !take_item::<R>(&mut self.scanner, &mut self.item, &mut self.raw) {
+        // Bits that nobody looks at are not copied.
+        let taken = if R::LOOKS_AT_BITS {
+            self.scanner.next_in(&mut self.raw, &mut self.item)
+        } else {
+            self.scanner.next_item_in(&mut self.item)
+        };
+        if !taken {
             unreachable!();
         }
         self.report.put(&self.item, &mut self.raw, out);

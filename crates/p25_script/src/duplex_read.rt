@@ -47,14 +47,6 @@ impl DuplexStart {
     }
 }
 
-// The side to which a word tells the direction.
-fn hearer(word: &[u8]) -> Option<Side>
-    ensures { result ≡ hearer_named word.now }
-{
-    let sides = [Side::A, Side::B];
-    sides.iter().copied().find(|to| word == direction(*to))
-}
-
 // The word for the direction to a side.
 fn direction(to: Side) -> &'static [u8]
     ensures { result.now ≡ direction_word to }
@@ -122,7 +114,8 @@ fn read_delivery(second: &[u8], places: &[u8]) -> Result<DuplexEvent, LineFault>
     requires { length places.now ≤ 8192 }
     ensures { result ≡ event_behind DuplexStart.Delivery (second.now ∷ places.now ∷ []) }
 {
-    let Some(to) = hearer(second) else {
+    let sides = [Side::A, Side::B];
+    let Some(to) = sides.iter().copied().find(|to| second == direction(*to)) else {
         return Err(LineFault::Key);
     };
     match places_value(places) {

@@ -28,13 +28,6 @@ pub fn read_long_event(line: &[u8]) -> Result<LongEvent, LineFault>
     read_whole::<LongEventLine>(line)
 }
 
-// Whether a line has two words.
-fn has_two(words: &LineWords) -> bool
-    ensures { result ≡ (length words.now == 2) }
-{
-    words.count() == 2
-}
-
 // Whether two words are the same.
 fn is_same(word: &[u8], other: &[u8]) -> bool
     ensures { result ≡ bytes_eq word.now other.now }
@@ -50,10 +43,7 @@ fn read_other(first: &[u8], words: &LineWords) -> Result<LongEvent, LineFault>
     if is_same(first, b"send") {
         return Err(LineFault::Kind);
     }
-    match Event::read_words(words) {
-        Ok(event) => Ok(LongEvent::Inner(event)),
-        Err(fault) => Err(fault),
-    }
+    Ok(LongEvent::Inner(Event::read_words(words)?))
 }
 
 impl ScriptEvent for LongEvent {
@@ -67,7 +57,7 @@ impl ScriptEvent for LongEvent {
         if !is_same(first, b"long") {
             return read_other(first, words);
         }
-        if !has_two(words) {
+        if words.count() != 2 {
             return Err(LineFault::Key);
         }
         match message_value(words.get(1)) {

@@ -53,7 +53,10 @@ fn put_kind(kind: &StepKind, out: &mut Line)
     ensures short { length out.new ≤ length out.old + 4200 }
 {
     match kind {
-        StepKind::Taken { number, blocks } => put_taken(*number, *blocks, out),
+        StepKind::Taken { number, blocks } => {
+            put_numbered(b"send taken ns=", *number, out);
+            put_numbered(b" blocks=", *blocks, out);
+        }
         StepKind::Busy => out.put(b"send busy"),
         StepKind::OfferDown => out.put(b"send down"),
         StepKind::Resent { number, tries } => put_sent(b"timeout sent ns=", *number, *tries, out),
@@ -102,16 +105,6 @@ fn put_numbered(label: &[u8], number: u8, out: &mut Line)
     ensures short { length out.new ≤ length out.old + length label.now + 100 }
 {
     out.put_labelled(label, u64::from(number));
-}
-
-// Appends the text of a message that was taken.
-fn put_taken(number: u8, blocks: u8, out: &mut Line)
-    requires { length out.old + 100 ≤ 8192 }
-    ensures text { out.new ≡ out.old ++ codes "send taken ns=" ++ decimal number ++ codes " blocks=" ++ decimal blocks }
-    ensures short { length out.new ≤ length out.old + 100 }
-{
-    out.put_labelled(b"send taken ns=", u64::from(number));
-    out.put_labelled(b" blocks=", u64::from(blocks));
 }
 
 // Appends a label, a number, and how often it was sent.

@@ -23,8 +23,11 @@ pub fn put_voice(nac: u16, unit: &VoiceUnit, out: &mut Line)
         VoiceUnit::Header(word) => put_hdu(nac, word, out),
         VoiceUnit::Link1 { link, low, voice } => put_ldu1(nac, link, low, voice, out),
         VoiceUnit::Link2 { sync, low, voice } => put_ldu2(nac, sync, low, voice, out),
-        VoiceUnit::End => put_tdu(nac, out),
-        VoiceUnit::EndLink { link } => put_tdulc(nac, link, out),
+        VoiceUnit::End => put_start(UnitKind::Tdu, nac, out),
+        VoiceUnit::EndLink { link } => {
+            put_start(UnitKind::Tdulc, nac, out);
+            put_key_value(UnitKey::Lc, &link.0, out);
+        }
     }
 }
 
@@ -66,25 +69,6 @@ fn put_ldu2(nac: u16, sync: &EncryptionSync, low: &[u8; 2], voice: &Voice, out: 
     put_pair(UnitKey::Kid, sync.kid, out);
     put_key_value(UnitKey::Lsd, low, out);
     put_frames(voice, out);
-}
-
-// Appends the line of a TDU: a terminator without link control.
-fn put_tdu(nac: u16, out: &mut Line)
-    requires { length out.old + 4700 ≤ 8192 }
-    ensures text { out.new ≡ out.old ++ text_of (record { nac = nac; body = Body.Voice VoiceUnit.End }) }
-    ensures short { length out.new ≤ length out.old + 4700 }
-{
-    put_start(UnitKind::Tdu, nac, out);
-}
-
-// Appends the line of a TDULC: a terminator with link control.
-fn put_tdulc(nac: u16, link: &LinkControl, out: &mut Line)
-    requires { length out.old + 4700 ≤ 8192 }
-    ensures text { out.new ≡ out.old ++ text_of (record { nac = nac; body = Body.Voice (VoiceUnit.EndLink link.now) }) }
-    ensures short { length out.new ≤ length out.old + 4700 }
-{
-    put_start(UnitKind::Tdulc, nac, out);
-    put_key_value(UnitKey::Lc, &link.0, out);
 }
 
 // Appends a key and a number of two octets, the higher first.

@@ -82,29 +82,10 @@ pub fn run_on<P: Port>(alloc: Global, words: &Words, port: &mut P) -> Outcome
     ensures usage { (result ≡ Outcome.Usage) ↔ (command_of words.now ≡ None) }
     ensures called { (events : List Event) × P.moves port.old events port.new × IsCallRun (command_of words.now) events result }
 {
-    match words.command() {
-        None => Outcome::Usage,
-        Some(command) => outcome_of(run_command(alloc, command, port)),
-    }
-}
-
-/// Does what the words say on a tape without a call.
-///
-/// Unless the tape is torn, the calls that it tells of are those of `run_on`.
-pub fn run_on_tape(alloc: Global, words: &Words, tape: &mut Tape<'_>) -> Outcome
-    requires blank { calls_on tape.old ≡ [] }
-    ensures called { is_torn tape.new ≡ false → IsCallRun (command_of words.now) (calls_on tape.new) result }
-{
-    run_on(alloc, words, tape)
-}
-
-// The work of a command.
-fn run_command<P: Port>(alloc: Global, command: Command, port: &mut P) -> FilterEnd
-    requires { IsSoundCommand command }
-    ensures { (events : List Event) × P.moves port.old events port.new × IsRun (command_future command) events result
-        × ((count : ℕ) → command ≡ Command.Sample count → AreWrites events) }
-{
-    match command {
+    let Some(command) = words.command() else {
+        return Outcome::Usage;
+    };
+    let end = match command {
         Command::Show => run_report(Show, port),
         Command::Check => run_report(Check::new(), port),
         Command::Repair => run_report(Changed::new(Change::Repaired), port),
@@ -125,7 +106,18 @@ fn run_command<P: Port>(alloc: Global, command: Command, port: &mut P) -> Filter
         ),
         Command::Soft => run_soft(port),
         Command::Sample { count } => run_sample(count, port),
-    }
+    };
+    outcome_of(end)
+}
+
+/// Does what the words say on a tape without a call.
+///
+/// Unless the tape is torn, the calls that it tells of are those of `run_on`.
+pub fn run_on_tape(alloc: Global, words: &Words, tape: &mut Tape<'_>) -> Outcome
+    requires blank { calls_on tape.old ≡ [] }
+    ensures called { is_torn tape.new ≡ false → IsCallRun (command_of words.now) (calls_on tape.new) result }
+{
+    run_on(alloc, words, tape)
 }
 
 // The work of a report on a recording.

@@ -38,6 +38,7 @@ impl fmt::Display for Outcome {
 }
 
 /// Sets `out` to the line that stands on standard error after a call, without its end; it is empty for `Done`.
+#[tactic(auto, using(p25_line::proofs::DecimalLaws::decimal_short))]
 pub fn outcome_text(outcome: &Outcome, out: &mut Line)
     ensures text { out.new ≡ line_of outcome.now }
     ensures short { length out.new ≤ 40 }
@@ -51,7 +52,7 @@ pub fn outcome_text(outcome: &Outcome, out: &mut Line)
         Outcome::WriteFault => out.put(b"write fault"),
         Outcome::Memory => out.put(b"out of memory"),
         Outcome::TooLong => out.put(b"input too long"),
-        Outcome::Found { faults } => put_found(*faults, out),
+        Outcome::Found { faults } => out.put_labelled(b"found ", *faults),
     }
 }
 
@@ -62,21 +63,9 @@ fn put_bad_line(line: u64, fault: LineFault, out: &mut Line)
     ensures text { out.new ≡ out.old ++ codes "line " ++ decimal line ++ codes ": " ++ fault_word fault }
     ensures short { length out.new ≤ 40 }
 {
-    out.put(b"line ");
-    out.put_number(line);
+    out.put_labelled(b"line ", line);
     out.put(b": ");
     out.put(fault_text(fault));
-}
-
-// Appends the line of a check that found faults to an empty one.
-#[tactic(auto, using(p25_line::proofs::DecimalLaws::decimal_short))]
-fn put_found(faults: u64, out: &mut Line)
-    requires { length out.old ≡ 0 }
-    ensures text { out.new ≡ out.old ++ codes "found " ++ decimal faults }
-    ensures short { length out.new ≤ 40 }
-{
-    out.put(b"found ");
-    out.put_number(faults);
 }
 
 // The word of a fault in a line.

@@ -33,11 +33,8 @@ fn put_sample_line(report: &SampleReport, out: &mut Line)
     ensures { out.new ≡ sample_line report.now.units }
 {
     out.clear();
-    out.put(b"units=");
-    out.put_number(report.units);
-    out.put(b" flips=");
-    out.put_number(report.flips);
-    out.put(b" exact=");
-    out.put_number(report.exact);
+    out.put_labelled(b"units=", report.units);
+    out.put_labelled(b" flips=", report.flips);
+    out.put_labelled(b" exact=", report.exact);
     out.put(b"\n");
 }

@@ -1,8 +1,8 @@
-use Rattle.std.proofs.Common.{Bool, ◌||◌, ap, ◌∙◌}
+use Rattle.std.proofs.Common.{Bool, ◌||◌, ap}
 use Rattle.p25_fragments.proofs.LongHistoryLaws.{history-next}
 use Rattle.p25_fragments.proofs.long_world.LongWorld.step_ready.Goals as goal
 
 pub invariant_of-self : goal.invariant_of-self
 invariant_of-self c =
     history-next _ _ _ _ _ _ c.self.invariant c.event_fits.ensures c.step_ready.ensures.step
-    (c.either-beside.ensures ∙ ap (λ (b : Bool). c.self.inside.beside || b) c.offers.ensures)
+    (ap (λ (b : Bool). c.self.inside.beside || b) c.offers.ensures)

@@ -1,0 +1,8 @@
+use Rattle.p25_text.proofs.WriteLaws.{voice-put}
+use Rattle.p25_text.proofs.voices.put_voice.Goals as goal
+
+pub returns-in-End-clause-text : goal.returns-in-End-clause-text
+returns-in-End-clause-text c = rw c.in-End.is (voice-put c.args.nac _ c.args.out.now _ (cc))
+
+pub returns-in-EndLink-clause-text : goal.returns-in-EndLink-clause-text
+returns-in-EndLink-clause-text c = rw c.in-EndLink.is (voice-put c.args.nac _ c.args.out.now _ (cc))
