@@ -15,8 +15,7 @@ use Rattle.p25_filter.specs.{declared.ending.Ending.{Ending}, declared.ending.En
 use Rattle.p25_filter.specs.{LineRules.{LineRules, LinesTaken, first_taken, lines_taken, written_for}, LineFilters.{first_line, line_future}}
 use Rattle.p25_filter.proofs.{LinesLaws.{each_behind-none}, SameLaws.{same-future}}
 use Rattle.p25_tool.specs.{declared.build.Build.{Build}, declared.command.Command.TheVariants.{Build as BuildIt, Stations, Fragments, Duplex}}
-use Rattle.p25_tool.specs.Machines.{DuplexAt, LongAt, StationsAt, build_rules, kept_step, script_rules, taken_by}
-use Rattle.p25_tool.specs.Outputs.{closing_line, command_future, duplex_closing_lines, duplex_step_line, long_closing_line, step_line}
+use Rattle.p25_tool.specs.{Machines.{DuplexAt, LongAt, StationsAt, build_rules, kept_step, script_rules, taken_by}, Outputs.{command_future, duplex_step_line, long_closing_line, step_line}}
 
 concat_texts : {S : Type 0} (text : S → List ℕ) (steps : List S) → concat (map text steps) ≡ flat_map text steps
 concat_texts text [] = refl

@@ -1,7 +1,6 @@
 -- What each command writes for its input, and how a call ends by its input.
 use Rattle.std.specs.{Prelude.{ℕ, Bool, true, false, if◌then◌else◌, List, [], ◌∷◌, ◌++◌, length, codes, decimal, Option, Some, None}, List.{flat_map}}
 use Rattle.p25_bits.specs.Bits.{octet_bits}
-use Rattle.p25_status.specs.declared.symbols.Status.{Status}
 use Rattle.p25_units.specs.{Units.{image_octets, whole_octets}, declared.item.Item.{Item}}
 use Rattle.p25_stream.specs.{Items.{items_by}, Repeats.{bridged, repaired}}
 use Rattle.p25_follow.specs.{Followed.{followed_by}, Relayed.{relayed}}

@@ -1,10 +1,10 @@
 //! The call that the program makes.
 
 ghost use Rattle.std.specs.Prelude.{◌≡◌, ℕ, ◌≤◌, ◌↔◌, false, List, [], None};
-ghost use Rattle.p25_io.specs.{Events.{Event}, Faults.{Rose}, Pairs.{SinkGoes, SourceGoes}, Tapes.{calls_on, is_torn}};
+ghost use Rattle.p25_io.specs.{Events.{Event}, Faults.{Rose}, Tapes.{calls_on, is_torn}};
 ghost use Rattle.p25_filter.specs.{Traces.{IsRun}, LineFilters.{first_line, line_future}};
-ghost use Rattle.p25_tool.specs.{Outputs.{command_future}, CallClauses.{CallSays}, CallRuns.{AreWrites, IsCallRun}, Words.{IsSoundCommand, command_of}};
-ghost use Rattle.p25_tool.specs.declared.command.Command.{Command};
+ghost use Rattle.p25_tool.specs.{Outputs.{command_future}, CallClauses.{CallSays}, CallRuns.{IsCallRun}, Words.{command_of}};
+ghost use Rattle.p25_tool.specs.declared.command.Command.TheVariants.{Duplex, Fragments, Stations};
 ghost use Rattle.p25_recording_filters.specs.{Recordings.{fresh, recording_future}, Softs.{fresh_soft, soft_future}};
 
 use super::build::Build;
@@ -55,19 +55,6 @@ pub fn run<S: Source, K: Sink>(
     ensures source_later { S.faults source.old ≤ S.faults source.new }
     ensures sink_later { K.faults sink.old ≤ K.faults sink.new }
 {
-    run_between(alloc, words, source, sink)
-}
-
-// A call on the port of a source and a sink: what each went through.
-fn run_between<S: Source, K: Sink>(
-    alloc: Global,
-    words: &Words,
-    source: &mut S,
-    sink: &mut K,
-) -> Outcome
-    ensures { (events : List Event) × SourceGoes S.left S.faults source.old events source.new
-        × SinkGoes K.written K.faults sink.old events sink.new × IsCallRun (command_of words.now) events result }
-{
     let mut pair = Pair::new(source, sink);
     run_on(alloc, words, &mut pair)
 }
@@ -97,13 +84,10 @@ pub fn run_on<P: Port>(alloc: Global, words: &Words, port: &mut P) -> Outcome
         }
         Command::Follow => run_report(Followed::new(), port),
         Command::Build { status } => run_lines(Build { status }, port),
-        Command::Stations => run_lines(Script(ScriptWorld::Stations(World::new(alloc))), port),
+        Command::Stations => run_stations(alloc, port),
         Command::Calls => run_report(Calls::new(), port),
-        Command::Duplex => run_lines(Script(ScriptWorld::Duplex(DuplexWorld::new(alloc))), port),
-        Command::Fragments => run_lines(
-            Script(ScriptWorld::Long(LongWorld::new(alloc), Line::new())),
-            port,
-        ),
+        Command::Duplex => run_duplex(alloc, port),
+        Command::Fragments => run_fragments(alloc, port),
         Command::Soft => run_soft(port),
         Command::Sample { count } => run_sample(count, port),
     };
@@ -120,7 +104,8 @@ pub fn run_on_tape(alloc: Global, words: &Words, tape: &mut Tape<'_>) -> Outcome
     run_on(alloc, words, tape)
 }
 
-// The work of a report on a recording.
+// The work of a report on a recording. Here and below each is a function of its own, so that a command takes no room on the stack for others.
+#[inline(never)]
 fn run_report<R: Report + Drop, P: Port>(report: R, port: &mut P) -> FilterEnd
     requires counted { R.counted report ≡ 0 }
     requires reached { R.HasReached report 0 }
@@ -131,6 +116,7 @@ fn run_report<R: Report + Drop, P: Port>(report: R, port: &mut P) -> FilterEnd
 }
 
 // The work of a machine on the lines of its input.
+#[inline(never)]
 fn run_lines<M: LineMachine + Drop, P: Port>(machine: M, port: &mut P) -> FilterEnd
     ensures { (events : List Event) × P.moves port.old events port.new × IsRun (line_future M.rules (first_line machine)) events result }
 {
@@ -138,7 +124,35 @@ fn run_lines<M: LineMachine + Drop, P: Port>(machine: M, port: &mut P) -> Filter
     p25_filter::run_on(&mut lines, port)
 }
 
+// The work of `stations`.
+#[inline(never)]
+fn run_stations<P: Port>(alloc: Global, port: &mut P) -> FilterEnd
+    ensures { (events : List Event) × P.moves port.old events port.new × IsRun (command_future Stations) events result }
+{
+    run_lines(Script(ScriptWorld::Stations(World::new(alloc))), port)
+}
+
+// The work of `duplex`.
+#[inline(never)]
+fn run_duplex<P: Port>(alloc: Global, port: &mut P) -> FilterEnd
+    ensures { (events : List Event) × P.moves port.old events port.new × IsRun (command_future Duplex) events result }
+{
+    run_lines(Script(ScriptWorld::Duplex(DuplexWorld::new(alloc))), port)
+}
+
+// The work of `fragments`.
+#[inline(never)]
+fn run_fragments<P: Port>(alloc: Global, port: &mut P) -> FilterEnd
+    ensures { (events : List Event) × P.moves port.old events port.new × IsRun (command_future Fragments) events result }
+{
+    run_lines(
+        Script(ScriptWorld::Long(LongWorld::new(alloc), Line::new())),
+        port,
+    )
+}
+
 // The work of `soft`.
+#[inline(never)]
 fn run_soft<P: Port>(port: &mut P) -> FilterEnd
     ensures { (events : List Event) × P.moves port.old events port.new × IsRun (soft_future fresh_soft) events result }
 {

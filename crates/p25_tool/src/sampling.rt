@@ -12,6 +12,7 @@ use p25_line::Line;
 use p25_vectors::{SampleReport, sample};
 
 // Writes the line that tells of the first sample units. Nothing is read.
+#[inline(never)]
 pub(crate) fn run_sample<P: Port>(count: u64, port: &mut P) -> FilterEnd
     requires some { 1 ≤ count }
     requires most { count ≤ 10000 }

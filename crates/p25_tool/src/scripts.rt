@@ -60,6 +60,7 @@ impl LineMachine for Script {
         }
     }
 
+    #[inline(never)]
     fn close(&self, out: &mut Line) {
         match &self.0 {
             ScriptWorld::Stations(world) => closing_text(world, out),
@@ -95,10 +96,16 @@ fn take_long(
     ensures { IsLineTaken script_rules (LongAt world.old.state second.old) line.now result out.new (LongAt world.new.state second.new) }
 {
     let words = LineWords::read(line).map_err(LineRefusal::Fault)?;
-    let event = LongEvent::read_words(&words).map_err(LineRefusal::Fault)?;
-    let step = world.step(&event).map_err(|_| LineRefusal::Memory)?;
-    long_step_text(&step, out, second);
-    Ok(true)
+    match &LongEvent::read_words(&words) {
+        Err(fault) => Err(LineRefusal::Fault(*fault)),
+        Ok(event) => {
+            let Ok(step) = &world.step(event) else {
+                return Err(LineRefusal::Memory);
+            };
+            long_step_text(step, out, second);
+            Ok(true)
+        }
+    }
 }
 
 // Takes a line of `duplex`.

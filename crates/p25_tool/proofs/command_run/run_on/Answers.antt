@@ -4,8 +4,7 @@ use Rattle.p25_tool.specs.{declared.command.Command.TheVariants.{Show, Check, Re
 use Rattle.p25_tool.specs.CallRuns.{AreWrites, IsCallRun}
 use Rattle.p25_recording_filters.specs.declared.reports.changed.Change.TheVariants.{Repaired, Bridged, Relayed}
 use Rattle.p25_filter.specs.Traces.{IsRun}
-use Rattle.p25_tool.proofs.{CommandsLaws.{calls-alike, changed-alike, check-alike, follow-alike, show-alike, soft-alike}, ScriptRunsLaws.{build-alike, duplex-alike, fragments-alike, stations-alike}}
-use Rattle.p25_tool.proofs.CallRunsLaws.{alike-run}
+use Rattle.p25_tool.proofs.{CommandsLaws.{calls-alike, changed-alike, check-alike, follow-alike, show-alike, soft-alike}, ScriptRunsLaws.{build-alike}, CallRunsLaws.{alike-run}}
 use Rattle.p25_tool.proofs.command_run.run_on.Goals.{in-Show, in-Check, in-Repair, in-Bridge, in-Relay, in-Follow, in-Build, in-Stations, in-Calls, in-Duplex, in-Fragments, in-Soft, in-Sample}
 use Rattle.p25_io.specs.Events.{Event}
 use Rattle.p25_tool.proofs.command_run.run_on.Goals as goal
@@ -28,12 +27,10 @@ returns-clause-called g c =
           (changed-alike (Relayed w.in-Relay.nac w.in-Relay.status) _ w.new-in-Relay.ensures) (λ count is. cc) w.run_report-end-in-Relay.ensures)
       | in-Follow w ↦ rw (w.port-is, w.end-is) (alike-run moves _ _ _ Follow _ _ w.in-Follow.is (follow-alike _ w.new-in-Follow.ensures) (λ count is. cc) w.run_report-end-in-Follow.ensures)
       | in-Build w ↦ rw (w.port-is, w.end-is) (alike-run moves _ _ _ (Build w.in-Build.status) _ _ w.in-Build.is (build-alike w.in-Build.status _ refl) (λ count is. cc) w.run_lines-end.ensures)
-      | in-Stations w ↦ rw (w.port-is, w.end-is) (alike-run moves _ _ _ Stations _ _ w.in-Stations.is (stations-alike _ w.new-in-Stations.ensures) (λ count is. cc) w.run_lines-end-in-Stations.ensures)
+      | in-Stations w ↦ rw (w.port-is, w.end-is) (alike-run moves _ _ _ Stations _ _ w.in-Stations.is refl (λ count is. cc) w.run_stations-end.ensures)
       | in-Calls w ↦ rw (w.port-is, w.end-is) (alike-run moves _ _ _ Calls _ _ w.in-Calls.is (calls-alike _ w.new-in-Calls.ensures) (λ count is. cc) w.run_report-end-in-Calls.ensures)
-      | in-Duplex w ↦ rw (w.port-is, w.end-is) (alike-run moves _ _ _ Duplex _ _ w.in-Duplex.is (duplex-alike _ w.new-in-Duplex.ensures) (λ count is. cc) w.run_lines-end-in-Duplex.ensures)
-      | in-Fragments w ↦
-          rw (w.port-is, w.end-is) (alike-run moves _ _ _ Fragments _ _ w.in-Fragments.is
-          (fragments-alike _ _ w.new-in-Fragments.ensures.state w.new-in-Fragments-2.ensures) (λ count is. cc) w.run_lines-end-in-Fragments.ensures)
+      | in-Duplex w ↦ rw (w.port-is, w.end-is) (alike-run moves _ _ _ Duplex _ _ w.in-Duplex.is refl (λ count is. cc) w.run_duplex-end.ensures)
+      | in-Fragments w ↦ rw (w.port-is, w.end-is) (alike-run moves _ _ _ Fragments _ _ w.in-Fragments.is refl (λ count is. cc) w.run_fragments-end.ensures)
       | in-Soft w ↦ rw (w.port-is, w.end-is) (alike-run moves _ _ _ Soft _ _ w.in-Soft.is soft-alike (λ count is. cc) w.run_soft-end.ensures)
       | in-Sample w ↦
           let wrote = w.run_sample-end.ensures in
