@@ -4,7 +4,7 @@ use Rattle.std.specs.Prelude.{codes, decimal, nat_lt}
 use Rattle.p25_bits.specs.Numbers.{octets_from}
 use Rattle.p25_line.specs.{CommaLists.{comma_text}, Octets.{octets_text}}
 use Rattle.p25_line.proofs.AsciiLaws.{ascii-append, ascii-comma_text, ascii-decimal, ascii-encode_lower, ascii-joined, ascii-octets_text, is_ascii}
-use Rattle.p25_text.specs.ItemTexts.{field_name}
+use Rattle.p25_status.specs.FieldNames.{field_name}
 use Rattle.p25_text.proofs.AsciiTextLaws.{ascii-field_name}
 use Rattle.p25_messages.specs.declared.step_kind.StepKind.{StepKind}
 use Rattle.p25_messages.specs.declared.step_kind.StepKind.TheVariants.{Taken, Resent, Reopened, Nothing, Lost, Ignored, Delivered, SynHeard, Again, Kept, RefusedCrc, RefusedOrder, Acknowledged, LinkOpened, Retry, Repeat}

@@ -2,7 +2,7 @@
 use Rattle.std.specs.Prelude.{ℕ, ◌+◌, ◌/◌, Bool, true, false, if◌then◌else◌, List, [], ◌∷◌, ◌++◌, length, slice_index_or, codes, decimal}
 use Rattle.hex.specs.Hex.{encode_lower}
 use Rattle.p25_bits.specs.Numbers.{joined_below, octets_from}
-use Rattle.p25_text.specs.ItemTexts.{field_name}
+use Rattle.p25_status.specs.FieldNames.{field_name}
 use Rattle.p25_stations.specs.{SessionTexts.{sessions_text}, WorldState.{WorldState}, declared.step.Step.{Step}}
 use Rattle.p25_messages.specs.declared.step_kind.StepKind.{StepKind}
 use Rattle.p25_messages.specs.declared.step_kind.StepKind.TheVariants.{Taken, Busy, OfferDown, Resent, Idle, TimeoutDown, Reopened, Up, Nothing, Lost, Ignored, Delivered, SynHeard, Again, Kept, RefusedCrc, RefusedOrder, Acknowledged, LinkOpened, Retry, Repeat, AnswerDown}

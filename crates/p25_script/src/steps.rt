@@ -11,7 +11,7 @@ use p25_line::Line;
 use p25_messages::Message;
 use p25_packet_blocks::{Flags, flags_make};
 use p25_stations::{Step, StepKind, Way};
-use p25_text::parts::put_field_name;
+use p25_status::put_field_name;
 
 /// Sets `out` to the text of a step, without the end of its line. The texts of deliveries begin with `data` or `answer`; that
 /// of a false pass ends with ` false`.

@@ -1,6 +1,4 @@
 use crate::list::BoundedList;
-use std::error::Error;
-use std::fmt;
 
 /// A part of a unit that can fail to be read. The default, which fills the unused places of a list, means nothing.
 #[derive(Clone, Copy, Debug, PartialEq, Eq, Default)]
@@ -36,41 +34,3 @@ pub enum Field {
 
 /// A list of at most 127 fields, as many as a packet has blocks.
 pub type FieldList = BoundedList<Field, 127>;
-
-/// Its name, as the lines of a unit's texts have it: `link_control`, or `block.5` of a block. No contract says so.
-impl fmt::Display for Field {
-    fn fmt<W: fmt::Write>(&self, f: &mut fmt::Formatter<W>) -> fmt::Result {
-        match self {
-            Field::Sync => f.write_str("sync"),
-            Field::Nid => f.write_str("nid"),
-            Field::Duid => f.write_str("duid"),
-            Field::HeaderWord => f.write_str("header_word"),
-            Field::LinkControl => f.write_str("link_control"),
-            Field::EncryptionSync => f.write_str("encryption_sync"),
-            Field::LowSpeed1 => f.write_str("low_speed_1"),
-            Field::LowSpeed2 => f.write_str("low_speed_2"),
-            Field::PacketHeader => f.write_str("packet_header"),
-            Field::Length => f.write_str("length"),
-            Field::Format => f.write_str("format"),
-            Field::PacketCrc => f.write_str("packet_crc"),
-            Field::Block(block) => write!(f, "block.{block}"),
-        }
-    }
-}
-
-impl Error for Field {}
-
-/// The names of its fields, with commas between them. No contract says so.
-impl fmt::Display for FieldList {
-    fn fmt<W: fmt::Write>(&self, f: &mut fmt::Formatter<W>) -> fmt::Result {
-        for i in 0..self.len() {
-            if i > 0 {
-                f.write_str(",")?;
-            }
-            fmt::Display::fmt(&self.get(i), f)?;
-        }
-        Ok(())
-    }
-}
-
-impl Error for FieldList {}

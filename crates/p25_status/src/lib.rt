@@ -20,6 +20,7 @@ mod fields;
 mod frame_sync;
 pub mod laws;
 mod list;
+mod names;
 mod outcome;
 mod symbols;
 #[cfg(test)]
@@ -31,6 +32,7 @@ pub use frame_sync::{
     IDENTIFIER_LENGTH, SYNC, SYNC_LENGTH, SYNC_SLACK, is_sync, is_sync_window, sync_distance,
 };
 pub use list::BoundedList;
+pub use names::{put_field_name, put_field_names};
 pub use outcome::Outcome;
 pub use symbols::{NotAStatus, Status, Statuses};
 pub use weaving::{BARE_BLOCK_LENGTH, SENT_BLOCK_LENGTH, unweave, weave};

@@ -4,15 +4,15 @@ use Rattle.std.specs.{Prelude.{codes, decimal}, List.{list_all}}
 use Rattle.hex.specs.Hex.{encode_lower}
 use Rattle.p25_line.specs.Values.{three_digits}
 use Rattle.p25_line.proofs.AsciiLaws.{ascii-append, ascii-comma_text, ascii-decimal, ascii-drop, ascii-encode_lower, ascii-join, ascii-joined, ascii-list_text, ascii-map, ascii-octets_text, ascii-three_digits, ascii-word, is_ascii}
-use Rattle.p25_status.specs.{Status.{status_number}, declared.fields.Field.{Field}, declared.fields.Field.TheVariants.{Block}, declared.symbols.Status.{Status}}
+use Rattle.p25_status.specs.{FieldNames.{field_name, field_names}, Status.{status_number}, declared.fields.Field.{Field}, declared.fields.Field.TheVariants.{Block}, declared.symbols.Status.{Status}}
 use Rattle.p25_link.specs.declared.link_control.LinkControl.{LinkControl as Link}
 use Rattle.p25_calls.specs.{declared.call.Call.{Call}, declared.call.CallEnd.{CallEnd}, declared.call.CallEnd.TheVariants.{Tdu}, CallTexts.{algid_text, call_text_of, end_word, entry_word, link_text}}
 use Rattle.p25_packet_blocks.specs.{declared.block.Slot.{Slot}, declared.block.Slot.TheVariants.{Good, Bad}, declared.packet.Packet.{Packet as BlockPacket}}
 use Rattle.p25_packet_blocks.specs.declared.packet.Packet.TheVariants.{Confirmed, Plain}
 use Rattle.p25_units.specs.{UnitParts.{UnitParts}, Units.{frame_length_of}, declared.item.Item.{Item}, declared.item.Item.TheVariants.{Whole, Broken, NoUnit, Gap, Cut}, declared.unit.Body.{Body}}
 use Rattle.p25_units.specs.declared.unit.Body.TheVariants.{Voice, Packet}
-use Rattle.p25_text.specs.{Grammar.{body_values, keyed, kind_of, text_of, unit_words, values_of}, ItemTexts.{field_name, field_names, item_text_of, one_digit, status_digits}}
-use Rattle.p25_text.specs.{Names.{key_text, keys_of, kind_word}, Packets.{packet_values, slot_text}, Voices.{voice_octets}, declared.names.UnitKey.{UnitKey}}
+use Rattle.p25_text.specs.{Grammar.{body_values, keyed, kind_of, text_of, unit_words, values_of}, ItemTexts.{item_text_of, one_digit, status_digits}, Names.{key_text, keys_of, kind_word}}
+use Rattle.p25_text.specs.{Packets.{packet_values, slot_text}, Voices.{voice_octets}, declared.names.UnitKey.{UnitKey}}
 use Rattle.p25_text.proofs.{GrammarLaws.{kind-word}, WordLaws.{key-word}}
 
 -- ---- units

@@ -2,10 +2,11 @@
 
 ghost use Rattle.std.specs.Prelude.{◌≡◌, ◌+◌, ◌*◌, ◌<◌, ◌≤◌, ◌++◌, [], length};
 ghost use Rattle.p25_units.specs.Items.{IsSoundItem};
-ghost use Rattle.p25_text.specs.ItemTexts.{field_name, field_names, item_text_of, one_digit, status_digits};
+ghost use Rattle.p25_text.specs.ItemTexts.{item_text_of, one_digit, status_digits};
 
 use super::write::put_unit;
 use p25_line::Line;
+use p25_status::{put_field_name, put_field_names};
 use p25_units::{Field, FieldList, Frame, Item, Statuses, frame_length};
 
 /// Sets `out` to the text of an item, without the end of its line.
@@ -96,46 +97,5 @@ fn put_statuses(statuses: &Statuses, out: &mut Line)
 {
     for i in 0..statuses.len() {
         out.put(&[b'0' + statuses.get(i).value()]);
-    }
-}
-
-// Appends the names of fields, with commas between them.
-fn put_field_names(fields: &FieldList, out: &mut Line)
-    requires { length out.old + 2032 ≤ 8192 }
-    ensures text { out.new ≡ out.old ++ field_names fields.now }
-    ensures short { length out.new ≤ length out.old + 2032 }
-{
-    for i in 0..fields.len() {
-        if i > 0 {
-            out.put(b",");
-        }
-        put_field_name(fields.get(i), out);
-    }
-}
-
-/// Appends the name of a field, as `nid` of the network identifier (NID).
-#[tactic(auto, using(p25_line::proofs::DecimalLaws::decimal_octet))]
-pub fn put_field_name(field: Field, out: &mut Line)
-    requires { length out.old + 15 ≤ 8192 }
-    ensures text { out.new ≡ out.old ++ field_name field }
-    ensures short { length out.new ≤ length out.old + 15 }
-{
-    match field {
-        Field::Sync => out.put(b"sync"),
-        Field::Nid => out.put(b"nid"),
-        Field::Duid => out.put(b"duid"),
-        Field::HeaderWord => out.put(b"header_word"),
-        Field::LinkControl => out.put(b"link_control"),
-        Field::EncryptionSync => out.put(b"encryption_sync"),
-        Field::LowSpeed1 => out.put(b"low_speed_1"),
-        Field::LowSpeed2 => out.put(b"low_speed_2"),
-        Field::PacketHeader => out.put(b"packet_header"),
-        Field::Length => out.put(b"length"),
-        Field::Format => out.put(b"format"),
-        Field::PacketCrc => out.put(b"packet_crc"),
-        Field::Block(block) => {
-            out.put(b"block.");
-            out.put_number(u64::from(block));
-        }
     }
 }

@@ -1,4 +1,4 @@
-use Rattle.p25_text.proofs.items.put_field_name.Goals as goal
+use Rattle.p25_status.proofs.names.put_field_name.Goals as goal
 
 pub returns-in-EncryptionSync-clause-text : goal.returns-in-EncryptionSync-clause-text
 returns-in-EncryptionSync-clause-text c = rw c.in-EncryptionSync.is c.put-in-EncryptionSync.ensures.list

@@ -1,8 +1,8 @@
 use Rattle.std.proofs.Common.{◌++◌, length, sym, ap, ◌∙◌, append-nil, arith}
-use Rattle.p25_text.specs.ItemTexts.{field_name}
+use Rattle.p25_status.specs.FieldNames.{field_name}
 use Rattle.p25_line.proofs.CommaWriteLaws.{comma_text-none, first-entry, next-entry}
-use Rattle.p25_text.proofs.items.put_field_names.Goals as goal
-use Rattle.p25_text.proofs.items.put_field_names.Goals.{then-i-gt0, else-i-gt0}
+use Rattle.p25_status.proofs.names.put_field_names.Goals as goal
+use Rattle.p25_status.proofs.names.put_field_names.Goals.{then-i-gt0, else-i-gt0}
 
 pub loop-i-init : goal.loop-i-init
 loop-i-init c = record {
