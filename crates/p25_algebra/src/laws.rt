@@ -4,14 +4,14 @@ ghost use Rattle.std.specs.Prelude.{◌≡◌, ℕ, suc, ◌+◌, ◌<◌, ◌�
 ghost use Rattle.p25_gf64.specs.{declared.symbol.Sym.{Sym}, Gf64.{gf64}, Field.{power}, Symbol.{alpha}};
 ghost use Rattle.p25_algebra.specs.{Sums.{AreApart, power_sum, nonzeros}, Series.{value_at, product_at, IsShort, IsDegree, times_linear, slope_at}};
 
-/// A polynomial of `length` coefficients that has as many different zeros is zero.
+/// **Theorem.** A polynomial of `length` coefficients that has as many different zeros is zero.
 pub fn few_zeros()
     ensures { (length count : ℕ) (f zeros : ℕ → Sym) → length ≤ count → AreApart count zeros
         → ((j : ℕ) → j < count → value_at gf64 length f (zeros j) ≡ gf64.zero)
         → (i : ℕ) → i < length → f i ≡ gf64.zero }
 {}
 
-/// Products commute, associate and distribute over sums, and the degrees of factors add.
+/// **Theorem.** Products commute, associate and distribute over sums, and the degrees of factors add.
 pub fn product_laws()
     ensures commutes { (f g : ℕ → Sym) (n : ℕ) → product_at gf64 f g n ≡ product_at gf64 g f n }
     ensures associates { (f g h : ℕ → Sym) (n : ℕ)
@@ -22,7 +22,7 @@ pub fn product_laws()
         → IsDegree gf64 (product_at gf64 f g) (d + e) }
 {}
 
-/// Values of sums and products are the sums and products of the values.
+/// **Theorem.** Values of sums and products are the sums and products of the values.
 pub fn value_laws()
     ensures sums { (n : ℕ) (f g : ℕ → Sym) (x : Sym)
         → value_at gf64 n (λ i. gf64.add (f i) (g i)) x ≡ gf64.add (value_at gf64 n f x) (value_at gf64 n g x) }
@@ -30,8 +30,8 @@ pub fn value_laws()
         → value_at gf64 n (product_at gf64 f g) x ≡ gf64.mul (value_at gf64 m f x) (value_at gf64 k g x) }
 {}
 
-/// Where a polynomial f is multiplied by 1 + y x, a zero of f keeps its slope times 1 + y z, and the zero of 1 + y x has the slope
-/// y times the value of f.
+/// **Theorem.** Where a polynomial f is multiplied by 1 + y x, a zero of f keeps its slope times 1 + y z, and the zero of 1 + y x
+/// has the slope y times the value of f.
 pub fn slope_laws()
     ensures kept { (n : ℕ) (y : Sym) (f : ℕ → Sym) (z : Sym) → 0 < n → IsShort gf64 n f
         → value_at gf64 n f z ≡ gf64.zero
@@ -40,8 +40,8 @@ pub fn slope_laws()
         → slope_at gf64 (suc n) (times_linear gf64 y f) z ≡ gf64.mul y (value_at gf64 n f z) }
 {}
 
-/// Quotient and remainder by a polynomial of degree d are determined, where the remainder has no
-/// coefficient from x^d on.
+/// **Theorem.** Quotient and remainder by a polynomial of degree d are determined, where the remainder has no coefficient from
+/// x^d on.
 pub fn unique_division()
     ensures { (n d : ℕ) (b q p r t : ℕ → Sym) → IsDegree gf64 b d
         → IsShort gf64 n q → IsShort gf64 n p → IsShort gf64 d r → IsShort gf64 d t
@@ -49,8 +49,8 @@ pub fn unique_division()
         → (i : ℕ) → (q i ≡ p i) × (r i ≡ t i) }
 {}
 
-/// Where at most m factors are not zero and the power sums over different elements other than zero
-/// vanish for m successive exponents, every factor is zero (the Vandermonde determinant isn't zero).
+/// **Theorem.** Where at most m factors are not zero and the power sums over different elements other than zero vanish for m
+/// successive exponents, every factor is zero (the Vandermonde determinant isn't zero).
 pub fn vanishing_sums()
     ensures { (count m start : ℕ) (element factor : ℕ → Sym) → AreApart count element
         → ((j : ℕ) → j < count → element j ≢ gf64.zero)
@@ -59,9 +59,9 @@ pub fn vanishing_sums()
         → (j : ℕ) → j < count → factor j ≡ gf64.zero }
 {}
 
-/// The first 2m of the numbers s are the power sums of at most m factors that aren't zero, from the exponent 1 on, and a polynomial f
-/// of degree m at most has a product with s whose coefficients of x^m to x^(2m - 1) are zero. Then f vanishes at the inverse of the
-/// element of each factor that isn't zero.
+/// **Theorem.** The first 2m of the numbers s are the power sums of at most m factors that aren't zero, from the exponent 1 on,
+/// and a polynomial f of degree m at most has a product with s whose coefficients of x^m to x^(2m - 1) are zero. Then f vanishes
+/// at the inverse of the element of each factor that isn't zero.
 pub fn locator_vanishes()
     ensures { (n m : ℕ) (element factor f s : ℕ → Sym) → AreApart n element
         → ((j : ℕ) → j < n → element j ≢ gf64.zero)
@@ -72,9 +72,10 @@ pub fn locator_vanishes()
         → (j : ℕ) → j < n → factor j ≢ gf64.zero → value_at gf64 (m + 1) f (gf64.inverse (element j)) ≡ gf64.zero }
 {}
 
-/// Forney's formula. The first m of the numbers s are the power sums of different elements other than zero, from the exponent 1 on,
-/// and a polynomial f of degree m at most vanishes at the inverse of each element whose factor isn't zero. At the inverse of an
-/// element where f vanishes, the factor times the slope of f is the value of the first m coefficients of the product of f and s.
+/// **Theorem.** Forney's formula. The first m of the numbers s are the power sums of different elements other than zero, from the
+/// exponent 1 on, and a polynomial f of degree m at most vanishes at the inverse of each element whose factor isn't zero. At the
+/// inverse of an element where f vanishes, the factor times the slope of f is the value of the first m coefficients of the
+/// product of f and s.
 pub fn forney()
     ensures { (n m : ℕ) (element factor f s : ℕ → Sym) → 1 ≤ m → AreApart n element
         → ((j : ℕ) → j < n → element j ≢ gf64.zero)
@@ -86,7 +87,7 @@ pub fn forney()
         ≡ value_at gf64 m (product_at gf64 f s) (gf64.inverse (element j)) }
 {}
 
-/// The powers of α below 63 are different elements, and none is zero.
+/// **Theorem.** The powers of α below 63 are different elements, and none is zero.
 pub fn alpha_powers()
     ensures apart { AreApart 63 (power gf64 alpha) }
     ensures nonzero { (i : ℕ) → power gf64 alpha i ≢ gf64.zero }

@@ -25,7 +25,7 @@ pub fn nid_bits(nid: &Nid) -> u64
 }
 
 /// Answers in how many of its first 63 bits a received network identifier (NID), the first bit highest, differs from what is sent
-/// for one. That is at most 11 where it is read as that one.
+/// for one. That is at most 11 where it is read as that one. TIA-102.BAAA, Network Identifier.
 pub fn nid_distance(bits: u64, nid: &Nid) -> u32
     ensures distance { result ≡ distance_of (take 63 (bits_of 64 bits)) (take 63 (nid_word nid.now.nac nid.now.duid)) }
     ensures most { result ≤ 63 }

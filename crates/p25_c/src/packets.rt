@@ -94,7 +94,7 @@ fn put_all(octets: &[u8], bits: &mut BitBuf)
     bits.put_numbers(octets, 8);
 }
 
-// The packet of the unit that bits begin with.
+// The packet of the unit that bits begin with. Where there are fewer than the shortest unit has, its sync is what fails.
 fn read_bits(bits: &BitBuf) -> Result<(u16, Packet), Field>
     ensures { result ≡ bits_packet bits.now }
 {

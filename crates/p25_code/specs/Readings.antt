@@ -111,7 +111,8 @@ IsWordWithin-word_within {L} letters IsWord test n cost most long =
     read (Some word) is = is.1
     read None is = λ word w. elim (cases_lt most (cost word)) [ inl dear ↦ dear | inr cheap ↦ absurd (is word (long word w) (w, cheap)) ]
 
--- so what holds of each word of the set that costs at most so much, and of none where every word costs more, holds of it
+-- to prove a property of what is read: prove it of each word of the set that costs at most so much, and of None where every word costs
+-- more
 pub word_within-meets : {L : Type 0} (letters : Searched L) (IsWord : List L → Type 0) (test : Tested IsWord) (n : ℕ) (cost : List L → ℕ) (most : ℕ)
     → ((word : List L) → IsWord word → length word ≡ n) → (P : Option (List L) → Type 0)
     → ((word : List L) → IsWord word → cost word ≤ most → P (Some word)) → (((word : List L) → IsWord word → most < cost word) → P None)

@@ -37,7 +37,7 @@ with_outbound w (o, (kind, packet)) = (record w { outbound = o; packet_sent = ne
 unfoldable pub with_inbound : Delivery → Incoming × (StepKind × Option Packet) → Delivery × StepKind
 with_inbound w (i, (kind, packet)) = (record w { inbound = i; answer = newest_after packet w.answer }, kind)
 
--- what happens makes this of a delivery, and is this kind of step
+-- the delivery after what happens, and the kind of step that this was
 unfoldable pub happens : Delivery → Happening → Delivery × StepKind
 happens w (Offering message) = with_outbound w (after_offer w.outbound message (offered w.outbound.sender message))
 happens w Time_up = with_outbound w (after_timeout w.outbound (timed_out w.outbound.sender))

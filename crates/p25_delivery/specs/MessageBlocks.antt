@@ -29,8 +29,8 @@ message_block message serial = record { serial = serial; octets = part (16 * ser
 unfoldable pub message_blocks : List ℕ → List BlockParts
 message_blocks message = each_below (block_count (length message)) (message_block message)
 
--- the message of all octets of its blocks, where so many are pad octets: none where the last four are not the packet CRC of
--- the others, or there are not so many others
+-- the message in all octets of its blocks, without `pad` pad octets and the packet CRC, the last four: none where that is not the CRC of
+-- the others, or the others are fewer than `pad`
 unfoldable pub unpadded : List ℕ → ℕ → Option (List ℕ)
 unpadded octets pad =
     let count = length octets - 4 in

@@ -55,7 +55,7 @@ delivery_after side events =
       answer = newest_in answer_in (other_side side) None first_duplex events;
     }
 
--- the halves of a delivery are those of one that keeps the facts
+-- there is a delivery with the same two halves of which the facts hold
 pub record HasFacts (w : Delivery) : Type 0 where
   pub delivery : Delivery
   pub facts : DeliveryFacts delivery

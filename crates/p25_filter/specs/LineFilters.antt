@@ -56,12 +56,12 @@ closes_with ReadyLast ended = true
 closes_with Closing ended = true
 closes_with Closed ended = false
 
--- how many pieces may still come, beside a second one that is there: two of each line that is there, and one where what is written
--- at the end is still to be written
+-- how many pieces may still come, but for a second piece that waits: two of a line that is ready, and one for the text that closes
+-- the run
 abbrev pub pieces_of : LinePhase → ℕ
 pieces_of phase = 2 * lines_ready phase + (if closes_with phase false then 1 else 0)
 
--- how many pieces a second one is
+-- how many second pieces wait
 abbrev pub piece_behind : Bool → ℕ
 piece_behind false = 0
 piece_behind true = 1

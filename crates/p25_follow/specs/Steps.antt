@@ -21,7 +21,7 @@ unfoldable pub is_end : ℕ × ℕ → Option (ℕ × ℕ) → Bool
 is_end before None = false
 is_end before (Some end) = before.0 == end.0 && is_expected before.1 end.1
 
--- what is true of a kind, where there is one
+-- there is a kind, and the test holds of it
 abbrev pub true_of : (ℕ → Bool) → Option ℕ → Bool
 true_of test None = false
 true_of test (Some kind) = test kind

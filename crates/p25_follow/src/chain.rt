@@ -102,9 +102,10 @@ fn drop_written(count: usize, bits: &mut BitBuf)
     }
 }
 
-/// Appends what is written of bits after a unit with a name, or after none: where they are whole all, which reach to an end, the name
-/// of the unit after them or none, and else what is settled. Leaves the bits of which nothing was written, and answers the name of the
-/// unit before them.
+/// Appends what is written of `bits`: the units that follow one another there, each with its front, and the other bits as they are.
+/// `before` names the unit before them, if there is one. If they are `whole`, all of them are written, and `end` names the unit after
+/// them, if there is one. Else it stops where a step might need more bits. The bits that were not written stay in `bits`, and it
+/// answers the name of the unit before these.
 pub fn put_chain(
     whole: bool,
     before: Option<Nid>,

@@ -76,8 +76,8 @@ fn is_sure(links: u32, before: &Nid, bits: &BitBuf, at: usize, end: &Option<Nid>
     }
 }
 
-/// Answers the kind of the unit that the bits from place `at` on begin with, which lie after a unit with a name and before the end of
-/// their stretch: the name of the unit there, or none. `None` comes exactly where no such unit is known. Its bits are there.
+/// Answers the kind of the unit that begins at place `at`. The unit before it has the name `before`, and `end` is the name of the unit
+/// after the stretch, if there is one. `None` comes exactly where no such unit is known. The bits of the unit are there.
 pub fn step(before: &Nid, bits: &BitBuf, at: usize, end: &Option<Nid>) -> Option<u8>
     requires { at ≤ length bits.now }
     ensures value { result ≡ step_of (name_of before.now) (drop at bits.now) (names_of end.now) }

@@ -23,7 +23,7 @@ comma_parts word = slice_split (λ octet. octet == 44) word
 unfoldable pub parts_from : List ℕ → ℕ → List (List ℕ)
 parts_from word start = if nat_le start (length word) then comma_parts (drop start word) else []
 
--- one entry more, where there are all
+-- an entry put before a list of entries; none where either is missing
 abbrev pub with_entry : {X : Type 0} → Option X → Option (List X) → Option (List X)
 with_entry None entries = None
 with_entry (Some entry) None = None

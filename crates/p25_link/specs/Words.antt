@@ -83,7 +83,8 @@ pub record IsHeaderWord (word : HeaderWord) : Type 0 where
   pub kid : word.kid < 2 ^ 16
   pub tgid : word.tgid < 2 ^ 16
 
--- the symbols of a word are those of its kind, so many, and the word of them is that word, which keeps what every one of its kind keeps
+-- what the symbols of a word are: `count` symbols, of which the word can be read again; and each part of the word fits the bits that
+-- it has
 pub record AreSymbolsOf {W : Type 0} (symbols_of : W → List Sym) (of_symbols : List Sym → W) (Keeps : W → Type 0)
     (count : ℕ) (word : W) (symbols : List Sym) : Type 0 where
   pub value : symbols ≡ symbols_of word

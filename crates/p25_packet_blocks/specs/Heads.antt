@@ -70,6 +70,6 @@ confirmed_head llid full blocks pad number = head_by_octets 0x56 0xC0 llid ((if 
 unfoldable pub response_head : ℕ → ℕ → ℕ → ℕ → ℕ → PacketHead
 response_head llid class kind status blocks = head_by_octets 0x23 (64 * class + 8 * kind + status) llid (128 + blocks) 0 0
 
--- the header of the packet that opens a link, by its LLID and number: a confirmed packet of no blocks with Syn
+-- the header of the packet that opens a session, by its LLID and number: a confirmed packet of no blocks with Syn
 unfoldable pub opening_head : ℕ → ℕ → PacketHead
 opening_head llid number = head_by_octets 0x56 0xC0 llid 0x80 0 (0x88 + 16 * number)

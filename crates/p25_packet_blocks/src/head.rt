@@ -72,7 +72,7 @@ impl PacketHead {
         self.0[8] / 16 % 8
     }
 
-    /// Answers Syn, the flag of a confirmed packet that opens a link. TIA-102.BAAA, Packet Data, Header Block.
+    /// Answers Syn, the flag of a confirmed packet that opens a session. TIA-102.BAAA, Packet Data, Header Block.
     #[tactic(auto, unfolding(crate::specs::Heads::head_syn))]
     pub fn syn(&self) -> bool
         ensures { result ≡ head_syn self.now }
@@ -157,7 +157,7 @@ impl PacketHead {
         head_by_octets(0x23, second, llid, 128 + blocks, 0, 0)
     }
 
-    /// Answers the header of the packet that opens a link anew: a confirmed packet of no blocks with Syn 1. TIA-102.BAAA,
+    /// Answers the header of the packet that opens a session anew: a confirmed packet of no blocks with Syn 1. TIA-102.BAAA,
     /// Packet Data, Header Block.
     pub fn opening(llid: u32, number: u8) -> PacketHead
         requires llid { llid < 2 ^ 24 }

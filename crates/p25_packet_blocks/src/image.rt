@@ -23,7 +23,7 @@ use p25_trellis::{Half, ThreeQuarter, encode_block};
 use p25_unit_front::put_front;
 
 /// Answers the length of the unit of a packet (PDU) as it is sent, by the blocks to follow of its header: 112 bits, 196 for each
-/// block and the header block, filled to a multiple of 70, and two status bits for each 70.
+/// block and the header block, filled to a multiple of 70, and two status bits for each 70. TIA-102.BAAA, Packet Data, Status Symbols.
 pub fn packet_length(head: &PacketHead) -> usize
     ensures value { result ≡ packet_sent_length (head_blocks head.now) }
     ensures least { 360 ≤ result }

@@ -26,7 +26,7 @@ pub record IsCleared (column : ℕ) (front old new : Row) : Type 0 where
   pub forth : (n : ℕ) (x : ℕ → Sym) → IsMet n front x → IsMet n old x → IsMet n new x
   pub back : (n : ℕ) (x : ℕ → Sym) → IsMet n front x → IsMet n new x → IsMet n old x
 
--- so is each row of a list
+-- each row of a list is cleared so
 pub record AreCleared (column : ℕ) (front : Row) (old new : List Row) : Type 0 where
   pub as_many : length new ≡ length old
   pub each : (r : ℕ) → r < length old → IsCleared column front (row_of old r) (row_of new r)

@@ -68,7 +68,7 @@ pub type LongEventLine = EventLine<LongEvent>;
 /// An event of stations that both send, which `parse` reads from its line.
 pub type DuplexEventLine = EventLine<DuplexEvent>;
 
-// Here the type stands for the form of such lines alone, and no value of it is made.
+// The trait is that of the form of such lines. What is read is the event alone, which `from_str` puts into this type.
 impl<E: ScriptEvent> LineReader for EventLine<E> {
     type Value = E;
 

@@ -17,7 +17,7 @@ use p25_units::Item;
 // How many dibits of a unit stand before each of its status symbols.
 const BARE_DIBITS: usize = 35;
 
-// The number of blocks to follow that the header of a packet (PDU) tells.
+// The number of blocks to follow that the header of a packet (PDU) tells: none where the header is not read.
 fn told_blocks(sent: &BitBuf) -> usize
     requires { 316 ≤ length sent.now }
     ensures value { result ≡ blocks_to_follow sent.now }

@@ -115,12 +115,12 @@ RepairsEachUnit =
 abbrev pub RepairKeepsLength : Type 0
 RepairKeepsLength = (octets : List ℕ) → length (output_by Repair true octets) ≡ length octets
 
--- what `follow` writes of any recording are the octets of what follows of its bits, as many as there are
+-- what `follow` writes of any recording is `follow_of` its bits, as octets: as many as the recording has
 abbrev pub FollowsRecording : Type 0
 FollowsRecording =
     (octets : List ℕ) → AreOctetsOf (follow_of (octet_bits octets)) (output_by Follow true octets) × (length (output_by Follow true octets) ≡ length octets)
 
--- what `relay` writes of any recording are the octets of what is forwarded of its bits, as many as there are
+-- what `relay` writes of any recording is `relay_of` its bits, as octets: as many as the recording has
 abbrev pub RelaysRecording : Type 0
 RelaysRecording =
     (nac : ℕ) (status : Status) (octets : List ℕ) → nac < 4096

@@ -72,10 +72,10 @@ pub fn recorded_laws()
     ensures follow { FollowsUnits }
 {}
 
-/// **Theorem.** What `follow` and `relay` write of any recording. Of these bits the laws of p25_follow speak.
+/// **Theorem.** What `follow` and `relay` write of any recording. The laws of p25_follow tell of these bits.
 ///
-/// - `follow`: the octets of what follows of its bits, `follow_of`, as many as there are.
-/// - `relay`: the octets of what is forwarded of its bits, `relay_of`, as many as there are.
+/// - `follow`: `follow_of` its bits, as octets: as many as the recording has.
+/// - `relay`: `relay_of` its bits, as octets: as many as the recording has.
 pub fn recording_laws()
     ensures follow { FollowsRecording }
     ensures relay { RelaysRecording }

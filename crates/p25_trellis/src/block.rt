@@ -29,7 +29,7 @@ pub fn encode_block<R: Rate>(octets: &[u8], out: &mut BitBuf)
 /// Sets `octets` to those of the first nearest path to the 196 bits from place `at`, and answers its distance, the number
 /// of bits in which they differ from the path's sent bits. No path's sent bits are nearer, and of several that are as near
 /// it is the first in dictionary order of symbols. So a block with at most 2 wrong bits at half rate, or 1 at
-/// three-quarter rate, reads as the octets that were sent.
+/// three-quarter rate, reads as the octets that were sent. TIA-102.BAAA, Trellis Coding.
 pub fn read_block<R: Rate>(bits: &BitBuf, at: usize, octets: &mut [u8]) -> u32
     requires there { at + 196 ≤ length bits.now }
     requires octets { length octets.old ≡ R.OCTETS }

@@ -11,13 +11,14 @@ use super::rate::{Half, Rate, ThreeQuarter};
 use super::tables::{HALF_NIBBLES, THREE_QUARTER_NIBBLES};
 use crate::BLOCK_COSTS;
 
-/// The sent bits of two different paths of a rate differ in at least `APART` places, and those of some two in no more.
+/// **Theorem.** The sent bits of two different paths of a rate differ in at least `APART` places, and those of some two in no
+/// more.
 pub fn paths_apart<R: Rate>()
     ensures apart { ArePathsApart R.STATES R.point_of R.APART }
     ensures reached { SomeApart R.STATES R.point_of R.APART }
 {}
 
-/// The sent bits of two different half-rate paths differ in at least 5 places.
+/// **Theorem.** The sent bits of two different half-rate paths differ in at least 5 places.
 pub fn half_rate_apart()
     ensures apart { ArePathsApart 4 half_point 5 }
     ensures reached { SomeApart 4 half_point 5 }
@@ -25,7 +26,7 @@ pub fn half_rate_apart()
     paths_apart::<Half>()
 }
 
-/// The sent bits of two different three-quarter-rate paths differ in at least 3 places.
+/// **Theorem.** The sent bits of two different three-quarter-rate paths differ in at least 3 places.
 pub fn three_quarter_rate_apart()
     ensures apart { ArePathsApart 8 three_quarter_point 3 }
     ensures reached { SomeApart 8 three_quarter_point 3 }
@@ -33,8 +34,8 @@ pub fn three_quarter_rate_apart()
     paths_apart::<ThreeQuarter>()
 }
 
-/// The octets and the distance that `nearest_octets` and `nearest_distance` give are those of the first nearest path, and
-/// no others are. The block that `block_from` gives is the block of octets.
+/// **Theorem.** The octets and the distance that `nearest_octets` and `nearest_distance` give are those of the first nearest
+/// path, and no others are. The block that `block_from` gives is the block of octets.
 pub fn nearest_laws<R: Rate>()
     ensures reading { (received : List Bool)
         → IsFirstLeastReading R.STATES R.BITS_PER_SYMBOL (distance_from R.point_of received) (nearest_octets R.STATES R.BITS_PER_SYMBOL R.point_of received)
@@ -51,7 +52,7 @@ pub fn nearest_laws<R: Rate>()
         × (nearest_distance R.STATES R.point_of received ≡ distance_of (block_from R.BITS_PER_SYMBOL R.point_of octets) received) }
 {}
 
-/// A half-rate block with at most two wrong bits reads as the octets that were sent.
+/// **Theorem.** A half-rate block with at most two wrong bits reads as the octets that were sent.
 pub fn half_rate_near()
     ensures { (octets : List ℕ) (received : List Bool) → length octets ≡ 12 → All (λ octet. octet < 256) octets → length received ≡ 196
         → distance_of (half_block octets) received ≤ 2 → half_octets received ≡ octets }
@@ -59,7 +60,7 @@ pub fn half_rate_near()
     nearest_laws::<Half>()
 }
 
-/// A three-quarter-rate block with at most one wrong bit reads as the octets that were sent.
+/// **Theorem.** A three-quarter-rate block with at most one wrong bit reads as the octets that were sent.
 pub fn three_quarter_rate_near()
     ensures { (octets : List ℕ) (received : List Bool) → length octets ≡ 18 → All (λ octet. octet < 256) octets → length received ≡ 196
         → distance_of (three_quarter_block octets) received ≤ 1 → three_quarter_octets received ≡ octets }

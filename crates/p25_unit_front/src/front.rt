@@ -31,6 +31,7 @@ pub fn put_front(nid: &Nid, out: &mut BitBuf)
 
 /// Answers the network identifier (NID) of the unit whose sent bits begin at place `at`: the NAC and the DUID of the word of the
 /// BCH code (63,16) within 11 bits of the first 63 bits of its identifier. `None` comes exactly where no word lies so near.
+/// TIA-102.BAAA, Network Identifier.
 pub fn read_identifier(bits: &BitBuf, at: usize) -> Option<Nid>
     requires { at + 114 ≤ length bits.now }
     ensures { option_map (λ nid. (nid.nac, nid.duid)) result ≡ identifier_of (drop at bits.now) }
@@ -39,7 +40,7 @@ pub fn read_identifier(bits: &BitBuf, at: usize) -> Option<Nid>
 }
 
 /// Answers the network identifier (NID) that `read_identifier` answers, with the number of wrong bits in the sync and in the first
-/// 63 bits of the identifier: what `front_fixes` answers for it. Nothing is encoded to count them.
+/// 63 bits of the identifier: what `front_fixes` answers for it. Nothing is encoded to count them. TIA-102.BAAA, Network Identifier.
 pub fn read_front(bits: &BitBuf, at: usize) -> Option<ReadNid>
     requires { at + 114 ≤ length bits.now }
     ensures value { option_map (λ read. (read.nid.nac, read.nid.duid)) result ≡ identifier_of (drop at bits.now) }
@@ -55,7 +56,7 @@ pub fn read_front(bits: &BitBuf, at: usize) -> Option<ReadNid>
 }
 
 /// Answers in how many places the sync and the first 63 bits of the network identifier (NID) of the unit whose sent bits begin
-/// at place `at` differ from those that are sent for an identifier.
+/// at place `at` differ from those that are sent for an identifier. TIA-102.BAAA, Frame Synchronization, Network Identifier.
 pub fn front_fixes(bits: &BitBuf, at: usize, nid: &Nid) -> u32
     requires { at + 114 ≤ length bits.now }
     ensures value { result ≡ front_fixes_of (nid.now.nac, nid.now.duid) (drop at bits.now) }

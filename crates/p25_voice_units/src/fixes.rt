@@ -37,7 +37,7 @@ fn ldu_fixes(received: &BitBuf, image: &BitBuf) -> u32
     differing(&LDU_WORDS, 10, received, image) + differing(&LOW_WORDS, 16, received, image)
 }
 
-// In how many places so many bits at each of some places differ.
+// Counts the bits in which two lists differ within the `width` bits at each of the places.
 fn differing(places: &[usize], width: u32, received: &BitBuf, image: &BitBuf) -> u32
     requires width { width ≤ 24 }
     requires few { length places.now ≤ 36 }
