@@ -15,7 +15,7 @@
 //! ```
 //!
 //! Both are a `NumberCode`, so their words are numbers of 24 and 18 bits too. No call takes memory or fails. A word takes two
-//! tables of 64 entries and, where bits are wrong, at most 26 counts of ones, whether it lies within the radius or not.
+//! tables of 64 entries and, where bits are wrong, two more and at most 26 counts of ones, whether it lies within the radius or not.
 #![tactic(auto)]
 
 mod golay18;

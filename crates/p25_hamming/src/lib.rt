@@ -15,7 +15,7 @@
 //! ```
 //!
 //! Both are a `NumberCode`, so their words are numbers of 10 and 16 bits too. No call takes memory or fails. A word takes one
-//! table and, where bits are wrong, as many counts of ones as there are rows.
+//! table; where bits are wrong a word of `Lsd16` takes one more, and there are at most 7 counts of ones, or 18.
 #![tactic(auto)]
 
 mod hamming10;

@@ -17,7 +17,7 @@
 //! - Each fault raises a count, which never falls and stands still at 2^64 - 1. A call fails only where its count
 //!   rose, so that no answer `Failed` comes without a fault.
 //! - A [`Port`] is both, and tells the order of its calls. [`Pair`] is the port of a source and a sink, and [`Tape`] one in
-//!   memory that keeps every call.
+//!   memory that keeps every call. [`Streams`] is that of a reader and a writer of std.
 //! - No call takes memory, but for those of [`Tape`].
 #![tactic(auto)]
 

@@ -1,5 +1,4 @@
-//! Tests of the whole tool, over recordings and lines of every kind of unit, and of the stations' world. There is nothing
-//! here but tests.
+//! Tests of the whole tool, over recordings and lines of every kind of unit. There is nothing here but tests.
 #![tactic(auto)]
 
 #[cfg(test)]

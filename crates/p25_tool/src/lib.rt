@@ -12,7 +12,7 @@
 //!
 //! A recording is a list of bits, each octet's most significant bit first. It falls into items that lie end to end and
 //! cover every bit. What a command writes for the octets of its input is `output_by`: `show` and `check` the texts of
-//! items, `repair` and `bridge` their bits, `calls` the texts of calls, `soft` the bits of levels, `build` the images of
+//! items, `repair`, `bridge`, `relay` and `follow` their bits, `calls` the texts of calls, `soft` the bits of levels, `build` the images of
 //! the units that lines describe, `stations`, `fragments` and `duplex` the steps of the events that lines tell of. `sample`
 //! reads no octets and writes a line that tells of sample units. What stands after each way to end is `Ran`; `written_laws`
 //! says it of a call that came to the end of its input. `recorded_laws`, `found_laws` and `built_laws` say what these

@@ -6,8 +6,8 @@
 //! 49 nibbles are interleaved, so a block is 196 bits.
 //!
 //! `read_block` answers the first nearest path of any 196 bits. Two different half-rate paths differ in at least 5 bits
-//! and two different three-quarter-rate paths in at least 3, so 2 wrong bits, or 1, are put right. The tables of points,
-//! the nibbles of the points and the choice among paths that are as near are this project's profile.
+//! and two different three-quarter-rate paths in at least 3, so 2 wrong bits, or 1, are put right. The choice among paths
+//! that are as near is this project's own.
 //!
 //! Contracts see what 196 bits read as, and the block of octets, as functions: `half_octets` and `half_block`, and
 //! `three_quarter_octets` and `three_quarter_block`. `nearest_laws` says what they are.
