@@ -8,16 +8,12 @@ use crate::steps::step;
 use crate::told::with_kind;
 use p25_bch_nid::{Nid, nid_bits};
 use p25_bits::BitBuf;
-use p25_status::SYNC;
+use p25_status::{BARE_BLOCK_LENGTH, SENT_BLOCK_LENGTH, SYNC};
 
 /// How many bits a step looks at, at most: those of four logical link units.
 pub const STEP_REACH: usize = 6912;
 
-// How many bits of a front are sent before its status symbol, and where it goes on after it and ends.
-const BEFORE_STATUS: usize = 70;
-
-const BEHIND_STATUS: usize = 72;
-
+// Where a front ends, as it is sent with its status symbol.
 const FRONT_END: usize = 114;
 
 // With how many bits an identifier goes on after the status symbol.
@@ -36,7 +32,11 @@ fn put_with_front(name: &Nid, bits: &BitBuf, at: usize, count: usize, out: &mut 
     let identifier = nid_bits(name);
     out.put_field(SYNC, 48);
     out.put_field(identifier >> AFTER_STATUS, 22);
-    out.append(bits, at + BEFORE_STATUS, BEHIND_STATUS - BEFORE_STATUS);
+    out.append(
+        bits,
+        at + BARE_BLOCK_LENGTH,
+        SENT_BLOCK_LENGTH - BARE_BLOCK_LENGTH,
+    );
     out.put_field(identifier % (1 << AFTER_STATUS), AFTER_STATUS);
     out.append(bits, at + FRONT_END, count - FRONT_END);
 }
