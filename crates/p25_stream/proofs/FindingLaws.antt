@@ -5,8 +5,8 @@ use Rattle.std.proofs.{Math.Seq.{drop-cons, take-add}, lemmas.Bool.{cases_Bool},
 use Rattle.p25_bits.specs.Bits.{bits_of, octet_bits}
 use Rattle.p25_bits.proofs.{BitsLaws.{length-bits_of, length-octet_bits, octet_bits-append, octet_bits-cons, octet_bits-nil}, PartLaws.{drop_behind}}
 use Rattle.p25_units.specs.Items.{covered}
-use Rattle.p25_stream.specs.{Beginnings.{IsBeginning, is_settled}, Finding.{IsFilled, IsFirst}, Items.{first_item, is_decided, items_by}, declared.beginning.Beginning.{Beginning}}
-use Rattle.p25_stream.proofs.{BeginningsLaws.{IsBeginning-decided}, ItemsLaws.{covered-first_item, decided-some, items_by-decided, items_by-more, items_by-nil, items_by-none}}
+use Rattle.p25_stream.specs.{Judgements.{IsJudged, is_settled}, Finding.{IsFilled, IsFirst}, Items.{first_item, is_decided, items_by}, declared.judged.Judged.{Judged}}
+use Rattle.p25_stream.proofs.{JudgementsLaws.{IsJudged-decided}, ItemsLaws.{covered-first_item, decided-some, items_by-decided, items_by-more, items_by-nil, items_by-none}}
 
 pub put-none : (held : List Bool) (octets : List ℕ) → held ≡ held ++ octet_bits (take 0 octets)
 put-none held octets = sym (append-nil held) ∙ ap (λ (zs : List Bool). held ++ zs) (sym octet_bits-nil)
@@ -22,9 +22,9 @@ put-more before held later octets taken count was is =
     ∙ ap (λ (zs : List Bool). before ++ zs) (sym (octet_bits-append (take taken octets) rest) ∙ ap octet_bits (sym (take-add taken count octets)))
 
 -- what is held and what is left are what there is
-pub filled : (before held : List Bool) (octets : List ℕ) (taken : ℕ) (beginning : Beginning) → held ≡ before ++ octet_bits (take taken octets)
-    → IsBeginning beginning held → (is_settled beginning ≡ false → length octets ≤ taken) → IsFilled before (octet_bits octets) held beginning
-filled before held octets taken beginning is known all = record {
+pub filled : (before held : List Bool) (octets : List ℕ) (taken : ℕ) (judged : Judged) → held ≡ before ++ octet_bits (take taken octets)
+    → IsJudged judged held → (is_settled judged ≡ false → length octets ≤ taken) → IsFilled before (octet_bits octets) held judged
+filled before held octets taken judged is known all = record {
   more = octet_bits (drop taken octets);
   joined =
       ap (λ (zs : List ℕ). before ++ octet_bits zs) (sym (take-append-drop taken octets))
@@ -41,18 +41,18 @@ first-is : (ended : Bool) (place : ℕ) (bits : List Bool) → 0 < length bits �
     → IsFirst ended place bits (first_item place bits)
 first-is ended place bits some is = record { items = is; there = (covered-first_item place bits some).1 }
 
-module _ (ended : Bool) (place : ℕ) (before rest held : List Bool) (beginning : Beginning) (is : IsFilled before rest held beginning) where
+module _ (ended : Bool) (place : ℕ) (before rest held : List Bool) (judged : Judged) (is : IsFilled before rest held judged) where
   -- where all bits are held, or the first item is known, it is that of the bits held
-  pub first-ended : 0 < length held → ended ≡ true → is_settled beginning ≡ false → IsFirst ended place (before ++ rest) (first_item place held)
+  pub first-ended : 0 < length held → ended ≡ true → is_settled judged ≡ false → IsFirst ended place (before ++ rest) (first_item place held)
   first-ended some goes open' =
       let same : before ++ rest ≡ held = is.joined ∙ ap (λ (zs : List Bool). held ++ zs) (is.all open') ∙ append-nil held in
       subst (λ (zs : List Bool). IsFirst ended place zs (first_item place held)) (sym same)
       (first-is ended place held some (items_by-more ended place held some (ap (λ (b : Bool). b || is_decided held) goes)))
 
-  pub first-known : 0 < length held → is_settled beginning ≡ true → IsFirst ended place (before ++ rest) (first_item place held)
+  pub first-known : 0 < length held → is_settled judged ≡ true → IsFirst ended place (before ++ rest) (first_item place held)
   first-known some known =
       let item = first_item place held in
-      let decided = IsBeginning-decided beginning held is.known ∙ known in
+      let decided = IsJudged-decided judged held is.known ∙ known in
       let fits = (covered-first_item place held some).1 in
       let left = drop-append-le (covered item) held is.more fits in
       subst (λ (zs : List Bool). IsFirst ended place zs item) (sym is.joined)
@@ -61,9 +61,9 @@ module _ (ended : Bool) (place : ℕ) (before rest held : List Bool) (beginning 
         there = omega (arith, fits, length-append held is.more);
       }
 
-  pub first-found : 0 < length held → (ended || is_settled beginning) ≡ true → IsFirst ended place (before ++ rest) (first_item place held)
+  pub first-found : 0 < length held → (ended || is_settled judged) ≡ true → IsFirst ended place (before ++ rest) (first_item place held)
   first-found some goes =
-      elim (cases_Bool (is_settled beginning)) [
+      elim (cases_Bool (is_settled judged)) [
         | inl known ↦ first-known some known
         | inr open' ↦ elim (cases_Bool ended) [
           | inl yes' ↦ first-ended some yes' open'
@@ -72,19 +72,19 @@ module _ (ended : Bool) (place : ℕ) (before rest held : List Bool) (beginning 
       ]
 
   -- and where it is not known and more may come, there is none
-  pub none-found : ended ≡ false → is_settled beginning ≡ false → items_by ended place (before ++ rest) ≡ []
+  pub none-found : ended ≡ false → is_settled judged ≡ false → items_by ended place (before ++ rest) ≡ []
   none-found goes open' =
       let same : before ++ rest ≡ held = is.joined ∙ ap (λ (zs : List Bool). held ++ zs) (is.all open') ∙ append-nil held in
-      ap (items_by ended place) same ∙ items_by-none ended place held (ap₂ ◌||◌ goes (IsBeginning-decided beginning held is.known ∙ open'))
+      ap (items_by ended place) same ∙ items_by-none ended place held (ap₂ ◌||◌ goes (IsJudged-decided judged held is.known ∙ open'))
 
 -- the bits held are as many as one octet has from the place on, or more
-pub held-some : (before rest held : List Bool) (beginning : Beginning) → IsFilled before rest held beginning → 0 < length before → 0 < length held
-held-some before rest [] beginning is some =
-    elim (cases_Bool (is_settled beginning)) [
+pub held-some : (before rest held : List Bool) (judged : Judged) → IsFilled before rest held judged → 0 < length before → 0 < length held
+held-some before rest [] judged is some =
+    elim (cases_Bool (is_settled judged)) [
       | inr open' ↦ let none : before ++ rest ≡ [] = is.joined ∙ is.all open' in absurd (omega (arith, ap length none, length-append before rest))
-      | inl known ↦ absurd (omega (arith, decided-some [] (IsBeginning-decided beginning [] is.known ∙ known)))
+      | inl known ↦ absurd (omega (arith, decided-some [] (IsJudged-decided judged [] is.known ∙ known)))
     ]
-held-some before rest (bit ∷ held) beginning is some = omega arith
+held-some before rest (bit ∷ held) judged is some = omega arith
 
 -- the bits from a place on are those of its octet from there on, and those of the octets after it
 pub bits-at : (octets : List ℕ) (at : ℕ) (before : List Bool) → at / 8 < length octets → before ≡ drop (at % 8) (bits_of 8 (get_or octets (at / 8) 0))

@@ -4,7 +4,7 @@ pub mod ItemLaws
 pub mod ArrivalLaws
 pub mod TerminatorLaws
 pub mod ArrivingLaws
-pub mod BeginningsLaws
+pub mod JudgementsLaws
 pub mod EarlySteps
 pub mod FindingLaws
 pub mod JudgingSteps

@@ -3,9 +3,9 @@ use Rattle.std.proofs.Common.{◌≡◌, ◌↔◌, ℕ, ◌+◌, ◌<◌, ◌�
 use Rattle.std.proofs.lemmas.Bool.{cases_Bool, eqb-true, eq-eqb, not-true}
 use Rattle.std.specs.Prelude.{IsTrue}
 use Rattle.p25_units.specs.{Items.{covered}, declared.item.Item.{Item}}
-use Rattle.p25_stream.specs.{Items.{first_item, is_decided, items_by}, Scan.{Scan, given, Gave}, Beginnings.{IsBeginning, is_settled}, declared.beginning.Beginning.{Beginning}}
+use Rattle.p25_stream.specs.{Items.{first_item, is_decided, items_by}, Scan.{Scan, given, Gave}, Judgements.{IsJudged, is_settled}, declared.judged.Judged.{Judged}}
 use Rattle.p25_stream.proofs.ItemsLaws.{covered-first_item, items_by-nil, items_by-more, items_by-none, items_by-first, items_by-decided, decided-some}
-use Rattle.p25_stream.proofs.BeginningsLaws.{IsBeginning-decided, IsBeginning-few}
+use Rattle.p25_stream.proofs.JudgementsLaws.{IsJudged-decided, IsJudged-few}
 
 -- some bits have items where the stream has ended or the first is decided
 pub items_by-some : (ended : Bool) (at : ℕ) (bits : List Bool) → (items_by ended at bits ≡ [] → ⊥) → (0 < length bits) × ((ended || is_decided bits) ≡ true)
@@ -24,24 +24,24 @@ pub drained-finished : (place : ℕ) (held : List Bool) → (length held ≡ 0) 
 drained-finished place [] = (λ none. items_by-nil true place, λ none. refl)
 drained-finished place (bit ∷ held) = (λ none. absurd (omega arith), λ none. absurd (items_by-any true place (bit ∷ held) (omega arith) refl none))
 
-pub drained-going : (beginning : Beginning) (place : ℕ) (held : List Bool) → IsBeginning beginning held → (is_settled beginning ≡ false) ↔ (items_by false place held ≡ [])
-drained-going beginning place held is =
-    let decided = IsBeginning-decided beginning held is in (
+pub drained-going : (judged : Judged) (place : ℕ) (held : List Bool) → IsJudged judged held → (is_settled judged ≡ false) ↔ (items_by false place held ≡ [])
+drained-going judged place held is =
+    let decided = IsJudged-decided judged held is in (
       λ open'. items_by-none false place held (decided ∙ open'),
-      λ none. elim (cases_Bool (is_settled beginning)) [
+      λ none. elim (cases_Bool (is_settled judged)) [
         | inr open' ↦ open'
         | inl known ↦ absurd (items_by-any false place held (decided-some held (decided ∙ known)) (decided ∙ known) none)
       ],
     )
 
 -- a drained scanner that goes on holds few bits
-pub drained-open : (beginning : Beginning) (scan told : Scan) → scan ≡ told → given told ≡ [] → told.finished ≡ false → IsBeginning beginning scan.held → is_settled beginning ≡ false
-drained-open beginning scan told same none going is =
-    (drained-going beginning scan.place scan.held is).1
+pub drained-open : (judged : Judged) (scan told : Scan) → scan ≡ told → given told ≡ [] → told.finished ≡ false → IsJudged judged scan.held → is_settled judged ≡ false
+drained-open judged scan told same none going is =
+    (drained-going judged scan.place scan.held is).1
     (subst (λ (b : Bool). items_by b scan.place scan.held ≡ []) (ap (λ (s : Scan). s.finished) same ∙ going) (ap given same ∙ none))
 
-pub drained-few : (beginning : Beginning) (scan told : Scan) → scan ≡ told → given told ≡ [] → told.finished ≡ false → IsBeginning beginning scan.held → length scan.held < 25920
-drained-few beginning scan told same none going is = IsBeginning-few beginning scan.held is (drained-open beginning scan told same none going is)
+pub drained-few : (judged : Judged) (scan told : Scan) → scan ≡ told → given told ≡ [] → told.finished ≡ false → IsJudged judged scan.held → length scan.held < 25920
+drained-few judged scan told same none going is = IsJudged-few judged scan.held is (drained-open judged scan told same none going is)
 
 -- the first item given, with the bits that it covers
 pub gave-first : (scan now : Scan) (item : Item) (raw : List Bool) → (given scan ≡ [] → ⊥) → item ≡ first_item scan.place scan.held
@@ -94,10 +94,10 @@ drained-when-finished scan n ended long =
       λ none. eq-eqb n 0 (long ∙ is.1 (ap (λ b. items_by b scan.place scan.held) (sym ended) ∙ none)),
     )
 
-pub drained-when-going : (beginning : Beginning) (scan : Scan) (known : Bool)
-    → scan.finished ≡ false → IsBeginning beginning scan.held → known ≡ is_settled beginning → IsTrue (not known) ↔ (given scan ≡ [])
-drained-when-going beginning scan known going is same =
-    let open' = drained-going beginning scan.place scan.held is in (
+pub drained-when-going : (judged : Judged) (scan : Scan) (known : Bool)
+    → scan.finished ≡ false → IsJudged judged scan.held → known ≡ is_settled judged → IsTrue (not known) ↔ (given scan ≡ [])
+drained-when-going judged scan known going is same =
+    let open' = drained-going judged scan.place scan.held is in (
       λ none. ap (λ b. items_by b scan.place scan.held) going ∙ open'.0 (sym same ∙ not-true known none),
       λ none. ap not (same ∙ open'.1 (ap (λ b. items_by b scan.place scan.held) (sym going) ∙ none)),
     )

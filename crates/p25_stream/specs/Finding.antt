@@ -1,7 +1,7 @@
 -- The first item of some bits, found with no scanner.
 use Rattle.std.specs.Prelude.{◌≡◌, ℕ, ◌+◌, ◌≤◌, Bool, false, List, [], ◌∷◌, ◌++◌, length, drop}
 use Rattle.p25_units.specs.{Items.{covered}, declared.item.Item.{Item}}
-use Rattle.p25_stream.specs.{Beginnings.{IsBeginning, is_settled}, Items.{items_by}, declared.beginning.Beginning.{Beginning}}
+use Rattle.p25_stream.specs.{Judgements.{IsJudged, is_settled}, Items.{items_by}, declared.judged.Judged.{Judged}}
 
 -- an item is the first of those of some bits, and the others are those of the bits after it
 pub record IsFirst (ended : Bool) (place : ℕ) (bits : List Bool) (item : Item) : Type 0 where
@@ -9,8 +9,8 @@ pub record IsFirst (ended : Bool) (place : ℕ) (bits : List Bool) (item : Item)
   pub there : covered item ≤ length bits
 
 -- bits were appended: all that were to come, where the first item is not known
-pub record IsFilled (before bits held : List Bool) (beginning : Beginning) : Type 0 where
+pub record IsFilled (before bits held : List Bool) (judged : Judged) : Type 0 where
   pub more : List Bool
   pub joined : before ++ bits ≡ held ++ more
-  pub known : IsBeginning beginning held
-  pub all : is_settled beginning ≡ false → more ≡ []
+  pub known : IsJudged judged held
+  pub all : is_settled judged ≡ false → more ≡ []

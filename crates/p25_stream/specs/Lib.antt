@@ -2,6 +2,6 @@ pub mod Items
 pub mod ItemLaws
 pub mod Arrivals
 pub mod Scan
-pub mod Beginnings
+pub mod Judgements
 pub mod Finding
 pub mod Repeats

@@ -2,12 +2,12 @@
 
 ghost use Rattle.std.specs.Prelude.{◌≡◌, ◌+◌, ◌%◌, ◌<◌, ◌≤◌, ◌++◌, [], false, true, length, take, drop};
 ghost use Rattle.p25_bits.specs.Bits.{bits_of, octet_bits};
-ghost use Rattle.p25_stream.specs.{Beginnings.{IsBeginning, is_settled}, Finding.{IsFilled, IsFirst}, Items.{items_by}};
+ghost use Rattle.p25_stream.specs.{Judgements.{IsJudged, is_settled}, Finding.{IsFilled, IsFirst}, Items.{items_by}};
 ghost use Rattle.p25_units.specs.Items.{IsSoundItem};
 
 use crate::arriving::put_some;
-use crate::beginning::Beginning;
-use crate::judging::{beginning_anew, set_item, settle};
+use crate::judged::Judged;
+use crate::judging::{judged_anew, set_item, settle};
 use p25_bits::BitBuf;
 use p25_units::Item;
 
@@ -51,41 +51,38 @@ pub fn find_item_in(
     held.clear();
     held.put_field(u64::from(octets[first]), 8);
     held.drop_front(at % 8);
-    let beginning = fill(&octets[first + 1..], held);
-    if !ended && !beginning.is_settled() {
+    let judged = fill(&octets[first + 1..], held);
+    if !ended && !judged.is_settled() {
         return false;
     }
-    set_item(beginning, held, place, room, item);
+    set_item(judged, held, place, room, item);
     true
 }
 
 // Appends the bits of octets until the first item is known, or of all, and answers what is known then.
-fn fill(octets: &[u8], held: &mut BitBuf) -> Beginning
+fn fill(octets: &[u8], held: &mut BitBuf) -> Judged
     requires few { length held.old ≤ 8 }
     ensures { IsFilled held.old (octet_bits octets.now) held.new result }
 {
     let mut taken = put_until(octets, SHORTEST, held);
-    let mut beginning = beginning_anew(held);
-    while taken < octets.len() && !beginning.is_settled() {
-        let wanted = wanted(&beginning, held.len());
+    let mut judged = judged_anew(held);
+    while taken < octets.len() && !judged.is_settled() {
+        let wanted = wanted(&judged, held.len());
         taken += put_until(&octets[taken..], wanted, held);
-        settle(&mut beginning, held);
+        settle(&mut judged, held);
     }
-    beginning
+    judged
 }
 
 // How many bits have to be there before it is worth while to judge again, where so many are.
-fn wanted(beginning: &Beginning, have: usize) -> usize
+fn wanted(judged: &Judged, have: usize) -> usize
     requires { have < 25920 }
     ensures more { have < result }
     ensures most { result ≤ 25920 }
 {
-    match beginning {
-        Beginning::Waiting(count, _) => (*count).clamp(have + 1, 25_920),
-        Beginning::Searching(_)
-        | Beginning::Gap(_)
-        | Beginning::Ready(_, _)
-        | Beginning::NoUnit(_) => have + 1,
+    match judged {
+        Judged::Waiting(count, _) => (*count).clamp(have + 1, 25_920),
+        Judged::Searching(_) | Judged::Gap(_) | Judged::Ready(_, _) | Judged::NoUnit(_) => have + 1,
     }
 }
 

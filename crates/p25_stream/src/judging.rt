@@ -4,9 +4,9 @@ ghost use Rattle.std.specs.Prelude.{◌≡◌, ◌+◌, ◌-◌, ◌*◌, ◌^�
 ghost use Rattle.p25_bits.specs.Bits.{bits_of, part};
 ghost use Rattle.p25_status.specs.Sync.{has_sync};
 ghost use Rattle.p25_units.specs.{Begins.{IsBegun}, Items.{IsSoundItem}};
-ghost use Rattle.p25_stream.specs.{Beginnings.{IsBeginning, WasBeginning, is_settled}, Items.{first_item, sync_place}};
+ghost use Rattle.p25_stream.specs.{Judgements.{IsJudged, WasJudged, is_settled}, Items.{first_item, sync_place}};
 
-use crate::beginning::{BEHIND, Beginning};
+use crate::judged::{BEHIND, Judged};
 use p25_bits::BitBuf;
 use p25_status::is_sync_window;
 use p25_units::{Begun, Field, Item, Need, need_synced, unit_item_in};
@@ -35,22 +35,22 @@ const WIDE_ONES_LEAST: u32 = 13;
 
 // What is known of bits of which nothing is known yet.
 #[inline]
-pub(crate) fn beginning_anew(held: &BitBuf) -> Beginning
-    ensures { IsBeginning result held.now }
+pub(crate) fn judged_anew(held: &BitBuf) -> Judged
+    ensures { IsJudged result held.now }
 {
     if held.len() <= BEHIND {
-        Beginning::Searching(0)
+        Judged::Searching(0)
     } else {
-        beginning_from(held, 0)
+        judged_from(held, 0)
     }
 }
 
 // What is known of bits whose first `clear` places have no sync.
-fn beginning_from(held: &BitBuf, clear: usize) -> Beginning
+fn judged_from(held: &BitBuf, clear: usize) -> Judged
     requires clear { clear ≤ sync_place held.now }
     requires judged { clear ≤ length held.now - 47 }
     requires few { clear ≤ 4096 }
-    ensures { IsBeginning result held.now }
+    ensures { IsJudged result held.now }
 {
     let end = held.len().saturating_sub(BEHIND).min(GAP_MOST);
     let mut k = clear;
@@ -60,16 +60,16 @@ fn beginning_from(held: &BitBuf, clear: usize) -> Beginning
         k += free;
         if free < count {
             return if k == 0 {
-                beginning_at_sync(held, Begun::new())
+                judged_at_sync(held, Begun::new())
             } else {
-                Beginning::Gap(k)
+                Judged::Gap(k)
             };
         }
     }
     if k == GAP_MOST {
-        Beginning::Gap(k)
+        Judged::Gap(k)
     } else {
-        Beginning::Searching(k)
+        Judged::Searching(k)
     }
 }
 
@@ -122,41 +122,41 @@ fn few_of_sixteen(number: u64) -> bool
 }
 
 // What is known of bits that begin with a sync.
-fn beginning_at_sync(held: &BitBuf, begun: Begun) -> Beginning
+fn judged_at_sync(held: &BitBuf, begun: Begun) -> Judged
     requires synced { has_sync held.now ≡ true }
     requires begun { IsBegun begun held.now }
-    ensures { IsBeginning result held.now }
+    ensures { IsJudged result held.now }
 {
     let mut begun = begun;
     match need_synced(held, 0, &mut begun) {
-        Need::NoSync => Beginning::NoUnit(Field::Sync),
-        Need::More(count) => Beginning::Waiting(count, begun),
-        Need::Length(count) => Beginning::Ready(count, begun),
-        Need::NoLength(field) => Beginning::NoUnit(field),
+        Need::NoSync => Judged::NoUnit(Field::Sync),
+        Need::More(count) => Judged::Waiting(count, begun),
+        Need::Length(count) => Judged::Ready(count, begun),
+        Need::NoLength(field) => Judged::NoUnit(field),
     }
 }
 
 // Sets what is known once more bits have come, where the first item was not known before.
 #[inline]
-pub(crate) fn settle(beginning: &mut Beginning, held: &BitBuf)
-    requires was { WasBeginning beginning.old held.now }
-    requires unsettled { is_settled beginning.old ≡ false }
-    ensures { IsBeginning beginning.new held.now }
+pub(crate) fn settle(judged: &mut Judged, held: &BitBuf)
+    requires was { WasJudged judged.old held.now }
+    requires unsettled { is_settled judged.old ≡ false }
+    ensures { IsJudged judged.new held.now }
 {
-    if !beginning.waits(held.len()) && !passes(beginning, held) {
-        judge_more(beginning, held);
+    if !judged.waits(held.len()) && !passes(judged, held) {
+        judge_more(judged, held);
     }
 }
 
 // Notes, where counts tell it, that the places that can be judged now have no sync: mostly they have none where octets have
 // come. Answers whether it did.
 #[inline]
-fn passes(beginning: &mut Beginning, held: &BitBuf) -> bool
-    requires { WasBeginning beginning.old held.now }
-    ensures passed { result ≡ true → IsBeginning beginning.new held.now }
-    ensures same { result ≡ false → beginning.new ≡ beginning.old }
+fn passes(judged: &mut Judged, held: &BitBuf) -> bool
+    requires { WasJudged judged.old held.now }
+    ensures passed { result ≡ true → IsJudged judged.new held.now }
+    ensures same { result ≡ false → judged.new ≡ judged.old }
 {
-    let Beginning::Searching(clear) = *beginning else {
+    let Judged::Searching(clear) = *judged else {
         return false;
     };
     let places = held.len().saturating_sub(clear + BEHIND);
@@ -165,7 +165,7 @@ fn passes(beginning: &mut Beginning, held: &BitBuf) -> bool
         && clear + places < GAP_MOST
         && none_of_many(held, clear, places / AT_ONCE)
     {
-        *beginning = Beginning::Searching(clear + places);
+        *judged = Judged::Searching(clear + places);
         return true;
     }
     false
@@ -195,21 +195,21 @@ fn none_of_many(held: &BitBuf, from: usize, count: usize) -> bool
 
 // Judges by all that is there to be read, apart from the caller.
 #[inline(never)]
-fn judge_more(beginning: &mut Beginning, held: &BitBuf)
-    requires was { WasBeginning beginning.old held.now }
-    requires unsettled { is_settled beginning.old ≡ false }
-    ensures { IsBeginning beginning.new held.now }
+fn judge_more(judged: &mut Judged, held: &BitBuf)
+    requires was { WasJudged judged.old held.now }
+    requires unsettled { is_settled judged.old ≡ false }
+    ensures { IsJudged judged.new held.now }
 {
-    match *beginning {
-        Beginning::Searching(clear) => *beginning = beginning_from(held, clear),
-        Beginning::Waiting(count, begun) => {
+    match *judged {
+        Judged::Searching(clear) => *judged = judged_from(held, clear),
+        Judged::Waiting(count, begun) => {
             if held.len() >= count {
-                *beginning = beginning_at_sync(held, begun);
+                *judged = judged_at_sync(held, begun);
             }
         }
-        Beginning::Gap(_) => unreachable!(),
-        Beginning::Ready(_, _) => unreachable!(),
-        Beginning::NoUnit(_) => unreachable!(),
+        Judged::Gap(_) => unreachable!(),
+        Judged::Ready(_, _) => unreachable!(),
+        Judged::NoUnit(_) => unreachable!(),
     }
 }
 
@@ -217,38 +217,38 @@ fn judge_more(beginning: &mut Beginning, held: &BitBuf)
 // place, apart from the caller.
 #[inline(never)]
 pub(crate) fn set_item(
-    beginning: Beginning,
+    judged: Judged,
     held: &BitBuf,
     place: u64,
     room: &mut BitBuf,
     item: &mut Item,
 )
-    requires { IsBeginning beginning held.now }
+    requires { IsJudged judged held.now }
     ensures item { item.new ≡ first_item place held.now }
     ensures sound { IsSoundItem item.new }
 {
-    match beginning {
-        Beginning::Searching(_) => {
+    match judged {
+        Judged::Searching(_) => {
             *item = Item::Gap {
                 place,
                 length: held.len().min(GAP_MOST) as u32,
             };
         }
-        Beginning::Waiting(_, _) => {
+        Judged::Waiting(_, _) => {
             *item = Item::Cut {
                 place,
                 have: held.len() as u32,
             };
         }
-        Beginning::Gap(count) => {
+        Judged::Gap(count) => {
             *item = Item::Gap {
                 place,
                 length: count as u32,
             };
         }
-        Beginning::Ready(count, begun) => {
+        Judged::Ready(count, begun) => {
             unit_item_in(held, 0, count, begun, place, room, item);
         }
-        Beginning::NoUnit(field) => *item = Item::NoUnit { place, field },
+        Judged::NoUnit(field) => *item = Item::NoUnit { place, field },
     }
 }

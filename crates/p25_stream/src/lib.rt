@@ -26,8 +26,8 @@
 #![tactic(auto)]
 
 mod arriving;
-mod beginning;
 mod finding;
+mod judged;
 mod judging;
 pub mod laws;
 mod repeats;

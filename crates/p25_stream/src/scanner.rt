@@ -6,8 +6,8 @@ ghost use Rattle.p25_stream.specs.Scan.{Gave, given, octets_taken};
 ghost use Rattle.p25_units.specs.Items.{IsSoundItem, covered};
 
 use crate::arriving::put_some;
-use crate::beginning::Beginning;
-use crate::judging::{beginning_anew, set_item, settle};
+use crate::judged::Judged;
+use crate::judging::{judged_anew, set_item, settle};
 use p25_bits::BitBuf;
 use p25_units::Item;
 use std::marker::Model;
@@ -21,18 +21,18 @@ pub struct Scanner {
     room: BitBuf,
     place: u64,
     finished: bool,
-    beginning: Beginning,
+    judged: Judged,
 }
 
 impl Model for Scanner {
     ghost use Rattle.std.specs.Prelude.{◌+◌, ◌^◌, ◌<◌, ◌≤◌, length};
-    ghost use Rattle.p25_stream.specs.{Scan.{Scan}, Beginnings.{IsBeginning}};
+    ghost use Rattle.p25_stream.specs.{Scan.{Scan}, Judgements.{IsJudged}};
 
     ghost Value = { Scan };
 
     ghost view = { λ s. record { place = s.place; held = s.held; finished = s.finished } };
 
-    ghost invariant = { λ s. IsBeginning s.beginning s.held × (length s.held ≤ 25927) × (s.place + length s.held < 2 ^ 61) };
+    ghost invariant = { λ s. IsJudged s.judged s.held × (length s.held ≤ 25927) × (s.place + length s.held < 2 ^ 61) };
 }
 
 /// The scanner at place 0 that holds nothing.
@@ -51,13 +51,13 @@ impl Scanner {
         ensures drained { given result ≡ [] }
     {
         let held = BitBuf::new();
-        let beginning = beginning_anew(&held);
+        let judged = judged_anew(&held);
         Scanner {
             held,
             room: BitBuf::new(),
             place: 0,
             finished: false,
-            beginning,
+            judged,
         }
     }
 
@@ -70,13 +70,13 @@ impl Scanner {
         let mut held = BitBuf::new();
         held.put_field(u64::from(octet), 8);
         held.drop_front((place % 8) as usize);
-        let beginning = beginning_anew(&held);
+        let judged = judged_anew(&held);
         Scanner {
             held,
             room: BitBuf::new(),
             place,
             finished: false,
-            beginning,
+            judged,
         }
     }
 
@@ -89,7 +89,7 @@ impl Scanner {
         ensures { self.new ≡ record self.old { held = self.old.held ++ bits_of 8 octet } }
     {
         self.held.put_field(u64::from(octet), 8);
-        settle(&mut self.beginning, &self.held);
+        settle(&mut self.judged, &self.held);
     }
 
     /// Appends the bits of some octets, from the first of these on, and answers of how many: of eight where there are so many
@@ -107,7 +107,7 @@ impl Scanner {
         ensures count { result ≡ octets_taken (length self.old.held) (length octets.now) }
     {
         let count = put_some(octets, &mut self.held);
-        settle(&mut self.beginning, &self.held);
+        settle(&mut self.judged, &self.held);
         count
     }
 
@@ -125,7 +125,7 @@ impl Scanner {
         if self.finished {
             self.held.len() == 0
         } else {
-            !self.beginning.is_settled()
+            !self.judged.is_settled()
         }
     }
 
@@ -163,7 +163,7 @@ impl Scanner {
         if self.is_drained() {
             return false;
         }
-        set_item(self.beginning, &self.held, self.place, &mut self.room, item);
+        set_item(self.judged, &self.held, self.place, &mut self.room, item);
         let count = item.covered();
         raw.clear();
         raw.append(&self.held, 0, count as usize);
@@ -196,7 +196,7 @@ impl Scanner {
         if self.is_drained() {
             return false;
         }
-        set_item(self.beginning, &self.held, self.place, &mut self.room, item);
+        set_item(self.judged, &self.held, self.place, &mut self.room, item);
         self.let_go(item.covered());
         true
     }
@@ -208,6 +208,6 @@ impl Scanner {
     {
         self.held.drop_front(count as usize);
         self.place += count;
-        self.beginning = beginning_anew(&self.held);
+        self.judged = judged_anew(&self.held);
     }
 }

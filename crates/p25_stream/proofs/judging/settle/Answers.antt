@@ -1,6 +1,6 @@
 use Rattle.std.proofs.Common.{ap, sym, subst, ◌∙◌}
-use Rattle.p25_stream.specs.{Beginnings.{IsBeginning, is_settled, waits}, declared.beginning.Beginning.{Beginning}}
-use Rattle.p25_stream.proofs.{BeginningsLaws.{was-stays}, judging.settle.Goals.{else-not-waits-via-then-not-waits+else-not-passes, else-not-waits-via-else-not-waits}}
+use Rattle.p25_stream.specs.{Judgements.{IsJudged, is_settled, waits}, declared.judged.Judged.{Judged}}
+use Rattle.p25_stream.proofs.{JudgementsLaws.{was-stays}, judging.settle.Goals.{else-not-waits-via-then-not-waits+else-not-passes, else-not-waits-via-else-not-waits}}
 use Rattle.p25_stream.proofs.judging.settle.Goals as goal
 
 pub judge_more-requires-clause-unsettled : goal.judge_more-requires-clause-unsettled
@@ -9,11 +9,11 @@ judge_more-requires-clause-unsettled c = ap is_settled (c.passes.ensures.same c.
 pub returns-else-not-waits : goal.returns-else-not-waits
 returns-else-not-waits c =
     let held = c.args.held.now in
-    let was = c.args.beginning.now in
+    let was = c.args.judged.now in
     elim c.else-not-waits.branch [
       | else-not-waits-via-then-not-waits+else-not-passes w ↦
-          subst (λ (b : Beginning). IsBeginning b held) (sym w.beginning-is) (w.passes.ensures.passed w.if-not-passes.false)
+          subst (λ (b : Judged). IsJudged b held) (sym w.judged-is) (w.passes.ensures.passed w.if-not-passes.false)
       | else-not-waits-via-else-not-waits w ↦
-          subst (λ (b : Beginning). IsBeginning b held) (sym w.beginning-is)
+          subst (λ (b : Judged). IsJudged b held) (sym w.judged-is)
           (was-stays was held c.requires.was (ap (waits was) (sym c.len.ensures.value) ∙ sym c.waits.ensures ∙ w.if-not-waits.false))
     ]

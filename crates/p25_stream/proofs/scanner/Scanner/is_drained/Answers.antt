@@ -14,4 +14,4 @@ pub returns-else-self : goal.returns-else-self
 returns-else-self c =
     let inside = c.self.inside in
     subst (λ (s : Scan). IsTrue (not c.is_settled.result) ↔ (given s ≡ [])) c.self.view_is
-    (drained-when-going inside.beginning (record { place = inside.place; held = inside.held; finished = inside.finished }) c.is_settled.result c.if-self.false c.self.invariant.0 c.is_settled.ensures)
+    (drained-when-going inside.judged (record { place = inside.place; held = inside.held; finished = inside.finished }) c.is_settled.result c.if-self.false c.self.invariant.0 c.is_settled.ensures)

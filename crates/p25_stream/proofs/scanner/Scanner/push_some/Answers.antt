@@ -4,10 +4,10 @@ use Rattle.p25_stream.proofs.ScanLaws.{drained-open, drained-few}
 use Rattle.p25_stream.proofs.scanner.Scanner.push_some.Goals as goal
 
 pub put_some-count-requires-clause-room : goal.put_some-count-requires-clause-room
-put_some-count-requires-clause-room c = omega (arith, drained-few c.self.inside.beginning _ _ c.self.view_is c.requires.drained c.requires.going c.self.invariant.0)
+put_some-count-requires-clause-room c = omega (arith, drained-few c.self.inside.judged _ _ c.self.view_is c.requires.drained c.requires.going c.self.invariant.0)
 
 pub settle-requires-clause-unsettled : goal.settle-requires-clause-unsettled
-settle-requires-clause-unsettled c = drained-open c.self.inside.beginning _ _ c.self.view_is c.requires.drained c.requires.going c.self.invariant.0
+settle-requires-clause-unsettled c = drained-open c.self.inside.judged _ _ c.self.view_is c.requires.drained c.requires.going c.self.invariant.0
 
 pub invariant_of-self : goal.invariant_of-self
 invariant_of-self c = (

@@ -5,8 +5,8 @@ use Rattle.p25_status.specs.{Sync.{has_sync}, declared.fields.Field.{Field}}
 use Rattle.p25_status.proofs.SyncLaws.{has_sync-length, has_sync-append}
 use Rattle.p25_units.specs.{Needs.{need_of}, declared.begun.Begun.{Begun}, declared.needs.Need.TheVariants.{More, Length, NoLength}}
 use Rattle.p25_units.proofs.{NeedsLaws.{need_of-few, need_of-waits}, BegunLaws.{IsBegun-append}}
-use Rattle.p25_stream.specs.{Items.{sync_place, gap_of, gap_known, is_decided}, Beginnings.{Needs, HasNoUnit, IsSearched, IsKnownGap, is_settled, waits, IsBeginning, WasBeginning}}
-use Rattle.p25_stream.specs.{declared.beginning.Beginning.{Beginning}, declared.beginning.Beginning.TheVariants.{Searching, Waiting, Gap, Ready, NoUnit}}
+use Rattle.p25_stream.specs.{Items.{sync_place, gap_of, gap_known, is_decided}, Judgements.{Needs, HasNoUnit, IsSearched, IsKnownGap, is_settled, waits, IsJudged, WasJudged}}
+use Rattle.p25_stream.specs.{declared.judged.Judged.{Judged}, declared.judged.Judged.TheVariants.{Searching, Waiting, Gap, Ready, NoUnit}}
 use Rattle.p25_stream.proofs.{SyncPlaceLaws.{sync_place-synced, sync_place-all, sync_place-from, sync_place-append_far}, ItemsLaws.{is_decided-gap, is_decided-synced}}
 
 -- bits that were searched begin with no sync, and have none
@@ -26,62 +26,62 @@ searched-open bits clear is =
     is_decided-gap bits (searched-none bits clear is)
     ∙ lt-leb (min (gap_of bits + 48) (4096 + 47)) (length bits) (omega (arith, searched-all bits clear is, is.all, is.few))
 
-pub IsBeginning-decided : (beginning : Beginning) (bits : List Bool) → IsBeginning beginning bits → is_decided bits ≡ is_settled beginning
-unfolding IsBeginning
-IsBeginning-decided (Searching clear) bits is = searched-open bits clear is
-IsBeginning-decided (Waiting count begun) bits is = is_decided-synced bits (More count) is.synced is.needs
-IsBeginning-decided (Gap count) bits is = is_decided-gap bits is.unsynced ∙ ap (λ n. gap_known n (length bits)) (sym is.is) ∙ is.known
-IsBeginning-decided (Ready count begun) bits is = is_decided-synced bits (Length count) is.synced is.needs
-IsBeginning-decided (NoUnit field) bits is = is_decided-synced bits (NoLength field) is.synced is.needs
+pub IsJudged-decided : (judged : Judged) (bits : List Bool) → IsJudged judged bits → is_decided bits ≡ is_settled judged
+unfolding IsJudged
+IsJudged-decided (Searching clear) bits is = searched-open bits clear is
+IsJudged-decided (Waiting count begun) bits is = is_decided-synced bits (More count) is.synced is.needs
+IsJudged-decided (Gap count) bits is = is_decided-gap bits is.unsynced ∙ ap (λ n. gap_known n (length bits)) (sym is.is) ∙ is.known
+IsJudged-decided (Ready count begun) bits is = is_decided-synced bits (Length count) is.synced is.needs
+IsJudged-decided (NoUnit field) bits is = is_decided-synced bits (NoLength field) is.synced is.needs
 
 -- where it is not, few bits are held
-pub IsBeginning-few : (beginning : Beginning) (bits : List Bool) → IsBeginning beginning bits → is_settled beginning ≡ false → length bits < 25920
-unfolding IsBeginning
-IsBeginning-few (Searching clear) bits is open' = omega (arith, is.all, is.few)
-IsBeginning-few (Waiting count begun) bits is open' = let few = need_of-few bits count is.needs in omega (arith, few.0, few.1)
-IsBeginning-few beginning bits is open' = absurd (cc)
+pub IsJudged-few : (judged : Judged) (bits : List Bool) → IsJudged judged bits → is_settled judged ≡ false → length bits < 25920
+unfolding IsJudged
+IsJudged-few (Searching clear) bits is open' = omega (arith, is.all, is.few)
+IsJudged-few (Waiting count begun) bits is open' = let few = need_of-few bits count is.needs in omega (arith, few.0, few.1)
+IsJudged-few judged bits is open' = absurd (cc)
 
 -- each case, made
-pub beginning-searching : (bits : List Bool) (clear : ℕ) → clear < 4096 → clear ≡ length bits - 47 → clear ≤ sync_place bits → IsBeginning (Searching clear) bits
-unfolding IsBeginning
-beginning-searching bits clear few all none = record { few = few; all = all; none = none }
+pub judged-searching : (bits : List Bool) (clear : ℕ) → clear < 4096 → clear ≡ length bits - 47 → clear ≤ sync_place bits → IsJudged (Searching clear) bits
+unfolding IsJudged
+judged-searching bits clear few all none = record { few = few; all = all; none = none }
 
-pub beginning-gap : (bits : List Bool) (count : ℕ) → IsKnownGap bits count → IsBeginning (Gap count) bits
-unfolding IsBeginning
-beginning-gap bits count is = is
+pub judged-gap : (bits : List Bool) (count : ℕ) → IsKnownGap bits count → IsJudged (Gap count) bits
+unfolding IsJudged
+judged-gap bits count is = is
 
-pub beginning-waiting : (bits : List Bool) (count : ℕ) (begun : Begun) → Needs bits (More count) begun → IsBeginning (Waiting count begun) bits
-unfolding IsBeginning
-beginning-waiting bits count begun is = is
+pub judged-waiting : (bits : List Bool) (count : ℕ) (begun : Begun) → Needs bits (More count) begun → IsJudged (Waiting count begun) bits
+unfolding IsJudged
+judged-waiting bits count begun is = is
 
-pub beginning-ready : (bits : List Bool) (count : ℕ) (begun : Begun) → Needs bits (Length count) begun → IsBeginning (Ready count begun) bits
-unfolding IsBeginning
-beginning-ready bits count begun is = is
+pub judged-ready : (bits : List Bool) (count : ℕ) (begun : Begun) → Needs bits (Length count) begun → IsJudged (Ready count begun) bits
+unfolding IsJudged
+judged-ready bits count begun is = is
 
-pub beginning-no_unit : (bits : List Bool) (field : Field) → has_sync bits ≡ true → need_of bits ≡ NoLength field → IsBeginning (NoUnit field) bits
-unfolding IsBeginning
-beginning-no_unit bits field yes' is = record { synced = yes'; needs = is }
+pub judged-no_unit : (bits : List Bool) (field : Field) → has_sync bits ≡ true → need_of bits ≡ NoLength field → IsJudged (NoUnit field) bits
+unfolding IsJudged
+judged-no_unit bits field yes' is = record { synced = yes'; needs = is }
 
 -- and each case, used
-pub was-searching : (beginning : Beginning) (bits : List Bool) (clear : ℕ) → IsBeginning beginning bits → beginning ≡ Searching clear → IsSearched bits clear
-unfolding IsBeginning
-was-searching beginning bits clear is same = subst (λ (b : Beginning). IsBeginning b bits) same is
+pub was-searching : (judged : Judged) (bits : List Bool) (clear : ℕ) → IsJudged judged bits → judged ≡ Searching clear → IsSearched bits clear
+unfolding IsJudged
+was-searching judged bits clear is same = subst (λ (b : Judged). IsJudged b bits) same is
 
-pub was-waiting : (beginning : Beginning) (bits : List Bool) (count : ℕ) (begun : Begun) → IsBeginning beginning bits → beginning ≡ Waiting count begun → Needs bits (More count) begun
-unfolding IsBeginning
-was-waiting beginning bits count begun is same = subst (λ (b : Beginning). IsBeginning b bits) same is
+pub was-waiting : (judged : Judged) (bits : List Bool) (count : ℕ) (begun : Begun) → IsJudged judged bits → judged ≡ Waiting count begun → Needs bits (More count) begun
+unfolding IsJudged
+was-waiting judged bits count begun is same = subst (λ (b : Judged). IsJudged b bits) same is
 
-pub was-gap : (beginning : Beginning) (bits : List Bool) (count : ℕ) → IsBeginning beginning bits → beginning ≡ Gap count → IsKnownGap bits count
-unfolding IsBeginning
-was-gap beginning bits count is same = subst (λ (b : Beginning). IsBeginning b bits) same is
+pub was-gap : (judged : Judged) (bits : List Bool) (count : ℕ) → IsJudged judged bits → judged ≡ Gap count → IsKnownGap bits count
+unfolding IsJudged
+was-gap judged bits count is same = subst (λ (b : Judged). IsJudged b bits) same is
 
-pub was-ready : (beginning : Beginning) (bits : List Bool) (count : ℕ) (begun : Begun) → IsBeginning beginning bits → beginning ≡ Ready count begun → Needs bits (Length count) begun
-unfolding IsBeginning
-was-ready beginning bits count begun is same = subst (λ (b : Beginning). IsBeginning b bits) same is
+pub was-ready : (judged : Judged) (bits : List Bool) (count : ℕ) (begun : Begun) → IsJudged judged bits → judged ≡ Ready count begun → Needs bits (Length count) begun
+unfolding IsJudged
+was-ready judged bits count begun is same = subst (λ (b : Judged). IsJudged b bits) same is
 
-pub was-no_unit : (beginning : Beginning) (bits : List Bool) (field : Field) → IsBeginning beginning bits → beginning ≡ NoUnit field → HasNoUnit bits (NoLength field)
-unfolding IsBeginning
-was-no_unit beginning bits field is same = subst (λ (b : Beginning). IsBeginning b bits) same is
+pub was-no_unit : (judged : Judged) (bits : List Bool) (field : Field) → IsJudged judged bits → judged ≡ NoUnit field → HasNoUnit bits (NoLength field)
+unfolding IsJudged
+was-no_unit judged bits field is same = subst (λ (b : Judged). IsJudged b bits) same is
 
 -- places that were searched have no sync under more bits
 pub searched-more : (bits more : List Bool) (clear : ℕ) → IsSearched bits clear → (clear ≤ sync_place (bits ++ more)) × (clear ≤ length (bits ++ more) - 47)
@@ -110,16 +110,16 @@ searching-stays bits more clear is few = record {
   none = (searched-more bits more clear is).0;
 }
 
-pub waits-stays : (beginning : Beginning) (bits more : List Bool) → IsBeginning beginning bits → waits beginning (length (bits ++ more)) ≡ true → IsBeginning beginning (bits ++ more)
-unfolding IsBeginning
+pub waits-stays : (judged : Judged) (bits more : List Bool) → IsJudged judged bits → waits judged (length (bits ++ more)) ≡ true → IsJudged judged (bits ++ more)
+unfolding IsJudged
 waits-stays (Searching clear) bits more is few = searching-stays bits more clear is (leb-true (length (bits ++ more) - 47) clear few)
 waits-stays (Waiting count begun) bits more is few = waits-more bits more count begun is (ltb-true (length (bits ++ more)) count few)
-waits-stays beginning bits more is few = absurd (cc)
+waits-stays judged bits more is few = absurd (cc)
 
-pub was-stays : (beginning : Beginning) (bits : List Bool) → WasBeginning beginning bits → waits beginning (length bits) ≡ true → IsBeginning beginning bits
-was-stays beginning bits was few =
-    subst (λ (xs : List Bool). IsBeginning beginning xs) (sym was.is)
-    (waits-stays beginning was.before was.more was.known (ap (λ (xs : List Bool). waits beginning (length xs)) (sym was.is) ∙ few))
+pub was-stays : (judged : Judged) (bits : List Bool) → WasJudged judged bits → waits judged (length bits) ≡ true → IsJudged judged bits
+was-stays judged bits was few =
+    subst (λ (xs : List Bool). IsJudged judged xs) (sym was.is)
+    (waits-stays judged was.before was.more was.known (ap (λ (xs : List Bool). waits judged (length xs)) (sym was.is) ∙ few))
 
 -- the bits that a gap covers are known by the first place after them with a sync, or by their number
 pub gap-before_sync : (bits : List Bool) (k : ℕ) → 0 < k → k < 4096 → k ≤ sync_place bits → k + 48 ≤ length bits → has_sync (drop k bits) ≡ true → IsKnownGap bits k

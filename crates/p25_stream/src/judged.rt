@@ -1,7 +1,7 @@
 //! What is known of the item that some bits begin with.
 
 ghost use Rattle.std.specs.Prelude.{◌≡◌, true, false};
-ghost use Rattle.p25_stream.specs.Beginnings.{is_settled, waits};
+ghost use Rattle.p25_stream.specs.Judgements.{is_settled, waits};
 
 use p25_units::{Begun, Field};
 
@@ -10,7 +10,7 @@ pub(crate) const BEHIND: usize = 47;
 
 /// What a scanner remembers of the item that the bits it holds begin with.
 #[derive(Clone, Copy)]
-pub enum Beginning {
+pub enum Judged {
     /// Nothing is known: the first so many places have no sync, and no others can be judged yet.
     Searching(usize),
     /// A sync, after which so many bits have to be there, and what was read of a unit.
@@ -23,18 +23,18 @@ pub enum Beginning {
     NoUnit(Field),
 }
 
-impl Beginning {
+impl Judged {
     // Whether so many bits are too few for more to be known.
     #[inline]
     pub(crate) fn waits(&self, have: usize) -> bool
         ensures { result ≡ waits self.now have }
     {
         match self {
-            Beginning::Searching(clear) => have.saturating_sub(BEHIND) <= *clear,
-            Beginning::Waiting(count, _) => have < *count,
-            Beginning::Gap(_) => false,
-            Beginning::Ready(_, _) => false,
-            Beginning::NoUnit(_) => false,
+            Judged::Searching(clear) => have.saturating_sub(BEHIND) <= *clear,
+            Judged::Waiting(count, _) => have < *count,
+            Judged::Gap(_) => false,
+            Judged::Ready(_, _) => false,
+            Judged::NoUnit(_) => false,
         }
     }
 
@@ -43,11 +43,11 @@ impl Beginning {
         ensures { result ≡ is_settled self.now }
     {
         match self {
-            Beginning::Searching(_) => false,
-            Beginning::Waiting(_, _) => false,
-            Beginning::Gap(_) => true,
-            Beginning::Ready(_, _) => true,
-            Beginning::NoUnit(_) => true,
+            Judged::Searching(_) => false,
+            Judged::Waiting(_, _) => false,
+            Judged::Gap(_) => true,
+            Judged::Ready(_, _) => true,
+            Judged::NoUnit(_) => true,
         }
     }
 }

@@ -3,8 +3,8 @@ use Rattle.std.specs.Prelude.{◌≡◌, ℕ, ◌-◌, ◌<◌, ◌≤◌, Bool,
 use Rattle.p25_status.specs.Sync.{has_sync}
 use Rattle.p25_units.specs.{Begins.{IsBegun}, Needs.{need_of}, declared.begun.Begun.{Begun}, declared.needs.Need.{Need}}
 use Rattle.p25_units.specs.declared.needs.Need.TheVariants.{More, Length, NoLength}
-use Rattle.p25_stream.specs.{Items.{sync_place, gap_of, gap_known}, declared.beginning.Beginning.{Beginning}}
-use Rattle.p25_stream.specs.declared.beginning.Beginning.TheVariants.{Searching, Waiting, Gap, Ready, NoUnit}
+use Rattle.p25_stream.specs.{Items.{sync_place, gap_of, gap_known}, declared.judged.Judged.{Judged}}
+use Rattle.p25_stream.specs.declared.judged.Judged.TheVariants.{Searching, Waiting, Gap, Ready, NoUnit}
 
 -- bits that begin with a sync, what is needed there, and what was read of the unit
 pub record Needs (bits : List Bool) (need : Need) (begun : Begun) : Type 0 where
@@ -30,7 +30,7 @@ pub record IsKnownGap (bits : List Bool) (count : ℕ) : Type 0 where
   pub known : gap_known count (length bits) ≡ true
 
 -- the first item is known
-abbrev pub is_settled : Beginning → Bool
+abbrev pub is_settled : Judged → Bool
 is_settled (Searching clear) = false
 is_settled (Waiting count begun) = false
 is_settled (Gap count) = true
@@ -38,24 +38,24 @@ is_settled (Ready count begun) = true
 is_settled (NoUnit field) = true
 
 -- so many bits are too few for more to be known
-abbrev pub waits : Beginning → ℕ → Bool
+abbrev pub waits : Judged → ℕ → Bool
 waits (Searching clear) have = nat_le (have - 47) clear
 waits (Waiting count begun) have = nat_lt have count
 waits (Gap count) have = false
 waits (Ready count begun) have = false
 waits (NoUnit field) have = false
 
--- what is known of a beginning is true of the bits that are held
-unfoldable pub IsBeginning : Beginning → List Bool → Type 0
-IsBeginning (Searching clear) bits = IsSearched bits clear
-IsBeginning (Waiting count begun) bits = Needs bits (More count) begun
-IsBeginning (Gap count) bits = IsKnownGap bits count
-IsBeginning (Ready count begun) bits = Needs bits (Length count) begun
-IsBeginning (NoUnit field) bits = HasNoUnit bits (NoLength field)
+-- what was judged is true of the bits that are held
+unfoldable pub IsJudged : Judged → List Bool → Type 0
+IsJudged (Searching clear) bits = IsSearched bits clear
+IsJudged (Waiting count begun) bits = Needs bits (More count) begun
+IsJudged (Gap count) bits = IsKnownGap bits count
+IsJudged (Ready count begun) bits = Needs bits (Length count) begun
+IsJudged (NoUnit field) bits = HasNoUnit bits (NoLength field)
 
 -- it was true before some bits came
-pub record WasBeginning (beginning : Beginning) (bits : List Bool) : Type 0 where
+pub record WasJudged (judged : Judged) (bits : List Bool) : Type 0 where
   pub before : List Bool
   pub more : List Bool
   pub is : bits ≡ before ++ more
-  pub known : IsBeginning beginning before
+  pub known : IsJudged judged before
