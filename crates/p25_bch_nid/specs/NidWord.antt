@@ -4,7 +4,7 @@ use Rattle.std.proofs.{Common.{ap, ap₂, sym, ◌∙◌, arith, length-append},
 use Rattle.p25_bits.specs.Bits.{bits_of, digit_of}
 use Rattle.p25_bits.proofs.BitsLaws.{length-bits_of, bits_of-add, field_of-bits_of, field_of-one, same_from_field_of}
 use Rattle.p25_code.specs.Words.{IsEncoding}
-use Rattle.p25_bch_nid.specs.{Nid.{parity_of, IsSent}, Bch63.{IsBch63}, Bch63Laws.{encoded, IsEncoding-encoded, one_word}}
+use Rattle.p25_bch_nid.specs.{Duids.{duid_ldu1, duid_ldu2}, Nid.{parity_of, IsSent}, Bch63.{IsBch63}, Bch63Laws.{encoded, IsEncoding-encoded, one_word}}
 
 -- the 64 bits of a network identifier (NID): the word of the code that begins with NAC and DUID, and P
 unfoldable pub nid_word : ℕ → ℕ → List Bool
@@ -28,5 +28,5 @@ nid_word-sent nac duid bits sent word =
     let same = one_word (take 63 (bits_of 64 bits)) (encoded info) word.word_of_set encoding.word_of_set (word.begins ∙ sym encoding.begins) in
     let last
     = same_from_field_of (bits_of 1 bits) ((parity_of duid == 1) ∷ []) (length-bits_of 1 bits)
-    (field_of-bits_of 1 bits ∙ sent.parity ∙ sym (parity-digit (duid == 5 || duid == 10)) ∙ sym (field_of-one (parity_of duid == 1))) in
+    (field_of-bits_of 1 bits ∙ sent.parity ∙ sym (parity-digit (duid == duid_ldu1 || duid == duid_ldu2)) ∙ sym (field_of-one (parity_of duid == 1))) in
     cut ∙ ap₂ (λ (xs ys : List Bool). xs ++ ys) (sym beginning ∙ same) last

@@ -97,5 +97,5 @@ fn symbol_in(octets: u64, b: usize) -> Sym
     requires symbol { octets / 2 ^ (8 * b) % 2 ^ 8 < 64 }
     ensures { number result ≡ octets / 2 ^ (8 * b) % 2 ^ 8 }
 {
-    Sym::new(((octets >> (8 * b)) % 256) as u8).unwrap()
+    Sym::of_low_bits(u128::from(octets >> (8 * b)))
 }

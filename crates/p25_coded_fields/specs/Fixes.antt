@@ -1,5 +1,5 @@
 -- In how many bits a field was received otherwise than it is sent.
-use Rattle.std.specs.{Prelude.{◌≡◌, ℕ, ◌*◌, ◌<◌, ◌≤◌, Bool, List, length, take}, List.{flat_map}}
+use Rattle.std.specs.{Prelude.{◌≡◌, ℕ, ◌*◌, ◌≤◌, Bool, List, length, take}, List.{flat_map}}
 use Rattle.p25_bits.specs.{Bits.{part}, Distance.{distance_of}}
 use Rattle.p25_code.specs.Words.{IsEncoding}
 use Rattle.p25_gf64.specs.declared.symbol.Sym.{Sym}
@@ -21,11 +21,11 @@ pub record IsCounted (encoding : List Bool → List Bool) (size each i : ℕ) (p
   pub received_long : length (inner_bits size (take i places) bits) ≡ size * i
   pub sent_long : length (field_bits encoding each i symbols) ≡ size * i
 
--- where inner words carry symbols, a count says in how many bits the first inner words of a field were received otherwise than
--- they are sent, whatever function encodes them; and it is at most 24 for each word
+-- a count says in how many bits the first inner words of a field were received otherwise than they are sent, whatever function
+-- encodes them; and it is at most 24 for each word
 pub record AreCounted (IsWord : List Bool → Type 0) (size k each i : ℕ) (places : List ℕ) (symbols : List Sym) (bits : List Bool) (count : ℕ) : Type 0 where
-  pub most : 0 < each → count ≤ 24 * i
-  pub value : 0 < each → (encoding : List Bool → List Bool) → Encodes IsWord k encoding → IsCounted encoding size each i places symbols bits count
+  pub most : count ≤ 24 * i
+  pub value : (encoding : List Bool → List Bool) → Encodes IsWord k encoding → IsCounted encoding size each i places symbols bits count
 
 -- a count says in how many bits the inner word at a place was received otherwise than it is sent for symbols, and it is at most 24
 pub record IsInnerCount (IsWord : List Bool → Type 0) (size k at : ℕ) (symbols : List Sym) (bits : List Bool) (count : ℕ) : Type 0 where

@@ -1,6 +1,6 @@
 //! In how many bits the inner words of a field were received otherwise than they are sent.
 
-ghost use Rattle.std.specs.Prelude.{◌≡◌, ◌+◌, ◌*◌, ◌/◌, ◌^◌, ◌<◌, ◌≤◌, ℕ, All, IfSome, Some, length};
+ghost use Rattle.std.specs.Prelude.{◌≡◌, ◌+◌, ◌*◌, ◌/◌, ◌≤◌, ℕ, All, IfSome, Some, length};
 ghost use Rattle.p25_coded_fields.specs.Fixes.{AreCounted, IsInnerCount};
 
 use p25_bits::BitBuf;
@@ -8,19 +8,14 @@ use p25_code::NumberCode;
 use p25_gf64::Sym;
 use p25_link::symbols_number;
 
-// The sum of two counts, unless it is too large.
-fn total(first: u32, second: u32) -> u32
-    ensures { first + second < 2 ^ 32 → result ≡ first + second }
-{
-    first.saturating_add(second)
-}
-
-// The sum of two counts, where both are known.
+// The sum of the count of at most 35 inner words and of the next one's, where both are known.
 pub(crate) fn total_known(first: Option<u32>, second: Option<u32>) -> Option<u32>
-    ensures { IfSome result (λ sum. (a : ℕ) × (b : ℕ) × (first ≡ Some a) × (second ≡ Some b) × (a + b < 2 ^ 32 → sum ≡ a + b)) }
+    requires first { IfSome first (λ a. a ≤ 840) }
+    requires second { IfSome second (λ b. b ≤ 24) }
+    ensures { IfSome result (λ sum. (a : ℕ) × (b : ℕ) × (first ≡ Some a) × (second ≡ Some b) × (sum ≡ a + b)) }
 {
     match (first, second) {
-        (Some(first), Some(second)) => Some(total(first, second)),
+        (Some(first), Some(second)) => Some(first + second),
         _ => None,
     }
 }
@@ -38,7 +33,7 @@ pub(crate) fn field_fixes<I: NumberCode>(
     requires code { I.HasCode }
     requires small { I.N ≤ 24 }
     requires sixes { 6 * (I.K / 6) ≡ I.K }
-    requires short { length word.now ≤ 36 }
+    requires few { length places.now ≤ 36 }
     requires word { length places.now * (I.K / 6) ≡ length word.now }
     requires there { All (λ at. at + I.N ≤ length bare.now) places.now }
     requires counted { changed ≡ 0 → IfSome counted (AreCounted I.IsWord I.N I.K (I.K / 6) (length places.now) places.now word.now bare.now) }
@@ -53,7 +48,7 @@ pub(crate) fn field_fixes<I: NumberCode>(
     let mut wrong = 0;
     for (i, at) in places.iter().enumerate() {
         let more = inner_fixes::<I>(bare, *at, &word[each * i..each * i + each]);
-        wrong = total(wrong, more);
+        wrong += more;
     }
     wrong
 }

@@ -75,6 +75,10 @@ pub fn read_field<I: NumberCode, O: ErasedCode<Letter = Sym>>(
     ensures most { 0 < I.K → (fixes : ℕ) → result ≡ Reading.Found fixes → fixes ≤ 24 * length places.now }
 {
     let each = I::K / 6;
+    // Where an inner word carries no symbol the outer word has none.
+    if each == 0 {
+        return O::read_erased(word, &[]);
+    }
     let mut gone = [false; 36];
     let erased = &mut gone[..word.len()];
     let mut counted = Some(0);

@@ -39,6 +39,7 @@ mod tests {
     fn field_values(rt: HostRuntime) -> Result<(), Fail> {
         assert_eq!(rt; Sym::try_from(64), Err(NotASymbol(64)));
         let two = Sym::new(2).ok_or("2 is a symbol")?;
+        assert_eq!(rt; Sym::of_low_bits(0xFC2), two);
         assert!(rt; !two.is_zero());
         assert_eq!(rt; two.inv().value(), 33);
         assert_eq!(rt; two.mul(two.inv()), Sym::ONE);

@@ -1,4 +1,4 @@
-ghost use Rattle.std.specs.Prelude.{◌≡◌, ◌≢◌, ℕ, ◌<◌, ◌↔◌, IsTrue, IsSome, IfSome, bit_xor};
+ghost use Rattle.std.specs.Prelude.{◌≡◌, ◌≢◌, ℕ, ◌%◌, ◌<◌, ◌↔◌, IsTrue, IsSome, IfSome, bit_xor};
 
 use crate::products::product;
 use crate::tables::{LOGARITHMS, POWERS};
@@ -50,6 +50,15 @@ impl Sym {
             Some(Sym { value })
         } else {
             None
+        }
+    }
+
+    /// Answers the symbol that the low six bits of a number write.
+    pub fn of_low_bits(value: u128) -> Sym
+        ensures { number result ≡ value % 64 }
+    {
+        Sym {
+            value: (value % 64) as u8,
         }
     }
 

@@ -55,11 +55,7 @@ pub fn put_symbols(number: u128, symbols: &mut [Sym])
 {
     let count = symbols.len();
     for i in 0..count {
-        let value = (number >> (6 * (count - 1 - i))) % 64;
-        match Sym::new(value as u8) {
-            Some(symbol) => symbols[i] = symbol,
-            None => unreachable!(),
-        }
+        symbols[i] = Sym::of_low_bits(number >> (6 * (count - 1 - i)));
     }
 }
 

@@ -136,5 +136,5 @@ fn symbol_in(values: u128, b: usize) -> Sym
     requires symbol { values / 2 ^ (8 * b) % 2 ^ 8 < 64 }
     ensures { number result ≡ values / 2 ^ (8 * b) % 2 ^ 8 }
 {
-    Sym::new(((values >> (8 * b)) % 256) as u8).unwrap()
+    Sym::of_low_bits(values >> (8 * b))
 }

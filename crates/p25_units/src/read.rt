@@ -12,7 +12,7 @@ use crate::frame::Frame;
 use crate::item::{Item, unit_item};
 use p25_bch_nid::{PDU, ReadNid};
 use p25_bits::BitBuf;
-use p25_status::{Field, FieldList, Outcome, unweave};
+use p25_status::{FieldList, Outcome, unweave};
 
 /// Answers the frame that the `count` sent bits from place `at` on read as, where `need` answers that length there. The
 /// refusal is the list of exactly the fields that fail, in order, and is never empty: those of a voice unit, or of a packet (PDU)
@@ -26,7 +26,7 @@ pub fn read_unit(bits: &BitBuf, at: usize, count: usize) -> Result<Frame, FieldL
     match unit_item(bits, at, count, Begun::new(), 0) {
         Item::Whole { frame, .. } => Ok(frame),
         Item::Broken { fields, .. } => Err(fields),
-        _ => Err(FieldList::one(Field::Nid)),
+        _ => unreachable!(),
     }
 }
 

@@ -245,8 +245,6 @@ pub fn read_voice_in(duid: u8, bare: &BitBuf, unit: &mut VoiceUnit) -> Outcome
         LDU1 => read_logical_link(duid, bare, unit),
         LDU2 => read_logical_link(duid, bare, unit),
         TDULC => read_tdulc(bare, unit),
-        _ => Outcome::Failing {
-            fields: FieldList::new(),
-        },
+        _ => unreachable!(),
     }
 }

@@ -7,6 +7,15 @@ use crate::voice::Voice;
 use p25_bch_nid::{HDU, LDU1, LDU2, TDU, TDULC};
 use p25_link::{EncryptionSync, HeaderWord, LinkControl};
 
+// How many bits a unit of each kind has without status symbols: an HDU, an LDU1 or an LDU2, a TDU, and a TDULC.
+const HDU_LENGTH: usize = 770;
+
+const LDU_LENGTH: usize = 1680;
+
+const TDU_LENGTH: usize = 140;
+
+const TDULC_LENGTH: usize = 420;
+
 /// A voice unit, of one of the kinds HDU, LDU1, LDU2, TDU and TDULC, without its network access code (NAC) and status symbols.
 #[derive(Clone, Debug, Drop, PartialEq, Eq)]
 pub enum VoiceUnit {
@@ -55,11 +64,17 @@ impl VoiceUnit {
     }
 
     /// Answers how many bits the unit has without status symbols.
+    #[tactic(auto, unfolding(crate::specs::Lengths::voice_length_of))]
     pub fn length(&self) -> usize
         ensures value { voice_length_of (voice_duid self.now) ≡ Some result }
         ensures most { result ≤ 1680 }
     {
-        voice_length(self.duid()).unwrap_or(0)
+        match self {
+            VoiceUnit::Header(_) => HDU_LENGTH,
+            VoiceUnit::Link1 { .. } | VoiceUnit::Link2 { .. } => LDU_LENGTH,
+            VoiceUnit::End => TDU_LENGTH,
+            VoiceUnit::EndLink { .. } => TDULC_LENGTH,
+        }
     }
 }
 
@@ -71,10 +86,10 @@ pub fn voice_length(duid: u8) -> Option<usize>
     ensures { result ≡ voice_length_of duid }
 {
     match duid {
-        HDU => Some(770),
-        TDU => Some(140),
-        LDU1 | LDU2 => Some(1680),
-        TDULC => Some(420),
+        HDU => Some(HDU_LENGTH),
+        TDU => Some(TDU_LENGTH),
+        LDU1 | LDU2 => Some(LDU_LENGTH),
+        TDULC => Some(TDULC_LENGTH),
         _ => None,
     }
 }

@@ -5,7 +5,7 @@ ghost use Rattle.p25_bits.specs.Bits.{bits_of};
 ghost use Rattle.p25_word_calls.specs.Numbers.{IsIdentifierReading, IsIdentifierWriting, IsNumberReading, IsNumberWriting};
 
 use crate::answers::{BEYOND, OUTSIDE};
-use p25_bch_nid::{Nid, nid_bits, nid_distance, read_nid};
+use p25_bch_nid::{Nid, nid_bits, read_nid_counted};
 use p25_code::NumberCode;
 
 /// Reads a received word of a code as a number, the first bit highest, and answers how many bits were wrong: the number becomes that
@@ -45,11 +45,11 @@ pub fn write_number<C: NumberCode>(info: u32) -> u32
 pub fn read_identifier(bits: u64, nac: &mut u16, duid: &mut u8) -> i32
     ensures { IsIdentifierReading (bits_of 64 bits) (nac.old, duid.old) (nac.new, duid.new) result }
 {
-    match read_nid(bits) {
-        Some(nid) => {
-            *nac = nid.nac;
-            *duid = nid.duid;
-            nid_distance(bits, &nid) as i32
+    match read_nid_counted(bits) {
+        Some(read) => {
+            *nac = read.nid.nac;
+            *duid = read.nid.duid;
+            read.wrong as i32
         }
         None => BEYOND,
     }

@@ -18,15 +18,17 @@ loop-i-preserved g c =
     let each = c.K-each.result / 6 in
     let group : each ≡ b.K / 6 = ap (λ n. n / 6) c.K-each.ensures in
     let covers : length places * each ≡ length word = ap (λ n. length places * n) group ∙ c.requires.word in
-    let short : length places * each ≤ 36 = omega (arith, covers, c.requires.short) in
     let sixes : 6 * each ≡ b.K = ap (λ n. 6 * n) group ∙ c.requires.sixes in
     let inside : i < length places = omega arith in
     let there : each * i + each ≤ length word = room_at each i (length places) (length word) inside (mul_comm each (length places) ∙ covers) in
     let beginning : length (take (each * i) word) ≡ each * i = length-take-le (each * i) word (omega arith) in
     let more = subst (λ (xs : List Sym). IsInnerCount b.IsWord b.N b.K (get_or places i 0) xs c.args.bare.now c.inner_fixes-more.result) (group_is each each i word refl) c.inner_fixes-more.ensures in
-    subst (λ (xs : List Sym). AreCounted b.IsWord b.N b.K each (i + 1) places xs c.args.bare.now c.total-wrong.result) (front_more each i word)
+    subst (λ (xs : List Sym). AreCounted b.IsWord b.N b.K each (i + 1) places xs c.args.bare.now (c.loop-i.wrong + c.inner_fixes-more.result)) (front_more each i word)
     (counted_more (g.met.I.BlockCode.length_of_word c.requires.code) each i places (take (each * i) word) (part (each * i) each word) c.args.bare.now c.loop-i.wrong
-    c.inner_fixes-more.result c.total-wrong.result sixes inside short c.requires.there beginning (length-part (each * i) each word there) c.loop-i.invariant more c.total-wrong.ensures)
+    c.inner_fixes-more.result sixes inside c.requires.there beginning (length-part (each * i) each word there) c.loop-i.invariant more)
+
+pub overflow_add-wrong : goal.overflow_add-wrong
+overflow_add-wrong g c = omega (arith, c.loop-i.invariant.most, c.inner_fixes-more.ensures.few, c.requires.few)
 
 pub returns : goal.returns
 returns g c =

@@ -1,23 +1,25 @@
-use Rattle.std.proofs.{Common.{◌≡◌, ◌+◌, ◌-◌, ◌*◌, ◌/◌, ◌<◌, ◌≤◌, List, length, take, drop, get_or, IfSome, refl, sym, subst, ap, ◌∙◌, arith}, Math.Nat.{mul_comm}, lemmas.Cmp.{on_equiv, nat_eq_equiv}}
+use Rattle.std.proofs.{Common.{◌≡◌, ◌+◌, ◌-◌, ◌*◌, ◌/◌, ◌<◌, ◌≤◌, List, length, take, drop, get_or, Bool, Option, [], IfSome, refl, sym, subst, ap, ◌∙◌, arith}, Math.Nat.{mul_comm}}
+use Rattle.std.proofs.{lemmas.Cmp.{on_equiv, nat_eq_equiv}, lemmas.List.{nil_from_length}, lemmas.Option.{IfSome_then}}
 use Rattle.p25_bits.specs.Bits.{part}
-use Rattle.p25_code.specs.{Erasures.{without_erased}, Readings.{word_read}}
+use Rattle.p25_code.specs.{Erasures.{without_erased, IsErasedReading}, Readings.{word_read}, declared.code.Reading.{Reading}}
 use Rattle.p25_code.proofs.{ReadingLaws.{IsBlockCode}, ErasedLaws.{erased_word_read_as, length-without_erased, one_erased_reading}}
 use Rattle.p25_gf64.specs.{declared.symbol.Sym.{Sym}, Symbol.{number}}
 use Rattle.p25_gf64.proofs.SymbolLaws.{same_from_eq}
-use Rattle.p25_coded_fields.specs.{Fixes.{AreCounted}, Layouts.{field_layout, symbols_or_erasures}}
-use Rattle.p25_coded_fields.proofs.{SymbolsLaws.{length_group, room_at}, FixesLaws.{counted_all, counted_next, counted_none, all_groups}}
-use Rattle.p25_coded_fields.proofs.{ReadLaws.{cut_long, erased_before, erased_next, outer_read, unchanged}, read.read_field.Goals.{After-read_erased}}
+use Rattle.p25_reed_solomon.specs.Words.{same_symbols}
+use Rattle.p25_coded_fields.specs.{Fixes.{AreCounted}, Layouts.{Layout, field_layout, outer_word_of, received_in, symbols_or_erasures}}
+use Rattle.p25_coded_fields.proofs.{SymbolsLaws.{length_group, room_at}, FixesLaws.{counted_all, counted_next, counted_none, all_groups, few_places}}
+use Rattle.p25_coded_fields.proofs.{ReadLaws.{cut_long, erased_before, erased_next, outer_read, unchanged}, WithinLaws.{length-received_in}}
 use Rattle.p25_coded_fields.proofs.read.read_field.Goals as goal
 use Rattle.p25_coded_fields.proofs.read.read_field.Given as given
 
 -- what the outer code reads is its word within the cost
-outer_value : (g : given.Over) (c : After-read_erased g)
-    → word_read c.read_erased.result c.read_erased.new.word ≡ g.O.ErasedCode.erased_reading_is (without_erased c.loop-i.word c.loop-i.erased)
-outer_value g c =
+outer_value : (g : given.Over) (code : g.O.BlockCode.HasCode) (received word : List Sym) (erased : List Bool) (reading : Reading) → length received ≡ g.O.BlockCode.N
+    → IsErasedReading same_symbols g.O.BlockCode.IsWord (g.O.BlockCode.N - g.O.BlockCode.K) (without_erased received erased) received word reading
+    → word_read reading word ≡ g.O.ErasedCode.erased_reading_is (without_erased received erased)
+outer_value g code received word erased reading full is =
     let m = g.met.O.BlockCode in
     let o = g.O.BlockCode in
-    let code = c.requires.outer in
-    let list = without_erased c.loop-i.word c.loop-i.erased in
+    let list = without_erased received erased in
     let laws : IsBlockCode _ o.IsWord o.N o.K o.radius_is o.distance_is = record {
       compares = on_equiv number nat_eq_equiv;
       alike = same_from_eq;
@@ -27,9 +29,26 @@ outer_value g c =
       close = m.within code;
       begins = m.begins code;
     } in
-    let long : length list ≡ o.N = length-without_erased c.loop-i.word c.loop-i.erased ∙ c.loop-i.auto.word ∙ c.requires.word in
-    one_erased_reading laws (g.met.O.ErasedCode.erasures_within code) list (word_read c.read_erased.result c.read_erased.new.word) (g.O.ErasedCode.erased_reading_is list) long
-    (erased_word_read_as _ o.IsWord _ list c.loop-i.word c.read_erased.new.word c.read_erased.result c.read_erased.ensures) (g.met.O.ErasedCode.erased_reads_as code list)
+    let long : length list ≡ o.N = length-without_erased received erased ∙ full in
+    one_erased_reading laws (g.met.O.ErasedCode.erasures_within code) list (word_read reading word) (g.O.ErasedCode.erased_reading_is list) long
+    (erased_word_read_as _ o.IsWord _ list received word reading is) (g.met.O.ErasedCode.erased_reads_as code list)
+
+-- where no inner word carries a symbol, nothing is received
+no_symbols : (layout : Layout) (bits : List Bool) (list : List (Option Sym)) → layout.each ≡ 0 → length list ≡ 0 → layout.outer_reading list ≡ outer_word_of layout bits
+unfolding outer_word_of
+no_symbols layout bits list none empty =
+    let nothing : length (received_in layout bits) ≡ 0 = length-received_in layout bits ∙ ap (λ n. n * length layout.places) none ∙ omega arith in
+    ap layout.outer_reading (nil_from_length list empty ∙ sym (nil_from_length (received_in layout bits) nothing))
+
+pub returns-then-each-eq0-clause-value : goal.returns-then-each-eq0-clause-value
+returns-then-each-eq0-clause-value g c =
+    let b = g.I.BlockCode in
+    let word = c.args.word.now in
+    let layout = field_layout c.args.places.now b.N (b.K / 6) b.reading_is g.O.ErasedCode.erased_reading_is g.O.BlockCode.K in
+    let none : b.K / 6 ≡ 0 = ap (λ n. n / 6) (sym c.K-each.ensures) ∙ c.if-each-eq0.true in
+    let empty : length word ≡ 0 = c.requires.word ∙ sym c.requires.places ∙ ap (λ n. length c.args.places.now * n) none ∙ omega arith in
+    outer_value g c.requires.outer word c.read_erased.new.word [] c.read_erased.result c.requires.word c.read_erased.ensures
+    ∙ no_symbols layout c.args.bare.now (without_erased word []) none (length-without_erased word [] ∙ empty)
 
 pub loop-i-init : goal.loop-i-init
 loop-i-init g c =
@@ -51,7 +70,6 @@ loop-i-preserved g c =
     let group : each ≡ b.K / 6 = ap (λ n. n / 6) c.K-each.ensures in
     let same : length erased ≡ length word = cut_long (length c.args.word.now) _ erased c.loop-i.auto.erased (omega arith) ∙ sym c.loop-i.auto.word in
     let covers : each * length places ≡ length word = ap (λ n. n * length places) group ∙ mul_comm (b.K / 6) (length places) ∙ omega arith in
-    let short : length places * each ≤ 36 = omega (arith, mul_comm each (length places)) in
     let inside : i < length places = omega arith in
     let there : each * i + each ≤ length word = room_at each i (length places) (length word) inside covers in
     let there_e : each * i + each ≤ length erased = subst (λ n. each * i + each ≤ n) (sym same) there in
@@ -64,14 +82,28 @@ loop-i-preserved g c =
           inside refl there same long_x long_e c.loop-i.invariant.erasures
           (c.read_inner-more.ensures.erasures ∙ ap (λ n. symbols_or_erasures n (b.reading_is (part (get_or places i 0) b.N bare))) (long ∙ group));
       counted = counted_next (g.met.I.BlockCode.length_of_word c.requires.inner) each i _ places word symbols bare c.loop-i.counted c.read_inner-more.result c.total_known-counted.result
-          (ap (λ n. 6 * n) group ∙ c.requires.sixes) inside short c.requires.there there long_x c.loop-i.invariant.counted c.read_inner-more.ensures.count c.total_known-counted.ensures;
+          (ap (λ n. 6 * n) group ∙ c.requires.sixes) inside c.requires.there there long_x c.loop-i.invariant.counted c.read_inner-more.ensures.count c.total_known-counted.ensures;
     }
+
+pub total_known-counted-requires-clause-first : goal.total_known-counted-requires-clause-first
+total_known-counted-requires-clause-first g c =
+    let some : 0 < g.I.BlockCode.K / 6 = omega (arith, c.K-each.ensures) in
+    let few : length c.args.places.now ≤ 36 = few_places (g.I.BlockCode.K / 6) (length c.args.places.now) some (omega arith) in
+    IfSome_then c.loop-i.counted c.loop-i.invariant.counted (λ n is. omega (arith, is.most))
+
+pub total_known-counted-requires-clause-second : goal.total_known-counted-requires-clause-second
+total_known-counted-requires-clause-second g c = IfSome_then c.read_inner-more.result c.read_inner-more.ensures.count (λ n is. is.few)
+
+pub field_fixes-requires-clause-few : goal.field_fixes-requires-clause-few
+field_fixes-requires-clause-few g c =
+    let some : 0 < g.I.BlockCode.K / 6 = omega (arith, c.K-each.ensures) in
+    few_places (g.I.BlockCode.K / 6) (length c.args.places.now) some (omega arith)
 
 pub field_fixes-requires-clause-counted : goal.field_fixes-requires-clause-counted
 field_fixes-requires-clause-counted g c = λ none.
     let b = g.I.BlockCode in
     let places = c.args.places.now in
-    let word = c.read_erased.new.word in
+    let word = c.read_erased-2.new.word in
     let same : c.loop-i.word ≡ word = unchanged _ _ _ _ c.loop-i.word word c.in-Found.fixes same_from_eq c.in-Found.ensures (omega arith) none in
     subst (λ (xs : List Sym). IfSome c.loop-i.counted (AreCounted b.IsWord b.N b.K (b.K / 6) (length places) places xs c.args.bare.now)) same
     (all_groups (λ each i xs. IfSome c.loop-i.counted (AreCounted b.IsWord b.N b.K each i places xs c.args.bare.now)) (c.K-each.result / 6) (b.K / 6) c.loop-i.i (length places) c.loop-i.word
@@ -83,11 +115,13 @@ returns-in-Beyond-clause-value g c =
     let b = g.I.BlockCode in
     let places = c.args.places.now in
     let layout = field_layout places b.N (b.K / 6) b.reading_is g.O.ErasedCode.erased_reading_is g.O.BlockCode.K in
-    sym (ap (λ a. word_read a c.read_erased.new.word) c.in-Beyond.is)
-    ∙ outer_read layout c.args.bare.now (c.K-each.result / 6) c.loop-i.i c.loop-i.word c.loop-i.erased (word_read c.read_erased.result c.read_erased.new.word)
+    let full : length c.loop-i.word ≡ g.O.BlockCode.N = c.loop-i.auto.word ∙ c.requires.word in
+    let read = outer_value g c.requires.outer c.loop-i.word c.read_erased-2.new.word c.loop-i.erased c.read_erased-2.result full c.read_erased-2.ensures in
+    sym (ap (λ a. word_read a c.read_erased-2.new.word) c.in-Beyond.is)
+    ∙ outer_read layout c.args.bare.now (c.K-each.result / 6) c.loop-i.i c.loop-i.word c.loop-i.erased (word_read c.read_erased-2.result c.read_erased-2.new.word)
     (ap (λ n. n / 6) c.K-each.ensures) (omega arith) (mul_comm (b.K / 6) (length places) ∙ c.requires.places ∙ omega arith)
     (cut_long (length c.args.word.now) _ c.loop-i.erased c.loop-i.auto.erased (omega arith) ∙ sym c.loop-i.auto.word)
-    c.loop-i.invariant.erasures (outer_value g (goal.at.returns-in-Beyond-clause-value g c).After-read_erased)
+    c.loop-i.invariant.erasures read
 
 pub returns-in-Found-clause-value : goal.returns-in-Found-clause-value
 unfolding word_read
@@ -95,25 +129,24 @@ returns-in-Found-clause-value g c =
     let b = g.I.BlockCode in
     let places = c.args.places.now in
     let layout = field_layout places b.N (b.K / 6) b.reading_is g.O.ErasedCode.erased_reading_is g.O.BlockCode.K in
-    sym (ap (λ a. word_read a c.read_erased.new.word) c.in-Found.is)
-    ∙ outer_read layout c.args.bare.now (c.K-each.result / 6) c.loop-i.i c.loop-i.word c.loop-i.erased (word_read c.read_erased.result c.read_erased.new.word)
+    let full : length c.loop-i.word ≡ g.O.BlockCode.N = c.loop-i.auto.word ∙ c.requires.word in
+    let read = outer_value g c.requires.outer c.loop-i.word c.read_erased-2.new.word c.loop-i.erased c.read_erased-2.result full c.read_erased-2.ensures in
+    sym (ap (λ a. word_read a c.read_erased-2.new.word) c.in-Found.is)
+    ∙ outer_read layout c.args.bare.now (c.K-each.result / 6) c.loop-i.i c.loop-i.word c.loop-i.erased (word_read c.read_erased-2.result c.read_erased-2.new.word)
     (ap (λ n. n / 6) c.K-each.ensures) (omega arith) (mul_comm (b.K / 6) (length places) ∙ c.requires.places ∙ omega arith)
     (cut_long (length c.args.word.now) _ c.loop-i.erased c.loop-i.auto.erased (omega arith) ∙ sym c.loop-i.auto.word)
-    c.loop-i.invariant.erasures (outer_value g (goal.at.returns-in-Found-clause-value g c).After-read_erased)
+    c.loop-i.invariant.erasures read
 
 pub returns-in-Found-clause-fixes : goal.returns-in-Found-clause-fixes
 returns-in-Found-clause-fixes g c = λ some encoding encodes fixes found.
     let b = g.I.BlockCode in
-    let information : 0 < b.K / 6 = omega (arith, c.requires.sixes) in
     let same : c.field_fixes.result ≡ fixes = cc in
-    sym same ∙ counted_all (b.K / 6) c.args.places.now c.read_erased.new.word c.args.bare.now c.field_fixes.result c.field_fixes.ensures information encoding encodes
+    sym same ∙ counted_all (b.K / 6) c.args.places.now c.read_erased-2.new.word c.args.bare.now c.field_fixes.result c.field_fixes.ensures encoding encodes
 
 pub returns-in-Found-clause-most : goal.returns-in-Found-clause-most
 returns-in-Found-clause-most g c = λ some fixes found.
-    let b = g.I.BlockCode in
-    let information : 0 < b.K / 6 = omega (arith, c.requires.sixes) in
     let same : c.field_fixes.result ≡ fixes = cc in
-    omega (arith, same, c.field_fixes.ensures.most information)
+    omega (arith, same, c.field_fixes.ensures.most)
 
 pub returns-in-Beyond-clause-fixes : goal.returns-in-Beyond-clause-fixes
 returns-in-Beyond-clause-fixes g c = λ some encoding encodes fixes found. absurd (cc)

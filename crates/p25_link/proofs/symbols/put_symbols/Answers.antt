@@ -1,4 +1,4 @@
-use Rattle.std.proofs.Common.{◌≡◌, ◌*◌, false, true, arith, length, sym}
+use Rattle.std.proofs.Common.{◌*◌, arith, length, sym}
 use Rattle.p25_bits.specs.Bits.{bits_of}
 use Rattle.p25_link.proofs.{SymbolsLaws.{symbols_in-none}, SymbolNumbersLaws.{symbol_made, symbol_number, symbol_set}}
 use Rattle.p25_link.proofs.symbols.put_symbols.Goals as goal
@@ -10,10 +10,5 @@ pub loop-i-preserved : goal.loop-i-preserved
 loop-i-preserved c =
     let count = length c.args.symbols.now in
     let bits = bits_of (6 * count) c.args.number in
-    symbol_set c.loop-i.symbols bits c.loop-i.i c.in-Some.symbol (omega arith) c.loop-i.invariant
-    (symbol_made _ _ c.in-Some.symbol (symbol_number count c.loop-i.i c.args.number (omega arith)) c.in-Some.ensures.number)
-
-pub unreachable-requires : goal.unreachable-requires
-unreachable-requires c =
-    let none : false ≡ true = c.in-None.ensures.below.1 (omega arith) in
-    absurd (cc)
+    symbol_set c.loop-i.symbols bits c.loop-i.i c.of_low_bits.result (omega arith) c.loop-i.invariant
+    (symbol_made _ _ c.of_low_bits.result (symbol_number count c.loop-i.i c.args.number (omega arith)) c.of_low_bits.ensures)

@@ -23,10 +23,10 @@ returns-in-Broken-clause-reading c =
 pub returns-in-Broken-clause-some : goal.returns-in-Broken-clause-some
 returns-in-Broken-clause-some c = some_fields (drop c.args.at c.args.bits.now) c.args.count (Err c.in-Broken.fields) c.requires.needed (returns-in-Broken-clause-reading c)
 
-pub returns-in_default : goal.returns-in_default
-returns-in_default c =
+pub unreachable-requires : goal.unreachable-requires
+unreachable-requires c =
     let bits = c.args.bits.now in
     let is = IsUnitAt-from bits c.args.at c.args.count c.requires.there c.requires.needed in
     let sent = part c.args.at c.args.count bits in
-    absurd (read_other 0 is.nid sent (reading_from (Some is.nid) sent) c.unit_item.result
-    (c.unit_item.ensures.item ∙ item_of_unit bits c.args.at c.args.count 0 is) c.in_default.not-Whole c.in_default.not-Broken)
+    read_other 0 is.nid sent (reading_from (Some is.nid) sent) c.unit_item.result
+    (c.unit_item.ensures.item ∙ item_of_unit bits c.args.at c.args.count 0 is) c.in_default.not-Whole c.in_default.not-Broken

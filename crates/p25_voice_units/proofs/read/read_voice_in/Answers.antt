@@ -34,9 +34,9 @@ returns-in-3-clause-wrong c = end_fixes c.args.bare.now
 pub returns-in-15-clause-value : goal.returns-in-15-clause-value
 returns-in-15-clause-value c = reading_by_kind c.args.duid 15 c.args.bare.now _ _ c.in-15.is c.read_tdulc.ensures.value (reading-tdulc c.args.bare.now)
 
-pub returns-in_default-clause-value : goal.returns-in_default-clause-value
-returns-in_default-clause-value c =
+pub unreachable-requires : goal.unreachable-requires
+unreachable-requires c =
     let none : voice_length_of c.args.duid ≡ None
     = length-other c.args.duid (λ is. omega arith) (λ is. omega arith) (λ is. omega arith) (λ is. omega arith) (λ is. omega arith) in
     let both : None ≡ Some (length c.args.bare.now) = sym none ∙ c.requires in
-    absurd (cc)
+    cc
