@@ -1,4 +1,4 @@
--- The fields of the ten octets of the header of a packet (PDU), and the headers that this project's stations send.
+-- The fields of the ten octets of the header of a packet (PDU), and the headers that this project makes.
 use Rattle.std.specs.Prelude.{ℕ, ◌+◌, ◌*◌, ◌/◌, ◌%◌, Bool, if◌then◌else◌, ◌==◌, List, [], ◌∷◌, ◌++◌, slice_index}
 use Rattle.p25_bits.specs.Numbers.{triple_at}
 use Rattle.p25_packet_blocks.specs.declared.head.PacketHead.{PacketHead}
@@ -65,6 +65,10 @@ head_by_octets first second llid sixth seventh eighth =
 -- the header of a confirmed packet, by its LLID, full message flag, blocks to follow, pad count and N(S)
 unfoldable pub confirmed_head : ℕ → Bool → ℕ → ℕ → ℕ → PacketHead
 confirmed_head llid full blocks pad number = head_by_octets 0x56 0xC0 llid ((if full then 128 else 0) + blocks) pad (16 * number + 8)
+
+-- the header of an unconfirmed packet, by its LLID, blocks to follow and pad count, with the full message flag
+unfoldable pub plain_head : ℕ → ℕ → ℕ → PacketHead
+plain_head llid blocks pad = head_by_octets 0x35 0xC0 llid (128 + blocks) pad 0
 
 -- the header of a response, by its LLID, class, type, status and blocks to follow
 unfoldable pub response_head : ℕ → ℕ → ℕ → ℕ → ℕ → PacketHead

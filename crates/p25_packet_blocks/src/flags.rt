@@ -1,4 +1,4 @@
-ghost use Rattle.std.specs.Prelude.{◌≡◌, ◌+◌, ◌*◌, ◌<◌, ◌≤◌, ◌⊎◌, ◌↔◌, IsTrue, false, [], ◌∷◌, ◌++◌, length, replicate, slice_get, slice_set, Some, IsSome};
+ghost use Rattle.std.specs.Prelude.{◌≡◌, ◌+◌, ◌*◌, ◌<◌, ◌≤◌, ◌⊎◌, ◌↔◌, false, [], ◌∷◌, ◌++◌, length, replicate, slice_get, slice_set, Some, IsSome};
 ghost use Rattle.std.specs.{Bool.{beq}, Cmp.{bool_eq_equiv, partial_equiv_from_equiv}, Cmp.Lexicographic.{pointwise, lists_equiv}};
 ghost use Rattle.p25_bits.specs.{Bits.{octet_bits}, Numbers.{octets_from}};
 ghost use Rattle.p25_packet_blocks.specs.FlagOctets.{flag_octets, flags_of_octets};
@@ -43,13 +43,6 @@ impl Flags {
         ensures counts { (result ≡ 64) ⊎ (result ≡ 128) }
     {
         self.count
-    }
-
-    /// Answers false: there are 64 flags or 128.
-    pub fn is_empty(&self) -> bool
-        ensures { IsTrue result ↔ (self.now ≡ []) }
-    {
-        self.len() == 0
     }
 
     /// Answers all flags, in order.

@@ -1,5 +1,5 @@
 ghost use Rattle.std.specs.Prelude.{◌≡◌, ◌^◌, ◌<◌, true, false};
-ghost use Rattle.p25_packet_blocks.specs.Heads.{head_format, head_is_full, head_blocks, head_pad, head_llid, head_syn, head_number, response_class, response_kind, response_status, confirmed_head, response_head, opening_head, head_by_octets};
+ghost use Rattle.p25_packet_blocks.specs.Heads.{head_format, head_is_full, head_blocks, head_pad, head_llid, head_syn, head_number, response_class, response_kind, response_status, confirmed_head, plain_head, response_head, opening_head, head_by_octets};
 
 use p25_bits::triple_at;
 
@@ -135,6 +135,22 @@ impl PacketHead {
     {
         let sixth = 128 * u8::from(full) + blocks;
         head_by_octets(0x56, 0xC0, llid, sixth, pad, 16 * number + 8)
+    }
+
+    /// Answers the header of an unconfirmed packet of data: format 15 hex, with the full message flag. TIA-102.BAAA, Packet Data,
+    /// Header Block.
+    pub fn plain(llid: u32, blocks: u8, pad: u8) -> PacketHead
+        requires llid { llid < 2 ^ 24 }
+        requires blocks { blocks < 128 }
+        requires pad { pad < 32 }
+        ensures octets { result ≡ plain_head llid blocks pad }
+        ensures format { head_format result ≡ 0x15 }
+        ensures full { head_is_full result ≡ true }
+        ensures blocks { head_blocks result ≡ blocks }
+        ensures pad { head_pad result ≡ pad }
+        ensures llid { head_llid result ≡ llid }
+    {
+        head_by_octets(0x35, 0xC0, llid, 128 + blocks, pad, 0)
     }
 
     /// Answers the header of a response: format 03 hex, with the full message flag. TIA-102.BAAA, Packet Data, Header Block.

@@ -2,8 +2,6 @@
 
 ghost use Rattle.std.specs.Prelude.{◌≡◌, ◌+◌, ◌*◌, ◌-◌, ◌<◌, ◌≤◌, ◌++◌, length, replicate, false, Ok};
 ghost use Rattle.p25_bits.specs.Numbers.{joined_below};
-ghost use Rattle.p25_bch_nid.specs.Duids.{duid_pdu};
-ghost use Rattle.p25_unit_front.specs.Front.{unit_front};
 ghost use Rattle.p25_trellis.specs.Nearest.{half_block, three_quarter_block};
 ghost use Rattle.p25_packet_blocks.specs.{declared.packet.Packet.TheVariants.{Confirmed as confirmed_packet, Plain as plain_packet}, Heads.{head_blocks}};
 ghost use Rattle.p25_packet_blocks.specs.{Whole.{packet_head, AreGood, IsWholePacket}, Lengths.{packet_bits, packet_bare_length, packet_sent_length}};
@@ -41,19 +39,6 @@ fn parts(head: &PacketHead) -> usize
 {
     (HEADER_AT + BLOCK_LENGTH * (1 + usize::from(head.blocks())) + BARE_BLOCK_LENGTH - 1)
         / BARE_BLOCK_LENGTH
-}
-
-// Appends the front of the unit of a packet (PDU).
-fn put_packet_front(nac: u16, out: &mut BitBuf)
-    requires nac { nac < 4096 }
-    requires room { length out.old + 112 ≤ 25928 }
-    ensures list { out.new ≡ out.old ++ unit_front nac duid_pdu }
-    ensures len { length out.new ≡ length out.old + 112 }
-{
-    match Nid::new(nac, PDU) {
-        Some(nid) => put_front(&nid, out),
-        None => unreachable!(),
-    }
 }
 
 // Appends the header block of a packet (PDU).
@@ -158,7 +143,7 @@ pub fn packet_image(nac: u16, packet: &Packet, out: &mut BitBuf)
 {
     let head = packet.head();
     out.clear();
-    put_packet_front(nac, out);
+    put_front(&Nid { nac, duid: PDU }, out);
     put_header(&head, out);
     put_body(packet, out);
     put_nulls(BARE_BLOCK_LENGTH * parts(&head) - out.len(), out);

@@ -22,7 +22,6 @@
 #![tactic(auto)]
 
 mod block;
-mod failing;
 mod flags;
 mod head;
 mod image;

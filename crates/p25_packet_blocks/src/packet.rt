@@ -1,16 +1,15 @@
 ghost use Rattle.std.specs.Prelude.{◌≡◌, ℕ, ◌+◌, ◌-◌, ◌*◌, ◌≤◌, [], length, Ok, IfOk};
 ghost use Rattle.p25_packet_blocks.specs.Fixes.{half_distance, three_quarter_distance, packet_fixes_of};
 ghost use Rattle.p25_packet_blocks.specs.{Heads.{confirmed_format, head_format, head_blocks, response_head}, Kinds.{IsPlainFormat}};
-ghost use Rattle.p25_packet_blocks.specs.Outcomes.{body_distance, packet_or, packet_outcome_of};
+ghost use Rattle.p25_packet_blocks.specs.Outcomes.{body_distance, failing_blocks_of, packet_or, packet_outcome_of};
 ghost use Rattle.p25_packet_blocks.specs.Reading.{header_bits, octets_read, read_head_of, slots_read, confirmed_by_parts, plain_by_parts, packet_of_head, plain_from};
-ghost use Rattle.p25_status.specs.Outcomes.{IfRead};
+ghost use Rattle.p25_status.specs.Outcomes.{IfRead, outcome_of};
 
-use crate::block::Slots;
-use crate::failing::failing_blocks;
+use crate::block::{Slot, Slots};
 use crate::head::{CONFIRMED_FORMAT, PLAIN_FORMAT, PacketHead, RESPONSE_FORMAT, ReadHead};
 use crate::read::{BLOCK_LENGTH, BLOCKS_AT, check_agrees, read_slots};
 use p25_bits::BitBuf;
-use p25_status::{BoundedList, Field, Outcome};
+use p25_status::{BoundedList, Field, FieldList, Outcome};
 use p25_trellis::{Half, read_block};
 use std::marker::Model;
 
@@ -144,8 +143,25 @@ impl Packet {
     {
         match self.read_blocks(read, bare) {
             Err(field) => Outcome::failing(field),
-            Ok(wrong) => Outcome::of(failing_blocks(self), wrong),
+            Ok(wrong) => self.outcome(wrong),
         }
+    }
+
+    // What the reading of the packet (PDU) answers, where so many bits were wrong: a block fails for each slot that is Bad.
+    fn outcome(&self, wrong: u32) -> Outcome
+        ensures { result ≡ outcome_of (failing_blocks_of self.now) wrong }
+    {
+        let Packet::Confirmed(packet) = self else {
+            return Outcome::Read { wrong };
+        };
+        let slots = packet.slots();
+        let mut failing = FieldList::new();
+        for j in 0..slots.len() {
+            if let Slot::Bad = slots.get(j) {
+                failing.push(Field::Block(j as u8));
+            }
+        }
+        Outcome::of(failing, wrong)
     }
 
     // Becomes the packet of a header that was read and of its unit, and answers how many bits were wrong, or for which field there is

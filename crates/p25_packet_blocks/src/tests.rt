@@ -123,7 +123,7 @@ fn damaged_units(rt: HostRuntime) {
 #[test]
 fn heads(rt: HostRuntime) {
     // Rows: a header, its octets, and its format, number of blocks, pad, number and Syn.
-    let rows: [(PacketHead, [u8; 10], u8, u8, u8, u8, bool); 3] = [
+    let rows: [(PacketHead, [u8; 10], u8, u8, u8, u8, bool); 4] = [
         (
             PacketHead::response(0x12_3456, 2, 0, 5, 0),
             [0x23, 0x85, 0, 0x12, 0x34, 0x56, 0x80, 0, 0, 0],
@@ -141,6 +141,15 @@ fn heads(rt: HostRuntime) {
             0,
             3,
             true,
+        ),
+        (
+            PacketHead::plain(0x12_3456, 3, 5),
+            [0x35, 0xC0, 0, 0x12, 0x34, 0x56, 0x83, 5, 0, 0],
+            0x15,
+            3,
+            5,
+            0,
+            false,
         ),
         (
             PacketHead::confirmed(1, false, 1, 10, 7),

@@ -1,7 +1,7 @@
 //! Units of packets (PDU) read as they are sent, with their status symbols.
 
 ghost use Rattle.std.specs.Prelude.{◌≡◌, ◌+◌, ◌*◌, ◌≤◌, length, drop, IfOk};
-ghost use Rattle.p25_packet_blocks.specs.UnitReading.{sent_header_bits, sent_read_of, sent_packet_of, packet_unit_of};
+ghost use Rattle.p25_packet_blocks.specs.UnitReading.{sent_header_bits, sent_read_of, packet_unit_of};
 
 use crate::head::ReadHead;
 use crate::image::packet_length;
@@ -40,23 +40,6 @@ pub fn read_head_at(bits: &BitBuf, at: usize) -> Result<ReadHead, Field>
     read_header(&header, 0)
 }
 
-// The packet (PDU) of a unit as it is sent, from its header on.
-fn read_sent_packet(bits: &BitBuf) -> Result<Packet, Field>
-    requires { 316 ≤ length bits.now }
-    ensures { result ≡ sent_packet_of bits.now }
-{
-    let read = read_head_at(bits, 0)?;
-    let len = packet_length(&read.head);
-    if bits.len() < len {
-        return Err(Field::Length);
-    }
-    let mut bare = BitBuf::new();
-    unweave(bits, 0, len, &mut bare, &mut Statuses::new());
-    let mut packet = Packet::empty();
-    packet.read_blocks(read, &bare)?;
-    Ok(packet)
-}
-
 /// Answers the network access code (NAC) and the packet (PDU) of the unit that begins at place 0, as it is sent, with its status
 /// symbols. There are at least 360 bits, as many as the shortest unit has; bits after the unit are not looked at. In this order
 /// Sync comes exactly where more than four bits of the sync are wrong, Nid exactly where no identifier lies within 11 bits, Duid
@@ -76,6 +59,14 @@ pub fn read_packet_unit(bits: &BitBuf) -> Result<(u16, Packet), Field>
     if nid.duid != PDU {
         return Err(Field::Duid);
     }
-    let packet = read_sent_packet(bits)?;
+    let read = read_head_at(bits, 0)?;
+    let len = packet_length(&read.head);
+    if bits.len() < len {
+        return Err(Field::Length);
+    }
+    let mut bare = BitBuf::new();
+    unweave(bits, 0, len, &mut bare, &mut Statuses::new());
+    let mut packet = Packet::empty();
+    packet.read_blocks(read, &bare)?;
     Ok((nid.nac, packet))
 }

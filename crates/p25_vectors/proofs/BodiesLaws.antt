@@ -1,13 +1,13 @@
 -- What units carry, from the parts that were drawn one after the other: the states between them add up.
-use Rattle.std.proofs.Common.{◌≡◌, ℕ, ◌+◌, ◌-◌, ◌*◌, ◌%◌, ◌<◌, ◌≢◌, inl, inr, List, [], ◌∷◌, ◌++◌, length, get_or, refl, ap, sym, ◌∙◌, arith}
+use Rattle.std.proofs.Common.{◌≡◌, ℕ, ◌+◌, ◌-◌, ◌*◌, ◌<◌, ◌≢◌, true, List, [], ◌∷◌, ◌++◌, length, get_or, ap, ◌∙◌, arith}
 use Rattle.p25_bits.proofs.NumbersLaws.{length-each_below, each_below-more, each_below-zero, get_or-each_below}
 use Rattle.p25_link.specs.{declared.link_control.LinkControl.{LinkControl}, declared.encryption.EncryptionSync.{EncryptionSync}}
 use Rattle.p25_voice_units.specs.{declared.voice.VoiceFrame.{VoiceFrame}, declared.unit.VoiceUnit.TheVariants.{Link1 as ldu1_unit, Link2 as ldu2_unit}}
-use Rattle.p25_packet_blocks.specs.{ConfirmedParts.{ConfirmedParts}, Parts.{PlainParts}, Heads.{head_format, head_blocks}, Kinds.{IsConfirmed, IsPlain}, Whole.{AreGood, IsWholePacket}}
+use Rattle.p25_packet_blocks.specs.{ConfirmedParts.{ConfirmedParts}, Parts.{PlainParts}, Heads.{confirmed_head, plain_head, response_head}, Whole.{AreGood, IsWholePacket}}
 use Rattle.p25_packet_blocks.specs.{declared.head.PacketHead.{PacketHead}, declared.block.Slot.{Slot}, declared.block.Slot.TheVariants.{Bad}}
 use Rattle.p25_packet_blocks.specs.declared.packet.Packet.TheVariants.{Confirmed as confirmed_packet, Plain as plain_packet}
 use Rattle.p25_units.specs.{Units.{IsWholeBody}, declared.unit.Body.TheVariants.{Voice, Packet}}
-use Rattle.p25_vectors.specs.{Draws.{state_after, octets_drawn}, Bodies.{link_of, sync_of, voice_frame_of, voice_drawn, head_of, blocks_drawn, block_of, slots_drawn, body_next}}
+use Rattle.p25_vectors.specs.{Draws.{state_after, octets_drawn}, Bodies.{link_of, sync_of, voice_frame_of, voice_drawn, llid_drawn, blocks_drawn, block_of, slots_drawn, body_next}}
 use Rattle.p25_vectors.specs.{declared.bodies.Kind.{Kind}, declared.bodies.Kind.TheVariants.{Link1, Link2, Confirmed, Plain, Response}}
 use Rattle.p25_vectors.proofs.DrawsLaws.{state_after-add}
 
@@ -57,56 +57,24 @@ ldu2-drawn state first second last sync low voice a b c d e f = (cc, cc)
 
 -- Packets.
 
-pub head_of-blocks : (first second blocks ninth : ℕ) (llid : List ℕ) → length llid ≡ 3 → blocks < 128 → head_blocks (head_of first second llid blocks ninth) ≡ blocks
-unfolding head_blocks
-head_of-blocks first second blocks ninth (a ∷ b ∷ c ∷ []) long few = omega arith
-head_of-blocks first second blocks ninth llid long few = absurd (omega arith)
-
-pub head_of-format : (first second blocks ninth : ℕ) (llid : List ℕ) → head_format (head_of first second llid blocks ninth) ≡ first % 32
-unfolding head_format
-head_of-format first second blocks ninth llid = refl
-
-pub confirmed-is : (blocks : ℕ) (llid : List ℕ) (head : PacketHead) (slots : List Slot) → head ≡ head_of 0x56 0xC0 llid blocks 0x08 → length llid ≡ 3 → blocks < 128 → length slots ≡ blocks
-    → IsConfirmed (record { head = head; slots = slots })
-confirmed-is blocks llid head slots is long few many = record {
-  format = ap head_format is ∙ head_of-format 0x56 0xC0 blocks 0x08 llid;
-  count = many ∙ sym (ap head_blocks is ∙ head_of-blocks 0x56 0xC0 blocks 0x08 llid long few);
-}
-
-pub plain-is : (blocks : ℕ) (llid : List ℕ) (head : PacketHead) (octets : List ℕ) → head ≡ head_of 0x35 0xC0 llid blocks 0 → length llid ≡ 3 → blocks < 128 → length octets ≡ 12 * blocks - 4
-    → IsPlain (record { head = head; octets = octets })
-plain-is blocks llid head octets is long few many = record {
-  format = inl (ap head_format is ∙ head_of-format 0x35 0xC0 blocks 0 llid);
-  count = many ∙ ap (λ n. 12 * n - 4) (sym (ap head_blocks is ∙ head_of-blocks 0x35 0xC0 blocks 0 llid long few));
-}
-
-pub response-is : (llid : List ℕ) (head : PacketHead) (octets : List ℕ) → head ≡ head_of 0x23 0x08 llid 0 0 → length llid ≡ 3 → octets ≡ []
-    → IsPlain (record { head = head; octets = octets })
-response-is llid head octets is long none =
-    let few : 0 < 128 = omega arith in
-    record {
-      format = inr (ap head_format is ∙ head_of-format 0x23 0x08 0 0 llid);
-      count = ap length none ∙ ap (λ n. 12 * n - 4) (sym (ap head_blocks is ∙ head_of-blocks 0x23 0x08 0 0 llid long few));
-    }
-
-pub confirmed-drawn : (state first second last blocks : ℕ) (llid : List ℕ) (head : PacketHead) (slots : List Slot) (packet : ConfirmedParts)
-    → blocks ≡ blocks_drawn state → first ≡ state_after 1 state → llid ≡ octets_drawn 3 first → second ≡ state_after 3 first
-    → head ≡ head_of 0x56 0xC0 llid blocks 0x08 → slots ≡ slots_drawn blocks second → last ≡ state_after (16 * blocks) second
+pub confirmed-drawn : (state first second last blocks llid : ℕ) (head : PacketHead) (slots : List Slot) (packet : ConfirmedParts)
+    → blocks ≡ blocks_drawn state → first ≡ state_after 1 state → llid ≡ llid_drawn first → second ≡ state_after 3 first
+    → head ≡ confirmed_head llid true blocks 0 0 → slots ≡ slots_drawn blocks second → last ≡ state_after (16 * blocks) second
     → packet ≡ record { head = head; slots = slots }
     → (Packet (confirmed_packet packet) ≡ (body_next Confirmed state).0) × (last ≡ (body_next Confirmed state).1)
 unfolding body_next
 confirmed-drawn state first second last blocks llid head slots packet a b c d e f g h = (cc, cc)
 
-pub plain-drawn : (state first second last blocks : ℕ) (llid : List ℕ) (head : PacketHead) (octets : List ℕ) (packet : PlainParts)
-    → blocks ≡ blocks_drawn state → first ≡ state_after 1 state → llid ≡ octets_drawn 3 first → second ≡ state_after 3 first
-    → head ≡ head_of 0x35 0xC0 llid blocks 0 → octets ≡ octets_drawn (12 * blocks - 4) second → last ≡ state_after (12 * blocks - 4) second
+pub plain-drawn : (state first second last blocks llid : ℕ) (head : PacketHead) (octets : List ℕ) (packet : PlainParts)
+    → blocks ≡ blocks_drawn state → first ≡ state_after 1 state → llid ≡ llid_drawn first → second ≡ state_after 3 first
+    → head ≡ plain_head llid blocks 0 → octets ≡ octets_drawn (12 * blocks - 4) second → last ≡ state_after (12 * blocks - 4) second
     → packet ≡ record { head = head; octets = octets }
     → (Packet (plain_packet packet) ≡ (body_next Plain state).0) × (last ≡ (body_next Plain state).1)
 unfolding body_next
 plain-drawn state first second last blocks llid head octets packet a b c d e f g h = (cc, cc)
 
-pub response-drawn : (state : ℕ) (llid : List ℕ) (head : PacketHead) (octets : List ℕ) (packet : PlainParts)
-    → llid ≡ octets_drawn 3 state → head ≡ head_of 0x23 0x08 llid 0 0 → octets ≡ [] → packet ≡ record { head = head; octets = octets }
+pub response-drawn : (state llid : ℕ) (head : PacketHead) (octets : List ℕ) (packet : PlainParts)
+    → llid ≡ llid_drawn state → head ≡ response_head llid 0 1 0 0 → octets ≡ [] → packet ≡ record { head = head; octets = octets }
     → Packet (plain_packet packet) ≡ (body_next Response state).0
 unfolding body_next
 response-drawn state llid head octets packet a b c d = cc

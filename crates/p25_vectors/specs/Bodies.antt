@@ -1,11 +1,11 @@
 -- What sample units carry: their kinds in turn, and what each has of the draws after a state.
-use Rattle.std.specs.Prelude.{ℕ, ◌+◌, ◌-◌, ◌*◌, ◌%◌, List, [], ◌∷◌, ◌++◌, take, slice_index, slice_index_or}
-use Rattle.p25_bits.specs.Numbers.{each_below, pair_at}
+use Rattle.std.specs.Prelude.{ℕ, ◌+◌, ◌-◌, ◌*◌, ◌%◌, true, List, [], ◌∷◌, take, slice_index, slice_index_or}
+use Rattle.p25_bits.specs.Numbers.{each_below, pair_at, triple_at}
 use Rattle.p25_link.specs.{declared.link_control.LinkControl.{LinkControl}, declared.encryption.EncryptionSync.{EncryptionSync}}
 use Rattle.p25_link.specs.declared.encryption.HeaderWord.{HeaderWord}
 use Rattle.p25_voice_units.specs.declared.voice.VoiceFrame.{VoiceFrame}
 use Rattle.p25_voice_units.specs.declared.unit.VoiceUnit.TheVariants.{Header as header_unit, Link1 as ldu1_unit, Link2 as ldu2_unit, End as end_unit, EndLink as tdulc_unit}
-use Rattle.p25_packet_blocks.specs.{declared.head.PacketHead.{PacketHead}, declared.block.Slot.{Slot}, declared.block.Slot.TheVariants.{Good}}
+use Rattle.p25_packet_blocks.specs.{Heads.{confirmed_head, plain_head, response_head}, declared.block.Slot.{Slot}, declared.block.Slot.TheVariants.{Good}}
 use Rattle.p25_packet_blocks.specs.Reading.{confirmed_by_parts, plain_by_parts}
 use Rattle.p25_units.specs.{declared.unit.Body.{Body}, declared.unit.Body.TheVariants.{Voice, Packet}}
 use Rattle.p25_vectors.specs.{Draws.{Drawing, and_then, draw, drawn, octets_drawn, octets_next, state_after}, declared.bodies.Kind.{Kind}}
@@ -48,10 +48,12 @@ voice_drawn count state = each_below count (λ i. voice_frame_of (octets_drawn 1
 abbrev pub voice_next : ℕ → Drawing (List VoiceFrame)
 voice_next count = λ state. (voice_drawn count state, state_after (18 * count) state)
 
--- the ten octets of a header of a packet (PDU): the first one, the second, 0, the LLID, the full message flag with the blocks to
--- follow, 0, the octet after the pad count, and 0
-abbrev pub head_of : ℕ → ℕ → List ℕ → ℕ → ℕ → PacketHead
-head_of first second llid blocks ninth = record { 0 = first ∷ second ∷ 0 ∷ llid ++ (0x80 + blocks) ∷ 0 ∷ ninth ∷ 0 ∷ [] }
+-- a logical link identifier (LLID): three octets
+abbrev pub llid_drawn : ℕ → ℕ
+llid_drawn state = triple_at (octets_drawn 3 state) 0
+
+abbrev pub llid_next : Drawing ℕ
+llid_next = λ state. (llid_drawn state, state_after 3 state)
 
 -- the number of blocks to follow, one to four
 abbrev pub blocks_drawn : ℕ → ℕ
@@ -83,9 +85,9 @@ body_next Link2 =
     and_then (octets_next 12) (λ octets. and_then (octets_next 2) (λ low. and_then (voice_next 9) (λ voice.
     drawn (Voice (ldu2_unit (sync_of octets) low voice)))))
 body_next Confirmed =
-    and_then blocks_next (λ blocks. and_then (octets_next 3) (λ llid. and_then (slots_next blocks) (λ slots.
-    drawn (Packet (confirmed_by_parts (head_of 0x56 0xC0 llid blocks 0x08) slots)))))
+    and_then blocks_next (λ blocks. and_then llid_next (λ llid. and_then (slots_next blocks) (λ slots.
+    drawn (Packet (confirmed_by_parts (confirmed_head llid true blocks 0 0) slots)))))
 body_next Plain =
-    and_then blocks_next (λ blocks. and_then (octets_next 3) (λ llid. and_then (octets_next (12 * blocks - 4)) (λ octets.
-    drawn (Packet (plain_by_parts (head_of 0x35 0xC0 llid blocks 0) octets)))))
-body_next Response = and_then (octets_next 3) (λ llid. drawn (Packet (plain_by_parts (head_of 0x23 0x08 llid 0 0) [])))
+    and_then blocks_next (λ blocks. and_then llid_next (λ llid. and_then (octets_next (12 * blocks - 4)) (λ octets.
+    drawn (Packet (plain_by_parts (plain_head llid blocks 0) octets)))))
+body_next Response = and_then llid_next (λ llid. drawn (Packet (plain_by_parts (response_head llid 0 1 0 0) [])))

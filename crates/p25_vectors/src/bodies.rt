@@ -1,14 +1,14 @@
 //! The kinds of sample units, and what each carries.
 
-ghost use Rattle.std.specs.Prelude.{◌≡◌, ◌+◌, ◌-◌, ◌*◌, ◌<◌, ◌≤◌, length, take};
+ghost use Rattle.std.specs.Prelude.{◌≡◌, ◌+◌, ◌-◌, ◌*◌, ◌^◌, ◌<◌, ◌≤◌, length, take};
 ghost use Rattle.p25_packet_blocks.specs.Reading.{confirmed_by_parts, plain_by_parts};
 ghost use Rattle.p25_vectors.specs.Draws.{octets_drawn, state_after};
-ghost use Rattle.p25_vectors.specs.Bodies.{blocks_drawn, body_next, head_of, header_of, kind_of, kinds, link_of, slots_drawn, sync_of, voice_drawn};
+ghost use Rattle.p25_vectors.specs.Bodies.{blocks_drawn, body_next, header_of, kind_of, kinds, link_of, llid_drawn, slots_drawn, sync_of, voice_drawn};
 ghost use Rattle.p25_vectors.specs.declared.bodies.Kind.TheVariants.{Confirmed as confirmed_kind, Plain as plain_kind, Response as response_kind};
 ghost use Rattle.p25_units.specs.declared.unit.Body.TheVariants.{Packet as packet_in};
 
 use crate::draws::Draws;
-use p25_bits::pair_at;
+use p25_bits::{pair_at, triple_at};
 use p25_link::{EncryptionSync, HeaderWord, LinkControl};
 use p25_packet_blocks::{Block, Confirmed, Octets, Packet, PacketHead, Plain, Slot, Slots};
 use p25_units::Body;
@@ -121,24 +121,14 @@ fn draw_blocks(draws: &mut Draws) -> u8
     1 + draws.below(4) as u8
 }
 
-// The header of a packet (PDU), with the full message flag.
-fn head_with(first: u8, second: u8, llid: [u8; 3], blocks: u8, ninth: u8) -> PacketHead
-    requires { blocks < 128 }
-    ensures { result ≡ head_of first second llid blocks ninth }
+// Draws a logical link identifier (LLID).
+fn draw_llid(draws: &mut Draws) -> u32
+    ensures value { result ≡ llid_drawn draws.old }
+    ensures below { result < 2 ^ 24 }
+    ensures state { draws.new ≡ state_after 3 draws.old }
 {
-    let [high, middle, low] = llid;
-    PacketHead([
-        first,
-        second,
-        0,
-        high,
-        middle,
-        low,
-        0x80 + blocks,
-        0,
-        ninth,
-        0,
-    ])
+    let octets: [u8; 3] = draws.octets();
+    triple_at(&octets, 0)
 }
 
 fn draw_slots(blocks: u8, draws: &mut Draws) -> Slots
@@ -172,7 +162,7 @@ fn draw_confirmed(draws: &mut Draws) -> Packet
     ensures state { draws.new ≡ (body_next confirmed_kind draws.old).1 }
 {
     let blocks = draw_blocks(draws);
-    let head = head_with(0x56, 0xC0, draws.octets(), blocks, 0x08);
+    let head = PacketHead::confirmed(draw_llid(draws), true, blocks, 0, 0);
     Packet::Confirmed(Confirmed::new(head, draw_slots(blocks, draws)))
 }
 
@@ -181,7 +171,7 @@ fn draw_plain(draws: &mut Draws) -> Packet
     ensures state { draws.new ≡ (body_next plain_kind draws.old).1 }
 {
     let blocks = draw_blocks(draws);
-    let head = head_with(0x35, 0xC0, draws.octets(), blocks, 0);
+    let head = PacketHead::plain(draw_llid(draws), blocks, 0);
     let octets = draw_octets(12 * usize::from(blocks) - 4, draws);
     Packet::Plain(Plain::new(head, octets))
 }
@@ -190,7 +180,7 @@ fn draw_response(draws: &mut Draws) -> Packet
     ensures packet { packet_in result ≡ (body_next response_kind draws.old).0 }
     ensures state { draws.new ≡ (body_next response_kind draws.old).1 }
 {
-    let head = head_with(0x23, 0x08, draws.octets(), 0, 0);
+    let head = PacketHead::response(draw_llid(draws), 0, 1, 0, 0);
     Packet::Plain(Plain::new(head, Octets::new()))
 }
 

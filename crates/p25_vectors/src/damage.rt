@@ -11,7 +11,7 @@ ghost use Rattle.p25_vectors.specs.Damage.{body_counts, body_damage_draws, damag
 
 use crate::draws::Draws;
 use p25_bits::BitBuf;
-use p25_packet_blocks::Packet;
+use p25_packet_blocks::{BLOCK_LENGTH, BLOCKS_AT, HEADER_AT, Packet};
 use p25_units::Body;
 use p25_voice_units::laws::part_places;
 use p25_voice_units::{HDU_WORDS, LDU_WORDS, LOW_WORDS, TDULC_WORDS, VoiceUnit};
@@ -174,7 +174,7 @@ fn damage_blocks(count: usize, radius: usize, draws: &mut Draws, bits: &mut BitB
 {
     let mut flips = 0;
     for j in 0..count {
-        flips += damage_word(308 + 196 * j, radius, draws, bits);
+        flips += damage_word(BLOCKS_AT + BLOCK_LENGTH * j, radius, draws, bits);
     }
     flips
 }
@@ -189,7 +189,7 @@ fn damage_packet(packet: &Packet, draws: &mut Draws, bits: &mut BitBuf) -> u32
     ensures few { result ≤ 256 }
     ensures state { draws.new ≡ state_after (body_damage_draws (packet_in packet.now) draws.old) draws.old }
 {
-    let header = damage_word(112, 2, draws, bits);
+    let header = damage_word(HEADER_AT, 2, draws, bits);
     let count = usize::from(packet.head().blocks());
     header + damage_blocks(count, radius_of(packet), draws, bits)
 }

@@ -1,8 +1,9 @@
-use Rattle.std.proofs.{Common.{◌<◌, ◌≤◌, Err, take, ap, sym, ◌∙◌, arith}, lemmas.Result.{err_from_is_err_and}}
+use Rattle.std.proofs.{Common.{◌≡◌, ℕ, ◌<◌, ◌≤◌, Bool, List, Ok, Err, length, take, ap, sym, subst, ◌∙◌, arith}, lemmas.Result.{err_from_is_err_and}}
 use Rattle.p25_bits.specs.Distance.{distance_of}
-use Rattle.p25_status.specs.Sync.{sync_bits, sync_slack}
+use Rattle.p25_status.specs.{declared.fields.Field.TheVariants.{Length}, Sync.{sync_bits, sync_slack}, Woven.{bare_of}}
 use Rattle.p25_status.proofs.SyncLaws.{has_sync-yes, has_sync-no}
-use Rattle.p25_packet_blocks.proofs.UnitLaws.{packet_unit_of-sync, packet_unit_of-nid, packet_unit_of-duid, packet_unit_of-bad, packet_unit_of-good}
+use Rattle.p25_packet_blocks.specs.{Heads.{head_blocks}, Lengths.{packet_sent_length}, declared.head.ReadHead.{ReadHead}, Reading.{packet_of_head}, UnitReading.{sent_packet_of, sent_read_of}}
+use Rattle.p25_packet_blocks.proofs.UnitLaws.{packet_unit_of-sync, packet_unit_of-nid, packet_unit_of-duid, packet_unit_of-bad, packet_unit_of-good, sent_head_of-read, sent_head_of-unread, sent_packet_of-bad, sent_packet_of-short, sent_packet_of-whole}
 use Rattle.p25_packet_blocks.proofs.unit.read_packet_unit.Goals as goal
 
 pub returns-then-not-is_sync : goal.returns-then-not-is_sync
@@ -20,16 +21,45 @@ returns-then-nid-ne-PDU c =
     let near : distance_of (take 48 c.args.bits.now) sync_bits ≤ sync_slack = grind (arith, c.if-not-is_sync.ensures) in
     sym (packet_unit_of-duid c.args.bits.now (c.in-Some.nid.nac, c.in-Some.nid.duid) (has_sync-yes c.args.bits.now (omega arith) near) (sym c.in-Some.ensures) c.if-nid-ne-PDU.true)
 
-pub returns-in_err-packet : goal.returns-in_err-packet
-returns-in_err-packet c =
+pub returns-in_err-read : goal.returns-in_err-read
+returns-in_err-read c =
     let near : distance_of (take 48 c.args.bits.now) sync_bits ≤ sync_slack = grind (arith, c.if-not-is_sync.ensures) in
     let p = err_from_is_err_and c.from_residual.result c.from_residual.ensures.1 in
+    let unread = sent_head_of-unread c.args.bits.now p.0 (sym c.in_err-read.ensures.read ∙ ap Err (sym p.2)) in
     p.1
     ∙ sym (packet_unit_of-bad c.args.bits.now (c.in-Some.nid.nac, c.in-Some.nid.duid) p.0 (has_sync-yes c.args.bits.now (omega arith) near)
-    (sym c.in-Some.ensures) c.if-nid-ne-PDU.false (sym c.in_err-packet.ensures ∙ ap Err (sym p.2)))
+    (sym c.in-Some.ensures) c.if-nid-ne-PDU.false (sent_packet_of-bad c.args.bits.now p.0 unread))
+
+pub returns-then-len : goal.returns-then-len
+returns-then-len c =
+    let near : distance_of (take 48 c.args.bits.now) sync_bits ≤ sync_slack = grind (arith, c.if-not-is_sync.ensures) in
+    let read = c.in_ok-read.read in
+    let short : length c.args.bits.now < packet_sent_length (head_blocks read.head) = omega (arith, c.len.ensures.value, c.packet_length-len.ensures.value, c.if-len.true) in
+    sym (packet_unit_of-bad c.args.bits.now (c.in-Some.nid.nac, c.in-Some.nid.duid) Length (has_sync-yes c.args.bits.now (omega arith) near)
+    (sym c.in-Some.ensures) c.if-nid-ne-PDU.false
+    (sent_packet_of-short c.args.bits.now read.head (sent_head_of-read c.args.bits.now read (sym c.in_ok-read.ensures.read)) short))
+
+-- the packet is that of the header and of the bits without status symbols
+whole : (read : ReadHead) (sent bare : List Bool) (count : ℕ) → sent_read_of sent ≡ Ok read → count ≡ packet_sent_length (head_blocks read.head) → count ≤ length sent
+    → bare ≡ bare_of (take count sent) → sent_packet_of sent ≡ packet_of_head read.head bare
+whole read sent bare count is counted fits cut =
+    sent_packet_of-whole sent read.head (sent_head_of-read sent read is) (subst (λ (n : ℕ). n ≤ length sent) counted fits)
+    ∙ ap (packet_of_head read.head) (ap (λ n. bare_of (take n sent)) (sym counted) ∙ sym cut)
+
+pub returns-in_err-read_blocks : goal.returns-in_err-read_blocks
+returns-in_err-read_blocks c =
+    let near : distance_of (take 48 c.args.bits.now) sync_bits ≤ sync_slack = grind (arith, c.if-not-is_sync.ensures) in
+    let p = err_from_is_err_and c.from_residual-in_err-read_blocks.result c.from_residual-in_err-read_blocks.ensures.1 in
+    let read = whole c.in_ok-read.read c.args.bits.now c.unweave.new.out c.packet_length-len.result (sym c.in_ok-read.ensures.read) c.packet_length-len.ensures.value
+    (omega (arith, c.len.ensures.value, c.if-len.false)) c.unweave.ensures.bare in
+    p.1
+    ∙ sym (packet_unit_of-bad c.args.bits.now (c.in-Some.nid.nac, c.in-Some.nid.duid) p.0 (has_sync-yes c.args.bits.now (omega arith) near)
+    (sym c.in-Some.ensures) c.if-nid-ne-PDU.false (read ∙ sym c.in_err-read_blocks.ensures.packet ∙ ap Err (sym p.2)))
 
 pub returns : goal.returns
 returns c =
     let near : distance_of (take 48 c.args.bits.now) sync_bits ≤ sync_slack = grind (arith, c.if-not-is_sync.ensures) in
-    sym (packet_unit_of-good c.args.bits.now (c.in-Some.nid.nac, c.in-Some.nid.duid) c.in_ok-packet.packet (has_sync-yes c.args.bits.now (omega arith) near)
-    (sym c.in-Some.ensures) c.if-nid-ne-PDU.false (sym c.in_ok-packet.ensures))
+    let read = whole c.in_ok-read.read c.args.bits.now c.unweave.new.out c.packet_length-len.result (sym c.in_ok-read.ensures.read) c.packet_length-len.ensures.value
+    (omega (arith, c.len.ensures.value, c.if-len.false)) c.unweave.ensures.bare in
+    sym (packet_unit_of-good c.args.bits.now (c.in-Some.nid.nac, c.in-Some.nid.duid) c.read_blocks.new.self (has_sync-yes c.args.bits.now (omega arith) near)
+    (sym c.in-Some.ensures) c.if-nid-ne-PDU.false (read ∙ sym c.in_ok-read_blocks.ensures.packet))

@@ -1,6 +1,6 @@
-use Rattle.std.proofs.Common.{◌≡◌, ℕ, ap, sym, subst, ◌∙◌}
-use Rattle.p25_status.specs.{Outcomes.{IfRead, outcome_of}, declared.outcome.Outcome.{Outcome}}
-use Rattle.p25_packet_blocks.specs.{Fixes.{packet_fixes_of}, Reading.{packet_of_head, header_bits}}
+use Rattle.std.proofs.Common.{◌≡◌, ℕ, refl, sym, subst, ◌∙◌}
+use Rattle.p25_status.specs.{Outcomes.{IfRead}, declared.outcome.Outcome.{Outcome}}
+use Rattle.p25_packet_blocks.specs.{Fixes.{packet_fixes_of}, Outcomes.{failing_blocks_of}, Reading.{packet_of_head, header_bits}}
 use Rattle.p25_packet_blocks.proofs.OutcomeLaws.{read_head_of-few, packet_outcome-bad, packet_outcome-good, packet_outcome-fixes, IfOk-same, IfOk-none}
 use Rattle.p25_packet_blocks.proofs.packet.Packet.read.Goals as goal
 
@@ -18,8 +18,7 @@ returns-in-Err-clause-wrong c = rw c.failing.ensures tt
 
 pub returns-in-Ok-clause-outcome : goal.returns-in-Ok-clause-outcome
 returns-in-Ok-clause-outcome c =
-    c.of.ensures
-    ∙ ap (λ fields. outcome_of fields c.in-Ok.wrong) c.failing_blocks.ensures
+    c.outcome.ensures
     ∙ packet_outcome-good c.args.read c.args.bare.now c.read_blocks.new.self c.in-Ok.wrong c.in-Ok.ensures.packet c.in-Ok.ensures.wrong
 
 pub returns-in-Ok-clause-packet : goal.returns-in-Ok-clause-packet
@@ -28,6 +27,6 @@ returns-in-Ok-clause-packet c = IfOk-same c.read_blocks.new.self (packet_of_head
 pub returns-in-Ok-clause-wrong : goal.returns-in-Ok-clause-wrong
 returns-in-Ok-clause-wrong c =
     let packet = c.read_blocks.new.self in
-    subst (λ (outcome : Outcome). IfRead outcome (λ wrong. (nac : ℕ) → wrong ≡ packet_fixes_of nac packet c.args.bare.now)) (sym c.of.ensures)
-    (packet_outcome-fixes c.args.read c.args.bare.now packet c.in-Ok.wrong c.failing_blocks.result c.requires.head c.requires.there c.in-Ok.ensures.packet c.in-Ok.ensures.wrong
-    (sym c.failing_blocks.ensures))
+    subst (λ (outcome : Outcome). IfRead outcome (λ wrong. (nac : ℕ) → wrong ≡ packet_fixes_of nac packet c.args.bare.now)) (sym c.outcome.ensures)
+    (packet_outcome-fixes c.args.read c.args.bare.now packet c.in-Ok.wrong (failing_blocks_of packet) c.requires.head c.requires.there c.in-Ok.ensures.packet c.in-Ok.ensures.wrong
+    refl)
