@@ -72,6 +72,11 @@ module _ {P : Type 0} (moves : P → List Event → P → Type 0) (stays : (port
   on-blank_page first last page octets before stop empty stopped =
       subst (λ (zs : List ℕ). IsStopped moves first zs before octets stop last) empty stopped
 
+  -- a move from one
+  pub Moved-blank : (first last : P) (page octets kept : List ℕ) (before now : Future) → page ≡ []
+      → Moved moves first page before octets last kept now → Moved moves first [] before octets last kept now
+  Moved-blank first last page octets kept before now empty moved = subst (λ (zs : List ℕ). Moved moves first zs before octets last kept now) empty moved
+
   -- the input ended, and the work stopped
   pub ends-stopped : (first last : P) (a closed : Future) (stop : Stop) → IsClosed a closed → IsStopped moves first [] closed [] stop last
       → EndsBy moves first a stop last

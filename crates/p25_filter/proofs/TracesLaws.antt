@@ -17,7 +17,7 @@ first-take octets more few =
     ap (λ (n : ℕ). take n (octets ++ more)) e ∙ take-append-add octets more (input_most - length octets)
 
 -- of the octets before a read and those that it gave, the first are those before and what fits of the read
-pub first-read : (octets buf : List ℕ) (count fits : ℕ) → length octets ≤ input_most → count ≤ length buf → fits ≡ min count (input_most - length octets)
+first-read : (octets buf : List ℕ) (count fits : ℕ) → length octets ≤ input_most → count ≤ length buf → fits ≡ min count (input_most - length octets)
     → take input_most (octets ++ take count buf) ≡ octets ++ take fits buf
 first-read octets buf count fits few there fit =
     first-take octets (take count buf) few ∙ ap (λ (zs : List ℕ). octets ++ zs) (
@@ -193,13 +193,16 @@ module _ {P : Type 0} (moves : P → List Event → P → Type 0) (stays : (port
   SoFar-more octets text (octet ∷ piece) last next so_far settled moved some few =
       SoFar-events (standing_at Going octets text) last next (Read (octet ∷ piece) ∷ []) so_far moved ((settled, few), tt)
 
-  -- a read of some octets into a buffer of the most of a read
-  pub SoFar-read : (octets text buf : List ℕ) (count : ℕ) (now : Future) (last next : P) → SoFar moves first future (standing_at Going octets text) last
-      → length octets ≤ input_most → Progress future octets text now → IsIdle false now → moves last (Read (take count buf) ∷ []) next
-      → 0 < count → count ≤ length buf → length buf ≤ read_most → SoFar moves first future (standing_at Going (octets ++ take count buf) text) next
-  SoFar-read octets text buf count now last next so_far few progress idle moved some there room =
-      SoFar-more octets text (take count buf) last next so_far (settled future now octets text few progress idle) moved
-      (omega (arith, length-take count buf, there, some)) (omega (arith, length-take count buf, there, room))
+  -- a read of some octets into a buffer of the most of a read, of which the first are taken, as many as fit
+  pub SoFar-read : (octets text buf : List ℕ) (count fits : ℕ) (now : Future) (last next : P) → SoFar moves first future (standing_at Going octets text) last
+      → length octets ≤ input_most → Progress future octets text now → IsIdle false now → (count ≤ length buf) × moves last (Read (take count buf) ∷ []) next
+      → 0 < count → length buf ≤ read_most → fits ≡ min count (input_most - length octets)
+      → SoFar moves first future (standing_at Going (octets ++ take count buf) text) next × (take input_most (octets ++ take count buf) ≡ octets ++ take fits buf)
+  SoFar-read octets text buf count fits now last next so_far few progress idle given some room fit = (
+    SoFar-more octets text (take count buf) last next so_far (settled future now octets text few progress idle) given.1
+        (omega (arith, length-take count buf, given.0, some)) (omega (arith, length-take count buf, given.0, room)),
+    first-read octets buf count fits few given.0 fit,
+  )
 
   pub SoFar-over : (octets text piece : List ℕ) (last next : P) → SoFar moves first future (standing_at Going octets text) last
       → IsSettled future (standing_at Going octets text) → moves last (Read piece ∷ []) next → piece ≡ []
