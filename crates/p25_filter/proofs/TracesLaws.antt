@@ -4,7 +4,6 @@ use Rattle.std.proofs.{lemmas.List.{take-append-drop, nil_from_length}, Math.Seq
 use Rattle.std.specs.Prelude.{Contains}
 use Rattle.p25_io.specs.Events.{Event, Read, ReadFailed, Wrote, WriteFailed}
 use Rattle.p25_filter.specs.{declared.ending.FilterEnd.{FilterEnd}, declared.ending.FilterEnd.TheVariants.{Ended as FilterEnded, ReadFault, WriteFault, TooLong, Memory as FilterMemory}}
-use Rattle.p25_filter.specs.{declared.ending.Refusal.TheVariants.{Ended, Memory}, declared.ending.Stop.{Stop}, declared.ending.Stop.TheVariants.{Fault, Refused}, Endings.{end_of}}
 use Rattle.p25_filter.specs.{Futures.{EndsBy, Future, IsIdle, IsStopped, Moved, Progress}, Runs.{input_most, read_most}}
 use Rattle.p25_filter.specs.Traces.{EndsAs, Going, IsDecided, IsLive, IsRun, IsSettled, Over, Broken, Phase, Standing, after_all, at_first, standing_after, standing_at}
 use Rattle.p25_filter.specs.Writes.{AreSome, Begins, CutShort, Written, joined, writes_of}
@@ -267,10 +266,10 @@ module _ {P : Type 0} (moves : P → List Event → P → Type 0) (stays : (port
       (cut.piece, cut.count, (so_far.events ++ writes_of cut.pieces, sym (append_assoc so_far.events (writes_of cut.pieces) failed)))
 
   -- the input ended, and the work with it
-  pub Came-ended : (octets text : List ℕ) (last next : P) (now : Future) (stop : Stop) → SoFar moves first future (standing_at Over octets text) last
-      → Progress future octets text now → EndsBy moves last now stop next → Came moves first future next (end_of stop)
+  pub Came-ended : (octets text : List ℕ) (last next : P) (now : Future) (end : FilterEnd) → SoFar moves first future (standing_at Over octets text) last
+      → Progress future octets text now → EndsBy moves last now end next → Came moves first future next end
   unfolding EndsBy
-  Came-ended octets text last next now Fault so_far progress cut =
+  Came-ended octets text last next now WriteFault so_far progress cut =
       Came-cut Over octets text cut.text last next so_far cut.cut (over-decided octets text cut.text now progress cut.begins)
     where
       over-decided : (octets text more : List ℕ) (now : Future) → Progress future octets text now → Begins more (now.writes true []) → Begins (text ++ more) (future.writes true octets)
@@ -282,7 +281,7 @@ module _ {P : Type 0} (moves : P → List Event → P → Type 0) (stays : (port
             ∙ ap (λ (zs : List ℕ). text ++ zs) begins.is
             ∙ sym (append_assoc text more begins.rest);
       }
-  Came-ended octets text last next now (Refused Memory) so_far progress paused =
+  Came-ended octets text last next now FilterMemory so_far progress paused =
       let begins = paused.begins in
       let decided : Begins (text ++ paused.text) (future.writes true octets) =
       record {
@@ -297,27 +296,28 @@ module _ {P : Type 0} (moves : P → List Event → P → Type 0) (stays : (port
       (SoFar-written Over octets text paused.text last next so_far paused.written decided)
       (λ events. subst (λ (zs : List ℕ). Contains (future.pauses true zs) (text ++ paused.text)) (append-nil octets)
       (progress.pauses true [] paused.text paused.pauses))
-  Came-ended octets text last next now (Refused (Ended ending)) so_far progress ended =
+  Came-ended octets text last next now (FilterEnded ending) so_far progress ended =
       let whole : future.writes true octets ≡ text ++ now.writes true [] = ap (future.writes true) (sym (append-nil octets)) ∙ progress.writes true [] in
       Came-by (standing_at Over octets (text ++ now.writes true [])) next (FilterEnded ending)
       (SoFar-written Over octets text (now.writes true []) last next so_far ended.0 (record { rest = []; is = whole ∙ sym (append-nil (text ++ now.writes true [])) }))
       (λ events. (ap (future.ends true) (sym (append-nil octets)) ∙ progress.ends true [] ∙ ended.1, sym whole))
+  Came-ended octets text last next now _ so_far progress ended = absurd ended
 
   -- the work stopped within the octets of a read
-  pub Came-stopped : (octets text all fed tail : List ℕ) (last next : P) (now : Future) (stop : Stop) → SoFar moves first future (standing_at Going all text) last
-      → Progress future octets text now → take input_most all ≡ (octets ++ fed) ++ tail → IsStopped moves last [] now fed stop next
-      → Came moves first future next (end_of stop)
+  pub Came-stopped : (octets text all fed tail : List ℕ) (last next : P) (now : Future) (end : FilterEnd) → SoFar moves first future (standing_at Going all text) last
+      → Progress future octets text now → take input_most all ≡ (octets ++ fed) ++ tail → IsStopped moves last [] now fed end next
+      → Came moves first future next end
   unfolding IsStopped
-  Came-stopped octets text all fed tail last next now Fault so_far progress whole cut =
+  Came-stopped octets text all fed tail last next now WriteFault so_far progress whole cut =
       Came-cut Going all text cut.text last next so_far cut.cut (part-decided future now octets text all fed tail progress whole cut.text cut.begins)
-  Came-stopped octets text all fed tail last next now (Refused Memory) so_far progress whole paused =
+  Came-stopped octets text all fed tail last next now FilterMemory so_far progress whole paused =
       let before = paused.pauses false tail in
       Came-by (standing_at Going all (text ++ paused.text)) next FilterMemory
       (SoFar-written Going all text paused.text last next so_far paused.written (part-decided future now octets text all fed tail progress whole paused.text paused.begins))
       (λ events. subst (λ (zs : List ℕ). Contains (future.pauses false zs) (text ++ paused.text)) (sym (append_assoc octets fed tail) ∙ sym whole)
       (subst (λ (zs : List ℕ). Contains (future.pauses false (octets ++ (fed ++ tail))) (text ++ zs)) before.whole
       (progress.pauses false (fed ++ tail) before.pause before.is)))
-  Came-stopped octets text all fed tail last next now (Refused (Ended ending)) so_far progress whole ended =
+  Came-stopped octets text all fed tail last next now (FilterEnded ending) so_far progress whole ended =
       Came-by (standing_at Going all (text ++ ended.text)) next (FilterEnded ending)
       (SoFar-written Going all text ended.text last next so_far ended.written
       (part-decided future now octets text all fed tail progress whole ended.text
@@ -326,6 +326,7 @@ module _ {P : Type 0} (moves : P → List Event → P → Type 0) (stays : (port
         λ is more. part-ends future now octets text all fed tail progress whole is more ∙ ended.ends is (tail ++ more),
         λ is more. part-writes future now octets text all fed tail progress whole is more ∙ ap (λ (zs : List ℕ). text ++ zs) (ended.whole is (tail ++ more)),
       ))
+  Came-stopped octets text all fed tail last next now _ so_far progress whole stopped = absurd stopped
 
   -- a read was fed, and what it decides is written
   pub SoFar-fed : (octets text all fed : List ℕ) (last next : P) (now after : Future) → SoFar moves first future (standing_at Going all text) last

@@ -1,7 +1,7 @@
 use Rattle.std.proofs.Common.{◌≡◌, ℕ, [], ◌++◌, take, ap, sym, subst, ◌∙◌, arith, length-append, length-take}
-use Rattle.p25_filter.specs.{declared.ending.FilterEnd.{FilterEnd}, Traces.{Going, standing_at}}
+use Rattle.p25_filter.specs.Traces.{Going, standing_at}
 use Rattle.p25_filter.proofs.InputLaws.{Moved-blank, on-blank_page}
-use Rattle.p25_filter.proofs.TracesLaws.{Came, Came-ended, Came-read_fault, Came-stopped, Came-too_long, Progress-moved, Progress-none, SoFar, SoFar-fed, SoFar-none, SoFar-over, SoFar-read, first-fed, settled}
+use Rattle.p25_filter.proofs.TracesLaws.{Came-ended, Came-read_fault, Came-stopped, Came-too_long, Progress-moved, Progress-none, SoFar, SoFar-fed, SoFar-none, SoFar-over, SoFar-read, first-fed, settled}
 use Rattle.p25_filter.proofs.input.run_on.Goals as goal
 
 pub loop-count-init : goal.loop-count-init
@@ -37,8 +37,7 @@ returns-then-count-eq0 g c =
     let is_settled = settled future _ inv.octets inv.text (omega (arith, inv.count, inv.few)) inv.progress inv.idle in
     let none : take c.in-Ok.count c.read.new.buf ≡ [] = ap (λ (n : ℕ). take n c.read.new.buf) c.if-count-eq0.true in
     let over = SoFar-over moves stays joins first future inv.octets inv.text _ _ _ inv.so_far is_settled c.in-Ok.ensures.given.1 none in
-    subst (λ (e : FilterEnd). Came moves first future c.end.new.port e) (sym c.end-then-count-eq0.ensures)
-    (Came-ended moves stays joins first future inv.octets inv.text c.read.new.self c.end.new.port _ c.end.result over inv.progress c.end.ensures)
+    Came-ended moves stays joins first future inv.octets inv.text c.read.new.self c.end.new.port _ c.end.result over inv.progress c.end.ensures
 
 pub returns-in-Err : goal.returns-in-Err
 returns-in-Err g c =
@@ -51,9 +50,8 @@ returns-in-Err g c =
     SoFar-read moves stays joins _ _ inv.octets inv.text buf c.in-Ok.count c.min-fits.result _ _ _ inv.so_far (omega (arith, inv.count, inv.few)) inv.progress inv.idle
     c.in-Ok.ensures.given (omega (arith, c.if-count-eq0.false)) (omega (arith, inv.buffer, c.read.ensures.room)) (omega (arith, c.min-fits.ensures, inv.count)) in
     let stopped = on-blank_page moves stays joins _ _ _ _ _ _ inv.empty c.in-Err.ensures.stopped.1 in
-    subst (λ (e : FilterEnd). Came moves c.args.port.now (g.W.Filter.future c.args.filter.now) c.feed.new.port e) (sym c.end-in-Err.ensures)
-    (Came-stopped moves stays joins _ _ inv.octets inv.text (inv.octets ++ take c.in-Ok.count buf) _ _ _ _ _ c.in-Err.stop read.0 inv.progress
-    (first-fed inv.octets buf (inv.octets ++ take c.in-Ok.count buf) c.min-fits.result c.in-Err.ensures.stopped.0 read.1) stopped)
+    Came-stopped moves stays joins _ _ inv.octets inv.text (inv.octets ++ take c.in-Ok.count buf) _ _ _ _ _ c.in-Err.stop read.0 inv.progress
+    (first-fed inv.octets buf (inv.octets ++ take c.in-Ok.count buf) c.min-fits.result c.in-Err.ensures.stopped.0 read.1) stopped
 
 pub returns-then-fits-count : goal.returns-then-fits-count
 returns-then-fits-count g c =
