@@ -4,7 +4,6 @@ use Rattle.std.proofs.{lemmas.List.{take-append-drop, nil_from_length}, Math.Seq
 use Rattle.std.specs.Prelude.{Contains}
 use Rattle.p25_io.specs.Events.{Event, Read, ReadFailed, Wrote, WriteFailed}
 use Rattle.p25_filter.specs.{declared.ending.FilterEnd.{FilterEnd}, declared.ending.FilterEnd.TheVariants.{Ended as FilterEnded, ReadFault, WriteFault, TooLong, Memory as FilterMemory}}
-use Rattle.p25_filter.specs.{declared.ending.Refusal.TheVariants.{Ended, Memory}, declared.ending.Stop.{Stop}, declared.ending.Stop.TheVariants.{Fault, Refused}, Endings.{end_of}}
 use Rattle.p25_filter.specs.{Futures.{EndsBy, Future, IsIdle, IsStopped, Moved, Progress}, Runs.{input_most, read_most}}
 use Rattle.p25_filter.specs.Traces.{EndsAs, Going, IsDecided, IsLive, IsRun, IsSettled, Over, Broken, Phase, Standing, after_all, at_first, standing_after, standing_at}
 use Rattle.p25_filter.specs.Writes.{AreSome, Begins, CutShort, Written, joined, writes_of}
@@ -17,7 +16,7 @@ first-take octets more few =
     ap (λ (n : ℕ). take n (octets ++ more)) e ∙ take-append-add octets more (input_most - length octets)
 
 -- of the octets before a read and those that it gave, the first are those before and what fits of the read
-pub first-read : (octets buf : List ℕ) (count fits : ℕ) → length octets ≤ input_most → count ≤ length buf → fits ≡ min count (input_most - length octets)
+first-read : (octets buf : List ℕ) (count fits : ℕ) → length octets ≤ input_most → count ≤ length buf → fits ≡ min count (input_most - length octets)
     → take input_most (octets ++ take count buf) ≡ octets ++ take fits buf
 first-read octets buf count fits few there fit =
     first-take octets (take count buf) few ∙ ap (λ (zs : List ℕ). octets ++ zs) (
@@ -193,13 +192,16 @@ module _ {P : Type 0} (moves : P → List Event → P → Type 0) (stays : (port
   SoFar-more octets text (octet ∷ piece) last next so_far settled moved some few =
       SoFar-events (standing_at Going octets text) last next (Read (octet ∷ piece) ∷ []) so_far moved ((settled, few), tt)
 
-  -- a read of some octets into a buffer of the most of a read
-  pub SoFar-read : (octets text buf : List ℕ) (count : ℕ) (now : Future) (last next : P) → SoFar moves first future (standing_at Going octets text) last
-      → length octets ≤ input_most → Progress future octets text now → IsIdle false now → moves last (Read (take count buf) ∷ []) next
-      → 0 < count → count ≤ length buf → length buf ≤ read_most → SoFar moves first future (standing_at Going (octets ++ take count buf) text) next
-  SoFar-read octets text buf count now last next so_far few progress idle moved some there room =
-      SoFar-more octets text (take count buf) last next so_far (settled future now octets text few progress idle) moved
-      (omega (arith, length-take count buf, there, some)) (omega (arith, length-take count buf, there, room))
+  -- a read of some octets into a buffer of the most of a read, of which the first are taken, as many as fit
+  pub SoFar-read : (octets text buf : List ℕ) (count fits : ℕ) (now : Future) (last next : P) → SoFar moves first future (standing_at Going octets text) last
+      → length octets ≤ input_most → Progress future octets text now → IsIdle false now → (count ≤ length buf) × moves last (Read (take count buf) ∷ []) next
+      → 0 < count → length buf ≤ read_most → fits ≡ min count (input_most - length octets)
+      → SoFar moves first future (standing_at Going (octets ++ take count buf) text) next × (take input_most (octets ++ take count buf) ≡ octets ++ take fits buf)
+  SoFar-read octets text buf count fits now last next so_far few progress idle given some room fit = (
+    SoFar-more octets text (take count buf) last next so_far (settled future now octets text few progress idle) given.1
+        (omega (arith, length-take count buf, given.0, some)) (omega (arith, length-take count buf, given.0, room)),
+    first-read octets buf count fits few given.0 fit,
+  )
 
   pub SoFar-over : (octets text piece : List ℕ) (last next : P) → SoFar moves first future (standing_at Going octets text) last
       → IsSettled future (standing_at Going octets text) → moves last (Read piece ∷ []) next → piece ≡ []
@@ -264,10 +266,10 @@ module _ {P : Type 0} (moves : P → List Event → P → Type 0) (stays : (port
       (cut.piece, cut.count, (so_far.events ++ writes_of cut.pieces, sym (append_assoc so_far.events (writes_of cut.pieces) failed)))
 
   -- the input ended, and the work with it
-  pub Came-ended : (octets text : List ℕ) (last next : P) (now : Future) (stop : Stop) → SoFar moves first future (standing_at Over octets text) last
-      → Progress future octets text now → EndsBy moves last now stop next → Came moves first future next (end_of stop)
+  pub Came-ended : (octets text : List ℕ) (last next : P) (now : Future) (end : FilterEnd) → SoFar moves first future (standing_at Over octets text) last
+      → Progress future octets text now → EndsBy moves last now end next → Came moves first future next end
   unfolding EndsBy
-  Came-ended octets text last next now Fault so_far progress cut =
+  Came-ended octets text last next now WriteFault so_far progress cut =
       Came-cut Over octets text cut.text last next so_far cut.cut (over-decided octets text cut.text now progress cut.begins)
     where
       over-decided : (octets text more : List ℕ) (now : Future) → Progress future octets text now → Begins more (now.writes true []) → Begins (text ++ more) (future.writes true octets)
@@ -279,7 +281,7 @@ module _ {P : Type 0} (moves : P → List Event → P → Type 0) (stays : (port
             ∙ ap (λ (zs : List ℕ). text ++ zs) begins.is
             ∙ sym (append_assoc text more begins.rest);
       }
-  Came-ended octets text last next now (Refused Memory) so_far progress paused =
+  Came-ended octets text last next now FilterMemory so_far progress paused =
       let begins = paused.begins in
       let decided : Begins (text ++ paused.text) (future.writes true octets) =
       record {
@@ -294,27 +296,28 @@ module _ {P : Type 0} (moves : P → List Event → P → Type 0) (stays : (port
       (SoFar-written Over octets text paused.text last next so_far paused.written decided)
       (λ events. subst (λ (zs : List ℕ). Contains (future.pauses true zs) (text ++ paused.text)) (append-nil octets)
       (progress.pauses true [] paused.text paused.pauses))
-  Came-ended octets text last next now (Refused (Ended ending)) so_far progress ended =
+  Came-ended octets text last next now (FilterEnded ending) so_far progress ended =
       let whole : future.writes true octets ≡ text ++ now.writes true [] = ap (future.writes true) (sym (append-nil octets)) ∙ progress.writes true [] in
       Came-by (standing_at Over octets (text ++ now.writes true [])) next (FilterEnded ending)
       (SoFar-written Over octets text (now.writes true []) last next so_far ended.0 (record { rest = []; is = whole ∙ sym (append-nil (text ++ now.writes true [])) }))
       (λ events. (ap (future.ends true) (sym (append-nil octets)) ∙ progress.ends true [] ∙ ended.1, sym whole))
+  Came-ended octets text last next now _ so_far progress ended = absurd ended
 
   -- the work stopped within the octets of a read
-  pub Came-stopped : (octets text all fed tail : List ℕ) (last next : P) (now : Future) (stop : Stop) → SoFar moves first future (standing_at Going all text) last
-      → Progress future octets text now → take input_most all ≡ (octets ++ fed) ++ tail → IsStopped moves last [] now fed stop next
-      → Came moves first future next (end_of stop)
+  pub Came-stopped : (octets text all fed tail : List ℕ) (last next : P) (now : Future) (end : FilterEnd) → SoFar moves first future (standing_at Going all text) last
+      → Progress future octets text now → take input_most all ≡ (octets ++ fed) ++ tail → IsStopped moves last [] now fed end next
+      → Came moves first future next end
   unfolding IsStopped
-  Came-stopped octets text all fed tail last next now Fault so_far progress whole cut =
+  Came-stopped octets text all fed tail last next now WriteFault so_far progress whole cut =
       Came-cut Going all text cut.text last next so_far cut.cut (part-decided future now octets text all fed tail progress whole cut.text cut.begins)
-  Came-stopped octets text all fed tail last next now (Refused Memory) so_far progress whole paused =
+  Came-stopped octets text all fed tail last next now FilterMemory so_far progress whole paused =
       let before = paused.pauses false tail in
       Came-by (standing_at Going all (text ++ paused.text)) next FilterMemory
       (SoFar-written Going all text paused.text last next so_far paused.written (part-decided future now octets text all fed tail progress whole paused.text paused.begins))
       (λ events. subst (λ (zs : List ℕ). Contains (future.pauses false zs) (text ++ paused.text)) (sym (append_assoc octets fed tail) ∙ sym whole)
       (subst (λ (zs : List ℕ). Contains (future.pauses false (octets ++ (fed ++ tail))) (text ++ zs)) before.whole
       (progress.pauses false (fed ++ tail) before.pause before.is)))
-  Came-stopped octets text all fed tail last next now (Refused (Ended ending)) so_far progress whole ended =
+  Came-stopped octets text all fed tail last next now (FilterEnded ending) so_far progress whole ended =
       Came-by (standing_at Going all (text ++ ended.text)) next (FilterEnded ending)
       (SoFar-written Going all text ended.text last next so_far ended.written
       (part-decided future now octets text all fed tail progress whole ended.text
@@ -323,6 +326,7 @@ module _ {P : Type 0} (moves : P → List Event → P → Type 0) (stays : (port
         λ is more. part-ends future now octets text all fed tail progress whole is more ∙ ended.ends is (tail ++ more),
         λ is more. part-writes future now octets text all fed tail progress whole is more ∙ ap (λ (zs : List ℕ). text ++ zs) (ended.whole is (tail ++ more)),
       ))
+  Came-stopped octets text all fed tail last next now _ so_far progress whole stopped = absurd stopped
 
   -- a read was fed, and what it decides is written
   pub SoFar-fed : (octets text all fed : List ℕ) (last next : P) (now after : Future) → SoFar moves first future (standing_at Going all text) last

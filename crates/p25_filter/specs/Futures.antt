@@ -1,8 +1,9 @@
 -- What a command at work still writes, and how it ends, for the octets that may still come.
-use Rattle.std.specs.Prelude.{◌≡◌, ℕ, Bool, true, false, List, [], ◌++◌, Contains, Option, Some, None, Result, Ok, Err}
+use Rattle.std.specs.Prelude.{◌≡◌, ℕ, Bool, true, false, List, [], ◌++◌, Contains, Option, Some, None, Result, Ok, Err, ◌⊎◌}
 use Rattle.p25_io.specs.Events.{Event}
-use Rattle.p25_filter.specs.{declared.ending.Ending.{Ending}, declared.ending.Refusal.{Refusal}, declared.ending.Refusal.TheVariants.{Ended, Memory}}
-use Rattle.p25_filter.specs.{declared.ending.Stop.{Stop}, declared.ending.Stop.TheVariants.{Fault, Refused}, Writes.{Begins, Written, CutShort}}
+use Rattle.p25_filter.specs.{declared.ending.Ending.{Ending}, declared.ending.FilterEnd.{FilterEnd}, declared.ending.Refusal.{Refusal}}
+use Rattle.p25_filter.specs.declared.ending.FilterEnd.TheVariants.{Ended as FilterEnded, Memory as FilterMemory, WriteFault}
+use Rattle.p25_filter.specs.{declared.ending.Refusal.TheVariants.{Ended, Memory}, Writes.{Begins, Written, CutShort}}
 
 -- for each list of octets that may come, the last ones of the input or not: what is written for them, how the call ends by
 -- them, if it does, and the texts after which memory may be wanting
@@ -102,14 +103,20 @@ pub record IsPausedAtEnd {P : Type 0} (moves : P → List Event → P → Type 0
   pub pauses : Contains (before.pauses true []) text
   pub begins : Begins text (before.writes true [])
 
--- why the work stopped
-unfoldable pub IsStopped : {P : Type 0} → (P → List Event → P → Type 0) → P → List ℕ → Future → List ℕ → Stop → P → Type 0
-IsStopped moves first gathered before octets Fault last = IsCutOff moves first gathered before octets last
-IsStopped moves first gathered before octets (Refused (Ended ending)) last = IsEnded moves first gathered before octets ending last
-IsStopped moves first gathered before octets (Refused Memory) last = IsPaused moves first gathered before octets last
+-- what was gathered is written before the work ends so, or that write fails
+abbrev pub IsWrittenOut : {P : Type 0} → (P → List Event → P → Type 0) → P → List ℕ → FilterEnd → FilterEnd → P → Type 0
+IsWrittenOut moves first gathered so end last = ((end ≡ so) × Written moves first gathered last) ⊎ ((end ≡ WriteFault) × CutShort moves first gathered last)
+
+-- how the work ends that stopped before the next read
+unfoldable pub IsStopped : {P : Type 0} → (P → List Event → P → Type 0) → P → List ℕ → Future → List ℕ → FilterEnd → P → Type 0
+IsStopped moves first gathered before octets (FilterEnded ending) last = IsEnded moves first gathered before octets ending last
+IsStopped moves first gathered before octets FilterMemory last = IsPaused moves first gathered before octets last
+IsStopped moves first gathered before octets WriteFault last = IsCutOff moves first gathered before octets last
+IsStopped moves first gathered before octets _ last = ⊥
 
 -- the input ended, and so the work
-unfoldable pub EndsBy : {P : Type 0} → (P → List Event → P → Type 0) → P → Future → Stop → P → Type 0
-EndsBy moves first before Fault last = IsCutOffAtEnd moves first before last
-EndsBy moves first before (Refused Memory) last = IsPausedAtEnd moves first before last
-EndsBy moves first before (Refused (Ended ending)) last = Written moves first (before.writes true []) last × (before.ends true [] ≡ Some ending)
+unfoldable pub EndsBy : {P : Type 0} → (P → List Event → P → Type 0) → P → Future → FilterEnd → P → Type 0
+EndsBy moves first before (FilterEnded ending) last = Written moves first (before.writes true []) last × (before.ends true [] ≡ Some ending)
+EndsBy moves first before FilterMemory last = IsPausedAtEnd moves first before last
+EndsBy moves first before WriteFault last = IsCutOffAtEnd moves first before last
+EndsBy moves first before _ last = ⊥

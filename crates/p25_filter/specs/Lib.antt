@@ -1,7 +1,6 @@
 pub mod Writes
 pub mod Futures
 pub mod Pages
-pub mod Endings
 pub mod Runs
 pub mod Traces
 pub mod Orders

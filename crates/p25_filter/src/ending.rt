@@ -64,28 +64,3 @@ impl fmt::Display for FilterEnd {
         }
     }
 }
-
-// Why the work stopped before the next read.
-#[derive(Clone, Copy, Debug, PartialEq, Eq)]
-pub(crate) enum Stop {
-    // A write failed.
-    Fault,
-    // The input ended or was refused, or there was not enough memory; all before that is written.
-    Refused(Refusal),
-}
-
-impl Stop {
-    ghost use Rattle.std.specs.Prelude.{◌≡◌};
-    ghost use Rattle.p25_filter.specs.Endings.{end_of};
-
-    // Answers how the work ended.
-    pub(crate) fn end(self) -> FilterEnd
-        ensures { result ≡ end_of self }
-    {
-        match self {
-            Stop::Fault => FilterEnd::WriteFault,
-            Stop::Refused(Refusal::Ended(ending)) => FilterEnd::Ended(ending),
-            Stop::Refused(Refusal::Memory) => FilterEnd::Memory,
-        }
-    }
-}

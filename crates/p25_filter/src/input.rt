@@ -1,10 +1,10 @@
 //! The work on an input: reading it in pieces, handing its octets to a command, and writing what the command gives.
 
-ghost use Rattle.std.specs.Prelude.{◌≡◌, ℕ, ◌+◌, ◌*◌, ◌^◌, ◌<◌, ◌≤◌, ◌⊎◌, false, true, List, [], ◌∷◌, length, take, OnOk, IfErr};
+ghost use Rattle.std.specs.Prelude.{◌≡◌, ℕ, ◌+◌, ◌*◌, ◌^◌, ◌<◌, ◌≤◌, false, true, List, [], ◌∷◌, length, take, OnOk, IfErr};
 ghost use Rattle.p25_io.specs.Events.{Event};
-ghost use Rattle.p25_filter.specs.{Endings.{end_of}, Futures.{EndsBy, IsIdle, IsStopped, Moved}, Traces.{IsRun}, Writes.{Written, CutShort}};
+ghost use Rattle.p25_filter.specs.{Futures.{EndsBy, IsIdle, IsStopped, IsWrittenOut, Moved}, Traces.{IsRun}};
 
-use super::ending::{FilterEnd, Refusal, Stop};
+use super::ending::{FilterEnd, Refusal};
 use super::filter::Filter;
 use super::page::{flush, gather};
 use p25_io::Port;
@@ -13,15 +13,13 @@ use p25_line::Line;
 // The most octets of an input.
 const INPUT_MOST: usize = 16_777_216;
 
-// Writes the page, after which there is no further piece.
-fn refused<P: Port>(refusal: Refusal, page: &mut Line, port: &mut P) -> Stop
-    ensures refused { result ≡ Stop.Refused refusal → Written P.moves port.old page.old port.new }
-    ensures fault { result ≡ Stop.Fault → CutShort P.moves port.old page.old port.new }
-    ensures one { (result ≡ Stop.Refused refusal) ⊎ (result ≡ Stop.Fault) }
+// Writes the page, after which there is no further piece, and answers how the work ends: so, or by a write that fails.
+fn end_so<P: Port>(end: FilterEnd, page: &mut Line, port: &mut P) -> FilterEnd
+    ensures { IsWrittenOut P.moves port.old page.old end result port.new }
 {
     match flush(page, port) {
-        Ok(()) => Stop::Refused(refusal),
-        Err(_) => Stop::Fault,
+        Ok(()) => end,
+        Err(_) => FilterEnd::WriteFault,
     }
 }
 
@@ -31,7 +29,7 @@ fn drain<W: Filter, P: Port>(
     page: &mut Line,
     piece: &mut Line,
     port: &mut P,
-) -> Result<(), Stop>
+) -> Result<(), FilterEnd>
     ensures moved { OnOk result (Moved P.moves port.old page.old (W.future filter.old) [] port.new page.new (W.future filter.new)) }
     ensures drained { OnOk result (W.IsDrained filter.new) }
     ensures idle { OnOk result (IsIdle (W.is_finished filter.new) (W.future filter.new)) }
@@ -43,11 +41,14 @@ fn drain<W: Filter, P: Port>(
         match filter.next(piece) {
             Ok(true) => {
                 let Ok(()) = gather(page, piece, port) else {
-                    return Err(Stop::Fault);
+                    return Err(FilterEnd::WriteFault);
                 };
             }
             Ok(false) => return Ok(()),
-            Err(refusal) => return Err(refused(refusal, page, port)),
+            Err(Refusal::Ended(ending)) => {
+                return Err(end_so(FilterEnd::Ended(ending), page, port));
+            }
+            Err(Refusal::Memory) => return Err(end_so(FilterEnd::Memory, page, port)),
         }
     }
 }
@@ -59,7 +60,7 @@ fn feed<W: Filter, P: Port>(
     page: &mut Line,
     piece: &mut Line,
     port: &mut P,
-) -> Result<(), Stop>
+) -> Result<(), FilterEnd>
     requires drained { W.IsDrained filter.old }
     requires idle { IsIdle false (W.future filter.old) }
     requires going { W.is_finished filter.old ≡ false }
@@ -82,12 +83,17 @@ fn feed<W: Filter, P: Port>(
     }
     match flush(page, port) {
         Ok(()) => Ok(()),
-        Err(_) => Err(Stop::Fault),
+        Err(_) => Err(FilterEnd::WriteFault),
     }
 }
 
 // Tells the command that the input has ended, and writes all that it gives.
-fn end<W: Filter, P: Port>(filter: &mut W, page: &mut Line, piece: &mut Line, port: &mut P) -> Stop
+fn end<W: Filter, P: Port>(
+    filter: &mut W,
+    page: &mut Line,
+    piece: &mut Line,
+    port: &mut P,
+) -> FilterEnd
     requires drained { W.IsDrained filter.old }
     requires going { W.is_finished filter.old ≡ false }
     requires few { W.size filter.old < 2 ^ 28 }
@@ -98,7 +104,7 @@ fn end<W: Filter, P: Port>(filter: &mut W, page: &mut Line, piece: &mut Line, po
     if let Err(stop) = drain(filter, page, piece, port) {
         return stop;
     }
-    refused(Refusal::Ended(filter.ending()), page, port)
+    end_so(FilterEnd::Ended(filter.ending()), page, port)
 }
 
 /// Reads the port to the end of the input, at most 16,777,216 octets, hands the octets to the command and writes what it gives.
@@ -120,12 +126,12 @@ pub fn run_on<W: Filter, P: Port>(filter: &mut W, port: &mut P) -> FilterEnd
             return FilterEnd::ReadFault;
         };
         if count == 0 {
-            return end(filter, &mut page, &mut piece, port).end();
+            return end(filter, &mut page, &mut piece, port);
         }
         let fits = count.min(INPUT_MOST - taken);
         match feed(filter, &buf[..fits], &mut page, &mut piece, port) {
             Ok(()) => {}
-            Err(stop) => return stop.end(),
+            Err(stop) => return stop,
         }
         if fits < count {
             return FilterEnd::TooLong;

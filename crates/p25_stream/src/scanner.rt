@@ -1,6 +1,6 @@
 //! A scanner of bits that come octet by octet.
 
-ghost use Rattle.std.specs.Prelude.{◌≡◌, ◌+◌, ◌%◌, ◌^◌, ◌<◌, ◌≤◌, ◌↔◌, ◌++◌, [], true, false, length, take, drop, IsTrue, IfSome, MatchOption};
+ghost use Rattle.std.specs.Prelude.{◌≡◌, ◌+◌, ◌^◌, ◌<◌, ◌≤◌, ◌↔◌, ◌++◌, [], true, false, length, take, drop, IsTrue, IfSome, MatchOption};
 ghost use Rattle.p25_bits.specs.Bits.{bits_of, octet_bits};
 ghost use Rattle.p25_stream.specs.Scan.{Gave, given, octets_taken};
 ghost use Rattle.p25_units.specs.Items.{IsSoundItem, covered};
@@ -56,25 +56,6 @@ impl Scanner {
             held,
             room: BitBuf::new(),
             place: 0,
-            finished: false,
-            judged,
-        }
-    }
-
-    /// Answers a scanner that begins at a place, which may be within an octet of the stream: this one, whose bits it holds from
-    /// that place on.
-    pub fn at(place: u64, octet: u8) -> Scanner
-        requires { place < 2 ^ 60 }
-        ensures { result ≡ record { place = place; held = drop (place % 8) (bits_of 8 octet); finished = false } }
-    {
-        let mut held = BitBuf::new();
-        held.put_field(u64::from(octet), 8);
-        held.drop_front((place % 8) as usize);
-        let judged = judged_anew(&held);
-        Scanner {
-            held,
-            room: BitBuf::new(),
-            place,
             finished: false,
             judged,
         }

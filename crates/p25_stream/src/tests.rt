@@ -73,26 +73,6 @@ fn items_without_their_bits(rt: HostRuntime) {
     assert!(rt; gap_comes_without_its_bits());
 }
 
-// Whether the last five bits of an octet, held from bit 11 on, come as a gap with these bits.
-fn five_bits_are_a_gap() -> bool {
-    let mut scanner = Scanner::at(11, 0xA7);
-    let mut raw = BitBuf::new();
-    if scanner.held() != 5 {
-        return false;
-    }
-    scanner.finish();
-    scanner
-        .next(&mut raw)
-        .is_some_and(|item| is_gap(&item, 11, 5))
-        && raw.len() == 5
-        && raw.field(0, 5) == 0x07
-}
-
-#[test]
-fn a_place_within_an_octet(rt: HostRuntime) {
-    assert!(rt; five_bits_are_a_gap());
-}
-
 // Whether eight of nine octets are taken at once, and the ninth then.
 fn nine_octets_are_taken() -> bool {
     let mut scanner = Scanner::new();

@@ -63,7 +63,8 @@ fn terminator_comes() -> bool {
     }
 }
 
-// Whether a sync without a unit is given with one bit, the first, in place of those that were there.
+// Whether a sync without a unit is given with one bit, the first, in place of those that were there, and the bits after it, which begin
+// within an octet, as a gap from there on.
 fn sync_alone_comes() -> bool {
     let mut scanner = Scanner::new();
     let mut raw = BitBuf::new();
@@ -74,13 +75,20 @@ fn sync_alone_comes() -> bool {
     if scanner.push_some(&FAR[8..]) != 8 {
         return false;
     }
-    match scanner.next(&mut raw) {
+    let is_sync = match scanner.next(&mut raw) {
         Some(Item::NoUnit { place, field }) => {
             place == 0
                 && field == Field::Nid
                 && raw.len() == 1
                 && raw.field(0, 1) == 0
                 && scanner.held() == 127
+        }
+        _ => false,
+    };
+    scanner.finish();
+    match scanner.next(&mut raw) {
+        Some(Item::Gap { place, length }) => {
+            is_sync && place == 1 && length == 127 && raw.len() == 127 && raw.field(0, 15) == 0x5575
         }
         _ => false,
     }

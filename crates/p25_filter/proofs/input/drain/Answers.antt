@@ -1,6 +1,6 @@
 use Rattle.std.proofs.Common.{[], refl, sym, subst, arith, ◌∙◌}
 use Rattle.p25_filter.specs.Futures.{Future, Moved}
-use Rattle.p25_filter.proofs.{FuturesLaws.{Moved-none, Moved-trans, Moved-piece, IsCutOff-page}, InputLaws.{piece-given, piece-none, piece-refused, stopped-fault, stopped-page}}
+use Rattle.p25_filter.proofs.{FuturesLaws.{Moved-none, Moved-trans, Moved-piece, IsCutOff-page}, InputLaws.{ended-page, paused-page, piece-given, piece-none, piece-refused, stopped-fault}}
 use Rattle.p25_filter.proofs.input.drain.Goals as goal
 
 pub loop-page-preserved : goal.loop-page-preserved
@@ -30,13 +30,15 @@ returns-in-Ok-false-clause-moved g c =
     let same = piece-none _ _ _ _ c.in-Ok-false.ensures.piece c.in-Ok-false.field-0-test in
     subst (λ (future : Future). Moved moves c.args.port.now c.args.page.now (g.W.Filter.future c.args.filter.now) [] c.loop-page.port c.loop-page.page future) (sym same) c.loop-page.invariant.moved
 
-pub returns-in-Err-clause-stopped : goal.returns-in-Err-clause-stopped
-returns-in-Err-clause-stopped g c =
-    let moves = g.P.Port.moves in
-    let stays = g.met.P.Port.stays in
-    let joins = g.met.P.Port.joins in
-    let refused = piece-refused _ _ _ _ c.in-Err.ensures.piece in
-    stopped-page moves stays joins _ _ _ _ _ [] _ _ _ _ c.loop-page.invariant.moved refused c.refused.ensures.refused c.refused.ensures.fault c.refused.ensures.one
+pub returns-in-Err-Ended-clause-stopped : goal.returns-in-Err-Ended-clause-stopped
+returns-in-Err-Ended-clause-stopped g c =
+    ended-page g.P.Port.moves g.met.P.Port.stays g.met.P.Port.joins _ _ _ _ _ [] _ _ _ _ c.loop-page.invariant.moved
+    (piece-refused _ _ _ _ (rw c.in-Err-Ended.field-0-is at c.in-Err-Ended.ensures.piece)) c.end_so.ensures
+
+pub returns-in-Err-Memory-clause-stopped : goal.returns-in-Err-Memory-clause-stopped
+returns-in-Err-Memory-clause-stopped g c =
+    paused-page g.P.Port.moves g.met.P.Port.stays g.met.P.Port.joins _ _ _ _ _ [] _ _ _ c.loop-page.invariant.moved
+    (piece-refused _ _ _ _ (rw c.in-Err-Memory.field-0-is at c.in-Err-Memory.ensures.piece)) c.end_so-in-Err-Memory.ensures
 
 pub loop-page-init : goal.loop-page-init
 loop-page-init g c = record {

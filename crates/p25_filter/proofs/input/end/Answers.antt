@@ -16,4 +16,4 @@ returns g c =
     let joins = g.met.P.Port.joins in
     ends-page moves stays joins _ _ _ _ _ _ _ _ _ _ c.finish.ensures.closed c.requires.empty c.in_default.ensures.moved
     (idle-finished _ _ _ c.in_default.ensures.idle c.drain.ensures.same c.finish.ensures.finished)
-    c.ending.ensures c.refused.ensures.refused c.refused.ensures.fault c.refused.ensures.one
+    c.ending.ensures c.end_so.ensures

@@ -1,7 +1,7 @@
-use Rattle.std.proofs.Common.{◌≡◌, ◌≤◌, ℕ, ◌-◌, List, [], ◌++◌, length, take, min, ap, sym, subst, ◌∙◌, arith, length-append, length-take}
-use Rattle.p25_filter.specs.{declared.ending.FilterEnd.{FilterEnd}, Futures.{Moved}, Runs.{input_most}, Traces.{Going, standing_at}}
-use Rattle.p25_filter.proofs.InputLaws.{on-blank_page}
-use Rattle.p25_filter.proofs.TracesLaws.{Came, Came-ended, Came-read_fault, Came-stopped, Came-too_long, Progress-moved, Progress-none, SoFar, SoFar-fed, SoFar-none, SoFar-over, SoFar-read, first-fed, first-read, settled}
+use Rattle.std.proofs.Common.{◌≡◌, ℕ, [], ◌++◌, take, ap, sym, subst, ◌∙◌, arith, length-append, length-take}
+use Rattle.p25_filter.specs.Traces.{Going, standing_at}
+use Rattle.p25_filter.proofs.InputLaws.{Moved-blank, on-blank_page}
+use Rattle.p25_filter.proofs.TracesLaws.{Came-ended, Came-read_fault, Came-stopped, Came-too_long, Progress-moved, Progress-none, SoFar, SoFar-fed, SoFar-none, SoFar-over, SoFar-read, first-fed, settled}
 use Rattle.p25_filter.proofs.input.run_on.Goals as goal
 
 pub loop-count-init : goal.loop-count-init
@@ -37,8 +37,7 @@ returns-then-count-eq0 g c =
     let is_settled = settled future _ inv.octets inv.text (omega (arith, inv.count, inv.few)) inv.progress inv.idle in
     let none : take c.in-Ok.count c.read.new.buf ≡ [] = ap (λ (n : ℕ). take n c.read.new.buf) c.if-count-eq0.true in
     let over = SoFar-over moves stays joins first future inv.octets inv.text _ _ _ inv.so_far is_settled c.in-Ok.ensures.given.1 none in
-    subst (λ (e : FilterEnd). Came moves first future c.end.new.port e) (sym c.end-then-count-eq0.ensures)
-    (Came-ended moves stays joins first future inv.octets inv.text c.read.new.self c.end.new.port _ c.end.result over inv.progress c.end.ensures)
+    Came-ended moves stays joins first future inv.octets inv.text c.read.new.self c.end.new.port _ c.end.result over inv.progress c.end.ensures
 
 pub returns-in-Err : goal.returns-in-Err
 returns-in-Err g c =
@@ -46,23 +45,13 @@ returns-in-Err g c =
     let moves = g.P.Port.moves in
     let stays = g.met.P.Port.stays in
     let joins = g.met.P.Port.joins in
-    let first = c.args.port.now in
-    let future = g.W.Filter.future c.args.filter.now in
-    let given = c.in-Ok.ensures.given in
     let buf = c.read.new.buf in
-    let count = c.in-Ok.count in
-    let fits = c.min-fits.result in
-    let few : length inv.octets ≤ input_most = omega (arith, inv.count, inv.few) in
-    let read = take count buf in
-    let so_far =
-    SoFar-read moves stays joins first future inv.octets inv.text buf count _ _ _ inv.so_far few inv.progress inv.idle given.1 (omega (arith, c.if-count-eq0.false))
-    given.0 (omega (arith, inv.buffer, c.read.ensures.room)) in
-    let fit : fits ≡ min count (input_most - length inv.octets) = omega (arith, c.min-fits.ensures, inv.count) in
-    let fed = c.in-Err.ensures.stopped.0 in
+    let read =
+    SoFar-read moves stays joins _ _ inv.octets inv.text buf c.in-Ok.count c.min-fits.result _ _ _ inv.so_far (omega (arith, inv.count, inv.few)) inv.progress inv.idle
+    c.in-Ok.ensures.given (omega (arith, c.if-count-eq0.false)) (omega (arith, inv.buffer, c.read.ensures.room)) (omega (arith, c.min-fits.ensures, inv.count)) in
     let stopped = on-blank_page moves stays joins _ _ _ _ _ _ inv.empty c.in-Err.ensures.stopped.1 in
-    subst (λ (e : FilterEnd). Came moves first future c.feed.new.port e) (sym c.end-in-Err.ensures)
-    (Came-stopped moves stays joins first future inv.octets inv.text (inv.octets ++ read) _ _ c.read.new.self c.feed.new.port _ c.in-Err.stop so_far inv.progress
-    (first-fed inv.octets buf (inv.octets ++ read) fits fed (first-read inv.octets buf count fits few given.0 fit)) stopped)
+    Came-stopped moves stays joins _ _ inv.octets inv.text (inv.octets ++ take c.in-Ok.count buf) _ _ _ _ _ c.in-Err.stop read.0 inv.progress
+    (first-fed inv.octets buf (inv.octets ++ take c.in-Ok.count buf) c.min-fits.result c.in-Err.ensures.stopped.0 read.1) stopped
 
 pub returns-then-fits-count : goal.returns-then-fits-count
 returns-then-fits-count g c =
@@ -70,26 +59,18 @@ returns-then-fits-count g c =
     let moves = g.P.Port.moves in
     let stays = g.met.P.Port.stays in
     let joins = g.met.P.Port.joins in
-    let first = c.args.port.now in
-    let future = g.W.Filter.future c.args.filter.now in
-    let given = c.in-Ok.ensures.given in
     let buf = c.read.new.buf in
-    let count = c.in-Ok.count in
-    let fits = c.min-fits.result in
-    let few : length inv.octets ≤ input_most = omega (arith, inv.count, inv.few) in
-    let read = take count buf in
-    let so_far =
-    SoFar-read moves stays joins first future inv.octets inv.text buf count _ _ _ inv.so_far few inv.progress inv.idle given.1 (omega (arith, c.if-count-eq0.false))
-    given.0 (omega (arith, inv.buffer, c.read.ensures.room)) in
-    let fit : fits ≡ min count (input_most - length inv.octets) = omega (arith, c.min-fits.ensures, inv.count) in
-    let whole = first-read inv.octets buf count fits few given.0 fit in
-    let moved =
-    subst (λ (zs : List ℕ). Moved moves c.read.new.self zs (g.W.Filter.future c.loop-count.filter) (take fits buf) c.feed.new.port [] (g.W.Filter.future c.feed.new.filter))
-    inv.empty c.in-Ok-feed.ensures.moved in
-    Came-too_long moves stays joins first future (inv.octets ++ take fits buf) (inv.text ++ moved.text) (inv.octets ++ read) c.feed.new.port _
-    (SoFar-fed moves stays joins first future inv.octets inv.text (inv.octets ++ read) (take fits buf) _ _ _ _ so_far inv.progress whole moved)
-    (Progress-moved moves _ _ future _ _ inv.octets inv.text (take fits buf) inv.progress moved) whole
-    (omega (arith, length-append inv.octets read, length-take count buf, given.0, c.if-fits-count.true, fit)) c.in-Ok-feed.ensures.idle
+    let read =
+    SoFar-read moves stays joins _ _ inv.octets inv.text buf c.in-Ok.count c.min-fits.result _ _ _ inv.so_far (omega (arith, inv.count, inv.few)) inv.progress inv.idle
+    c.in-Ok.ensures.given (omega (arith, c.if-count-eq0.false)) (omega (arith, inv.buffer, c.read.ensures.room)) (omega (arith, c.min-fits.ensures, inv.count)) in
+    let fed = take c.min-fits.result buf in
+    let all = inv.octets ++ take c.in-Ok.count buf in
+    let moved = Moved-blank moves stays joins _ _ _ _ _ _ _ inv.empty c.in-Ok-feed.ensures.moved in
+    Came-too_long moves stays joins _ _ (inv.octets ++ fed) (inv.text ++ moved.text) all c.feed.new.port _
+    (SoFar-fed moves stays joins _ _ inv.octets inv.text all fed _ _ _ _ read.0 inv.progress read.1 moved)
+    (Progress-moved moves _ _ _ _ _ inv.octets inv.text fed inv.progress moved) read.1
+    (omega (arith, length-append inv.octets (take c.in-Ok.count buf), length-take c.in-Ok.count buf, c.in-Ok.ensures.given.0, c.if-fits-count.true, c.min-fits.ensures, inv.count))
+    c.in-Ok-feed.ensures.idle
 
 pub loop-count-preserved : goal.loop-count-preserved
 loop-count-preserved g c =
@@ -97,31 +78,22 @@ loop-count-preserved g c =
     let moves = g.P.Port.moves in
     let stays = g.met.P.Port.stays in
     let joins = g.met.P.Port.joins in
-    let first = c.args.port.now in
-    let future = g.W.Filter.future c.args.filter.now in
-    let given = c.in-Ok.ensures.given in
     let buf = c.read.new.buf in
-    let count = c.in-Ok.count in
+    let read =
+    SoFar-read moves stays joins _ _ inv.octets inv.text buf c.in-Ok.count c.min-fits.result _ _ _ inv.so_far (omega (arith, inv.count, inv.few)) inv.progress inv.idle
+    c.in-Ok.ensures.given (omega (arith, c.if-count-eq0.false)) (omega (arith, inv.buffer, c.read.ensures.room)) (omega (arith, c.min-fits.ensures, inv.count)) in
     let fits = c.min-fits.result in
-    let few : length inv.octets ≤ input_most = omega (arith, inv.count, inv.few) in
-    let read = take count buf in
-    let so_far =
-    SoFar-read moves stays joins first future inv.octets inv.text buf count _ _ _ inv.so_far few inv.progress inv.idle given.1 (omega (arith, c.if-count-eq0.false))
-    given.0 (omega (arith, inv.buffer, c.read.ensures.room)) in
-    let fit : fits ≡ min count (input_most - length inv.octets) = omega (arith, c.min-fits.ensures, inv.count) in
-    let whole = first-read inv.octets buf count fits few given.0 fit in
-    let same : fits ≡ count = omega (arith, fit, c.if-fits-count.false) in
-    let moved =
-    subst (λ (zs : List ℕ). Moved moves c.read.new.self zs (g.W.Filter.future c.loop-count.filter) (take fits buf) c.feed.new.port [] (g.W.Filter.future c.feed.new.filter))
-    inv.empty c.in-Ok-feed.ensures.moved in
+    let fed = take fits buf in
+    let same : fits ≡ c.in-Ok.count = omega (arith, c.min-fits.ensures, c.if-fits-count.false) in
+    let moved = Moved-blank moves stays joins _ _ _ _ _ _ _ inv.empty c.in-Ok-feed.ensures.moved in
     record {
-      octets = inv.octets ++ take fits buf;
+      octets = inv.octets ++ fed;
       text = inv.text ++ moved.text;
       so_far =
-          subst (λ (n : ℕ). SoFar moves first future (standing_at Going (inv.octets ++ take n buf) (inv.text ++ moved.text)) c.feed.new.port) (sym same)
-          (SoFar-fed moves stays joins first future inv.octets inv.text (inv.octets ++ read) (take fits buf) _ _ _ _ so_far inv.progress whole moved);
-      progress = Progress-moved moves _ _ future _ _ inv.octets inv.text (take fits buf) inv.progress moved;
-      count = omega (arith, length-append inv.octets (take fits buf), length-take fits buf, given.0, inv.count, same);
+          subst (λ (n : ℕ). SoFar moves c.args.port.now (g.W.Filter.future c.args.filter.now) (standing_at Going (inv.octets ++ take n buf) (inv.text ++ moved.text)) c.feed.new.port) (sym same)
+          (SoFar-fed moves stays joins _ _ inv.octets inv.text (inv.octets ++ take c.in-Ok.count buf) fed _ _ _ _ read.0 inv.progress read.1 moved);
+      progress = Progress-moved moves _ _ _ _ _ inv.octets inv.text fed inv.progress moved;
+      count = omega (arith, length-append inv.octets fed, length-take fits buf, c.in-Ok.ensures.given.0, inv.count, same);
       drained = c.in-Ok-feed.ensures.drained;
       idle = c.in-Ok-feed.ensures.idle;
       going = c.feed.ensures.going;
