@@ -4,7 +4,7 @@ use Rattle.std.proofs.Common.{◌≡◌, ◌≢◌, ℕ, zero, suc, ◌+◌, ◌
 use Rattle.std.proofs.lemmas.Bool.{cases_eq}
 use Rattle.std.specs.Prelude.{IfOk}
 use Rattle.p25_bits.proofs.NumbersLaws.{joined_below-zero, joined_below-suc}
-use Rattle.p25_status.specs.{declared.fields.Field.{Field}, declared.outcome.Outcome.TheVariants.{Failing}, Outcomes.{outcome_of, IfRead}}
+use Rattle.p25_status.specs.{declared.fields.Field.{Field}, declared.read_outcome.ReadOutcome.TheVariants.{Failing}, Outcomes.{outcome_of, IfRead}}
 use Rattle.p25_trellis.specs.{Nearest.{nearest_distance, half_octets}, Tables.{half_point}}
 use Rattle.p25_trellis.proofs.NearestBlockLaws.{nearest_distance-le}
 use Rattle.p25_packet_blocks.specs.{declared.head.PacketHead.{PacketHead}, declared.head.ReadHead.{ReadHead}, declared.block.Slot.{Slot}, declared.block.Slot.TheVariants.{Good, Bad}}

@@ -2,7 +2,7 @@
 use Rattle.std.specs.Prelude.{ℕ, ◌+◌, Bool, List, [], ◌∷◌, length, slice_index_or, Result, Ok, Err, if◌then◌else◌, ◌==◌}
 use Rattle.p25_bits.specs.Numbers.{joined_below}
 use Rattle.p25_status.specs.{Outcomes.{outcome_of}, declared.fields.Field.{Field}, declared.fields.Field.TheVariants.{Block}}
-use Rattle.p25_status.specs.declared.outcome.Outcome.{Outcome}
+use Rattle.p25_status.specs.declared.read_outcome.ReadOutcome.{ReadOutcome}
 use Rattle.p25_packet_blocks.specs.{declared.head.PacketHead.{PacketHead}, declared.head.ReadHead.{ReadHead}, declared.block.Slot.{Slot}}
 use Rattle.p25_packet_blocks.specs.{declared.block.Slot.TheVariants.{Good, Bad}, declared.packet.Packet.{Packet}}
 use Rattle.p25_packet_blocks.specs.{declared.packet.Packet.TheVariants.{Confirmed, Plain}, Fixes.{half_distance, three_quarter_distance}}
@@ -38,5 +38,5 @@ packet_failing (Err field) = field ∷ []
 packet_failing (Ok packet) = failing_blocks_of packet
 
 -- what the reading of a unit (PDU) answers after its header was read
-unfoldable pub packet_outcome_of : ReadHead → List Bool → Outcome
+unfoldable pub packet_outcome_of : ReadHead → List Bool → ReadOutcome
 packet_outcome_of read bare = outcome_of (packet_failing (packet_of_head read.head bare)) (read.wrong + body_distance read.head bare)

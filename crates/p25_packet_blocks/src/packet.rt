@@ -9,7 +9,7 @@ use crate::block::{Slot, Slots};
 use crate::head::{CONFIRMED_FORMAT, PLAIN_FORMAT, PacketHead, RESPONSE_FORMAT, ReadHead};
 use crate::read::{BLOCK_LENGTH, BLOCKS_AT, check_agrees, read_slots};
 use p25_bits::BitBuf;
-use p25_status::{BoundedList, Field, FieldList, Outcome};
+use p25_status::{BoundedList, Field, FieldList, ReadOutcome};
 use p25_trellis::{Half, read_block};
 use std::marker::Model;
 
@@ -134,7 +134,7 @@ impl Packet {
     /// how many bits of its header block and its other blocks were put right. Format and PacketCrc come as in `read_packet`, alone;
     /// else a block fails exactly where its slot is Bad, and the packet is set still. A packet is large: set in place it is not
     /// moved. TIA-102.BAAA, Packet Data.
-    pub fn read(&mut self, read: ReadHead, bare: &BitBuf) -> Outcome
+    pub fn read(&mut self, read: ReadHead, bare: &BitBuf) -> ReadOutcome
         requires head { read_head_of (header_bits bare.now) ≡ Ok read }
         requires there { 308 + 196 * head_blocks read.head ≤ length bare.now }
         ensures outcome { result ≡ packet_outcome_of read bare.now }
@@ -142,17 +142,17 @@ impl Packet {
         ensures wrong { IfRead result (λ wrong. (nac : ℕ) → wrong ≡ packet_fixes_of nac self.new bare.now) }
     {
         match self.read_blocks(read, bare) {
-            Err(field) => Outcome::failing(field),
+            Err(field) => ReadOutcome::failing(field),
             Ok(wrong) => self.outcome(wrong),
         }
     }
 
     // What the reading of the packet (PDU) answers, where so many bits were wrong: a block fails for each slot that is Bad.
-    fn outcome(&self, wrong: u32) -> Outcome
+    fn outcome(&self, wrong: u32) -> ReadOutcome
         ensures { result ≡ outcome_of (failing_blocks_of self.now) wrong }
     {
         let Packet::Confirmed(packet) = self else {
-            return Outcome::Read { wrong };
+            return ReadOutcome::Read { wrong };
         };
         let slots = packet.slots();
         let mut failing = FieldList::new();
@@ -161,7 +161,7 @@ impl Packet {
                 failing.push(Field::Block(j as u8));
             }
         }
-        Outcome::of(failing, wrong)
+        ReadOutcome::of(failing, wrong)
     }
 
     // Becomes the packet of a header that was read and of its unit, and answers how many bits were wrong, or for which field there is

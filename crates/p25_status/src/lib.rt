@@ -21,7 +21,7 @@ mod frame_sync;
 pub mod laws;
 mod list;
 mod names;
-mod outcome;
+mod read_outcome;
 mod symbols;
 #[cfg(test)]
 mod tests;
@@ -33,6 +33,6 @@ pub use frame_sync::{
 };
 pub use list::BoundedList;
 pub use names::{put_field_name, put_field_names};
-pub use outcome::Outcome;
+pub use read_outcome::ReadOutcome;
 pub use symbols::{NotAStatus, Status, Statuses};
 pub use weaving::{BARE_BLOCK_LENGTH, SENT_BLOCK_LENGTH, unweave, weave};

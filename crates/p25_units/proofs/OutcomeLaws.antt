@@ -1,7 +1,8 @@
 -- What a reading sets in its place: a body by its voice unit or its packet, a frame by its body, an item by its frame. By cases of the
 -- outcome.
 use Rattle.std.proofs.Common.{◌≡◌, ℕ, ◌≤◌, Bool, List, [], ◌∷◌, length, refl, sym, ◌∙◌, arith, ◌+◌, ◌*◌, drop, Result, Ok, Err, ap, length-drop, length-take}
-use Rattle.p25_status.specs.{Outcomes.{IfRead, outcome_of, read_or}, declared.fields.Field.{Field}, declared.outcome.Outcome.{Outcome}, declared.outcome.Outcome.TheVariants.{Read, Failing}}
+use Rattle.p25_status.specs.{Outcomes.{IfRead, outcome_of, read_or}, declared.fields.Field.{Field}, declared.read_outcome.ReadOutcome.{ReadOutcome}}
+use Rattle.p25_status.specs.declared.read_outcome.ReadOutcome.TheVariants.{Read, Failing}
 use Rattle.p25_voice_units.specs.{Fixes.{AreFixes}, declared.unit.VoiceUnit.{VoiceUnit}}
 use Rattle.p25_packet_blocks.specs.{declared.packet.Packet.{Packet as packet_type}, Fixes.{packet_fixes_of}, Reading.{packet_reading_of, header_bits, packet_of_head, read_head_of, HasItsLength}}
 use Rattle.p25_packet_blocks.specs.{Whole.{packet_head}, declared.head.ReadHead.{ReadHead}, Heads.{head_blocks}, Image.{packet_image_of}, Lengths.{packet_bits}}
@@ -14,7 +15,7 @@ use Rattle.p25_bits.proofs.DistanceLaws.{distance_by-le}
 use Rattle.p25_packet_blocks.proofs.{OutcomeLaws.{head_reading_of-read}, ReadingLaws.{packet_reading_of-good, HasItsLength-head}}
 
 -- the wrong bits of a voice unit are those of the body
-pub voice-wrong : (outcome : Outcome) (nac : ℕ) (voice : VoiceUnit) (bare : List Bool) → IfRead outcome (λ wrong. AreFixes voice bare wrong)
+pub voice-wrong : (outcome : ReadOutcome) (nac : ℕ) (voice : VoiceUnit) (bare : List Bool) → IfRead outcome (λ wrong. AreFixes voice bare wrong)
     → IfRead outcome (λ wrong. let unit : UnitParts = record { nac = nac; body = Voice voice } in wrong ≡ body_fixes_of unit bare)
 voice-wrong (Read wrong) nac voice bare is = is.value nac ∙ sym (body_fixes_of-voice nac voice bare)
 voice-wrong (Failing fields) nac voice bare is = tt
@@ -37,7 +38,7 @@ unfolding packet_failing outcome_of packet_body_from
 outcome_reading packet (Err field) wrong same = refl
 outcome_reading packet (Ok other) wrong same = outcome_body packet other (failing_blocks_of other) wrong same
 
-pub packet_body-is : (read : ReadHead) (bare : List Bool) (packet : packet_type) (outcome : Outcome) → read_head_of (header_bits bare) ≡ Ok read → outcome ≡ packet_outcome_of read bare
+pub packet_body-is : (read : ReadHead) (bare : List Bool) (packet : packet_type) (outcome : ReadOutcome) → read_head_of (header_bits bare) ≡ Ok read → outcome ≡ packet_outcome_of read bare
     → IfOk (packet_of_head read.head bare) (λ other. packet ≡ other) → read_or outcome (Packet packet) ≡ packet_body_from (packet_reading_of bare)
 unfolding packet_outcome_of
 packet_body-is read bare packet outcome head is same =
@@ -46,7 +47,7 @@ packet_body-is read bare packet outcome head is same =
     ∙ ap packet_body_from (sym (packet_reading_of-good bare read.head (head_reading_of-read bare read head)))
 
 -- its wrong bits are those of what the unit carries
-pub packet_wrong-is : (bare : List Bool) (packet : packet_type) (unit : UnitParts) (outcome : Outcome) → unit.body ≡ Packet packet
+pub packet_wrong-is : (bare : List Bool) (packet : packet_type) (unit : UnitParts) (outcome : ReadOutcome) → unit.body ≡ Packet packet
     → IfRead outcome (λ wrong. (nac : ℕ) → wrong ≡ packet_fixes_of nac packet bare)
     → IfRead outcome (λ wrong. wrong ≡ body_fixes_of unit bare)
 unfolding packet_fixes_of
@@ -56,7 +57,7 @@ packet_wrong-is bare packet unit (Read wrong) is counted =
     counted unit.nac ∙ sym (body_fixes_of-packet unit.nac packet bare) ∙ ap (λ b. body_fixes_of (make b) bare) (sym is)
 
 -- they are at most all bits
-pub packet_wrong-le : (bare : List Bool) (packet : packet_type) (outcome : Outcome) → IfRead outcome (λ wrong. (nac : ℕ) → wrong ≡ packet_fixes_of nac packet bare)
+pub packet_wrong-le : (bare : List Bool) (packet : packet_type) (outcome : ReadOutcome) → IfRead outcome (λ wrong. (nac : ℕ) → wrong ≡ packet_fixes_of nac packet bare)
     → IfRead outcome (λ wrong. wrong ≤ length bare)
 unfolding packet_fixes_of
 packet_wrong-le bare packet (Failing fields) counted = tt
@@ -64,6 +65,6 @@ packet_wrong-le bare packet (Read wrong) counted =
     let count = 196 * (1 + head_blocks (packet_head packet)) in
     omega (arith, counted 0, distance_by-le beq (part 112 count bare) (part 112 count (packet_image_of 0 packet)), length-take count (drop 112 bare), length-drop 112 bare)
 
-pub most-le : (outcome : Outcome) (most : ℕ) → most ≤ 25200 → IfRead outcome (λ wrong. wrong ≤ most) → IfRead outcome (λ wrong. wrong ≤ 25200)
+pub most-le : (outcome : ReadOutcome) (most : ℕ) → most ≤ 25200 → IfRead outcome (λ wrong. wrong ≤ most) → IfRead outcome (λ wrong. wrong ≤ 25200)
 most-le (Read wrong) most short few = omega (arith, few, short)
 most-le (Failing fields) most short few = tt

@@ -1,8 +1,8 @@
 -- The frame of a unit that was read: its fixes are those of its front and those after it.
 use Rattle.std.proofs.Common.{◌≡◌, ℕ, ◌+◌, ◌≤◌, Bool, List, length, drop, Some, Result, Ok, Err, refl, ap, sym, subst, ◌∙◌, arith}
 use Rattle.p25_bits.specs.Bits.{part}
-use Rattle.p25_status.specs.{Woven.{bare_of, statuses_of}, Outcomes.{IfRead, read_or}, declared.fields.Field.{Field}, declared.outcome.Outcome.{Outcome}}
-use Rattle.p25_status.specs.{declared.outcome.Outcome.TheVariants.{Read, Failing}, declared.symbols.Status.{Status}}
+use Rattle.p25_status.specs.{Woven.{bare_of, statuses_of}, Outcomes.{IfRead, read_or}, declared.fields.Field.{Field}, declared.read_outcome.ReadOutcome.{ReadOutcome}}
+use Rattle.p25_status.specs.{declared.read_outcome.ReadOutcome.TheVariants.{Read, Failing}, declared.symbols.Status.{Status}}
 use Rattle.p25_unit_front.specs.Front.{front_fixes_of}
 use Rattle.p25_units.specs.{UnitParts.{UnitParts}, Fixes.{body_fixes_of, fixes_of}, Needs.{kind_need}, Readings.{body_reading_of, reading_from}, Units.{frame_length_of}, declared.frame.Frame.{Frame}}
 use Rattle.p25_units.specs.declared.needs.Need.TheVariants.{Length}
@@ -30,12 +30,12 @@ whole_fixes-is nac duid bits at count frame inside kind fits named read m n fron
     fixes_in frame bits at nac duid is.sound (record { nac_fits = small; body = is.sendable }) there (sym named) (sym is.duid) m n front rest ∙ ap (λ k. fixes_of frame (part at k bits)) long
 
 -- the outcome of a unit is that of what stands after its front, with the wrong bits of the front
-pub record IsWithFront (front : ℕ) (outcome answer : Outcome) : Type 0 where
+pub record IsWithFront (front : ℕ) (outcome answer : ReadOutcome) : Type 0 where
   pub read : (wrong : ℕ) → outcome ≡ Read wrong → answer ≡ Read (front + wrong)
   pub failing : (fields : List Field) → outcome ≡ Failing fields → answer ≡ Failing fields
 
 -- so it is what its frame is read as
-pub frame_outcome : (front : ℕ) (outcome answer : Outcome) → IsWithFront front outcome answer → (nac duid : ℕ) (sent : List Bool) (unit : UnitParts) (statuses : List Status)
+pub frame_outcome : (front : ℕ) (outcome answer : ReadOutcome) → IsWithFront front outcome answer → (nac duid : ℕ) (sent : List Bool) (unit : UnitParts) (statuses : List Status)
     → unit.nac ≡ nac → statuses ≡ statuses_of sent → read_or outcome unit.body ≡ body_reading_of duid (bare_of sent)
     → let frame : Frame = record { unit = unit; statuses = statuses } in read_or answer frame ≡ reading_from (Some (nac, duid)) sent
 frame_outcome front (Read wrong) answer is nac duid sent unit statuses named statuses_is read =
@@ -46,7 +46,7 @@ frame_outcome front (Failing fields) answer is nac duid sent unit statuses named
     ap (λ o. read_or o frame) (is.failing fields refl) ∙ reading-is (nac, duid) sent statuses (Err fields) statuses_is read
 
 -- and its wrong bits are the fixes of the frame
-pub frame_wrong : (front : ℕ) (outcome answer : Outcome) → IsWithFront front outcome answer → (nac duid : ℕ) (bits : List Bool) (at count : ℕ) (unit : UnitParts) (statuses : List Status)
+pub frame_wrong : (front : ℕ) (outcome answer : ReadOutcome) → IsWithFront front outcome answer → (nac duid : ℕ) (bits : List Bool) (at count : ℕ) (unit : UnitParts) (statuses : List Status)
     → at ≤ length bits → kind_need duid (drop at bits) ≡ Length count → nac ≤ 4095 → unit.nac ≡ nac → statuses ≡ statuses_of (part at count bits)
     → read_or outcome unit.body ≡ body_reading_of duid (bare_of (part at count bits))
     → front ≡ front_fixes_of (nac, duid) (drop at bits) → IfRead outcome (λ wrong. wrong ≡ body_fixes_of unit (bare_of (part at count bits)))

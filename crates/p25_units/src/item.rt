@@ -10,7 +10,7 @@ use crate::frame::{Frame, frame_length};
 use crate::read::read_frame;
 use p25_bch_nid::Nid;
 use p25_bits::BitBuf;
-use p25_status::{Field, FieldList, Outcome};
+use p25_status::{Field, FieldList, ReadOutcome};
 
 /// A stretch of a stream. Places count bits from the beginning of the stream.
 #[derive(Clone, Debug, Drop, PartialEq, Eq)]
@@ -160,8 +160,8 @@ pub fn unit_item_in(
                 } => {
                     *held_place = place;
                     match read_frame(bits, at, count, &read, &mut begun, room, frame) {
-                        Outcome::Read { wrong } => *fixes = wrong,
-                        Outcome::Failing { fields } => {
+                        ReadOutcome::Read { wrong } => *fixes = wrong,
+                        ReadOutcome::Failing { fields } => {
                             item.make_broken(place, count as u32, &read.nid, fields);
                         }
                     }

@@ -2,7 +2,7 @@
 
 ghost use Rattle.std.specs.Prelude.{◌≡◌, ◌+◌, ◌<◌, ◌≤◌, ℕ, IfErr, List, Some, length, drop};
 ghost use Rattle.p25_bits.specs.Bits.{part};
-ghost use Rattle.p25_status.specs.{Outcomes.{IfRead, read_or}, declared.fields.Field.{Field}, declared.outcome.Outcome.TheVariants.{Read, Failing}};
+ghost use Rattle.p25_status.specs.{Outcomes.{IfRead, read_or}, declared.fields.Field.{Field}, declared.read_outcome.ReadOutcome.TheVariants.{Read, Failing}};
 ghost use Rattle.p25_unit_front.specs.Front.{front_fixes_of};
 ghost use Rattle.p25_units.specs.{Begins.{IsBegun}, Fixes.{fixes_of}, Needs.{kind_need, need_of}, declared.needs.Need.TheVariants.{Length}};
 ghost use Rattle.p25_units.specs.Readings.{reading_from, unit_reading_of};
@@ -12,7 +12,7 @@ use crate::frame::Frame;
 use crate::item::{Item, unit_item};
 use p25_bch_nid::{PDU, ReadNid};
 use p25_bits::BitBuf;
-use p25_status::{FieldList, Outcome, unweave};
+use p25_status::{FieldList, ReadOutcome, unweave};
 
 /// Answers the frame that the `count` sent bits from place `at` on read as, where `need` answers that length there. The
 /// refusal is the list of exactly the fields that fail, in order, and is never empty: those of a voice unit, or of a packet (PDU)
@@ -40,7 +40,7 @@ pub(crate) fn read_frame(
     begun: &mut Begun,
     room: &mut BitBuf,
     frame: &mut Frame,
-) -> Outcome
+) -> ReadOutcome
     requires there { at ≤ length bits.now }
     requires kind { kind_need read.now.nid.duid (drop at bits.now) ≡ Length count }
     requires front { read.now.wrong ≡ front_fixes_of (read.now.nid.nac, read.now.nid.duid) (drop at bits.now) }
@@ -60,16 +60,16 @@ pub(crate) fn read_frame(
 }
 
 // The outcome of a unit by that of what stands after its front, with the wrong bits of the front.
-fn with_front(outcome: Outcome, front: u32) -> Outcome
+fn with_front(outcome: ReadOutcome, front: u32) -> ReadOutcome
     requires few { IfRead outcome (λ wrong. wrong ≤ 25200) }
     requires front { front ≤ 111 }
     ensures read { (wrong : ℕ) → outcome ≡ Read wrong → result ≡ Read (front + wrong) }
     ensures failing { (fields : List Field) → outcome ≡ Failing fields → result ≡ Failing fields }
 {
     match outcome {
-        Outcome::Read { wrong } => Outcome::Read {
+        ReadOutcome::Read { wrong } => ReadOutcome::Read {
             wrong: front + wrong,
         },
-        Outcome::Failing { fields } => Outcome::Failing { fields },
+        ReadOutcome::Failing { fields } => ReadOutcome::Failing { fields },
     }
 }

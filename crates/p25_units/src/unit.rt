@@ -9,7 +9,7 @@ ghost use Rattle.p25_units.specs.{Fixes.{body_fixes_of}, Readings.{body_from, pa
 use p25_bch_nid::{Nid, PDU};
 use p25_bits::BitBuf;
 use p25_packet_blocks::{Packet, ReadHead, packet_length};
-use p25_status::{BARE_BLOCK_LENGTH, Outcome, SENT_BLOCK_LENGTH};
+use p25_status::{BARE_BLOCK_LENGTH, ReadOutcome, SENT_BLOCK_LENGTH};
 use p25_voice_units::{VoiceUnit, read_voice_in};
 use std::marker::Model;
 
@@ -78,7 +78,7 @@ impl Unit {
 
     // Becomes the voice unit (HDU, LDU1, LDU2, TDU or TDULC) of a network identifier (NID) that bits without status symbols read as. Where
     // it was one, no room for a packet is moved.
-    pub(crate) fn read_voice(&mut self, nid: &Nid, bare: &BitBuf) -> Outcome
+    pub(crate) fn read_voice(&mut self, nid: &Nid, bare: &BitBuf) -> ReadOutcome
         requires { voice_length_of nid.now.duid ≡ Some (length bare.now) }
         ensures nac { self.new.nac ≡ nid.now.nac }
         ensures body { read_or result self.new.body ≡ body_from (voice_reading_of nid.now.duid bare.now) }
@@ -94,7 +94,7 @@ impl Unit {
 
     // Does what `read_voice` does, where the unit was a packet. A body takes room, which is cleared, so it is made apart from its caller.
     #[inline(never)]
-    fn read_voice_anew(&mut self, nid: &Nid, bare: &BitBuf) -> Outcome
+    fn read_voice_anew(&mut self, nid: &Nid, bare: &BitBuf) -> ReadOutcome
         requires { voice_length_of nid.now.duid ≡ Some (length bare.now) }
         ensures nac { self.new.nac ≡ nid.now.nac }
         ensures body { read_or result self.new.body ≡ body_from (voice_reading_of nid.now.duid bare.now) }
@@ -111,7 +111,7 @@ impl Unit {
     // Becomes the packet (PDU) of a unit without status symbols whose header was read, under a network access code, and answers what
     // `Packet::read` does. Where it was a packet, no room is moved. A packet takes room, so it is read apart from voice units.
     #[inline(never)]
-    pub(crate) fn read_packet(&mut self, nac: u16, read: ReadHead, bare: &BitBuf) -> Outcome
+    pub(crate) fn read_packet(&mut self, nac: u16, read: ReadHead, bare: &BitBuf) -> ReadOutcome
         requires nac { nac < 4096 }
         requires head { read_head_of (header_bits bare.now) ≡ Ok read }
         requires there { HasItsLength bare.now }

@@ -1,7 +1,7 @@
 -- The readings of voice units, kind by kind: at the DUID of a kind the definition computes to that kind's; and a unit with voice by which
 -- of its parts were read.
 use Rattle.std.proofs.Common.{◌≡◌, ℕ, Bool, List, [], Option, Some, None, option_map, ◌∷◌, ap₂, Ok, Err, Result, refl, ap, sym, ◌∙◌, ◌++◌, false, replicate}
-use Rattle.p25_status.specs.{Outcomes.{read_or}, declared.fields.Field.{Field}, declared.outcome.Outcome.{Outcome}}
+use Rattle.p25_status.specs.{Outcomes.{read_or}, declared.fields.Field.{Field}, declared.read_outcome.ReadOutcome.{ReadOutcome}}
 use Rattle.p25_unit_front.specs.Front.{unit_front}
 use Rattle.p25_voice_units.specs.{declared.unit.VoiceUnit.{VoiceUnit}, declared.unit.VoiceUnit.TheVariants.{End}, declared.voice.VoiceFrame.{VoiceFrame}, FieldLayouts.{tdulc_layout}}
 use Rattle.p25_voice_units.specs.{Images.{piece_bits, rows_bits, voice_body, voice_image_of}, Lengths.{voice_length_of}}
@@ -71,7 +71,7 @@ module _ {X : Type 0} (field : Field) (unit : X → List ℕ → VoiceUnit) wher
 
 -- a unit with voice by the outcome of its parts, its word and its voice frames
 pub ldu_read : {S X : Type 0} (field : Field) (unit : X → List ℕ → List VoiceFrame → VoiceUnit)
-    (f : S → X) (outcome : Outcome) (symbols : S) (low : List ℕ) (word : X) (voice : List VoiceFrame) (bare : List Bool) (reading : Option S)
+    (f : S → X) (outcome : ReadOutcome) (symbols : S) (low : List ℕ) (word : X) (voice : List VoiceFrame) (bare : List Bool) (reading : Option S)
     → ((made : S → List ℕ → VoiceUnit) → read_or outcome (made symbols low) ≡ ldu_from field made reading (low_in 0 bare) (low_in 1 bare)) → word ≡ f symbols → voice ≡ voice_in bare
     → read_or outcome (unit word low voice) ≡ ldu_from field (λ w octets. unit w octets (voice_in bare)) (option_map f reading) (low_in 0 bare) (low_in 1 bare)
 ldu_read field unit f outcome symbols low word voice bare reading is made spoken =

@@ -22,7 +22,7 @@
 //! voice_image(0x293, &unit, &mut bare);
 //! let mut read = VoiceUnit::End;
 //! let outcome = read_voice_in(unit.duid(), &bare, &mut read);
-//! assert!(rt; read == unit && outcome == Outcome::Read { wrong: 0 });
+//! assert!(rt; read == unit && outcome == ReadOutcome::Read { wrong: 0 });
 //! ```
 //!
 //! Contracts see a unit's bits as `voice_image_of` and what is read as `voice_reading_of`. `image_laws` says that these bits

@@ -24,7 +24,7 @@ use p25_golay::{Golay18, Golay24};
 use p25_hamming::{Hamming10, Lsd16};
 use p25_link::{EncryptionSync, HeaderWord, LinkControl};
 use p25_reed_solomon::Rs;
-use p25_status::{Field, FieldList, Outcome};
+use p25_status::{Field, FieldList, ReadOutcome};
 
 // Reads a coded field, whose inner words stand at the places, into the symbols of its information. Answers how many bits of its inner
 // words were put right; None comes exactly where the field fails.
@@ -118,7 +118,7 @@ fn read_ldu<const K: usize>(
     field: Field,
     symbols: &mut [Sym],
     low: &mut [u8; 2],
-) -> Outcome
+) -> ReadOutcome
     requires code { IsCode 24 K }
     requires there { 1680 ≤ length bare.now }
     requires room { length symbols.old ≡ K }
@@ -135,17 +135,17 @@ fn read_ldu<const K: usize>(
     let low2 = read_low(bare, 1, &mut second);
     *low = [first, second];
     match (word, low1, low2) {
-        (Some(word), Some(low1), Some(low2)) => Outcome::Read {
+        (Some(word), Some(low1), Some(low2)) => ReadOutcome::Read {
             wrong: word + low1 + low2,
         },
-        _ => Outcome::Failing {
+        _ => ReadOutcome::Failing {
             fields: failing_of(field, word, low1, low2),
         },
     }
 }
 
 // Sets `unit` to an HDU, a header.
-fn read_hdu(bare: &BitBuf, unit: &mut VoiceUnit) -> Outcome
+fn read_hdu(bare: &BitBuf, unit: &mut VoiceUnit) -> ReadOutcome
     requires { 770 ≤ length bare.now }
     ensures value { read_or result unit.new ≡ header_from (header_in bare.now) }
     ensures wrong { IfRead result (λ wrong. AreFixes unit.new bare.now wrong) }
@@ -155,14 +155,14 @@ fn read_hdu(bare: &BitBuf, unit: &mut VoiceUnit) -> Outcome
     match read_symbols::<Golay18, 36, 20>(bare, &HDU_WORDS, &mut symbols) {
         Some(wrong) => {
             *unit = VoiceUnit::Header(HeaderWord::from_symbols(&symbols));
-            Outcome::Read { wrong }
+            ReadOutcome::Read { wrong }
         }
-        None => Outcome::failing(Field::HeaderWord),
+        None => ReadOutcome::failing(Field::HeaderWord),
     }
 }
 
 // Sets `unit` to a TDULC, a terminator with link control (LC).
-fn read_tdulc(bare: &BitBuf, unit: &mut VoiceUnit) -> Outcome
+fn read_tdulc(bare: &BitBuf, unit: &mut VoiceUnit) -> ReadOutcome
     requires { 420 ≤ length bare.now }
     ensures value { read_or result unit.new ≡ tdulc_from (link_in tdulc_layout bare.now) }
     ensures wrong { IfRead result (λ wrong. AreFixes unit.new bare.now wrong) }
@@ -174,14 +174,14 @@ fn read_tdulc(bare: &BitBuf, unit: &mut VoiceUnit) -> Outcome
             *unit = VoiceUnit::EndLink {
                 link: LinkControl::from_symbols(&symbols),
             };
-            Outcome::Read { wrong }
+            ReadOutcome::Read { wrong }
         }
-        None => Outcome::failing(Field::LinkControl),
+        None => ReadOutcome::failing(Field::LinkControl),
     }
 }
 
 // Sets `unit` to a logical link data unit: by its data unit identifier (DUID) an LDU1 or an LDU2.
-fn read_logical_link(duid: u8, bare: &BitBuf, unit: &mut VoiceUnit) -> Outcome
+fn read_logical_link(duid: u8, bare: &BitBuf, unit: &mut VoiceUnit) -> ReadOutcome
     requires kind { (duid ≡ duid_ldu1) ⊎ (duid ≡ duid_ldu2) }
     requires there { 1680 ≤ length bare.now }
     ensures value { read_or result unit.new ≡ voice_reading_of duid bare.now }
@@ -194,7 +194,7 @@ fn read_logical_link(duid: u8, bare: &BitBuf, unit: &mut VoiceUnit) -> Outcome
     } else {
         read_ldu::<16>(bare, Field::EncryptionSync, &mut sync, &mut low)
     };
-    if let Outcome::Read { .. } = outcome {
+    if let ReadOutcome::Read { .. } = outcome {
         let voice = read_frames(bare);
         *unit = if duid == LDU1 {
             let link = LinkControl::from_symbols(&link);
@@ -222,15 +222,15 @@ pub fn read_voice(duid: u8, bare: &BitBuf) -> Result<VoiceUnit, FieldList>
 {
     let mut unit = VoiceUnit::End;
     match read_voice_in(duid, bare, &mut unit) {
-        Outcome::Read { .. } => Ok(unit),
-        Outcome::Failing { fields } => Err(fields),
+        ReadOutcome::Read { .. } => Ok(unit),
+        ReadOutcome::Failing { fields } => Err(fields),
     }
 }
 
 /// Sets `unit` to the voice unit that `read_voice` answers. The outcome is `Failing` exactly where that refuses, with the same
 /// fields; else it is `Read` with what `voice_fixes` answers for the unit, whatever network access code its image has: the
 /// number of wrong bits in its inner words and its low speed words. No image is made.
-pub fn read_voice_in(duid: u8, bare: &BitBuf, unit: &mut VoiceUnit) -> Outcome
+pub fn read_voice_in(duid: u8, bare: &BitBuf, unit: &mut VoiceUnit) -> ReadOutcome
     requires { voice_length_of duid ≡ Some (length bare.now) }
     ensures value { read_or result unit.new ≡ voice_reading_of duid bare.now }
     ensures wrong { IfRead result (λ wrong. AreFixes unit.new bare.now wrong) }
@@ -240,7 +240,7 @@ pub fn read_voice_in(duid: u8, bare: &BitBuf, unit: &mut VoiceUnit) -> Outcome
         HDU => read_hdu(bare, unit),
         TDU => {
             *unit = VoiceUnit::End;
-            Outcome::Read { wrong: 0 }
+            ReadOutcome::Read { wrong: 0 }
         }
         LDU1 => read_logical_link(duid, bare, unit),
         LDU2 => read_logical_link(duid, bare, unit),

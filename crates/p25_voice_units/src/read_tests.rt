@@ -5,7 +5,7 @@ use super::{
 };
 use p25_bits::BitBuf;
 use p25_link::{EncryptionSync, HeaderWord, LinkControl};
-use p25_status::{Field, Outcome};
+use p25_status::{Field, ReadOutcome};
 
 #[test]
 fn the_example_of_the_head(rt: HostRuntime) {
@@ -15,7 +15,7 @@ fn the_example_of_the_head(rt: HostRuntime) {
     voice_image(0x293, &unit, &mut bare);
     let mut read = VoiceUnit::End;
     let outcome = read_voice_in(unit.duid(), &bare, &mut read);
-    assert!(rt; read == unit && outcome == Outcome::Read { wrong: 0 });
+    assert!(rt; read == unit && outcome == ReadOutcome::Read { wrong: 0 });
 }
 
 // Bits that are inverted: the first place, a step, how many places lie such steps apart, and how many bits from each of them on.
@@ -58,14 +58,14 @@ fn is_read_as(
     let is_read = matches!(read_voice(unit.duid(), &bare), Ok(_));
     let mut read = VoiceUnit::End;
     match read_voice_in(unit.duid(), &bare, &mut read) {
-        Outcome::Read { wrong } => {
+        ReadOutcome::Read { wrong } => {
             is_read
                 && fields.len() == 0
                 && read == *other
                 && wrong == fixes
                 && voice_fixes(unit, &bare, &image) == fixes
         }
-        Outcome::Failing { fields: failing } => !is_read
+        ReadOutcome::Failing { fields: failing } => !is_read
             && fields.len() > 0
             && failing.as_slice() == fields,
     }

@@ -1,5 +1,5 @@
 use Rattle.std.proofs.Common.{◌≡◌, ℕ, refl, sym, subst, ◌∙◌}
-use Rattle.p25_status.specs.{Outcomes.{IfRead}, declared.outcome.Outcome.{Outcome}}
+use Rattle.p25_status.specs.{Outcomes.{IfRead}, declared.read_outcome.ReadOutcome.{ReadOutcome}}
 use Rattle.p25_packet_blocks.specs.{Fixes.{packet_fixes_of}, Outcomes.{failing_blocks_of}, Reading.{packet_of_head, header_bits}}
 use Rattle.p25_packet_blocks.proofs.OutcomeLaws.{read_head_of-few, packet_outcome-bad, packet_outcome-good, packet_outcome-fixes, IfOk-same, IfOk-none}
 use Rattle.p25_packet_blocks.proofs.packet.Packet.read.Goals as goal
@@ -27,6 +27,6 @@ returns-in-Ok-clause-packet c = IfOk-same c.read_blocks.new.self (packet_of_head
 pub returns-in-Ok-clause-wrong : goal.returns-in-Ok-clause-wrong
 returns-in-Ok-clause-wrong c =
     let packet = c.read_blocks.new.self in
-    subst (λ (outcome : Outcome). IfRead outcome (λ wrong. (nac : ℕ) → wrong ≡ packet_fixes_of nac packet c.args.bare.now)) (sym c.outcome.ensures)
+    subst (λ (outcome : ReadOutcome). IfRead outcome (λ wrong. (nac : ℕ) → wrong ≡ packet_fixes_of nac packet c.args.bare.now)) (sym c.outcome.ensures)
     (packet_outcome-fixes c.args.read c.args.bare.now packet c.in-Ok.wrong (failing_blocks_of packet) c.requires.head c.requires.there c.in-Ok.ensures.packet c.in-Ok.ensures.wrong
     refl)

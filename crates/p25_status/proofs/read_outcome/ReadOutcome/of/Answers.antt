@@ -1,6 +1,6 @@
 use Rattle.std.proofs.Common.{◌≡◌, ℕ, List, [], ◌∷◌, refl}
-use Rattle.p25_status.specs.{Outcomes.{outcome_of}, declared.fields.Field.{Field}, declared.outcome.Outcome.TheVariants.{Read, Failing}}
-use Rattle.p25_status.proofs.outcome.Outcome.of.Goals as goal
+use Rattle.p25_status.specs.{Outcomes.{outcome_of}, declared.fields.Field.{Field}, declared.read_outcome.ReadOutcome.TheVariants.{Read, Failing}}
+use Rattle.p25_status.proofs.read_outcome.ReadOutcome.of.Goals as goal
 
 some-failing : (fields : List Field) (wrong : ℕ) → ((fields ≡ []) → ⊥) → Failing fields ≡ outcome_of fields wrong
 unfolding outcome_of

@@ -1,13 +1,13 @@
 //! What a reading of a unit answers beside the value that it sets in place.
 
 ghost use Rattle.std.specs.Prelude.{◌≡◌, [], ◌∷◌};
-ghost use Rattle.p25_status.specs.{Outcomes.{outcome_of}, declared.outcome.Outcome.TheVariants.{Failing}};
+ghost use Rattle.p25_status.specs.{Outcomes.{outcome_of}, declared.read_outcome.ReadOutcome.TheVariants.{Failing}};
 
 use crate::fields::{Field, FieldList};
 
 /// What a reading of a unit, or of a part of it, answers beside the value that it sets in place.
 #[derive(Clone, Debug, Drop, PartialEq, Eq)]
-pub enum Outcome {
+pub enum ReadOutcome {
     /// No field fails, and the value is what was read. `wrong` is the number of looked-at bits that were received otherwise than
     /// they are sent for it: so many were put right.
     Read { wrong: u32 },
@@ -15,24 +15,24 @@ pub enum Outcome {
     Failing { fields: FieldList },
 }
 
-impl Outcome {
+impl ReadOutcome {
     /// Answers that one field fails.
-    pub fn failing(field: Field) -> Outcome
+    pub fn failing(field: Field) -> ReadOutcome
         ensures { result ≡ Failing (field ∷ []) }
     {
-        Outcome::Failing {
+        ReadOutcome::Failing {
             fields: FieldList::one(field),
         }
     }
 
     /// Answers `Read` with so many wrong bits where no field fails, else `Failing` with the fields.
-    pub fn of(fields: FieldList, wrong: u32) -> Outcome
+    pub fn of(fields: FieldList, wrong: u32) -> ReadOutcome
         ensures { result ≡ outcome_of fields wrong }
     {
         if fields.is_empty() {
-            Outcome::Read { wrong }
+            ReadOutcome::Read { wrong }
         } else {
-            Outcome::Failing { fields }
+            ReadOutcome::Failing { fields }
         }
     }
 }
