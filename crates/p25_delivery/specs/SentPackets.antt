@@ -12,6 +12,20 @@ use Rattle.p25_delivery.specs.MessageBlocks.{block_count, pad_count, message_blo
 abbrev pub station_llid : ℕ
 station_llid = 1
 
+-- of a response, the class and the type of ACK; of NACK, as the packet CRC does not agree; and of NACK, out of sequence
+abbrev pub ack : ℕ × ℕ
+ack = (0, 1)
+
+abbrev pub crc_nack : ℕ × ℕ
+crc_nack = (1, 1)
+
+abbrev pub order_nack : ℕ × ℕ
+order_nack = (1, 5)
+
+-- the class of selective retry
+abbrev pub retry_class : ℕ
+retry_class = 2
+
 -- a slot that holds a block
 abbrev pub good_slot : BlockParts → Slot
 good_slot block = Good block
@@ -44,17 +58,17 @@ short_response class kind status = Plain (record { head = response_head station_
 
 -- ACK, class 0 type 1: all up to this number has come
 abbrev pub ack_packet : ℕ → Packet
-ack_packet status = short_response 0 1 status
+ack_packet status = short_response ack.0 ack.1 status
 
 -- NACK, class 1 type 1: the packet CRC does not agree
 abbrev pub crc_nack_packet : ℕ → Packet
-crc_nack_packet status = short_response 1 1 status
+crc_nack_packet status = short_response crc_nack.0 crc_nack.1 status
 
 -- NACK, class 1 type 5: out of sequence
 abbrev pub order_nack_packet : ℕ → Packet
-order_nack_packet status = short_response 1 5 status
+order_nack_packet status = short_response order_nack.0 order_nack.1 status
 
 -- selective retry, class 2 type 0: the flags of the blocks that have come, 64 in one block and 128 in two
 unfoldable pub retry_packet : ℕ → List Bool → Packet
 retry_packet status flags =
-    Plain (record { head = response_head station_llid 2 0 status (if nat_le (length flags) 64 then 1 else 2); octets = flag_octets flags })
+    Plain (record { head = response_head station_llid retry_class 0 status (if nat_le (length flags) 64 then 1 else 2); octets = flag_octets flags })

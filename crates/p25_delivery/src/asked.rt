@@ -5,6 +5,7 @@ ghost use Rattle.p25_packet_blocks.specs.FlagOctets.{flags_of_octets};
 ghost use Rattle.p25_delivery.specs.Asked.{is_response, is_ack, is_crc_nack, is_retry, wanted_flags, asked_by_flags, asked_of};
 
 use crate::LLID;
+use crate::sent::{ACK, CRC_NACK, RETRY_CLASS};
 use p25_packet_blocks::{Flags, PacketHead, Plain, RESPONSE_FORMAT, flags_read};
 
 // What a response asks of a sender with a message outstanding.
@@ -31,7 +32,7 @@ pub(crate) fn answers(head: PacketHead) -> bool
 pub(crate) fn acknowledges(head: PacketHead, number: u8) -> bool
     ensures { result ≡ is_ack head number }
 {
-    head.class() == 0 && head.kind() == 1 && head.status() == number
+    (head.class(), head.kind()) == ACK && head.status() == number
 }
 
 // What a response asks for while the message with a number and so many blocks is outstanding.
@@ -46,9 +47,9 @@ pub(crate) fn asked_by(response: &Plain, number: u8, blocks: u8) -> Asked
         return Asked::Nothing;
     }
     match (head.class(), head.kind()) {
-        (0, 1) => Asked::NextMessage,
-        (1, 1) => Asked::WholeMessage,
-        (2, _) => asked_by_octets(response, blocks),
+        ACK => Asked::NextMessage,
+        CRC_NACK => Asked::WholeMessage,
+        (RETRY_CLASS, _) => asked_by_octets(response, blocks),
         _ => Asked::Nothing,
     }
 }

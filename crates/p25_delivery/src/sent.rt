@@ -69,6 +69,9 @@ pub(crate) const CRC_NACK: (u8, u8) = (1, 1);
 
 pub(crate) const ORDER_NACK: (u8, u8) = (1, 5);
 
+// The class of selective retry.
+pub(crate) const RETRY_CLASS: u8 = 2;
+
 // A response of no blocks, by its class and its type.
 pub(crate) fn short(kind: (u8, u8), status: u8) -> Packet
     requires class { kind.0 < 4 }
@@ -86,6 +89,6 @@ pub(crate) fn retry(status: u8, flags: &Flags) -> Packet
     ensures { result ≡ retry_packet status flags.now }
 {
     let blocks = if flags.len() <= 64 { 1 } else { 2 };
-    let head = PacketHead::response(LLID, 2, 0, status, blocks);
+    let head = PacketHead::response(LLID, RETRY_CLASS, 0, status, blocks);
     Packet::Plain(Plain::new(head, flags_make(flags)))
 }

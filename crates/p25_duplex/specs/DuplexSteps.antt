@@ -4,7 +4,7 @@ pub use Rattle.p25_duplex.specs.declared.side.Side.{Side, TheVariants.{A, B}}
 pub use Rattle.p25_packet_blocks.specs.declared.packet.Packet.{Packet}
 use Rattle.p25_delivery.specs.Halves.{Outgoing, Incoming, first_outgoing, first_incoming}
 use Rattle.p25_delivery.specs.Delivery.{Delivery, Offering, Time_up, Opening_again, Data_heard, Answer_heard, happens}
-use Rattle.p25_packet_blocks.specs.{Whole.{packet_head}, Heads.{head_format}}
+use Rattle.p25_packet_blocks.specs.{Whole.{packet_head}, Heads.{response_format, head_format}}
 use Rattle.p25_stations.specs.{declared.step.Step.{Step}, Steps.{counted_when, Packets, StepKind, delivery_of}}
 pub use Rattle.p25_duplex.specs.declared.event.{DuplexEvent.{DuplexEvent, TheVariants.{Send, Timeout, Reopen, Deliver}}, DuplexStep.{DuplexStep}}
 
@@ -66,7 +66,7 @@ after_receiving own (delivery, kind) = (record own { inbound = delivery.inbound;
 
 -- an answer is a packet (PDU) of format 03 hex; every other is data
 abbrev pub is_answer : Packet → Bool
-is_answer packet = head_format (packet_head packet) == 3
+is_answer packet = head_format (packet_head packet) == response_format
 
 -- a station hears a packet (PDU): an answer by its half that sends, data by its half that receives
 abbrev pub heard_as : Bool → StationState → StationState → Packet → StationState × StepKind

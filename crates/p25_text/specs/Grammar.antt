@@ -3,6 +3,7 @@ use Rattle.std.specs.{Option.{option_map}, Prelude.{ℕ, ◌==◌, if◌then◌e
 use Rattle.std.specs.List.{join_with_byte, starts_with}
 use Rattle.p25_line.specs.{Values.{three_digits}, CommaLists.{with_entry}, LineReadings.{found_read, line_read, named_or_fault}}
 use Rattle.p25_line.specs.{declared.fault.LineFault.{LineFault}, declared.fault.LineFault.TheVariants.{Form, Key, Value}}
+use Rattle.p25_packet_blocks.specs.Heads.{plain_format, response_format}
 use Rattle.p25_units.specs.{UnitParts.{UnitParts}, declared.unit.Body.{Body}, declared.unit.Body.TheVariants.{Voice, Packet}}
 use Rattle.p25_text.specs.{Names.{kind_word, kind_named, keys_of, key_text}, Packets.{confirmed_in, packet_kind, packet_values, plain_in}, Values.{nac_in}}
 use Rattle.p25_text.specs.{Voices.{voice_in, voice_kind, voice_values}, declared.names.UnitKey.{UnitKey}, declared.names.UnitKind.{UnitKind}}
@@ -24,9 +25,9 @@ body_values (Packet packet) = packet_values packet
 abbrev pub body_in : UnitKind → List (List ℕ) → Option Body
 body_in Confirmed (head ∷ blocks ∷ []) = option_map Packet (confirmed_in head blocks)
 body_in Confirmed values = None
-body_in Plain (head ∷ octets ∷ []) = option_map Packet (plain_in 0x15 head octets)
+body_in Plain (head ∷ octets ∷ []) = option_map Packet (plain_in plain_format head octets)
 body_in Plain values = None
-body_in Response (head ∷ octets ∷ []) = option_map Packet (plain_in 0x03 head octets)
+body_in Response (head ∷ octets ∷ []) = option_map Packet (plain_in response_format head octets)
 body_in Response values = None
 body_in kind values = option_map Voice (voice_in kind values)
 

@@ -4,7 +4,7 @@ use Rattle.std.specs.Option.{option_and_then, option_map}
 use Rattle.hex.specs.Hex.{encode_lower}
 use Rattle.p25_packet_blocks.specs.{declared.block.Block.{Block}, declared.block.Slot.{Slot}, declared.block.Slot.TheVariants.{Good, Bad}}
 use Rattle.p25_packet_blocks.specs.{declared.head.PacketHead.{PacketHead}, declared.packet.Packet.{Packet}}
-use Rattle.p25_packet_blocks.specs.{declared.packet.Packet.TheVariants.{Confirmed, Plain}, Heads.{head_blocks, head_format}}
+use Rattle.p25_packet_blocks.specs.{declared.packet.Packet.TheVariants.{Confirmed, Plain}, Heads.{confirmed_format, response_format, head_blocks, head_format}}
 use Rattle.p25_line.specs.{CommaLists.{counted, list_in, list_text}, Octets.{octets_text}}
 use Rattle.p25_text.specs.{Values.{octets_in, octets_or_none}, declared.names.UnitKind.{UnitKind}}
 use Rattle.p25_text.specs.declared.names.UnitKind.TheVariants.{Confirmed as ConfirmedKind, Plain as PlainKind, Response as ResponseKind}
@@ -28,7 +28,7 @@ packet_values (Plain packet) = encode_lower packet.head.0 ∷ octets_text packet
 -- the kind of the line of a packet (PDU): that of a packet that is not confirmed is told by the format
 abbrev pub packet_kind : Packet → UnitKind
 packet_kind (Confirmed packet) = ConfirmedKind
-packet_kind (Plain packet) = if head_format packet.head == 0x03 then ResponseKind else PlainKind
+packet_kind (Plain packet) = if head_format packet.head == response_format then ResponseKind else PlainKind
 
 -- ---- readings
 
@@ -55,7 +55,8 @@ confirmed_of head slots = Confirmed (record { head = head; slots = slots })
 
 -- the confirmed packet (PDU) of a header of format 16 hex, where a word is read as so many slots as there are blocks to follow
 abbrev pub confirmed_from : List ℕ → PacketHead → Option Packet
-confirmed_from word head = if head_format head == 0x16 then option_map (confirmed_of head) (counted (head_blocks head) (list_in slot_in word)) else None
+confirmed_from word head =
+    if head_format head == confirmed_format then option_map (confirmed_of head) (counted (head_blocks head) (list_in slot_in word)) else None
 
 -- the confirmed packet (PDU) of two values
 abbrev pub confirmed_in : List ℕ → List ℕ → Option Packet
