@@ -1,20 +1,17 @@
 -- What a caller keeps: the run that is open ends where the last item does at the latest, has no more units than there were items, and a network access code of 12 bits. By the cases of a
 -- run that is open and a unit that joins it.
-use Rattle.std.proofs.Common.{◌≡◌, ℕ, ◌+◌, ◌<◌, ◌≤◌, Bool, true, false, cond, not, ◌&&◌, Option, Some, None, sym, ap, subst, arith}
+use Rattle.std.proofs.Common.{◌≡◌, ℕ, ◌+◌, ◌<◌, ◌≤◌, Bool, true, false, cond, not, ◌&&◌, Option, Some, None, sym, ap, subst, ◌∙◌, arith}
 use Rattle.std.specs.{Prelude.{IfSome, nat_lt}, Option.{option_or}}
 use Rattle.p25_units.specs.{Items.{covered, place_of}, declared.item.Item.{Item}, declared.item.Item.TheVariants.{Whole, Broken}}
-use Rattle.p25_calls.specs.{declared.call.Call.{Call}, declared.seen.UnitSeen.{UnitSeen}, Seen.{is_link_unit, is_terminator, is_voice, unit_end, unit_of, whole_unit, broken_unit}, Calls.{call_of}}
-use Rattle.p25_calls.specs.Taking.{IsPending, broken_off, call_of_one, ended_call, extended, goes_on, if_linked, pending_run, run_with, terminated}
+use Rattle.p25_calls.specs.{declared.call.Call.{Call}, declared.seen.UnitSeen.{UnitSeen}, Seen.{is_link_unit, is_terminator, is_voice, unit_end, unit_of}, Calls.{call_of}}
+use Rattle.p25_calls.specs.Taking.{IsPending, broken_off, call_of_one, extended, goes_on, if_linked, pending_run, run_with, terminated, unit_answer, unit_pending}
 use Rattle.p25_calls.proofs.LastRunLaws.{alone-end, alone-nac}
 
--- a unit ends where its item does
-some-same : (a b : UnitSeen) → ◌≡◌ {A = Option UnitSeen} (Some a) (Some b) → a ≡ b
-some-same a b same = cc
-
-pub unit-ends : (item : Item) (unit : UnitSeen) → Some unit ≡ unit_of item → unit_end unit ≡ place_of item + covered item
-unit-ends (Whole place frame fixes) unit is = ap unit_end (some-same unit (whole_unit place frame) is)
-unit-ends (Broken place count nac duid fields) unit is = ap unit_end (some-same unit (broken_unit place count nac duid) is)
-unit-ends item unit is = cc
+-- the unit of an item stands where the item does
+unit-there : (item : Item) (place end : ℕ) → place_of item ≡ place → end ≡ place_of item + covered item → IfSome (unit_of item) (λ (unit : UnitSeen). (unit.place ≡ place) × (unit_end unit ≡ end))
+unit-there (Whole at frame fixes) place end is ends = (is, sym ends)
+unit-there (Broken at count nac duid fields) place end is ends = (is, sym ends)
+unit-there item place end is ends = tt
 
 -- ---- what every caller keeps
 
@@ -57,13 +54,30 @@ run-pending reached taken (Some call) held unit at =
 left-if : (P : Call → Type 0) (run : Call) (unit : UnitSeen) → P run → IfSome (pending_run run unit) P
 left-if P run unit holds = elim (is_voice unit && not (is_terminator unit)) as (λ (b : Bool). IfSome (cond b (Some run) None) P) [ true ↦ holds | false ↦ tt ]
 
-pub pending-kept : (reached taken end : ℕ) (pending : Option Call) (unit : UnitSeen) (run : Call) (left : Option Call)
-    → IfSome pending (IsPending reached taken) → unit.place ≡ reached → unit_end unit ≡ end
-    → run ≡ run_with pending unit → left ≡ pending_run run unit → IfSome left (IsPending end (taken + 1))
-pending-kept reached taken end pending unit run left held at ends is_run is_left =
-    let P : Option Call → Type 0 = λ o. IfSome o (IsPending end (taken + 1)) in
-    let here = subst (λ (e : ℕ). IsPending e (taken + 1) (run_with pending unit)) ends (run-pending reached taken pending held unit at) in
-    subst P (sym is_left) (left-if (IsPending end (taken + 1)) run unit (subst (λ (c : Call). IsPending end (taken + 1) c) (sym is_run) here))
+pending-later : (reached taken end most : ℕ) (pending : Option Call) → IfSome pending (IsPending reached taken) → reached ≤ end → taken ≤ most → IfSome pending (IsPending end most)
+pending-later reached taken end most None held later few = tt
+pending-later reached taken end most (Some call) held later few =
+    record { before = omega (arith, held.before); links = omega (arith, held.links); broken = omega (arith, held.broken) }
+
+-- before a unit
+pub pending-before : (reached taken most place : ℕ) (pending : Option Call) (unit : Option UnitSeen) → IfSome pending (IsPending reached taken) → reached ≤ place → taken ≤ most
+    → IfSome unit (λ (unit : UnitSeen). unit.place ≡ place) → IfSome unit (λ (unit : UnitSeen). IfSome pending (IsPending unit.place most))
+pending-before reached taken most place pending None held before few is = tt
+pending-before reached taken most place pending (Some unit) held before few is = pending-later reached taken unit.place most pending held (omega (arith, is)) few
+
+-- and after one
+pending-after : (reached taken end : ℕ) (pending : Option Call) (unit : Option UnitSeen) → IfSome pending (IsPending reached taken) → reached ≤ end
+    → IfSome unit (λ (unit : UnitSeen). (unit.place ≡ reached) × (unit_end unit ≡ end)) → IfSome (unit_pending pending unit) (IsPending end (taken + 1))
+pending-after reached taken end pending None held later is = pending-later reached taken end (taken + 1) pending held later (omega arith)
+pending-after reached taken end pending (Some unit) held later is =
+    left-if (IsPending end (taken + 1)) (run_with pending unit) unit
+    (subst (λ (e : ℕ). IsPending e (taken + 1) (run_with pending unit)) is.1 (run-pending reached taken pending held unit is.0))
+
+pub pending-kept : (reached taken end : ℕ) (pending : Option Call) (item : Item) (unit : Option UnitSeen) (left : Option Call) → IfSome pending (IsPending reached taken)
+    → place_of item ≡ reached → end ≡ place_of item + covered item → unit ≡ unit_of item → left ≡ unit_pending pending unit → IfSome left (IsPending end (taken + 1))
+pending-kept reached taken end pending item unit left held at ends is is_left =
+    subst (λ (o : Option Call). IfSome o (IsPending end (taken + 1))) (sym (is_left ∙ ap (unit_pending pending) is))
+    (pending-after reached taken end pending (unit_of item) held (omega arith) (unit-there item reached end at ends))
 
 -- ---- network access codes
 
@@ -78,10 +92,9 @@ run-nac (Some call) held unit fits =
       | false ↦ subst (λ (n : ℕ). n < 4096) (alone-nac unit) fits
     ]
 
-pub pending-nac : (pending : Option Call) (unit : UnitSeen) (run : Call) (left : Option Call) → IfSome pending HasNac → unit.nac < 4096 → run ≡ run_with pending unit → left ≡ pending_run run unit
-    → IfSome left HasNac
-pending-nac pending unit run left held fits is_run is_left =
-    subst (λ (o : Option Call). IfSome o HasNac) (sym is_left) (left-if HasNac run unit (subst HasNac (sym is_run) (run-nac pending held unit fits)))
+pub pending-nac : (pending : Option Call) (unit : Option UnitSeen) → IfSome pending HasNac → IfSome unit (λ (unit : UnitSeen). unit.nac < 4096) → IfSome (unit_pending pending unit) HasNac
+pending-nac pending None held fits = held
+pending-nac pending (Some unit) held fits = left-if HasNac (run_with pending unit) unit (run-nac pending held unit fits)
 
 linked-nac : (call : Call) → HasNac call → IfSome (if_linked call) HasNac
 linked-nac call fits = elim (nat_lt 0 call.links) as (λ (b : Bool). IfSome (cond b (Some call) None) HasNac) [ true ↦ fits | false ↦ tt ]
@@ -97,7 +110,7 @@ either-nac : (first second : Option Call) → IfSome first HasNac → IfSome sec
 either-nac None second held other = other
 either-nac (Some call) second held other = held
 
-pub ended-nac : (pending : Option Call) (unit : UnitSeen) (answer : Option Call) → IfSome pending HasNac → unit.nac < 4096 → answer ≡ ended_call pending unit → IfSome answer HasNac
-ended-nac pending unit answer held fits is =
-    subst (λ (o : Option Call). IfSome o HasNac) (sym is)
-    (either-nac (broken_off pending unit) (terminated (run_with pending unit) unit) (broken_off-nac pending unit held) (terminated-nac (run_with pending unit) unit (run-nac pending held unit fits)))
+pub ended-nac : (pending : Option Call) (unit : Option UnitSeen) → IfSome pending HasNac → IfSome unit (λ (unit : UnitSeen). unit.nac < 4096) → IfSome (unit_answer pending unit) HasNac
+ended-nac pending None held fits = tt
+ended-nac pending (Some unit) held fits =
+    either-nac (broken_off pending unit) (terminated (run_with pending unit) unit) (broken_off-nac pending unit held) (terminated-nac (run_with pending unit) unit (run-nac pending held unit fits))

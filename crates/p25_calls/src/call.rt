@@ -94,8 +94,8 @@ impl Call {
             && unit.place <= self.place + self.bits + SILENCE_MOST
     }
 
-    // The call that a run is, where it has a link unit.
-    pub(crate) fn if_linked(&self) -> Option<Call>
+    /// Answers the call that a run is. `None` comes exactly where it has no link unit.
+    pub fn if_linked(&self) -> Option<Call>
         ensures { result ≡ if_linked self.now }
     {
         if self.links > 0 { Some(*self) } else { None }

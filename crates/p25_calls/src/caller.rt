@@ -5,7 +5,7 @@ ghost use Rattle.p25_calls.specs.Taking.{HasSoundPending, answer_to, behind_item
 ghost use Rattle.p25_units.specs.Items.{IsSoundItem, place_of};
 
 use crate::call::Call;
-use crate::runs::{broken_off, pending_run, run_with, terminated};
+use crate::runs::take_unit;
 use crate::seen::{item_end, seen_unit};
 use p25_units::Item;
 use std::marker::Model;
@@ -66,17 +66,9 @@ impl Caller {
         ensures sound { IsSoundItem item.now → HasSoundPending self.old → HasSoundPending self.new }
         ensures nac { IsSoundItem item.now → HasSoundPending self.old → IfSome result (λ call. call.nac < 4096) }
     {
-        let before = self.pending;
         self.reached = item_end(item);
         self.taken += 1;
-        match seen_unit(item) {
-            None => None,
-            Some(unit) => {
-                let run = run_with(&before, &unit);
-                self.pending = pending_run(run, &unit);
-                broken_off(&before, &unit).or(terminated(&run, &unit))
-            }
-        }
+        take_unit(&mut self.pending, &seen_unit(item))
     }
 
     /// Answers the call that is still open, and sets the caller as a new one. `None` comes exactly where no call is open.

@@ -11,7 +11,7 @@
 //!     place: 0,
 //!     length: 1_728,
 //!     nac: 0x293,
-//!     duid: 5,
+//!     duid: LDU1,
 //!     fields: FieldList::new(),
 //! };
 //! let call = caller.take(&item).or(caller.finish());

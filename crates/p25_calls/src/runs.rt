@@ -6,9 +6,8 @@ ghost use Rattle.p25_calls.specs.{Seen.{unit_end}, Taking.{IsPending, broken_off
 use crate::call::Call;
 use crate::seen::UnitSeen;
 
-/// Answers the run that a unit is the last of: the one that is open, where there is no break before the unit, and else a new
-/// one.
-pub fn run_with(pending: &Option<Call>, unit: &UnitSeen) -> Call
+// The run that a unit is the last of: the one that is open, where there is no break before the unit, and else a new one.
+fn run_with(pending: &Option<Call>, unit: &UnitSeen) -> Call
     requires pending { IfSome pending.now (IsPending unit.now.place (2 ^ 32 - 2)) }
     requires end { unit_end unit.now < 2 ^ 61 }
     ensures { result ≡ run_with pending.now unit.now }
@@ -25,9 +24,9 @@ pub fn run_with(pending: &Option<Call>, unit: &UnitSeen) -> Call
     }
 }
 
-/// Answers the call that ends with the unit before a unit. `None` comes exactly where no run is open, where there is no break
-/// before the unit, and where the run has no link unit.
-pub fn broken_off(pending: &Option<Call>, unit: &UnitSeen) -> Option<Call>
+// The call that ends with the unit before a unit. `None` comes exactly where no run is open, where there is no break
+// before the unit, and where the run has no link unit.
+fn broken_off(pending: &Option<Call>, unit: &UnitSeen) -> Option<Call>
     requires pending { IfSome pending.now (IsPending unit.now.place (2 ^ 32 - 2)) }
     requires end { unit_end unit.now < 2 ^ 61 }
     ensures { result ≡ broken_off pending.now unit.now }
@@ -44,9 +43,9 @@ pub fn broken_off(pending: &Option<Call>, unit: &UnitSeen) -> Option<Call>
     }
 }
 
-/// Answers the call that ends with the last unit of a run. `None` comes exactly where that is no terminator, and where the run
-/// has no link unit.
-pub fn terminated(run: &Call, unit: &UnitSeen) -> Option<Call>
+// The call that ends with the last unit of a run. `None` comes exactly where that is no terminator, and where the run
+// has no link unit.
+fn terminated(run: &Call, unit: &UnitSeen) -> Option<Call>
     ensures { result ≡ terminated run.now unit.now }
 {
     if unit.is_terminator() {
@@ -56,8 +55,8 @@ pub fn terminated(run: &Call, unit: &UnitSeen) -> Option<Call>
     }
 }
 
-/// Answers a run, where a further unit may still join it: its last unit is a voice unit, and no terminator (TDU or TDULC).
-pub fn pending_run(run: Call, unit: &UnitSeen) -> Option<Call>
+// A run, where a further unit may still join it: its last unit is a voice unit, and no terminator (TDU or TDULC).
+fn pending_run(run: Call, unit: &UnitSeen) -> Option<Call>
     ensures { result ≡ pending_run run unit.now }
 {
     if unit.is_voice() && !unit.is_terminator() {

@@ -6,6 +6,7 @@ ghost use Rattle.p25_units.specs.Items.{place_of};
 use super::laws::call_laws;
 use super::{Call, CallEnd, Caller, Item, LinkControl};
 use crate::seen::item_end;
+use p25_bch_nid::LDU1;
 use p25_link::{EncryptionSync, HeaderWord};
 use p25_units::{Body, FieldList, Frame, Statuses, Unit, VoiceUnit};
 use p25_voice_units::{Voice, VoiceFrame};
@@ -106,7 +107,7 @@ fn call_of_one_unit(rt: HostRuntime) {
         place: 0,
         length: 1_728,
         nac: 0x293,
-        duid: 5,
+        duid: LDU1,
         fields: FieldList::new(),
     };
     let call = caller.take(&item).or(caller.finish());

@@ -45,12 +45,12 @@ chain-stops at place before stretch more end is_place rests begins again stays n
     record {
       units =
           ap (λ (xs : List Bool). units_among (items_of at (xs ++ more))) stays
-          ∙ same_units-in count at count all (omega arith) fits rests ends
+          ∙ same_units-in at count all fits rests ends
           ∙ ap₂ (λ (p : ℕ) (xs : List Bool). units_among (items_of p xs)) is_place seam
           ∙ sym (ap (λ (items : List Item). items ++ units_among (items_of place more)) none);
       again =
           ap (λ (xs : List Bool). followed_by true before [] (items_of at (xs ++ more)) (xs ++ more)) stays
-          ∙ stretch-follow count at count before [] all (omega arith) fits rests ends
+          ∙ stretch-follow at count before [] all fits rests ends
           ∙ ap₂ (λ (xs ys : List Bool). followed_by true before xs (items_of (at + count) ys) ys) (take-append_seam stretch more) seam
           ∙ ap (λ (p : ℕ). followed_by true before stretch (items_of p more) more) is_place
           ∙ again before stretch stays

@@ -1,7 +1,7 @@
 -- Where a repair leaves the items, it changes nothing of what comes after it: the stretches are the same, and so is what is written of them. By induction on the items of both recordings.
 use Rattle.std.proofs.Common.{◌≡◌, ℕ, zero, suc, ◌+◌, ◌<◌, ◌≤◌, Bool, true, false, inl, inr, List, [], ◌∷◌, ◌++◌, length, take, drop, Option, Some, None, refl, sym, ap, ap₂, subst, ◌∙◌, arith, append_assoc, length-append, length-drop}
 use Rattle.std.proofs.{lemmas.Bool.{cases_Bool}, lemmas.List.{drop_at, length-take-le, take_at}, Math.Seq.{drop-append_seam, take-append_seam}}
-use Rattle.p25_units.specs.{Items.{covered, unit_item_of}, Units.{image_of}, declared.item.Item.{Item}, declared.item.Item.TheVariants.{Whole, Broken, NoUnit, Gap, Cut}}
+use Rattle.p25_units.specs.{Items.{covered, unit_item_of}, Units.{image_of}, declared.item.Item.{Item}, declared.item.Item.TheVariants.{Whole}}
 use Rattle.p25_stream.specs.{Items.{first_item, items_of}, Repeats.{repaired}}
 use Rattle.p25_stream.proofs.ItemsLaws.{covered-first_item, items_by-more, items_by-nil}
 use Rattle.p25_follow.specs.{Chains.{chain_by, with_front}, Expected.{kind_length}, Followed.{follow_of, followed_by, is_rest, unit_name}, RecordingLaws.{RepairBefore}}
@@ -29,7 +29,7 @@ chain-stops at place before stretch more end is_place after stays =
     let count = length stretch in
     let all = stretch ++ more in
     ap (λ (xs : List Bool). repaired_from at (xs ++ more)) stays
-    ∙ stretch-repair count at count all (omega arith) (omega (arith, length-append stretch more)) after.rests (ends-at stretch more after.begins)
+    ∙ stretch-repair at count all (omega (arith, length-append stretch more)) after.rests (ends-at stretch more after.begins)
     ∙ ap₂ (λ (xs ys : List Bool). xs ++ repaired_from (at + count) ys) (take-append_seam stretch more) (drop-append_seam stretch more)
     ∙ ap (λ (p : ℕ). stretch ++ repaired_from p more) is_place
 

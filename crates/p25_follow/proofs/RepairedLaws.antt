@@ -1,6 +1,5 @@
--- What a repair writes of items: of each as many bits as it covers, and of a stretch its bits. By the cases of an item, and by induction on the items of a stretch.
-use Rattle.std.proofs.Common.{◌≡◌, ℕ, zero, suc, ◌+◌, ◌-◌, ◌<◌, ◌≤◌, Bool, true, List, [], ◌∷◌, ◌++◌, length, take, drop, Some, Result, Ok, Err, refl, sym, ap, ap₂, subst, ◌∙◌, arith, append_assoc, length-drop}
-use Rattle.std.proofs.{lemmas.List.{drop-drop}, Math.Nat.{add-zero}}
+-- What a repair writes of items: of each as many bits as it covers, and of a stretch its bits. By the cases of an item, and along a stretch.
+use Rattle.std.proofs.Common.{◌≡◌, ℕ, ◌+◌, ◌<◌, ◌≤◌, Bool, true, List, [], ◌∷◌, ◌++◌, length, take, drop, Some, Result, Ok, Err, refl, sym, ap, ap₂, subst, ◌∙◌, arith, append_assoc}
 use Rattle.p25_status.specs.declared.fields.Field.{Field}
 use Rattle.p25_unit_front.proofs.FrontLaws.{identifier_of-fits, identifier_of-take}
 use Rattle.p25_units.specs.{Items.{covered, item_from, unit_item_of}, Needs.{need_of}, Readings.{reading_from}, declared.frame.Frame.{Frame}, declared.item.Item.{Item}}
@@ -8,9 +7,9 @@ use Rattle.p25_units.specs.{declared.item.Item.TheVariants.{Whole, Broken, NoUni
 use Rattle.p25_units.proofs.{ItemsLaws.{unit_item_of-some}, KindsLaws.{IsUnitOf, IsUnitOf-need}, NeedsLaws.{IsIdentified-from, need_of-there}, ReadingsLaws.{IsFrameOf-reading}}
 use Rattle.p25_units.proofs.UnitsLaws.{length-image_of}
 use Rattle.p25_stream.specs.{Items.{first_item, items_of}, Repeats.{repaired}}
-use Rattle.p25_stream.proofs.ItemsLaws.{covered-first_item, first_item-cases, items_by-more}
+use Rattle.p25_stream.proofs.ItemsLaws.{first_item-cases, items_by-more}
 use Rattle.p25_follow.specs.{Followed.{is_rest}, Repaired.{repaired_by, repaired_from}}
-use Rattle.p25_follow.proofs.{SameUnitsLaws.{Ends, RestPlaces, covers-within, ends-later, rest-at}, WrittenUnitsLaws.{append-take}}
+use Rattle.p25_follow.proofs.SameUnitsLaws.{Ends, RestPlaces, along-stretch}
 
 -- ---- what a repair writes
 
@@ -54,33 +53,17 @@ rest-plain (Gap place count) raw rest = refl
 rest-plain (Cut place have) raw rest = absurd (cc)
 
 -- of a stretch it writes the bits
-pub stretch-repair : (n at count : ℕ) (bits : List Bool) → count ≤ n → count ≤ length bits → RestPlaces count bits → Ends count bits
+pub stretch-repair : (at count : ℕ) (bits : List Bool) → count ≤ length bits → RestPlaces count bits → Ends count bits
     → repaired_from at bits ≡ take count bits ++ repaired_from (at + count) (drop count bits)
-stretch-repair n at zero bits few there rests ends = ap (λ (p : ℕ). repaired_from p bits) (sym (add-zero at))
-stretch-repair zero at (suc count) bits few there rests ends = absurd (omega arith)
-stretch-repair (suc n) at (suc more) bits few there rests ends =
-    let count = suc more in
-    let some : 0 < length bits = omega arith in
-    let rest : is_rest (first_item at bits) ≡ true = rest-at 0 at bits (rests 0 (omega arith)) in
-    let item = first_item at bits in
-    let c = covered item in
-    let fits = covered-first_item at bits some in
-    let within : c ≤ count = covers-within at count bits (omega arith) ends rest in
-    let left = drop c bits in
-    let raw = take c bits in
-    let less = count - c in
-    let place : at + c + less ≡ at + count = omega arith in
-    let all : c + less ≡ count = omega arith in
-    let moved : (p : ℕ) → drop p left ≡ drop (c + p) bits = λ p. drop-drop p c bits in
-    let to_end : drop less left ≡ drop count bits = moved less ∙ ap (λ (k : ℕ). drop k bits) all in
-    from-first at bits some
-    ∙ ap₂ (λ (xs ys : List Bool). xs ++ ys) (rest-plain item raw rest)
-    (stretch-repair n (at + c) less left (omega (arith, fits.0)) (omega (arith, length-drop c bits))
-    (λ p first. ap (λ (xs : List Bool). is_rest (first_item 0 xs)) (moved p) ∙ rests (c + p) (omega arith))
-    (ends-later count c bits left less (omega (arith, length-drop c bits)) to_end ends)
-    ∙ ap₂ (λ (p : ℕ) (xs : List Bool). take less left ++ repaired_from p xs) place to_end)
-    ∙ sym (append_assoc raw (take less left) (repaired_from (at + count) (drop count bits)))
-    ∙ ap (λ (xs : List Bool). xs ++ repaired_from (at + count) (drop count bits)) (append-take c less bits fits.1 ∙ ap (λ (k : ℕ). take k bits) all)
+stretch-repair at count bits there rests ends =
+    along-stretch (λ place taken left. taken ++ repaired_from place left ≡ take count bits ++ repaired_from (at + count) (drop count bits))
+    (λ place taken left item is rest same.
+    let raw = take (covered item) left in
+    let next = drop (covered item) left in
+    ap (λ (xs : List Bool). taken ++ xs) (from-more place left item raw next is refl refl ∙ ap (λ (xs : List Bool). xs ++ repaired_from (place + covered item) next) (rest-plain item raw rest))
+    ∙ sym (append_assoc taken raw (repaired_from (place + covered item) next))
+    ∙ same)
+    count at count [] bits (omega arith) there rests ends refl
 
 -- ---- what a repair writes of an item is as long as the item
 

@@ -1,7 +1,7 @@
 -- Wherever in a stretch the scan begins, it comes to the same units after it: at none of the stretch's places does a unit begin, and no gap reaches past a sync. By induction on the
 -- places that are left, and on the items of the stretch.
-use Rattle.std.proofs.Common.{◌≡◌, ℕ, zero, suc, ◌+◌, ◌-◌, ◌<◌, ◌≤◌, Bool, true, false, inl, inr, ◌⊎◌, List, [], ◌∷◌, ◌++◌, length, take, drop, refl, sym, ap, ap₂, subst, ◌∙◌, add_assoc, arith, length-drop}
-use Rattle.std.proofs.{lemmas.Bool.{cases_Bool, cases_lt, cond-true}, Math.Nat.{add-zero}, lemmas.List.{drop-drop}}
+use Rattle.std.proofs.Common.{◌≡◌, ℕ, zero, suc, ◌+◌, ◌-◌, ◌<◌, ◌≤◌, Bool, true, false, inl, inr, ◌⊎◌, List, [], ◌∷◌, ◌++◌, length, take, drop, refl, sym, ap, ap₂, subst, ◌∙◌, add_assoc, append_assoc, append-nil, arith, length-drop}
+use Rattle.std.proofs.{lemmas.Bool.{cases_Bool, cases_lt, cond-true}, Math.Nat.{add-zero}, lemmas.List.{drop-drop}, Math.Seq.{take-add}}
 use Rattle.p25_status.specs.Sync.{has_sync}
 use Rattle.p25_unit_front.proofs.FrontLaws.{identifier_of-take}
 use Rattle.p25_units.specs.{Items.{covered, unit_item_of}, Needs.{need_of}, declared.item.Item.{Item}, declared.needs.Need.TheVariants.{Length, More, NoLength}}
@@ -61,7 +61,7 @@ sync-within : (count : ℕ) (bits : List Bool) → Ends count bits → sync_plac
 sync-within count bits (inl all) = omega (arith, all, sync_place-le bits)
 sync-within count bits (inr unit) = synced-end count bits unit
 
-pub covers-within : (at count : ℕ) (bits : List Bool) → 0 < count → Ends count bits → is_rest (first_item at bits) ≡ true → covered (first_item at bits) ≤ count
+covers-within : (at count : ℕ) (bits : List Bool) → 0 < count → Ends count bits → is_rest (first_item at bits) ≡ true → covered (first_item at bits) ≤ count
 covers-within at count bits some ends =
     first_item-cases (λ item. is_rest item ≡ true → covered item ≤ count) at bits
     (λ no' rest. omega (arith, sync-within count bits ends))
@@ -69,22 +69,23 @@ covers-within at count bits some ends =
     (λ n yes' need rest. absurd (true-false (is_rest (unit_item_of at (take n bits))) rest (unit-there at n bits need)))
     (λ field yes' need rest. omega arith)
 
--- ---- the units after it
-
-pub among-rest : (item : Item) (items : List Item) → is_rest item ≡ true → units_among (item ∷ items) ≡ units_among items
-unfolding units_among
-among-rest item items rest = cond-true (is_rest item) (units_among items) (item ∷ units_among items) rest
-
 -- the end is the same, seen from a later place
-pub ends-later : (count c : ℕ) (bits left : List Bool) (less : ℕ) → less + length bits ≡ count + length left → drop less left ≡ drop count bits → Ends count bits → Ends less left
+ends-later : (count c : ℕ) (bits left : List Bool) (less : ℕ) → less + length bits ≡ count + length left → drop less left ≡ drop count bits → Ends count bits → Ends less left
 ends-later count c bits left less long same (inl all) = inl (omega (arith, all, long))
 ends-later count c bits left less long same (inr unit) = inr (ap (λ (xs : List Bool). is_rest (first_item 0 xs)) same ∙ unit)
 
-pub same_units-in : (n at count : ℕ) (bits : List Bool) → count ≤ n → count ≤ length bits → RestPlaces count bits → Ends count bits
-    → units_among (items_of at bits) ≡ units_among (items_of (at + count) (drop count bits))
-same_units-in n at zero bits few there rests ends = ap (λ (p : ℕ). units_among (items_of p bits)) (sym (add-zero at))
-same_units-in zero at (suc count) bits few there rests ends = absurd (omega arith)
-same_units-in (suc n) at (suc more) bits few there rests ends =
+-- ---- along a stretch
+
+-- what is true of the end of a stretch, the place there, the bits before it and those behind it, and goes back over each item, is true of its beginning
+pub along-stretch : (P : ℕ → List Bool → List Bool → Type 0)
+    → ((at : ℕ) (before bits : List Bool) (item : Item) → items_of at bits ≡ item ∷ items_of (at + covered item) (drop (covered item) bits) → is_rest item ≡ true
+    → P (at + covered item) (before ++ take (covered item) bits) (drop (covered item) bits) → P at before bits)
+    → (n at count : ℕ) (before bits : List Bool) → count ≤ n → count ≤ length bits → RestPlaces count bits → Ends count bits
+    → P (at + count) (before ++ take count bits) (drop count bits) → P at before bits
+along-stretch P back n at zero before bits few there rests ends end =
+    subst (λ (xs : List Bool). P at xs bits) (append-nil before) (subst (λ (p : ℕ). P p (before ++ []) bits) (add-zero at) end)
+along-stretch P back zero at (suc count) before bits few there rests ends end = absurd (omega arith)
+along-stretch P back (suc n) at (suc more) before bits few there rests ends end =
     let count = suc more in
     let some : 0 < length bits = omega arith in
     let rest : is_rest (first_item at bits) ≡ true = rest-at 0 at bits (rests 0 (omega arith)) in
@@ -94,15 +95,31 @@ same_units-in (suc n) at (suc more) bits few there rests ends =
     let within : c ≤ count = covers-within at count bits (omega arith) ends rest in
     let left = drop c bits in
     let less = count - c in
-    let place : at + c + less ≡ at + count = omega arith in
+    let place : at + count ≡ at + c + less = omega arith in
+    let all : c + less ≡ count = omega arith in
     let moved : (p : ℕ) → drop p left ≡ drop (c + p) bits = λ p. drop-drop p c bits in
-    let to_end : drop less left ≡ drop count bits = moved less ∙ ap (λ (k : ℕ). drop k bits) (let same : c + less ≡ count = omega arith in same) in
-    ap units_among (items_by-more true at bits some refl)
-    ∙ among-rest item (items_of (at + c) left) rest
-    ∙ same_units-in n (at + c) less left (omega (arith, fits.0)) (omega (arith, length-drop c bits))
-    (λ p before. ap (λ (xs : List Bool). is_rest (first_item 0 xs)) (moved p) ∙ rests (c + p) (omega arith))
+    let to_end : drop less left ≡ drop count bits = moved less ∙ ap (λ (k : ℕ). drop k bits) all in
+    let taken : (before ++ take c bits) ++ take less left ≡ before ++ take count bits
+    = append_assoc before (take c bits) (take less left) ∙ ap (λ (xs : List Bool). before ++ xs) (sym (take-add c less bits) ∙ ap (λ (k : ℕ). take k bits) all) in
+    back at before bits item (items_by-more true at bits some refl) rest
+    (along-stretch P back n (at + c) less (before ++ take c bits) left (omega (arith, fits.0)) (omega (arith, length-drop c bits))
+    (λ p first. ap (λ (xs : List Bool). is_rest (first_item 0 xs)) (moved p) ∙ rests (c + p) (omega arith))
     (ends-later count c bits left less (omega (arith, length-drop c bits)) to_end ends)
-    ∙ ap₂ (λ (p : ℕ) (xs : List Bool). units_among (items_of p xs)) place to_end
+    (subst (λ (p : ℕ). P p ((before ++ take c bits) ++ take less left) (drop less left)) place
+    (subst (λ (xs : List Bool). P (at + count) xs (drop less left)) (sym taken) (subst (λ (xs : List Bool). P (at + count) (before ++ take count bits) xs) (sym to_end) end))))
+
+-- ---- the units after it
+
+pub among-rest : (item : Item) (items : List Item) → is_rest item ≡ true → units_among (item ∷ items) ≡ units_among items
+unfolding units_among
+among-rest item items rest = cond-true (is_rest item) (units_among items) (item ∷ units_among items) rest
+
+pub same_units-in : (at count : ℕ) (bits : List Bool) → count ≤ length bits → RestPlaces count bits → Ends count bits
+    → units_among (items_of at bits) ≡ units_among (items_of (at + count) (drop count bits))
+same_units-in at count bits there rests ends =
+    along-stretch (λ place taken left. units_among (items_of place left) ≡ units_among (items_of (at + count) (drop count bits)))
+    (λ place taken left item is rest same. ap units_among is ∙ among-rest item (items_of (place + covered item) (drop (covered item) left)) rest ∙ same)
+    count at count [] bits (omega arith) there rests ends refl
 
 -- ---- from the items of a stretch
 
@@ -187,7 +204,7 @@ same-units at place bits stretch after is all no' within =
     let moved : (p : ℕ) → drop p left ≡ drop (place + p) bits = λ p. drop-drop p place bits in
     let to_end : drop less left ≡ drop count bits = moved less ∙ ap (λ (k : ℕ). drop k bits) (let same : place + less ≡ count = omega arith in same) in
     let at_end : at + place + less ≡ at + count = omega arith in
-    same_units-in less (at + place) less left (omega arith) (omega (arith, length-drop place bits, whole.there))
+    same_units-in (at + place) less left (omega (arith, length-drop place bits, whole.there))
     (λ p before. ap (λ (xs : List Bool). is_rest (first_item 0 xs)) (moved p) ∙ whole.rests (place + p) (omega arith))
     (ends-later count place bits left less (omega (arith, length-drop place bits, whole.there)) to_end ends)
     ∙ ap₂ (λ (p : ℕ) (xs : List Bool). units_among (items_of p xs)) at_end to_end

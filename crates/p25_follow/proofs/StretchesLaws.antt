@@ -1,12 +1,12 @@
 -- What comes out of a recording, stretch by stretch: the bits of a unit as they are, and those of a stretch after it as its chain. By induction on the items before them.
 use Rattle.std.proofs.Common.{◌≡◌, ℕ, ◌+◌, ◌≤◌, Bool, true, false, inl, inr, List, [], ◌∷◌, ◌++◌, length, take, drop, Option, None, refl, sym, ap, ap₂, subst, ◌∙◌, arith, append_assoc, append-nil, length-append, length-drop}
-use Rattle.std.proofs.{lemmas.Bool.{cases_Bool}, lemmas.List.{drop-drop, drop_at, length-take-le, take_at}}
+use Rattle.std.proofs.{lemmas.Bool.{cases_Bool}, lemmas.List.{drop-drop, drop_at, length-take-le, take_at}, Math.Seq.{take-add}}
 use Rattle.p25_units.specs.{Items.{covered}, declared.item.Item.{Item}}
 use Rattle.p25_stream.specs.Items.{items_of}
 use Rattle.p25_stream.proofs.ItemsLaws.{covered-first_item, items_by-first}
 use Rattle.p25_follow.specs.{Chains.{chain_by}, Followed.{follow_of, followed_by, is_rest, unit_name}, FollowedUnits.{end_name}, RecordingLaws.{StretchByStretch}}
 use Rattle.p25_follow.specs.StretchLaws.{all_rest, begins_rest, bits_in}
-use Rattle.p25_follow.proofs.{FollowingLaws.{followed-end, followed-rest, followed-unit}, LengthLaws.{length-chain_of}, StepLaws.{and_left-true, and_right-true}, WrittenUnitsLaws.{append-take}}
+use Rattle.p25_follow.proofs.{FollowingLaws.{followed-end, followed-rest, followed-unit}, LengthLaws.{length-chain_of}, StepLaws.{and_left-true, and_right-true}}
 
 -- ---- how many bits items cover
 
@@ -111,7 +111,7 @@ of-stretch before begun (item ∷ stretch) after bits all no' fits =
     (followed-rest true before begun item (stretch ++ after) bits rest)
     ∙ of-stretch before (begun ++ raw) stretch after left (and_right-true (is_rest item) (all_rest stretch) all) no' (omega (arith, fits, more, length-drop c bits))
     ∙ ap (λ (xs : List Bool). chain_by true before xs (end_name after))
-    (append_assoc begun raw (take (bits_in stretch) left) ∙ ap (λ (xs : List Bool). begun ++ xs) (append-take c (bits_in stretch) bits here ∙ ap (λ (n : ℕ). take n bits) (sym more)))
+    (append_assoc begun raw (take (bits_in stretch) left) ∙ ap (λ (xs : List Bool). begun ++ xs) (sym (take-add c (bits_in stretch) bits) ∙ ap (λ (n : ℕ). take n bits) (sym more)))
 
 -- ---- over a recording
 

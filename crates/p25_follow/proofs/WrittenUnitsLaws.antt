@@ -1,12 +1,11 @@
 -- The units whose fronts are written, a step at a time, and what lies before and after a stretch in which no unit begins. By induction on the bits, which each step makes fewer.
-use Rattle.std.proofs.Common.{◌≡◌, ℕ, zero, suc, ◌+◌, ◌-◌, ◌<◌, ◌≤◌, Bool, true, false, List, [], ◌∷◌, ◌++◌, length, take, drop, Option, Some, None, refl, sym, ap, ap₂, ◌∙◌, arith, append_assoc, append-nil, length-drop}
-use Rattle.std.proofs.{lemmas.Bool.{cond-false, cond-true}, lemmas.List.{drop-drop, length-take-le, take-append-drop}, Math.Seq.{take-append-add}, Math.Nat.{add-zero}}
+use Rattle.std.proofs.Common.{◌≡◌, ℕ, zero, suc, ◌+◌, ◌≤◌, Bool, true, false, List, [], ◌∷◌, ◌++◌, length, take, drop, Option, Some, None, refl, sym, ap, ◌∙◌, arith, length-drop}
+use Rattle.std.proofs.lemmas.Bool.{cond-false, cond-true}
 use Rattle.p25_units.specs.{Items.{covered, unit_item_of}, declared.item.Item.{Item}}
-use Rattle.p25_stream.specs.Items.{first_item, items_of}
-use Rattle.p25_stream.proofs.ItemsLaws.{covered-first_item, items_by-more}
+use Rattle.p25_stream.specs.Items.{items_of}
 use Rattle.p25_follow.specs.{Chains.{with_front}, Expected.{kind_length}, Followed.{followed_by, is_rest, unit_name}, FollowedUnits.{units_by, units_step, written_units, written_units_in}}
 use Rattle.p25_follow.specs.{Steps.{step_of}, StretchLaws.{units_among}}
-use Rattle.p25_follow.proofs.{FollowingLaws.{followed-rest}, SameUnitsLaws.{Ends, RestPlaces, covers-within, ends-later, rest-at}, StepLaws.{step_of-nil, step_of-there}}
+use Rattle.p25_follow.proofs.{FollowingLaws.{followed-rest}, SameUnitsLaws.{Ends, RestPlaces, along-stretch}, StepLaws.{step_of-nil, step_of-there}}
 
 -- ---- the units whose fronts are written
 
@@ -110,39 +109,13 @@ among-nil = refl
 
 -- ---- bits in which no unit begins are a stretch
 
-pub append-take : (c less : ℕ) (bits : List Bool) → c ≤ length bits → take c bits ++ take less (drop c bits) ≡ take (c + less) bits
-append-take c less bits fits =
-    let first = take c bits in
-    let rest = drop c bits in
-    sym (take-append-add first rest less)
-    ∙ ap₂ (λ (n : ℕ) (xs : List Bool). take n xs) (let same : length first + less ≡ c + less = omega (arith, length-take-le c bits fits) in same) (take-append-drop c bits)
-
-pub stretch-follow : (n at count : ℕ) (before : Option (ℕ × ℕ)) (stretch bits : List Bool) → count ≤ n → count ≤ length bits → RestPlaces count bits → Ends count bits
+pub stretch-follow : (at count : ℕ) (before : Option (ℕ × ℕ)) (stretch bits : List Bool) → count ≤ length bits → RestPlaces count bits → Ends count bits
     → followed_by true before stretch (items_of at bits) bits ≡ followed_by true before (stretch ++ take count bits) (items_of (at + count) (drop count bits)) (drop count bits)
-stretch-follow n at zero before stretch bits few there rests ends =
-    ap₂ (λ (xs : List Bool) (p : ℕ). followed_by true before xs (items_of p bits) bits) (sym (append-nil stretch)) (sym (add-zero at))
-stretch-follow zero at (suc count) before stretch bits few there rests ends = absurd (omega arith)
-stretch-follow (suc n) at (suc more) before stretch bits few there rests ends =
-    let count = suc more in
-    let some : 0 < length bits = omega arith in
-    let rest : is_rest (first_item at bits) ≡ true = rest-at 0 at bits (rests 0 (omega arith)) in
-    let item = first_item at bits in
-    let c = covered item in
-    let fits = covered-first_item at bits some in
-    let within : c ≤ count = covers-within at count bits (omega arith) ends rest in
-    let left = drop c bits in
-    let raw = take c bits in
-    let less = count - c in
-    let place : at + c + less ≡ at + count = omega arith in
-    let all : c + less ≡ count = omega arith in
-    let moved : (p : ℕ) → drop p left ≡ drop (c + p) bits = λ p. drop-drop p c bits in
-    let to_end : drop less left ≡ drop count bits = moved less ∙ ap (λ (k : ℕ). drop k bits) all in
-    let taken : (stretch ++ raw) ++ take less left ≡ stretch ++ take count bits
-    = append_assoc stretch raw (take less left) ∙ ap (λ (xs : List Bool). stretch ++ xs) (append-take c less bits fits.1 ∙ ap (λ (k : ℕ). take k bits) all) in
-    ap (λ (items : List Item). followed_by true before stretch items bits) (items_by-more true at bits some refl)
-    ∙ followed-rest true before stretch item (items_of (at + c) left) bits rest
-    ∙ stretch-follow n (at + c) less before (stretch ++ raw) left (omega (arith, fits.0)) (omega (arith, length-drop c bits))
-    (λ p first. ap (λ (xs : List Bool). is_rest (first_item 0 xs)) (moved p) ∙ rests (c + p) (omega arith))
-    (ends-later count c bits left less (omega (arith, length-drop c bits)) to_end ends)
-    ∙ ap₂ (λ (xs : List Bool) (p : ℕ). followed_by true before xs (items_of p (drop less left)) (drop less left)) taken place
-    ∙ ap (λ (xs : List Bool). followed_by true before (stretch ++ take count bits) (items_of (at + count) xs) xs) to_end
+stretch-follow at count before stretch bits there rests ends =
+    let last = followed_by true before (stretch ++ take count bits) (items_of (at + count) (drop count bits)) (drop count bits) in
+    along-stretch (λ place taken left. followed_by true before taken (items_of place left) left ≡ last)
+    (λ place taken left item is rest same.
+    ap (λ (items : List Item). followed_by true before taken items left) is
+    ∙ followed-rest true before taken item (items_of (place + covered item) (drop (covered item) left)) left rest
+    ∙ same)
+    count at count stretch bits (omega arith) there rests ends refl

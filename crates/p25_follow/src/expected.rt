@@ -1,6 +1,7 @@
 //! What may come after a unit, by kind.
 
 ghost use Rattle.std.specs.Prelude.{◌≡◌, ◌≤◌, IfSome, MatchOption, [], ◌∷◌};
+ghost use Rattle.p25_bch_nid.specs.Duids.{duid_tdu, duid_tdulc};
 ghost use Rattle.p25_follow.specs.Expected.{expected_after, is_expected, kind_length, next_link};
 
 use p25_bch_nid::{HDU, LDU1, LDU2, TDU, TDULC};
@@ -25,7 +26,7 @@ pub fn kind_length(kind: u8) -> usize
 /// kind is expected.
 #[tactic(auto, unfolding(crate::specs::Expected::expected_after))]
 pub fn first_expected(before: u8) -> Option<u8>
-    ensures list { MatchOption result (expected_after before ≡ []) (λ kind. expected_after before ≡ kind ∷ 0xF ∷ 0x3 ∷ []) }
+    ensures list { MatchOption result (expected_after before ≡ []) (λ kind. expected_after before ≡ kind ∷ duid_tdulc ∷ duid_tdu ∷ []) }
     ensures fits { IfSome result (λ kind. kind ≤ 15) }
 {
     match before {

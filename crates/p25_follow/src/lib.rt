@@ -13,7 +13,7 @@
 //!     place: 0,
 //!     length: 432,
 //!     nac: 0,
-//!     duid: 0xF,
+//!     duid: TDULC,
 //!     fields: FieldList::new(),
 //! };
 //! follower.take(&unit, &sent, &mut out);

@@ -4,6 +4,7 @@ ghost use Rattle.std.specs.Prelude.{◌≤◌};
 ghost use Rattle.p25_units.specs.Units.{IsWholeBody};
 
 use super::Follower;
+use p25_bch_nid::TDULC;
 use p25_bits::{BITS_MOST, BitBuf};
 use p25_link::{EncryptionSync, HeaderWord, LinkControl};
 use p25_stream::{Item, find_item, repair_item};
@@ -11,14 +12,14 @@ use p25_units::{Body, FieldList, Frame, Status, Statuses, Unit, VoiceUnit, frame
 use p25_voice_units::{Voice, VoiceFrame};
 
 // A terminator with link control (TDULC) of NAC 0, and a terminator (TDU), with the status symbol 1.
-const TDULC: [u8; 54] = [
+const SENT_TDULC: [u8; 54] = [
     0x55, 0x75, 0xF5, 0xFF, 0x77, 0xFF, 0x00, 0x0F, 0xED, 0xDF, 0x24, 0xA9, 0xD7, 0x87, 0x00, 0x00,
     0x00, 0x01, 0x00, 0x00, 0x00, 0x00, 0x00, 0x00, 0x00, 0x00, 0x01, 0x00, 0x00, 0x00, 0x00, 0x00,
     0x00, 0x00, 0x00, 0x01, 0x00, 0x00, 0x00, 0x00, 0x00, 0x00, 0x00, 0x00, 0x01, 0x00, 0x00, 0x00,
     0x00, 0x00, 0x00, 0x00, 0x00, 0x01,
 ];
 
-const TDU: [u8; 18] = [
+const SENT_TDU: [u8; 18] = [
     0x55, 0x75, 0xF5, 0xFF, 0x77, 0xFF, 0x00, 0x03, 0x35, 0x93, 0x0B, 0xDD, 0x3B, 0x2B, 0x00, 0x00,
     0x00, 0x01,
 ];
@@ -86,10 +87,10 @@ fn comes_out(after: &[u8; 18], count: usize, written: &[u8; 18]) -> bool
     requires { count ≤ 18 }
 {
     let mut octets = [0; 72];
-    octets[..54].copy_from_slice(&TDULC);
+    octets[..54].copy_from_slice(&SENT_TDULC);
     octets[54..].copy_from_slice(after);
     let mut expected = BitBuf::new();
-    put_octets(&TDULC, &mut expected);
+    put_octets(&SENT_TDULC, &mut expected);
     put_octets(&written[..count], &mut expected);
     made_of(&octets[..54 + count], false) == expected
 }
@@ -98,14 +99,14 @@ fn comes_out(after: &[u8; 18], count: usize, written: &[u8; 18]) -> bool
 fn fronts_after_a_terminator_with_link_control(rt: HostRuntime) {
     // Rows: the octets after it, and what comes out.
     let rows: [([u8; 18], [u8; 18]); 6] = [
-        (FIVE_WRONG, TDU),
+        (FIVE_WRONG, SENT_TDU),
         // All 48 bits of the sync are wrong.
         (
             [
                 0xAA, 0x8A, 0x0A, 0x00, 0x88, 0x00, 0x00, 0x03, 0x35, 0x93, 0x0B, 0xDD, 0x3B, 0x2B,
                 0x00, 0x00, 0x00, 0x01,
             ],
-            TDU,
+            SENT_TDU,
         ),
         // Of the sync 14, and of the identifier 16.
         (
@@ -113,7 +114,7 @@ fn fronts_after_a_terminator_with_link_control(rt: HostRuntime) {
                 0xAA, 0x89, 0xF5, 0xFF, 0x77, 0xFF, 0xAA, 0xA9, 0x9D, 0x1B, 0x83, 0x5D, 0x3B, 0x2B,
                 0x00, 0x00, 0x00, 0x01,
             ],
-            TDU,
+            SENT_TDU,
         ),
         // Of the sync 15, and of the identifier 16.
         (
@@ -157,11 +158,11 @@ fn fronts_after_a_terminator_with_link_control(rt: HostRuntime) {
 #[test]
 fn a_terminator_after_a_broken_unit(rt: HostRuntime) {
     let mut sent = BitBuf::new();
-    put_octets(&TDULC, &mut sent);
+    put_octets(&SENT_TDULC, &mut sent);
     let mut lost = BitBuf::new();
     put_octets(&FIVE_WRONG, &mut lost);
     let mut terminator = BitBuf::new();
-    put_octets(&TDU, &mut terminator);
+    put_octets(&SENT_TDU, &mut terminator);
     assert!(rt; lost.len() == 144);
     let mut follower = Follower::new();
     let mut out = BitBuf::new();
@@ -169,7 +170,7 @@ fn a_terminator_after_a_broken_unit(rt: HostRuntime) {
         place: 0,
         length: 432,
         nac: 0,
-        duid: 0xF,
+        duid: TDULC,
         fields: FieldList::new(),
     };
     follower.take(&unit, &sent, &mut out);
@@ -190,7 +191,7 @@ fn a_terminator_that_is_not_all_there(rt: HostRuntime) {
 #[test]
 fn nothing_is_expected_after_a_terminator(rt: HostRuntime) {
     let mut octets = [0; 36];
-    octets[..18].copy_from_slice(&TDU);
+    octets[..18].copy_from_slice(&SENT_TDU);
     octets[18..].copy_from_slice(&FIVE_WRONG);
     let mut expected = BitBuf::new();
     put_octets(&octets, &mut expected);
@@ -308,7 +309,7 @@ fn comes_out_as(octets: &[u8; CALL_OCTETS], written: &[u8; CALL_OCTETS], count: 
 fn fronts_of_links(rt: HostRuntime) {
     let call = call_octets();
     let end = &call[963..];
-    assert!(rt; end == TDULC.as_slice());
+    assert!(rt; end == SENT_TDULC.as_slice());
     assert!(rt; comes_out_as(&call, &call, CALL_OCTETS));
     assert!(rt; comes_out_as(&lost(&call, 1), &call, CALL_OCTETS));
     assert!(rt; comes_out_as(&lost(&call, 2), &call, CALL_OCTETS));
@@ -349,15 +350,15 @@ fn a_repair_can_take_the_unit_before(rt: HostRuntime) {
     // The terminator with link control has four wrong bits in its sync: with them the header of the packet does not read.
     let mut octets = [0; AFTER_PACKET];
     octets[..38].copy_from_slice(&PACKET_BEGUN);
-    octets[38..92].copy_from_slice(&TDULC);
+    octets[38..92].copy_from_slice(&SENT_TDULC);
     octets[38] = 0xD6;
     octets[39] = 0xF5;
     octets[92..].copy_from_slice(&FIVE_WRONG);
     let mut clean = octets;
-    clean[38..92].copy_from_slice(&TDULC);
+    clean[38..92].copy_from_slice(&SENT_TDULC);
     let mut lost = BitBuf::new();
     put_octets(&clean, &mut lost);
-    clean[92..].copy_from_slice(&TDU);
+    clean[92..].copy_from_slice(&SENT_TDU);
     let mut found = BitBuf::new();
     put_octets(&clean, &mut found);
     assert!(rt; made_of(&octets_of(&made_of(&octets, false)), true) == found);

@@ -1,6 +1,7 @@
 //! What the front of bits after a unit tells of the unit there. Its identifier is read last, since that takes longest.
 
 ghost use Rattle.std.specs.Prelude.{◌≡◌, ◌+◌, ◌≤◌, ◌∷◌, [], drop, if◌then◌else◌, length, nat_le, nat_lt, ◌&&◌};
+ghost use Rattle.p25_bch_nid.specs.Duids.{duid_tdu, duid_tdulc};
 ghost use Rattle.p25_bits.specs.Bits.{part};
 ghost use Rattle.p25_follow.specs.{declared.told.Told.TheVariants.{Expected, Nothing}, Expected.{expected_after, name_of}, Looks.{is_read, told_by_look}};
 ghost use Rattle.p25_follow.specs.Told.{name_errors_of, nearest_kind, sync_errors_of, told_of};
@@ -100,7 +101,7 @@ fn nearest(before: &Nid, bits: &BitBuf, at: usize, sync: u32, kind: u8) -> Near
     requires there { at + 114 ≤ length bits.now }
     requires sync { sync ≡ sync_errors_of (part at 114 bits.now) }
     requires kind { kind ≤ 15 }
-    ensures kind { result.kind ≡ nearest_kind before.now.nac (part at 114 bits.now) kind (0xF ∷ 0x3 ∷ []) }
+    ensures kind { result.kind ≡ nearest_kind before.now.nac (part at 114 bits.now) kind (duid_tdulc ∷ duid_tdu ∷ []) }
     ensures wrong { result.wrong ≡ name_errors_of (before.now.nac, result.kind) (part at 114 bits.now) }
 {
     let first = nearness(before, bits, at, sync, kind);
@@ -124,7 +125,7 @@ fn told_near(sync: u32, near: Near) -> Told
 // A look at the bits from a place on, after a unit with a name, where some kinds may come, the first of which is given.
 fn look_among(before: &Nid, bits: &BitBuf, at: usize, kind: u8) -> Look
     requires there { at + 114 ≤ length bits.now }
-    requires list { expected_after before.now.duid ≡ kind ∷ 0xF ∷ 0x3 ∷ [] }
+    requires list { expected_after before.now.duid ≡ kind ∷ duid_tdulc ∷ duid_tdu ∷ [] }
     requires kind { kind ≤ 15 }
     ensures { told_of (name_of before.now) (drop at bits.now) ≡ told_by_look result (is_read (drop at bits.now)) }
 {

@@ -6,8 +6,8 @@ use super::line::LINE_MOST;
 use arrayvec::ArrayVec;
 use std::marker::Model;
 
-/// The most words of a line whose spans are kept.
-pub const WORDS_MOST: usize = 16;
+// The most words of a line whose spans are kept.
+const WORDS_MOST: usize = 16;
 
 /// Where a word stands in its line.
 #[derive(Clone, Copy, Debug, Default, PartialEq, Eq)]
@@ -21,7 +21,7 @@ pub struct Span {
 /// The spans of the first 16 words of a line, and the number of all its words. The line itself is not kept.
 #[derive(Clone, Debug, Drop)]
 pub struct WordList {
-    spans: ArrayVec<Span, 16>,
+    spans: ArrayVec<Span, WORDS_MOST>,
     count: usize,
 }
 

@@ -92,7 +92,6 @@ fn push_octets(bits: &BitBuf, count: usize, octets: &mut Octets)
     ensures list { octets.new ≡ octets.old ++ octets_from count bits.now }
     ensures len { length octets.new ≡ length octets.old + count }
 {
-    let _ = bits.len();
     for place in 0..count {
         octets.push(bits.field(8 * place, 8) as u8);
     }

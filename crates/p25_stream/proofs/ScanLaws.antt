@@ -1,6 +1,6 @@
 -- What a scanner gives: the items of what it holds and of any bits that come later.
-use Rattle.std.proofs.Common.{◌≡◌, ◌↔◌, ℕ, ◌+◌, ◌<◌, ◌≤◌, inl, inr, Bool, true, false, not, ◌||◌, eqb, List, [], ◌∷◌, ◌++◌, length, take, drop, refl, ap, ap₂, sym, ◌∙◌, subst, arith, append-nil}
-use Rattle.std.proofs.lemmas.Bool.{cases_Bool, eqb-true, eq-eqb, not-true}
+use Rattle.std.proofs.Common.{◌≡◌, ◌↔◌, ℕ, ◌+◌, ◌<◌, ◌≤◌, inl, inr, Bool, true, false, not, ◌||◌, List, [], ◌∷◌, ◌++◌, length, take, drop, refl, ap, ap₂, sym, ◌∙◌, subst, arith, append-nil}
+use Rattle.std.proofs.{lemmas.Bool.{cases_Bool, not-true}, lemmas.List.{nil_from_length}}
 use Rattle.std.specs.Prelude.{IsTrue}
 use Rattle.p25_units.specs.{Items.{covered}, declared.item.Item.{Item}}
 use Rattle.p25_stream.specs.{Items.{first_item, is_decided, items_by}, Scan.{Scan, given, Gave}, Judgements.{IsJudged, is_settled}, declared.judged.Judged.{Judged}}
@@ -87,11 +87,11 @@ gave-items before now item raw ended more gave goes =
     ∙ ap₂ (λ n rest. item ∷ items_by ended n (rest ++ more)) (sym gave.place) (sym gave.left)
 
 -- whether a scanner is drained, as it answers
-pub drained-when-finished : (scan : Scan) (n : ℕ) → scan.finished ≡ true → n ≡ length scan.held → IsTrue (eqb n 0) ↔ (given scan ≡ [])
-drained-when-finished scan n ended long =
+pub drained-when-finished : (scan : Scan) (empty : Bool) → scan.finished ≡ true → IsTrue empty ↔ (scan.held ≡ []) → IsTrue empty ↔ (given scan ≡ [])
+drained-when-finished scan empty ended held =
     let is = drained-finished scan.place scan.held in (
-      λ none. ap (λ b. items_by b scan.place scan.held) ended ∙ is.0 (sym long ∙ eqb-true n 0 none),
-      λ none. eq-eqb n 0 (long ∙ is.1 (ap (λ b. items_by b scan.place scan.held) (sym ended) ∙ none)),
+      λ none. ap (λ b. items_by b scan.place scan.held) ended ∙ is.0 (ap length (held.0 none)),
+      λ none. held.1 (nil_from_length scan.held (is.1 (ap (λ b. items_by b scan.place scan.held) (sym ended) ∙ none))),
     )
 
 pub drained-when-going : (judged : Judged) (scan : Scan) (known : Bool)

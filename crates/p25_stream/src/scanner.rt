@@ -104,7 +104,7 @@ impl Scanner {
         ensures { IsTrue result ↔ (given self.now ≡ []) }
     {
         if self.finished {
-            self.held.len() == 0
+            self.held.is_empty()
         } else {
             !self.judged.is_settled()
         }
@@ -115,7 +115,6 @@ impl Scanner {
         ensures value { result ≡ length self.now.held }
         ensures most { result ≤ 25927 }
     {
-        let _ = &self.place;
         self.held.len()
     }
 

@@ -8,13 +8,13 @@ use arrayvec::ArrayVec;
 use p25_line::{LineWords, hex_value};
 use std::marker::Model;
 
-/// The most values of a unit line.
-pub const VALUES_MOST: usize = 6;
+// The most values of a unit line.
+const VALUES_MOST: usize = 6;
 
 /// The values of a line, in the order of their keys.
 #[derive(Drop)]
 pub struct Values<'a> {
-    values: ArrayVec<&'a [u8], 6>,
+    values: ArrayVec<&'a [u8], VALUES_MOST>,
 }
 
 impl<'a> Model for Values<'a> {

@@ -1,7 +1,7 @@
-use Rattle.std.proofs.Common.{◌≡◌, ℕ, ◌+◌, ◌<◌, Option, Some, sym, ap, ap₂, subst, ◌∙◌}
-use Rattle.std.specs.{Prelude.{IfSome}, Option.{option_or}}
-use Rattle.p25_calls.specs.{declared.call.Call.{Call}, Taking.{CallerParts, answer_to, behind_item, ended_call, pending_run, terminated, unit_answer, unit_pending}}
-use Rattle.p25_calls.proofs.CallerSteps.{ended-nac, pending-kept, pending-nac, unit-ends}
+use Rattle.std.proofs.Common.{◌≡◌, ℕ, ◌+◌, ◌<◌, Option, sym, ap, subst, ◌∙◌, arith}
+use Rattle.std.specs.Prelude.{IfSome}
+use Rattle.p25_calls.specs.{declared.call.Call.{Call}, Taking.{CallerParts, answer_to, behind_item, unit_answer, unit_pending}}
+use Rattle.p25_calls.proofs.CallerSteps.{ended-nac, pending-before, pending-kept, pending-nac}
 use Rattle.p25_calls.proofs.caller.Caller.take.Goals as goal
 
 caller_of : ℕ → ℕ → Option Call → CallerParts
@@ -11,51 +11,39 @@ caller_of reached taken pending = record { reached = reached; taken = taken; pen
 same-caller : (a b c d : ℕ) (p q : Option Call) → a ≡ b → c ≡ d → p ≡ q → caller_of a c p ≡ caller_of b d q
 same-caller a b c d p q reached taken pending = ap (λ (x : ℕ). caller_of x c p) reached ∙ ap (λ (x : ℕ). caller_of b x p) taken ∙ ap (λ (x : Option Call). caller_of b d x) pending
 
-pub invariant_of-self-in-Some : goal.invariant_of-self-in-Some
-invariant_of-self-in-Some c =
-    let at = c.in-Some.ensures.place ∙ c.requires.place ∙ sym (ap (λ (p : CallerParts). p.reached) c.self.view_is) in
-    let ends = unit-ends c.args.item.now c.in-Some.unit c.in-Some.ensures.unit ∙ sym c.item_end-self-inside.ensures.value in
-    pending-kept c.self.inside.reached c.self.inside.taken c.item_end-self-inside.result
-    c.self.inside.pending c.in-Some.unit c.run_with-run.result c.pending_run-self-inside.result c.self.invariant at ends
-    c.run_with-run.ensures c.pending_run-self-inside.ensures
+pub take_unit-requires-clause-pending : goal.take_unit-requires-clause-pending
+take_unit-requires-clause-pending c =
+    let at = c.requires.place ∙ sym (ap (λ (p : CallerParts). p.reached) c.self.view_is) in
+    let few = ap (λ (p : CallerParts). p.taken) c.self.view_is in
+    pending-before c.self.inside.reached c.self.inside.taken _ _ c.self.inside.pending c.seen_unit.result c.self.invariant (omega (arith, at)) (omega (arith, few)) c.seen_unit.ensures.place
 
-pub returns-in-None-clause-answer : goal.returns-in-None-clause-answer
+pub invariant_of-self : goal.invariant_of-self
+invariant_of-self c =
+    let at = c.requires.place ∙ sym (ap (λ (p : CallerParts). p.reached) c.self.view_is) in
+    pending-kept c.self.inside.reached c.self.inside.taken c.item_end-self-inside.result c.self.inside.pending c.args.item.now c.seen_unit.result _ c.self.invariant
+    at c.item_end-self-inside.ensures.value c.seen_unit.ensures.unit c.take_unit.ensures.pending
+
+pub returns-clause-answer : goal.returns-clause-answer
 unfolding answer_to
-returns-in-None-clause-answer c = ap (unit_answer c.args.self.now.pending) c.in-None.ensures.unit
+returns-clause-answer c =
+    c.take_unit.ensures.answer ∙ ap (λ (p : CallerParts). unit_answer p.pending c.seen_unit.result) c.self.view_is ∙ ap (unit_answer c.args.self.now.pending) c.seen_unit.ensures.unit
 
-pub returns-in-None-clause-behind : goal.returns-in-None-clause-behind
+pub returns-clause-behind : goal.returns-clause-behind
 unfolding behind_item caller_of
-returns-in-None-clause-behind c =
+returns-clause-behind c =
     same-caller _ _ _ _ _ _ c.item_end-self-inside.ensures.value (ap (λ (p : CallerParts). p.taken + 1) c.self.view_is)
-    (ap (λ (p : CallerParts). p.pending) c.self.view_is ∙ ap (unit_pending c.args.self.now.pending) c.in-None.ensures.unit)
+    (c.take_unit.ensures.pending ∙ ap (λ (p : CallerParts). unit_pending p.pending c.seen_unit.result) c.self.view_is ∙ ap (unit_pending c.args.self.now.pending) c.seen_unit.ensures.unit)
 
-pub returns-in-Some-clause-answer : goal.returns-in-Some-clause-answer
-unfolding answer_to
-returns-in-Some-clause-answer c =
-    c.or.ensures
-    ∙ ap₂ option_or c.broken_off.ensures (c.terminated.ensures ∙ ap (λ (run : Call). terminated run c.in-Some.unit) c.run_with-run.ensures)
-    ∙ ap (λ (p : CallerParts). ended_call p.pending c.in-Some.unit) c.self.view_is
-    ∙ ap (unit_answer c.args.self.now.pending) c.in-Some.ensures.unit
-
-pub returns-in-Some-clause-behind : goal.returns-in-Some-clause-behind
-unfolding behind_item caller_of
-returns-in-Some-clause-behind c =
-    same-caller _ _ _ _ _ _ c.item_end-self-inside.ensures.value (ap (λ (p : CallerParts). p.taken + 1) c.self.view_is)
-    (c.pending_run-self-inside.ensures
-    ∙ ap (λ (run : Call). pending_run run c.in-Some.unit) c.run_with-run.ensures
-    ∙ ap (λ (p : CallerParts). unit_pending p.pending (Some c.in-Some.unit)) c.self.view_is
-    ∙ ap (unit_pending c.args.self.now.pending) c.in-Some.ensures.unit)
-
-pub returns-in-Some-clause-sound : goal.returns-in-Some-clause-sound
-returns-in-Some-clause-sound c =
+pub returns-clause-sound : goal.returns-clause-sound
+returns-clause-sound c =
     λ item held.
-    pending-nac c.self.inside.pending c.in-Some.unit c.run_with-run.result c.pending_run-self-inside.result
-    (subst (λ (p : CallerParts). IfSome p.pending (λ (call : Call). call.nac < 4096)) (sym c.self.view_is) held)
-    (c.in-Some.ensures.sound item) c.run_with-run.ensures c.pending_run-self-inside.ensures
+    subst (λ (o : Option Call). IfSome o (λ (call : Call). call.nac < 4096)) (sym c.take_unit.ensures.pending)
+    (pending-nac c.self.inside.pending c.seen_unit.result
+    (subst (λ (p : CallerParts). IfSome p.pending (λ (call : Call). call.nac < 4096)) (sym c.self.view_is) held) (c.seen_unit.ensures.sound item))
 
-pub returns-in-Some-clause-nac : goal.returns-in-Some-clause-nac
-returns-in-Some-clause-nac c =
+pub returns-clause-nac : goal.returns-clause-nac
+returns-clause-nac c =
     λ item held.
-    ended-nac c.self.inside.pending c.in-Some.unit c.or.result
-    (subst (λ (p : CallerParts). IfSome p.pending (λ (call : Call). call.nac < 4096)) (sym c.self.view_is) held) (c.in-Some.ensures.sound item)
-    (c.or.ensures ∙ ap₂ option_or c.broken_off.ensures (c.terminated.ensures ∙ ap (λ (run : Call). terminated run c.in-Some.unit) c.run_with-run.ensures))
+    subst (λ (o : Option Call). IfSome o (λ (call : Call). call.nac < 4096)) (sym c.take_unit.ensures.answer)
+    (ended-nac c.self.inside.pending c.seen_unit.result
+    (subst (λ (p : CallerParts). IfSome p.pending (λ (call : Call). call.nac < 4096)) (sym c.self.view_is) held) (c.seen_unit.ensures.sound item))

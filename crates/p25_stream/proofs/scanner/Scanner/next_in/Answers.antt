@@ -1,4 +1,4 @@
-use Rattle.std.proofs.{Common.{◌≢◌, false, [], ◌++◌, length, ap, ◌∙◌, arith}, lemmas.Bool.{both_ways}}
+use Rattle.std.proofs.{Common.{◌≢◌, [], ◌++◌, length, ap, ◌∙◌, arith}, lemmas.Bool.{both_ways}}
 use Rattle.p25_bits.specs.Bits.{part}
 use Rattle.p25_stream.specs.{Items.{first_item}, Scan.{Scan, given}}
 use Rattle.p25_stream.proofs.ScanLaws.{gave-next, next-fits}

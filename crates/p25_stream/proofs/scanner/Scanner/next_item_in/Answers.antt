@@ -1,4 +1,4 @@
-use Rattle.std.proofs.{Common.{◌≢◌, false, [], length, take, ap, ap₂, sym, ◌∙◌, arith}, lemmas.Bool.{both_ways}}
+use Rattle.std.proofs.{Common.{◌≢◌, [], length, take, ap, ap₂, sym, ◌∙◌, arith}, lemmas.Bool.{both_ways}}
 use Rattle.p25_units.specs.Items.{covered}
 use Rattle.p25_stream.specs.{Items.{first_item}, Scan.{Scan, given}}
 use Rattle.p25_stream.proofs.ScanLaws.{gave-next, next-fits}
