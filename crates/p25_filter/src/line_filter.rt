@@ -165,7 +165,6 @@ impl<M: LineMachine> Filter for LineFilter<M> {
     }
 
     fn ending(&self) -> Ending {
-        let _ = &self.lines;
         Ending::Done
     }
 }

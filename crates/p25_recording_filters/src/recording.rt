@@ -98,7 +98,6 @@ impl<R: Report> Filter for Recording<R> {
     ghost size = { λ s. s.scan.place + length s.scan.held };
 
     fn push_some(&mut self, octets: &[u8]) -> usize {
-        let _ = &self.raw;
         self.scanner.push_some(octets)
     }
 

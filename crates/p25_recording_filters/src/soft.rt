@@ -205,12 +205,10 @@ impl Filter for Soft {
     ghost size = { λ s. first_level s.scan.place + length s.levels };
 
     fn push_some(&mut self, octets: &[u8]) -> usize {
-        let _ = &self.kept;
         hear_some(&mut self.levels, octets, &mut self.scanner)
     }
 
     fn finish(&mut self) {
-        let _ = &self.kept;
         fill(&mut self.levels, &mut self.scanner);
         self.scanner.finish();
     }
@@ -225,7 +223,6 @@ impl Filter for Soft {
     }
 
     fn ending(&self) -> Ending {
-        let _ = &self.kept;
         Ending::Done
     }
 }

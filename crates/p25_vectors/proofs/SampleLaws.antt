@@ -13,7 +13,7 @@ use Rattle.p25_voice_units.specs.{declared.voice.VoiceFrame.{VoiceFrame}, declar
 use Rattle.p25_voice_units.specs.{Fixes.{wide, voice_looked, link_looked}, Images.{voice_image_of}, Layouts.{ldu_rows}, Lengths.{voice_duid, voice_length_of}}
 use Rattle.p25_voice_units.specs.{Readings.{frame_places, frame_in, low_places, voice_in}, Sendable.{IsSendableVoice}}
 use Rattle.p25_units.specs.{Fixes.{body_looked}, Needs.{need_of}, Readings.{unit_reading_of}, UnitParts.{UnitParts}}
-use Rattle.p25_units.specs.Units.{body_image_of, body_length, frame_length_of, image_of, unit_image_of, IsSendableBody, IsSendableUnit, IsSoundFrame, IsWholeBody}
+use Rattle.p25_units.specs.Units.{body_image_of, body_length, filled_frame, frame_length_of, image_of, unit_image_of, IsSendableBody, IsSendableUnit, IsSoundFrame, IsWholeBody}
 use Rattle.p25_units.specs.{WithinRadius.{IsBodyWithin, IsFrontWithin, IsWithinRadius, received_body, received_frame}, declared.unit.Body.{Body}, declared.unit.Body.TheVariants.{Voice, Packet}}
 use Rattle.p25_units.specs.{declared.frame.Frame.{Frame}, declared.needs.Need.TheVariants.{Length}}
 use Rattle.p25_voice_units.proofs.RadiusLaws.{within_from_words, received_itself}
@@ -222,13 +222,12 @@ frame_next-sound kind state =
     let behind = state_after 1 (state_after 1 state) in
     frame_of-sound (draw 0 state % 4096) (status_modulo (draw 0 (state_after 1 state))) (body_next kind behind).0 (body_next-whole kind behind)
 
-pub frame-drawn : (kind : Kind) (state first second last nac : ℕ) (status : Status) (body : Body) (unit : UnitParts) (statuses : List Status)
+pub frame-drawn : (kind : Kind) (state first second last nac : ℕ) (status : Status) (body : Body) (unit : UnitParts)
     → nac ≡ draw 0 state % 4096 → first ≡ state_after 1 state → status ≡ status_modulo (draw 0 first) → second ≡ state_after 1 first
     → body ≡ (body_next kind second).0 → last ≡ (body_next kind second).1 → unit ≡ record { nac = nac; body = body }
-    → statuses ≡ replicate (frame_length_of unit / 72) status
-    → (◌≡◌ {A = Frame} (record { unit = unit; statuses = statuses }) (frame_next kind state).0) × (last ≡ (frame_next kind state).1)
+    → (filled_frame status unit ≡ (frame_next kind state).0) × (last ≡ (frame_next kind state).1)
 unfolding frame_next frame_length_of
-frame-drawn kind state first second last nac status body unit statuses a b c d e f g h =
+frame-drawn kind state first second last nac status body unit a b c d e f g =
     let behind : second ≡ state_after 1 (state_after 1 state) = d ∙ ap (state_after 1) b in
     let symbol : status ≡ status_modulo (draw 0 (state_after 1 state)) = c ∙ ap (λ (s : ℕ). status_modulo (draw 0 s)) b in
     let carried : body ≡ (body_next kind (state_after 1 (state_after 1 state))).0 = e ∙ ap (λ (s : ℕ). (body_next kind s).0) behind in
@@ -236,8 +235,8 @@ frame-drawn kind state first second last nac status body unit statuses a b c d e
     let whole : UnitParts → List Status → Frame = λ u xs. record { unit = u; statuses = xs } in
     let units : unit ≡ made (draw 0 state % 4096) (body_next kind (state_after 1 (state_after 1 state))).0 = g ∙ ap₂ made a carried in
     let count : frame_length_of unit / 72 ≡ body_length unit.body / 70 = omega arith in
-    let symbols : statuses ≡ replicate (body_length (body_next kind (state_after 1 (state_after 1 state))).0 / 70) (status_modulo (draw 0 (state_after 1 state)))
-    = h ∙ ap₂ (λ (n : ℕ) (x : Status). replicate n x) (count ∙ ap (λ (u : UnitParts). body_length u.body / 70) units) symbol in
+    let symbols : replicate (frame_length_of unit / 72) status ≡ replicate (body_length (body_next kind (state_after 1 (state_after 1 state))).0 / 70) (status_modulo (draw 0 (state_after 1 state)))
+    = ap₂ (λ (n : ℕ) (x : Status). replicate n x) (count ∙ ap (λ (u : UnitParts). body_length u.body / 70) units) symbol in
     (ap₂ whole units symbols, f ∙ ap (λ (s : ℕ). (body_next kind s).1) behind)
 
 -- The units in order.

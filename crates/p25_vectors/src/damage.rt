@@ -22,6 +22,7 @@ fn invert(at: usize, count: usize, bits: &mut BitBuf)
     ensures list { bits.new ≡ inverted at count bits.old }
     ensures len { length bits.new ≡ length bits.old }
 {
+    // The number of bits held bounds every place below.
     let _ = bits.len();
     for k in 0..count {
         bits.flip(at + k);

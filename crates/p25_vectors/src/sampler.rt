@@ -11,8 +11,8 @@ use crate::bodies::{Kind, draw_body, kind_at};
 use crate::damage::damage;
 use crate::draws::Draws;
 use p25_bits::BitBuf;
-use p25_status::{SENT_BLOCK_LENGTH, Status, Statuses, weave};
-use p25_units::{Frame, Unit, frame_length, unit_image};
+use p25_status::{Status, weave};
+use p25_units::{Frame, Unit, unit_image};
 use std::marker::Model;
 
 /// A sample unit.
@@ -104,8 +104,7 @@ fn draw_frame(kind: Kind, draws: &mut Draws) -> Frame
     let nac = draws.below(4096) as u16;
     let status = draw_status(draws);
     let unit = Unit::new(nac, draw_body(kind, draws));
-    let statuses = Statuses::filled(status, frame_length(&unit) / SENT_BLOCK_LENGTH);
-    Frame { unit, statuses }
+    Frame::filled(unit, status)
 }
 
 // Sets `bits` to the bits of a frame as they are sent, damaged as draws say, and answers how many are inverted.

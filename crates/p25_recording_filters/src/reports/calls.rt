@@ -66,7 +66,6 @@ impl Report for Calls {
     ghost ignores_bits = { λ _. record { piece = λ report item bits others. refl; behind = λ report item bits others. refl } };
 
     fn put(&mut self, item: &Item, raw: &mut BitBuf, out: &mut Line) {
-        let _ = raw.len();
         out.clear();
         let call = self.caller.take(item);
         self.count += put_call(&call, out);
@@ -82,7 +81,6 @@ impl Report for Calls {
     }
 
     fn ending(&self) -> Ending {
-        let _ = &self.count;
         Ending::Done
     }
 }

@@ -78,12 +78,10 @@ impl Report for Changed {
     }
 
     fn close(&self, out: &mut Line) {
-        let _ = &self.kept;
         out.clear();
     }
 
     fn ending(&self) -> Ending {
-        let _ = &self.kept;
         Ending::Done
     }
 }

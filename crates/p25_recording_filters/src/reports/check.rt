@@ -59,7 +59,6 @@ impl Report for Check {
     ghost ignores_bits = { λ _. record { piece = λ report item bits others. refl; behind = λ report item bits others. refl } };
 
     fn put(&mut self, item: &Item, raw: &mut BitBuf, out: &mut Line) {
-        let _ = raw.len();
         match item {
             Item::Whole { .. } => {
                 self.units += 1;

@@ -106,7 +106,6 @@ impl Report for Followed {
     }
 
     fn ending(&self) -> Ending {
-        let _ = &self.kept;
         Ending::Done
     }
 }

@@ -26,7 +26,6 @@ impl Report for Show {
     ghost ignores_bits = { λ _. record { piece = λ report item bits others. refl; behind = λ report item bits others. refl } };
 
     fn put(&mut self, item: &Item, raw: &mut BitBuf, out: &mut Line) {
-        let _ = raw.len();
         put_item_line(item, out);
     }
 
