@@ -1,16 +1,14 @@
 -- The counts of sessions in any run: by what is outstanding, each event keeps the numbers sent and acknowledged together.
 use Rattle.std.proofs.{Common.{◌≡◌, ℕ, ◌+◌, ◌⊎◌, inl, inr, Bool, true, false, cond, List, [], ◌∷◌, ◌++◌, length, refl, ap, sym, subst, arith, length-append}, lemmas.List.Elements.{All-push}}
 use Rattle.p25_packet_blocks.specs.declared.packet.Packet.{Packet}
-use Rattle.p25_delivery.specs.{MessageBlocks.{block_count}, SentPackets.{message_packet, opening_packet}, Halves.{Sending, Receiving}}
-use Rattle.p25_delivery.specs.{SenderRules.{offered_beside, offered, timed_out_with, timed_out, sender_heard, opening_number, reopened, is_opening}, ReceiverRules.{receiver_heard}}
-use Rattle.p25_delivery.specs.{declared.sender.Outstanding.{Outstanding}, declared.sender.Outstanding.TheVariants.{Nothing, Message, Opening}}
-use Rattle.p25_delivery.specs.HalfRules.{after_offer, after_timeout, after_reopening, after_data, after_answer}
+use Rattle.p25_delivery.specs.{MessageBlocks.{block_count}, SentPackets.{message_packet, opening_packet}, Halves.{Sending}}
+use Rattle.p25_delivery.specs.{SenderRules.{offered_beside, offered, timed_out_with, timed_out, sender_heard, opening_number, reopened, is_opening}, declared.sender.Outstanding.{Outstanding}}
+use Rattle.p25_delivery.specs.{declared.sender.Outstanding.TheVariants.{Nothing, Message, Opening}, HalfRules.{after_offer, after_timeout, after_reopening, after_answer}}
 use Rattle.p25_delivery.specs.Delivery.{Session, Delivery, first_delivery, last_mark, sessions_of, present_session, with_outbound, with_inbound, Happening, Offering, Time_up, Opening_again, Data_heard, Answer_heard, happens, delivery_run}
 use Rattle.p25_delivery.specs.Orderly.{IsCounted, AreCounted}
 use Rattle.p25_messages.specs.{declared.answers.Offer.{Offer}, declared.answers.Offer.TheVariants.{Taken, Down as OfferDown}, declared.answers.Resend.{Resend}}
-use Rattle.p25_messages.specs.{declared.answers.Resend.TheVariants.{Sent, Idle, Down as ResendDown}, declared.answers.SenderHeard.{SenderHeard}}
-use Rattle.p25_messages.specs.{declared.answers.SenderHeard.TheVariants.{Retry, Repeat, Ignored as SenderIgnored, Down as HeardDown}, declared.answers.Reopen.{Reopen}, declared.answers.Heard.{Heard}}
-use Rattle.p25_messages.specs.declared.answers.Heard.TheVariants.{Delivered}
+use Rattle.p25_messages.specs.{declared.answers.SenderHeard.{SenderHeard}, declared.answers.SenderHeard.TheVariants.{Retry, Repeat, Ignored as SenderIgnored, Down as HeardDown}}
+use Rattle.p25_messages.specs.declared.answers.Reopen.{Reopen}
 use Rattle.p25_delivery.proofs.SenderLaws.{IsSame, Resends, resent-of, timeout-of, Stays, HearsAnswer, goes_on, stays, HearsOpening, opens, waits, offer-message, offer-opening, reopen-cases, message-answer, opening-answer, quiet-answer}
 use Rattle.p25_delivery.proofs.{SessionLaws.{IsMarked, IsDivided, ended_sessions, sessions-split, present-sent, present-acknowledged, present-marked, first-divided}, EndedLaws.{happens-divided}}
 use Rattle.p25_delivery.proofs.{CallLaws.{offer-held}, RunLaws.{each-all, run-keeps_all}}
@@ -78,9 +76,7 @@ timeout-any s (Opening number) o = timeout-of Anything s (Opening number) o (res
 
 timeout-counts : (w : Delivery) (x : Sending × Resend) → IsSame w.outbound.sender x.0 → HasCounts w → HasCounts (with_outbound w (after_timeout w.outbound x)).0
 unfolding with_outbound after_timeout
-timeout-counts w (s, Sent number tries packet) t h = counts-at w s.outstanding t.outstanding h
-timeout-counts w (s, Idle) t h = counts-at w s.outstanding t.outstanding h
-timeout-counts w (s, ResendDown) t h = counts-at w s.outstanding t.outstanding h
+timeout-counts w x t h = counts-at w x.0.outstanding t.outstanding h
 
 -- a reopening
 
@@ -99,13 +95,6 @@ reopen-counts w out o h =
       | inl e ↦ subst (AfterReopening w false) (sym e) h
       | inr e ↦ subst (AfterReopening w false) (sym e) (subst (CountsIn (Opening (opening_number w.outbound.sender.outstanding w.outbound.sender.next))) (sym (present-marked w)) refl)
     ]
-
--- a packet that the receiver hears
-
-data-counts : (w : Delivery) (x : Receiving × Heard) → HasCounts w → HasCounts (with_inbound w (after_data w.inbound x)).0
-unfolding with_inbound after_data
-data-counts w (r, Delivered number message answer) h = h
-data-counts w x h = h
 
 -- a packet that the sender hears
 
@@ -141,11 +130,11 @@ answer-counts w packet (Opening number) o m h = opening-counts w number packet (
 -- every event, and every run
 
 happens-counts : (w : Delivery) (event : Happening) → IsMarked w → HasCounts w → HasCounts (happens w event).0
-unfolding happens AfterOffer AfterReopening AfterAnswer
+unfolding happens with_inbound AfterOffer AfterReopening AfterAnswer
 happens-counts w (Offering message) m h = offer-counts w message w.outbound.sender.outstanding refl m h
 happens-counts w Time_up m h = timeout-counts w (timed_out w.outbound.sender) (timeout-any w.outbound.sender w.outbound.sender.outstanding refl).0 h
 happens-counts w Opening_again m h = reopen-counts w w.outbound.sender.outstanding refl h
-happens-counts w (Data_heard packet) m h = data-counts w (receiver_heard w.inbound.receiver packet) h
+happens-counts w (Data_heard packet) m h = h
 happens-counts w (Answer_heard packet) m h = answer-counts w packet w.outbound.sender.outstanding refl m h
 
 abbrev IsCountedLink : Delivery → Type 0

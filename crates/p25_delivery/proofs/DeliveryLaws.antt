@@ -1,6 +1,6 @@
 -- A packet that is heard and true to the one sent keeps a delivery in a phase: each phase in turn, by what the station answers
 -- there. And so does every event of a clean run.
-use Rattle.std.proofs.Common.{◌≡◌, ℕ, ◌+◌, ◌%◌, ◌<◌, ◌≤◌, ◌⊎◌, inl, inr, Bool, true, false, List, [], ◌∷◌, length, Option, Some, None, refl, ap, sym, ◌∙◌, subst, arith, length-append}
+use Rattle.std.proofs.Common.{◌≡◌, ℕ, ◌+◌, ◌%◌, ◌<◌, ◌≤◌, ◌⊎◌, inl, inr, Bool, true, List, [], ◌∷◌, length, Option, Some, None, refl, ap, sym, ◌∙◌, subst, arith, length-append}
 use Rattle.std.proofs.lemmas.Option.{IfSome_then, same_Some}
 use Rattle.std.specs.Prelude.{IfSome}
 use Rattle.p25_packet_blocks.specs.{declared.packet.Packet.{Packet}, declared.packet.Packet.TheVariants.{Confirmed}}
@@ -328,13 +328,11 @@ sent-reopens : (o : Outgoing) (delivered : ℕ) (again : Bool) (s : Sending) (n 
     → s.outstanding ≡ Opening n → (after_reopening o delivered again (s, ReopenSent n packet)).1.0 ≡ Reopened number →
     (after_reopening o delivered again (s, ReopenSent n packet)).0.sender.outstanding ≡ Opening number
 unfolding after_reopening
-sent-reopens o delivered true s n number packet out e = let same : n ≡ number = cc in out ∙ ap (λ (k : ℕ). Opening k) same
-sent-reopens o delivered false s n number packet out e = let same : n ≡ number = cc in out ∙ ap (λ (k : ℕ). Opening k) same
+sent-reopens o delivered again s n number packet out e = let same : n ≡ number = cc in out ∙ ap (λ (k : ℕ). Opening k) same
 
 up-reopens : (o : Outgoing) (delivered : ℕ) (again : Bool) (s : Sending) (number : ℕ) → (after_reopening o delivered again (s, ReopenUp)).1.0 ≡ Reopened number → ⊥
 unfolding after_reopening
-up-reopens o delivered true s number e = cc
-up-reopens o delivered false s number e = cc
+up-reopens o delivered again s number e = cc
 
 reopened-opens : (w : Delivery) (number : ℕ) → (happens w Opening_again).1 ≡ Reopened number → (happens w Opening_again).0.outbound.sender.outstanding ≡ Opening number
 unfolding happens with_outbound

@@ -3,9 +3,9 @@ use Rattle.std.proofs.Common.{Bool, false, List, ℕ, length, true}
 use Rattle.p25_delivery.specs.{Halves.{Sending, Receiving}, SenderRules.{offered, timed_out, sender_heard, reopened, is_opening}, ReceiverRules.{receiver_heard}}
 use Rattle.p25_delivery.specs.HalfRules.{after_offer, after_timeout, after_reopening, after_data, after_answer}
 use Rattle.p25_delivery.specs.Delivery.{Delivery, Session, present_session, with_outbound, with_inbound, Happening, Offering, Time_up, Opening_again, Data_heard, Answer_heard, happens}
-use Rattle.p25_messages.specs.{declared.answers.Offer.{Offer}, declared.answers.Offer.TheVariants.{Taken}, declared.answers.Resend.{Resend}, declared.answers.Resend.TheVariants.{Sent}}
-use Rattle.p25_messages.specs.{declared.answers.SenderHeard.{SenderHeard}, declared.answers.SenderHeard.TheVariants.{Acknowledged}, declared.answers.Reopen.{Reopen}}
-use Rattle.p25_messages.specs.{declared.answers.Reopen.TheVariants.{Sent as ReopenSent}, declared.answers.Heard.{Heard}, declared.answers.Heard.TheVariants.{Delivered}}
+use Rattle.p25_messages.specs.{declared.answers.Offer.{Offer}, declared.answers.Offer.TheVariants.{Taken}, declared.answers.Resend.{Resend}, declared.answers.SenderHeard.{SenderHeard}}
+use Rattle.p25_messages.specs.{declared.answers.SenderHeard.TheVariants.{Acknowledged}, declared.answers.Reopen.{Reopen}, declared.answers.Reopen.TheVariants.{Sent as ReopenSent}}
+use Rattle.p25_messages.specs.{declared.answers.Heard.{Heard}, declared.answers.Heard.TheVariants.{Delivered}}
 use Rattle.p25_delivery.proofs.SessionLaws.{IsDivided, divided-sent, divided-delivered, divided-acknowledged, divided-marked}
 
 offer-divided : (P : Session → Type 0) (w : Delivery) (message : List ℕ) (x : Sending × Offer) → IsDivided P w → IsDivided P (with_outbound w (after_offer w.outbound message x)).0
@@ -15,7 +15,6 @@ offer-divided P w message x h = h
 
 timeout-divided : (P : Session → Type 0) (w : Delivery) (x : Sending × Resend) → IsDivided P w → IsDivided P (with_outbound w (after_timeout w.outbound x)).0
 unfolding with_outbound after_timeout
-timeout-divided P w (s, Sent number tries packet) h = h
 timeout-divided P w x h = h
 
 reopen-divided : (P : Session → Type 0) (w : Delivery) (again : Bool) (x : Sending × Reopen)

@@ -3,19 +3,18 @@
 use Rattle.std.proofs.Common.{◌≡◌, ℕ, ◌+◌, ◌<◌, ◌≤◌, inl, inr, true, false, List, [], ◌∷◌, ◌++◌, length, Option, refl, ap, sym, subst, ◌∙◌, arith, length-append}
 use Rattle.std.specs.Prelude.{IfSome}
 use Rattle.p25_packet_blocks.specs.{declared.packet.Packet.{Packet}, Sendable.{IsSendable}}
-use Rattle.p25_delivery.specs.{SentPackets.{opening_packet}, Halves.{Sending, IsNumbered, IsSending, Receiving, Outgoing, Incoming, first_outgoing, first_incoming}}
+use Rattle.p25_delivery.specs.{SentPackets.{opening_packet}, Halves.{Sending, IsNumbered, IsSending, Outgoing, Incoming, first_outgoing, first_incoming}}
 use Rattle.p25_delivery.specs.{SenderRules.{sending_after, offered, timed_out, sender_heard, opening_number, reopened, is_opening}, ReceiverRules.{receiver_heard}, declared.outbound.Mark.{Mark}}
 use Rattle.p25_delivery.specs.{declared.sender.Outstanding.{Outstanding}, declared.sender.Outstanding.TheVariants.{Nothing, Message, Opening}}
-use Rattle.p25_delivery.specs.SoundHalves.{IsMessage, IsMessageIn, IsCountedWith, IsOutgoing, IsReceiving, IsIncoming}
-use Rattle.p25_delivery.specs.{HalfRules.{mark_of, after_offer, after_timeout, after_reopening, after_data, after_answer}, Facts.{IsDataOf}}
+use Rattle.p25_delivery.specs.{SoundHalves.{IsMessage, IsMessageIn, IsCountedWith, IsOutgoing, IsIncoming}, HalfRules.{mark_of, after_offer, after_timeout, after_reopening, after_data, after_answer}}
+use Rattle.p25_delivery.specs.Facts.{IsDataOf}
 use Rattle.p25_messages.specs.{declared.answers.Offer.{Offer}, declared.answers.Resend.{Resend}, declared.answers.Resend.TheVariants.{Sent, Idle as ResendIdle, Down as DownAtTimeout}}
 use Rattle.p25_messages.specs.declared.answers.SenderHeard.{SenderHeard}
 use Rattle.p25_messages.specs.declared.answers.SenderHeard.TheVariants.{Retry as HeardRetry, Repeat as HeardRepeat, Ignored as SenderIgnored, Down as DownAtAnswer}
-use Rattle.p25_messages.specs.{declared.answers.Reopen.{Reopen as ReopenAnswer}, declared.answers.Heard.{Heard as HeardAnswer}, declared.answers.Heard.TheVariants.{Ignored as ReceiverIgnored}}
-use Rattle.p25_messages.specs.declared.step_kind.StepKind.{StepKind}
+use Rattle.p25_messages.specs.{declared.answers.Reopen.{Reopen as ReopenAnswer}, declared.step_kind.StepKind.{StepKind}}
 use Rattle.p25_delivery.proofs.SenderLaws.{IsSame, Resends, Stays, HearsAnswer, goes_on, stays, HearsOpening, opens, waits, offer-quiet, offer-message, offer-opening, timeout-message, timeout-opening, timeout-quiet, reopen-cases, reopen-up, message-answer, opening-answer, quiet-answer}
 use Rattle.p25_delivery.proofs.{SendableLaws.{message_packet-sendable, blocks_packet-sendable, opening_packet-sendable}, SendingLaws.{after-sending, timeout-sending, heard-sending}}
-use Rattle.p25_delivery.proofs.ReceivingLaws.{AnswersSendable, receiver-soundly}
+use Rattle.p25_delivery.proofs.ReceivingLaws.{receiver-soundly}
 
 -- a call's half is sound, and its packet can be sent
 abbrev pub KeepsOutgoing : Outgoing × (StepKind × Option Packet) → Type 0
@@ -24,11 +23,7 @@ KeepsOutgoing x = IsOutgoing x.0 × IfSome x.1.1 IsSendable
 abbrev pub KeepsIncoming : Incoming × (StepKind × Option Packet) → Type 0
 KeepsIncoming x = IsIncoming x.0 × IfSome x.1.1 IsSendable
 
--- a call of a sender or a receiver gives a state and an answer, which the code takes apart
-pub call-apart : {S A B : Type 0} (P : B → Type 0) (after : S × A → B) (x : S × A) (s : S) (a b : A) → (s, a) ≡ x → a ≡ b → P (after x) → P (after (s, b))
-call-apart {S = S} {A = A} P after x s a b e g h = subst (λ (y : S × A). P (after y)) (sym e ∙ ap (λ (c : A). (s, c)) g) h
-
--- the state after it, and its answer
+-- a call of a sender or a receiver gives a state and an answer
 pub call-state : {S A : Type 0} {s : S} {a : A} (x : S × A) → (s, a) ≡ x → s ≡ x.0
 call-state {S = S} {A = A} x e = ap (λ (p : S × A). p.0) e
 
@@ -214,15 +209,9 @@ reopen-keeps o delivered sound = reopen-by o delivered o.sender.outstanding refl
 
 -- A packet that the receiver hears.
 
-heard-keeps : (i : Incoming) (x : Receiving × HeardAnswer) → IsReceiving x.0 → AnswersSendable x.1 → KeepsIncoming (after_data i x)
-unfolding after_data
-heard-keeps i (r, ReceiverIgnored) h a = (h, tt)
-heard-keeps i x h a = (h, a)
-
 pub data-keeps : (i : Incoming) (packet : Packet) → IsIncoming i → KeepsIncoming (after_data i (receiver_heard i.receiver packet))
-data-keeps i packet sound =
-    let h = receiver-soundly i.receiver packet sound in
-    heard-keeps i (receiver_heard i.receiver packet) h.0 h.1
+unfolding after_data
+data-keeps i packet sound = receiver-soundly i.receiver packet sound
 
 -- An answer that the sender hears.
 

@@ -7,19 +7,13 @@ use Rattle.p25_packet_blocks.specs.{declared.head.PacketHead.{PacketHead}, decla
 use Rattle.p25_packet_blocks.specs.{Heads.{head_is_full, head_blocks, head_pad, head_llid, head_syn, head_number}, Parts.{BlockParts}, ConfirmedParts.{ConfirmedParts}, Sendable.{IsSendable}}
 use Rattle.p25_delivery.specs.{MessageBlocks.{unpadded}, Places.{put_slots, all_octets, flag_count, held_flags}, SentPackets.{station_llid, ack_packet, order_nack_packet}, Halves.{Keeping, Receiving}}
 use Rattle.p25_delivery.specs.{ReceiverRules.{empty_places, keeping_full, keeping_for, finished, completed, filled, opening_heard, data_heard, receiver_heard}, SoundHalves.{IsReceiving}}
-use Rattle.p25_messages.specs.{declared.answers.Heard.{Heard}, declared.answers.Heard.TheVariants.{Delivered, Opened, Again, Kept, RefusedCrc, RefusedOrder, Ignored}}
+use Rattle.p25_messages.specs.{AnswerSteps.{receiver_step}, declared.answers.Heard.{Heard}, declared.answers.Heard.TheVariants.{Opened, Again, RefusedOrder, Ignored}}
 use Rattle.p25_delivery.proofs.{PlacesLaws.{length-put_slots}, SendableLaws.{short_response-sendable, retry_packet-sendable}}
 use Rattle.p25_packet_blocks.proofs.HeadLaws.{head_blocks-lt}
 
 -- the answer, where there is one, can be sent
 abbrev pub AnswersSendable : Heard → Type 0
-AnswersSendable (Delivered number message answer) = IsSendable answer
-AnswersSendable (Opened number answer) = IsSendable answer
-AnswersSendable (Again number answer) = IsSendable answer
-AnswersSendable (Kept number flags answer) = IsSendable answer
-AnswersSendable (RefusedCrc number answer) = IsSendable answer
-AnswersSendable (RefusedOrder last answer) = IsSendable answer
-AnswersSendable Ignored = Unit {0}
+AnswersSendable heard = IfSome (receiver_step heard).1 IsSendable
 
 abbrev pub HearsSoundly : Receiving × Heard → Type 0
 HearsSoundly x = IsReceiving x.0 × AnswersSendable x.1

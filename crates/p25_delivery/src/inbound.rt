@@ -3,7 +3,7 @@ ghost use Rattle.p25_packet_blocks.specs.Sendable.{IsSendable};
 ghost use Rattle.p25_delivery.specs.{Halves.{first_incoming}, ReceiverRules.{receiver_heard}, HalfRules.{after_data}};
 
 use crate::receiver::Receiver;
-use p25_messages::{Heard, MessageList, StepKind, Way};
+use p25_messages::{Heard, MessageList, StepKind};
 use p25_packet_blocks::Packet;
 use std::alloc::{AllocError, Global};
 use std::marker::Model;
@@ -67,26 +67,10 @@ impl Inbound {
         ensures sendable { IfSome result.1 IsSendable }
         ensures spare { self.old.spare ≤ self.new.spare + 1 }
     {
-        let (kind, answer) = match self.receiver.hear(packet) {
-            Heard::Delivered {
-                number,
-                message,
-                answer,
-            } => {
-                self.received.push(&message);
-                (StepKind::Delivered { number, message }, answer)
-            }
-            Heard::Opened { number, answer } => (StepKind::SynHeard { number }, answer),
-            Heard::Again { number, answer } => (StepKind::Again { number }, answer),
-            Heard::Kept {
-                number,
-                flags,
-                answer,
-            } => (StepKind::Kept { number, flags }, answer),
-            Heard::RefusedCrc { number, answer } => (StepKind::RefusedCrc { number }, answer),
-            Heard::RefusedOrder { last, answer } => (StepKind::RefusedOrder { last }, answer),
-            Heard::Ignored => return (StepKind::Ignored { way: Way::Packets }, None),
-        };
-        (kind, Some(answer))
+        let heard = self.receiver.hear(packet);
+        if let Heard::Delivered { message, .. } = &heard {
+            self.received.push(message);
+        }
+        heard.into()
     }
 }

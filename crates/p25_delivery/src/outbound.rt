@@ -7,7 +7,7 @@ ghost use Rattle.p25_delivery.specs.HalfRules.{after_offer, after_timeout, after
 
 use crate::sender::Sender;
 use p25_bits::laws::octets_fit;
-use p25_messages::{Message, MessageList, Offer, Reopen, Resend, SenderHeard, StepKind, Way};
+use p25_messages::{Message, MessageList, Offer, Reopen, SenderHeard, StepKind};
 use p25_packet_blocks::Packet;
 use std::alloc::{AllocError, Global};
 use std::marker::Model;
@@ -104,18 +104,11 @@ impl Outbound {
         ensures spare { self.old.spare ≤ self.new.spare + 1 }
     {
         octets_fit(message.octets());
-        match self.sender.offer(message) {
-            Offer::Taken {
-                number,
-                blocks,
-                packet,
-            } => {
-                self.sent.push(message);
-                (StepKind::Taken { number, blocks }, Some(packet))
-            }
-            Offer::Busy => (StepKind::Busy, None),
-            Offer::Down => (StepKind::OfferDown, None),
+        let offer = self.sender.offer(message);
+        if let Offer::Taken { .. } = offer {
+            self.sent.push(message);
         }
+        offer.into()
     }
 
     /// Answers what comes of a timeout: what is outstanding is to be sent again, or the sender is down once 16 transmissions were
@@ -125,15 +118,7 @@ impl Outbound {
         ensures sendable { IfSome result.1 IsSendable }
         ensures spare { self.new.spare ≡ self.old.spare }
     {
-        match self.sender.timeout() {
-            Resend::Sent {
-                number,
-                tries,
-                packet,
-            } => (StepKind::Resent { number, tries }, Some(packet)),
-            Resend::Idle => (StepKind::Idle, None),
-            Resend::Down => (StepKind::TimeoutDown, None),
-        }
+        self.sender.timeout().into()
     }
 
     /// Answers what comes of a reopening while so many of its messages were delivered: where the sender is down, the opening
@@ -147,21 +132,19 @@ impl Outbound {
         ensures spare { self.old.spare ≤ self.new.spare + 1 }
     {
         let is_opening = self.sender.is_opening();
-        match self.sender.reopen() {
-            Reopen::Sent { number, packet } => {
-                if !is_opening {
-                    self.marks
-                        .push(Mark {
-                            sent: self.sent.len() as u64,
-                            delivered,
-                            acknowledged: self.acknowledged,
-                        })
-                        .unwrap();
-                }
-                (StepKind::Reopened { number }, Some(packet))
+        let reopen = self.sender.reopen();
+        if let Reopen::Sent { .. } = reopen {
+            if !is_opening {
+                self.marks
+                    .push(Mark {
+                        sent: self.sent.len() as u64,
+                        delivered,
+                        acknowledged: self.acknowledged,
+                    })
+                    .unwrap();
             }
-            Reopen::Up => (StepKind::Up, None),
         }
+        reopen.into()
     }
 
     /// Answers what comes of a packet (PDU) that its sender hears. It needs no room.
@@ -170,34 +153,12 @@ impl Outbound {
         ensures sendable { IfSome result.1 IsSendable }
         ensures spare { self.new.spare ≡ self.old.spare }
     {
-        match self.sender.hear(packet) {
-            SenderHeard::Acknowledged { number } => {
-                // No more are acknowledged than were sent, whose number fits.
-                let _ = self.sent.len();
-                self.acknowledged += 1;
-                (StepKind::Acknowledged { number }, None)
-            }
-            SenderHeard::Opened { number } => (StepKind::LinkOpened { number }, None),
-            SenderHeard::Retry {
-                number,
-                wanted,
-                tries,
-                packet,
-            } => {
-                let kind = StepKind::Retry {
-                    number,
-                    wanted,
-                    tries,
-                };
-                (kind, Some(packet))
-            }
-            SenderHeard::Repeat {
-                number,
-                tries,
-                packet,
-            } => (StepKind::Repeat { number, tries }, Some(packet)),
-            SenderHeard::Ignored => (StepKind::Ignored { way: Way::Answers }, None),
-            SenderHeard::Down => (StepKind::AnswerDown, None),
+        let heard = self.sender.hear(packet);
+        if let SenderHeard::Acknowledged { .. } = heard {
+            // No more are acknowledged than were sent, whose number fits.
+            let _ = self.sent.len();
+            self.acknowledged += 1;
         }
+        heard.into()
     }
 }

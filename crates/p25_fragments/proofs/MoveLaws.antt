@@ -85,13 +85,8 @@ unfolding ReopensBy with_outbound after_reopening newest_after IsPlainKind openi
 opening-sent v (Opening before) number s o d n p = moves_nothing tt (p ∙ ap Opening (sym n) ∙ sym o) refl refl
 opening-sent v out number s o d n p = ends number tt d (ap is_opening o) (ap (λ (x : Outstanding). opening_number x v.outbound.sender.next) o ∙ n) p refl refl
 
-reopen-up : (v : Delivery) (out : Outstanding) → ReopensBy v out (v.outbound.sender, ReopenUp)
-unfolding ReopensBy with_outbound after_reopening newest_after IsPlainKind
-reopen-up v Nothing = moves_nothing tt refl refl refl
-reopen-up v out = moves_nothing tt refl refl refl
-
 reopen-moves : (v : Delivery) → ReopensBy v (outstanding_in v) (reopened v.outbound.sender)
-unfolding reopened
+unfolding ReopensBy with_outbound after_reopening newest_after IsPlainKind reopened
 reopen-moves v =
     let s = v.outbound.sender in
     let number = opening_number s.outstanding s.next in
@@ -99,7 +94,7 @@ reopen-moves v =
     let by : (b : Bool) → s.down ≡ b → ReopensBy v s.outstanding (cond b sent (s, ReopenUp))
     = λ (b : Bool). elim b as (λ (c : Bool). s.down ≡ c → ReopensBy v s.outstanding (cond c sent (s, ReopenUp))) [
       | true ↦ λ (d : s.down ≡ true). opening-sent v s.outstanding number sent.0 refl d refl refl
-      | false ↦ λ (d : s.down ≡ false). reopen-up v s.outstanding
+      | false ↦ λ (d : s.down ≡ false). moves_nothing tt refl refl refl
     ] in
     by s.down refl
 

@@ -1,2 +1,3 @@
 pub mod MessageList
 pub mod LongMessages
+pub mod AnswerSteps

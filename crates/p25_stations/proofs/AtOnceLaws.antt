@@ -151,8 +151,7 @@ after-opening : (w : WorldState) (again : Bool) (s : Sending) (number : ℕ) (pa
     → is_opening w.delivery.outbound.sender.outstanding ≡ again → reopened w.delivery.outbound.sender ≡ (s, ReopenSent number packet) →
     Opens w (reopened_world w again (s, ReopenSent number packet)).0 number packet s
 unfolding world_step happens with_outbound newest_after after_reopening reopened_world
-after-opening w true s number packet a e = record { step = ap₂ (reopened_world w) a e; sender = refl; receiver = refl; newest = refl }
-after-opening w false s number packet a e = record { step = ap₂ (reopened_world w) a e; sender = refl; receiver = refl; newest = refl }
+after-opening w again s number packet a e = record { step = ap₂ (reopened_world w) a e; sender = refl; receiver = refl; newest = refl }
 
 number-is : (s t : Sending) (number : ℕ) (packet : Packet) → s.down ≡ true → reopened s ≡ (t, ReopenSent number packet) → number ≡ opening_number s.outstanding s.next
 unfolding reopened

@@ -65,26 +65,12 @@ timeout-tries o s = elim s.down as (λ (b : Bool). TimeoutTells o s (cond b (s, 
 abbrev ReopenTells : Outgoing → ℕ → Bool → Sending → Sending × ReopenAnswer → Type 0
 ReopenTells o count again s x = Tells s.tries (after_reopening o count again x)
 
-opened-tries : (o : Outgoing) (count : ℕ) (again : Bool) (s : Sending) (number : ℕ)
-    → ReopenTells o count again s (record { next = s.next; outstanding = Opening number; tries = 1; down = false }, ReopenSent number (opening_packet number))
-unfolding after_reopening
-opened-tries o count true s number = refl
-opened-tries o count false s number = refl
-
-up-tries : (o : Outgoing) (count : ℕ) (again : Bool) (s : Sending) → ReopenTells o count again s (s, ReopenUp)
-unfolding after_reopening
-up-tries o count true s = refl
-up-tries o count false s = refl
-
 reopen-tries : (o : Outgoing) (count : ℕ) (again : Bool) (s : Sending) → ReopenTells o count again s (reopened s)
-unfolding reopened
+unfolding reopened after_reopening
 reopen-tries o count again s =
     let number = opening_number s.outstanding s.next in
     elim s.down as (λ (b : Bool). ReopenTells o count again s
-    (cond b (record { next = s.next; outstanding = Opening number; tries = 1; down = false }, ReopenSent number (opening_packet number)) (s, ReopenUp))) [
-      | true ↦ opened-tries o count again s number
-      | false ↦ up-tries o count again s
-    ]
+    (cond b (record { next = s.next; outstanding = Opening number; tries = 1; down = false }, ReopenSent number (opening_packet number)) (s, ReopenUp))) [ true ↦ refl | false ↦ refl ]
 
 -- A packet that the receiver hears.
 
