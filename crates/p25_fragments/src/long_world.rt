@@ -40,6 +40,7 @@ fn event_fits(event: &LongEvent)
     ensures { IsEventOf (offers_beside event.now) event.now }
 {
     if let LongEvent::Long(message) = event {
+        // A long message has at most 4,000 octets.
         let _ = message.octets();
     }
 }
