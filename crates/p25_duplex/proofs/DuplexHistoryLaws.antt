@@ -1,6 +1,5 @@
 -- Each step of a duplex world makes its history one event longer; and what its history says of it.
 use Rattle.std.proofs.Common.{◌≡◌, ℕ, List, [], ◌∷◌, ◌++◌, refl, sym, ap, subst, ◌∙◌}
-use Rattle.std.specs.Prelude.{Result, Ok, Err, IfOk, OnErr}
 use Rattle.p25_delivery.specs.{Delivery.{sessions_of}, SoundHalves.{IsMessage}, Orderly.{AreOrderly}, Runs.{run_by, EachIs}}
 use Rattle.p25_delivery.proofs.RunLaws.{run-append}
 use Rattle.p25_stations.proofs.HistoryLaws.{each-append}
@@ -19,7 +18,7 @@ pub history_first : HasDuplexHistory first_duplex
 unfolding run_by EachIs
 history_first = record { events = []; kept = tt; run = refl }
 
-history-step : (d next : DuplexState) (event : DuplexEvent) (step : DuplexStep) → HasDuplexHistory d → IsDuplexEvent event → (next, step) ≡ duplex_step d event → HasDuplexHistory next
+pub history-step : (d next : DuplexState) (event : DuplexEvent) (step : DuplexStep) → HasDuplexHistory d → IsDuplexEvent event → (next, step) ≡ duplex_step d event → HasDuplexHistory next
 unfolding run_by EachIs
 history-step d next event step before kept now =
     record {
@@ -27,12 +26,6 @@ history-step d next event step before kept now =
       kept = each-append IsDuplexEvent before.events (event ∷ []) before.kept (kept, tt);
       run = run-append duplex_step first_duplex before.events (event ∷ []) ∙ ap (λ (v : DuplexState). (duplex_step v event).0) before.run ∙ ap (λ (x : DuplexState × DuplexStep). x.0) (sym now);
     }
-
--- a world after a step, or after a call that found no memory, has one where the world before has
-pub history-after : {E : Type 0} (d next : DuplexState) (event : DuplexEvent) (result : Result DuplexStep E) → HasDuplexHistory d → IsDuplexEvent event →
-    IfOk result (λ step. (next, step) ≡ duplex_step d event) → OnErr result (next ≡ d) → HasDuplexHistory next
-history-after d next event (Ok step) before kept ok err = history-step d next event step before kept ok
-history-after d next event (Err fault) before kept ok err = subst HasDuplexHistory (sym err) before
 
 -- where no false pass is counted, the history is clean
 history-clean : (d : DuplexState) (h : HasDuplexHistory d) → d.false_passes ≡ 0 → IsCleanDuplex h.events

@@ -1,18 +1,18 @@
-ghost use Rattle.std.specs.Prelude.{◌≡◌, ◌<◌, OnErr, IfOk};
+ghost use Rattle.std.specs.Prelude.{◌≡◌, ◌<◌};
 ghost use Rattle.p25_duplex.specs.DuplexSteps.{other_side, station_step, duplex_step, first_duplex, station_at, with_station};
 
 use crate::event::{DuplexEvent, DuplexStep};
 use crate::side::Side;
 use crate::station::Station;
 use p25_stations::Step;
-use std::alloc::{AllocError, Global};
+use std::alloc::Global;
 use std::marker::Model;
 
 /// The two stations of a duplex world and the air between them. What a world keeps of its history is not known here.
 #[derive(Debug, Drop)]
 pub(crate) struct DuplexStations {
-    a: Station,
-    b: Station,
+    pub(crate) a: Station,
+    pub(crate) b: Station,
     pub(crate) false_passes: u64,
 }
 
@@ -65,19 +65,15 @@ impl DuplexStations {
         }
     }
 
-    /// Answers the step that an event is, and has it happen. AllocError comes where there is not enough memory for it, and
-    /// only where no room was left; then the world stays as it was.
+    /// Answers the step that an event is, and has it happen. There is room for it.
     #[tactic(auto, unfolding(crate::specs::DuplexSteps::duplex_step))]
-    pub(crate) fn step(&mut self, event: &DuplexEvent) -> Result<DuplexStep, AllocError>
-        ensures ok { IfOk result (λ step. (self.new.state, step) ≡ duplex_step self.old.state event.now) }
-        ensures err { OnErr result (self.new.state ≡ self.old.state) }
-        ensures room { OnErr result (self.old.spare ≡ 0) }
+    pub(crate) fn step_ready(&mut self, event: &DuplexEvent) -> DuplexStep
+        requires { 0 < self.old.spare }
+        ensures { (self.new.state, result) ≡ duplex_step self.old.state event.now }
     {
-        self.a.reserve()?;
-        self.b.reserve()?;
         let side = event.side();
         let step = self.act(side, event);
         self.false_passes = step.counted(self.false_passes);
-        Ok(DuplexStep { side, step })
+        DuplexStep { side, step }
     }
 }

@@ -103,6 +103,8 @@ impl DuplexWorld {
         ensures room { OnErr result (self.old.spare ≡ 0) }
     {
         is_event(event);
-        self.stations.step(event)
+        self.stations.a.reserve()?;
+        self.stations.b.reserve()?;
+        Ok(self.stations.step_ready(event))
     }
 }

@@ -1,6 +1,6 @@
 #![tactic(auto, unfolding(crate::specs::LongSteps::long_step, crate::specs::LongSteps::started, crate::specs::LongSteps::inner_happened))]
 
-ghost use Rattle.std.specs.Prelude.{◌≡◌, ◌+◌, ◌<◌, ◌≤◌, OnOk, OnErr};
+ghost use Rattle.std.specs.Prelude.{◌≡◌, ◌+◌, ◌<◌, ◌≤◌};
 ghost use Rattle.p25_fragments.specs.LongSteps.{long_step, started, long_offered, after_acknowledged, after_delivered, after_kind, session_ended, inner_happened};
 ghost use Rattle.p25_fragments.specs.{LongState.{first_long, TakesRoom}, Joining.{message_taken}};
 ghost use Rattle.p25_stations.specs.Steps.{world_step};
@@ -31,7 +31,7 @@ pub(crate) struct LongStations {
     pub(crate) whole: LongList,
     pub(crate) acknowledged: u64,
     // the ends of the sessions before the present one
-    marks: Vec<Mark>,
+    pub(crate) marks: Vec<Mark>,
 }
 
 // A step in which nothing changes.
@@ -69,25 +69,7 @@ impl LongStations {
         }
     }
 
-    /// Makes room for 1 to 8 more steps: for each, two steps of the inner world, one long message in each list and one mark.
-    /// Answers AllocError where there is not enough memory, which comes only where there was no such room; the world stays as
-    /// it was, and no room is lost.
-    pub(crate) fn reserve(&mut self, steps: u32) -> Result<(), AllocError>
-        requires some { 0 < steps }
-        requires most { steps ≤ 8 }
-        ensures state { self.new.state ≡ self.old.state }
-        ensures spare { self.old.spare ≤ self.new.spare }
-        ensures ok { OnOk result (steps ≤ self.new.spare) }
-        ensures err { OnErr result (self.old.spare < steps) }
-    {
-        self.inner.reserve(2 * steps)?;
-        self.taken.reserve(steps)?;
-        self.whole.reserve(steps)?;
-        self.marks.reserve(steps as usize)
-    }
-
-    /// Answers the step that an event is, and has it happen. There is room for it, and it takes no memory. A long message is Down where the
-    /// sender of the inner world is down, and else Busy where a part or the opening packet is outstanding; then nothing changes.
+    /// Answers the step that an event is, and has it happen. There is room for it, and it takes no memory.
     pub(crate) fn step_ready(&mut self, event: &LongEvent) -> LongStep
         requires { 0 < self.old.spare }
         ensures step { (self.new.state, result) ≡ long_step self.old.state event.now }

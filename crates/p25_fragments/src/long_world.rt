@@ -40,6 +40,7 @@ fn event_fits(event: &LongEvent)
     ensures { IsEventOf (offers_beside event.now) event.now }
 {
     if let LongEvent::Long(message) = event {
+        // A long message has at most 4,000 octets.
         let _ = message.octets();
     }
 }
@@ -116,7 +117,10 @@ impl LongWorld {
         ensures ok { OnOk result (steps ≤ self.new.spare) }
         ensures err { OnErr result (self.old.spare < steps) }
     {
-        self.stations.reserve(steps)
+        self.stations.inner.reserve(2 * steps)?;
+        self.stations.taken.reserve(steps)?;
+        self.stations.whole.reserve(steps)?;
+        self.stations.marks.reserve(steps as usize)
     }
 
     /// Answers the step that an event is, and has it happen. There is room for it, and it takes no memory. A long message is Down where the

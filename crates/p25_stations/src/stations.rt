@@ -1,6 +1,6 @@
 #![tactic(auto, unfolding(p25_delivery::specs::Delivery::happens, p25_delivery::specs::Delivery::with_outbound, p25_delivery::specs::Delivery::with_inbound))]
 
-ghost use Rattle.std.specs.Prelude.{◌≡◌, ◌+◌, ◌<◌, ◌≤◌, OnOk, OnErr};
+ghost use Rattle.std.specs.Prelude.{◌≡◌, ◌+◌, ◌<◌, ◌≤◌};
 ghost use Rattle.p25_stations.specs.{Steps.{world_step, heard_by, delivery_step}, WorldState.{first_world}};
 ghost use Rattle.p25_delivery.specs.Delivery.{happens};
 
@@ -50,20 +50,6 @@ impl Stations {
             answer: Newest::new(),
             false_passes: 0,
         }
-    }
-
-    /// Makes room for 1 to 16 more steps. Answers AllocError where there is not enough memory, which comes only where there
-    /// was no such room; the world stays as it was, and no room is lost.
-    pub(crate) fn reserve(&mut self, steps: u32) -> Result<(), AllocError>
-        requires some { 0 < steps }
-        requires most { steps ≤ 16 }
-        ensures state { self.new.state ≡ self.old.state }
-        ensures spare { self.old.spare ≤ self.new.spare }
-        ensures ok { OnOk result (steps ≤ self.new.spare) }
-        ensures err { OnErr result (self.old.spare < steps) }
-    {
-        self.outbound.reserve(steps)?;
-        self.inbound.reserve(steps)
     }
 
     /// Answers the step that an event is, and has it happen. There is room for it, and it takes no memory.

@@ -105,7 +105,8 @@ impl World {
         ensures ok { OnOk result (steps ≤ self.new.spare) }
         ensures err { OnErr result (self.old.spare < steps) }
     {
-        self.stations.reserve(steps)
+        self.stations.outbound.reserve(steps)?;
+        self.stations.inbound.reserve(steps)
     }
 
     /// Answers the step that an event is, and has it happen. There is room for it, and it takes no memory.
