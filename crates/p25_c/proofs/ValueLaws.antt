@@ -1,17 +1,17 @@
 -- The laws of values: by the kinds of items and units, and of calls by induction on the items.
-use Rattle.std.proofs.Common.{◌≡◌, ℕ, suc, ◌+◌, ◌-◌, ◌<◌, ◌≤◌, ◌^◌, Bool, true, false, cond, ◌&&◌, List, [], ◌∷◌, ◌++◌, length, map, Option, Some, None, refl, sym, ap, ap₂, subst, ◌∙◌, arith}
+use Rattle.std.proofs.Common.{◌≡◌, ℕ, ◌+◌, ◌-◌, ◌<◌, ◌^◌, true, false, List, [], ◌∷◌, ◌++◌, length, Option, Some, None, refl, sym, ap, ap₂, subst, ◌∙◌, arith}
 use Rattle.std.proofs.{lemmas.List.Elements.{All-head, All-tail}, lemmas.Bool.{cond-true, eq-eqb, le-leb, lt-ltb}}
-use Rattle.std.specs.{Prelude.{All, IfSome, nat_le, option_to_list}, Cmp.Derive.{both_true}}
-use Rattle.p25_calls.specs.{CallLaws.{LieFrom}, Calls.{calls_of}, Seen.{algid_in, broken_unit, link_in, unit_of, whole_unit}}
-use Rattle.p25_calls.specs.{Taking.{CallerParts, IsPending, answer_to, answers_by, behind_item, linked_pending, open_call, pending_run, run_with, unit_answer, unit_pending}, declared.call.Call.{Call}}
+use Rattle.std.specs.{Prelude.{All, IfSome, option_to_list}, Cmp.Derive.{both_true}}
+use Rattle.p25_calls.specs.{CallLaws.{LieFrom}, Seen.{algid_in, link_in, unit_of}}
+use Rattle.p25_calls.specs.{Taking.{IsPending, answer_to, answers_by, behind_item, linked_pending, open_call, unit_answer, unit_pending}, declared.call.Call.{Call}}
 use Rattle.p25_calls.specs.declared.seen.UnitSeen.{UnitSeen}
-use Rattle.p25_calls.proofs.{CallerSteps.{pending-kept, unit-ends}, TakingLaws.{answers-are-calls}}
-use Rattle.p25_units.specs.{Items.{covered, place_of}, declared.frame.Frame.{Frame}, declared.item.Item.{Item}, declared.item.Item.TheVariants.{Whole, Broken, NoUnit, Gap, Cut}}
+use Rattle.p25_calls.proofs.{CallerSteps.{pending-kept}, TakingLaws.{answers-are-calls}}
+use Rattle.p25_units.specs.{Items.{covered, place_of}, declared.item.Item.{Item}, declared.item.Item.TheVariants.{Whole}}
 use Rattle.p25_units.specs.{declared.unit.Body.{Body}, declared.unit.Body.TheVariants.{Voice}, Units.{body_duid, frame_length_of}}
-use Rattle.p25_voice_units.specs.{declared.unit.VoiceUnit.{VoiceUnit}, declared.unit.VoiceUnit.TheVariants.{Header, Link1, Link2}, declared.voice.VoiceFrame.{VoiceFrame}}
+use Rattle.p25_voice_units.specs.{declared.unit.VoiceUnit.TheVariants.{Header, Link1, Link2}, declared.voice.VoiceFrame.{VoiceFrame}}
 use Rattle.p25_text.specs.ItemTexts.{item_text_of}
 use Rattle.p25_c.specs.{Fields.{body_fields, frame_octets, frames_held}, Items.{parts_of}, ValueLaws.{CallsAreTold, FieldsComeBack, UnitsAreTold, fields_with, told, told_by}}
-use Rattle.p25_c.specs.{VoiceCalls.{call_asked, caller_left, is_kept, last_asked, may_take, pending_held, state_told, unit_told}, declared.calls.CallerState.{CallerState}}
+use Rattle.p25_c.specs.{VoiceCalls.{call_asked, caller_left, is_kept, may_take, pending_held, state_told, unit_told}, declared.calls.CallerState.{CallerState}}
 use Rattle.p25_c.specs.declared.fields.FieldParts.{FieldParts}
 use Rattle.p25_c.proofs.VoiceCallsLaws.{pending-back}
 
@@ -61,28 +61,6 @@ may-true reached taken pending item held at below few =
     (lt-ltb (place_of item) (2 ^ 60) below))
     (lt-ltb _ (2 ^ 32 - 1) (subst (λ (n : ℕ). n < 2 ^ 32 - 1) (sym (state-taken reached taken pending)) few))
 
--- a run that stays open where there is no unit
-still-pending : (reached taken end : ℕ) (pending : Option Call) → IfSome pending (IsPending reached taken) → reached ≤ end → IfSome pending (IsPending end (taken + 1))
-still-pending reached taken end None held later = tt
-still-pending reached taken end (Some call) held later =
-    record { before = omega (arith, held.before, later); links = omega (arith, held.links); broken = omega (arith, held.broken) }
-
--- a unit begins where its item does
-some-same : (a b : UnitSeen) → ◌≡◌ {A = Option UnitSeen} (Some a) (Some b) → a ≡ b
-some-same a b same = cc
-
-unit-begins : (item : Item) (unit : UnitSeen) → Some unit ≡ unit_of item → unit.place ≡ place_of item
-unit-begins (Whole place frame fixes) unit is = ap (λ (u : UnitSeen). u.place) (some-same unit (whole_unit place frame) is)
-unit-begins (Broken place count nac duid fields) unit is = ap (λ (u : UnitSeen). u.place) (some-same unit (broken_unit place count nac duid) is)
-unit-begins item unit is = cc
-
-next-by : (item : Item) (unit : Option UnitSeen) → unit ≡ unit_of item → (reached taken : ℕ) (pending : Option Call) → IfSome pending (IsPending reached taken) → place_of item ≡ reached
-    → IfSome (unit_pending pending unit) (IsPending (place_of item + covered item) (taken + 1))
-next-by item None is reached taken pending held at = still-pending reached taken (place_of item + covered item) pending held (omega (arith, at))
-next-by item (Some unit) is reached taken pending held at =
-    pending-kept reached taken (place_of item + covered item) pending unit (run_with pending unit) (pending_run (run_with pending unit) unit) held
-    (unit-begins item unit is ∙ at) (unit-ends item unit is) refl refl
-
 -- an item begins below 2^60
 abbrev Begins : Item → Type 0
 Begins item = place_of item < 2 ^ 60
@@ -112,7 +90,8 @@ told-answers (item ∷ items) others reached taken pending held lie few below =
     ap₂ (λ (xs ys : List Call). xs ++ ys) (ap told answered)
     (ap (λ (s : CallerState). told_by s items others) left
     ∙ told-answers items others (place_of item + covered item) (taken + 1) (unit_pending pending (unit_of item))
-    (next-by item (unit_of item) refl reached taken pending held lie.0) (subst (λ (n : ℕ). LieFrom (n + covered item) items) (sym lie.0) lie.1) (omega (arith, few)) (All-tail Begins item items below))
+    (pending-kept reached taken (place_of item + covered item) pending item (unit_of item) (unit_pending pending (unit_of item)) held lie.0 refl refl refl)
+    (subst (λ (n : ℕ). LieFrom (n + covered item) items) (sym lie.0) lie.1) (omega (arith, few)) (All-tail Begins item items below))
 
 pub calls-told : CallsAreTold
 calls-told items others lie few below = told-answers items others 0 0 None tt lie (omega (arith, few)) below ∙ answers-are-calls true items lie

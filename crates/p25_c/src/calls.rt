@@ -1,7 +1,7 @@
 //! Calls, as the items of a recording come: what is kept between them stands with the caller of these functions.
 
 ghost use Rattle.std.specs.Prelude.{◌≡◌, ◌+◌, ◌^◌, ◌<◌, None, Option, Some, IfSome};
-ghost use Rattle.p25_calls.specs.{Seen.{unit_end}, Taking.{linked_pending}};
+ghost use Rattle.p25_calls.specs.Seen.{unit_end};
 ghost use Rattle.p25_c.specs.VoiceCalls.{call_answer, call_asked, call_held, call_left, call_told, caller_left, end_held, end_number, finished_left, is_kept, last_asked, link_octets, may_take, no_call, pending_held, state_told, unit_told};
 
 use crate::fields::FieldParts;
@@ -102,19 +102,12 @@ pub extern "C" fn p25_caller_finish(caller: &mut CallerState, call: &mut CallPar
     if !is_kept(caller) {
         return OUTSIDE;
     }
-    let ended = linked(&pending_held(caller));
+    let ended = match pending_held(caller) {
+        Some(run) => run.if_linked(),
+        None => None,
+    };
     *caller = state_told(0, 0, &None);
     tell_call(&ended, call)
-}
-
-// The call that an open run is.
-fn linked(pending: &Option<Call>) -> Option<Call>
-    ensures { result ≡ linked_pending pending.now }
-{
-    match pending {
-        Some(call) if call.links > 0 => Some(*call),
-        _ => None,
-    }
 }
 
 // Tells a call, where there is one, and answers whether there is.
