@@ -1,6 +1,6 @@
 -- What a receiver keeps and answers, whatever it hears: V(R) has three bits, at most 127 blocks are kept, and its answer can be
 -- sent. By the rules, each test taken both ways.
-use Rattle.std.proofs.Common.{◌≡◌, ℕ, ◌+◌, ◌-◌, ◌%◌, ◌<◌, ◌≤◌, ◌⊎◌, inl, inr, Bool, true, false, cond, eqb, ◌&&◌, List, ◌++◌, length, map, replicate, Option, Some, None, ap₂, sym, subst, ◌∙◌, arith, length-append}
+use Rattle.std.proofs.Common.{◌≡◌, ℕ, ◌+◌, ◌-◌, ◌%◌, ◌<◌, ◌≤◌, ◌⊎◌, inl, inr, Bool, true, false, cond, eqb, ◌&&◌, List, ◌++◌, length, map, replicate, Option, Some, None, ap₂, ◌∙◌, arith, length-append}
 use Rattle.std.proofs.{lemmas.List.{length-map, length-replicate}, lemmas.Bool.{cases_lt, cond-true, cond-false, le-leb, leb-true, false_from_ne_true}}
 use Rattle.std.specs.Prelude.{nat_le, is_some, IfSome}
 use Rattle.p25_packet_blocks.specs.{declared.head.PacketHead.{PacketHead}, declared.packet.Packet.{Packet}, declared.packet.Packet.TheVariants.{Confirmed, Plain}}
@@ -118,7 +118,3 @@ receiver-soundly r (Confirmed packet) h =
     let ours : HearsSoundly (cond (head_syn packet.head) opening more)
     = elim (head_syn packet.head) as (λ (b : Bool). HearsSoundly (cond b opening more)) [ true ↦ opening-soundly r packet.head h | false ↦ data-soundly r packet h ] in
     elim (eqb (head_llid packet.head) station_llid) as (λ (b : Bool). HearsSoundly (cond b (cond (head_syn packet.head) opening more) (r, Ignored))) [ true ↦ ours | false ↦ (h, tt) ]
-
--- what is kept by a receiver that heard a packet
-pub hears-soundly : (r s : Receiving) (packet : Packet) → s ≡ (receiver_heard r packet).0 → IsReceiving r → IsReceiving s
-hears-soundly r s packet e h = subst IsReceiving (sym e) (receiver-soundly r packet h).0
