@@ -2,17 +2,15 @@
 use Rattle.std.proofs.Common.{◌≡◌, ℕ, ◌+◌, ◌-◌, ◌<◌, ◌^◌, true, false, List, [], ◌∷◌, ◌++◌, length, Option, Some, None, refl, sym, ap, ap₂, subst, ◌∙◌, arith}
 use Rattle.std.proofs.{lemmas.List.Elements.{All-head, All-tail}, lemmas.Bool.{cond-true, eq-eqb, le-leb, lt-ltb}}
 use Rattle.std.specs.{Prelude.{All, IfSome, option_to_list}, Cmp.Derive.{both_true}}
-use Rattle.p25_calls.specs.{CallLaws.{LieFrom}, Seen.{algid_in, link_in, unit_of}}
-use Rattle.p25_calls.specs.{Taking.{IsPending, answer_to, answers_by, behind_item, linked_pending, open_call, unit_answer, unit_pending}, declared.call.Call.{Call}}
-use Rattle.p25_calls.specs.declared.seen.UnitSeen.{UnitSeen}
+use Rattle.p25_calls.specs.{CallLaws.{LieFrom}, Seen.{algid_in, link_in, unit_of}, Taking.{IsPending, answer_to, answers_by, behind_item, linked_pending, open_call, unit_answer, unit_pending}}
+use Rattle.p25_calls.specs.{declared.call.Call.{Call}, declared.seen.UnitSeen.{UnitSeen}}
 use Rattle.p25_calls.proofs.{CallerSteps.{pending-kept}, TakingLaws.{answers-are-calls}}
-use Rattle.p25_units.specs.{Items.{covered, place_of}, declared.item.Item.{Item}, declared.item.Item.TheVariants.{Whole}}
-use Rattle.p25_units.specs.{declared.unit.Body.{Body}, declared.unit.Body.TheVariants.{Voice}, Units.{body_duid, frame_length_of}}
+use Rattle.p25_units.specs.{Items.{covered, place_of}, declared.item.Item.{Item}, declared.item.Item.TheVariants.{Whole}, declared.unit.Body.{Body}, declared.unit.Body.TheVariants.{Voice}}
+use Rattle.p25_units.specs.Units.{body_duid, frame_length_of}
 use Rattle.p25_voice_units.specs.{declared.unit.VoiceUnit.TheVariants.{Header, Link1, Link2}, declared.voice.VoiceFrame.{VoiceFrame}}
 use Rattle.p25_text.specs.ItemTexts.{item_text_of}
 use Rattle.p25_c.specs.{Fields.{body_fields, frame_octets, frames_held}, Items.{parts_of}, ValueLaws.{CallsAreTold, FieldsComeBack, UnitsAreTold, fields_with, told, told_by}}
-use Rattle.p25_c.specs.{VoiceCalls.{call_asked, caller_left, is_kept, may_take, pending_held, state_told, unit_told}, declared.calls.CallerState.{CallerState}}
-use Rattle.p25_c.specs.declared.fields.FieldParts.{FieldParts}
+use Rattle.p25_c.specs.{VoiceCalls.{call_asked, caller_left, is_kept, may_take, pending_held, state_told, unit_told}, declared.calls.CallerState.{CallerState}, declared.fields.FieldParts.{FieldParts}}
 use Rattle.p25_c.proofs.VoiceCallsLaws.{pending-back}
 
 -- ---- units
