@@ -71,7 +71,8 @@ pub extern "C" fn p25_next_item(
     ITEM
 }
 
-// An item to be written over. Where it is a voice unit and another follows, only what a voice unit has is written.
+// An item to be written over. It is a voice unit and not `Item::empty()`: where another follows, only what a voice unit has is written, and
+// no room is cleared for it.
 #[inline(always)]
 pub(crate) fn blank() -> Item {
     let unit = Unit::new(0, Body::Voice(VoiceUnit::End));
