@@ -30,9 +30,7 @@ impl Poly {
         ensures { (i : ℕ) → coefficient_of result i ≡ coefficient gf64 low_first.now i }
     {
         let mut coefficients = [Sym::default(); 64];
-        for i in 0..low_first.len() {
-            coefficients[i] = low_first[i];
-        }
+        coefficients[..low_first.len()].copy_from_slice(low_first);
         Poly { coefficients }
     }
 
