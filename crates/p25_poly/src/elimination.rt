@@ -1,7 +1,7 @@
 //! Gaussian elimination, a row at a time: the front row clears its first column from the others, these
 //! are solved, and the unknown of that column is then set by the front row.
 
-ghost use Rattle.std.specs.Prelude.{◌≡◌, ◌≢◌, ℕ, ◌<◌, ◌≤◌, length, IsTrue};
+ghost use Rattle.std.specs.Prelude.{ℕ, ◌≤◌, length, IsTrue};
 ghost use Rattle.p25_gf64.specs.{declared.symbol.Sym.{Sym}, Gf64.{gf64}};
 ghost use Rattle.p25_algebra.specs.Series.{coefficient};
 ghost use Rattle.p25_poly.specs.LinearSystem.{AreMet};

@@ -17,7 +17,7 @@ pub struct Matrix {
 impl Matrix {
     ghost use Rattle.p25_gf64.specs.Gf64.{gf64};
     ghost use Rattle.p25_algebra.specs.Series.{coefficient};
-    ghost use Rattle.p25_poly.specs.{LinearSystem.{row_of}, Matrix.{row_count, column_count, entry, IsSystem}};
+    ghost use Rattle.p25_poly.specs.Matrix.{row_count, column_count, entry, IsSystem};
 
     /// Answers the matrix of zeros with 1 to 24 rows and 1 to 24 columns.
     pub fn new(rows: usize, columns: usize) -> Matrix

@@ -1,6 +1,6 @@
-ghost use Rattle.std.specs.Prelude.{◌≡◌, ◌≢◌, ◌↔◌, ℕ, ◌+◌, ◌<◌, ◌≤◌, length, IsNone, IfSome};
+ghost use Rattle.std.specs.Prelude.{◌≡◌, ◌↔◌, ℕ, ◌+◌, ◌<◌, ◌≤◌, length, IsNone, IfSome};
 ghost use Rattle.p25_gf64.specs.Gf64.{gf64};
-ghost use Rattle.p25_algebra.specs.Series.{coefficient, value_at, product_at, IsZero, IsShort, IsDegree};
+ghost use Rattle.p25_algebra.specs.Series.{coefficient, value_at, product_at, IsZero, IsDegree};
 
 use crate::multiples::add_multiple;
 use p25_gf64::Sym;

@@ -4,9 +4,9 @@
 //! j-th power of 1/x. Times the highest power of x it is the usual polynomial, so both have the same
 //! zeros but 0.
 
-ghost use Rattle.std.specs.Prelude.{◌≡◌, ℕ, ◌+◌, ◌-◌, ◌≤◌, ◌<◌, length, take};
-ghost use Rattle.p25_gf64.specs.{Field.{power}, Symbol.{alpha}, Gf64.{gf64}};
-ghost use Rattle.p25_algebra.specs.Series.{coefficient, value_at, shifted, IsShort};
+ghost use Rattle.std.specs.Prelude.{◌≡◌, ℕ, ◌+◌, ◌-◌, ◌≤◌, length, take};
+ghost use Rattle.p25_gf64.specs.Gf64.{gf64};
+ghost use Rattle.p25_algebra.specs.Series.{coefficient, shifted, IsShort};
 ghost use Rattle.p25_reed_solomon.specs.{Generator.{IsGenerator}, Words.{IsCode, IsWord}};
 
 use p25_gf64::Sym;

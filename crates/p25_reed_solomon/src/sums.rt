@@ -1,8 +1,8 @@
 //! The last test of errors: whether their power sums are the syndromes.
 
 ghost use Rattle.std.specs.Prelude.{◌≡◌, ℕ, ◌+◌, ◌<◌, ◌≤◌, ◌↔◌, length, IsTrue, slice_index_or};
-ghost use Rattle.p25_gf64.specs.{Field.{power}, Gf64.{gf64}};
-ghost use Rattle.p25_algebra.specs.{Sums.{sum_below, power_sum}, Series.{coefficient}};
+ghost use Rattle.p25_gf64.specs.Gf64.{gf64};
+ghost use Rattle.p25_algebra.specs.{Sums.{power_sum}, Series.{coefficient}};
 ghost use Rattle.p25_reed_solomon.specs.Errors.{element_of};
 
 use p25_gf64::Sym;

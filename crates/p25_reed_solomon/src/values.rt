@@ -2,7 +2,7 @@
 
 ghost use Rattle.std.specs.Prelude.{◌≡◌, ◌≢◌, ℕ, ◌+◌, ◌-◌, ◌<◌, ◌≤◌, length, slice_index_or};
 ghost use Rattle.p25_gf64.specs.Gf64.{gf64};
-ghost use Rattle.p25_algebra.specs.Series.{coefficient, value_at, slope_at, rest_at};
+ghost use Rattle.p25_algebra.specs.Series.{coefficient, value_at, slope_at};
 ghost use Rattle.p25_reed_solomon.specs.Errors.{point_of};
 
 use crate::points::{fill_values, horner_step};

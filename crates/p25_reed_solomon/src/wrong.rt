@@ -3,7 +3,6 @@
 ghost use Rattle.std.specs.Prelude.{◌≡◌, ◌≢◌, ◌↔◌, ℕ, ◌-◌, ◌<◌, ◌≤◌, length};
 ghost use Rattle.p25_gf64.specs.{declared.symbol.Sym.{Sym}, Gf64.{gf64}};
 ghost use Rattle.p25_algebra.specs.Series.{coefficient, value_at};
-ghost use Rattle.p25_poly.specs.Polynomial.{coefficient_of};
 ghost use Rattle.p25_reed_solomon.specs.Errors.{AreErrors, point_of};
 
 use p25_gf64::Sym;

@@ -1,9 +1,9 @@
 //! The places at which a locator vanishes.
 
-ghost use Rattle.std.specs.Prelude.{◌≡◌, ◌≢◌, ℕ, ◌+◌, ◌-◌, ◌<◌, ◌≤◌, length, slice_index_or};
+ghost use Rattle.std.specs.Prelude.{◌-◌, ◌<◌, ◌≤◌, length};
 ghost use Rattle.p25_gf64.specs.Gf64.{gf64};
-ghost use Rattle.p25_algebra.specs.Series.{coefficient, value_at, IsZero};
-ghost use Rattle.p25_reed_solomon.specs.Errors.{AreZeros, point_of};
+ghost use Rattle.p25_algebra.specs.Series.{coefficient, IsZero};
+ghost use Rattle.p25_reed_solomon.specs.Errors.{AreZeros};
 
 use crate::points::{fill_powers, fill_values};
 use arrayvec::ArrayVec;
