@@ -31,7 +31,8 @@ loop-octet-preserved c =
     let small : get_or rest i 0 < 2 ^ 8 = omega (arith, same, c.type_inv.octets (n + i)) in
     λ divisor before are is.
     rw (octets_more before rest i more small)
-    (octet_taken divisor c.args.remainders.now are (field_of (before ++ octet_bits (take i rest))) c.loop-octet.register (get_or rest i 0) (omega arith) (omega (arith, small)) (c.loop-octet.invariant divisor before are is))
+    (octet_taken divisor c.args.remainders.now are (field_of (before ++ octet_bits (take i rest))) c.loop-octet.register (get_or rest i 0) (omega arith) (omega (arith, small))
+    (c.loop-octet.invariant divisor before are is))
 
 pub returns : goal.returns
 returns c =

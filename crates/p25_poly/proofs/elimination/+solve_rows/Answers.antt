@@ -30,7 +30,8 @@ returns-then-solved-clause-solved t c = λ yes_solved.
     let some = not_empty c.args.rows.now c.is_empty.result c.is_empty.ensures c.if-is_empty.false in
     let front = get_or_read c.args.rows.now 0 c.index-rows-0.result some c.index-rows-0.is blank_row in
     let kept : length c.loop-i.rest ≡ length (drop 1 c.args.rows.now) = rw take_rest at c.loop-i.auto.rest in
-    let cleared : AreCleared c.in-Some.column c.index-rows-0.result (drop 1 c.args.rows.now) c.loop-i.rest = record { as_many = kept; each = λ r h. rw take_rest at (c.loop-i.invariant.cleared r (omega (arith, kept))) } in
+    let cleared : AreCleared c.in-Some.column c.index-rows-0.result (drop 1 c.args.rows.now) c.loop-i.rest
+    = record { as_many = kept; each = λ r h. rw take_rest at (c.loop-i.invariant.cleared r (omega (arith, kept))) } in
     corrected_solution n c.in-Some.column c.args.rows.now c.loop-i.rest c.index-rows-0.result c.in-Some.ensures.below some front cleared
     (coefficient gf64 c.solve_rows-solved.new.unknowns) (coefficient gf64 c.correct.new.unknowns) c.correct.ensures.others
     (rw as_many at c.correct.ensures.met) (rw length-set at (c.solve_rows-solved.ensures.solved yes_solved))
@@ -41,6 +42,7 @@ returns-else-solved-clause-complete t c = λ x met.
     let some = not_empty c.args.rows.now c.is_empty.result c.is_empty.ensures c.if-is_empty.false in
     let front = get_or_read c.args.rows.now 0 c.index-rows-0.result some c.index-rows-0.is blank_row in
     let kept : length c.loop-i.rest ≡ length (drop 1 c.args.rows.now) = rw take_rest at c.loop-i.auto.rest in
-    let cleared : AreCleared c.in-Some.column c.index-rows-0.result (drop 1 c.args.rows.now) c.loop-i.rest = record { as_many = kept; each = λ r h. rw take_rest at (c.loop-i.invariant.cleared r (omega (arith, kept))) } in
+    let cleared : AreCleared c.in-Some.column c.index-rows-0.result (drop 1 c.args.rows.now) c.loop-i.rest
+    = record { as_many = kept; each = λ r h. rw take_rest at (c.loop-i.invariant.cleared r (omega (arith, kept))) } in
     c.solve_rows-solved.ensures.complete x
     (rw length-set (solution_cleared n c.in-Some.column c.args.rows.now c.loop-i.rest c.index-rows-0.result c.in-Some.ensures.below some front cleared x met))

@@ -7,7 +7,8 @@ use Rattle.p25_reed_solomon.proofs.errors.place.Goals as goal
 
 pub loop-c-init : goal.loop-c-init
 loop-c-init c = λ j below.
-    ap (λ (s : List Sym). coefficient gf64 s j) (c.fill.ensures.after (λ y e. e)) ∙ coefficient_blank gf64 c.default.result _ j c.default.ensures ∙ placed_none c.args.places.now (coefficient gf64 c.args.values.now) j
+    ap (λ (s : List Sym). coefficient gf64 s j) (c.fill.ensures.after (λ y e. e))
+    ∙ coefficient_blank gf64 c.default.result _ j c.default.ensures ∙ placed_none c.args.places.now (coefficient gf64 c.args.values.now) j
 
 pub loop-c-preserved : goal.loop-c-preserved
 loop-c-preserved c =

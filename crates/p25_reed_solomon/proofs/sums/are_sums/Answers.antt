@@ -1,4 +1,5 @@
-use Rattle.std.proofs.{Common.{◌≡◌, ℕ, ◌+◌, ◌<◌, List, length, get_or, get_or-set_same, ap, ap₂, sym, ◌∙◌, inl, inr, arith, refl}, lemmas.Bool.{cases_eq, iff_false}, lemmas.List.{get_or_default, length-set}}
+use Rattle.std.proofs.{Common.{◌≡◌, ℕ, ◌+◌, ◌<◌, List, length, get_or, get_or-set_same, ap, ap₂, sym, ◌∙◌, inl, inr, arith, refl}, lemmas.Bool.{cases_eq, iff_false}}
+use Rattle.std.proofs.lemmas.List.{get_or_default, length-set}
 use Rattle.p25_gf64.specs.{declared.symbol.Sym.{Sym}, Gf64.{gf64}}
 use Rattle.p25_gf64.proofs.{FieldLaws.{add_self, mul_one, same_from_sum}, PowerLaws.{power-zero}}
 use Rattle.p25_algebra.specs.{Sums.{power_sum, sum_below}, Series.{coefficient}}

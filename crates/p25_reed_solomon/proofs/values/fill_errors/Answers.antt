@@ -28,7 +28,8 @@ loop-c-preserved c =
       })
       | else-not-is_zero w ↦ rw w.out-is (record {
         errors = λ k low live. elim (cases_eq k i) [
-          | inl same ↦ absurd (live (ap (coefficient gf64 c.slopes_of-slopes.result) same ∙ sym (get_or_default c.slopes_of-slopes.result i _ gf64.zero (omega arith)) ∙ c.is_zero.ensures.0 w.if-not-is_zero.false))
+          | inl same ↦ absurd (live (ap (coefficient gf64 c.slopes_of-slopes.result) same
+              ∙ sym (get_or_default c.slopes_of-slopes.result i _ gf64.zero (omega arith)) ∙ c.is_zero.ensures.0 w.if-not-is_zero.false))
           | inr apart ↦ c.loop-c.invariant.errors k (omega arith) live
         ];
         rest = λ k from. c.loop-c.invariant.rest k (omega arith);

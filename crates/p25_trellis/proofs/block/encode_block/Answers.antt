@@ -14,7 +14,8 @@ path_from-is width read octets symbols same is =
     (sym (is ∙ ap (numbers_from read 48) (number_bits-octets octets) ∙ ap (λ n. numbers_from n 48 (octet_bits octets)) same))
 
 -- it is a path
-is_path-of : (g : given.Over) (octets symbols : List ℕ) (read : ℕ) → read ≡ g.R.Rate.BITS_PER_SYMBOL → symbols ≡ numbers_from read 48 (number_bits 8 octets) → IsPath g.R.Rate.STATES (symbols ++ 0 ∷ [])
+is_path-of : (g : given.Over) (octets symbols : List ℕ) (read : ℕ) → read ≡ g.R.Rate.BITS_PER_SYMBOL → symbols ≡ numbers_from read 48 (number_bits 8 octets)
+    → IsPath g.R.Rate.STATES (symbols ++ 0 ∷ [])
 is_path-of g octets symbols read same is =
     subst (λ (path : List ℕ). IsPath g.R.Rate.STATES path) (path_from-is g.R.Rate.BITS_PER_SYMBOL read octets symbols same is)
     (IsPath-path_from g.R.Rate.STATES g.R.Rate.BITS_PER_SYMBOL octets g.met.R.Rate.table.states_of_bits)

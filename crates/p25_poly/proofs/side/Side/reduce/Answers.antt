@@ -1,7 +1,6 @@
 use Rattle.std.proofs.Common.{◌∙◌, ap₂, arith}
 use Rattle.p25_gf64.specs.Gf64.{gf64}
-use Rattle.p25_poly.proofs.EuclidSteps.{moved_twice}
-use Rattle.p25_poly.proofs.side.Side.reduce.Goals.{then-self-ge16, else-self-ge16}
+use Rattle.p25_poly.proofs.{EuclidSteps.{moved_twice}, side.Side.reduce.Goals.{then-self-ge16, else-self-ge16}}
 use Rattle.p25_poly.proofs.side.Side.reduce.Goals as goal
 
 pub returns : goal.returns
