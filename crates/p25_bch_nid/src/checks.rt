@@ -1,6 +1,6 @@
 //! The check bits of an identifier, by a table.
 
-ghost use Rattle.std.specs.Prelude.{◌≡◌, ◌+◌, ◌*◌, ◌^◌, ◌<◌, ◌↔◌, IsTrue};
+ghost use Rattle.std.specs.Prelude.{◌+◌, ◌*◌, ◌^◌, ◌<◌, ◌↔◌, IsTrue};
 ghost use Rattle.p25_bits.specs.Divisible.{IsRemainder};
 ghost use Rattle.p25_bch_nid.specs.Nid.{generator};
 

@@ -18,10 +18,7 @@ pub fn read_nid(bits: u64) -> Option<Nid>
     ensures sent { (word : List Bool) → IsBch63 word → distance_of (take 63 (bits_of 64 bits)) word ≤ 11
         → option_map (λ nid. (nid.nac, nid.duid)) result ≡ Some (identifier_of_word word) }
 {
-    match read_nid_counted(bits) {
-        Some(read) => Some(read.nid),
-        None => None,
-    }
+    Some(read_nid_counted(bits)?.nid)
 }
 
 /// Answers the network identifier (NID) that `read_nid` answers, with the number of wrong bits among the first 63: what
@@ -33,22 +30,9 @@ pub fn read_nid_counted(bits: u64) -> Option<ReadNid>
     ensures most { IfSome result (λ read. read.wrong ≤ 11) }
 {
     let received = bits >> 1;
-    match nearest(received) {
-        Some(sent) => Some(ReadNid {
-            nid: identifier_in(sent),
-            wrong: (received ^ sent).count_ones(),
-        }),
-        None => None,
-    }
-}
-
-// Answers the network identifier (NID) with which a word of 63 bits begins, as a number with the first bit highest.
-fn identifier_in(word: u64) -> Nid
-    requires { word < 2 ^ 63 }
-    ensures { (result.nac, result.duid) ≡ identifier_of_word (bits_of 63 word) }
-{
-    Nid {
-        nac: (word >> 51) as u16,
-        duid: ((word >> 47) % 16) as u8,
-    }
+    let sent = nearest(received)?;
+    Some(ReadNid {
+        nid: Nid::from((sent >> 47) as u16),
+        wrong: (received ^ sent).count_ones(),
+    })
 }

@@ -67,14 +67,12 @@ pub(crate) fn syndromes_of(word: u64) -> [Sym; 32]
     ensures values { (r : ℕ) → r < 24 → coefficient gf64 result r ≡ number_value gf64 (power gf64 alpha (r + 1)) 64 word }
     ensures full { length result ≡ 32 }
 {
-    let first = eight_values(word, 0);
-    let second = eight_values(word, 1);
-    let third = eight_values(word, 2);
     let mut syndromes = [Sym::default(); 32];
-    for b in 0..8 {
-        syndromes[b] = symbol_in(first, b);
-        syndromes[8 + b] = symbol_in(second, b);
-        syndromes[16 + b] = symbol_in(third, b);
+    for part in 0..3 {
+        let octets = eight_values(word, part);
+        for b in 0..8 {
+            syndromes[8 * part + b] = Sym::of_low_bits(u128::from(octets >> (8 * b)));
+        }
     }
     syndromes
 }
@@ -89,13 +87,4 @@ fn eight_values(word: u64, part: usize) -> u64
         values ^= VALUES[3 * place + part][(word >> (4 * place)) as usize % 16];
     }
     values
-}
-
-// Answers the symbol in an octet of a number, counted from the lowest.
-fn symbol_in(octets: u64, b: usize) -> Sym
-    requires octet { b < 8 }
-    requires symbol { octets / 2 ^ (8 * b) % 2 ^ 8 < 64 }
-    ensures { number result ≡ octets / 2 ^ (8 * b) % 2 ^ 8 }
-{
-    Sym::of_low_bits(u128::from(octets >> (8 * b)))
 }

@@ -1,7 +1,7 @@
 //! The zeros of a locator at all 63 places at once, by a table.
 
 ghost use Rattle.std.specs.{Prelude.{◌≡◌, ◌↔◌, ℕ, ◌-◌, ◌^◌, ◌<◌, ◌==◌, IsTrue, length}, Int.{bit_at}};
-ghost use Rattle.p25_gf64.specs.{Field.{power}, Symbol.{alpha, number}, Gf64.{gf64}};
+ghost use Rattle.p25_gf64.specs.{Field.{power}, Gf64.{gf64}};
 ghost use Rattle.p25_algebra.specs.Series.{coefficient, value_at};
 ghost use Rattle.p25_reed_solomon.specs.Errors.{point_of};
 
@@ -105,21 +105,13 @@ pub(crate) fn zeros_of(polynomial: &[Sym]) -> u64
 {
     let mut some = 0;
     for p in 0..6 {
-        some |= plane(polynomial, p);
+        // Bit e is bit p of the value at α^(-e).
+        let mut sum = 0;
+        for k in 0..12 {
+            let symbol = polynomial[k].value() as usize;
+            sum ^= PLANES[12 * k + p][symbol % 8] ^ PLANES[12 * k + 6 + p][symbol / 8];
+        }
+        some |= sum;
     }
     !some % (1 << 63)
-}
-
-// Answers a number whose bit e is bit p of the value of a polynomial at α^(-e).
-fn plane(polynomial: &[Sym], p: usize) -> u64
-    requires polynomial { length polynomial.now ≡ 12 }
-    requires p { p < 6 }
-    ensures { (e : ℕ) → e < 63 → bit_at result e ≡ bit_at (number (value_at gf64 12 (coefficient gf64 polynomial.now) (gf64.inverse (power gf64 alpha e)))) p }
-{
-    let mut sum = 0;
-    for k in 0..12 {
-        let symbol = polynomial[k].value() as usize;
-        sum ^= PLANES[12 * k + p][symbol % 8] ^ PLANES[12 * k + 6 + p][symbol / 8];
-    }
-    sum
 }

@@ -101,25 +101,12 @@ impl BitBuf {
         let _ = self.len();
         let whole = octets.len() / 8;
         for g in 0..whole {
-            self.take_eight(at, 8 * g, octets);
+            let first = 8 * g;
+            let eight = self.field(at + 8 * first, 64);
+            for k in 0..8 {
+                octets[first + k] = ((eight >> (56 - 8 * k)) % 256) as u8;
+            }
         }
         8 * whole
-    }
-
-    // Sets the eight octets from a place in their list on, where those before it are set.
-    #[inline]
-    fn take_eight(&self, at: usize, first: usize, octets: &mut [u8])
-        requires there { at + 8 * (first + 8) ≤ length self.now }
-        requires room { first + 8 ≤ length octets.old }
-        requires before { take first octets.old ≡ numbers_from 8 first (drop at self.now) }
-        ensures long { length octets.new ≡ length octets.old }
-        ensures taken { take (first + 8) octets.new ≡ numbers_from 8 (first + 8) (drop at self.now) }
-    {
-        // The number of bits held bounds every place below.
-        let _ = self.len();
-        let eight = self.field(at + 8 * first, 64);
-        for k in 0..8 {
-            octets[first + k] = ((eight >> (56 - 8 * k)) % 256) as u8;
-        }
     }
 }

@@ -1,7 +1,7 @@
 //! Bits in words of 64, the first bit highest. A list of words is the list of all their bits; places count bits. All that
 //! stands on words stands here, so that `BitBuf` speaks of lists of bits alone.
 
-ghost use Rattle.std.specs.Prelude.{◌≡◌, ◌+◌, ◌-◌, ◌*◌, ◌/◌, ◌<◌, ◌≤◌, ◌++◌, length, take, drop};
+ghost use Rattle.std.specs.Prelude.{◌≡◌, ◌+◌, ◌-◌, ◌*◌, ◌/◌, ◌<◌, ◌≤◌, ◌++◌, length, take};
 ghost use Rattle.p25_bits.specs.{Bits.{bits_of, part}, Distance.{distance_of}, Numbers.{number_bits}};
 
 // Answers the 64 bits from place `at` on.
@@ -9,15 +9,8 @@ pub(crate) fn window(words: &[u64], at: usize) -> u64
     requires { at / 64 + 1 < length words.now }
     ensures { bits_of 64 result ≡ part at 64 (number_bits 64 words.now) }
 {
-    across(words[at / 64], words[at / 64 + 1], (at % 64) as u32)
-}
-
-// Answers the 64 bits from place `at` on of two words, the higher one first.
-fn across(high: u64, low: u64, at: u32) -> u64
-    requires { at < 64 }
-    ensures { bits_of 64 result ≡ part at 64 (bits_of 64 high ++ bits_of 64 low) }
-{
-    (high << at) | ((low >> 1) >> (63 - at))
+    let inner = at % 64;
+    (words[at / 64] << inner) | ((words[at / 64 + 1] >> 1) >> (63 - inner))
 }
 
 // Sets the 64 bits from place `at` on to those of a word. The bits before them stay; nothing is said of those after.
@@ -27,7 +20,7 @@ pub(crate) fn put_window(words: &mut [u64], at: usize, word: u64)
 {
     let inner = (at % 64) as u32;
     words[at / 64] = beginning(words[at / 64], inner, word);
-    words[at / 64 + 1] = ending(word, inner);
+    words[at / 64 + 1] = (word << 1) << (63 - inner);
 }
 
 // Answers the first `at` bits of a word followed by the first ones of another.
@@ -36,14 +29,6 @@ pub(crate) fn beginning(word: u64, at: u32, next: u64) -> u64
     ensures { bits_of 64 result ≡ take at (bits_of 64 word) ++ take (64 - at) (bits_of 64 next) }
 {
     (word & ((u64::MAX << 1) << (63 - at))) | (next >> at)
-}
-
-// Answers a word that begins with the last `count` bits of another.
-fn ending(word: u64, count: u32) -> u64
-    requires { count < 64 }
-    ensures { take count (bits_of 64 result) ≡ drop (64 - count) (bits_of 64 word) }
-{
-    (word << 1) << (63 - count)
 }
 
 // Appends `count` words of bits of another list, those from its place `from` on, to the first `at` bits.

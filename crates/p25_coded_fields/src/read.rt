@@ -1,6 +1,6 @@
 //! Fields read.
 
-ghost use Rattle.std.specs.Prelude.{◌≡◌, ℕ, ◌+◌, ◌*◌, ◌/◌, ◌<◌, ◌≤◌, All, Bool, List, IfSome, length, replicate};
+ghost use Rattle.std.specs.Prelude.{◌≡◌, ℕ, ◌+◌, ◌*◌, ◌/◌, ◌<◌, ◌≤◌, All, Bool, List, IfSome, length};
 ghost use Rattle.p25_bits.specs.Bits.{part};
 ghost use Rattle.p25_code.specs.{Erasures.{without_erased}, Readings.{word_read}};
 ghost use Rattle.p25_coded_fields.specs.{Fixes.{field_fixes_of, IsInnerCount}, Layouts.{field_layout, symbols_or_erasures, outer_word_of}, Written.{Encodes}};
@@ -10,15 +10,6 @@ use p25_bits::BitBuf;
 use p25_code::{ErasedCode, NumberCode, Reading};
 use p25_gf64::Sym;
 use p25_link::put_symbols;
-
-// Sets all to one truth value.
-fn set_all(erased: &mut [bool], gone: bool)
-    ensures { erased.new ≡ replicate (length erased.old) gone }
-{
-    for i in 0..erased.len() {
-        erased[i] = gone;
-    }
-}
 
 // Reads the inner word at a place, and answers how many of its bits were wrong. The symbols become those of its information.
 // Where no word is read all are erased, and the answer is None.
@@ -40,11 +31,11 @@ fn read_inner<I: NumberCode>(
     match I::read_number(received) {
         Some(sent) => {
             put_symbols(u128::from(sent >> (I::N - I::K)), symbols);
-            set_all(erased, false);
+            erased.fill(false);
             Some((received ^ sent).count_ones())
         }
         None => {
-            set_all(erased, true);
+            erased.fill(true);
             None
         }
     }

@@ -1,19 +1,11 @@
 //! A register that divides the bits shifted into it by a polynomial of degree 32. It holds the remainder of x^32 times
 //! what was shifted in.
 
-ghost use Rattle.std.specs.Prelude.{◌≡◌, ℕ, ◌+◌, ◌-◌, ◌*◌, ◌^◌, ◌<◌, ◌≤◌, Bool, List, ◌++◌, length};
+ghost use Rattle.std.specs.Prelude.{ℕ, ◌+◌, ◌-◌, ◌*◌, ◌^◌, ◌<◌, Bool, List, ◌++◌};
 ghost use Rattle.p25_bits.specs.{Bits.{field_of, octet_bits}, Divisible.{IsRemainder}};
-ghost use Rattle.p25_crc.specs.{Checks.{IsCheck}, Remainders.{AreRemainders}};
+ghost use Rattle.p25_crc.specs.Remainders.{AreRemainders};
 
 use crate::remainders::Remainders;
-
-// Shifts the eight bits of an octet into a register, the highest first.
-fn take_octet(register: u32, octet: u8, remainders: &Remainders) -> u32
-    ensures { (divisor before : ℕ) → AreRemainders divisor remainders.now → IsRemainder divisor 32 (before * 2 ^ 32) register
-        → IsRemainder divisor 32 ((before * 2 ^ 8 + octet) * 2 ^ 32) result }
-{
-    (register << 8) ^ remainders[0][((register >> 24) as u8 ^ octet) as usize]
-}
 
 // Shifts the 32 bits of a word into a register, the highest first.
 fn take_word(register: u32, word: u32, remainders: &Remainders) -> u32
@@ -26,20 +18,8 @@ fn take_word(register: u32, word: u32, remainders: &Remainders) -> u32
             ^ (remainders[1][((sum >> 8) % 256) as usize] ^ remainders[0][(sum % 256) as usize]))
 }
 
-// Shifts the bits of octets into a register one octet at a time, each octet's highest bit first.
-fn take_each(register: u32, octets: &[u8], remainders: &Remainders) -> u32
-    ensures { (divisor : ℕ) (before : List Bool) → AreRemainders divisor remainders.now → IsRemainder divisor 32 (field_of before * 2 ^ 32) register
-        → IsRemainder divisor 32 (field_of (before ++ octet_bits octets.now) * 2 ^ 32) result }
-{
-    let mut register = register;
-    for octet in octets {
-        register = take_octet(register, *octet, remainders);
-    }
-    register
-}
-
-// Shifts the bits of octets into a register four octets at a time as long as there are so many, each octet's highest bit
-// first.
+// Shifts the bits of octets into a register four octets at a time as long as there are so many, and then one at a time, each
+// octet's highest bit first.
 pub(crate) fn take_octets(register: u32, octets: &[u8], remainders: &Remainders) -> u32
     ensures { (divisor : ℕ) (before : List Bool) → AreRemainders divisor remainders.now → IsRemainder divisor 32 (field_of before * 2 ^ 32) register
         → IsRemainder divisor 32 (field_of (before ++ octet_bits octets.now) * 2 ^ 32) result }
@@ -51,5 +31,8 @@ pub(crate) fn take_octets(register: u32, octets: &[u8], remainders: &Remainders)
         let word = u32::from_be_bytes([octets[at], octets[at + 1], octets[at + 2], octets[at + 3]]);
         register = take_word(register, word, remainders);
     }
-    take_each(register, &octets[4 * words..], remainders)
+    for octet in &octets[4 * words..] {
+        register = (register << 8) ^ remainders[0][((register >> 24) as u8 ^ *octet) as usize];
+    }
+    register
 }

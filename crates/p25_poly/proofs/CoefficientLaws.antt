@@ -1,6 +1,6 @@
 -- Coefficients in lists, and the steps of the loops over them: a step writes one place, and a list has zeros past its end.
-use Rattle.std.proofs.Common.{◌≡◌, ◌≢◌, ◌⊎◌, ℕ, suc, ◌+◌, ◌-◌, ◌<◌, ◌≤◌, List, length, get_or, set, replicate, sym, ap, ap₂, ◌∙◌, inl, inr, arith, get_or-set_same, get_or-set_other}
-use Rattle.std.proofs.{lemmas.Bool.{cases_eq, cases_lt}, lemmas.List.{get_or_past, get_or_read, get_or-replicate, length-replicate, length-set}}
+use Rattle.std.proofs.Common.{◌≡◌, ◌≢◌, ◌⊎◌, ℕ, suc, ◌+◌, ◌-◌, ◌<◌, ◌≤◌, List, length, get_or, set, replicate, drop, ◌++◌, sym, ap, ap₂, ◌∙◌, inl, inr, arith, get_or-set_same, get_or-set_other}
+use Rattle.std.proofs.{lemmas.Bool.{cases_eq, cases_lt}, lemmas.List.{get_or_append_left, get_or-append_right, get_or-drop, get_or_past, get_or_read, get_or-replicate, length-replicate, length-set}}
 use Rattle.p25_gf64.specs.Field.{Field}
 use Rattle.p25_gf64.proofs.FieldLaws.{add_comm, add_zero, mul_comm, mul_zero, one_mul}
 use Rattle.p25_algebra.specs.{Sums.{sum_below}, Series.{coefficient, value_at, product_at, shifted, IsShort, IsDegree}}
@@ -26,6 +26,17 @@ module _ {F : Type 0} (K : Field F) where
   -- what is read in a list is its coefficient
   pub coefficient_read : (cs : List F) (i : ℕ) (x : F) → i < length cs → x ≡ get_or cs i x → x ≡ coefficient K cs i
   coefficient_read cs i x h e = get_or_read cs i x h e 𝟘
+
+  -- a list whose front is replaced has the coefficients of the front, and then its own
+  pub front_replaced : (front cs : List F) (n i : ℕ) → length front ≡ n → i < n → coefficient K (front ++ drop n cs) i ≡ coefficient K front i
+  front_replaced front cs n i long below = get_or_append_left front (drop n cs) 𝟘 i (omega arith)
+
+  pub rest_kept : (front cs : List F) (n i : ℕ) → length front ≡ n → n ≤ i → coefficient K (front ++ drop n cs) i ≡ coefficient K cs i
+  rest_kept front cs n i long from =
+      get_or-append_right front (drop n cs) n i 𝟘 long from ∙ get_or-drop n cs (i - n) 𝟘 ∙ ap (coefficient K cs) same
+    where
+      same : n + (i - n) ≡ i
+      same = omega arith
 
   -- a list of n coefficients is short
   pub short_list : (n : ℕ) (cs : List F) → length cs ≡ n → IsShort K n (coefficient K cs)

@@ -1,24 +1,13 @@
 //! Gaussian elimination, a row at a time: the front row clears its first column from the others, these
 //! are solved, and the unknown of that column is then set by the front row.
 
-ghost use Rattle.std.specs.Prelude.{◌≡◌, ◌≢◌, ℕ, ◌<◌, ◌≤◌, length, IsTrue};
+ghost use Rattle.std.specs.Prelude.{ℕ, ◌≤◌, length, IsTrue};
 ghost use Rattle.p25_gf64.specs.{declared.symbol.Sym.{Sym}, Gf64.{gf64}};
 ghost use Rattle.p25_algebra.specs.Series.{coefficient};
-ghost use Rattle.p25_poly.specs.LinearSystem.{AreMet, AreCleared};
+ghost use Rattle.p25_poly.specs.LinearSystem.{AreMet};
 
 use crate::row::Row;
 use p25_gf64::Sym;
-
-/// Clears a column of the rows by the front row.
-fn eliminate(rows: &mut [Row], front: &Row, column: usize)
-    requires inside { column < 24 }
-    requires pivot { coefficient gf64 front.now.cells column ≢ gf64.zero }
-    ensures { AreCleared column front.now rows.old rows.new }
-{
-    for i in 0..rows.len() {
-        rows[i] = rows[i].cleared(front, column);
-    }
-}
 
 /// Solves the rows for the unknowns and answers whether there is a solution. An unknown that no row
 /// decides keeps its value.
@@ -35,7 +24,9 @@ pub(crate) fn solve_rows(rows: &mut [Row], unknowns: &mut [Sym]) -> bool
     let Some(column) = front.pivot(unknowns.len()) else {
         return front.right.is_zero() && solve_rows(rest, unknowns);
     };
-    eliminate(rest, &front, column);
+    for i in 0..rest.len() {
+        rest[i] = rest[i].cleared(&front, column);
+    }
     unknowns[column] = Sym::default();
     let solved = solve_rows(rest, unknowns);
     if solved {

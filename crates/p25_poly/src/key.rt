@@ -27,7 +27,10 @@ pub fn key_solve(syndromes: &[Sym]) -> Key
     let mut front = Side::power(syndromes.len());
     let mut back = Side::series(syndromes);
     while 2 * back.degree >= syndromes.len() && 2 * front.degree >= syndromes.len() {
-        lower_both(&mut front, &mut back, syndromes.len());
+        lower(&mut front, &mut back, syndromes.len());
+        if 2 * back.degree >= syndromes.len() {
+            lower(&mut back, &mut front, syndromes.len());
+        }
     }
     if 2 * back.degree < syndromes.len() {
         key_of(&back)
@@ -44,25 +47,6 @@ fn key_of(side: &Side) -> Key
     Key {
         locator: Poly::from_symbols(&side.factor[32..]),
         evaluator: Poly::from_symbols(&side.rest[32..]),
-    }
-}
-
-// Lowers the front side by the back one, and then the back side by the front one. Where a degree comes below half, it stops.
-fn lower_both(front: &mut Side, back: &mut Side, count: usize)
-    requires some { 2 ≤ count }
-    requires lower { back.old.degree ≤ front.old.degree }
-    requires half { count ≤ 2 * back.old.degree }
-    requires inside { front.old.degree ≤ 22 }
-    ensures pair { (series : ℕ → Sym) → IsPair count series front.old back.old → IsPair count series front.new back.new }
-    ensures less { front.new.degree + back.new.degree < front.old.degree + back.old.degree }
-    ensures lower { count ≤ 2 * front.new.degree → back.new.degree ≤ front.new.degree }
-    ensures half { 2 * front.new.degree < count → count ≤ 2 * back.new.degree }
-    ensures front_inside { front.new.degree ≤ 22 }
-    ensures back_inside { back.new.degree ≤ back.old.degree }
-{
-    lower(front, back, count);
-    if 2 * back.degree >= count {
-        lower(back, front, count);
     }
 }
 

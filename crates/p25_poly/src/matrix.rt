@@ -17,7 +17,7 @@ pub struct Matrix {
 impl Matrix {
     ghost use Rattle.p25_gf64.specs.Gf64.{gf64};
     ghost use Rattle.p25_algebra.specs.Series.{coefficient};
-    ghost use Rattle.p25_poly.specs.{LinearSystem.{row_of}, Matrix.{row_count, column_count, entry, IsSystem}};
+    ghost use Rattle.p25_poly.specs.Matrix.{row_count, column_count, entry, IsSystem};
 
     /// Answers the matrix of zeros with 1 to 24 rows and 1 to 24 columns.
     pub fn new(rows: usize, columns: usize) -> Matrix
@@ -53,7 +53,9 @@ impl Matrix {
         ensures rows { row_count self.new ≡ row_count self.old }
         ensures columns { column_count self.new ≡ column_count self.old }
     {
-        self.lines[row] = self.lines[row].with(column, value);
+        let mut line = self.lines[row];
+        line.cells[column] = value;
+        self.lines[row] = line;
     }
 
     // The rows with these right sides.
@@ -64,7 +66,7 @@ impl Matrix {
     {
         let mut lines = self.lines;
         for i in 0..right.len() {
-            lines[i] = lines[i].with_right(right[i]);
+            lines[i].right = right[i];
         }
         lines
     }

@@ -3,7 +3,7 @@
 ghost use Rattle.std.specs.Prelude.{◌≡◌, ℕ, ◌+◌, ◌<◌, ◌≤◌, length};
 ghost use Rattle.p25_gf64.specs.Gf64.{gf64};
 ghost use Rattle.p25_algebra.specs.Series.{coefficient, shifted};
-ghost use Rattle.p25_poly.specs.Euclid.{IsMoved, IsMovedTo};
+ghost use Rattle.p25_poly.specs.Euclid.{IsMoved};
 
 use p25_gf64::Sym;
 
@@ -32,26 +32,5 @@ pub(crate) fn add_moved(into: &mut [Sym], multiple: Sym, other: &[Sym], shift: u
     moved.copy_from_slice(&other[32 + place - shift..48 + place - shift]);
     for i in 0..16 {
         into[32 + place + i] = into[32 + place + i].add(multiple.mul(moved[i]));
-    }
-}
-
-/// Adds the multiple of the other list's symbols behind the first 32, moved up by the shift, at 16 or 32 places: the degree is among them.
-#[inline(always)]
-pub(crate) fn add_moved_to(
-    into: &mut [Sym],
-    multiple: Sym,
-    other: &[Sym],
-    shift: usize,
-    degree: usize,
-)
-    requires into { length into.old ≡ 64 }
-    requires other { length other.now ≡ 64 }
-    requires shift { shift ≤ 32 }
-    requires degree { degree < 32 }
-    ensures { IsMovedTo degree multiple shift into.old other.now into.new }
-{
-    add_moved(into, multiple, other, shift, 0);
-    if degree >= 16 {
-        add_moved(into, multiple, other, shift, 16);
     }
 }

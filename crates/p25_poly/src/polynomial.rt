@@ -1,6 +1,6 @@
-ghost use Rattle.std.specs.Prelude.{◌≡◌, ◌≢◌, ◌↔◌, ℕ, ◌+◌, ◌<◌, ◌≤◌, length, IsNone, IfSome};
+ghost use Rattle.std.specs.Prelude.{◌≡◌, ◌↔◌, ℕ, ◌+◌, ◌<◌, ◌≤◌, length, IsNone, IfSome};
 ghost use Rattle.p25_gf64.specs.Gf64.{gf64};
-ghost use Rattle.p25_algebra.specs.Series.{coefficient, value_at, product_at, IsZero, IsShort, IsDegree};
+ghost use Rattle.p25_algebra.specs.Series.{coefficient, value_at, product_at, IsZero, IsDegree};
 
 use crate::multiples::add_multiple;
 use p25_gf64::Sym;
@@ -30,9 +30,7 @@ impl Poly {
         ensures { (i : ℕ) → coefficient_of result i ≡ coefficient gf64 low_first.now i }
     {
         let mut coefficients = [Sym::default(); 64];
-        for i in 0..low_first.len() {
-            coefficients[i] = low_first[i];
-        }
+        coefficients[..low_first.len()].copy_from_slice(low_first);
         Poly { coefficients }
     }
 

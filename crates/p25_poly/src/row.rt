@@ -15,7 +15,7 @@ pub(crate) struct Row {
 
 impl Row {
     ghost use Rattle.p25_gf64.specs.Gf64.{gf64};
-    ghost use Rattle.p25_algebra.specs.{Sums.{dot}, Series.{coefficient}};
+    ghost use Rattle.p25_algebra.specs.Series.{coefficient};
     ghost use Rattle.p25_poly.specs.LinearSystem.{IsMet, IsCleared, AgreeBut};
 
     /// The row of zeros.
@@ -25,31 +25,6 @@ impl Row {
         Row {
             cells: [Sym::default(); 24],
             right: Sym::default(),
-        }
-    }
-
-    /// The row with another cell in a column.
-    pub(crate) fn with(&self, column: usize, value: Sym) -> Row
-        requires { column < 24 }
-        ensures written { coefficient gf64 result.cells column ≡ value }
-        ensures others { (k : ℕ) → k ≢ column → coefficient gf64 result.cells k ≡ coefficient gf64 self.now.cells k }
-    {
-        let mut cells = self.cells;
-        cells[column] = value;
-        Row {
-            cells,
-            right: self.right,
-        }
-    }
-
-    /// The row with another right side.
-    pub(crate) fn with_right(&self, right: Sym) -> Row
-        ensures cells { result.cells ≡ self.now.cells }
-        ensures right { result.right ≡ right }
-    {
-        Row {
-            cells: self.cells,
-            right,
         }
     }
 
@@ -83,18 +58,6 @@ impl Row {
         }
     }
 
-    /// What the sum is short of at these unknowns.
-    fn residual(&self, unknowns: &[Sym]) -> Sym
-        requires { length unknowns.now ≤ 24 }
-        ensures { result ≡ gf64.add self.now.right (dot gf64 (length unknowns.now) (coefficient gf64 self.now.cells) (coefficient gf64 unknowns.now)) }
-    {
-        let mut residual = self.right;
-        for k in 0..unknowns.len() {
-            residual = residual.add(self.cells[k].mul(unknowns[k]));
-        }
-        residual
-    }
-
     /// Changes the unknown of one column so that the equation holds.
     pub(crate) fn correct(&self, unknowns: &mut [Sym], column: usize)
         requires few { length unknowns.old ≤ 24 }
@@ -103,7 +66,12 @@ impl Row {
         ensures met { IsMet (length unknowns.old) self.now (coefficient gf64 unknowns.new) }
         ensures others { AgreeBut column (coefficient gf64 unknowns.old) (coefficient gf64 unknowns.new) }
     {
-        let step = self.residual(unknowns).mul(self.cells[column].inv());
+        // What the sum is short of at these unknowns.
+        let mut residual = self.right;
+        for k in 0..unknowns.len() {
+            residual = residual.add(self.cells[k].mul(unknowns[k]));
+        }
+        let step = residual.mul(self.cells[column].inv());
         unknowns[column] = unknowns[column].add(step);
     }
 }

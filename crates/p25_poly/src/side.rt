@@ -2,7 +2,7 @@
 
 ghost use Rattle.std.specs.Prelude.{◌≡◌, ◌≢◌, ℕ, ◌+◌, ◌-◌, ◌<◌, ◌≤◌, length};
 
-use crate::multiples::{add_moved, add_moved_to};
+use crate::multiples::add_moved;
 use p25_gf64::Sym;
 
 /// A side: a rest, the factor whose product with the series gives it, and a bound on the degree of the rest. Both are
@@ -82,7 +82,10 @@ impl Side {
         let shift = self.degree - other.degree;
         let multiple = self.leading().div(other.leading());
         add_moved(&mut self.factor, multiple, &other.factor, shift, 0);
-        add_moved_to(&mut self.rest, multiple, &other.rest, shift, self.degree);
+        add_moved(&mut self.rest, multiple, &other.rest, shift, 0);
+        if self.degree >= 16 {
+            add_moved(&mut self.rest, multiple, &other.rest, shift, 16);
+        }
         self.degree -= 1;
     }
 }

@@ -18,9 +18,7 @@ pub fn solve(matrix: &Matrix, right: &[Sym], out: &mut [Sym]) -> bool
     ensures solution { IsTrue result → IsSolution matrix.now (coefficient gf64 right.now) (coefficient gf64 out.new) }
     ensures complete { (x : ℕ → Sym) → IsSolution matrix.now (coefficient gf64 right.now) x → IsTrue result }
 {
-    for symbol in out.iter_mut() {
-        *symbol = Sym::default();
-    }
+    out.fill(Sym::default());
     let mut rows = matrix.with_right(right);
     solve_rows(&mut rows[..matrix.rows], out)
 }

@@ -1,10 +1,10 @@
 -- The steps of the loops over lists of 32 and 64 symbols: what holds of each place holds of the coefficients.
-use Rattle.std.proofs.{Common.{◌≡◌, ℕ, zero, suc, ◌+◌, ◌-◌, ◌<◌, ◌≤◌, List, length, ap, sym, ◌∙◌, inl, inr, arith}, lemmas.Bool.{cases_lt}}
+use Rattle.std.proofs.{Common.{◌≡◌, ℕ, zero, suc, ◌+◌, ◌-◌, ◌<◌, ◌≤◌, List, length, set, ap, ap₂, sym, ◌∙◌, inl, inr, arith}, lemmas.Bool.{cases_eq, cases_lt}}
 use Rattle.p25_gf64.specs.{declared.symbol.Sym.{Sym}, Field.{power}, Gf64.{gf64}}
 use Rattle.p25_gf64.proofs.{FieldLaws.{mul_comm, mul_assoc, zero_mul}, PowerLaws.{power-suc}}
 use Rattle.p25_algebra.specs.{Sums.{sum_below, power_sum}, Series.{coefficient, value_at, shifted, rest_at}}
-use Rattle.p25_algebra.proofs.{SumLaws.{sum_same, sum_longer}, ValueLaws.{value-none, value_same}, QuotientLaws.{shifted-first, shifted-next}}
-use Rattle.p25_poly.proofs.CoefficientLaws.{coefficient_past}
+use Rattle.p25_algebra.proofs.{SumLaws.{sum_same, sum_longer, sum-suc}, ValueLaws.{value-none, value_same}, QuotientLaws.{shifted-first, shifted-next}}
+use Rattle.p25_poly.proofs.CoefficientLaws.{coefficient_past, written_at, written_elsewhere}
 
 -- a list moved up by one place
 pub moved_everywhere : (symbols moved : List Sym) → length symbols ≡ 32
@@ -67,9 +67,33 @@ term_next v x p q i is next =
 pub sum_of_terms : (count : ℕ) (elements values old new : List Sym) (element : ℕ → Sym) (i : ℕ)
     → count ≤ 32 → ((c : ℕ) → c < count → coefficient gf64 elements c ≡ element c) → ((c : ℕ) → count ≤ c → coefficient gf64 values c ≡ gf64.zero)
     → ((c : ℕ) → c < 32 → coefficient gf64 old c ≡ gf64.mul (coefficient gf64 values c) (power gf64 (coefficient gf64 elements c) i))
-    → ((c : ℕ) → coefficient gf64 new c ≡ gf64.mul (coefficient gf64 old c) (coefficient gf64 elements c))
+    → ((c : ℕ) → c < 32 → coefficient gf64 new c ≡ gf64.mul (coefficient gf64 old c) (coefficient gf64 elements c))
     → sum_below gf64 32 (coefficient gf64 new) ≡ power_sum gf64 count element (coefficient gf64 values) (i + 1)
 sum_of_terms count elements values old new element i few are rest terms next =
     sum_same gf64 32 (coefficient gf64 new) (λ c. gf64.mul (coefficient gf64 values c) (power gf64 (coefficient gf64 elements c) (i + 1)))
-    (λ c low. term_next (coefficient gf64 values c) (coefficient gf64 elements c) (coefficient gf64 old c) (coefficient gf64 new c) i (terms c low) (next c))
+    (λ c low. term_next (coefficient gf64 values c) (coefficient gf64 elements c) (coefficient gf64 old c) (coefficient gf64 new c) i (terms c low) (next c low))
     ∙ sum_of_listed count elements values element (i + 1) few are rest
+
+-- what the terms and their sum are while the first r are multiplied by their factors
+pub record IsMultipliedTo (r : ℕ) (factors start terms : List Sym) (sum : Sym) : Type 0 where
+  pub before : (k : ℕ) → k < r → coefficient gf64 terms k ≡ gf64.mul (coefficient gf64 start k) (coefficient gf64 factors k)
+  pub after : (k : ℕ) → r ≤ k → coefficient gf64 terms k ≡ coefficient gf64 start k
+  pub total : sum ≡ sum_below gf64 r (coefficient gf64 terms)
+
+-- one term more
+pub multiplied_more : (r : ℕ) (factors start terms : List Sym) (sum x : Sym) → r < length terms → x ≡ gf64.mul (coefficient gf64 terms r) (coefficient gf64 factors r)
+    → IsMultipliedTo r factors start terms sum → IsMultipliedTo (r + 1) factors start (set terms r x) (gf64.add sum x)
+multiplied_more r factors start terms sum x inside is made = record {
+  before = λ k low. elim (cases_eq k r) [
+    | inl same ↦ rw same (written_at gf64 terms r x inside ∙ is ∙ ap (λ w. gf64.mul w (coefficient gf64 factors r)) (made.after r (omega arith)))
+    | inr apart ↦ written_elsewhere gf64 terms r k x apart ∙ made.before k (omega arith)
+  ];
+  after = λ k high. written_elsewhere gf64 terms r k x (omega arith) ∙ made.after k (omega arith);
+  total =
+      ap₂ gf64.add (made.total ∙ sum_same gf64 r _ _ (λ k low. sym (written_elsewhere gf64 terms r k x (omega arith)))) (sym (written_at gf64 terms r x inside))
+      ∙ sym (sum-suc gf64 r (coefficient gf64 (set terms r x)))
+      ∙ ap (λ m. sum_below gf64 m (coefficient gf64 (set terms r x))) next;
+}
+  where
+    next : suc r ≡ r + 1
+    next = omega arith

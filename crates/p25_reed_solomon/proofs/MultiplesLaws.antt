@@ -1,6 +1,5 @@
 -- Multiples that are added to the symbols of a list, and values in 1/x: where a polynomial vanishes, a multiple of it changes no value.
-use Rattle.std.proofs.{Common.{◌≡◌, ◌≢◌, ℕ, ◌+◌, ◌-◌, ◌<◌, ◌≤◌, List, length, set, take, length-take, refl, sym, ap, ap₂, ◌∙◌, inl, inr, arith}, lemmas.Bool.{cases_eq, cases_lt}}
-use Rattle.std.proofs.lemmas.List.{get_or-take, ext_get_or}
+use Rattle.std.proofs.{Common.{◌≡◌, ◌≢◌, ℕ, ◌+◌, ◌-◌, ◌<◌, ◌≤◌, List, length, set, refl, sym, ap, ap₂, ◌∙◌, inl, inr, arith}, lemmas.Bool.{cases_eq, cases_lt}}
 use Rattle.p25_gf64.specs.Field.{Field, power}
 use Rattle.p25_gf64.proofs.{FieldLaws.{add_zero, add_self, mul_comm, mul_assoc, mul_zero, one_mul, mul_one, mul_inverse}, PowerLaws.{power-one, power-add, power_of_mul, power_of_one}}
 use Rattle.p25_algebra.specs.{Sums.{sum_below}, Series.{coefficient, value_at, shifted, IsShort}}
@@ -53,15 +52,6 @@ module _ {F : Type 0} (K : Field F) where
             ∙ ap (λ w. old j ⊕ w) (mul_zero K factor)
             ∙ add_zero K (old j))
       ]
-
-  -- what is put in front is the front
-  pub front_put : (info word : List F) → length info ≤ length word → ((j : ℕ) → j < length info → coefficient K word j ≡ coefficient K info j) → take (length info) word ≡ info
-  front_put info word fits same =
-      ext_get_or 𝟘 (take (length info) word) info front
-      (λ j low. let inside : j < length info = omega (arith, front) in get_or-take (length info) word j 𝟘 inside ∙ same j inside)
-    where
-      front : length (take (length info) word) ≡ length info
-      front = omega (arith, length-take (length info) word)
 
   -- ---- values
 

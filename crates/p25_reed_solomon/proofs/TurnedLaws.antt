@@ -1,6 +1,6 @@
 -- The syndromes with the last first are power sums of the points of the wrong places, as the syndromes are of their elements. So the key
 -- of these has a locator that vanishes at the elements, and with its coefficients in the other order it vanishes at the points.
-use Rattle.std.proofs.{Common.{◌≡◌, ◌≢◌, ◌↔◌, ℕ, suc, ◌+◌, ◌-◌, ◌*◌, ◌<◌, ◌≤◌, List, length, take, sym, ap, ◌∙◌, arith}, lemmas.List.{get_or-take, length-take}}
+use Rattle.std.proofs.Common.{◌≡◌, ◌≢◌, ◌↔◌, ℕ, suc, ◌+◌, ◌-◌, ◌*◌, ◌<◌, ◌≤◌, List, length, sym, ap, ◌∙◌, arith}
 use Rattle.p25_gf64.specs.{declared.symbol.Sym.{Sym}, Field.{power}, Gf64.{gf64}}
 use Rattle.p25_gf64.proofs.FieldLaws.{mul_comm, mul_assoc, mul_left_comm, mul_one, mul_zero, zero_mul, mul_inverse, mul_ne_zero, other_zero, inverse_ne_zero}
 use Rattle.p25_gf64.proofs.PowerLaws.{power-add, power_of_one, power_of_mul, power_ne_zero}
@@ -9,18 +9,6 @@ use Rattle.p25_algebra.proofs.{SumLaws.{sum_same, sum-mul, sum_reverse}, ValueLa
 use Rattle.p25_algebra.proofs.ForneyLaws.{forney}
 use Rattle.p25_poly.specs.{declared.polynomial.Poly.{Poly}, Polynomial.{coefficient_of}, Key.{IsKey}}
 use Rattle.p25_reed_solomon.specs.{ElementLaws.{element_ne_zero, element-point, same_point}, Errors.{element_of, point_of, AreErrors}}
-
--- the first symbols of a list of them, the last first
-pub turned_part : (count half : ℕ) (syndromes turned : List Sym) → count ≡ 2 * half → length syndromes ≡ 32 → count ≤ 22
-    → ((i : ℕ) → i < length (take count syndromes) → coefficient gf64 turned i ≡ coefficient gf64 (take count syndromes) (length (take count syndromes) - 1 - i))
-    → (i : ℕ) → i < 2 * half → coefficient gf64 (take count turned) i ≡ coefficient gf64 syndromes (2 * half - 1 - i)
-turned_part count half syndromes turned twice full few is i low =
-    let long : length (take count syndromes) ≡ count = omega (arith, length-take count syndromes, full, few) in
-    let same : length (take count syndromes) - 1 - i ≡ 2 * half - 1 - i = omega (arith, long, twice) in
-    get_or-take count turned i gf64.zero (omega (arith, low, twice))
-    ∙ is i (omega (arith, low, twice, long))
-    ∙ ap (coefficient gf64 (take count syndromes)) same
-    ∙ get_or-take count syndromes (2 * half - 1 - i) gf64.zero (omega (arith, low, twice))
 
 -- powers of an element and of its inverse
 powers_cancel : (x y : Sym) (k : ℕ) → gf64.mul x y ≡ gf64.one → gf64.mul (power gf64 x k) (power gf64 y k) ≡ gf64.one

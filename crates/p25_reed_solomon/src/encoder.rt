@@ -4,9 +4,9 @@
 //! j-th power of 1/x. Times the highest power of x it is the usual polynomial, so both have the same
 //! zeros but 0.
 
-ghost use Rattle.std.specs.Prelude.{◌≡◌, ℕ, ◌+◌, ◌-◌, ◌≤◌, ◌<◌, length, take};
-ghost use Rattle.p25_gf64.specs.{Field.{power}, Symbol.{alpha}, Gf64.{gf64}};
-ghost use Rattle.p25_algebra.specs.Series.{coefficient, value_at, shifted, IsShort};
+ghost use Rattle.std.specs.Prelude.{◌≡◌, ℕ, ◌+◌, ◌-◌, ◌≤◌, length, take};
+ghost use Rattle.p25_gf64.specs.Gf64.{gf64};
+ghost use Rattle.p25_algebra.specs.Series.{coefficient, shifted, IsShort};
 ghost use Rattle.p25_reed_solomon.specs.{Generator.{IsGenerator}, Words.{IsCode, IsWord}};
 
 use p25_gf64::Sym;
@@ -20,10 +20,15 @@ pub(crate) fn encode(info: &[Sym], word: &mut [Sym])
 {
     let checks = word.len() - info.len();
     let generator = generator_of(checks);
-    clear(word);
-    copy_front(info, word);
-    divide(word, &generator, checks);
-    copy_front(info, word);
+    word.fill(Sym::default());
+    word[..info.len()].copy_from_slice(info);
+    // Multiples of the generator polynomial are added, so that all symbols but the last become zero. The
+    // values at its zeros stay: what is left is the remainder.
+    for i in 0..info.len() {
+        let factor = word[i];
+        add_multiple(word, factor, &generator, checks + 1, i);
+    }
+    word[..info.len()].copy_from_slice(info);
 }
 
 // The generator polynomial, whose zeros are α^1 to α^checks.
@@ -42,23 +47,6 @@ fn generator_of(checks: usize) -> [Sym; 23]
     generator
 }
 
-// Adds multiples of the generator polynomial to the word, so that all of its symbols but the last
-// `checks` become zero. The values at the generator's zeros stay: what is left is the remainder.
-fn divide(word: &mut [Sym], generator: &[Sym], checks: usize)
-    requires generator { IsGenerator checks generator.now }
-    requires inside { checks < length generator.now }
-    requires fits { checks ≤ length word.old }
-    ensures same { (i : ℕ) → 1 ≤ i → i ≤ checks
-        → value_at gf64 (length word.old) (coefficient gf64 word.new) (gf64.inverse (power gf64 alpha i))
-        ≡ value_at gf64 (length word.old) (coefficient gf64 word.old) (gf64.inverse (power gf64 alpha i)) }
-    ensures cleared { (j : ℕ) → j + checks < length word.old → coefficient gf64 word.new j ≡ gf64.zero }
-{
-    for i in 0..word.len() - checks {
-        let factor = word[i];
-        add_multiple(word, factor, generator, checks + 1, i);
-    }
-}
-
 // Adds the factor times the first symbols of the other list, moved up by the shift.
 fn add_multiple(into: &mut [Sym], factor: Sym, other: &[Sym], count: usize, shift: usize)
     requires short { IsShort gf64 count (coefficient gf64 other.now) }
@@ -69,26 +57,5 @@ fn add_multiple(into: &mut [Sym], factor: Sym, other: &[Sym], count: usize, shif
 {
     for i in 0..count {
         into[shift + i] = into[shift + i].add(factor.mul(other[i]));
-    }
-}
-
-// Makes each symbol zero.
-fn clear(word: &mut [Sym])
-    ensures { (j : ℕ) → coefficient gf64 word.new j ≡ gf64.zero }
-{
-    for symbol in word.iter_mut() {
-        *symbol = Sym::default();
-    }
-}
-
-// Puts the information into the first symbols. The others stay.
-fn copy_front(info: &[Sym], word: &mut [Sym])
-    requires { length info.now ≤ length word.old }
-    ensures front { (j : ℕ) → j < length info.now → coefficient gf64 word.new j ≡ coefficient gf64 info.now j }
-    ensures rest { (j : ℕ) → length info.now ≤ j → coefficient gf64 word.new j ≡ coefficient gf64 word.old j }
-    ensures begins { take (length info.now) word.new ≡ info.now }
-{
-    for j in 0..info.len() {
-        word[j] = info[j];
     }
 }

@@ -1,8 +1,8 @@
 //! The erasures of a received word: how many there are, and the polynomial with a zero for each of them as a factor of others.
 
-ghost use Rattle.std.specs.Prelude.{◌≡◌, ℕ, suc, ◌+◌, ◌<◌, ◌≤◌, length};
+ghost use Rattle.std.specs.Prelude.{◌≡◌, ℕ, ◌+◌, ◌<◌, ◌≤◌, length};
 ghost use Rattle.p25_gf64.specs.Gf64.{gf64};
-ghost use Rattle.p25_algebra.specs.Series.{coefficient, shifted, times_linear};
+ghost use Rattle.p25_algebra.specs.Series.{coefficient, shifted};
 ghost use Rattle.p25_reed_solomon.specs.{Errors.{erased_below}, Locator.{times_erasures}};
 
 use p25_gf64::Sym;
@@ -36,19 +36,12 @@ pub(crate) fn multiply_by_erasures(polynomial: &mut [Sym], erased: &[bool], eras
     }
     for j in 0..erased.len() {
         if erased[j] {
-            multiply_by_linear(polynomial, Sym::pow_alpha((erased.len() - 1 - j) as u32));
+            let element = Sym::pow_alpha((erased.len() - 1 - j) as u32);
+            let below = moved_up(polynomial);
+            for i in 0..32 {
+                polynomial[i] = polynomial[i].add(element.mul(below[i]));
+            }
         }
-    }
-}
-
-// Multiplies a polynomial of 32 coefficients by 1 + y x, as far as there is room.
-fn multiply_by_linear(polynomial: &mut [Sym], y: Sym)
-    requires { length polynomial.old ≡ 32 }
-    ensures { (k : ℕ) → k < 32 → coefficient gf64 polynomial.new k ≡ times_linear gf64 y (coefficient gf64 polynomial.old) k }
-{
-    let below = moved_up(polynomial);
-    for i in 0..32 {
-        polynomial[i] = polynomial[i].add(y.mul(below[i]));
     }
 }
 

@@ -1,6 +1,6 @@
 //! The errors of a received word: which places are wrong, and what was added at each.
 
-ghost use Rattle.std.specs.Prelude.{◌≡◌, ◌≢◌, ℕ, ◌+◌, ◌*◌, ◌/◌, ◌<◌, ◌≤◌, length, IsTrue, slice_index_or};
+ghost use Rattle.std.specs.Prelude.{◌≡◌, ℕ, ◌+◌, ◌<◌, ◌≤◌, length, IsTrue, slice_index_or};
 ghost use Rattle.p25_gf64.specs.{declared.symbol.Sym.{Sym}, Gf64.{gf64}};
 ghost use Rattle.p25_algebra.specs.Series.{coefficient};
 ghost use Rattle.p25_reed_solomon.specs.Errors.{Explains, erased_below, placed};
@@ -58,9 +58,7 @@ fn place(places: &[usize], values: &[Sym], out: &mut [Sym])
     requires inside { (c : ℕ) → c < length places.now → slice_index_or places.now c 0 < length out.old }
     ensures { (j : ℕ) → j < length out.old → coefficient gf64 out.new j ≡ placed places.now (coefficient gf64 values.now) j }
 {
-    for symbol in out.iter_mut() {
-        *symbol = Sym::default();
-    }
+    out.fill(Sym::default());
     for c in 0..places.len() {
         let j = places[c];
         out[j] = out[j].add(values[c]);

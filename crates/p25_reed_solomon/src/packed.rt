@@ -126,15 +126,6 @@ pub(crate) fn put_values(values: u128, out: &mut [Sym])
     ensures put { (b : ℕ) → b < 16 → number (coefficient gf64 out.new b) ≡ values / 2 ^ (8 * b) % 2 ^ 8 }
 {
     for b in 0..VALUES_MOST {
-        out[b] = symbol_in(values, b);
+        out[b] = Sym::of_low_bits(values >> (8 * b));
     }
-}
-
-// Answers the symbol in an octet of a number, counted from the lowest.
-fn symbol_in(values: u128, b: usize) -> Sym
-    requires octet { b < 16 }
-    requires symbol { values / 2 ^ (8 * b) % 2 ^ 8 < 64 }
-    ensures { number result ≡ values / 2 ^ (8 * b) % 2 ^ 8 }
-{
-    Sym::of_low_bits(values >> (8 * b))
 }

@@ -1,6 +1,6 @@
 //! The reader of a received word, with erasures or without.
 
-ghost use Rattle.std.specs.Prelude.{◌≡◌, ℕ, ◌-◌, ◌<◌, ◌≤◌, length};
+ghost use Rattle.std.specs.Prelude.{◌≡◌, ◌-◌, ◌≤◌, length};
 ghost use Rattle.p25_gf64.specs.Gf64.{gf64};
 ghost use Rattle.p25_algebra.specs.{Sums.{nonzeros}, Series.{coefficient}};
 ghost use Rattle.p25_code.specs.{Words.{IsReading}, Erasures.{without_erased, IsErasedReading}};

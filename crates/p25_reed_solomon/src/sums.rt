@@ -1,8 +1,8 @@
 //! The last test of errors: whether their power sums are the syndromes.
 
 ghost use Rattle.std.specs.Prelude.{◌≡◌, ℕ, ◌+◌, ◌<◌, ◌≤◌, ◌↔◌, length, IsTrue, slice_index_or};
-ghost use Rattle.p25_gf64.specs.{Field.{power}, Gf64.{gf64}};
-ghost use Rattle.p25_algebra.specs.{Sums.{sum_below, power_sum}, Series.{coefficient}};
+ghost use Rattle.p25_gf64.specs.Gf64.{gf64};
+ghost use Rattle.p25_algebra.specs.{Sums.{power_sum}, Series.{coefficient}};
 ghost use Rattle.p25_reed_solomon.specs.Errors.{element_of};
 
 use p25_gf64::Sym;
@@ -22,8 +22,12 @@ pub(crate) fn are_sums(syndromes: &[Sym], n: usize, places: &[usize], values: &[
     let mut terms = [Sym::default(); 32];
     terms.copy_from_slice(values);
     for syndrome in syndromes {
-        multiply(&mut terms, &elements);
-        if !sum(&terms).add(*syndrome).is_zero() {
+        let mut sum = Sym::default();
+        for r in 0..32 {
+            terms[r] = terms[r].mul(elements[r]);
+            sum = sum.add(terms[r]);
+        }
+        if !sum.add(*syndrome).is_zero() {
             return false;
         }
     }
@@ -43,27 +47,4 @@ fn elements_of(n: usize, places: &[usize]) -> [Sym; 32]
         elements[c] = Sym::pow_alpha((n - 1 - places[c]) as u32);
     }
     elements
-}
-
-// Multiplies each of 32 terms by its factor.
-fn multiply(terms: &mut [Sym], factors: &[Sym])
-    requires terms { length terms.old ≡ 32 }
-    requires factors { length factors.now ≡ 32 }
-    ensures { (r : ℕ) → coefficient gf64 terms.new r ≡ gf64.mul (coefficient gf64 terms.old r) (coefficient gf64 factors.now r) }
-{
-    for r in 0..32 {
-        terms[r] = terms[r].mul(factors[r]);
-    }
-}
-
-// The sum of 32 terms.
-fn sum(terms: &[Sym]) -> Sym
-    requires { length terms.now ≡ 32 }
-    ensures { result ≡ sum_below gf64 32 (coefficient gf64 terms.now) }
-{
-    let mut sum = Sym::default();
-    for r in 0..32 {
-        sum = sum.add(terms[r]);
-    }
-    sum
 }

@@ -1,6 +1,6 @@
 //! Syndromes: the values of a received word at the powers of α at which each word of the code vanishes.
 
-ghost use Rattle.std.specs.Prelude.{◌≡◌, ℕ, ◌+◌, ◌<◌, ◌≤◌, ◌↔◌, length, true, false, IsTrue};
+ghost use Rattle.std.specs.Prelude.{◌≡◌, ℕ, ◌+◌, ◌<◌, ◌≤◌, length, true, false};
 ghost use Rattle.p25_gf64.specs.Gf64.{gf64};
 ghost use Rattle.p25_algebra.specs.Series.{coefficient};
 ghost use Rattle.p25_reed_solomon.specs.Words.{value_of};
@@ -18,9 +18,7 @@ pub fn fill_syndromes(word: &[Sym], out: &mut [Sym])
 {
     let mut powers = [Sym::default(); 32];
     fill_powers(1, &mut powers);
-    for value in out.iter_mut() {
-        *value = Sym::default();
-    }
+    out.fill(Sym::default());
     for symbol in word {
         horner_step(out, &powers, *symbol);
     }
@@ -37,7 +35,7 @@ pub(crate) fn are_syndromes_zero(word: &[Sym], checks: usize, out: &mut [Sym]) -
 {
     if word.len() > SYMBOLS_MOST || checks > VALUES_MOST {
         fill_syndromes(word, out);
-        return all_zero(&out[..checks]);
+        return out[..checks].iter().all(|symbol| symbol.is_zero());
     }
     let values = values_of(word);
     if are_zero(values, checks) {
@@ -45,16 +43,4 @@ pub(crate) fn are_syndromes_zero(word: &[Sym], checks: usize, out: &mut [Sym]) -
     }
     put_values(values, out);
     false
-}
-
-// Whether every symbol is zero.
-fn all_zero(symbols: &[Sym]) -> bool
-    ensures { IsTrue result ↔ ((r : ℕ) → r < length symbols.now → coefficient gf64 symbols.now r ≡ gf64.zero) }
-{
-    for symbol in symbols {
-        if !symbol.is_zero() {
-            return false;
-        }
-    }
-    true
 }

@@ -2,11 +2,10 @@
 
 ghost use Rattle.std.specs.Prelude.{◌≡◌, ◌≢◌, ℕ, ◌+◌, ◌-◌, ◌<◌, ◌≤◌, length, slice_index_or};
 ghost use Rattle.p25_gf64.specs.Gf64.{gf64};
-ghost use Rattle.p25_algebra.specs.Series.{coefficient, value_at, slope_at, rest_at};
+ghost use Rattle.p25_algebra.specs.Series.{coefficient, value_at, slope_at};
 ghost use Rattle.p25_reed_solomon.specs.Errors.{point_of};
 
 use crate::points::{fill_values, horner_step};
-use crate::zeros::point;
 use p25_gf64::Sym;
 
 // Sets `out` to the errors at listed places among n, and zeros after them. Times the locator's slope at the point of its place, where
@@ -32,12 +31,11 @@ pub(crate) fn fill_errors(
     let slopes = slopes_of(locator, &points);
     let mut values = [Sym::default(); 32];
     fill_values(evaluator, &points, &mut values);
-    for c in 0..32 {
-        out[c] = if c < places.len() {
-            quotient(values[c], slopes[c])
-        } else {
-            Sym::default()
-        };
+    out.fill(Sym::default());
+    for c in 0..places.len() {
+        if !slopes[c].is_zero() {
+            out[c] = values[c].div(slopes[c]);
+        }
     }
 }
 
@@ -51,19 +49,9 @@ fn points_of(n: usize, places: &[usize]) -> [Sym; 32]
 {
     let mut points = [Sym::default(); 32];
     for c in 0..places.len() {
-        points[c] = point(n, places[c]);
+        points[c] = Sym::pow_alpha((64 - n + places[c]) as u32);
     }
     points
-}
-
-// The quotient of two symbols, or zero where the second is zero.
-fn quotient(a: Sym, b: Sym) -> Sym
-    ensures { b ≢ gf64.zero → gf64.mul result b ≡ a }
-{
-    if b.is_zero() {
-        return Sym::default();
-    }
-    a.mul(b.inv())
 }
 
 // The slopes of a polynomial at each of 32 points.
@@ -76,23 +64,10 @@ fn slopes_of(polynomial: &[Sym], points: &[Sym]) -> [Sym; 32]
     let mut slopes = [Sym::default(); 32];
     let mut values = [Sym::default(); 32];
     for i in (0..polynomial.len()).rev() {
-        slope_step(&mut slopes, &mut values, points, polynomial[i]);
+        for r in 0..32 {
+            slopes[r] = slopes[r].mul(points[r]).add(values[r]);
+        }
+        horner_step(&mut values, points, polynomial[i]);
     }
     slopes
-}
-
-// A step of Horner's rule for the slopes and the values at each of 32 points.
-fn slope_step(slopes: &mut [Sym], values: &mut [Sym], points: &[Sym], symbol: Sym)
-    requires slopes { length slopes.old ≡ 32 }
-    requires values { length values.old ≡ 32 }
-    requires points { length points.now ≡ 32 }
-    ensures slopes { (r : ℕ) → r < 32
-        → coefficient gf64 slopes.new r ≡ gf64.add (gf64.mul (coefficient gf64 slopes.old r) (coefficient gf64 points.now r)) (coefficient gf64 values.old r) }
-    ensures values { (r : ℕ) → r < 32
-        → coefficient gf64 values.new r ≡ gf64.add (gf64.mul (coefficient gf64 values.old r) (coefficient gf64 points.now r)) symbol }
-{
-    for r in 0..32 {
-        slopes[r] = slopes[r].mul(points[r]).add(values[r]);
-    }
-    horner_step(values, points, symbol);
 }

@@ -3,7 +3,6 @@
 ghost use Rattle.std.specs.Prelude.{◌≡◌, ◌≢◌, ◌↔◌, ℕ, ◌-◌, ◌<◌, ◌≤◌, length};
 ghost use Rattle.p25_gf64.specs.{declared.symbol.Sym.{Sym}, Gf64.{gf64}};
 ghost use Rattle.p25_algebra.specs.Series.{coefficient, value_at};
-ghost use Rattle.p25_poly.specs.Polynomial.{coefficient_of};
 ghost use Rattle.p25_reed_solomon.specs.Errors.{AreErrors, point_of};
 
 use p25_gf64::Sym;
@@ -26,32 +25,14 @@ pub fn wrong_locator(syndromes: &[Sym], checks: usize, n: usize) -> [Sym; 12]
     ensures full { length result ≡ 12 }
 {
     let count = checks / 2 * 2;
-    let turned = turned(&syndromes[..count]);
-    let key = key_solve(&turned[..count]);
-    turned_front(&key.locator)
-}
-
-// Answers these symbols, the last first, and zeros after them.
-fn turned(symbols: &[Sym]) -> [Sym; 22]
-    requires { length symbols.now ≤ 22 }
-    ensures turned { (i : ℕ) → i < length symbols.now → coefficient gf64 result i ≡ coefficient gf64 symbols.now (length symbols.now - 1 - i) }
-    ensures full { length result ≡ 22 }
-{
     let mut turned = [Sym::default(); 22];
-    for i in 0..symbols.len() {
-        turned[i] = symbols[symbols.len() - 1 - i];
+    for i in 0..count {
+        turned[i] = syndromes[count - 1 - i];
     }
-    turned
-}
-
-// Answers the first twelve coefficients of a polynomial, the highest first.
-fn turned_front(polynomial: &Poly) -> [Sym; 12]
-    ensures turned { (i : ℕ) → i < 12 → coefficient gf64 result i ≡ coefficient_of polynomial.now (11 - i) }
-    ensures full { length result ≡ 12 }
-{
-    let mut turned = [Sym::default(); 12];
+    let key = key_solve(&turned[..count]);
+    let mut locator = [Sym::default(); 12];
     for i in 0..12 {
-        turned[i] = polynomial.coefficient(11 - i);
+        locator[i] = key.locator.coefficient(11 - i);
     }
-    turned
+    locator
 }

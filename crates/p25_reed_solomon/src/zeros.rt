@@ -1,9 +1,9 @@
 //! The places at which a locator vanishes.
 
-ghost use Rattle.std.specs.Prelude.{◌≡◌, ◌≢◌, ℕ, ◌+◌, ◌-◌, ◌<◌, ◌≤◌, length, slice_index_or};
+ghost use Rattle.std.specs.Prelude.{◌-◌, ◌<◌, ◌≤◌, length};
 ghost use Rattle.p25_gf64.specs.Gf64.{gf64};
-ghost use Rattle.p25_algebra.specs.Series.{coefficient, value_at, IsZero};
-ghost use Rattle.p25_reed_solomon.specs.Errors.{AreZeros, point_of};
+ghost use Rattle.p25_algebra.specs.Series.{coefficient, IsZero};
+ghost use Rattle.p25_reed_solomon.specs.Errors.{AreZeros};
 
 use crate::points::{fill_powers, fill_values};
 use arrayvec::ArrayVec;
@@ -18,7 +18,7 @@ pub(crate) fn zeros(polynomial: &[Sym], n: usize) -> ArrayVec<usize, 24>
     ensures few { length result.items < length polynomial.now }
 {
     let mut points = [Sym::default(); 64];
-    fill_points(n, &mut points);
+    fill_powers(64 - n as u32, &mut points);
     let mut values = [Sym::default(); 64];
     fill_values(polynomial, &points, &mut values);
     let mut places = ArrayVec::new();
@@ -28,22 +28,4 @@ pub(crate) fn zeros(polynomial: &[Sym], n: usize) -> ArrayVec<usize, 24>
         }
     }
     places
-}
-
-// Sets the first of the points to those of the places among n: successive powers of α.
-pub(crate) fn fill_points(n: usize, points: &mut [Sym])
-    requires places { n ≤ 63 }
-    requires room { length points.old ≡ 64 }
-    ensures { (j : ℕ) → j < n → coefficient gf64 points.new j ≡ point_of n j }
-{
-    fill_powers(64 - n as u32, points);
-}
-
-// The point of a place among n.
-pub(crate) fn point(n: usize, j: usize) -> Sym
-    requires places { n ≤ 63 }
-    requires inside { j < n }
-    ensures { result ≡ point_of n j }
-{
-    Sym::pow_alpha((64 - n + j) as u32)
 }

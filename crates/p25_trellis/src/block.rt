@@ -6,9 +6,10 @@ ghost use Rattle.p25_trellis.specs.Trellis.{IsBlock, IsFirstLeastReading, IsNear
 ghost use Rattle.p25_trellis.specs.Nearest.{nearest_octets, nearest_distance, block_from};
 
 use super::exact::path_along;
+use super::groups::regroup;
 use super::near::read_near;
 use super::nibbles::{append_nibbles, take_nibbles};
-use super::path::{nibbles_of, octets_of, path_of};
+use super::path::{nibbles_of, octets_of};
 use super::rate::Rate;
 use p25_bits::BitBuf;
 
@@ -22,7 +23,9 @@ pub fn encode_block<R: Rate>(octets: &[u8], out: &mut BitBuf)
     ensures value { out.new ≡ out.old ++ block_from R.BITS_PER_SYMBOL R.point_of octets.now }
     ensures len { length out.new ≡ length out.old + 196 }
 {
-    let path = path_of::<R>(octets);
+    // The symbols that the bits of the octets write, and then 0.
+    let mut path = [0; 49];
+    regroup(octets, 8, R::BITS_PER_SYMBOL, &mut path[..48]);
     append_nibbles(&nibbles_of::<R>(&path), out);
 }
 

@@ -1,17 +1,15 @@
 //! The first least path of a table of costs: from the last step to the first the least cost of what follows each
 //! state, and then forward the lowest symbol that attains it.
 
-ghost use Rattle.std.specs.Prelude.{◌≡◌, ℕ, suc, ◌+◌, ◌*◌, ◌^◌, ◌<◌, ◌≤◌, All, length, take, drop};
-ghost use Rattle.p25_trellis.specs.{Trellis.{IsFirstLeastReading}, Costs.{cost_in, path_cost}, Least.{rest_in, step_cost, HasLeastFrom, IsLowestLeast}};
+ghost use Rattle.std.specs.Prelude.{◌≡◌, ℕ, ◌+◌, ◌*◌, ◌^◌, ◌<◌, ◌≤◌, All, length};
+ghost use Rattle.p25_trellis.specs.{Trellis.{IsFirstLeastReading}, Costs.{cost_in, path_cost}, Least.{step_cost, HasLeastFrom, IsLowestLeast}};
 
+use super::near::BLOCK_RESTS;
 use super::path::take_path;
 use super::rate::Rate;
 
 /// The number of costs of a block: 16 for each of 49 steps, one for each nibble.
 pub const BLOCK_COSTS: usize = 784;
-
-// The number of least costs of what follows a state: 8 for each of 49 steps.
-const BLOCK_RESTS: usize = 392;
 
 // A symbol, and what it and the rest of a path cost.
 #[derive(Clone, Copy)]
@@ -67,20 +65,6 @@ fn fill_last<R: Rate>(costs: &[u32], rests: &mut [u32])
     }
 }
 
-// Fills in the least that can follow each state at a step, where what follows the next step is there.
-fn fill_step<R: Rate>(costs: &[u32], rests: &mut [u32], step: usize)
-    requires costs { length costs.now ≡ 784 }
-    requires low { All (λ cost. cost ≤ 2 ^ 24) costs.now }
-    requires rests { length rests.old ≡ 392 }
-    requires step { step < 48 }
-    requires after { HasLeastFrom R.STATES R.point_of (cost_in costs.now) rests.old (suc step) }
-    ensures { HasLeastFrom R.STATES R.point_of (cost_in costs.now) rests.new step }
-{
-    for state in 0..R::STATES {
-        rests[8 * step + usize::from(state)] = best_symbol::<R>(costs, rests, step, state).cost;
-    }
-}
-
 /// Sets `octets` to those of the first least path by a table of costs, and answers what that path costs: no path costs
 /// less, and of several that cost as little it is the first in dictionary order of symbols.
 ///
@@ -96,7 +80,10 @@ pub fn read_costs<R: Rate>(costs: &[u32], octets: &mut [u8]) -> u32
     let mut rests = [0; BLOCK_RESTS];
     fill_last::<R>(costs, &mut rests);
     for step in (0..48).rev() {
-        fill_step::<R>(costs, &mut rests, step);
+        for state in 0..R::STATES {
+            let best = best_symbol::<R>(costs, &rests, step, state);
+            rests[8 * step + usize::from(state)] = best.cost;
+        }
     }
     take_path::<R, _>(
         |step, state| best_symbol::<R>(costs, &rests, step, state).symbol,

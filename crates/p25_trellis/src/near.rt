@@ -1,28 +1,15 @@
 //! The search of the first nearest path to nibbles that were received: from the last step to the first the least distance of what
 //! follows each state and the lowest symbol that it begins with, all states of a step side by side, and then the path of these symbols.
 
-ghost use Rattle.std.specs.Prelude.{◌≡◌, ℕ, ◌+◌, ◌*◌, ◌/◌, ◌%◌, ◌<◌, ◌≤◌, All, length, min, slice_index};
+ghost use Rattle.std.specs.Prelude.{◌≡◌, ℕ, ◌+◌, ◌*◌, ◌/◌, ◌%◌, ◌<◌, All, length, min, slice_index};
 ghost use Rattle.p25_trellis.specs.{Trellis.{IsFirstLeastReading}, Tables.{nibble_distance}, Costs.{path_cost, received_cost}};
-ghost use Rattle.p25_trellis.specs.Least.{rest_in, HasLeastFrom, HasLowestFrom, IsLowestLeast};
+ghost use Rattle.p25_trellis.specs.Least.{HasLeastFrom, HasLowestFrom, IsLowestLeast};
 
 use super::path::take_path;
 use super::rate::Rate;
 
-// The number of least distances of what follows a state: 8 for each of 49 steps.
+// The number of the least that follows a state, a distance or a cost: 8 for each of 49 steps.
 pub(crate) const BLOCK_RESTS: usize = 392;
-
-// Lowers each of eight least ranks to that of a symbol and what follows it, where this is less.
-#[inline(always)]
-fn lower(ranks: &[u16], rest: u8, least: &mut [u16; 8])
-    requires eight { length ranks.now ≡ 8 }
-    requires low { (state : ℕ) → slice_index ranks.now state ≤ 39 }
-    ensures { (state : ℕ) → state < 8 → slice_index least.new state ≡ min (slice_index least.old state) (slice_index ranks.now state + 8 * rest) }
-{
-    let more = 8 * u16::from(rest);
-    for state in 0..8 {
-        least[state] = least[state].min(ranks[state] + more);
-    }
-}
 
 // The least rank of each state at a step, where `rests` has the least distances of what follows the next step: eight times the least
 // distance of the step with what follows it, and the lowest symbol that attains it. There are eight places; those after the last state
@@ -38,11 +25,11 @@ fn least_at<R: Rate>(nibble: u8, rests: &[u8]) -> [u16; 8]
 {
     let mut least = [0xFFFF; 8];
     for symbol in 0..R::STATES {
-        lower(
-            R::ranks(symbol, nibble),
-            rests[usize::from(symbol)],
-            &mut least,
-        );
+        let ranks = R::ranks(symbol, nibble);
+        let more = 8 * u16::from(rests[usize::from(symbol)]);
+        for state in 0..8 {
+            least[state] = least[state].min(ranks[state] + more);
+        }
     }
     least
 }
@@ -79,15 +66,6 @@ fn fill_rests<R: Rate>(
     }
 }
 
-// The symbol that a table has for a state at a step.
-fn symbol_at(symbols: &[u8; BLOCK_RESTS], step: usize, state: u8) -> u8
-    requires step { step < 48 }
-    requires state { state < 8 }
-    ensures { result ≡ rest_in symbols.now step state }
-{
-    symbols[8 * step + usize::from(state)]
-}
-
 // Sets `octets` to those of the first nearest path to nibbles, and answers its distance. It is a function of its own, so that a block
 // that was sent without a wrong bit pays nothing for the search.
 #[inline(never)]
@@ -99,6 +77,6 @@ pub(crate) fn read_near<R: Rate>(received: &[u8; 49], octets: &mut [u8]) -> u32
     let mut rests = [0; BLOCK_RESTS];
     let mut symbols = [0; BLOCK_RESTS];
     fill_rests::<R>(received, &mut rests, &mut symbols);
-    take_path::<R, _>(|step, state| symbol_at(&symbols, step, state), octets);
+    take_path::<R, _>(|step, state| symbols[8 * step + usize::from(state)], octets);
     u32::from(rests[0])
 }

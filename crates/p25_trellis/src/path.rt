@@ -6,17 +6,6 @@ ghost use Rattle.p25_trellis.specs.{Trellis.{IsPath, IsFirstLeastReading, Carrie
 use super::groups::regroup;
 use super::rate::Rate;
 
-// The path that carries octets: the 48 symbols that their bits write, and then 0.
-pub(crate) fn path_of<R: Rate>(octets: &[u8]) -> [u8; 49]
-    requires { length octets.now ≡ R.OCTETS }
-    ensures is_path { IsPath R.STATES result }
-    ensures carries { Carries R.BITS_PER_SYMBOL result octets.now }
-{
-    let mut path = [0; 49];
-    regroup(octets, 8, R::BITS_PER_SYMBOL, &mut path[..48]);
-    path
-}
-
 // Writes the octets that a path carries.
 pub(crate) fn octets_of<R: Rate>(path: &[u8], octets: &mut [u8])
     requires path { IsPath R.STATES path.now }

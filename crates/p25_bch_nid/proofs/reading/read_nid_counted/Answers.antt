@@ -1,16 +1,22 @@
-use Rattle.std.proofs.Common.{Some, None, ap, sym, ◌∙◌, arith}
+use Rattle.std.proofs.Common.{◌≡◌, ◌/◌, ◌%◌, ◌^◌, Some, None, ap, ap₂, sym, ◌∙◌, arith}
 use Rattle.p25_bits.specs.Bits.{bits_of}
-use Rattle.p25_bch_nid.proofs.ReadingLaws.{code_reading, wrong_in, wrong-le}
+use Rattle.p25_bch_nid.specs.NidReading.{identifier_of_word}
+use Rattle.p25_bch_nid.proofs.ReadingLaws.{code_reading, identifier_made, wrong_in, wrong-le}
 use Rattle.p25_bch_nid.proofs.reading.read_nid_counted.Goals as goal
 
-pub returns-in-Some : goal.returns-in-Some
-returns-in-Some c = record {
-  value = ap Some c.identifier_in.ensures ∙ sym (code_reading c.args.bits (Some (bits_of 63 c.in-Some.sent)) c.in-Some.ensures.reading);
-  wrong =
-      wrong_in c.args.bits c.in-Some.sent (c.identifier_in.result.nac, c.identifier_in.result.duid) (omega arith) c.in-Some.ensures.fits c.in-Some.ensures.reading c.identifier_in.ensures;
-  most =
-      wrong-le c.args.bits c.in-Some.sent (c.identifier_in.result.nac, c.identifier_in.result.duid) (omega arith) c.in-Some.ensures.fits c.in-Some.ensures.reading c.identifier_in.ensures;
-}
+pub returns : goal.returns
+returns c =
+    let nid = c.from.result in
+    let sent = c.in_ok-sent.sent in
+    let fits = c.in_ok-sent.ensures.fits in
+    let nac : nid.nac ≡ sent / 2 ^ 51 = omega (arith, c.from.ensures, fits) in
+    let duid : nid.duid ≡ sent / 2 ^ 47 % 16 = omega (arith, c.from.ensures, fits) in
+    let begins : (nid.nac, nid.duid) ≡ identifier_of_word (bits_of 63 sent) = ap₂ (λ a b. (a, b)) nac duid ∙ identifier_made sent fits in
+    record {
+      value = ap Some begins ∙ sym (code_reading c.args.bits (Some (bits_of 63 sent)) c.in_ok-sent.ensures.reading);
+      wrong = wrong_in c.args.bits sent (nid.nac, nid.duid) (omega arith) fits c.in_ok-sent.ensures.reading begins;
+      most = wrong-le c.args.bits sent (nid.nac, nid.duid) (omega arith) fits c.in_ok-sent.ensures.reading begins;
+    }
 
-pub returns-in-None-clause-value : goal.returns-in-None-clause-value
-returns-in-None-clause-value c = sym (code_reading c.args.bits None c.in-None.ensures.reading)
+pub returns-in_err-sent-clause-value : goal.returns-in_err-sent-clause-value
+returns-in_err-sent-clause-value c = rw c.from_residual.ensures (sym (code_reading c.args.bits None c.in_err-sent.ensures.reading))

@@ -1,23 +1,35 @@
-use Rattle.std.proofs.{Common.{◌≡◌, ◌-◌, ◌<◌, inl, inr, ap, sym, ◌∙◌, arith}, lemmas.Bool.{cases_lt}}
+use Rattle.std.proofs.{Common.{◌≡◌, ℕ, ◌-◌, ◌<◌, inl, inr, ap, sym, ◌∙◌, arith}, lemmas.Bool.{cases_lt}, lemmas.List.{get_or_read}}
 use Rattle.std.specs.Int.{bit_at}
 use Rattle.p25_gf64.specs.{Symbol.{number}, Gf64.{gf64}}
 use Rattle.p25_algebra.specs.Series.{coefficient, value_at}
-use Rattle.p25_bch_nid.proofs.ZerosSteps.{point, or_none, none_or, vanishes_exactly}
+use Rattle.p25_bch_nid.proofs.ZerosSteps.{point, plane_none, plane_more, or_none, none_or, vanishes_exactly}
 use Rattle.p25_bch_nid.proofs.zeros.zeros_of.Goals as goal
 
+pub loop-k-init : goal.loop-k-init
+loop-k-init c = λ e low. plane_none c.args.polynomial.now e c.loop-p.p
+
+pub loop-k-preserved : goal.loop-k-preserved
+loop-k-preserved c = λ e low.
+    plane_more c.args.polynomial.now c.loop-k.k c.loop-p.p c.loop-k.sum e c.value-symbol.result c.index-polynomial-k.result (omega arith) (omega arith) low
+    (get_or_read c.args.polynomial.now c.loop-k.k c.index-polynomial-k.result (omega arith) c.index-polynomial-k.is gf64.zero) c.value-symbol.ensures.number (c.loop-k.invariant e low)
+
 pub loop-p-preserved : goal.loop-p-preserved
-loop-p-preserved c = record {
-  zeros = λ e low none q below.
-      let both = or_none c.loop-p.some c.plane-some.result e none in
-      elim (cases_lt q c.loop-p.p) [
-        | inl lower ↦ c.loop-p.invariant.zeros e low both.0 q lower
-        | inr last ↦
-            let same : q ≡ c.loop-p.p = omega arith in
-            ap (bit_at (number (value_at gf64 12 (coefficient gf64 c.args.polynomial.now) (point e)))) same ∙ sym (c.plane-some.ensures e low) ∙ both.1
-      ];
-  all = λ e low none.
-      none_or c.loop-p.some c.plane-some.result e (c.loop-p.invariant.all e low (λ q below. none q (omega arith))) (c.plane-some.ensures e low ∙ none c.loop-p.p (omega arith));
-}
+loop-p-preserved c =
+    let all : c.loop-k.k ≡ 12 = omega arith in
+    let plane : (e : ℕ) → e < 63 → bit_at c.loop-k.sum e ≡ bit_at (number (value_at gf64 12 (coefficient gf64 c.args.polynomial.now) (point e))) c.loop-p.p
+    = λ e low. c.loop-k.invariant e low ∙ ap (λ k. bit_at (number (value_at gf64 k (coefficient gf64 c.args.polynomial.now) (point e))) c.loop-p.p) all in
+    record {
+      zeros = λ e low none q below.
+          let both = or_none c.loop-p.some c.loop-k.sum e none in
+          elim (cases_lt q c.loop-p.p) [
+            | inl lower ↦ c.loop-p.invariant.zeros e low both.0 q lower
+            | inr last ↦
+                let same : q ≡ c.loop-p.p = omega arith in
+                ap (bit_at (number (value_at gf64 12 (coefficient gf64 c.args.polynomial.now) (point e)))) same ∙ sym (plane e low) ∙ both.1
+          ];
+      all = λ e low none.
+          none_or c.loop-p.some c.loop-k.sum e (c.loop-p.invariant.all e low (λ q below. none q (omega arith))) (plane e low ∙ none c.loop-p.p (omega arith));
+    }
 
 pub returns-clause-zeros : goal.returns-clause-zeros
 returns-clause-zeros c = λ j low.

@@ -10,3 +10,6 @@ invariant-loop-p l = record {
   zeros : (e : ℕ) → e < 63 → bit_at l.some e ≡ 0 → (q : ℕ) → q < l.p → bit_at (number (value_at gf64 12 (coefficient gf64 l.polynomial) (point e))) q ≡ 0;
   all : (e : ℕ) → e < 63 → ((q : ℕ) → q < l.p → bit_at (number (value_at gf64 12 (coefficient gf64 l.polynomial) (point e))) q ≡ 0) → bit_at l.some e ≡ 0;
 }
+
+abbrev pub invariant-loop-k : goal.invariant-loop-k
+invariant-loop-k l = (e : ℕ) → e < 63 → bit_at l.sum e ≡ bit_at (number (value_at gf64 l.k (coefficient gf64 l.polynomial) (point e))) l.p

@@ -24,8 +24,8 @@ returns-in-Some g c =
     let is_word = read_word_of_set beq b.IsWord b.radius_is bits (bits_of b.N value) (b.reading_is bits) (m.reads_as c.requires.code bits) (sym read) in
     let encoding = read_encoding b.N b.K each value symbols c.requires.sixes (m.begins c.requires.code) is_word made in
     record {
-      erasures = inner_found b.N b.K each value (b.reading_is bits) symbols c.set_all.new.erased c.requires.sixes
-          (m.begins c.requires.code) read made (c.set_all.ensures ∙ ap (λ n. replicate n false) c.requires.same);
+      erasures = inner_found b.N b.K each value (b.reading_is bits) symbols c.fill.new.self c.requires.sixes
+          (m.begins c.requires.code) read made (c.fill.ensures.after (λ y e. e) ∙ ap (λ n. replicate n false) c.requires.same);
       count = record {
         few = omega (arith, ones-xor-le b.N c.field-received.result value fits small, c.requires.small);
         value = λ sent is. wrong_bits b.N b.K (m.one_word c.requires.code) c.field-received.result value (symbol_bits symbols) bits sent encoding is taken fits small;
@@ -37,6 +37,6 @@ returns-in-None-clause-erasures g c =
     let b = g.I.BlockCode in
     let bits = part c.args.at b.N c.args.bare.now in
     let taken = received_bits b.N c.args.at c.field-received.result c.args.bare.now c.field-received.ensures.value c.N.ensures c.requires.there in
-    inner_beyond (length c.args.symbols.now) (b.reading_is bits) c.args.symbols.now c.set_all-in-None.new.erased refl
+    inner_beyond (length c.args.symbols.now) (b.reading_is bits) c.args.symbols.now c.fill-in-None.new.self refl
     (received_reading b.N c.field-received.result bits b.reading_is c.in-None.is c.read_number.ensures.reading taken)
-    (c.set_all-in-None.ensures ∙ ap (λ n. replicate n true) c.requires.same)
+    (c.fill-in-None.ensures.after (λ y e. e) ∙ ap (λ n. replicate n true) c.requires.same)

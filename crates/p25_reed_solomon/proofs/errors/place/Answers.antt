@@ -1,11 +1,14 @@
-use Rattle.std.proofs.{Common.{ap₂, ◌∙◌, arith}, lemmas.List.{get_or_default}}
-use Rattle.p25_gf64.specs.Gf64.{gf64}
+use Rattle.std.proofs.{Common.{List, ap, ap₂, ◌∙◌, arith}, lemmas.List.{get_or_default}}
+use Rattle.p25_gf64.specs.{declared.symbol.Sym.{Sym}, Gf64.{gf64}}
 use Rattle.p25_algebra.specs.Series.{coefficient}
+use Rattle.p25_poly.proofs.CoefficientLaws.{coefficient_blank}
 use Rattle.p25_reed_solomon.proofs.ErrorsLaws.{placed_more, placed_none}
 use Rattle.p25_reed_solomon.proofs.errors.place.Goals as goal
 
 pub loop-c-init : goal.loop-c-init
-loop-c-init c = λ j below. c.loop-symbol.invariant j (omega arith) ∙ placed_none c.args.places.now (coefficient gf64 c.args.values.now) j
+loop-c-init c = λ j below.
+    ap (λ (s : List Sym). coefficient gf64 s j) (c.fill.ensures.after (λ y e. e))
+    ∙ coefficient_blank gf64 c.default.result _ j c.default.ensures ∙ placed_none c.args.places.now (coefficient gf64 c.args.values.now) j
 
 pub loop-c-preserved : goal.loop-c-preserved
 loop-c-preserved c =

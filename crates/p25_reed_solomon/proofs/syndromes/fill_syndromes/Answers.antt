@@ -1,13 +1,14 @@
-use Rattle.std.proofs.Common.{◌≡◌, suc, ◌+◌, sym, ap, ap₂, ◌∙◌, arith}
-use Rattle.p25_gf64.specs.{Field.{power}, Symbol.{alpha}, Gf64.{gf64}}
+use Rattle.std.proofs.Common.{◌≡◌, suc, List, ◌+◌, sym, ap, ap₂, ◌∙◌, arith}
+use Rattle.p25_gf64.specs.{declared.symbol.Sym.{Sym}, Field.{power}, Symbol.{alpha}, Gf64.{gf64}}
 use Rattle.p25_algebra.specs.Series.{coefficient}
 use Rattle.p25_algebra.proofs.SumLaws.{sum-none}
-use Rattle.p25_poly.proofs.CoefficientLaws.{coefficient_read}
+use Rattle.p25_poly.proofs.CoefficientLaws.{coefficient_blank, coefficient_read}
 use Rattle.p25_reed_solomon.specs.ValueLaws.{front_value, front_value-suc}
 use Rattle.p25_reed_solomon.proofs.syndromes.fill_syndromes.Goals as goal
 
 pub loop-symbol-init : goal.loop-symbol-init
-loop-symbol-init c = λ r low. c.loop-value.invariant r (omega arith) ∙ sym (sum-none gf64 _)
+loop-symbol-init c = λ r low.
+    ap (λ (s : List Sym). coefficient gf64 s r) (c.fill.ensures.after (λ y e. e)) ∙ coefficient_blank gf64 c.default.result _ r c.default.ensures ∙ sym (sum-none gf64 _)
 
 pub loop-symbol-preserved : goal.loop-symbol-preserved
 loop-symbol-preserved c = λ r low.

@@ -23,15 +23,15 @@ loop-i-preserved c =
     let f = coefficient gf64 c.args.polynomial.now in
     let i = c.loop-i.i in
     record {
-      slopes_full = omega (arith, c.loop-i.invariant.slopes_full);
+      slopes_full = c.loop-r.invariant.full;
       values_full = omega (arith, c.loop-i.invariant.values_full);
       slopes = λ r low.
-          c.slope_step.ensures.slopes r low
+          c.loop-r.invariant.before r (omega arith)
           ∙ ap₂ (λ v s. gf64.add (gf64.mul v (coefficient gf64 c.args.points.now r)) s)
           (c.loop-i.invariant.slopes r low) (c.loop-i.invariant.values r low ∙ rest_here n i f (coefficient gf64 c.args.points.now r) (omega arith))
           ∙ horner_step gf64 (rest_at gf64 n f (coefficient gf64 c.args.points.now r)) n i (coefficient gf64 c.args.points.now r) (omega arith) (omega arith);
       values = λ r low.
-          c.slope_step.ensures.values r low
+          c.horner_step.ensures r (omega (arith, c.loop-i.invariant.values_full))
           ∙ ap₂ (λ v s. gf64.add (gf64.mul v (coefficient gf64 c.args.points.now r)) s) (c.loop-i.invariant.values r low)
           (coefficient_read gf64 c.args.polynomial.now (i - 1) c.index-polynomial-i.result (omega arith) c.index-polynomial-i.is)
           ∙ horner_step gf64 f n i (coefficient gf64 c.args.points.now r) (omega arith) (omega arith);

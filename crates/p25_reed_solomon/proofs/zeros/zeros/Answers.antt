@@ -1,7 +1,7 @@
 use Rattle.std.proofs.{Common.{◌+◌, ℕ, List, length, ap, sym, ◌∙◌, subst, arith}, lemmas.Bool.{iff_false}, lemmas.List.{get_or_default}}
 use Rattle.p25_gf64.specs.Gf64.{gf64}
 use Rattle.p25_algebra.specs.Series.{coefficient, value_at}
-use Rattle.p25_reed_solomon.specs.Errors.{AreZeros}
+use Rattle.p25_reed_solomon.specs.{Errors.{AreZeros}, ElementLaws.{point-power}}
 use Rattle.p25_reed_solomon.proofs.{ZerosSteps.{AreZeros-few, AreZeros-none, AreZeros-push, AreZeros-skip}, zeros.zeros.Goals.{then-is_zero, else-is_zero}}
 use Rattle.p25_reed_solomon.proofs.zeros.zeros.Goals as goal
 
@@ -19,7 +19,7 @@ loop-j-preserved c =
     let polynomial = c.args.polynomial.now in
     let j = c.loop-j.j in
     let here = get_or_default c.fill_values.new.values j _ gf64.zero (omega arith) ∙ c.fill_values.ensures j (omega arith)
-    ∙ ap (value_at gf64 (length polynomial) (coefficient gf64 polynomial)) (c.fill_points.ensures j (omega arith)) in
+    ∙ ap (value_at gf64 (length polynomial) (coefficient gf64 polynomial)) (c.fill_powers.ensures j (omega arith) ∙ point-power n j c.requires.places (omega arith)) in
     elim c.if-is_zero.branch [
       | then-is_zero w ↦
           let zero = sym here ∙ c.is_zero.ensures.0 w.if-is_zero.true in

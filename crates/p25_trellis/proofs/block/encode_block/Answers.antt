@@ -1,21 +1,46 @@
-use Rattle.std.proofs.Common.{◌≡◌, ℕ, ◌*◌, ◌++◌, List, Bool, length, ap, ◌∙◌, arith}
-use Rattle.p25_trellis.proofs.{PathLaws.{same_block}, NearestLaws.{same_block_from}}
-use Rattle.p25_trellis.specs.{Interleave.{interleaved}, Trellis.{sent_bits}}
-use Rattle.p25_bits.specs.Numbers.{number_bits}
+use Rattle.std.proofs.{Common.{◌≡◌, ℕ, ◌*◌, ◌<◌, ◌++◌, [], ◌∷◌, List, Bool, length, ap, sym, subst, ◌∙◌, arith}, lemmas.List.Elements.{All-from_get_or}}
+use Rattle.p25_bits.specs.{Bits.{octet_bits}, Numbers.{number_bits, numbers_from}}
+use Rattle.p25_bits.proofs.NumbersLaws.{number_bits-octets}
+use Rattle.p25_trellis.specs.{Interleave.{interleaved}, Nearest.{path_from}, Trellis.{IsPath, Carries, sent_bits}}
+use Rattle.p25_trellis.proofs.{PathLaws.{same_block}, NearestLaws.{same_block_from, IsPath-path_from, Carries-path_from}}
 use Rattle.p25_trellis.proofs.block.encode_block.Goals as goal
+use Rattle.p25_trellis.proofs.block.encode_block.Given as given
+
+-- the symbols that the bits of octets write, and then 0
+path_from-is : (width read : ℕ) (octets symbols : List ℕ) → read ≡ width → symbols ≡ numbers_from read 48 (number_bits 8 octets) → path_from width octets ≡ symbols ++ 0 ∷ []
+unfolding path_from
+path_from-is width read octets symbols same is =
+    ap (λ (front : List ℕ). front ++ 0 ∷ [])
+    (sym (is ∙ ap (numbers_from read 48) (number_bits-octets octets) ∙ ap (λ n. numbers_from n 48 (octet_bits octets)) same))
+
+-- it is a path
+is_path-of : (g : given.Over) (octets symbols : List ℕ) (read : ℕ) → read ≡ g.R.Rate.BITS_PER_SYMBOL → symbols ≡ numbers_from read 48 (number_bits 8 octets)
+    → IsPath g.R.Rate.STATES (symbols ++ 0 ∷ [])
+is_path-of g octets symbols read same is =
+    subst (λ (path : List ℕ). IsPath g.R.Rate.STATES path) (path_from-is g.R.Rate.BITS_PER_SYMBOL read octets symbols same is)
+    (IsPath-path_from g.R.Rate.STATES g.R.Rate.BITS_PER_SYMBOL octets g.met.R.Rate.table.states_of_bits)
+
+pub nibbles_of-requires : goal.nibbles_of-requires
+nibbles_of-requires g c = (is_path-of g c.args.octets.now c.regroup.new.target c.BITS_PER_SYMBOL.result c.BITS_PER_SYMBOL.ensures c.regroup.ensures).below
 
 pub returns-clause-block : goal.returns-clause-block
 unfolding sent_bits
-returns-clause-block g c = (
-  number_bits 4 (interleaved c.nibbles_of.result),
-  record {
-    path = c.path_of-path.result;
-    is_path = c.path_of-path.ensures.is_path;
-    carries = c.path_of-path.ensures.carries;
-    sent = ap (λ (nibbles : List ℕ). number_bits 4 (interleaved nibbles)) c.nibbles_of.ensures.value;
-  },
-  c.append_nibbles.ensures.list,
-)
+returns-clause-block g c =
+    let width = g.R.Rate.BITS_PER_SYMBOL in
+    let octets = c.args.octets.now in
+    let path = c.regroup.new.target ++ 0 ∷ [] in
+    let from : path_from width octets ≡ path = path_from-is width c.BITS_PER_SYMBOL.result octets c.regroup.new.target c.BITS_PER_SYMBOL.ensures c.regroup.ensures in
+    let long : length octets ≡ 6 * width = omega (arith, c.requires.octets, g.met.R.Rate.table.octets_of_bits) in (
+      number_bits 4 (interleaved c.nibbles_of.result),
+      record {
+        path = path;
+        is_path = is_path-of g octets c.regroup.new.target c.BITS_PER_SYMBOL.result c.BITS_PER_SYMBOL.ensures c.regroup.ensures;
+        carries = subst (λ (path : List ℕ). Carries width path octets) from
+            (Carries-path_from width octets long (All-from_get_or (λ (octet : ℕ). octet < 256) octets 0 (λ k inside. omega (arith, c.type_inv.octets k))));
+        sent = ap (λ (nibbles : List ℕ). number_bits 4 (interleaved nibbles)) c.nibbles_of.ensures.value;
+      },
+      c.append_nibbles.ensures.list,
+    )
 
 pub returns-clause-only : goal.returns-clause-only
 returns-clause-only g c =

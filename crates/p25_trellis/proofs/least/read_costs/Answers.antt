@@ -1,7 +1,45 @@
-use Rattle.std.proofs.Common.{rules, ℕ, suc, ◌^◌, ◌<◌, subst, arith}
+use Rattle.std.proofs.Common.{rules, ℕ, suc, ◌-◌, ◌^◌, ◌<◌, length-set, ◌∙◌, subst, arith}
 use Rattle.p25_trellis.specs.{Trellis.{IsFirstLeastReading}, Costs.{cost_in, path_cost}, Least.{step_cost}}
-use Rattle.p25_trellis.proofs.CostLaws.{step_cost-lt, HasLeastFrom-later, rest_in-first}
+use Rattle.p25_trellis.proofs.CostLaws.{step_cost-lt, IsLeastEnd-at, HasLeastFrom-write, HasLeastFrom-more, HasLeastFrom-later, here_more, rest_in-first}
 use Rattle.p25_trellis.proofs.least.read_costs.Goals as goal
+
+pub best_symbol-best-requires-clause-fits : goal.best_symbol-best-requires-clause-fits
+best_symbol-best-requires-clause-fits g c = λ symbol below.
+    step_cost-lt g.R.Rate.STATES g.R.Rate.point_of c.args.costs.now c.loop-state.rests (c.loop-step.step - 1) c.loop-state.state symbol c.requires.low c.loop-state.invariant.after (omega arith) below
+
+pub loop-state-init : goal.loop-state-init
+loop-state-init g c = record {
+  after = HasLeastFrom-later g.R.Rate.STATES g.R.Rate.point_of (cost_in c.args.costs.now) c.loop-step.rests c.loop-step.step (suc (c.loop-step.step - 1)) (omega arith) c.loop-step.invariant.least;
+  here = λ before state place row. absurd (omega arith);
+  long = c.loop-step.invariant.long;
+}
+
+pub loop-state-preserved : goal.loop-state-preserved
+loop-state-preserved g c =
+    let states = g.R.Rate.STATES in
+    let point = g.R.Rate.point_of in
+    let costs = c.args.costs.now in
+    let rests = c.loop-state.rests in
+    let step = c.loop-step.step - 1 in
+    let state = c.loop-state.state in
+    let least = c.best_symbol-best.result.cost in
+    let below : state < states = omega (arith, c.loop-state-test.true, c.STATES-state-end.ensures) in
+    let column : c.from.result < 8 = omega (arith, below, c.from.ensures, g.met.R.Rate.table.few_states) in
+    let long = c.loop-state.invariant.long in record {
+      after = HasLeastFrom-write states point (cost_in costs) rests step c.from.result least g.met.R.Rate.table.few_states column c.loop-state.invariant.after;
+      here =
+          here_more states point (cost_in costs) rests step state c.from.result least g.met.R.Rate.table.few_states below (omega arith) long c.from.ensures
+          c.loop-state.invariant.here
+          (IsLeastEnd-at states point (cost_in costs) rests step state c.best_symbol-best.result.symbol least (omega arith) c.loop-state.invariant.after c.best_symbol-best.ensures);
+      long = length-set rests _ _ ∙ long;
+    }
+
+pub loop-step-preserved : goal.loop-step-preserved
+loop-step-preserved g c = record {
+  least = HasLeastFrom-more g.R.Rate.STATES g.R.Rate.point_of (cost_in c.args.costs.now) c.loop-state.rests (c.loop-step.step - 1) c.loop-state.invariant.after
+      (λ before s place row. c.loop-state.invariant.here before s place (omega (arith, row, c.loop-state-test.false, c.STATES-state-end.ensures)));
+  long = c.loop-state.invariant.long;
+}
 
 pub take_path-requires-clause-callable : goal.take_path-requires-clause-callable
 take_path-requires-clause-callable g c = λ step state early row.

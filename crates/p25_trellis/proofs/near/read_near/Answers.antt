@@ -1,6 +1,6 @@
-use Rattle.std.proofs.{Common.{rules, ◌≡◌, ℕ, subst, sym, ◌∙◌, arith}, iter.Serving.{serving}}
+use Rattle.std.proofs.{Common.{rules, refl, ◌≡◌, ℕ, subst, sym, ◌∙◌, arith}, iter.Serving.{serving}}
 use Rattle.p25_trellis.specs.{Costs.{path_cost, received_cost}, Least.{rest_in, step_cost, IsLowestLeast}, Trellis.{IsFirstLeastReading}}
-use Rattle.p25_trellis.proofs.CostLaws.{rest_in-first}
+use Rattle.p25_trellis.proofs.{CostLaws.{rest_in-first}, NearSteps.{rest_read}}
 use Rattle.p25_trellis.proofs.near.read_near.Goals as goal
 
 pub take_path-requires-clause-callable : goal.take_path-requires-clause-callable
@@ -8,7 +8,7 @@ take_path-requires-clause-callable g c = grind (serving, g.met.R.Rate.table.few_
 
 pub take_path-requires-clause-below : goal.take_path-requires-clause-below
 take_path-requires-clause-below g c = λ step state symbol early row answers.
-    let is : symbol ≡ rest_in c.fill_rests.new.symbols step state = search rules in
+    let is : symbol ≡ rest_in c.fill_rests.new.symbols step state = search (rules, rest_read c.fill_rests.new.symbols step state state refl) in
     omega (arith, is, (c.fill_rests.ensures.lowest.at step state (omega arith) early row).below)
 
 pub returns : goal.returns
@@ -20,7 +20,7 @@ returns g c =
     (c.take_path.ensures cost rests c.fill_rests.ensures.least
     (record {
       at = λ step state symbol early row answers.
-          let is : symbol ≡ rest_in c.fill_rests.new.symbols step state = search rules in (
+          let is : symbol ≡ rest_in c.fill_rests.new.symbols step state = search (rules, rest_read c.fill_rests.new.symbols step state state refl) in (
             rest_in rests step state,
             subst (λ (k : ℕ). IsLowestLeast g.R.Rate.STATES (step_cost g.R.Rate.point_of cost rests step state) k (rest_in rests step state)) (sym is)
                 (c.fill_rests.ensures.lowest.at step state (omega arith) early row),
