@@ -1,11 +1,11 @@
 //! Units of packets (PDU) written, without their status symbols.
 
-ghost use Rattle.std.specs.Prelude.{◌≡◌, ◌+◌, ◌*◌, ◌-◌, ◌<◌, ◌≤◌, ◌++◌, length, replicate, false, Ok};
+ghost use Rattle.std.specs.Prelude.{◌≡◌, ◌+◌, ◌*◌, ◌-◌, ◌<◌, ◌≤◌, ◌++◌, length, false};
 ghost use Rattle.p25_bits.specs.Numbers.{joined_below};
-ghost use Rattle.p25_trellis.specs.Nearest.{half_block, three_quarter_block};
+ghost use Rattle.p25_trellis.specs.Nearest.{three_quarter_block};
 ghost use Rattle.p25_packet_blocks.specs.{declared.packet.Packet.TheVariants.{Confirmed as confirmed_packet, Plain as plain_packet}, Heads.{head_blocks}};
-ghost use Rattle.p25_packet_blocks.specs.{Whole.{packet_head, AreGood, IsWholePacket}, Lengths.{packet_bits, packet_bare_length, packet_sent_length}};
-ghost use Rattle.p25_packet_blocks.specs.Image.{header_octets, confirmed_octets, checked_octets, body_block, packet_nulls, packet_image_of};
+ghost use Rattle.p25_packet_blocks.specs.{Whole.{packet_head, AreGood, IsWholePacket}, Lengths.{packet_bare_length, packet_sent_length}};
+ghost use Rattle.p25_packet_blocks.specs.Image.{confirmed_octets, body_block, packet_image_of};
 ghost use Rattle.p25_packet_blocks.specs.Sendable.{IsHead, IsDataBlock, IsSendableConfirmed, IsSendablePlain, IsSendable};
 
 use crate::block::{Block, Slot};

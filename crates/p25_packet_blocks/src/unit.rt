@@ -1,7 +1,7 @@
 //! Units of packets (PDU) read as they are sent, with their status symbols.
 
 ghost use Rattle.std.specs.Prelude.{◌≡◌, ◌+◌, ◌*◌, ◌≤◌, length, drop, IfOk};
-ghost use Rattle.p25_packet_blocks.specs.UnitReading.{sent_header_bits, sent_read_of, packet_unit_of};
+ghost use Rattle.p25_packet_blocks.specs.UnitReading.{sent_read_of, packet_unit_of};
 
 use crate::head::ReadHead;
 use crate::image::packet_length;
