@@ -1,7 +1,6 @@
 ghost use Rattle.std.specs.Prelude.{◌≡◌, ℕ, ◌+◌, ◌*◌, ◌<◌, ◌≤◌, List, length, IfSome};
 ghost use Rattle.p25_bits.specs.{Bits.{part}, Numbers.{octets_number}};
 ghost use Rattle.p25_delivery.specs.{MessageBlocks.{block_count, pad_count, message_octets, unpadded}, Places.{all_octets}};
-ghost use Rattle.p25_packet_blocks.specs.Parts.{BlockParts};
 
 use arrayvec::ArrayVec;
 use p25_crc::crc32;
