@@ -1,5 +1,5 @@
-ghost use Rattle.std.specs.Prelude.{◌≡◌, ◌*◌, ◌<◌, ◌⊎◌, ◌↔◌, false, length, replicate, slice_get, slice_set, Some, IsSome};
-ghost use Rattle.std.specs.{Bool.{beq}, Cmp.{bool_eq_equiv, partial_equiv_from_equiv}, Cmp.Lexicographic.{pointwise, lists_equiv}};
+ghost use Rattle.std.specs.{Prelude.{◌≡◌, ◌*◌, ◌<◌, ◌⊎◌, ◌↔◌, false, length, replicate, slice_get, slice_set, Some, IsSome}, Bool.{beq}};
+ghost use Rattle.std.specs.{Cmp.{bool_eq_equiv, partial_equiv_from_equiv}, Cmp.Lexicographic.{pointwise, lists_equiv}};
 ghost use Rattle.p25_bits.specs.Bits.{octet_bits};
 ghost use Rattle.p25_packet_blocks.specs.FlagOctets.{flag_octets, flags_of_octets};
 

@@ -6,8 +6,7 @@ use Rattle.p25_bits.specs.Numbers.{each_below}
 use Rattle.p25_bits.proofs.NumbersLaws.{length-each_below, each_below-more, each_below-zero, get_or-each_below}
 use Rattle.p25_voice_units.specs.Fixes.{wide}
 use Rattle.p25_vectors.specs.{Draws.{draw, state_after}, Damage.{inverted, damaged, field_draws, word_counts}}
-use Rattle.p25_vectors.proofs.DrawsLaws.{state_after-add}
-use Rattle.p25_vectors.proofs.DamageLaws.{no_word, AreCounts, AreCounts-from, damaged-none, damaged-append, damaged-one}
+use Rattle.p25_vectors.proofs.{DrawsLaws.{state_after-add}, DamageLaws.{no_word, AreCounts, AreCounts-from, damaged-none, damaged-append, damaged-one}}
 
 -- the count of one word
 pub count_at : ℕ → ℕ → ℕ → ℕ → ℕ → ℕ

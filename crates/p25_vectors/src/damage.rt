@@ -2,8 +2,7 @@
 
 ghost use Rattle.std.specs.Prelude.{◌≡◌, ◌+◌, ◌-◌, ◌*◌, ◌%◌, ◌<◌, ◌≤◌, All, length, sum};
 ghost use Rattle.p25_packet_blocks.specs.{Heads.{head_blocks}, Whole.{packet_head}, Within.{block_radius}};
-ghost use Rattle.p25_units.specs.{Fixes.{body_looked, packet_looked}, Units.{body_length}};
-ghost use Rattle.p25_units.specs.declared.unit.Body.TheVariants.{Packet as packet_in};
+ghost use Rattle.p25_units.specs.{Fixes.{body_looked, packet_looked}, Units.{body_length}, declared.unit.Body.TheVariants.{Packet as packet_in}};
 ghost use Rattle.p25_voice_units.specs.Fixes.{link_looked, voice_looked, wide};
 ghost use Rattle.p25_vectors.specs.Draws.{draw, state_after};
 ghost use Rattle.p25_vectors.specs.Damage.{body_counts, body_damage_draws, damage_counts, damage_draws, damaged, damaged_words, field_draws, inverted, link_counts, word_counts};

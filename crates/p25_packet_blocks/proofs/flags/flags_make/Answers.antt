@@ -2,8 +2,7 @@ use Rattle.std.proofs.{Common.{◌≡◌, ℕ, ◌*◌, ◌⊎◌, inl, inr, Boo
 use Rattle.p25_bits.specs.Numbers.{octets_from}
 use Rattle.p25_bits.proofs.NumbersLaws.{numbers_from-zero}
 use Rattle.p25_packet_blocks.specs.FlagOctets.{flags_of_octets}
-use Rattle.p25_packet_blocks.proofs.{FlagLaws.{flag_octets-64, flag_octets-128, flags_of_octets-flag_octets}, FlagSteps.{octets_from_more}}
-use Rattle.p25_packet_blocks.proofs.flags.flags_make.Goals.{After-len}
+use Rattle.p25_packet_blocks.proofs.{FlagLaws.{flag_octets-64, flag_octets-128, flags_of_octets-flag_octets}, FlagSteps.{octets_from_more}, flags.flags_make.Goals.{After-len}}
 use Rattle.p25_packet_blocks.proofs.flags.flags_make.Goals as goal
 
 pub loop-place-init : goal.loop-place-init

@@ -15,7 +15,8 @@ pub returns-in-Voice-End-clause-list : goal.returns-in-Voice-End-clause-list
 unfolding voice_looked
 returns-in-Voice-End-clause-list c =
     let state = c.args.draws.now in
-    sym (ap (λ b. damaged (body_looked b) (body_counts b state) c.args.bits.now) (c.in-Voice-End.is ∙ ap Voice (rw c.in-Voice-End.is at c.in-Voice-End.field-0-is)) ∙ damaged-none (body_counts (Voice End) state) c.args.bits.now)
+    sym (ap (λ b. damaged (body_looked b) (body_counts b state) c.args.bits.now) (c.in-Voice-End.is ∙ ap Voice (rw c.in-Voice-End.is at c.in-Voice-End.field-0-is))
+    ∙ damaged-none (body_counts (Voice End) state) c.args.bits.now)
 
 pub returns-in-Voice-End-clause-state : goal.returns-in-Voice-End-clause-state
 unfolding body_damage_draws

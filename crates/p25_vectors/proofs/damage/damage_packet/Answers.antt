@@ -26,7 +26,8 @@ loop-j-preserved c =
     = done.ensures.count ∙ ap (λ (s : ℕ). draw 0 s % (c.radius_of-radius.result + 1)) c.loop-j.invariant.state ∙ ap (λ (d : ℕ). d % (c.radius_of-radius.result + 1)) (draw-after j state) in
     let step : done.new.bits ≡ inverted (place j) done.result c.loop-j.bits
     = done.ensures.list ∙ ap (λ (n : ℕ). inverted (place j) n c.loop-j.bits) (sym done.ensures.count) in
-    let more = blocks-more 196 c.radius_of-radius.result state place c.damage_word-header.new.bits j done.result c.loop-j.flips c.loop-j.bits done.new.bits (c.loop-j.invariant.bits, c.loop-j.invariant.flips) step drawn in
+    let more = blocks-more 196 c.radius_of-radius.result state place c.damage_word-header.new.bits j done.result c.loop-j.flips c.loop-j.bits done.new.bits
+    (c.loop-j.invariant.bits, c.loop-j.invariant.flips) step drawn in
     record {
       bits = more.0;
       len = done.ensures.len ∙ c.loop-j.invariant.len;
