@@ -2,8 +2,7 @@
 #![tactic(auto, unfolding(crate::specs::SentPackets::opening_packet, crate::specs::SentPackets::short_response, crate::specs::SentPackets::retry_packet))]
 
 ghost use Rattle.std.specs.Prelude.{◌≡◌, ◌<◌, ◌≤◌, length};
-ghost use Rattle.p25_delivery.specs.MessageBlocks.{block_count};
-ghost use Rattle.p25_delivery.specs.SentPackets.{message_packet, blocks_packet, opening_packet, short_response, retry_packet};
+ghost use Rattle.p25_delivery.specs.{MessageBlocks.{block_count}, SentPackets.{message_packet, blocks_packet, opening_packet, short_response, retry_packet}};
 
 use crate::LLID;
 use crate::message_octets::{MessageOctets, blocks_for, pad_for};

@@ -5,4 +5,3 @@ none_is_false : (flags : List Bool) → list_any (λ flag. beq flag false) flags
 none_is_false [] = refl
 none_is_false (true ∷ flags) = none_is_false flags
 none_is_false (false ∷ flags) = refl
-
