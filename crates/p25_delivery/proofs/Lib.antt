@@ -2,7 +2,6 @@ pub mod RunLaws
 pub mod ListLaws
 pub mod PlacesLaws
 pub mod MessageBlocksLaws
-pub mod AskedSteps
 pub mod SentPacketsLaws
 pub mod ReceiverSteps
 pub mod CarriedLaws

@@ -72,15 +72,7 @@ fn asked_by_octets(response: &Plain, blocks: u8) -> Asked
 fn misses_a_block(flags: &Flags, blocks: usize) -> bool
     ensures { result ≡ (nat_le blocks (length flags.now) && list_any not (take blocks flags.now)) }
 {
-    if flags.len() < blocks {
-        return false;
-    }
-    for block in 0..blocks {
-        if !flags.get(block) {
-            return true;
-        }
-    }
-    false
+    blocks <= flags.len() && flags.as_slice()[..blocks].contains(&false)
 }
 
 // As many flags, true for each of so many blocks whose flag is false.

@@ -1,7 +1,6 @@
-ghost use Rattle.std.specs.Prelude.{◌≡◌, ℕ, ◌+◌, ◌-◌, ◌*◌, ◌/◌, ◌%◌, ◌^◌, ◌<◌, ◌≤◌, List, [], ◌∷◌, ◌++◌, length, replicate, IfSome};
+ghost use Rattle.std.specs.Prelude.{◌≡◌, ℕ, ◌+◌, ◌*◌, ◌<◌, ◌≤◌, List, length, IfSome};
 ghost use Rattle.p25_bits.specs.{Bits.{part}, Numbers.{octets_number}};
-ghost use Rattle.p25_delivery.specs.{MessageBlocks.{block_count, pad_count, padded_octets, message_octets, unpadded}, Places.{all_octets}};
-ghost use Rattle.p25_packet_blocks.specs.Parts.{BlockParts};
+ghost use Rattle.p25_delivery.specs.{MessageBlocks.{block_count, pad_count, message_octets, unpadded}, Places.{all_octets}};
 
 use arrayvec::ArrayVec;
 use p25_crc::crc32;
@@ -47,12 +46,11 @@ impl MessageOctets {
         ensures len { length result ≡ 16 * block_count (length message.now) }
     {
         let mut items = ArrayVec::new();
-        push_octets(&mut items, message.octets());
-        for _place in 0..pad_for(message) {
-            items.push(0);
-        }
+        items.try_extend_from_slice(message.octets()).unwrap();
+        let pad = pad_for(message) as usize;
+        items.try_extend_from_slice(&[0; 16][..pad]).unwrap();
         let check = crc32(items.as_slice());
-        push_number(&mut items, check);
+        items.try_extend_from_slice(&check.to_be_bytes()).unwrap();
         MessageOctets { items }
     }
 
@@ -65,7 +63,7 @@ impl MessageOctets {
         let mut items = ArrayVec::new();
         for place in places {
             let block = (*place)?;
-            push_octets(&mut items, block.octets());
+            items.try_extend_from_slice(block.octets()).unwrap();
         }
         Some(MessageOctets { items })
     }
@@ -95,23 +93,6 @@ impl MessageOctets {
         }
         Message::new(&octets[..count - pad as usize])
     }
-}
-
-// Appends octets.
-fn push_octets(items: &mut ArrayVec<u8, 2032>, octets: &[u8])
-    requires { length items.old.items + length octets.now ≤ 2032 }
-    ensures list { items.new.items ≡ items.old.items ++ octets.now }
-    ensures len { length items.new.items ≡ length items.old.items + length octets.now }
-{
-    items.try_extend_from_slice(octets).unwrap();
-}
-
-// Appends the four octets of a number, the highest first.
-fn push_number(items: &mut ArrayVec<u8, 2032>, number: u32)
-    requires { length items.old.items + 4 ≤ 2032 }
-    ensures { items.new.items ≡ items.old.items ++ number / 2 ^ 24 ∷ number / 2 ^ 16 % 256 ∷ number / 2 ^ 8 % 256 ∷ number % 256 ∷ [] }
-{
-    push_octets(items, &number.to_be_bytes());
 }
 
 // The number that four octets write.

@@ -61,16 +61,22 @@ impl Sender {
 
     /// Takes a message, and answers its first packet. Down comes exactly where the sender is down, and Busy exactly where
     /// it is not, but a message or the opening packet is outstanding; then nothing changes.
-    #[tactic(auto, unfolding(crate::specs::SenderRules::offered, crate::specs::SenderRules::offered_beside))]
+    #[tactic(auto, unfolding(crate::specs::SenderRules::offered, crate::specs::SenderRules::offered_beside, crate::specs::Halves::IsNumbered))]
     pub fn offer(&mut self, message: &Message) -> Offer
         ensures { (self.new, result) ≡ offered self.old message.now }
     {
         if self.down {
             return Offer::Down;
         }
-        match self.outstanding {
-            Outstanding::Nothing => self.take(message),
-            _ => Offer::Busy,
+        let Outstanding::Nothing = self.outstanding else {
+            return Offer::Busy;
+        };
+        self.outstanding = Outstanding::Message(message.clone().unwrap());
+        self.tries = 1;
+        Offer::Taken {
+            number: self.next,
+            blocks: blocks_for(message),
+            packet: sent::message(self.next, message),
         }
     }
 
@@ -138,21 +144,6 @@ impl Sender {
         ensures { result ≡ is_opening self.now.outstanding }
     {
         matches!(&self.outstanding, Outstanding::Opening(_))
-    }
-
-    // Makes a message outstanding.
-    #[tactic(auto, unfolding(crate::specs::SenderRules::offered_beside, crate::specs::Halves::IsNumbered))]
-    fn take(&mut self, message: &Message) -> Offer
-        ensures { (self.new, result) ≡ offered_beside Outstanding.Nothing self.old message.now }
-    {
-        self.outstanding = Outstanding::Message(message.clone().unwrap());
-        self.tries = 1;
-        self.down = false;
-        Offer::Taken {
-            number: self.next,
-            blocks: blocks_for(message),
-            packet: sent::message(self.next, message),
-        }
     }
 
     // Counts one more transmission, or is down where 16 were made. Answers whether there is one more.

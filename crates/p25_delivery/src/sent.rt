@@ -1,9 +1,8 @@
 //! The packets (PDU) that stations send.
 #![tactic(auto, unfolding(crate::specs::SentPackets::opening_packet, crate::specs::SentPackets::short_response, crate::specs::SentPackets::retry_packet))]
 
-ghost use Rattle.std.specs.Prelude.{◌≡◌, ◌<◌, ◌≤◌, ◌⊎◌, length};
-ghost use Rattle.p25_delivery.specs.MessageBlocks.{block_count};
-ghost use Rattle.p25_delivery.specs.SentPackets.{message_packet, blocks_packet, wanted_slots, opening_packet, short_response, retry_packet};
+ghost use Rattle.std.specs.Prelude.{◌≡◌, ◌<◌, ◌≤◌, length};
+ghost use Rattle.p25_delivery.specs.{MessageBlocks.{block_count}, SentPackets.{message_packet, blocks_packet, opening_packet, short_response, retry_packet}};
 
 use crate::LLID;
 use crate::message_octets::{MessageOctets, blocks_for, pad_for};
@@ -27,11 +26,11 @@ pub(crate) fn message(number: u8, message: &Message) -> Packet
     Packet::Confirmed(Confirmed::new(head, slots))
 }
 
-// The blocks of a message that are wanted, in the order of their serial numbers.
-fn wanted_blocks(message: &Message, wanted: &Flags) -> Slots
-    requires { block_count (length message.now) ≤ length wanted.now }
-    ensures list { result ≡ wanted_slots message.now wanted.now }
-    ensures most { length result ≤ 127 }
+// The packet (PDU) of the blocks of a message that are wanted, in the order of their serial numbers.
+pub(crate) fn blocks(number: u8, message: &Message, wanted: &Flags) -> Packet
+    requires number { number < 8 }
+    requires flags { block_count (length message.now) ≤ length wanted.now }
+    ensures { result ≡ blocks_packet number message.now wanted.now }
 {
     let octets = MessageOctets::of(message);
     let mut slots = Slots::new();
@@ -40,16 +39,6 @@ fn wanted_blocks(message: &Message, wanted: &Flags) -> Slots
             slots.push(Slot::Good(octets.block(serial)));
         }
     }
-    slots
-}
-
-// The packet (PDU) of the blocks of a message that are wanted.
-pub(crate) fn blocks(number: u8, message: &Message, wanted: &Flags) -> Packet
-    requires number { number < 8 }
-    requires flags { block_count (length message.now) ≤ length wanted.now }
-    ensures { result ≡ blocks_packet number message.now wanted.now }
-{
-    let slots = wanted_blocks(message, wanted);
     let head = PacketHead::confirmed(LLID, false, slots.len() as u8, pad_for(message), number);
     Packet::Confirmed(Confirmed::new(head, slots))
 }

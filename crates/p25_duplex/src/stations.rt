@@ -1,5 +1,5 @@
 ghost use Rattle.std.specs.Prelude.{◌≡◌, ◌<◌};
-ghost use Rattle.p25_duplex.specs.DuplexSteps.{other_side, station_step, duplex_step, first_duplex, station_at, with_station};
+ghost use Rattle.p25_duplex.specs.DuplexSteps.{duplex_step, first_duplex, station_at};
 
 use crate::event::{DuplexEvent, DuplexStep};
 use crate::side::Side;
@@ -51,20 +51,6 @@ impl DuplexStations {
         }
     }
 
-    // Has an event happen at the station of a side, and answers that station's step. There is room for it.
-    fn act(&mut self, side: Side, event: &DuplexEvent) -> Step
-        requires { 0 < self.old.spare }
-        ensures state { let x = station_step (station_at side self.old.state) (station_at (other_side side) self.old.state) event.now in
-            self.new.state ≡ with_station side x.0 self.old.state }
-        ensures step { let x = station_step (station_at side self.old.state) (station_at (other_side side) self.old.state) event.now in
-            result ≡ x.1 }
-    {
-        match side {
-            Side::A => self.a.step(event, &self.b),
-            Side::B => self.b.step(event, &self.a),
-        }
-    }
-
     /// Answers the step that an event is, and has it happen. There is room for it.
     #[tactic(auto, unfolding(crate::specs::DuplexSteps::duplex_step))]
     pub(crate) fn step_ready(&mut self, event: &DuplexEvent) -> DuplexStep
@@ -72,7 +58,10 @@ impl DuplexStations {
         ensures { (self.new.state, result) ≡ duplex_step self.old.state event.now }
     {
         let side = event.side();
-        let step = self.act(side, event);
+        let step = match side {
+            Side::A => self.a.step(event, &self.b),
+            Side::B => self.b.step(event, &self.a),
+        };
         self.false_passes = step.counted(self.false_passes);
         DuplexStep { side, step }
     }

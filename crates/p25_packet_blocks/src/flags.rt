@@ -1,6 +1,6 @@
-ghost use Rattle.std.specs.Prelude.{◌≡◌, ◌+◌, ◌*◌, ◌<◌, ◌≤◌, ◌⊎◌, ◌↔◌, false, [], ◌∷◌, ◌++◌, length, replicate, slice_get, slice_set, Some, IsSome};
-ghost use Rattle.std.specs.{Bool.{beq}, Cmp.{bool_eq_equiv, partial_equiv_from_equiv}, Cmp.Lexicographic.{pointwise, lists_equiv}};
-ghost use Rattle.p25_bits.specs.{Bits.{octet_bits}, Numbers.{octets_from}};
+ghost use Rattle.std.specs.{Prelude.{◌≡◌, ◌*◌, ◌<◌, ◌⊎◌, ◌↔◌, false, length, replicate, slice_get, slice_set, Some, IsSome}, Bool.{beq}};
+ghost use Rattle.std.specs.{Cmp.{bool_eq_equiv, partial_equiv_from_equiv}, Cmp.Lexicographic.{pointwise, lists_equiv}};
+ghost use Rattle.p25_bits.specs.Bits.{octet_bits};
 ghost use Rattle.p25_packet_blocks.specs.FlagOctets.{flag_octets, flags_of_octets};
 
 use crate::packet::Octets;
@@ -85,29 +85,6 @@ impl Eq for Flags {
     ghost laws = { lists_equiv bool_eq_equiv };
 }
 
-// Appends the octets that bits write, as many as are asked for.
-fn push_octets(bits: &BitBuf, count: usize, octets: &mut Octets)
-    requires there { 8 * count ≤ length bits.now }
-    requires room { length octets.old + count ≤ 1520 }
-    ensures list { octets.new ≡ octets.old ++ octets_from count bits.now }
-    ensures len { length octets.new ≡ length octets.old + count }
-{
-    for place in 0..count {
-        octets.push(bits.field(8 * place, 8) as u8);
-    }
-}
-
-// Appends the four octets of 0 that stand after 128 flags.
-fn push_rest(octets: &mut Octets)
-    requires { length octets.old ≤ 1516 }
-    ensures { octets.new ≡ octets.old ++ 0 ∷ 0 ∷ 0 ∷ 0 ∷ [] }
-{
-    octets.push(0);
-    octets.push(0);
-    octets.push(0);
-    octets.push(0);
-}
-
 /// Answers the octets that a selective retry carries for flags, before its packet CRC: 8 octets of 64 flags, and 20 of
 /// 128 flags, of which the last four are 0. The first flag is the most significant bit of the first octet.
 pub fn flags_make(flags: &Flags) -> Octets
@@ -117,9 +94,11 @@ pub fn flags_make(flags: &Flags) -> Octets
     let mut bits = BitBuf::new();
     bits.extend(&flags.flags[..flags.count]);
     let mut octets = Octets::new();
-    push_octets(&bits, bits.len() / 8, &mut octets);
+    for place in 0..bits.len() / 8 {
+        octets.push(bits.field(8 * place, 8) as u8);
+    }
     if bits.len() == 128 {
-        push_rest(&mut octets);
+        octets.extend(&[0; 4]);
     }
     octets
 }

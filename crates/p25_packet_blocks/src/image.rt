@@ -1,11 +1,11 @@
 //! Units of packets (PDU) written, without their status symbols.
 
-ghost use Rattle.std.specs.Prelude.{◌≡◌, ◌+◌, ◌*◌, ◌-◌, ◌<◌, ◌≤◌, ◌++◌, length, replicate, false, Ok};
+ghost use Rattle.std.specs.Prelude.{◌≡◌, ◌+◌, ◌*◌, ◌-◌, ◌<◌, ◌≤◌, ◌++◌, length, false};
 ghost use Rattle.p25_bits.specs.Numbers.{joined_below};
-ghost use Rattle.p25_trellis.specs.Nearest.{half_block, three_quarter_block};
+ghost use Rattle.p25_trellis.specs.Nearest.{three_quarter_block};
 ghost use Rattle.p25_packet_blocks.specs.{declared.packet.Packet.TheVariants.{Confirmed as confirmed_packet, Plain as plain_packet}, Heads.{head_blocks}};
-ghost use Rattle.p25_packet_blocks.specs.{Whole.{packet_head, AreGood, IsWholePacket}, Lengths.{packet_bits, packet_bare_length, packet_sent_length}};
-ghost use Rattle.p25_packet_blocks.specs.Image.{header_octets, confirmed_octets, checked_octets, body_block, packet_nulls, packet_image_of};
+ghost use Rattle.p25_packet_blocks.specs.{Whole.{packet_head, AreGood, IsWholePacket}, Lengths.{packet_bare_length, packet_sent_length}};
+ghost use Rattle.p25_packet_blocks.specs.Image.{confirmed_octets, body_block, packet_image_of};
 ghost use Rattle.p25_packet_blocks.specs.Sendable.{IsHead, IsDataBlock, IsSendableConfirmed, IsSendablePlain, IsSendable};
 
 use crate::block::{Block, Slot};
@@ -39,20 +39,6 @@ fn parts(head: &PacketHead) -> usize
 {
     (HEADER_AT + BLOCK_LENGTH * (1 + usize::from(head.blocks())) + BARE_BLOCK_LENGTH - 1)
         / BARE_BLOCK_LENGTH
-}
-
-// Appends the header block of a packet (PDU).
-fn put_header(head: &PacketHead, out: &mut BitBuf)
-    requires { length out.old + 196 ≤ 25928 }
-    ensures list { out.new ≡ out.old ++ half_block (header_octets head.now) }
-    ensures len { length out.new ≡ length out.old + 196 }
-    ensures head { IsHead head.now }
-{
-    octets_fit(&head.0);
-    let mut octets: BoundedList<u8, 12> = BoundedList::new();
-    octets.extend(&head.0);
-    octets.extend(&crc16(&head.0).to_be_bytes());
-    encode_block::<Half>(octets.as_slice(), out);
 }
 
 // Appends a block of a confirmed packet (PDU).
@@ -120,17 +106,6 @@ fn put_body(packet: &Packet, out: &mut BitBuf)
     }
 }
 
-// Appends nulls.
-fn put_nulls(count: usize, out: &mut BitBuf)
-    requires { length out.old + count ≤ 25928 }
-    ensures list { out.new ≡ out.old ++ replicate count false }
-    ensures len { length out.new ≡ length out.old + count }
-{
-    for _null in 0..count {
-        out.push(false);
-    }
-}
-
 /// Sets `out` to the unit of a packet (PDU) without status symbols, from its sync on: the front of DUID C with a network access
 /// code below 4,096, the header block, the blocks to follow in order, and nulls up to a multiple of 70 bits. No slot of the
 /// packet is Bad. TIA-102.BAAA, Packet Data.
@@ -144,7 +119,12 @@ pub fn packet_image(nac: u16, packet: &Packet, out: &mut BitBuf)
     let head = packet.head();
     out.clear();
     put_front(&Nid { nac, duid: PDU }, out);
-    put_header(&head, out);
+    octets_fit(&head.0);
+    let mut octets: BoundedList<u8, 12> = BoundedList::new();
+    octets.extend(&head.0);
+    octets.extend(&crc16(&head.0).to_be_bytes());
+    encode_block::<Half>(octets.as_slice(), out);
     put_body(packet, out);
-    put_nulls(BARE_BLOCK_LENGTH * parts(&head) - out.len(), out);
+    let nulls = BARE_BLOCK_LENGTH * parts(&head) - out.len();
+    out.extend(&[false; BARE_BLOCK_LENGTH][..nulls]);
 }

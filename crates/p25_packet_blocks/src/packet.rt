@@ -1,8 +1,7 @@
 ghost use Rattle.std.specs.Prelude.{◌≡◌, ℕ, ◌+◌, ◌-◌, ◌*◌, ◌≤◌, [], length, Ok, IfOk};
-ghost use Rattle.p25_packet_blocks.specs.Fixes.{half_distance, three_quarter_distance, packet_fixes_of};
-ghost use Rattle.p25_packet_blocks.specs.{Heads.{confirmed_format, head_format, head_blocks, response_head}, Kinds.{IsPlainFormat}};
+ghost use Rattle.p25_packet_blocks.specs.{Fixes.{half_distance, packet_fixes_of}, Heads.{head_format, head_blocks, response_head}, Kinds.{IsPlainFormat}};
 ghost use Rattle.p25_packet_blocks.specs.Outcomes.{body_distance, failing_blocks_of, packet_or, packet_outcome_of};
-ghost use Rattle.p25_packet_blocks.specs.Reading.{header_bits, octets_read, read_head_of, slots_read, confirmed_by_parts, plain_by_parts, packet_of_head, plain_from};
+ghost use Rattle.p25_packet_blocks.specs.Reading.{header_bits, octets_read, read_head_of, plain_by_parts, packet_of_head, plain_from};
 ghost use Rattle.p25_status.specs.Outcomes.{IfRead, outcome_of};
 
 use crate::block::{Slot, Slots};

@@ -50,8 +50,7 @@ pub fn read_head(bare: &BitBuf) -> Result<PacketHead, Field>
     requires { 308 ≤ length bare.now }
     ensures { result ≡ head_reading_of bare.now }
 {
-    let read = read_header(bare, HEADER_AT)?;
-    Ok(read.head)
+    Ok(read_header(bare, HEADER_AT)?.head)
 }
 
 // The slot that the octets of a block of a confirmed packet (PDU) are.
@@ -93,12 +92,8 @@ pub(crate) fn check_agrees(octets: &[u8], count: usize) -> bool
     requires { length octets.now ≡ count + 4 }
     ensures { result ≡ (octets_number (drop count octets.now) == crc32_of (take count octets.now)) }
 {
-    let check = [
-        octets[count],
-        octets[count + 1],
-        octets[count + 2],
-        octets[count + 3],
-    ];
+    let mut check = [0; 4];
+    check.copy_from_slice(&octets[count..]);
     u32::from_be_bytes(check) == crc32(&octets[..count])
 }
 

@@ -1,7 +1,7 @@
 //! Units of packets (PDU) read as they are sent, with their status symbols.
 
 ghost use Rattle.std.specs.Prelude.{◌≡◌, ◌+◌, ◌*◌, ◌≤◌, length, drop, IfOk};
-ghost use Rattle.p25_packet_blocks.specs.UnitReading.{sent_header_bits, sent_read_of, packet_unit_of};
+ghost use Rattle.p25_packet_blocks.specs.UnitReading.{sent_read_of, packet_unit_of};
 
 use crate::head::ReadHead;
 use crate::image::packet_length;
@@ -12,21 +12,6 @@ use p25_bits::BitBuf;
 use p25_status::{BARE_BLOCK_LENGTH, Field, SENT_BLOCK_LENGTH, Statuses, is_sync, unweave};
 use p25_unit_front::read_identifier;
 
-// Sets `header` to the bits of the header block of the unit of a packet (PDU) whose sent bits begin at a place.
-fn take_header(bits: &BitBuf, at: usize, header: &mut BitBuf)
-    requires { at + 316 ≤ length bits.now }
-    ensures list { header.new ≡ sent_header_bits (drop at bits.now) }
-    ensures len { length header.new ≡ 196 }
-{
-    // The number of bits held bounds every place below.
-    let _ = bits.len();
-    header.clear();
-    header.append(bits, at + 114, 28);
-    header.append(bits, at + 2 * SENT_BLOCK_LENGTH, BARE_BLOCK_LENGTH);
-    header.append(bits, at + 3 * SENT_BLOCK_LENGTH, BARE_BLOCK_LENGTH);
-    header.append(bits, at + 4 * SENT_BLOCK_LENGTH, 28);
-}
-
 /// Answers the header of the packet (PDU) whose unit as it is sent begins at place `at`, and how many bits of its block were wrong. The
 /// 316 bits with its front and its header block are there. PacketHeader comes exactly where the last two octets of the block are
 /// not the header CRC of the others. TIA-102.BAAA, Packet Data, Header Block.
@@ -35,8 +20,13 @@ pub fn read_head_at(bits: &BitBuf, at: usize) -> Result<ReadHead, Field>
     ensures read { result ≡ sent_read_of (drop at bits.now) }
     ensures few { IfOk result (λ read. read.wrong ≤ 196) }
 {
+    // The number of bits held bounds every place below.
+    let _ = bits.len();
     let mut header = BitBuf::new();
-    take_header(bits, at, &mut header);
+    header.append(bits, at + 114, 28);
+    header.append(bits, at + 2 * SENT_BLOCK_LENGTH, BARE_BLOCK_LENGTH);
+    header.append(bits, at + 3 * SENT_BLOCK_LENGTH, BARE_BLOCK_LENGTH);
+    header.append(bits, at + 4 * SENT_BLOCK_LENGTH, 28);
     read_header(&header, 0)
 }
 

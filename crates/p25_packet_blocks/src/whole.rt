@@ -1,7 +1,7 @@
 ghost use Rattle.std.specs.Prelude.{◌≡◌, ◌↔◌, IsTrue};
-ghost use Rattle.p25_packet_blocks.specs.Whole.{packet_head, AreGood, IsWholePacket};
+ghost use Rattle.p25_packet_blocks.specs.Whole.{packet_head, IsWholePacket};
 
-use crate::block::{Slot, Slots};
+use crate::block::Slot;
 use crate::head::PacketHead;
 use crate::packet::Packet;
 
@@ -17,26 +17,13 @@ impl Packet {
     }
 }
 
-// Whether no slot is Bad.
-fn are_good(slots: &Slots) -> bool
-    ensures { IsTrue result ↔ AreGood slots.now }
-{
-    for j in 0..slots.len() {
-        match slots.get(j) {
-            Slot::Good(_) => {}
-            Slot::Bad => return false,
-        }
-    }
-    true
-}
-
 /// Answers whether no slot of a packet (PDU) is Bad: true of each one that is not confirmed.
 #[tactic(auto, unfolding(crate::specs::Whole::IsWholePacket))]
 pub fn is_whole(packet: &Packet) -> bool
     ensures { IsTrue result ↔ IsWholePacket packet.now }
 {
     match packet {
-        Packet::Confirmed(packet) => are_good(packet.slots()),
+        Packet::Confirmed(packet) => !packet.slots().as_slice().contains(&Slot::Bad),
         Packet::Plain(_) => true,
     }
 }

@@ -1,10 +1,9 @@
 //! The kinds of sample units, and what each carries.
 
 ghost use Rattle.std.specs.Prelude.{◌≡◌, ◌+◌, ◌-◌, ◌*◌, ◌^◌, ◌<◌, ◌≤◌, length, take};
-ghost use Rattle.p25_packet_blocks.specs.Reading.{confirmed_by_parts, plain_by_parts};
 ghost use Rattle.p25_vectors.specs.Draws.{octets_drawn, state_after};
-ghost use Rattle.p25_vectors.specs.Bodies.{blocks_drawn, body_next, header_of, kind_of, kinds, link_of, llid_drawn, slots_drawn, sync_of, voice_drawn};
-ghost use Rattle.p25_vectors.specs.declared.bodies.Kind.TheVariants.{Confirmed as confirmed_kind, Plain as plain_kind, Response as response_kind};
+ghost use Rattle.p25_vectors.specs.Bodies.{blocks_drawn, body_next, header_of, kind_of, llid_drawn, slots_drawn, sync_of, voice_drawn};
+ghost use Rattle.p25_vectors.specs.declared.bodies.Kind.TheVariants.{Confirmed as confirmed_kind, Plain as plain_kind};
 ghost use Rattle.p25_units.specs.declared.unit.Body.TheVariants.{Packet as packet_in};
 
 use crate::draws::Draws;
@@ -77,14 +76,6 @@ fn draw_header(draws: &mut Draws) -> HeaderWord
         kid: pair_at(&octets, 11),
         tgid: pair_at(&octets, 13),
     }
-}
-
-// Draws link control (LC), of an LDU1 or a TDULC.
-fn draw_link(draws: &mut Draws) -> LinkControl
-    ensures link { result ≡ link_of (octets_drawn 9 draws.old) }
-    ensures state { draws.new ≡ state_after 9 draws.old }
-{
-    LinkControl(draws.octets())
 }
 
 // Draws encryption sync (ES), of an LDU2.
@@ -176,14 +167,6 @@ fn draw_plain(draws: &mut Draws) -> Packet
     Packet::Plain(Plain::new(head, octets))
 }
 
-fn draw_response(draws: &mut Draws) -> Packet
-    ensures packet { packet_in result ≡ (body_next response_kind draws.old).0 }
-    ensures state { draws.new ≡ (body_next response_kind draws.old).1 }
-{
-    let head = PacketHead::response(draw_llid(draws), 0, 1, 0, 0);
-    Packet::Plain(Plain::new(head, Octets::new()))
-}
-
 // What a unit of a kind carries.
 #[tactic(auto, unfolding(crate::specs::Bodies::body_next))]
 pub(crate) fn draw_body(kind: Kind, draws: &mut Draws) -> Body
@@ -194,10 +177,10 @@ pub(crate) fn draw_body(kind: Kind, draws: &mut Draws) -> Body
         Kind::End => Body::Voice(VoiceUnit::End),
         Kind::Header => Body::Voice(VoiceUnit::Header(draw_header(draws))),
         Kind::EndLink => Body::Voice(VoiceUnit::EndLink {
-            link: draw_link(draws),
+            link: LinkControl(draws.octets()),
         }),
         Kind::Link1 => Body::Voice(VoiceUnit::Link1 {
-            link: draw_link(draws),
+            link: LinkControl(draws.octets()),
             low: draws.octets(),
             voice: draw_voice(draws),
         }),
@@ -208,6 +191,9 @@ pub(crate) fn draw_body(kind: Kind, draws: &mut Draws) -> Body
         }),
         Kind::Confirmed => Body::Packet(draw_confirmed(draws)),
         Kind::Plain => Body::Packet(draw_plain(draws)),
-        Kind::Response => Body::Packet(draw_response(draws)),
+        Kind::Response => {
+            let head = PacketHead::response(draw_llid(draws), 0, 1, 0, 0);
+            Body::Packet(Packet::Plain(Plain::new(head, Octets::new())))
+        }
     }
 }

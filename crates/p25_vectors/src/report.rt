@@ -1,12 +1,12 @@
 //! A report on sample units.
 
-ghost use Rattle.std.specs.Prelude.{◌≡◌, ◌≤◌, ◌↔◌, Ok, length, true};
+ghost use Rattle.std.specs.Prelude.{◌≡◌, ◌≤◌, Ok, length, true};
 ghost use Rattle.p25_units.specs.{Needs.{need_of}, Readings.{unit_reading_of}, Units.{IsSoundFrame}, declared.needs.Need.TheVariants.{Length}};
 ghost use Rattle.p25_vectors.specs.Samples.{flips_of};
 
 use crate::sampler::Sampler;
 use p25_bits::BitBuf;
-use p25_units::{Frame, Need, image, need, read_unit};
+use p25_units::{Frame, Need, need, read_unit};
 
 /// What was counted of sample units.
 #[derive(Clone, Copy, Debug, PartialEq, Eq)]
@@ -53,22 +53,9 @@ fn reads_as(bits: &BitBuf, frame: &Frame) -> bool
 {
     match need(bits, 0) {
         Need::Length(count) => match read_unit(bits, 0, count) {
-            Ok(read) => are_same(&read, frame),
+            Ok(read) => read == *frame,
             Err(_) => false,
         },
         _ => false,
     }
-}
-
-// Whether two frames are the same: their sent bits are.
-fn are_same(a: &Frame, b: &Frame) -> bool
-    requires first { IsSoundFrame a.now }
-    requires second { IsSoundFrame b.now }
-    ensures { (result ≡ true) ↔ (a.now ≡ b.now) }
-{
-    let mut first = BitBuf::new();
-    image(a, &mut first);
-    let mut second = BitBuf::new();
-    image(b, &mut second);
-    first.len() == second.len() && BitBuf::distance(&first, &second) == 0
 }

@@ -3,8 +3,7 @@
 ghost use Rattle.std.specs.Prelude.{◌≡◌, ◌+◌, ◌<◌, Ok, length, sum};
 ghost use Rattle.p25_units.specs.{Needs.{need_of}, Readings.{unit_reading_of}, Units.{IsSendableUnit, IsSoundFrame}, WithinRadius.{IsWithinRadius}};
 ghost use Rattle.p25_units.specs.declared.needs.Need.TheVariants.{Length};
-ghost use Rattle.p25_status.specs.Status.{status_modulo};
-ghost use Rattle.p25_vectors.specs.{Draws.{draw, state_after}, Damage.{damage_counts, damage_draws}};
+ghost use Rattle.p25_vectors.specs.{Draws.{state_after}, Damage.{damage_counts, damage_draws}};
 ghost use Rattle.p25_vectors.specs.Samples.{damaged_image, frame_next, sample_bits, sample_flips, sample_frame};
 
 use crate::bodies::{Kind, draw_body, kind_at};
@@ -102,7 +101,7 @@ fn draw_frame(kind: Kind, draws: &mut Draws) -> Frame
     ensures state { draws.new ≡ (frame_next kind draws.old).1 }
 {
     let nac = draws.below(4096) as u16;
-    let status = draw_status(draws);
+    let status = Status::new(draws.below(4) as u8).unwrap();
     let unit = Unit::new(nac, draw_body(kind, draws));
     Frame::filled(unit, status)
 }
@@ -120,15 +119,4 @@ fn put_damaged(frame: &Frame, draws: &mut Draws, bits: &mut BitBuf) -> u32
     let flips = damage(frame.unit.body(), draws, &mut bare);
     weave(&bare, &frame.statuses, bits);
     flips
-}
-
-// The status symbol of a unit.
-fn draw_status(draws: &mut Draws) -> Status
-    ensures status { result ≡ status_modulo (draw 0 draws.old) }
-    ensures state { draws.new ≡ state_after 1 draws.old }
-{
-    match Status::new(draws.below(4) as u8) {
-        Some(status) => status,
-        None => unreachable!(),
-    }
 }

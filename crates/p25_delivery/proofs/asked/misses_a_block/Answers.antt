@@ -1,10 +1,7 @@
-use Rattle.std.proofs.Common.{arith}
-use Rattle.p25_delivery.proofs.AskedSteps.{misses_here, misses_none_yet}
-use Rattle.p25_delivery.proofs.asked.misses_a_block.Goals as goal
+use Rattle.std.proofs.Common.{◌≡◌, Bool, true, false, List, [], ◌∷◌, refl}
+use Rattle.std.specs.{Bool.{beq}, Prelude.{not}, List.{list_any}}
 
-pub returns-then-not-get : goal.returns-then-not-get
-returns-then-not-get c =
-    misses_here c.args.flags.now c.args.blocks c.loop-block.block c.get.result (omega arith) c.loop-block-test.true c.get.ensures c.if-not-get.true
-
-pub loop-block-preserved : goal.loop-block-preserved
-loop-block-preserved c = misses_none_yet c.args.flags.now c.loop-block.block c.get.result c.get.ensures c.if-not-get.false c.loop-block.invariant
+none_is_false : (flags : List Bool) → list_any (λ flag. beq flag false) flags ≡ list_any not flags
+none_is_false [] = refl
+none_is_false (true ∷ flags) = none_is_false flags
+none_is_false (false ∷ flags) = refl

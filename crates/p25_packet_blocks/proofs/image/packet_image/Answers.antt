@@ -1,9 +1,10 @@
-use Rattle.std.proofs.Common.{◌≡◌, ◌-◌, ◌*◌, ◌++◌, Bool, false, List, length, replicate, ap, ap₂, ◌∙◌, arith}
+use Rattle.std.proofs.{Common.{◌≡◌, ℕ, ◌-◌, ◌*◌, ◌/◌, ◌%◌, ◌≤◌, Bool, false, List, [], ◌∷◌, ◌++◌, length, replicate, ap, ap₂, sym, ◌∙◌, arith}, lemmas.List.{take-replicate}}
+use Rattle.p25_crc.{specs.Values.{crc16_of}, proofs.ChecksLaws.{crc16_of-lt}}
 use Rattle.p25_bits.specs.Numbers.{joined_below}
 use Rattle.p25_unit_front.specs.Front.{unit_front}
 use Rattle.p25_trellis.specs.Nearest.{half_block}
 use Rattle.p25_packet_blocks.specs.{Heads.{head_blocks}, Whole.{packet_head}, Lengths.{packet_bits, packet_bare_length}, Image.{header_octets, body_block, packet_image_of, packet_nulls}}
-use Rattle.p25_packet_blocks.proofs.HeadLaws.{head_blocks-lt}
+use Rattle.p25_packet_blocks.proofs.{HeadLaws.{head_blocks-lt}, ImageLaws.{header_octets-is}, ImageSteps.{put_two}}
 use Rattle.p25_packet_blocks.proofs.image.packet_image.Goals as goal
 
 pub put_body-requires-clause-room : goal.put_body-requires-clause-room
@@ -14,9 +15,15 @@ unfolding packet_image_of packet_nulls
 returns-clause-list c =
     let packet = c.args.packet.now in
     let n = head_blocks (packet_head packet) in
+    let head = c.head-head.result in
     let parts : 70 * c.parts.result ≡ packet_bare_length n = c.parts.ensures.parts ∙ ap (λ head. packet_bare_length (head_blocks head)) c.head-head.ensures in
-    let len : c.len.result ≡ packet_bits n = omega (arith, c.len.ensures.value, c.put_body.ensures.len, c.put_header.ensures.len, c.put_front.ensures.len, ap length c.clear.ensures) in
+    let len : c.len.result ≡ packet_bits n = omega (arith, c.len.ensures.value, c.put_body.ensures.len, c.encode_block.ensures.len, c.put_front.ensures.len, ap length c.clear.ensures) in
     let front = c.put_front.ensures.list ∙ ap (λ (xs : List Bool). xs ++ unit_front c.args.nac 12) c.clear.ensures in
-    let header = c.put_header.ensures.list ∙ ap₂ (λ (xs : List Bool) head. xs ++ half_block (header_octets head)) front c.head-head.ensures in
+    let check = c.to_be_bytes.ensures ∙ ap (λ n. n / 256 % 256 ∷ n % 256 ∷ []) c.crc16.ensures.value ∙ put_two (crc16_of head.0) (crc16_of-lt head.0) in
+    let octets = c.as_slice.ensures.value ∙ c.extend-2.ensures.list ∙ ap₂ (λ (xs ys : List ℕ). xs ++ ys) (c.extend.ensures.list ∙ ap (λ (xs : List ℕ). xs ++ head.0) c.new-octets.ensures) check
+    ∙ sym (header_octets-is head) ∙ ap header_octets c.head-head.ensures in
+    let header = c.encode_block.ensures.value ∙ ap₂ (λ (xs : List Bool) (ys : List ℕ). xs ++ half_block ys) front octets in
     let body = c.put_body.ensures.list ∙ ap (λ (xs : List Bool). xs ++ joined_below n (body_block packet)) header in
-    c.put_nulls.ensures.list ∙ ap₂ (λ (xs : List Bool) count. xs ++ replicate count false) body (ap₂ (λ a b. a - b) parts len)
+    let few : 70 * c.parts.result - c.len.result ≤ 70 = omega (arith, parts, len) in
+    let nulls = take-replicate (70 * c.parts.result - c.len.result) 70 false few ∙ ap (λ count. replicate count false) (ap₂ (λ a b. a - b) parts len) in
+    c.extend-3.ensures.list ∙ ap₂ (λ (xs ys : List Bool). xs ++ ys) body nulls

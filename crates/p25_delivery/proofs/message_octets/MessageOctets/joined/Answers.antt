@@ -1,4 +1,4 @@
-use Rattle.std.proofs.{Common.{◌≡◌, ◌++◌, ◌∙◌, ap, length, refl, Some, None, sym, arith}, lemmas.Option.{slice_get_read}}
+use Rattle.std.proofs.{Common.{◌≡◌, ◌++◌, ◌∙◌, ap, length, refl, Some, None, sym, arith, length-append}, lemmas.Option.{slice_get_read}}
 use Rattle.std.specs.Prelude.{slice_get}
 use Rattle.p25_delivery.proofs.PlacesLaws.{all_octets-nil, all_octets-more, all_octets-empty}
 use Rattle.p25_delivery.proofs.message_octets.MessageOctets.joined.Goals as goal
@@ -19,11 +19,12 @@ loop-place-preserved c =
     let block = c.in_ok-block.block in
     let here : slice_get places c.loop-place.place-index ≡ Some (Some block)
     = slice_get_read places (length places) c.loop-place.place-index c.place-item.result refl c.loop-place-test.true c.place-item.is ∙ ap Some c.in_ok-block.was in
+    let more = rw c.unwrap.ensures at c.try_extend_from_slice.ensures.ok in
     let long : length c.octets.result.now ≡ 16 = ap length c.octets.ensures.value ∙ c.octets.ensures.len in
     record {
       octets =
           all_octets-more places c.loop-place.place-index block c.loop-place.items.items here c.loop-place.invariant.octets
           ∙ ap (λ xs. Some (c.loop-place.items.items ++ xs)) (sym c.octets.ensures.value) ∙
-          ap Some (sym c.push_octets.ensures.list);
-      len = omega arith;
+          ap Some (sym more);
+      len = omega (arith, ap length more, length-append c.loop-place.items.items c.octets.result.now);
     }
