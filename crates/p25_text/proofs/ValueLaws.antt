@@ -6,8 +6,7 @@ use Rattle.std.specs.{List.{list_all}, Str.{bytes_eq}}
 use Rattle.hex.specs.Hex.{encode_with, encode_lower, lower_digits}
 use Rattle.hex.proofs.HexLemmas.{length-encode_with}
 use Rattle.p25_line.specs.{Values.{AllOctets, is_lower_digit, nibble_of, octets_of, three_digits}, CommaLists.{dash}, Octets.{octets_text, octets_up_to}}
-use Rattle.p25_line.proofs.OctetsLaws.{octets_up_to-text, text-octets_up_to}
-use Rattle.p25_line.proofs.HexLaws.{digit_facts, list_all-encode_lower, octets_of-encode_lower, octets_of-facts}
+use Rattle.p25_line.proofs.{HexLaws.{digit_facts, list_all-encode_lower, octets_of-encode_lower, octets_of-facts}, OctetsLaws.{octets_up_to-text, text-octets_up_to}}
 use Rattle.p25_text.specs.Values.{octets_in, octets_or_none, number_in, nac_in}
 
 -- one number below 256, and two

@@ -40,7 +40,7 @@ pub fn plain_value(format: u8, head: &[u8], octets: &[u8]) -> Option<Packet>
     Some(Packet::Plain(Plain::new(head, octets)))
 }
 
-// The octets that a word is read as, `-` where there are none, where they are so many.
+// The octets that a word is read as, where they are so many. `-` stands for none.
 fn octets_or_none_value(word: &[u8], count: usize) -> Option<Octets>
     requires { count ≤ 1520 }
     ensures value { result ≡ octets_or_none count word.now }
