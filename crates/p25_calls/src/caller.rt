@@ -79,12 +79,7 @@ impl Caller {
         ensures nac { HasSoundPending self.old → IfSome result (λ call. call.nac < 4096) }
     {
         let before = self.pending;
-        self.reached = 0;
-        self.taken = 0;
-        self.pending = None;
-        match before {
-            None => None,
-            Some(call) => call.if_linked(),
-        }
+        *self = Caller::new();
+        before?.if_linked()
     }
 }

@@ -1,7 +1,7 @@
 //! The run that a unit is the last of, and the calls that it ends.
 
 ghost use Rattle.std.specs.Prelude.{◌≡◌, ◌+◌, ◌-◌, ◌^◌, ◌<◌, ◌≤◌, IfSome};
-ghost use Rattle.p25_calls.specs.{Seen.{unit_end}, Taking.{IsPending, broken_off, pending_run, run_with, terminated, unit_answer, unit_pending}};
+ghost use Rattle.p25_calls.specs.{Seen.{unit_end}, Taking.{IsPending, broken_off, run_with, terminated, unit_answer, unit_pending}};
 
 use crate::call::Call;
 use crate::seen::UnitSeen;
@@ -13,14 +13,8 @@ fn run_with(pending: &Option<Call>, unit: &UnitSeen) -> Call
     ensures { result ≡ run_with pending.now unit.now }
 {
     match pending {
-        None => Call::of_one(unit),
-        Some(call) => {
-            if call.goes_on(unit) {
-                call.extended(unit)
-            } else {
-                Call::of_one(unit)
-            }
-        }
+        Some(call) if call.goes_on(unit) => call.extended(unit),
+        _ => Call::of_one(unit),
     }
 }
 
@@ -32,14 +26,8 @@ fn broken_off(pending: &Option<Call>, unit: &UnitSeen) -> Option<Call>
     ensures { result ≡ broken_off pending.now unit.now }
 {
     match pending {
-        None => None,
-        Some(call) => {
-            if call.goes_on(unit) {
-                None
-            } else {
-                call.if_linked()
-            }
-        }
+        Some(call) if !call.goes_on(unit) => call.if_linked(),
+        _ => None,
     }
 }
 
@@ -50,17 +38,6 @@ fn terminated(run: &Call, unit: &UnitSeen) -> Option<Call>
 {
     if unit.is_terminator() {
         run.if_linked()
-    } else {
-        None
-    }
-}
-
-// A run, where a further unit may still join it: its last unit is a voice unit, and no terminator (TDU or TDULC).
-fn pending_run(run: Call, unit: &UnitSeen) -> Option<Call>
-    ensures { result ≡ pending_run run unit.now }
-{
-    if unit.is_voice() && !unit.is_terminator() {
-        Some(run)
     } else {
         None
     }
@@ -80,7 +57,8 @@ pub fn take_unit(pending: &mut Option<Call>, unit: &Option<UnitSeen>) -> Option<
         Some(unit) => {
             let before = *pending;
             let run = run_with(&before, unit);
-            *pending = pending_run(run, unit);
+            // A further unit may still join it where its last unit is a voice unit, and no terminator (TDU or TDULC).
+            *pending = (unit.is_voice() && !unit.is_terminator()).then_some(run);
             broken_off(&before, unit).or(terminated(&run, unit))
         }
     }

@@ -2,7 +2,7 @@
 
 ghost use Rattle.std.specs.Prelude.{◌≡◌, ℕ, ◌+◌, ◌*◌, ◌^◌, ◌<◌, ◌≤◌, false, true, List, [], ◌∷◌, length, take, OnOk, IfErr};
 ghost use Rattle.p25_io.specs.Events.{Event};
-ghost use Rattle.p25_filter.specs.{Futures.{EndsBy, IsIdle, IsStopped, IsWrittenOut, Moved}, Traces.{IsRun}};
+ghost use Rattle.p25_filter.specs.{Futures.{IsIdle, IsStopped, IsWrittenOut, Moved}, Traces.{IsRun}};
 
 use super::ending::{FilterEnd, Refusal};
 use super::filter::Filter;
@@ -87,26 +87,6 @@ fn feed<W: Filter, P: Port>(
     }
 }
 
-// Tells the command that the input has ended, and writes all that it gives.
-fn end<W: Filter, P: Port>(
-    filter: &mut W,
-    page: &mut Line,
-    piece: &mut Line,
-    port: &mut P,
-) -> FilterEnd
-    requires drained { W.IsDrained filter.old }
-    requires going { W.is_finished filter.old ≡ false }
-    requires few { W.size filter.old < 2 ^ 28 }
-    requires empty { page.old ≡ [] }
-    ensures { EndsBy P.moves port.old (W.future filter.old) result port.new }
-{
-    filter.finish();
-    if let Err(stop) = drain(filter, page, piece, port) {
-        return stop;
-    }
-    end_so(FilterEnd::Ended(filter.ending()), page, port)
-}
-
 /// Reads the port to the end of the input, at most 16,777,216 octets, hands the octets to the command and writes what it gives.
 /// All that the octets read so far decide is written before the next read, and nothing else; nothing is read or written after a
 /// fault. Where there is not enough memory, what came before is written.
@@ -126,7 +106,11 @@ pub fn run_on<W: Filter, P: Port>(filter: &mut W, port: &mut P) -> FilterEnd
             return FilterEnd::ReadFault;
         };
         if count == 0 {
-            return end(filter, &mut page, &mut piece, port);
+            filter.finish();
+            if let Err(stop) = drain(filter, &mut page, &mut piece, port) {
+                return stop;
+            }
+            return end_so(FilterEnd::Ended(filter.ending()), &mut page, port);
         }
         let fits = count.min(INPUT_MOST - taken);
         match feed(filter, &buf[..fits], &mut page, &mut piece, port) {

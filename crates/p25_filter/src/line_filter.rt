@@ -1,6 +1,6 @@
 //! The work of a command on the lines of its input.
 
-ghost use Rattle.std.specs.{Prelude.{◌≡◌, ◌+◌, ◌^◌, ◌≤◌, ◌++◌, ◌==◌, false, length, take}, List.{position_or_len}};
+ghost use Rattle.std.specs.Prelude.{◌≡◌, ◌+◌, ◌^◌, ◌≤◌, ◌++◌, false, take};
 ghost use Rattle.p25_filter.specs.LineFilters.{first_line, lines_ready, IsLineGiven};
 
 use super::ending::{Ending, Refusal};
@@ -100,19 +100,6 @@ impl<M: LineMachine> LineFilter<M> {
     }
 }
 
-// The number of octets before the first LF, or of all octets where there is none.
-fn line_length(octets: &[u8]) -> usize
-    ensures value { result ≡ position_or_len (λ octet. octet == 10) octets.now }
-    ensures within { result ≤ length octets.now }
-{
-    for i in 0..octets.len() {
-        if octets[i] == b'\n' {
-            return i;
-        }
-    }
-    octets.len()
-}
-
 impl<M: LineMachine> Filter for LineFilter<M> {
     ghost use Rattle.std.specs.Prelude.{◌≡◌, ◌+◌, false};
     ghost use Rattle.p25_filter.specs.LineFilters.{line_future, is_ended_phase, lines_ready, pieces_of, piece_behind};
@@ -128,7 +115,11 @@ impl<M: LineMachine> Filter for LineFilter<M> {
     ghost size = { λ s. s.lines + lines_ready s.phase };
 
     fn push_some(&mut self, octets: &[u8]) -> usize {
-        let count = line_length(octets);
+        // The octets before the first LF, or all of them where there is none.
+        let count = octets
+            .iter()
+            .position(|octet| *octet == b'\n')
+            .unwrap_or(octets.len());
         if count == octets.len() {
             self.keep(&octets[..count], LinePhase::Reading);
             return count;
@@ -152,8 +143,7 @@ impl<M: LineMachine> Filter for LineFilter<M> {
             return Ok(true);
         }
         match self.phase {
-            LinePhase::Reading => Ok(false),
-            LinePhase::Closed => Ok(false),
+            LinePhase::Reading | LinePhase::Closed => Ok(false),
             LinePhase::Ready => self.take_line(LinePhase::Reading, out),
             LinePhase::ReadyLast => self.take_line(LinePhase::Closing, out),
             LinePhase::Closing => {

@@ -25,11 +25,9 @@ pub(crate) fn gather<P: Port>(page: &mut Line, piece: &Line, port: &mut P) -> Re
     ensures ok { OnOk result (Gathered P.moves port.old page.old piece.now port.new page.new) }
     ensures err { OnErr result (CutShort P.moves port.old page.old port.new) }
 {
-    if page.len() + piece.len() <= LINE_MOST {
-        page.put(piece.octets());
-        return Ok(());
+    if page.len() + piece.len() > LINE_MOST {
+        flush(page, port)?;
     }
-    flush(page, port)?;
     page.put(piece.octets());
     Ok(())
 }

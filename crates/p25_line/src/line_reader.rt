@@ -28,8 +28,5 @@ pub fn read_whole<R: LineReader>(line: &[u8]) -> Result<R::Value, LineFault>
     ensures read { result ≡ line_read R.words_read line.now }
     ensures long { (result ≡ Err Long) ↔ (8192 < length line.now) }
 {
-    match LineWords::read(line) {
-        Ok(words) => R::read_words(&words),
-        Err(fault) => Err(fault),
-    }
+    R::read_words(&LineWords::read(line)?)
 }

@@ -31,10 +31,8 @@ impl<'a> LineWords<'a> {
         ensures long { (result ≡ Err Long) ↔ (8192 < length line.now) }
     {
         let mut words = WordList::new();
-        match words_of(line, &mut words) {
-            Ok(()) => Ok(LineWords { line, words }),
-            Err(fault) => Err(fault),
-        }
+        words_of(line, &mut words)?;
+        Ok(LineWords { line, words })
     }
 
     /// Answers the number of words, at least 1.

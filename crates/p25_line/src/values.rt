@@ -37,11 +37,7 @@ pub fn octets_or_dash(word: &[u8], out: &mut [u8]) -> Option<usize>
     if count == 0 || count > out.len() {
         return None;
     }
-    if hex_value(word, &mut out[..count]) {
-        Some(count)
-    } else {
-        None
-    }
+    hex_value(word, &mut out[..count]).then_some(count)
 }
 
 /// Answers the number whose decimal text a word is. It is `None` exactly where the word is not the text of a number that

@@ -73,28 +73,6 @@ pub fn read_duplex_event(line: &[u8]) -> Result<DuplexEvent, LineFault>
     read_whole::<DuplexEventLine>(line)
 }
 
-// The event of a line of two words.
-fn read_two(start: DuplexStart, second: &[u8]) -> Result<DuplexEvent, LineFault>
-    ensures { result ≡ event_behind start (second.now ∷ []) }
-{
-    match (start, EventKind::named(second)) {
-        (DuplexStart::Acts(side), Some(EventKind::Timeout)) => Ok(DuplexEvent::Timeout(side)),
-        (DuplexStart::Acts(side), Some(EventKind::Reopen)) => Ok(DuplexEvent::Reopen(side)),
-        _ => Err(LineFault::Key),
-    }
-}
-
-// The event of a line of three words.
-fn read_three(start: DuplexStart, second: &[u8], third: &[u8]) -> Result<DuplexEvent, LineFault>
-    requires { length third.now ≤ 8192 }
-    ensures { result ≡ event_behind start (second.now ∷ third.now ∷ []) }
-{
-    match start {
-        DuplexStart::Acts(side) => read_message(side, second, third),
-        DuplexStart::Delivery => read_delivery(second, third),
-    }
-}
-
 // The message that a side sends.
 fn read_message(side: Side, second: &[u8], message: &[u8]) -> Result<DuplexEvent, LineFault>
     ensures { result ≡ event_behind (DuplexStart.Acts side) (second.now ∷ message.now ∷ []) }
@@ -134,9 +112,14 @@ impl ScriptEvent for DuplexEvent {
         let Some(start) = DuplexStart::named(words.first()) else {
             return Err(LineFault::Kind);
         };
-        match words.count() {
-            2 => read_two(start, words.get(1)),
-            3 => read_three(start, words.get(1), words.get(2)),
+        match (start, words.count()) {
+            (DuplexStart::Acts(side), 2) => match EventKind::named(words.get(1)) {
+                Some(EventKind::Timeout) => Ok(DuplexEvent::Timeout(side)),
+                Some(EventKind::Reopen) => Ok(DuplexEvent::Reopen(side)),
+                _ => Err(LineFault::Key),
+            },
+            (DuplexStart::Acts(side), 3) => read_message(side, words.get(1), words.get(2)),
+            (DuplexStart::Delivery, 3) => read_delivery(words.get(1), words.get(2)),
             _ => Err(LineFault::Key),
         }
     }

@@ -53,15 +53,20 @@ fn put_first(first: &Option<Step>, out: &mut Line)
 fn put_behind(then: &Then, out: &mut Line)
     ensures { out.new ≡ line_behind then.now }
 {
+    out.clear();
     match then {
-        Then::Plain | Then::Started { .. } => out.clear(),
-        Then::Busy => put_word(b"long busy\n", out),
-        Then::Down => put_word(b"long down\n", out),
+        Then::Plain | Then::Started { .. } => {}
+        Then::Busy => out.put(b"long busy\n"),
+        Then::Down => out.put(b"long down\n"),
         Then::Part { number } => put_line(b"part ", u64::from(*number), out),
-        Then::Whole(message) => put_whole(message, out),
-        Then::Refused => put_word(b"part refused\n", out),
+        Then::Whole(message) => {
+            out.put(b"whole message=");
+            out.put_octets(message.octets());
+            out.put(b"\n");
+        }
+        Then::Refused => out.put(b"part refused\n"),
         Then::Next(step) => put_step(step, out),
-        Then::Finished => put_word(b"long acknowledged\n", out),
+        Then::Finished => out.put(b"long acknowledged\n"),
     }
 }
 
@@ -73,15 +78,6 @@ fn put_step(step: &Step, out: &mut Line)
     out.put(b"\n");
 }
 
-// Sets `out` to a line as it is.
-fn put_word(line: &[u8], out: &mut Line)
-    requires { length line.now ≤ 8192 }
-    ensures { out.new ≡ line.now }
-{
-    out.clear();
-    out.put(line);
-}
-
 // Sets `out` to the line of a label and a number in decimal.
 fn put_line(label: &[u8], number: u64, out: &mut Line)
     requires { length label.now ≤ 20 }
@@ -89,15 +85,5 @@ fn put_line(label: &[u8], number: u64, out: &mut Line)
 {
     out.clear();
     out.put_labelled(label, number);
-    out.put(b"\n");
-}
-
-// Sets `out` to the line of a long message that is whole.
-fn put_whole(message: &LongMessage, out: &mut Line)
-    ensures { out.new ≡ ended_line (codes "whole message=" ++ octets_text message.now) }
-{
-    out.clear();
-    out.put(b"whole message=");
-    out.put_octets(message.octets());
     out.put(b"\n");
 }

@@ -1,12 +1,12 @@
 -- For each form of value, that its text is read as it, and that what is read is the text of it.
-use Rattle.std.proofs.Common.{◌≡◌, ℕ, ◌+◌, ◌*◌, ◌/◌, ◌%◌, ◌<◌, ◌==◌, ◌&&◌, true, cond, List, [], ◌∷◌, length, drop, slice_index, get_or, Option, Some, None, inl, inr, refl, sym, ap, ap₂, subst, ◌∙◌, arith}
+use Rattle.std.proofs.Common.{◌≡◌, ℕ, ◌+◌, ◌*◌, ◌/◌, ◌%◌, ◌<◌, ◌≤◌, ◌==◌, ◌&&◌, true, cond, List, [], ◌∷◌, length, drop, slice_index, get_or, Option, Some, None, inl, inr, refl, sym, ap, ap₂, subst, ◌∙◌, arith}
 use Rattle.std.proofs.{lemmas.Bool.Decides.{eqb_tells}, lemmas.Bool.{and_parts, cases_Bool, cond-true, cond-false, eq-eqb, eqb-true, ne_eqb}}
 use Rattle.std.proofs.{lemmas.List.Elements.{All-nil, All-cons, All-head, All-tail}, lemmas.Slice.Eq.{bytes_eq-Decides}}
 use Rattle.std.specs.{List.{list_all}, Str.{bytes_eq}}
 use Rattle.hex.specs.Hex.{encode_with, encode_lower, lower_digits}
 use Rattle.hex.proofs.HexLemmas.{length-encode_with}
-use Rattle.p25_line.specs.{Values.{AllOctets, is_lower_digit, nibble_of, octets_of, three_digits}, CommaLists.{dash}, Octets.{octets_text}}
-use Rattle.p25_line.proofs.HexLaws.{digit_facts, list_all-encode_lower, octets_of-encode_lower, octets_of-facts}
+use Rattle.p25_line.specs.{Values.{AllOctets, is_lower_digit, nibble_of, octets_of, three_digits}, CommaLists.{dash}, Octets.{octets_text, octets_up_to}}
+use Rattle.p25_line.proofs.{HexLaws.{digit_facts, list_all-encode_lower, octets_of-encode_lower, octets_of-facts}, OctetsLaws.{octets_up_to-text, text-octets_up_to}}
 use Rattle.p25_text.specs.Values.{octets_in, octets_or_none, number_in, nac_in}
 
 -- one number below 256, and two
@@ -107,24 +107,13 @@ three_octets : (word : List ℕ) → length word ≡ 3 → get_or word 0 0 ∷ g
 three_octets (a ∷ b ∷ c ∷ []) same = refl
 three_octets word same = absurd (omega arith)
 
--- a word of three that is no text of a network access code
-pub nac_value-none : (word : List ℕ) → length word ≡ 3
-    → ((octets : List ℕ) → length octets ≡ 2 → AllOctets octets → encode_lower octets ≡ 48 ∷ get_or word 0 0 ∷ get_or word 1 0 ∷ get_or word 2 0 ∷ [] → ⊥) → None ≡ nac_in word
-nac_value-none word same other =
-    let whole = ap (λ w. 48 ∷ w) (three_octets word same) in
-    sym (ap number_in (octets_in-none 2 (48 ∷ word) (λ octets count fits text. other octets count fits (text ∙ sym whole))))
+-- the network access code that a word of three is
+pub nac_in-three : (word : List ℕ) → length word ≡ 3 → nac_in word ≡ number_in (octets_in 2 (48 ∷ get_or word 0 0 ∷ get_or word 1 0 ∷ get_or word 2 0 ∷ []))
+nac_in-three word same = ap (λ w. number_in (octets_in 2 (48 ∷ w))) (sym (three_octets word same))
 
-number_of_two : (octets : List ℕ) → length octets ≡ 2 → number_in (Some octets) ≡ Some (get_or octets 0 0 * 256 + get_or octets 1 0)
+pub number_of_two : (octets : List ℕ) → length octets ≡ 2 → number_in (Some octets) ≡ Some (get_or octets 0 0 * 256 + get_or octets 1 0)
 number_of_two (a ∷ b ∷ []) same = let turned : 256 * a + b ≡ a * 256 + b = omega arith in ap Some turned
 number_of_two octets same = absurd (omega arith)
-
--- a word of three that is the text of a network access code
-pub nac_value-some : (word octets : List ℕ) (number : ℕ) → length word ≡ 3 → length octets ≡ 2 → AllOctets octets
-    → encode_lower octets ≡ 48 ∷ get_or word 0 0 ∷ get_or word 1 0 ∷ get_or word 2 0 ∷ [] → number ≡ get_or octets 0 0 * 256 + get_or octets 1 0 → Some number ≡ nac_in word
-nac_value-some word octets number same count fits text value =
-    let whole = text ∙ ap (λ w. 48 ∷ w) (three_octets word same) in
-    ap Some value ∙ sym (number_of_two octets count)
-    ∙ sym (ap (λ w. number_in (octets_in 2 w)) (sym whole) ∙ ap number_in (octets_in-encode_lower 2 octets fits count))
 
 -- ---- octets of which there may be none
 
@@ -162,3 +151,16 @@ text-octets_or_none count word octets found =
           let facts = octets_in-text count word octets (sym (octets_or_none-some count word some.1) ∙ found) in
           (some_text octets count facts.2 some.1 ∙ facts.0, facts.1, facts.2)
     ]
+
+-- they are read as octets of which there are so many at most
+pub octets_or_none-found : (most count : ℕ) (word octets : List ℕ) → octets_up_to most word ≡ Some octets → length octets ≡ count → octets_or_none count word ≡ Some octets
+octets_or_none-found most count word octets found same =
+    let text = text-octets_up_to most word octets found in
+    ap (octets_or_none count) (sym text.text) ∙ octets_or_none-text count octets text.fits same
+
+pub octets_or_none-other : (most count : ℕ) (word : List ℕ) (read : Option (List ℕ)) → count ≤ most → octets_or_none count word ≡ read
+    → ((octets : List ℕ) → octets_up_to most word ≡ Some octets → length octets ≡ count → ⊥) → octets_or_none count word ≡ None
+octets_or_none-other most count word None few read other = read
+octets_or_none-other most count word (Some octets) few read other =
+    let text = text-octets_or_none count word octets read in
+    absurd (other octets (ap (octets_up_to most) (sym text.0) ∙ octets_up_to-text most octets (omega (arith, text.2)) text.1) text.2)

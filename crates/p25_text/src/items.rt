@@ -2,7 +2,7 @@
 
 ghost use Rattle.std.specs.Prelude.{◌≡◌, ◌+◌, ◌*◌, ◌<◌, ◌≤◌, ◌++◌, [], length};
 ghost use Rattle.p25_units.specs.Items.{IsSoundItem};
-ghost use Rattle.p25_text.specs.ItemTexts.{item_text_of, one_digit, status_digits};
+ghost use Rattle.p25_text.specs.ItemTexts.{item_text_of, status_digits};
 
 use super::write::put_unit;
 use p25_line::Line;
@@ -73,20 +73,11 @@ fn put_broken(place: u64, count: u32, identifier: (u16, u8), fields: &FieldList,
     out.put(b" nac=");
     out.put_three_digits(identifier.0);
     out.put(b" duid=");
-    put_digit(identifier.1, out);
+    let mut digits = [0; 2];
+    let _ = hex::encode_to_slice([identifier.1], &mut digits);
+    out.put(&digits[1..]);
     out.put(b" fields=");
     put_field_names(fields, out);
-}
-
-// Appends the last hexadecimal digit of a number.
-fn put_digit(number: u8, out: &mut Line)
-    requires { length out.old + 1 ≤ 8192 }
-    ensures text { out.new ≡ out.old ++ one_digit number }
-    ensures len { length out.new ≡ length out.old + 1 }
-{
-    let mut digits = [0; 2];
-    let _ = hex::encode_to_slice([number], &mut digits);
-    out.put(&digits[1..]);
 }
 
 // Appends a digit for each status symbol.

@@ -2,12 +2,12 @@
 
 ghost use Rattle.std.specs.Prelude.{◌≡◌, ◌+◌, ◌≤◌, ◌++◌, length};
 ghost use Rattle.p25_line.specs.CommaLists.{list_text};
-ghost use Rattle.p25_text.specs.{Grammar.{text_of}, Packets.{block_text, packet_kind, slot_text}};
+ghost use Rattle.p25_text.specs.{Grammar.{text_of}, Packets.{packet_kind, slot_text}};
 
 use super::names::{UnitKey, UnitKind};
 use super::write::{put_key, put_key_value, put_start};
 use p25_line::Line;
-use p25_packet_blocks::{Block, Confirmed, Packet, Plain, RESPONSE_FORMAT, Slot, Slots};
+use p25_packet_blocks::{Packet, Plain, RESPONSE_FORMAT, Slot, Slots};
 use p25_units::Body;
 
 /// Appends the line of a packet (PDU).
@@ -17,33 +17,19 @@ pub fn put_packet(nac: u16, packet: &Packet, out: &mut Line)
     ensures short { length out.new ≤ length out.old + 4700 }
 {
     match packet {
-        Packet::Confirmed(packet) => put_confirmed(nac, packet, out),
-        Packet::Plain(packet) => put_plain(nac, packet, out),
+        Packet::Confirmed(packet) => {
+            put_start(UnitKind::Confirmed, nac, out);
+            put_key_value(UnitKey::Head, &packet.head().0, out);
+            put_key(UnitKey::Blocks, out);
+            put_slots(packet.slots(), out);
+        }
+        Packet::Plain(packet) => {
+            put_start(plain_kind(packet), nac, out);
+            put_key_value(UnitKey::Head, &packet.head().0, out);
+            put_key(UnitKey::Octets, out);
+            out.put_octets(packet.octets().octets());
+        }
     }
-}
-
-// Appends the line of a confirmed packet (PDU).
-fn put_confirmed(nac: u16, packet: &Confirmed, out: &mut Line)
-    requires { length out.old + 4700 ≤ 8192 }
-    ensures text { out.new ≡ out.old ++ text_of (record { nac = nac; body = Body.Packet (Packet.Confirmed packet.now) }) }
-    ensures short { length out.new ≤ length out.old + 4700 }
-{
-    put_start(UnitKind::Confirmed, nac, out);
-    put_key_value(UnitKey::Head, &packet.head().0, out);
-    put_key(UnitKey::Blocks, out);
-    put_slots(packet.slots(), out);
-}
-
-// Appends the line of another packet (PDU).
-fn put_plain(nac: u16, packet: &Plain, out: &mut Line)
-    requires { length out.old + 4700 ≤ 8192 }
-    ensures text { out.new ≡ out.old ++ text_of (record { nac = nac; body = Body.Packet (Packet.Plain packet.now) }) }
-    ensures short { length out.new ≤ length out.old + 4700 }
-{
-    put_start(plain_kind(packet), nac, out);
-    put_key_value(UnitKey::Head, &packet.head().0, out);
-    put_key(UnitKey::Octets, out);
-    out.put_octets(packet.octets().octets());
 }
 
 // The kind of the line of a packet (PDU) that is not confirmed.
@@ -75,25 +61,15 @@ fn put_slots(slots: &Slots, out: &mut Line)
     }
 }
 
-// Appends the text of a slot. One that is Bad has none.
+// Appends the text of a slot: the serial number of its block, a colon and the octets. One that is Bad has none.
 fn put_slot(slot: Slot, out: &mut Line)
     requires { length out.old + 35 ≤ 8192 }
     ensures text { out.new ≡ out.old ++ slot_text slot }
     ensures short { length out.new ≤ length out.old + 35 }
 {
-    match slot {
-        Slot::Good(block) => put_block(&block, out),
-        Slot::Bad => {}
+    if let Slot::Good(block) = slot {
+        out.put_hex(&[block.serial()]);
+        out.put(b":");
+        out.put_hex(block.octets());
     }
-}
-
-// Appends the text of a block: its serial number, a colon and its octets.
-fn put_block(block: &Block, out: &mut Line)
-    requires { length out.old + 35 ≤ 8192 }
-    ensures text { out.new ≡ out.old ++ block_text block.now }
-    ensures short { length out.new ≤ length out.old + 35 }
-{
-    out.put_hex(&[block.serial()]);
-    out.put(b":");
-    out.put_hex(block.octets());
 }

@@ -3,10 +3,10 @@
 ghost use Rattle.std.specs.Prelude.{◌≡◌, ◌<◌, ◌≤◌, length, IfSome};
 ghost use Rattle.p25_packet_blocks.specs.Kinds.{IsPlainFormat};
 ghost use Rattle.p25_line.specs.CommaLists.{counted, list_in};
-ghost use Rattle.p25_text.specs.{Packets.{block_from, block_in, confirmed_in, head_in, plain_in, slot_in}, Values.{octets_in, octets_or_none}};
+ghost use Rattle.p25_text.specs.{Packets.{block_in, confirmed_in, plain_in, slot_in}, Values.{octets_or_none}};
 
 use super::values::octets_value;
-use p25_line::{comma_part, hex_value, is_dash};
+use p25_line::{comma_part, is_dash, octets_or_dash};
 use p25_packet_blocks::{
     Block, CONFIRMED_FORMAT, Confirmed, Octets, Packet, PacketHead, Plain, Slot, Slots,
 };
@@ -16,7 +16,7 @@ use p25_packet_blocks::{
 pub fn confirmed_value(head: &[u8], blocks: &[u8]) -> Option<Packet>
     ensures { result ≡ confirmed_in head.now blocks.now }
 {
-    let head = head_value(head)?;
+    let head = PacketHead(octets_value::<10>(head)?);
     if head.format() != CONFIRMED_FORMAT {
         return None;
     }
@@ -31,7 +31,7 @@ pub fn plain_value(format: u8, head: &[u8], octets: &[u8]) -> Option<Packet>
     requires { IsPlainFormat format }
     ensures { result ≡ plain_in format head.now octets.now }
 {
-    let head = head_value(head)?;
+    let head = PacketHead(octets_value::<10>(head)?);
     if head.format() != format {
         return None;
     }
@@ -40,42 +40,18 @@ pub fn plain_value(format: u8, head: &[u8], octets: &[u8]) -> Option<Packet>
     Some(Packet::Plain(Plain::new(head, octets)))
 }
 
-// The header of a packet (PDU) that a word is read as.
-fn head_value(word: &[u8]) -> Option<PacketHead>
-    ensures { result ≡ head_in word.now }
-{
-    let octets = octets_value::<10>(word)?;
-    Some(PacketHead(octets))
-}
-
-// The octets that a word is read as, `-` where there are none.
+// The octets that a word is read as, where they are so many. `-` stands for none.
 fn octets_or_none_value(word: &[u8], count: usize) -> Option<Octets>
     requires { count ≤ 1520 }
     ensures value { result ≡ octets_or_none count word.now }
     ensures len { IfSome result (λ octets. length octets ≡ count) }
 {
-    if count > 0 {
-        let mut room = [0; 1520];
-        return some_octets_value(word, count, &mut room[..count]);
-    }
-    if !is_dash(word) {
-        return None;
-    }
-    Some(Octets::new())
-}
-
-// The octets that a word is read as, with room for so many.
-fn some_octets_value(word: &[u8], count: usize, room: &mut [u8]) -> Option<Octets>
-    requires most { count ≤ 1520 }
-    requires room { length room.old ≡ count }
-    ensures value { result ≡ octets_in count word.now }
-    ensures len { IfSome result (λ octets. length octets ≡ count) }
-{
-    if !hex_value(word, room) {
+    let mut room = [0; 1520];
+    if octets_or_dash(word, &mut room)? != count {
         return None;
     }
     let mut octets = Octets::new();
-    octets.extend(room);
+    octets.extend(&room[..count]);
     Some(octets)
 }
 
@@ -112,15 +88,8 @@ fn block_value(text: &[u8]) -> Option<Block>
     if text.len() != 35 || text[2] != b':' {
         return None;
     }
-    block_of(&text[..2], &text[3..])
-}
-
-// The block of a serial number and sixteen octets.
-fn block_of(serial: &[u8], octets: &[u8]) -> Option<Block>
-    ensures { result ≡ block_from (octets_in 1 serial.now) (octets_in 16 octets.now) }
-{
-    let serial = octets_value::<1>(serial)?[0];
-    let octets = octets_value::<16>(octets)?;
+    let serial = octets_value::<1>(&text[..2])?[0];
+    let octets = octets_value::<16>(&text[3..])?;
     if serial < 128 {
         Some(Block::new(serial, octets))
     } else {

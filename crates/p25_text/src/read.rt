@@ -10,7 +10,7 @@ use super::packets::{confirmed_value, plain_value};
 use super::values::{Values, nac_value, values_of_words};
 use super::voices::{hdu_value, ldu1_value, ldu2_value, tdulc_value};
 use p25_line::{LineFault, LineReader, LineWords, read_whole};
-use p25_packet_blocks::{PLAIN_FORMAT, Packet, RESPONSE_FORMAT};
+use p25_packet_blocks::{PLAIN_FORMAT, RESPONSE_FORMAT};
 use p25_units::{Body, Unit, VoiceUnit};
 
 /// Answers the unit whose text a line is. Each line that is accepted is the text of its unit, and the text of each unit of
@@ -42,27 +42,20 @@ impl LineReader for UnitLines {
     ghost not_long = { unit_words_not_long };
 
     fn read_words(words: &LineWords) -> Result<Unit, LineFault> {
-        read_unit_words(words)
-    }
-}
-
-// The unit of the words of a line.
-fn read_unit_words(words: &LineWords) -> Result<Unit, LineFault>
-    ensures { result ≡ unit_of_words words.now }
-{
-    let Some(kind) = UnitKind::named(words.first()) else {
-        return Err(LineFault::Kind);
-    };
-    let keys = kind.keys();
-    if words.count() != keys.len() + 1 {
-        return Err(LineFault::Key);
-    }
-    let Some(values) = values_of_words(words, keys) else {
-        return Err(LineFault::Key);
-    };
-    match read_values(kind, &values) {
-        Some(unit) => Ok(unit),
-        None => Err(LineFault::Value),
+        let Some(kind) = UnitKind::named(words.first()) else {
+            return Err(LineFault::Kind);
+        };
+        let keys = kind.keys();
+        if words.count() != keys.len() + 1 {
+            return Err(LineFault::Key);
+        }
+        let Some(values) = values_of_words(words, keys) else {
+            return Err(LineFault::Key);
+        };
+        match read_values(kind, &values) {
+            Some(unit) => Ok(unit),
+            None => Err(LineFault::Value),
+        }
     }
 }
 
@@ -83,30 +76,16 @@ fn read_body(kind: UnitKind, values: &Values) -> Option<Body>
 {
     match kind {
         UnitKind::Tdu => Some(Body::Voice(VoiceUnit::End)),
-        UnitKind::Tdulc => voice_body(tdulc_value(values)),
-        UnitKind::Hdu => voice_body(hdu_value(values)),
-        UnitKind::Ldu1 => voice_body(ldu1_value(values)),
-        UnitKind::Ldu2 => voice_body(ldu2_value(values)),
-        UnitKind::Confirmed => packet_body(confirmed_value(values.get(1), values.get(2))),
-        UnitKind::Plain => packet_body(plain_value(PLAIN_FORMAT, values.get(1), values.get(2))),
-        UnitKind::Response => packet_body(plain_value(
-            RESPONSE_FORMAT,
-            values.get(1),
-            values.get(2),
-        )),
+        UnitKind::Tdulc => tdulc_value(values).map(Body::Voice),
+        UnitKind::Hdu => hdu_value(values).map(Body::Voice),
+        UnitKind::Ldu1 => ldu1_value(values).map(Body::Voice),
+        UnitKind::Ldu2 => ldu2_value(values).map(Body::Voice),
+        UnitKind::Confirmed => { confirmed_value(values.get(1), values.get(2)).map(Body::Packet) }
+        UnitKind::Plain => {
+            plain_value(PLAIN_FORMAT, values.get(1), values.get(2)).map(Body::Packet)
+        }
+        UnitKind::Response => {
+            plain_value(RESPONSE_FORMAT, values.get(1), values.get(2)).map(Body::Packet)
+        }
     }
-}
-
-// What a voice unit (HDU, LDU1, LDU2 or TDULC) carries.
-fn voice_body(voice: Option<VoiceUnit>) -> Option<Body>
-    ensures { result ≡ option_map Body.Voice voice }
-{
-    Some(Body::Voice(voice?))
-}
-
-// What a unit of a packet (PDU) carries.
-fn packet_body(packet: Option<Packet>) -> Option<Body>
-    ensures { result ≡ option_map Body.Packet packet }
-{
-    Some(Body::Packet(packet?))
 }

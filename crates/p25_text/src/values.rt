@@ -72,11 +72,7 @@ pub fn nac_value(word: &[u8]) -> Option<u16>
     if word.len() != 3 {
         return None;
     }
-    let digits = [b'0', word[0], word[1], word[2]];
-    let mut octets = [0; 2];
-    if !hex_value(&digits, &mut octets) {
-        return None;
-    }
+    let octets = octets_value::<2>(&[b'0', word[0], word[1], word[2]])?;
     Some(u16::from_be_bytes(octets))
 }
 
@@ -86,9 +82,5 @@ pub fn octets_value<const N: usize>(word: &[u8]) -> Option<[u8; N]>
     ensures len { IfSome result (λ octets. length octets ≡ N) }
 {
     let mut octets = [0; N];
-    if hex_value(word, &mut octets) {
-        Some(octets)
-    } else {
-        None
-    }
+    hex_value(word, &mut octets).then_some(octets)
 }

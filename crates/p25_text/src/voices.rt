@@ -20,55 +20,34 @@ pub fn put_voice(nac: u16, unit: &VoiceUnit, out: &mut Line)
     ensures short { length out.new ≤ length out.old + 4700 }
 {
     match unit {
-        VoiceUnit::Header(word) => put_hdu(nac, word, out),
-        VoiceUnit::Link1 { link, low, voice } => put_ldu1(nac, link, low, voice, out),
-        VoiceUnit::Link2 { sync, low, voice } => put_ldu2(nac, sync, low, voice, out),
+        VoiceUnit::Header(word) => {
+            put_start(UnitKind::Hdu, nac, out);
+            put_key_value(UnitKey::Mi, &word.mi, out);
+            put_key_value(UnitKey::Mfid, &[word.mfid], out);
+            put_key_value(UnitKey::Algid, &[word.algid], out);
+            put_pair(UnitKey::Kid, word.kid, out);
+            put_pair(UnitKey::Tgid, word.tgid, out);
+        }
+        VoiceUnit::Link1 { link, low, voice } => {
+            put_start(UnitKind::Ldu1, nac, out);
+            put_key_value(UnitKey::Lc, &link.0, out);
+            put_key_value(UnitKey::Lsd, low, out);
+            put_frames(voice, out);
+        }
+        VoiceUnit::Link2 { sync, low, voice } => {
+            put_start(UnitKind::Ldu2, nac, out);
+            put_key_value(UnitKey::Mi, &sync.mi, out);
+            put_key_value(UnitKey::Algid, &[sync.algid], out);
+            put_pair(UnitKey::Kid, sync.kid, out);
+            put_key_value(UnitKey::Lsd, low, out);
+            put_frames(voice, out);
+        }
         VoiceUnit::End => put_start(UnitKind::Tdu, nac, out),
         VoiceUnit::EndLink { link } => {
             put_start(UnitKind::Tdulc, nac, out);
             put_key_value(UnitKey::Lc, &link.0, out);
         }
     }
-}
-
-// Appends the line of a header data unit (HDU).
-fn put_hdu(nac: u16, word: &HeaderWord, out: &mut Line)
-    requires { length out.old + 4700 ≤ 8192 }
-    ensures text { out.new ≡ out.old ++ text_of (record { nac = nac; body = Body.Voice (VoiceUnit.Header word.now) }) }
-    ensures short { length out.new ≤ length out.old + 4700 }
-{
-    put_start(UnitKind::Hdu, nac, out);
-    put_key_value(UnitKey::Mi, &word.mi, out);
-    put_key_value(UnitKey::Mfid, &[word.mfid], out);
-    put_key_value(UnitKey::Algid, &[word.algid], out);
-    put_pair(UnitKey::Kid, word.kid, out);
-    put_pair(UnitKey::Tgid, word.tgid, out);
-}
-
-// Appends the line of an LDU1: voice with link control.
-fn put_ldu1(nac: u16, link: &LinkControl, low: &[u8; 2], voice: &Voice, out: &mut Line)
-    requires { length out.old + 4700 ≤ 8192 }
-    ensures text { out.new ≡ out.old ++ text_of (record { nac = nac; body = Body.Voice (VoiceUnit.Link1 link.now low.now voice.now) }) }
-    ensures short { length out.new ≤ length out.old + 4700 }
-{
-    put_start(UnitKind::Ldu1, nac, out);
-    put_key_value(UnitKey::Lc, &link.0, out);
-    put_key_value(UnitKey::Lsd, low, out);
-    put_frames(voice, out);
-}
-
-// Appends the line of an LDU2: voice with encryption sync.
-fn put_ldu2(nac: u16, sync: &EncryptionSync, low: &[u8; 2], voice: &Voice, out: &mut Line)
-    requires { length out.old + 4700 ≤ 8192 }
-    ensures text { out.new ≡ out.old ++ text_of (record { nac = nac; body = Body.Voice (VoiceUnit.Link2 sync.now low.now voice.now) }) }
-    ensures short { length out.new ≤ length out.old + 4700 }
-{
-    put_start(UnitKind::Ldu2, nac, out);
-    put_key_value(UnitKey::Mi, &sync.mi, out);
-    put_key_value(UnitKey::Algid, &[sync.algid], out);
-    put_pair(UnitKey::Kid, sync.kid, out);
-    put_key_value(UnitKey::Lsd, low, out);
-    put_frames(voice, out);
 }
 
 // Appends a key and a number of two octets, the higher first.

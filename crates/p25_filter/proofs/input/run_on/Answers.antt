@@ -1,6 +1,6 @@
 use Rattle.std.proofs.Common.{◌≡◌, ℕ, [], ◌++◌, take, ap, sym, subst, ◌∙◌, arith, length-append, length-take}
 use Rattle.p25_filter.specs.Traces.{Going, standing_at}
-use Rattle.p25_filter.proofs.InputLaws.{Moved-blank, on-blank_page}
+use Rattle.p25_filter.proofs.InputLaws.{Moved-blank, ends-page, ends-stopped, idle-finished, on-blank_page}
 use Rattle.p25_filter.proofs.TracesLaws.{Came-ended, Came-read_fault, Came-stopped, Came-too_long, Progress-moved, Progress-none, SoFar, SoFar-fed, SoFar-none, SoFar-over, SoFar-read, first-fed, settled}
 use Rattle.p25_filter.proofs.input.run_on.Goals as goal
 
@@ -26,6 +26,20 @@ returns-in_default g c =
     Came-read_fault g.P.Port.moves g.met.P.Port.stays g.met.P.Port.joins _ _ _ _ _ inv.so_far
     (settled _ _ inv.octets inv.text (omega (arith, inv.count, inv.few)) inv.progress inv.idle) c.in_default.ensures.failed
 
+pub returns-in-Err : goal.returns-in-Err
+returns-in-Err g c =
+    let inv = c.loop-count.invariant in
+    let moves = g.P.Port.moves in
+    let stays = g.met.P.Port.stays in
+    let joins = g.met.P.Port.joins in
+    let first = c.args.port.now in
+    let future = g.W.Filter.future c.args.filter.now in
+    let is_settled = settled future _ inv.octets inv.text (omega (arith, inv.count, inv.few)) inv.progress inv.idle in
+    let none : take c.in-Ok.count c.read.new.buf ≡ [] = ap (λ (n : ℕ). take n c.read.new.buf) c.if-count-eq0.true in
+    let over = SoFar-over moves stays joins first future inv.octets inv.text _ _ _ inv.so_far is_settled c.in-Ok.ensures.given.1 none in
+    Came-ended moves stays joins first future inv.octets inv.text c.read.new.self c.drain.new.port _ c.in-Err.stop over inv.progress
+    (ends-stopped moves stays joins _ _ _ _ _ c.finish.ensures.closed (on-blank_page moves stays joins _ _ _ _ _ _ inv.empty c.in-Err.ensures.stopped))
+
 pub returns-then-count-eq0 : goal.returns-then-count-eq0
 returns-then-count-eq0 g c =
     let inv = c.loop-count.invariant in
@@ -37,10 +51,12 @@ returns-then-count-eq0 g c =
     let is_settled = settled future _ inv.octets inv.text (omega (arith, inv.count, inv.few)) inv.progress inv.idle in
     let none : take c.in-Ok.count c.read.new.buf ≡ [] = ap (λ (n : ℕ). take n c.read.new.buf) c.if-count-eq0.true in
     let over = SoFar-over moves stays joins first future inv.octets inv.text _ _ _ inv.so_far is_settled c.in-Ok.ensures.given.1 none in
-    Came-ended moves stays joins first future inv.octets inv.text c.read.new.self c.end.new.port _ c.end.result over inv.progress c.end.ensures
+    let idle = idle-finished _ _ _ c.in_default-drain.ensures.idle c.drain.ensures.same c.finish.ensures.finished in
+    Came-ended moves stays joins first future inv.octets inv.text c.read.new.self c.end_so.new.port _ c.end_so.result over inv.progress
+    (ends-page moves stays joins _ _ _ _ _ _ _ _ _ _ c.finish.ensures.closed inv.empty c.in_default-drain.ensures.moved idle c.ending.ensures c.end_so.ensures)
 
-pub returns-in-Err : goal.returns-in-Err
-returns-in-Err g c =
+pub returns-in-Err-feed : goal.returns-in-Err-feed
+returns-in-Err-feed g c =
     let inv = c.loop-count.invariant in
     let moves = g.P.Port.moves in
     let stays = g.met.P.Port.stays in
@@ -49,9 +65,9 @@ returns-in-Err g c =
     let read =
     SoFar-read moves stays joins _ _ inv.octets inv.text buf c.in-Ok.count c.min-fits.result _ _ _ inv.so_far (omega (arith, inv.count, inv.few)) inv.progress inv.idle
     c.in-Ok.ensures.given (omega (arith, c.if-count-eq0.false)) (omega (arith, inv.buffer, c.read.ensures.room)) (omega (arith, c.min-fits.ensures, inv.count)) in
-    let stopped = on-blank_page moves stays joins _ _ _ _ _ _ inv.empty c.in-Err.ensures.stopped.1 in
-    Came-stopped moves stays joins _ _ inv.octets inv.text (inv.octets ++ take c.in-Ok.count buf) _ _ _ _ _ c.in-Err.stop read.0 inv.progress
-    (first-fed inv.octets buf (inv.octets ++ take c.in-Ok.count buf) c.min-fits.result c.in-Err.ensures.stopped.0 read.1) stopped
+    let stopped = on-blank_page moves stays joins _ _ _ _ _ _ inv.empty c.in-Err-feed.ensures.stopped.1 in
+    Came-stopped moves stays joins _ _ inv.octets inv.text (inv.octets ++ take c.in-Ok.count buf) _ _ _ _ _ c.in-Err-feed.stop read.0 inv.progress
+    (first-fed inv.octets buf (inv.octets ++ take c.in-Ok.count buf) c.min-fits.result c.in-Err-feed.ensures.stopped.0 read.1) stopped
 
 pub returns-then-fits-count : goal.returns-then-fits-count
 returns-then-fits-count g c =

@@ -1,4 +1,4 @@
-use Rattle.std.proofs.Common.{false, ap, sym, refl, ◌∙◌}
+use Rattle.std.proofs.Common.{false, inl, inr, ap, sym, refl, ◌∙◌}
 use Rattle.p25_filter.specs.{declared.line_filter.LinePhase.TheVariants.{Closed}, LineFilters.{LineFiltering, pieces_of}}
 use Rattle.p25_filter.proofs.LineFiltersLaws.{step-behind, step-close, step-idle, step-last, step-line, step-none}
 use Rattle.p25_filter.proofs.line_filter.LineFilterFilter.next.Goals as goal
@@ -16,16 +16,7 @@ returns-in-Reading-clause-piece g c = step-none g.M.LineMachine.rules _ _ _ refl
 pub returns-in-Reading-clause-idle : goal.returns-in-Reading-clause-idle
 returns-in-Reading-clause-idle g c =
     λ same. step-idle g.M.LineMachine.rules c.args.self.now
-    (ap (λ (w : LineFiltering g.row.M.Denot). pieces_of w.phase) (sym c.self.view_is) ∙ ap pieces_of c.in-Reading.is)
-    (ap (λ (w : LineFiltering g.row.M.Denot). w.behind) (sym c.self.view_is) ∙ c.if-self.false)
-
-pub returns-in-Closed-clause-piece : goal.returns-in-Closed-clause-piece
-returns-in-Closed-clause-piece g c = step-none g.M.LineMachine.rules _ _ _ refl
-
-pub returns-in-Closed-clause-idle : goal.returns-in-Closed-clause-idle
-returns-in-Closed-clause-idle g c =
-    λ same. step-idle g.M.LineMachine.rules c.args.self.now
-    (ap (λ (w : LineFiltering g.row.M.Denot). pieces_of w.phase) (sym c.self.view_is) ∙ ap pieces_of c.in-Closed.is)
+    (ap (λ (w : LineFiltering g.row.M.Denot). pieces_of w.phase) (sym c.self.view_is) ∙ elim c.in-Reading.is [ inl at ↦ ap pieces_of at | inr at ↦ ap pieces_of at ])
     (ap (λ (w : LineFiltering g.row.M.Denot). w.behind) (sym c.self.view_is) ∙ c.if-self.false)
 
 pub returns-in-Ready-clause-piece : goal.returns-in-Ready-clause-piece

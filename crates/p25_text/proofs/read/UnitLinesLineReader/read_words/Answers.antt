@@ -3,7 +3,7 @@ use Rattle.std.specs.Prelude.{ok_or}
 use Rattle.p25_line.specs.{LineReadings.{found_read}, declared.fault.LineFault.TheVariants.{Key, Value}}
 use Rattle.p25_text.specs.{Grammar.{read_values, values_behind}, Names.{keys_of}}
 use Rattle.p25_text.proofs.{ReadLaws.{right_kind, wrong_count, wrong_kind}, WordLaws.{keyed-values_behind}}
-use Rattle.p25_text.proofs.read.read_unit_words.Goals as goal
+use Rattle.p25_text.proofs.read.UnitLinesLineReader.read_words.Goals as goal
 
 pub returns-in_default : goal.returns-in_default
 returns-in_default c = sym (wrong_kind c.args.words.now c.first.result.now c.first.ensures (sym c.in_default.ensures))
