@@ -1,8 +1,7 @@
 //! Link control (LC).
 
 ghost use Rattle.std.specs.Prelude.{◌≡◌, ◌≢◌, ◌↔◌, slice_index};
-ghost use Rattle.p25_link.specs.Words.{link_symbols, link_of_symbols, AreSymbolsOf, IsLinkControl, IsWordOf};
-ghost use Rattle.p25_link.specs.Kinds.{link_kind_of};
+ghost use Rattle.p25_link.specs.{Kinds.{link_kind_of}, Words.{link_symbols, link_of_symbols, AreSymbolsOf, IsLinkControl, IsWordOf}};
 
 use crate::symbols::{first_octets, symbols_of};
 use p25_bits::{pair_at, triple_at};

@@ -1,5 +1,4 @@
-use Rattle.std.proofs.Common.{◌≡◌, ◌+◌, ◌≤◌, length, refl, ap, ap₂, sym, ◌∙◌, arith}
-use Rattle.std.proofs.lemmas.Grind.{common_steps}
+use Rattle.std.proofs.{Common.{◌≡◌, ◌+◌, ◌≤◌, length, refl, ap, ap₂, sym, ◌∙◌, arith}, lemmas.Grind.{common_steps}}
 use Rattle.p25_bits.specs.Distance.{distance_by, distance_of}
 use Rattle.p25_coded_fields.specs.Layouts.{places_from}
 use Rattle.p25_coded_fields.proofs.CodesLaws.{all_end}
