@@ -2,7 +2,8 @@ use Rattle.std.proofs.{Common.{◌≡◌, ◌+◌, ◌≤◌, length, refl, ap, 
 use Rattle.p25_bits.specs.Distance.{distance_by, distance_of}
 use Rattle.p25_coded_fields.specs.Layouts.{places_from}
 use Rattle.p25_coded_fields.proofs.CodesLaws.{all_end}
-use Rattle.p25_voice_units.specs.{Fixes.{bits_at, link_looked, voice_looked, voice_fixes_of}, FieldLayouts.{word_places}, Layouts.{ldu_rows}, Lengths.{voice_duid, voice_length_of}, Readings.{low_places}}
+use Rattle.p25_voice_units.specs.{Fixes.{bits_at, link_looked, voice_looked, voice_fixes_of}, FieldLayouts.{word_places}, Layouts.{ldu_rows}, Lengths.{voice_duid, voice_length_of}}
+use Rattle.p25_voice_units.specs.Readings.{low_places}
 use Rattle.p25_voice_units.proofs.{FieldCodesLaws.{header_there}, FixesLaws.{fixes-append}, KindsLaws.{long_by_kind}, LengthsLaws.{length-header}}
 use Rattle.p25_voice_units.proofs.fixes.voice_fixes.Goals as goal
 
