@@ -33,15 +33,8 @@ pub extern "C" fn p25_build(line: &[u8], status: u8, octets: &mut [u8]) -> i32
     let Some(symbol) = Status::new(status) else {
         return WRONG_STATUS;
     };
-    build_line(line, symbol, octets)
-}
-
-// Writes the octets of the unit of a line.
-fn build_line(line: &[u8], status: Status, octets: &mut [u8]) -> i32
-    ensures { IsWriting (built status line.now) octets.old octets.new result }
-{
     match read_line(line) {
-        Ok(unit) => write_whole(unit, status, octets),
+        Ok(unit) => write_whole(unit, symbol, octets),
         Err(fault) => fault_answer(fault),
     }
 }

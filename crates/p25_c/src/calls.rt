@@ -2,7 +2,7 @@
 
 ghost use Rattle.std.specs.Prelude.{◌≡◌, ◌+◌, ◌^◌, ◌<◌, None, Option, Some, IfSome};
 ghost use Rattle.p25_calls.specs.Seen.{unit_end};
-ghost use Rattle.p25_c.specs.VoiceCalls.{call_answer, call_asked, call_held, call_left, call_told, caller_left, end_held, end_number, finished_left, is_kept, last_asked, link_octets, may_take, no_call, pending_held, state_told, unit_told};
+ghost use Rattle.p25_c.specs.VoiceCalls.{call_answer, call_asked, call_held, call_left, call_told, caller_left, finished_left, is_kept, last_asked, no_call, pending_held, state_told, unit_told};
 
 use crate::fields::FieldParts;
 use crate::items::ItemParts;
@@ -77,7 +77,11 @@ pub extern "C" fn p25_caller_take(
     ensures caller { caller.new ≡ caller_left caller.old item.now fields.now }
     ensures call { call.new ≡ call_left (call_asked caller.old item.now fields.now) call.old }
 {
-    if !may_take(caller, item) {
+    if !is_kept(caller)
+        || item.place != caller.reached
+        || item.place >= PLACE_END
+        || caller.taken == TAKEN_MOST
+    {
         return OUTSIDE;
     }
     let unit = unit_told(item, fields);
@@ -136,16 +140,6 @@ fn is_kept(caller: &CallerState) -> bool
         && run.bits <= caller.reached - run.place
         && run.links <= caller.taken
         && run.broken <= caller.taken
-}
-
-// Whether an item may be taken.
-fn may_take(caller: &CallerState, item: &ItemParts) -> bool
-    ensures { result ≡ may_take caller.now item.now }
-{
-    is_kept(caller)
-        && item.place == caller.reached
-        && item.place < PLACE_END
-        && caller.taken < TAKEN_MOST
 }
 
 // The unit that an item is.
@@ -207,11 +201,18 @@ fn call_told(call: &Call) -> CallParts
         broken: call.broken,
         nac: call.nac,
         late: u8::from(call.late),
-        end: end_number(call.end),
+        end: match call.end {
+            CallEnd::Tdu => 1,
+            CallEnd::Tdulc => 2,
+            CallEnd::Open => 0,
+        },
         has_lc: u8::from(call.link.is_some()),
         has_algid: u8::from(call.algid.is_some()),
         algid: call.algid.unwrap_or(0),
-        lc: link_octets(&call.link),
+        lc: match &call.link {
+            Some(link) => link.0,
+            None => [0; 9],
+        },
     }
 }
 
@@ -224,7 +225,11 @@ fn call_held(parts: &CallParts) -> Call
         bits: parts.bits,
         nac: parts.nac,
         late: parts.late != 0,
-        end: end_held(parts.end),
+        end: match parts.end {
+            1 => CallEnd::Tdu,
+            2 => CallEnd::Tdulc,
+            _ => CallEnd::Open,
+        },
         links: parts.links,
         broken: parts.broken,
         link: (parts.has_lc != 0).then_some(LinkControl(parts.lc)),
@@ -248,37 +253,5 @@ fn no_call() -> CallParts
         has_algid: 0,
         algid: 0,
         lc: [0; 9],
-    }
-}
-
-// The octets of link control, where it is there.
-fn link_octets(link: &Option<LinkControl>) -> [u8; 9]
-    ensures { result ≡ link_octets link.now }
-{
-    match link {
-        Some(link) => link.0,
-        None => [0; 9],
-    }
-}
-
-// The number of an end.
-fn end_number(end: CallEnd) -> u8
-    ensures { result ≡ end_number end }
-{
-    match end {
-        CallEnd::Tdu => 1,
-        CallEnd::Tdulc => 2,
-        CallEnd::Open => 0,
-    }
-}
-
-// The end of a number.
-fn end_held(number: u8) -> CallEnd
-    ensures { result ≡ end_held number }
-{
-    match number {
-        1 => CallEnd::Tdu,
-        2 => CallEnd::Tdulc,
-        _ => CallEnd::Open,
     }
 }

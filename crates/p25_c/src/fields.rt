@@ -2,14 +2,13 @@
 
 ghost use Rattle.std.specs.Prelude.{◌≡◌, ℕ, ◌<◌, ◌≤◌, pos, true};
 ghost use Rattle.p25_c.specs.Building.{IsWritingUnder};
-ghost use Rattle.p25_c.specs.Fields.{body_fields, fields_answer, fields_built, fields_left, frame_octets, frames_held, item_unit, no_fields, unit_answer, unit_left, voice_fields, voice_held};
-ghost use Rattle.p25_c.specs.{Items.{items_asked}, Rooms.{IsWriting}};
+ghost use Rattle.p25_c.specs.Fields.{fields_answer, fields_built, fields_left, frame_octets, frames_held, item_unit, no_fields, unit_answer, unit_left, voice_fields, voice_held};
+ghost use Rattle.p25_c.specs.Items.{items_asked};
 
 use crate::building::{NO_UNIT, sent_symbol, write_whole};
 use crate::items::{OUTSIDE, blank, find_at, is_inside};
 use p25_bch_nid::{HDU, LDU1, LDU2, PDU, TDU, TDULC};
 use p25_link::{EncryptionSync, HeaderWord, LinkControl};
-use p25_status::Status;
 use p25_units::{Body, Item, Unit, VoiceUnit};
 use p25_voice_units::{Voice, VoiceFrame};
 
@@ -71,7 +70,11 @@ fn tell_fields(found: &Item, fields: &mut FieldParts) -> i32
 {
     match found {
         Item::Whole { frame, .. } => {
-            *fields = body_fields(frame.unit.nac(), frame.unit.body());
+            let nac = frame.unit.nac();
+            *fields = match frame.unit.body() {
+                Body::Voice(voice) => voice_fields(nac, voice),
+                Body::Packet(_) => no_fields(nac, PDU),
+            };
             TOLD
         }
         Item::Broken { .. } | Item::NoUnit { .. } | Item::Gap { .. } | Item::Cut { .. } => NO_UNIT,
@@ -97,16 +100,6 @@ fn no_fields(nac: u16, duid: u8) -> FieldParts
         mi: [0; 9],
         lsd: [0; 2],
         voice: [[0; 18]; 9],
-    }
-}
-
-// The fields of a unit.
-fn body_fields(nac: u16, body: &Body) -> FieldParts
-    ensures { result ≡ body_fields nac body.now }
-{
-    match body {
-        Body::Voice(voice) => voice_fields(nac, voice),
-        Body::Packet(_) => no_fields(nac, PDU),
     }
 }
 
@@ -175,20 +168,11 @@ pub extern "C" fn p25_build_fields(fields: &FieldParts, status: u8, octets: &mut
     ensures count { (count : ℕ) → result ≡ pos count → (18 ≤ count) × (count ≤ 216) }
 {
     match sent_symbol(fields.nac, status) {
-        Ok(symbol) => build_voice(fields, symbol, octets),
+        Ok(symbol) => match voice_held(fields) {
+            Some(voice) => write_whole(Unit::new(fields.nac, Body::Voice(voice)), symbol, octets),
+            None => WRONG_DUID,
+        },
         Err(answer) => answer,
-    }
-}
-
-// Writes the octets of the voice unit of fields.
-fn build_voice(fields: &FieldParts, status: Status, octets: &mut [u8]) -> i32
-    requires { fields.now.nac < 4096 }
-    ensures value { IsWriting (fields_built status fields.now) octets.old octets.new result }
-    ensures count { (count : ℕ) → result ≡ pos count → (18 ≤ count) × (count ≤ 216) }
-{
-    match voice_held(fields) {
-        Some(voice) => write_whole(Unit::new(fields.nac, Body::Voice(voice)), status, octets),
-        None => WRONG_DUID,
     }
 }
 

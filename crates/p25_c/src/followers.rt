@@ -144,18 +144,11 @@ fn is_item_told(item: &ItemParts) -> bool
     ensures { result ≡ is_item_told item.now }
 {
     match item.kind {
-        1 | 2 => is_unit_told(item),
+        1 | 2 => { item.nac <= 4_095 && item.duid <= 15 && item.bits % 72 == 0 && item.bits >= 144 }
         3 | 4 => item.bits <= STRETCH_ITEM,
         5 => true,
         _ => false,
     }
-}
-
-// Whether numbers are those of a unit.
-fn is_unit_told(item: &ItemParts) -> bool
-    ensures { result ≡ is_unit_told item.now }
-{
-    item.nac <= 4_095 && item.duid <= 15 && item.bits % 72 == 0 && item.bits >= 144
 }
 
 // The item that numbers tell, as far as a follower looks at it.
@@ -221,7 +214,15 @@ fn follower_told(reached: u64, followed: &Followed) -> FollowerState
     let follower = followed.follower();
     let stretch = follower.stretch();
     let waits = followed.kept();
-    let (has_unit, nac, duid) = name_told(follower.before());
+    let (has_unit, nac, duid) = match follower.before() {
+        Some(name) => (1, name.nac, name.duid),
+        None => (0, 0, 0),
+    };
+    let mut octets = [0; 864];
+    let mut bits = BitBuf::new();
+    bits.append(stretch, 0, stretch.len());
+    fill(&mut bits);
+    let _ = write_bits(&bits, &mut octets);
     FollowerState {
         reached,
         nac,
@@ -230,32 +231,8 @@ fn follower_told(reached: u64, followed: &Followed) -> FollowerState
         has_unit,
         waits: waits.len() as u8,
         waiting: waits.field(0, waits.len() as u32) as u8,
-        octets: stretch_told(stretch),
+        octets,
     }
-}
-
-// Whether there is a name, and its numbers.
-fn name_told(name: Option<Nid>) -> (u8, u16, u8)
-    ensures there { result.0 ≡ has_name (names_of name) }
-    ensures nac { result.1 ≡ name_nac (names_of name) }
-    ensures duid { result.2 ≡ name_duid (names_of name) }
-{
-    match name {
-        Some(nid) => (1, nid.nac, nid.duid),
-        None => (0, 0, 0),
-    }
-}
-
-// The bits of a stretch as octets, with zeros after them.
-fn stretch_told(stretch: &BitBuf) -> [u8; 864]
-    ensures { result ≡ write_left (Ok (whole_octets (filled stretch.now))) (replicate 864 0) }
-{
-    let mut octets = [0; 864];
-    let mut bits = BitBuf::new();
-    bits.append(stretch, 0, stretch.len());
-    fill(&mut bits);
-    let _ = write_bits(&bits, &mut octets);
-    octets
 }
 
 // Writes octets where there is room for them, and answers how many.

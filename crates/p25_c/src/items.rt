@@ -1,12 +1,10 @@
 //! The items of a recording, one a call.
 
 ghost use Rattle.std.specs.Prelude.{◌≡◌, ◌≤◌, [], ◌∷◌, false, true, pos, List, Some, length};
-ghost use Rattle.p25_c.specs.Items.{duid_told, fixes_told, is_inside, item_answer, item_left, item_text_left, items_asked, kind_number, nac_told, parts_of};
-ghost use Rattle.p25_c.specs.Rooms.{text_left};
+ghost use Rattle.p25_c.specs.{Items.{is_inside, item_answer, item_left, item_text_left, items_asked, parts_of}, Rooms.{text_left}};
 ghost use Rattle.p25_text.specs.ItemTexts.{item_text_of};
 ghost use Rattle.p25_units.specs.{Items.{IsSoundItem}, declared.item.Item.{Item as item_type}};
 
-use crate::room::write_text;
 use p25_line::Line;
 use p25_stream::find_item;
 use p25_text::item_text;
@@ -104,7 +102,7 @@ pub(crate) fn find_at(octets: &[u8], begin: u64, from: u64, ended: bool, found: 
     find_item(octets, (from - begin) as usize, from, ended, found)
 }
 
-// Tells an item: its numbers, and its text where there is room.
+// Tells an item: its numbers, and its text and a zero after it, where there is room for both.
 pub(crate) fn tell_item(found: &Item, item: &mut ItemParts, text: &mut [u8])
     requires { IsSoundItem found.now }
     ensures item { item.new ≡ parts_of found.now }
@@ -114,57 +112,35 @@ pub(crate) fn tell_item(found: &Item, item: &mut ItemParts, text: &mut [u8])
     let mut line = Line::new();
     item_text(found, &mut line);
     *item = item_parts(found, line.len() as u32);
-    write_text(line.octets(), text);
+    let octets = line.octets();
+    if octets.len() < text.len() {
+        text[..octets.len()].copy_from_slice(octets);
+        text[octets.len()] = 0;
+    }
 }
 
 // The numbers of an item, where so many octets are those of its text.
 pub(crate) fn item_parts(found: &Item, text_length: u32) -> ItemParts
     ensures { result ≡ record (parts_of found.now) { text_length = text_length } }
 {
-    let (nac, duid) = identifier(found);
+    let (kind, nac, duid, fixes) = match found {
+        Item::Whole { frame, fixes, .. } => {
+            let unit = &frame.unit;
+            (1, unit.nac(), unit.body().duid(), *fixes)
+        }
+        Item::Broken { nac, duid, .. } => (2, *nac, *duid, 0),
+        Item::NoUnit { .. } => (3, 0, 0, 0),
+        Item::Gap { .. } => (4, 0, 0, 0),
+        Item::Cut { .. } => (5, 0, 0, 0),
+    };
     ItemParts {
         place: found.place(),
         bits: found.covered() as u32,
-        fixes: fixes(found),
+        fixes,
         text_length,
         nac,
         duid,
-        kind: kind(found),
-    }
-}
-
-// The network access code (NAC) and the data unit identifier (DUID) of a unit.
-fn identifier(found: &Item) -> (u16, u8)
-    ensures nac { result.0 ≡ nac_told found.now }
-    ensures duid { result.1 ≡ duid_told found.now }
-{
-    match found {
-        Item::Whole { frame, .. } => (frame.unit.nac(), frame.unit.body().duid()),
-        Item::Broken { nac, duid, .. } => (*nac, *duid),
-        Item::NoUnit { .. } | Item::Gap { .. } | Item::Cut { .. } => (0, 0),
-    }
-}
-
-// The number of wrong bits of a whole unit.
-fn fixes(found: &Item) -> u32
-    ensures { result ≡ fixes_told found.now }
-{
-    match found {
-        Item::Whole { fixes, .. } => *fixes,
-        Item::Broken { .. } | Item::NoUnit { .. } | Item::Gap { .. } | Item::Cut { .. } => 0,
-    }
-}
-
-// The number of an item's kind.
-fn kind(found: &Item) -> u8
-    ensures { result ≡ kind_number found.now }
-{
-    match found {
-        Item::Whole { .. } => 1,
-        Item::Broken { .. } => 2,
-        Item::NoUnit { .. } => 3,
-        Item::Gap { .. } => 4,
-        Item::Cut { .. } => 5,
+        kind,
     }
 }
 

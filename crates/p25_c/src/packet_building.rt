@@ -2,7 +2,6 @@
 
 ghost use Rattle.std.specs.Prelude.{◌≡◌, ℕ, ◌-◌, ◌*◌, ◌<◌, ◌≤◌, pos, IfSome, slice_index, take, true};
 ghost use Rattle.p25_c.specs.{Building.{IsWritingUnder}, Packets.{confirmed_of, is_sendable_at, packet_built, packet_held, slot_held, slots_held}};
-ghost use Rattle.p25_c.specs.Rooms.{IsWriting};
 ghost use Rattle.p25_packet_blocks.specs.{Heads.{confirmed_format, head_blocks, head_format}, Kinds.{IsPlainFormat}, Reading.{plain_by_parts}};
 ghost use Rattle.p25_packet_blocks.specs.Whole.{IsWholePacket};
 
@@ -12,7 +11,6 @@ use p25_packet_blocks::{
     Block, CONFIRMED_FORMAT, Confirmed, Octets, PLAIN_FORMAT, Packet, PacketHead, Plain,
     RESPONSE_FORMAT, Slot, Slots,
 };
-use p25_status::Status;
 use p25_units::{Body, Unit};
 
 // What is given is no packet that can be sent.
@@ -31,20 +29,11 @@ pub extern "C" fn p25_build_packet(packet: &PacketParts, status: u8, octets: &mu
     ensures count { (count : ℕ) → result ≡ pos count → (45 ≤ count) × (count ≤ 3240) }
 {
     match sent_symbol(packet.nac, status) {
-        Ok(symbol) => build_packet(packet, symbol, octets),
+        Ok(symbol) => match packet_held(packet) {
+            Some(held) => write_whole(Unit::new(packet.nac, Body::Packet(held)), symbol, octets),
+            None => WRONG_PACKET,
+        },
         Err(answer) => answer,
-    }
-}
-
-// Writes the octets of the unit of a packet.
-fn build_packet(packet: &PacketParts, status: Status, octets: &mut [u8]) -> i32
-    requires { packet.now.nac < 4096 }
-    ensures value { IsWriting (packet_built status packet.now) octets.old octets.new result }
-    ensures count { (count : ℕ) → result ≡ pos count → (45 ≤ count) × (count ≤ 3240) }
-{
-    match packet_held(packet) {
-        Some(held) => write_whole(Unit::new(packet.nac, Body::Packet(held)), status, octets),
-        None => WRONG_PACKET,
     }
 }
 

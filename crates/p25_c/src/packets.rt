@@ -1,7 +1,7 @@
 //! Packets (PDU) as numbers and octets.
 
 ghost use Rattle.std.specs.{Prelude.{◌≡◌, ◌*◌, ◌≤◌, ◌==◌, count_by, length, map}, List.{flat_map}};
-ghost use Rattle.p25_c.specs.Packets.{bits_packet, head_told, is_bad, no_packet, packet_answer, packet_asked, packet_bad, packet_fault, packet_left, packet_told, slot_good, slot_octets, slot_serial, slots_told, unit_bits};
+ghost use Rattle.p25_c.specs.Packets.{head_told, is_bad, no_packet, packet_answer, packet_asked, packet_bad, packet_fault, packet_left, packet_told, slot_good, slot_octets, slot_serial, slots_told, unit_bits};
 ghost use Rattle.p25_bits.specs.Bits.{octet_bits};
 
 use crate::building::NO_UNIT;
@@ -65,7 +65,10 @@ pub extern "C" fn p25_packet_read(
     }
     let mut bits = BitBuf::new();
     take_bits(octets, (from - begin) as usize, &mut bits);
-    match read_bits(&bits) {
+    if bits.len() < SHORTEST {
+        return NO_UNIT;
+    }
+    match read_packet_unit(&bits) {
         Ok((nac, read)) => {
             tell_packet(nac, &read, packet);
             i32::from(packet.bad)
@@ -81,27 +84,9 @@ fn take_bits(octets: &[u8], bit: usize, bits: &mut BitBuf)
     let first = (bit / 8).min(octets.len());
     let there = &octets[first..];
     let count = NEEDED.min(there.len());
-    put_all(&there[..count], bits);
-    bits.drop_front((bit % 8).min(bits.len()));
-}
-
-// Sets `bits` to those of octets.
-fn put_all(octets: &[u8], bits: &mut BitBuf)
-    requires { length octets.now ≤ 3241 }
-    ensures { bits.new ≡ octet_bits octets.now }
-{
     bits.clear();
-    bits.put_numbers(octets, 8);
-}
-
-// The packet of the unit that bits begin with. Where there are fewer than the shortest unit has, its sync is what fails.
-fn read_bits(bits: &BitBuf) -> Result<(u16, Packet), Field>
-    ensures { result ≡ bits_packet bits.now }
-{
-    if bits.len() < SHORTEST {
-        return Err(Field::Sync);
-    }
-    read_packet_unit(bits)
+    bits.put_numbers(&there[..count], 8);
+    bits.drop_front((bit % 8).min(bits.len()));
 }
 
 // The number of the field for which there is no packet.

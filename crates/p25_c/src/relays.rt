@@ -1,10 +1,7 @@
 //! Items forwarded in place, under another network access code (NAC) and with one status symbol everywhere.
 
-ghost use Rattle.std.specs.Prelude.{◌≡◌, ◌+◌, ◌*◌, ◌^◌, ◌<◌, ◌≤◌, length};
-ghost use Rattle.p25_bits.specs.Bits.{octet_bits, part};
+ghost use Rattle.std.specs.Prelude.{◌<◌};
 ghost use Rattle.p25_c.specs.{Building.{IsWritingUnder}, Relays.{relayed_at}, Rooms.{IsWriting}};
-ghost use Rattle.p25_follow.specs.Relayed.{IsFitItem, relayed};
-ghost use Rattle.p25_units.specs.Items.{IsSoundItem, covered};
 
 use crate::building::{sent_symbol, write_bits};
 use crate::items::{OUTSIDE, blank, is_inside};
@@ -13,7 +10,6 @@ use p25_bits::BitBuf;
 use p25_follow::relay_item;
 use p25_status::Status;
 use p25_stream::find_item;
-use p25_units::Item;
 
 /// Writes what is forwarded in place of the item that begins at bit `from` of a recording, as the command `relay` writes it: of a whole unit
 /// what `p25_bridge_at` writes; of a broken one its bits, with the sync, the network identifier (NID) and the status symbols replaced;
@@ -54,23 +50,10 @@ fn relay_at(octets: &[u8], begin: u64, from: u64, nac: u16, status: Status, into
         return 0;
     }
     let mut bits = BitBuf::new();
-    relay_found(octets, at, &found, nac, status, &mut bits);
+    cut(octets, at, found.covered() as u32, &mut bits);
+    relay_item(&found, nac, status, &mut bits);
     fill(&mut bits);
     write_bits(&bits, into)
-}
-
-// Sets `bits` to what is forwarded in place of the item that was found at a bit.
-fn relay_found(octets: &[u8], at: u64, found: &Item, nac: u16, status: Status, bits: &mut BitBuf)
-    requires sound { IsSoundItem found.now }
-    requires fits { IsFitItem found.now }
-    requires there { at + covered found.now ≤ 8 * length octets.now }
-    requires few { covered found.now ≤ 25920 }
-    requires near { at ≤ 2 ^ 59 }
-    requires nac { nac < 4096 }
-    ensures { bits.new ≡ relayed nac status found.now (part at (covered found.now) (octet_bits octets.now)) }
-{
-    cut(octets, at, found.covered() as u32, bits);
-    relay_item(found, nac, status, bits);
 }
 
 #[cfg(test)]

@@ -3,7 +3,6 @@
 ghost use Rattle.std.specs.Prelude.{◌≡◌, ◌+◌, ◌-◌, ◌*◌, ◌^◌, ◌<◌, ◌≤◌, Ok, true, length};
 ghost use Rattle.p25_bits.specs.Bits.{octet_bits, part};
 ghost use Rattle.p25_c.specs.{Building.{IsWritingUnder}, Items.{is_inside}, Places.{bridged_at, filled, has_item, item_cut, repaired_at}, Rooms.{IsWriting}};
-ghost use Rattle.p25_stream.specs.Repeats.{is_whole_item};
 
 use crate::building::{NO_UNIT, sent_symbol, write_bits};
 use crate::items::{ItemParts, OUTSIDE, blank, find_at, is_inside};
@@ -87,19 +86,12 @@ pub extern "C" fn p25_repair_at(octets: &[u8], begin: u64, from: u64, into: &mut
         return OUTSIDE;
     }
     let mut found = blank();
-    if !find_at(octets, begin, from, true, &mut found) || !is_whole(&found) {
+    if !find_at(octets, begin, from, true, &mut found) || !matches!(&found, Item::Whole { .. }) {
         return NO_UNIT;
     }
     let mut bits = BitBuf::new();
     repair_item(&found, &mut bits);
     write_bits(&bits, into)
-}
-
-// Whether an item is a whole unit.
-fn is_whole(item: &Item) -> bool
-    ensures { result ≡ is_whole_item item.now }
-{
-    matches!(item, Item::Whole { .. })
 }
 
 /// Writes the whole unit that begins at bit `from` of a recording under another network access code (NAC) and with one status symbol

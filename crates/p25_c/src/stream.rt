@@ -2,17 +2,14 @@
 //!
 //! A stream is its numbers, and nothing else is kept: a call takes any, and refuses one whose numbers fit no stream.
 
-ghost use Rattle.std.specs.Prelude.{◌≡◌, ◌-◌, ◌≤◌, ◌==◌, true, min, pos, length, if◌then◌else◌};
-ghost use Rattle.p25_c.specs.{Items.{item_answer, item_text_left, parts_of}, Many.{numbers_of}, Rooms.{text_left}};
+ghost use Rattle.std.specs.Prelude.{◌≡◌, ◌-◌, ◌≤◌, true, min, pos, length};
+ghost use Rattle.p25_c.specs.Items.{item_answer, item_text_left};
 ghost use Rattle.p25_c.specs.Streams.{HasSameBits, IsAppended, IsDibitsPushed, IsPushed, fresh_stream, is_stream, item_told, stream_asked, stream_moved, stream_room};
-ghost use Rattle.p25_text.specs.ItemTexts.{item_text_of};
-ghost use Rattle.p25_units.specs.Items.{IsSoundItem};
 
 use crate::dibits::append_dibits;
 use crate::items::{
     ITEM, ItemParts, NO_ITEM, OUTSIDE, blank, find_at, is_inside, item_parts, tell_item,
 };
-use p25_units::Item;
 
 // The stream has ended; dibits wait for their octet.
 const ENDED: i32 = -6;
@@ -121,7 +118,11 @@ pub extern "C" fn p25_stream_next(stream: &mut Stream, item: &mut ItemParts, tex
     ) {
         return NO_ITEM;
     }
-    tell(&found, item, text);
+    if text.is_empty() {
+        *item = item_parts(&found, 0);
+    } else {
+        tell_item(&found, item, text);
+    }
     stream.from += found.covered();
     ITEM
 }
@@ -182,18 +183,4 @@ fn append(stream: &mut Stream, octets: &[u8]) -> i32
     stream.octets[held..held + count].copy_from_slice(&octets[..count]);
     stream.held += count as u32;
     count as i32
-}
-
-// Tells an item: its numbers, and its text where there is room for any.
-fn tell(found: &Item, item: &mut ItemParts, text: &mut [u8])
-    requires { IsSoundItem found.now }
-    ensures item { item.new ≡ (if length text.old == 0 then numbers_of found.now else parts_of found.now) }
-    ensures text { text.new ≡ text_left (item_text_of found.now) text.old }
-    ensures short { item.new.text_length ≤ 8191 }
-{
-    if text.is_empty() {
-        *item = item_parts(found, 0);
-    } else {
-        tell_item(found, item, text);
-    }
 }

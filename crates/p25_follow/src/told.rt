@@ -53,17 +53,6 @@ fn sync_errors(bits: &BitBuf, at: usize) -> u32
     sync_distance(bits.field(at, SYNC_LENGTH as u32))
 }
 
-// In how many of its first 63 bits the identifier of the unit whose sent bits begin at a place differs from that of a name. So many bits
-// of its sync are wrong.
-fn name_errors(bits: &BitBuf, at: usize, sync: u32, name: &Nid) -> u32
-    requires there { at + 114 ≤ length bits.now }
-    requires sync { sync ≡ sync_errors_of (part at 114 bits.now) }
-    ensures value { result ≡ name_errors_of (name_of name.now) (part at 114 bits.now) }
-    ensures most { result ≤ 111 }
-{
-    front_fixes(bits, at, name) - sync
-}
-
 // A kind that may come, and in how many of its first 63 bits the identifier differs from that of such a unit.
 #[derive(Clone, Copy)]
 struct Near {
@@ -71,7 +60,7 @@ struct Near {
     wrong: u32,
 }
 
-// How near a unit of a kind is, after one with a name.
+// How near a unit of a kind is, after one with a name. So many bits of its sync are wrong.
 fn nearness(before: &Nid, bits: &BitBuf, at: usize, sync: u32, kind: u8) -> Near
     requires there { at + 114 ≤ length bits.now }
     requires sync { sync ≡ sync_errors_of (part at 114 bits.now) }
@@ -81,7 +70,7 @@ fn nearness(before: &Nid, bits: &BitBuf, at: usize, sync: u32, kind: u8) -> Near
 {
     Near {
         kind,
-        wrong: name_errors(bits, at, sync, &with_kind(before, kind)),
+        wrong: front_fixes(bits, at, &with_kind(before, kind)) - sync,
     }
 }
 

@@ -83,7 +83,8 @@ impl Sink for SliceSink<'_> {
             self.faults = self.faults.saturating_add(1);
             return Err(Failed);
         }
-        let count = put(self.room, self.len, piece);
+        let count = piece.len().min(self.room.len() - self.len);
+        self.room[self.len..self.len + count].copy_from_slice(&piece[..count]);
         self.len += count;
         if count < piece.len() {
             self.faults = self.faults.saturating_add(1);
@@ -91,15 +92,4 @@ impl Sink for SliceSink<'_> {
         }
         Ok(())
     }
-}
-
-// Copies as many octets of the piece as fit into the room from that place on, and answers how many.
-fn put(room: &mut [u8], at: usize, piece: &[u8]) -> usize
-    requires { at ≤ length room.old }
-    ensures count { result ≡ min (length piece.now) (length room.old - at) }
-    ensures copied { take (at + result) room.new ≡ take at room.old ++ take result piece.now }
-{
-    let count = piece.len().min(room.len() - at);
-    room[at..at + count].copy_from_slice(&piece[..count]);
-    count
 }

@@ -53,16 +53,12 @@ impl<R: Read, W: Write> Port for Streams<R, W> {
     ghost joins = { StreamsGo-joins R.remaining W.contents };
 
     fn read(&mut self, buf: &mut [u8]) -> Result<usize, Failed> {
-        match self.reader.read(buf) {
-            Ok(count) => {
-                self.history = self.history.then(&Note::Read(&buf[..count]));
-                Ok(count)
-            }
-            Err(failed) => {
-                self.history = self.history.then(&Note::ReadFailed);
-                Err(failed)
-            }
-        }
+        let result = self.reader.read(buf);
+        self.history = match result {
+            Ok(count) => self.history.then(&Note::Read(&buf[..count])),
+            Err(_) => self.history.then(&Note::ReadFailed),
+        };
+        result
     }
 
     fn write(&mut self, piece: &[u8]) -> Result<(), Failed> {

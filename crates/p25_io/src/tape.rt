@@ -104,16 +104,14 @@ impl Port for Tape<'_> {
 
     fn write(&mut self, piece: &[u8]) -> Result<(), Failed> {
         let before = self.sink.written().len();
-        match self.sink.write(piece) {
-            Ok(()) => {
-                self.keep(&Note::Wrote(piece));
-                Ok(())
-            }
-            Err(failed) => {
+        let result = self.sink.write(piece);
+        match result {
+            Ok(()) => self.keep(&Note::Wrote(piece)),
+            Err(_) => {
                 let count = self.sink.written().len() - before;
                 self.keep(&Note::WriteFailed(piece, count));
-                Err(failed)
             }
         }
+        result
     }
 }

@@ -72,17 +72,12 @@ impl HeaderWord {
         ensures { IsWordOf header_symbols header_of_symbols symbols.now result }
     {
         let rest = symbols_number(&symbols[12..]);
-        let mfid = ((rest >> 40) % 256) as u8;
-        let algid = ((rest >> 32) % 256) as u8;
-        let kid = ((rest >> 16) % 65536) as u16;
-        let tgid = (rest % 65536) as u16;
-        let mi = first_octets(symbols);
         HeaderWord {
-            mi,
-            mfid,
-            algid,
-            kid,
-            tgid,
+            mi: first_octets(symbols),
+            mfid: ((rest >> 40) % 256) as u8,
+            algid: ((rest >> 32) % 256) as u8,
+            kid: ((rest >> 16) % 65536) as u16,
+            tgid: (rest % 65536) as u16,
         }
     }
 }

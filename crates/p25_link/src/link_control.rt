@@ -1,9 +1,7 @@
 //! Link control (LC).
 
-ghost use Rattle.std.specs.Prelude.{◌≡◌, ◌≢◌, ◌↔◌, ◌+◌, ◌*◌, slice_index};
-ghost use Rattle.p25_link.specs.Words.{link_symbols, link_of_symbols, AreSymbolsOf, IsLinkControl, IsWordOf};
-ghost use Rattle.p25_link.specs.Kinds.{link_kind_of, group_call, individual_call};
-ghost use Rattle.p25_bits.specs.Numbers.{triple_at};
+ghost use Rattle.std.specs.Prelude.{◌≡◌, ◌≢◌, ◌↔◌, slice_index};
+ghost use Rattle.p25_link.specs.{Kinds.{link_kind_of}, Words.{link_symbols, link_of_symbols, AreSymbolsOf, IsLinkControl, IsWordOf}};
 
 use crate::symbols::{first_octets, symbols_of};
 use p25_bits::{pair_at, triple_at};
@@ -61,43 +59,20 @@ impl LinkControl {
         ensures value { result ≡ link_kind_of self.now }
         ensures other { (result ≡ LinkKind.Other) ↔ ((slice_index self.now.0 0 ≢ 0) × (slice_index self.now.0 0 ≢ 3)) }
     {
+        let source = triple_at(&self.0, 6);
         match self.0[0] {
-            0x00 => self.group_call(),
-            0x03 => self.individual_call(),
+            0x00 => LinkKind::Group {
+                mfid: self.0[1],
+                emergency: self.0[2] / 128 == 1,
+                group: pair_at(&self.0, 4),
+                source,
+            },
+            0x03 => LinkKind::Individual {
+                mfid: self.0[1],
+                destination: triple_at(&self.0, 3),
+                source,
+            },
             _ => LinkKind::Other,
         }
-    }
-}
-
-#[tactic(auto, unfolding(crate::specs::Kinds::group_call, crate::specs::Kinds::individual_call))]
-impl LinkControl {
-    // Answers the call to a group that the octets describe.
-    fn group_call(&self) -> LinkKind
-        ensures { result ≡ group_call self.now }
-    {
-        LinkKind::Group {
-            mfid: self.0[1],
-            emergency: self.0[2] / 128 == 1,
-            group: pair_at(&self.0, 4),
-            source: self.source(),
-        }
-    }
-
-    // Answers the call from unit to unit that the octets describe.
-    fn individual_call(&self) -> LinkKind
-        ensures { result ≡ individual_call self.now }
-    {
-        LinkKind::Individual {
-            mfid: self.0[1],
-            destination: triple_at(&self.0, 3),
-            source: self.source(),
-        }
-    }
-
-    // Answers the unit that speaks.
-    fn source(&self) -> u32
-        ensures { result ≡ triple_at self.now.0 6 }
-    {
-        triple_at(&self.0, 6)
     }
 }

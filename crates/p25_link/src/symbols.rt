@@ -6,19 +6,6 @@ ghost use Rattle.p25_link.specs.{Words.{AreNineOctets}, Symbols.{symbols_in, sym
 
 use p25_gf64::Sym;
 
-// Answers the number that the bits of nine octets write.
-pub(crate) fn octets_number(octets: &[u8; 9]) -> u128
-    ensures value { result ≡ field_of (octet_bits octets.now) }
-    ensures fits { result < 2 ^ 72 }
-    ensures nine { AreNineOctets octets.now }
-{
-    let mut number = 0;
-    for octet in octets {
-        number = 256 * number + u128::from(*octet);
-    }
-    number
-}
-
 // Answers the symbols of nine octets and of the last bits of a number after them, as many bits as the symbols have left.
 pub(crate) fn symbols_of<const N: usize>(octets: &[u8; 9], rest: u64) -> [Sym; N]
     requires least { 12 ≤ N }
@@ -28,9 +15,12 @@ pub(crate) fn symbols_of<const N: usize>(octets: &[u8; 9], rest: u64) -> [Sym; N
     ensures len { length result ≡ N }
     ensures nine { AreNineOctets octets.now }
 {
-    let number = (octets_number(octets) << (6 * N - 72)) + u128::from(rest);
+    let mut number = 0;
+    for octet in octets {
+        number = 256 * number + u128::from(*octet);
+    }
     let mut symbols = [Sym::ZERO; N];
-    put_symbols(number, &mut symbols);
+    put_symbols((number << (6 * N - 72)) + u128::from(rest), &mut symbols);
     symbols
 }
 

@@ -138,31 +138,6 @@ fn soften_item(item: &Item, levels: &HeldLevels, raw: &mut BitBuf)
     let _ = soften(item, levels.part(at, count), raw);
 }
 
-// Sets `out` to the octets that an item's bits, softened, fill after those kept back, and lets the levels go before the group
-// of the place after it.
-fn put_item(
-    item: &Item,
-    levels: &mut HeldLevels,
-    kept: &mut BitBuf,
-    raw: &mut BitBuf,
-    out: &mut Line,
-)
-    requires heard { is_even_packet item.now ≡ true → IsHeardAmong item.now levels.old raw.old }
-    requires kept { length kept.old < 8 }
-    requires there { first_level (place_of item.now + covered item.now) - first_level (place_of item.now) ≤ length levels.old }
-    requires fits { place_of item.now + covered item.now < 2 ^ 61 }
-    ensures piece { out.new ≡ whole_octets (kept.old ++ item_softened (first_level (place_of item.now)) levels.old item.now raw.old) }
-    ensures behind { kept.new ≡ unfilled (kept.old ++ item_softened (first_level (place_of item.now)) levels.old item.now raw.old) }
-    ensures few { length kept.new < 8 }
-    ensures left { levels.new ≡ drop (first_level (place_of item.now + covered item.now) - first_level (place_of item.now)) levels.old }
-{
-    soften_item(item, levels, raw);
-    put_behind(kept, raw, out);
-    let place = item.place();
-    let behind = place + item.covered();
-    levels.drop_front((4 * (behind / 8) - 4 * (place / 8)) as usize);
-}
-
 impl Soft {
     /// Answers the work before the first octet.
     pub fn new() -> Soft
@@ -176,14 +151,22 @@ impl Soft {
         }
     }
 
-    // Sets `out` to the octets that are written of the next item. There is one.
+    // Sets `out` to the octets that are written of the next item, and lets the levels go before the group of the place after it. There is
+    // one.
     fn put_next(&mut self, out: &mut Line)
         requires { given self.old.scan ≢ [] }
         ensures { PutSoftItem self.old out.new self.new }
     {
         // An item is large: it is not moved.
         match &self.scanner.next(&mut self.raw) {
-            Some(item) => put_item(item, &mut self.levels, &mut self.kept, &mut self.raw, out),
+            Some(item) => {
+                soften_item(item, &self.levels, &mut self.raw);
+                put_behind(&mut self.kept, &self.raw, out);
+                let place = item.place();
+                let behind = place + item.covered();
+                self.levels
+                    .drop_front((4 * (behind / 8) - 4 * (place / 8)) as usize);
+            }
             None => unreachable!(),
         }
     }

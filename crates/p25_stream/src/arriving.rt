@@ -25,34 +25,13 @@ pub(crate) fn put_some(octets: &[u8], held: &mut BitBuf) -> usize
     ensures count { result ≡ octets_taken (length held.old) (length octets.now) }
 {
     if octets.len() < 8 || held.len() + 64 > HELD_MOST {
-        put_one(octets, held);
+        held.put_field(u64::from(octets[0]), 8);
         return 1;
     }
-    put_eight(octets, held);
-    8
-}
-
-// Appends the bits of the first octet.
-fn put_one(octets: &[u8], held: &mut BitBuf)
-    requires some { 0 < length octets.now }
-    requires room { length held.old + 8 ≤ 25928 }
-    ensures list { held.new ≡ held.old ++ octet_bits (take 1 octets.now) }
-    ensures len { length held.new ≡ length held.old + 8 }
-{
-    held.put_field(u64::from(octets[0]), 8);
-}
-
-// Appends the bits of the first eight octets.
-#[inline]
-fn put_eight(octets: &[u8], held: &mut BitBuf)
-    requires some { 8 ≤ length octets.now }
-    requires room { length held.old + 64 ≤ 25928 }
-    ensures list { held.new ≡ held.old ++ octet_bits (take 8 octets.now) }
-    ensures len { length held.new ≡ length held.old + 64 }
-{
     octets_fit(octets);
     let word = u64::from_be_bytes([
         octets[0], octets[1], octets[2], octets[3], octets[4], octets[5], octets[6], octets[7],
     ]);
     held.put_field(word, 64);
+    8
 }

@@ -32,9 +32,7 @@ impl Judged {
         match self {
             Judged::Searching(clear) => have.saturating_sub(BEHIND) <= *clear,
             Judged::Waiting(count, _) => have < *count,
-            Judged::Gap(_) => false,
-            Judged::Ready(_, _) => false,
-            Judged::NoUnit(_) => false,
+            Judged::Gap(_) | Judged::Ready(_, _) | Judged::NoUnit(_) => false,
         }
     }
 
@@ -43,11 +41,8 @@ impl Judged {
         ensures { result ≡ is_settled self.now }
     {
         match self {
-            Judged::Searching(_) => false,
-            Judged::Waiting(_, _) => false,
-            Judged::Gap(_) => true,
-            Judged::Ready(_, _) => true,
-            Judged::NoUnit(_) => true,
+            Judged::Searching(_) | Judged::Waiting(_, _) => false,
+            Judged::Gap(_) | Judged::Ready(_, _) | Judged::NoUnit(_) => true,
         }
     }
 }

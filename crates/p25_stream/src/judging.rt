@@ -108,17 +108,12 @@ fn none_of_sixteen(number: u64) -> bool
     requires fits { number < 2 ^ 63 }
     ensures { result ≡ true → (place : ℕ) → place < 16 → has_sync (part place 48 (bits_of 63 number)) ≡ false }
 {
-    few_of_sixteen(number)
-        || (none_of_eight(number >> AT_ONCE) && none_of_eight(number % (1 << (BEHIND + AT_ONCE))))
-}
-
-// Whether two counts of ones tell that none of the first 16 places of 63 bits has a sync.
-fn few_of_sixteen(number: u64) -> bool
-    requires fits { number < 2 ^ 63 }
-    ensures { result ≡ true → (place : ℕ) → place < 16 → has_sync (part place 48 (bits_of 63 number)) ≡ false }
-{
-    (number & WIDE_ONES_AT_EVEN).count_ones() < WIDE_ONES_LEAST
+    if (number & WIDE_ONES_AT_EVEN).count_ones() < WIDE_ONES_LEAST
         && (number & WIDE_ONES_AT_ODD).count_ones() < WIDE_ONES_LEAST
+    {
+        return true;
+    }
+    none_of_eight(number >> AT_ONCE) && none_of_eight(number % (1 << (BEHIND + AT_ONCE)))
 }
 
 // What is known of bits that begin with a sync.
@@ -207,9 +202,7 @@ fn judge_more(judged: &mut Judged, held: &BitBuf)
                 *judged = judged_at_sync(held, begun);
             }
         }
-        Judged::Gap(_) => unreachable!(),
-        Judged::Ready(_, _) => unreachable!(),
-        Judged::NoUnit(_) => unreachable!(),
+        Judged::Gap(_) | Judged::Ready(_, _) | Judged::NoUnit(_) => unreachable!(),
     }
 }
 

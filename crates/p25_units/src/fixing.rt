@@ -7,6 +7,7 @@ ghost use Rattle.p25_units.specs.{Fixes.{body_fixes_of, fixes_of}, Units.{IsSoun
 use crate::frame::{Frame, frame_length};
 use crate::sending::unit_image;
 use crate::unit::{Body, Unit};
+use p25_bch_nid::Nid;
 use p25_bits::BitBuf;
 use p25_packet_blocks::{BLOCK_LENGTH, HEADER_AT};
 use p25_status::{Statuses, unweave};
@@ -25,7 +26,11 @@ pub fn fixes(bits: &BitBuf, at: usize, frame: &Frame) -> u32
     unweave(bits, at, count, &mut bare, &mut Statuses::new());
     let mut image = BitBuf::new();
     unit_image(&frame.unit, &mut image);
-    front_fixes(bits, at, &frame.unit.identifier()) + body_fixes(&bare, &image, &frame.unit)
+    let nid = Nid {
+        nac: frame.unit.nac(),
+        duid: frame.unit.body().duid(),
+    };
+    front_fixes(bits, at, &nid) + body_fixes(&bare, &image, &frame.unit)
 }
 
 // Counts the wrong bits at the places after the front that a reader looks at, by the bits without status symbols that were received

@@ -4,8 +4,8 @@ ghost use Rattle.std.specs.Prelude.{◌≡◌, ◌≤◌, ◌<◌, ◌*◌};
 ghost use Rattle.p25_units.specs.Units.{IsSendableBody, IsSoundFrame, IsWholeBody, filled_frame, frame_length_of};
 
 use crate::unit::{Body, Unit};
+use p25_packet_blocks::packet_length;
 use p25_status::{BARE_BLOCK_LENGTH, SENT_BLOCK_LENGTH, Status, Statuses};
-use p25_voice_units::VoiceUnit;
 
 /// A unit and its status symbols. It is sound where a packet in it is whole and there is one symbol for each 72 of
 /// its sent bits.
@@ -18,14 +18,6 @@ pub struct Frame {
 }
 
 impl Frame {
-    // A frame into which another is read.
-    pub(crate) fn blank() -> Frame {
-        Frame {
-            unit: Unit::new(0, Body::Voice(VoiceUnit::End)),
-            statuses: Statuses::new(),
-        }
-    }
-
     /// Answers the frame of a unit whose status symbols are all the same one, as many as its length asks for: one for each 72 of its
     /// sent bits. It is sound where no slot of a packet is Bad. TIA-102.BAAA, Status Symbols.
     pub fn filled(unit: Unit, status: Status) -> Frame
@@ -44,5 +36,8 @@ pub fn frame_length(unit: &Unit) -> usize
     ensures value { result ≡ frame_length_of unit.now }
     ensures most { result ≤ 25920 }
 {
-    unit.body().length() / BARE_BLOCK_LENGTH * SENT_BLOCK_LENGTH
+    match unit.body() {
+        Body::Voice(voice) => voice.length() / BARE_BLOCK_LENGTH * SENT_BLOCK_LENGTH,
+        Body::Packet(packet) => packet_length(&packet.head()),
+    }
 }

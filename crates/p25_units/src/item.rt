@@ -8,9 +8,11 @@ ghost use Rattle.p25_units.specs.{declared.item.Item.TheVariants.{Broken, Cut, W
 use crate::begun::Begun;
 use crate::frame::{Frame, frame_length};
 use crate::read::read_frame;
+use crate::unit::{Body, Unit};
 use p25_bch_nid::Nid;
 use p25_bits::BitBuf;
-use p25_status::{Field, FieldList, ReadOutcome};
+use p25_status::{Field, FieldList, ReadOutcome, Statuses};
+use p25_voice_units::VoiceUnit;
 
 /// A stretch of a stream. Places count bits from the beginning of the stream.
 #[derive(Clone, Debug, Drop, PartialEq, Eq)]
@@ -92,7 +94,10 @@ impl Item {
             _ => {
                 *self = Item::Whole {
                     place: 0,
-                    frame: Frame::blank(),
+                    frame: Frame {
+                        unit: Unit::new(0, Body::Voice(VoiceUnit::End)),
+                        statuses: Statuses::new(),
+                    },
                     fixes: 0,
                 };
             }

@@ -4,12 +4,12 @@ ghost use Rattle.std.specs.Prelude.{◌≡◌, ℕ, ◌<◌, ◌≤◌, Ok, Some
 ghost use Rattle.p25_status.specs.Outcomes.{IfRead, read_or};
 ghost use Rattle.p25_voice_units.specs.{Lengths.{voice_length_of}, Readings.{voice_reading_of}};
 ghost use Rattle.p25_packet_blocks.specs.Reading.{header_bits, packet_reading_of, read_head_of, HasItsLength};
-ghost use Rattle.p25_units.specs.{Fixes.{body_fixes_of}, Readings.{body_from, packet_body_from}, Units.{body_duid, body_length}};
+ghost use Rattle.p25_units.specs.{Fixes.{body_fixes_of}, Readings.{body_from, packet_body_from}, Units.{body_duid}};
 
 use p25_bch_nid::{Nid, PDU};
 use p25_bits::BitBuf;
-use p25_packet_blocks::{Packet, ReadHead, packet_length};
-use p25_status::{BARE_BLOCK_LENGTH, ReadOutcome, SENT_BLOCK_LENGTH};
+use p25_packet_blocks::{Packet, ReadHead};
+use p25_status::ReadOutcome;
 use p25_voice_units::{VoiceUnit, read_voice_in};
 use std::marker::Model;
 
@@ -31,18 +31,6 @@ impl Body {
         match self {
             Body::Voice(voice) => voice.duid(),
             Body::Packet(_) => PDU,
-        }
-    }
-
-    // How many bits the unit has without status symbols.
-    pub(crate) fn length(&self) -> usize
-        ensures value { result ≡ body_length self.now }
-        ensures most { result ≤ 25200 }
-    {
-        match self {
-            Body::Voice(voice) => voice.length(),
-            Body::Packet(packet) => packet_length(&packet.head()) / SENT_BLOCK_LENGTH
-                * BARE_BLOCK_LENGTH,
         }
     }
 }
@@ -145,16 +133,5 @@ impl Unit {
         ensures { result.now ≡ self.now.body }
     {
         &self.body
-    }
-
-    // The network identifier (NID) that is sent for the unit.
-    pub(crate) fn identifier(&self) -> Nid
-        ensures nac { result.nac ≡ self.now.nac }
-        ensures duid { result.duid ≡ body_duid self.now.body }
-    {
-        Nid {
-            nac: self.nac,
-            duid: self.body.duid(),
-        }
     }
 }

@@ -2,7 +2,7 @@
 
 ghost use Rattle.std.specs.Prelude.{◌≡◌, ◌+◌, ◌*◌, ◌≤◌, All, Some, length};
 ghost use Rattle.p25_bits.specs.Distance.{distance_of};
-ghost use Rattle.p25_voice_units.specs.{Fixes.{wide, link_looked, bits_at, voice_fixes_of}, Lengths.{voice_duid, voice_length_of}};
+ghost use Rattle.p25_voice_units.specs.{Fixes.{wide, bits_at, voice_fixes_of}, Lengths.{voice_duid, voice_length_of}};
 
 use crate::laws::part_places;
 use crate::places::{HDU_WORDS, LDU_WORDS, LOW_WORDS, TDULC_WORDS};
@@ -21,20 +21,12 @@ pub fn voice_fixes(unit: &VoiceUnit, received: &BitBuf, image: &BitBuf) -> u32
     part_places();
     match unit {
         VoiceUnit::Header(_) => differing(&HDU_WORDS, 18, received, image),
-        VoiceUnit::Link1 { .. } | VoiceUnit::Link2 { .. } => ldu_fixes(received, image),
+        VoiceUnit::Link1 { .. } | VoiceUnit::Link2 { .. } => {
+            differing(&LDU_WORDS, 10, received, image) + differing(&LOW_WORDS, 16, received, image)
+        }
         VoiceUnit::End => 0,
         VoiceUnit::EndLink { .. } => differing(&TDULC_WORDS, 24, received, image),
     }
-}
-
-// Counts the wrong bits of the words of an LDU1 or an LDU2.
-fn ldu_fixes(received: &BitBuf, image: &BitBuf) -> u32
-    requires received { 1680 ≤ length received.now }
-    requires image { 1680 ≤ length image.now }
-    ensures value { result ≡ distance_of (bits_at link_looked received.now) (bits_at link_looked image.now) }
-    ensures most { result ≤ 272 }
-{
-    differing(&LDU_WORDS, 10, received, image) + differing(&LOW_WORDS, 16, received, image)
 }
 
 // Counts the bits in which two lists differ within the `width` bits at each of the places.

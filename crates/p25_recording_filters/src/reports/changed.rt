@@ -149,18 +149,7 @@ pub fn put_octets(bits: &BitBuf, at: usize, out: &mut Line)
     for k in 0..words {
         out.put(&bits.field(at + 64 * k, 64).to_be_bytes());
     }
-    put_last_octets(bits, at + 64 * words, out);
-}
-
-// Appends the octets that the bits from a place on fill, one after the other. There is room for them.
-fn put_last_octets(bits: &BitBuf, at: usize, out: &mut Line)
-    requires there { at ≤ length bits.now }
-    requires room { length out.old + (length bits.now - at) / 8 ≤ 8192 }
-    ensures list { out.new ≡ out.old ++ whole_octets (drop at bits.now) }
-    ensures len { length out.new ≡ length out.old + (length bits.now - at) / 8 }
-{
-    let count = (bits.len() - at) / 8;
-    for k in 0..count {
-        out.put(&[bits.field(at + 8 * k, 8) as u8]);
+    for j in 8 * words..(bits.len() - at) / 8 {
+        out.put(&[bits.field(at + 8 * j, 8) as u8]);
     }
 }

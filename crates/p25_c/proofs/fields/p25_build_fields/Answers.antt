@@ -1,15 +1,25 @@
-use Rattle.std.proofs.Common.{rules}
-use Rattle.p25_c.proofs.BuildingSteps.{refused-none, told-back, under-refused, under-sent}
+use Rattle.std.proofs.Common.{◌≡◌, ◌*◌, rules, sym, subst}
+use Rattle.p25_units.specs.{UnitParts.{UnitParts}, Units.{IsWholeBody, frame_length_of}}
+use Rattle.p25_c.specs.{Fields.{fields_built}, Rooms.{IsWriting}}
+use Rattle.p25_c.proofs.{BoundsLaws.{voice-count}, BuildingSteps.{refused-none, told-back, under-refused, under-sent}}
 use Rattle.p25_c.proofs.fields.p25_build_fields.Goals as goal
 
-pub returns-in-Ok-clause-built : goal.returns-in-Ok-clause-built
-returns-in-Ok-clause-built c = under-sent _ _ _ _ _ _ c.build_voice.result (search rules) c.in-Ok.ensures.symbol c.build_voice.ensures.value
+pub write_whole-requires : goal.write_whole-requires
+unfolding IsWholeBody
+write_whole-requires c = subst (λ (u : UnitParts). IsWholeBody u.body) (sym c.new.ensures) tt
+
+pub returns-in-Some-clause-built : goal.returns-in-Some-clause-built
+returns-in-Some-clause-built c =
+    let one : IsWriting (fields_built c.in-Ok.symbol c.args.fields.now) c.args.octets.now c.write_whole.new.octets c.write_whole.result = search rules in
+    under-sent _ _ _ _ _ _ c.write_whole.result (search rules) c.in-Ok.ensures.symbol one
+
+pub returns-in-Some-clause-count : goal.returns-in-Some-clause-count
+returns-in-Some-clause-count c = λ count same.
+    let long = c.write_whole.ensures.count count (told-back c.write_whole.result (search rules) same) in
+    voice-count _ c.in-Some.voice count (subst (λ (u : UnitParts). 8 * count ≡ frame_length_of u) c.new.ensures long)
 
 pub returns-in-Err-clause-built : goal.returns-in-Err-clause-built
 returns-in-Err-clause-built c = under-refused _ _ _ _ _ c.in-Err.ensures.answer
-
-pub returns-in-Ok-clause-count : goal.returns-in-Ok-clause-count
-returns-in-Ok-clause-count c = λ count same. c.build_voice.ensures.count count (told-back c.build_voice.result (search rules) same)
 
 pub returns-in-Err-clause-count : goal.returns-in-Err-clause-count
 returns-in-Err-clause-count c = λ count same. absurd (refused-none c.args.fields.now.nac c.args.status count _ c.in-Err.ensures.answer same)

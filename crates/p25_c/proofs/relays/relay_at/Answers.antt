@@ -1,5 +1,6 @@
-use Rattle.std.proofs.{Common.{◌≡◌, ◌-◌, ◌∙◌, [], ℤ, List, Bool, true, Option, Ok, drop, rules, subst, sym, ap, to_z, of_z, w32}, lemmas.Int.{to_z-of_z}}
+use Rattle.std.proofs.{Common.{◌≡◌, ◌+◌, ◌-◌, ◌*◌, ◌≤◌, ◌∙◌, arith, length, [], ℤ, List, Bool, true, Option, Ok, drop, rules, subst, sym, ap, to_z, of_z, w32}, lemmas.Int.{to_z-of_z}}
 use Rattle.p25_bits.specs.Bits.{octet_bits, part}
+use Rattle.p25_bits.proofs.{BitsLaws.{length-octet_bits}, PartLaws.{length-part}}
 use Rattle.p25_units.specs.{Items.{covered}, Units.{whole_octets}, declared.item.Item.{Item}}
 use Rattle.p25_follow.specs.Relayed.{relayed}
 use Rattle.p25_c.specs.{Places.{filled}, Relays.{asked_relayed}, Rooms.{IsWriting}}
@@ -17,11 +18,20 @@ returns-then-not-find_item c =
     relay-none c.args.nac c.args.status _ (drop (c.args.from - c.args.begin) (octet_bits c.args.octets.now)) c.args.into.now
     (items_asked-inside true c.args.begin c.args.from c.args.octets.now [] (sym c.is_inside.ensures ∙ c.if-not-is_inside.false) (c.find_item.ensures.none c.if-not-find_item.true).0)
 
-pub relay_found-requires : goal.relay_found-requires
-relay_found-requires c =
+pub cut-requires : goal.cut-requires
+cut-requires c =
     let inside = sym c.is_inside.ensures ∙ c.if-not-is_inside.false in
     let found = found-at c.args.begin c.args.from c.args.octets.now c.find_item.new.item inside (c.find_item.ensures.first c.if-not-find_item.false) in
-    record { sound = search rules; fits = found.fits; there = found.there; few = found.few; near = found.near; nac = c.requires }
+    record { there = omega (arith, found.there, c.covered.ensures.value); few = omega (arith, found.few, c.covered.ensures.value); near = found.near }
+
+pub relay_item-requires : goal.relay_item-requires
+relay_item-requires c =
+    let inside = sym c.is_inside.ensures ∙ c.if-not-is_inside.false in
+    let found = found-at c.args.begin c.args.from c.args.octets.now c.find_item.new.item inside (c.find_item.ensures.first c.if-not-find_item.false) in
+    let at = c.args.from - c.args.begin in
+    let bits = octet_bits c.args.octets.now in
+    let there : at + c.covered.result ≤ length bits = omega (arith, found.there, c.covered.ensures.value, length-octet_bits c.args.octets.now) in
+    record { sound = search rules; fits = found.fits; nac = c.requires; raw = ap length c.cut.ensures ∙ length-part at c.covered.result bits there ∙ c.covered.ensures.value }
 
 pub returns : goal.returns
 returns c =
@@ -33,7 +43,8 @@ returns c =
     let left = c.write_bits.new.room in
     let asked = items_asked-inside true c.args.begin c.args.from c.args.octets.now _ inside first.items in
     let sent : c.fill.new.bits ≡ filled (relayed c.args.nac c.args.status item (part (c.args.from - c.args.begin) (covered item) (octet_bits c.args.octets.now)))
-    = c.fill.ensures ∙ ap filled c.relay_found.ensures in
+    = c.fill.ensures ∙ ap filled (c.relay_item.ensures ∙ ap (relayed c.args.nac c.args.status item)
+    (c.cut.ensures ∙ ap (λ n. part (c.args.from - c.args.begin) n (octet_bits c.args.octets.now)) c.covered.ensures.value)) in
     subst (λ (some : Option (List Item)). IsWriting (asked_relayed c.args.nac c.args.status some bits) c.args.into.now left (to_z w32 (of_z w32 c.write_bits.result))) (sym asked)
     (subst (λ (z : ℤ). IsWriting (Ok (whole_octets (filled
     (relayed c.args.nac c.args.status item (part (c.args.from - c.args.begin) (covered item) (octet_bits c.args.octets.now)))))) c.args.into.now left z)

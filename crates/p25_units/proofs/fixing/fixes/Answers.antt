@@ -1,7 +1,7 @@
 use Rattle.std.proofs.Common.{ap, arith, ◌∙◌}
 use Rattle.p25_bits.specs.Bits.{part}
 use Rattle.p25_status.specs.Woven.{bare_of}
-use Rattle.p25_units.specs.Fixes.{body_fixes_of}
+use Rattle.p25_units.specs.{Fixes.{body_fixes_of}, Units.{body_duid}}
 use Rattle.p25_units.proofs.{UnitsLaws.{blocks-sound, symbols-sound}, FixesLaws.{fixes_in}}
 use Rattle.p25_units.proofs.fixing.fixes.Goals as goal
 
@@ -23,7 +23,7 @@ body_fixes-requires-clause-long c =
 pub returns : goal.returns
 returns c =
     let unit = c.args.frame.now.unit in
-    fixes_in c.args.frame.now c.args.bits.now c.args.at c.identifier.result.nac
-    c.identifier.result.duid c.requires.sound c.unit_image.ensures.sendable c.requires.there c.identifier.ensures.nac c.identifier.ensures.duid
+    fixes_in c.args.frame.now c.args.bits.now c.args.at c.nac.result
+    c.duid.result c.requires.sound c.unit_image.ensures.sendable c.requires.there c.nac.ensures.value (c.duid.ensures.value ∙ ap body_duid c.body.ensures)
     c.front_fixes.result c.body_fixes.result c.front_fixes.ensures.value
     (c.body_fixes.ensures.value ∙ ap (body_fixes_of unit) (c.unweave.ensures.bare ∙ ap (λ count. bare_of (part c.args.at count c.args.bits.now)) c.frame_length-count.ensures.value))

@@ -13,4 +13,4 @@ returns c =
     let kid = rest_field c.args.symbols.now 8 16 16 rest.result (omega arith) rest.ensures.value (lit≤ tt) in
     let tgid : rest.result % 2 ^ 16 ≡ field_of (part 104 16 (symbol_bits c.args.symbols.now))
     = omega (arith, rest_field c.args.symbols.now 8 32 16 rest.result (omega arith) rest.ensures.value (lit≤ tt)) in
-    made_word header_symbols header_of_symbols IsHeaderWord 20 header_words c.args.symbols.now _ (omega arith) (same_header _ _ c.first_octets-mi.ensures.list mfid algid kid tgid)
+    made_word header_symbols header_of_symbols IsHeaderWord 20 header_words c.args.symbols.now _ (omega arith) (same_header _ _ c.first_octets.ensures.list mfid algid kid tgid)

@@ -1,7 +1,7 @@
-use Rattle.std.proofs.Common.{◌≡◌, ℕ, ◌+◌, ◌-◌, ◌*◌, ◌/◌, List, ◌++◌, length, drop, ap, ◌∙◌, arith, append_assoc}
-use Rattle.p25_bits.specs.Numbers.{octets_from}
-use Rattle.p25_units.specs.Units.{whole_octets}
-use Rattle.p25_recording_filters.proofs.OctetsLaws.{octets-all, octets-more, octets-none, octets-on}
+use Rattle.std.proofs.Common.{◌≡◌, ℕ, ◌+◌, ◌-◌, ◌*◌, ◌/◌, List, [], ◌∷◌, ◌++◌, length, drop, ap, sym, ◌∙◌, arith}
+use Rattle.p25_bits.specs.{Bits.{field_of}, Numbers.{octets_from}}
+use Rattle.p25_bits.proofs.{NumbersLaws.{numbers_from-more}, PartLaws.{part-drop}}
+use Rattle.p25_recording_filters.proofs.OctetsLaws.{octets-more, octets-none, octets-on}
 use Rattle.p25_recording_filters.proofs.reports.changed.put_octets.Goals as goal
 
 pub loop-k-init : goal.loop-k-init
@@ -20,15 +20,23 @@ loop-k-preserved c =
       len = omega (arith, c.put.ensures.len, c.loop-k.invariant.len);
     }
 
-pub returns-clause-list : goal.returns-clause-list
-returns-clause-list c =
+pub loop-j-init : goal.loop-j-init
+loop-j-init c =
+    let done : c.loop-k.k ≡ (c.len.result - c.args.at) / 64 = omega (arith, c.loop-k.auto.k-end) in
+    record {
+      list = c.loop-k.invariant.list ∙ ap (λ (k : ℕ). c.args.out.now ++ octets_from (8 * k) (drop c.args.at c.args.bits.now)) done;
+      len = omega (arith, c.loop-k.invariant.len, done);
+    }
+
+pub loop-j-preserved : goal.loop-j-preserved
+loop-j-preserved c =
     let bits = c.args.bits.now in
     let at = c.args.at in
-    let words = (c.len.result - at) / 64 in
-    let all : words ≡ (length bits - at) / 64 = ap (λ (n : ℕ). (n - at) / 64) c.len.ensures.value in
-    let done : c.loop-k.k ≡ words = omega (arith, c.loop-k.auto.k-end) in
-    let rest = whole_octets (drop (at + 64 * words) bits) in
-    c.put_last_octets.ensures.list
-    ∙ ap (λ (xs : List ℕ). xs ++ rest) (c.loop-k.invariant.list ∙ ap (λ (k : ℕ). c.args.out.now ++ octets_from (8 * k) (drop at bits)) done)
-    ∙ append_assoc c.args.out.now (octets_from (8 * words) (drop at bits)) rest
-    ∙ ap (λ (zs : List ℕ). c.args.out.now ++ zs) (octets-all bits at words all)
+    let j = c.loop-j.j in
+    record {
+      list =
+          octets-on c.args.out.now (octets_from j (drop at bits)) _ _ _ _ c.loop-j.invariant.list
+          (ap (λ (n : ℕ). octets_from j (drop at bits) ++ n ∷ []) (c.field-in-loop-j.ensures.value ∙ ap field_of (sym (part-drop (8 * j) 8 at bits))) ∙ sym (numbers_from-more 8 j (drop at bits)))
+          c.put-in-loop-j.ensures.list;
+      len = omega (arith, c.put-in-loop-j.ensures.len, c.loop-j.invariant.len);
+    }

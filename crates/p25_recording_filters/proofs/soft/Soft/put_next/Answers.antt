@@ -1,4 +1,4 @@
-use Rattle.std.proofs.Common.{◌≡◌, ◌++◌, ◌+◌, ◌-◌, [], List, Bool, Option, Some, drop, subst, sym, arith, ℕ, ℤ}
+use Rattle.std.proofs.Common.{◌≡◌, ◌++◌, ◌+◌, ◌-◌, [], List, Bool, Option, Some, drop, ap, ap₂, ◌∙◌, subst, sym, arith, ℕ, ℤ}
 use Rattle.std.specs.Prelude.{MatchOption}
 use Rattle.p25_units.specs.{declared.item.Item.{Item}, Items.{covered, place_of}, Units.{whole_octets}}
 use Rattle.p25_stream.specs.Scan.{Scan, Gave, given}
@@ -7,26 +7,23 @@ use Rattle.p25_recording_filters.proofs.{SoftLevelsLaws.{length-grouped}, SoftIt
 use Rattle.p25_recording_filters.proofs.SoftRecordingsLaws.{PutSoftItem-from, step-size}
 use Rattle.p25_recording_filters.proofs.soft.Soft.put_next.Goals as goal
 
+abbrev parts : Scan → List ℤ → List Bool → SoftParts
+parts scan levels kept = record { scan = scan; levels = levels; kept = kept }
+
 -- what a scanner gave
 gave-some : (scan next : Scan) (before raw : List Bool) (result : Option Item) (item : Item)
     → MatchOption result ((given scan ≡ []) × (next ≡ scan) × (raw ≡ before)) (λ item. Gave scan item raw next) → result ≡ Some item → Gave scan item raw next
 gave-some scan next before raw result item gave is =
     subst (λ (o : Option Item). MatchOption o ((given scan ≡ []) × (next ≡ scan) × (raw ≡ before)) (λ item. Gave scan item raw next)) is gave
 
-pub put_item-requires-clause-heard : goal.put_item-requires-clause-heard
-put_item-requires-clause-heard c =
+pub soften_item-requires : goal.soften_item-requires
+soften_item-requires c =
     let s = c.self.inside in
     let gave = gave-some s.scanner c.next.new.self s.raw c.next.new.raw c.next.result c.in-Some.item c.next.ensures.given c.in-Some.is in
     λ even. heard-given s.scanner c.next.new.self s.levels c.in-Some.item c.next.new.raw c.self.invariant.0 gave even
 
-pub put_item-requires-clause-there : goal.put_item-requires-clause-there
-put_item-requires-clause-there c =
-    let s = c.self.inside in
-    let gave = gave-some s.scanner c.next.new.self s.raw c.next.new.raw c.next.result c.in-Some.item c.next.ensures.given c.in-Some.is in
-    gone-given s.scanner c.next.new.self s.levels c.in-Some.item c.next.new.raw c.self.invariant.0 gave
-
-pub put_item-requires-clause-fits : goal.put_item-requires-clause-fits
-put_item-requires-clause-fits c =
+pub overflow_add-behind : goal.overflow_add-behind
+overflow_add-behind c =
     let s = c.self.inside in
     let gave = gave-some s.scanner c.next.new.self s.raw c.next.new.raw c.next.result c.in-Some.item c.next.ensures.given c.in-Some.is in
     omega (
@@ -36,7 +33,16 @@ put_item-requires-clause-fits c =
       length-held s.scanner s.levels c.self.invariant.0,
       length-grouped s.levels,
       c.self.invariant.2,
+      c.place-place.ensures,
+      c.covered.ensures.value,
     )
+
+pub drop_front-requires : goal.drop_front-requires
+drop_front-requires c =
+    let s = c.self.inside in
+    let gave = gave-some s.scanner c.next.new.self s.raw c.next.new.raw c.next.result c.in-Some.item c.next.ensures.given c.in-Some.is in
+    let gone = gone-given s.scanner c.next.new.self s.levels c.in-Some.item c.next.new.raw c.self.invariant.0 gave in
+    omega (arith, gone, ap₂ (λ (place count : ℕ). first_level (place + count) - first_level place) c.place-place.ensures c.covered.ensures.value)
 
 -- the item that was put, by the parts of the recording
 put_of : (before now : SoftParts) (old_raw raw : List Bool) (out : List ℕ) (result : Option Item) (item : Item) → IsHolding before.scan before.levels
@@ -50,20 +56,23 @@ put_of before now old_raw raw out result item holding given_some is piece behind
     let put = PutSoftItem-from before now out item raw holding gave piece behind left in
     (put, subst (λ (ls : List ℤ). IsHolding now.scan ls) (sym put.left) (holding-next before.scan now.scan before.levels item raw holding gave))
 
+put_so : (c : goal.After-drop_front) → PutSoftItem (parts c.self.inside.scanner c.self.inside.levels c.self.inside.kept) c.put_behind.new.out
+    (parts c.next.new.self c.drop_front.new.self c.put_behind.new.kept) × IsHolding c.next.new.self c.drop_front.new.self
+put_so c =
+    let s = c.self.inside in
+    put_of (parts s.scanner s.levels s.kept) (parts c.next.new.self c.drop_front.new.self c.put_behind.new.kept) s.raw c.next.new.raw c.put_behind.new.out c.next.result
+    c.in-Some.item c.self.invariant.0 c.next.ensures.given c.in-Some.is
+    (c.put_behind.ensures.octets ∙ ap (λ (xs : List Bool). whole_octets (s.kept ++ xs)) c.soften_item.ensures.list)
+    (c.put_behind.ensures.kept ∙ ap (λ (xs : List Bool). unfilled (s.kept ++ xs)) c.soften_item.ensures.list)
+    (c.drop_front.ensures ∙ ap₂ (λ (place count : ℕ). drop (first_level (place + count) - first_level place) s.levels) c.place-place.ensures c.covered.ensures.value)
+
 pub invariant_of-self : goal.invariant_of-self
 invariant_of-self c =
     let s = c.self.inside in
-    let before : SoftParts = record { scan = s.scanner; levels = s.levels; kept = s.kept } in
-    let now : SoftParts = record { scan = c.next.new.self; levels = c.put_item.new.levels; kept = c.put_item.new.kept } in
-    let done = put_of before now s.raw c.next.new.raw c.put_item.new.out c.next.result
-    c.in-Some.item c.self.invariant.0 c.next.ensures.given c.in-Some.is c.put_item.ensures.piece c.put_item.ensures.behind c.put_item.ensures.left in
-    (done.1, c.put_item.ensures.few, omega (arith, step-size before now c.put_item.new.out c.self.invariant.0 done.0, c.self.invariant.2))
+    let done = put_so c in
+    let size = step-size (parts s.scanner s.levels s.kept) (parts c.next.new.self c.drop_front.new.self c.put_behind.new.kept) c.put_behind.new.out c.self.invariant.0 done.0 in
+    (done.1, c.put_behind.ensures.few, omega (arith, size, c.self.invariant.2))
 
 pub returns : goal.returns
 returns c =
-    let s = c.self.inside in
-    let before : SoftParts = record { scan = s.scanner; levels = s.levels; kept = s.kept } in
-    let now : SoftParts = record { scan = c.next.new.self; levels = c.put_item.new.levels; kept = c.put_item.new.kept } in
-    let done = put_of before now s.raw c.next.new.raw c.put_item.new.out c.next.result
-    c.in-Some.item c.self.invariant.0 c.next.ensures.given c.in-Some.is c.put_item.ensures.piece c.put_item.ensures.behind c.put_item.ensures.left in
-    subst (λ (r : SoftParts). PutSoftItem r c.put_item.new.out now) c.self.view_is done.0
+    subst (λ (r : SoftParts). PutSoftItem r c.put_behind.new.out (parts c.next.new.self c.drop_front.new.self c.put_behind.new.kept)) c.self.view_is (put_so c).0

@@ -1,9 +1,0 @@
-use Rattle.std.proofs.Common.{Bool, List, ◌++◌, ap, ◌∙◌}
-use Rattle.p25_bits.specs.Bits.{bits_of}
-use Rattle.p25_stream.proofs.ArrivingLaws.{bits_of-first}
-use Rattle.p25_stream.proofs.arriving.put_one.Goals as goal
-
-pub returns-clause-list : goal.returns-clause-list
-returns-clause-list c =
-    c.put_field.ensures.list
-    ∙ ap (λ (zs : List Bool). c.args.held.now ++ zs) (ap (bits_of 8) c.from.ensures ∙ bits_of-first c.args.octets.now c.requires.some)
