@@ -5,8 +5,8 @@ use Rattle.std.proofs.lemmas.List.Sums.{sum_by_push, sum_by-append, sum_by-cons}
 use Rattle.p25_bits.specs.Numbers.{each_below}
 use Rattle.p25_bits.proofs.NumbersLaws.{length-each_below, each_below-more, each_below-zero, get_or-each_below}
 use Rattle.p25_voice_units.specs.Fixes.{wide}
-use Rattle.p25_vectors.specs.{Draws.{draw, state_after}, Damage.{inverted, damaged, field_draws, word_counts}}
-use Rattle.p25_vectors.proofs.{DrawsLaws.{state_after-add}, DamageLaws.{no_word, AreCounts, AreCounts-from, damaged-none, damaged-append, damaged-one}}
+use Rattle.p25_vectors.specs.{Draws.{draw}, Damage.{inverted, damaged, word_counts}}
+use Rattle.p25_vectors.proofs.DamageLaws.{no_word, AreCounts, AreCounts-from, damaged-none, damaged-append, damaged-one}
 
 -- the count of one word
 pub count_at : ℕ → ℕ → ℕ → ℕ → ℕ → ℕ
@@ -147,12 +147,6 @@ module _ (size radius state : ℕ) (place : ℕ → ℕ) (bits : List Bool) wher
             ∙ sym (ap₂ (λ (ws : List (ℕ × ℕ)) (cs : List ℕ). damaged ws cs bits) (each_below-more i (λ j. (place j, size))) (word_counts-more i size radius 0 state)),
         ap₂ (λ (a b : ℕ). a + b) is.1 counted ∙ sym (sum_by_push (λ (x : ℕ). x) counts last) ∙ sym (ap sum (word_counts-more i size radius 0 state)),
       )
-
--- the draws of a coded field: first one that says how many of its words are inverted whole
-pub field_state : (count most state whole next last : ℕ) → whole ≡ draw 0 state % (most + 1) → next ≡ state_after 1 state → last ≡ state_after (count - whole) next
-    → last ≡ state_after (field_draws count most state) state
-field_state count most state whole next last is then done =
-    done ∙ ap₂ (λ (n s : ℕ). state_after (count - n) s) is then ∙ state_after-add 1 (count - draw 0 state % (most + 1)) state
 
 -- Words after words.
 

@@ -1,11 +1,13 @@
 //! The damage of sample units: the first bits of each of their words are inverted, as the draws say.
 
 ghost use Rattle.std.specs.Prelude.{◌≡◌, ◌+◌, ◌-◌, ◌*◌, ◌%◌, ◌<◌, ◌≤◌, All, length, sum};
-ghost use Rattle.p25_packet_blocks.specs.{Heads.{head_blocks}, Whole.{packet_head}, Within.{block_radius}};
-ghost use Rattle.p25_units.specs.{Fixes.{body_looked, packet_looked}, Units.{body_length}, declared.unit.Body.TheVariants.{Packet as packet_in}};
+ghost use Rattle.p25_bits.specs.Numbers.{each_below};
+ghost use Rattle.p25_packet_blocks.specs.{Heads.{head_blocks}, Lengths.{packet_bits}, Whole.{packet_head}, Within.{block_radius}};
+ghost use Rattle.p25_units.specs.{Fixes.{body_looked, packet_looked}, Units.{body_length}};
+ghost use Rattle.p25_units.specs.declared.unit.Body.TheVariants.{Packet as packet_in, Voice as voice_in};
 ghost use Rattle.p25_voice_units.specs.Fixes.{link_looked, voice_looked, wide};
 ghost use Rattle.p25_vectors.specs.Draws.{draw, state_after};
-ghost use Rattle.p25_vectors.specs.Damage.{body_counts, body_damage_draws, damage_counts, damage_draws, damaged, damaged_words, field_draws, inverted, link_counts, word_counts};
+ghost use Rattle.p25_vectors.specs.Damage.{body_counts, body_damage_draws, damage_counts, damage_draws, damaged, damaged_words, field_counts, field_draws, inverted, link_counts, word_counts};
 
 use crate::draws::Draws;
 use p25_bits::BitBuf;
@@ -101,7 +103,31 @@ fn damage_words(
     flips
 }
 
-// Damages the inner words of an LDU1 or an LDU2, of which at most so many are inverted whole, and the words of its low speed data (LSD).
+// Damages the inner words of a coded field, where a draw says how many are inverted whole, at most so many.
+fn damage_field(
+    places: &[usize],
+    words: Words,
+    most: usize,
+    draws: &mut Draws,
+    bits: &mut BitBuf,
+) -> u32
+    requires size { words.size ≤ 24 }
+    requires radius { words.radius ≤ words.size }
+    requires few { length places.now ≤ 36 }
+    requires most { most ≤ length places.now }
+    requires there { All (λ at. at + words.size ≤ length bits.old) places.now }
+    ensures list { bits.new ≡ damaged (wide words.size places.now)
+        (field_counts (length places.now) words.size words.radius most draws.old) bits.old }
+    ensures len { length bits.new ≡ length bits.old }
+    ensures flips { result ≡ sum (field_counts (length places.now) words.size words.radius most draws.old) }
+    ensures few { result ≤ 24 * length places.now }
+    ensures state { draws.new ≡ state_after (field_draws (length places.now) most draws.old) draws.old }
+{
+    let whole = draws.below(most as u64 + 1) as usize;
+    damage_words(places, words, whole, draws, bits)
+}
+
+// Damages the inner words of an LDU1 or an LDU2, and the words of its low speed data (LSD).
 fn damage_link(most: usize, draws: &mut Draws, bits: &mut BitBuf) -> u32
     requires most { most ≤ 24 }
     requires long { length bits.old ≡ 1680 }
@@ -112,9 +138,46 @@ fn damage_link(most: usize, draws: &mut Draws, bits: &mut BitBuf) -> u32
     ensures state { draws.new ≡ state_after (field_draws 24 most draws.old + 2) draws.old }
 {
     part_places();
-    let whole = draws.below(most as u64 + 1) as usize;
-    let field = damage_words(&LDU_WORDS, HAMMING10, whole, draws, bits);
+    let field = damage_field(&LDU_WORDS, HAMMING10, most, draws, bits);
     field + damage_words(&LOW_WORDS, LOW_SPEED, 0, draws, bits)
+}
+
+// Damages the words of a voice unit after its front: of an HDU, a TDULC, an LDU1 or an LDU2. A TDU has none.
+#[tactic(auto, unfolding(crate::specs::Damage::body_counts, crate::specs::Damage::body_damage_draws, p25_voice_units::specs::Fixes::voice_looked, p25_voice_units::specs::Lengths::voice_length_of))]
+fn damage_voice(voice: &VoiceUnit, draws: &mut Draws, bits: &mut BitBuf) -> u32
+    requires { length bits.old ≡ body_length (voice_in voice.now) }
+    ensures list { bits.new ≡ damaged (voice_looked voice.now) (body_counts (voice_in voice.now) draws.old) bits.old }
+    ensures len { length bits.new ≡ length bits.old }
+    ensures flips { result ≡ sum (body_counts (voice_in voice.now) draws.old) }
+    ensures few { result ≤ 864 }
+    ensures state { draws.new ≡ state_after (body_damage_draws (voice_in voice.now) draws.old) draws.old }
+{
+    part_places();
+    match voice {
+        VoiceUnit::End => 0,
+        VoiceUnit::Header(_) => damage_field(&HDU_WORDS, GOLAY18, 8, draws, bits),
+        VoiceUnit::EndLink { .. } => damage_field(&TDULC_WORDS, GOLAY24, 3, draws, bits),
+        VoiceUnit::Link1 { .. } => damage_link(6, draws, bits),
+        VoiceUnit::Link2 { .. } => damage_link(4, draws, bits),
+    }
+}
+
+// Inverts the first bits of each of so many blocks of a packet (PDU) after its header block, as draws say, and answers how many.
+fn damage_blocks(count: usize, radius: usize, draws: &mut Draws, bits: &mut BitBuf) -> u32
+    requires few { count < 128 }
+    requires radius { radius ≤ 2 }
+    requires there { packet_bits count ≤ length bits.old }
+    ensures list { bits.new ≡ damaged (each_below count (λ j. (308 + 196 * j, 196))) (word_counts count 196 radius 0 draws.old) bits.old }
+    ensures len { length bits.new ≡ length bits.old }
+    ensures flips { result ≡ sum (word_counts count 196 radius 0 draws.old) }
+    ensures few { result ≤ 2 * count }
+    ensures state { draws.new ≡ state_after count draws.old }
+{
+    let mut flips = 0;
+    for j in 0..count {
+        flips += damage_word(BLOCKS_AT + BLOCK_LENGTH * j, radius, draws, bits);
+    }
+    flips
 }
 
 // Damages all blocks of a packet (PDU).
@@ -128,12 +191,8 @@ fn damage_packet(packet: &Packet, draws: &mut Draws, bits: &mut BitBuf) -> u32
     ensures state { draws.new ≡ state_after (body_damage_draws (packet_in packet.now) draws.old) draws.old }
 {
     let header = damage_word(HEADER_AT, 2, draws, bits);
-    let radius = radius_of(packet);
-    let mut flips = 0;
-    for j in 0..usize::from(packet.head().blocks()) {
-        flips += damage_word(BLOCKS_AT + BLOCK_LENGTH * j, radius, draws, bits);
-    }
-    header + flips
+    let count = usize::from(packet.head().blocks());
+    header + damage_blocks(count, radius_of(packet), draws, bits)
 }
 
 // How many wrong bits of a block to follow do no harm.
@@ -161,8 +220,7 @@ pub(crate) fn damage(body: &Body, draws: &mut Draws, bits: &mut BitBuf) -> u32
     sync + identifier + damage_body(body, draws, bits)
 }
 
-// Damages what stands after the front: the words of an HDU, a TDULC, an LDU1 or an LDU2, or the blocks of a packet (PDU). A TDU has none.
-#[tactic(auto, unfolding(crate::specs::Damage::body_counts, crate::specs::Damage::body_damage_draws, p25_voice_units::specs::Fixes::voice_looked, p25_voice_units::specs::Lengths::voice_length_of))]
+// Damages what stands after the front.
 fn damage_body(body: &Body, draws: &mut Draws, bits: &mut BitBuf) -> u32
     requires { length bits.old ≡ body_length body.now }
     ensures list { bits.new ≡ damaged (body_looked body.now) (body_counts body.now draws.old) bits.old }
@@ -171,19 +229,8 @@ fn damage_body(body: &Body, draws: &mut Draws, bits: &mut BitBuf) -> u32
     ensures few { result ≤ 864 }
     ensures state { draws.new ≡ state_after (body_damage_draws body.now draws.old) draws.old }
 {
-    part_places();
     match body {
-        Body::Voice(VoiceUnit::End) => 0,
-        Body::Voice(VoiceUnit::Header(_)) => {
-            let whole = draws.below(9) as usize;
-            damage_words(&HDU_WORDS, GOLAY18, whole, draws, bits)
-        }
-        Body::Voice(VoiceUnit::EndLink { .. }) => {
-            let whole = draws.below(4) as usize;
-            damage_words(&TDULC_WORDS, GOLAY24, whole, draws, bits)
-        }
-        Body::Voice(VoiceUnit::Link1 { .. }) => damage_link(6, draws, bits),
-        Body::Voice(VoiceUnit::Link2 { .. }) => damage_link(4, draws, bits),
+        Body::Voice(voice) => damage_voice(voice, draws, bits),
         Body::Packet(packet) => damage_packet(packet, draws, bits),
     }
 }

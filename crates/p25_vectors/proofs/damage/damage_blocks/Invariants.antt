@@ -1,7 +1,7 @@
 use Rattle.std.proofs.Common.{◌≡◌, ◌+◌, ◌*◌, ◌≤◌, length, sum}
 use Rattle.p25_bits.specs.Numbers.{each_below}
 use Rattle.p25_vectors.specs.{Damage.{damaged, word_counts}, Draws.{state_after}}
-use Rattle.p25_vectors.proofs.damage.damage_packet.Given as goal
+use Rattle.p25_vectors.proofs.damage.damage_blocks.Given as goal
 
 abbrev pub invariant-loop-j : goal.invariant-loop-j
 invariant-loop-j l = record {
