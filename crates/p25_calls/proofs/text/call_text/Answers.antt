@@ -25,8 +25,22 @@ before_algid c =
       | in-None w ↦ rw w.in-None.is (w.out-is ∙ w.put-in-None.ensures.list)
     ] in
     rw (
-      c.put-5.ensures.list, link, c.put-4.ensures.list, c.put_labelled-4.ensures.text, c.from-2.ensures, c.put_labelled-3.ensures.text, c.from.ensures, end,
-      c.put-3.ensures.list, entry, c.put-2.ensures.list, c.put_three_digits.ensures.list, c.put.ensures.list, c.put_labelled-2.ensures.text, c.put_labelled.ensures.text, c.clear.ensures,
+      c.put-5.ensures.list,
+      link,
+      c.put-4.ensures.list,
+      c.put_labelled-4.ensures.text,
+      c.from-2.ensures,
+      c.put_labelled-3.ensures.text,
+      c.from.ensures,
+      end,
+      c.put-3.ensures.list,
+      entry,
+      c.put-2.ensures.list,
+      c.put_three_digits.ensures.list,
+      c.put.ensures.list,
+      c.put_labelled-2.ensures.text,
+      c.put_labelled.ensures.text,
+      c.clear.ensures,
     )
 
 pub returns-in-Some-algid-clause-text : goal.returns-in-Some-algid-clause-text
