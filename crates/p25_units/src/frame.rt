@@ -6,6 +6,7 @@ ghost use Rattle.p25_units.specs.Units.{IsSendableBody, IsSoundFrame, IsWholeBod
 use crate::unit::{Body, Unit};
 use p25_packet_blocks::packet_length;
 use p25_status::{BARE_BLOCK_LENGTH, SENT_BLOCK_LENGTH, Status, Statuses};
+use p25_voice_units::VoiceUnit;
 
 /// A unit and its status symbols. It is sound where a packet in it is whole and there is one symbol for each 72 of
 /// its sent bits.
@@ -18,6 +19,14 @@ pub struct Frame {
 }
 
 impl Frame {
+    // A frame into which another is read. It is large, so it is made apart from its caller.
+    pub(crate) fn blank() -> Frame {
+        Frame {
+            unit: Unit::new(0, Body::Voice(VoiceUnit::End)),
+            statuses: Statuses::new(),
+        }
+    }
+
     /// Answers the frame of a unit whose status symbols are all the same one, as many as its length asks for: one for each 72 of its
     /// sent bits. It is sound where no slot of a packet is Bad. TIA-102.BAAA, Status Symbols.
     pub fn filled(unit: Unit, status: Status) -> Frame

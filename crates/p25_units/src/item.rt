@@ -8,11 +8,9 @@ ghost use Rattle.p25_units.specs.{declared.item.Item.TheVariants.{Broken, Cut, W
 use crate::begun::Begun;
 use crate::frame::{Frame, frame_length};
 use crate::read::read_frame;
-use crate::unit::{Body, Unit};
 use p25_bch_nid::Nid;
 use p25_bits::BitBuf;
-use p25_status::{Field, FieldList, ReadOutcome, Statuses};
-use p25_voice_units::VoiceUnit;
+use p25_status::{Field, FieldList, ReadOutcome};
 
 /// A stretch of a stream. Places count bits from the beginning of the stream.
 #[derive(Clone, Debug, Drop, PartialEq, Eq)]
@@ -94,10 +92,7 @@ impl Item {
             _ => {
                 *self = Item::Whole {
                     place: 0,
-                    frame: Frame {
-                        unit: Unit::new(0, Body::Voice(VoiceUnit::End)),
-                        statuses: Statuses::new(),
-                    },
+                    frame: Frame::blank(),
                     fixes: 0,
                 };
             }
