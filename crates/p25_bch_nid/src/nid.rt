@@ -1,4 +1,4 @@
-ghost use Rattle.std.specs.Prelude.{◌≡◌, ◌≤◌, ◌<◌, ◌↔◌, ◌+◌, ◌*◌, ◌/◌, ◌%◌, IsSome, IfSome};
+ghost use Rattle.std.specs.Prelude.{◌≡◌, ◌≤◌, ◌↔◌, ◌+◌, ◌*◌, ◌/◌, ◌%◌, IsSome, IfSome};
 
 /// A network identifier (NID): whose traffic it is, and which kind of unit follows. TIA-102.BAAA, Network Identifier.
 #[derive(Clone, Copy, Debug, PartialEq, Eq)]

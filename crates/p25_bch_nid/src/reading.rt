@@ -1,6 +1,6 @@
 //! Network identifiers (NID) as they are received.
 
-ghost use Rattle.std.specs.Prelude.{◌≡◌, ◌≤◌, ◌<◌, ◌^◌, Bool, IfSome, List, Some, take, option_map};
+ghost use Rattle.std.specs.Prelude.{◌≡◌, ◌≤◌, Bool, IfSome, List, Some, take, option_map};
 ghost use Rattle.p25_bits.specs.{Bits.{bits_of}, Distance.{distance_of}};
 ghost use Rattle.p25_bch_nid.specs.{Bch63.{IsBch63}, NidReading.{IsNidReading, identifier_of_word, nid_reading_of}, NidWord.{nid_word}};
 

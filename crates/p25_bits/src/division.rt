@@ -1,7 +1,7 @@
 //! Division of polynomials over GF(2) by a generator, coefficient by coefficient. A number stands for the polynomial
 //! whose coefficient of x^i is the number's bit i.
 
-ghost use Rattle.std.specs.Prelude.{◌≡◌, ℕ, ◌+◌, ◌*◌, ◌^◌, ◌<◌, ◌≤◌};
+ghost use Rattle.std.specs.Prelude.{◌≡◌, ℕ, ◌+◌, ◌*◌, ◌^◌, ◌<◌};
 ghost use Rattle.p25_bits.specs.{Bits.{digit_of}, Divisible.{HasDegree, IsRemainder}};
 
 /// Answers the remainder after one more coefficient: where `remainder` is that of some polynomial P by the generator,

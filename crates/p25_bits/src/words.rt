@@ -20,6 +20,7 @@ pub(crate) fn put_window(words: &mut [u64], at: usize, word: u64)
 {
     let inner = (at % 64) as u32;
     words[at / 64] = beginning(words[at / 64], inner, word);
+    // The last `inner` bits begin the next word. There are two shifts, since `inner` may be 0.
     words[at / 64 + 1] = (word << 1) << (63 - inner);
 }
 

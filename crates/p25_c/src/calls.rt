@@ -1,7 +1,6 @@
 //! Calls, as the items of a recording come: what is kept between them stands with the caller of these functions.
 
-ghost use Rattle.std.specs.Prelude.{◌≡◌, ◌+◌, ◌^◌, ◌<◌, None, Option, Some, IfSome};
-ghost use Rattle.p25_calls.specs.Seen.{unit_end};
+ghost use Rattle.std.specs.Prelude.{◌≡◌, None, Some};
 ghost use Rattle.p25_c.specs.VoiceCalls.{call_answer, call_asked, call_held, call_left, call_told, caller_left, finished_left, is_kept, last_asked, no_call, pending_held, state_told, unit_told};
 
 use crate::fields::FieldParts;

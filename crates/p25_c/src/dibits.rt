@@ -1,6 +1,6 @@
 //! Dibits that come one by one, of which four make an octet of a stream.
 
-ghost use Rattle.std.specs.Prelude.{◌≡◌, ◌+◌, ◌-◌, ◌*◌, ◌<◌, ◌≤◌, ◌++◌, pos, true, min, length, take};
+ghost use Rattle.std.specs.Prelude.{◌≡◌, ◌+◌, ◌-◌, ◌*◌, ◌<◌, pos, true, min, length, take};
 ghost use Rattle.p25_bits.specs.{Bits.{bits_of}, Numbers.{number_bits}};
 ghost use Rattle.p25_c.specs.Streams.{HasTaken, is_stream};
 

@@ -1,6 +1,6 @@
 //! The fields of a unit without a text, and voice units built from them.
 
-ghost use Rattle.std.specs.Prelude.{◌≡◌, ℕ, ◌<◌, ◌≤◌, pos, true};
+ghost use Rattle.std.specs.Prelude.{◌≡◌, ℕ, ◌≤◌, pos, true};
 ghost use Rattle.p25_c.specs.Building.{IsWritingUnder};
 ghost use Rattle.p25_c.specs.Fields.{fields_answer, fields_built, fields_left, frame_octets, frames_held, item_unit, no_fields, unit_answer, unit_left, voice_fields, voice_held};
 ghost use Rattle.p25_c.specs.Items.{items_asked};

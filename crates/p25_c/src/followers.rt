@@ -1,10 +1,10 @@
 //! Units found by rhythm, as the items of a recording come: what is kept between them stands with the caller of these functions.
 
-ghost use Rattle.std.specs.Prelude.{◌≡◌, ◌<◌, ◌≤◌, Ok, true, length, replicate};
-ghost use Rattle.p25_c.specs.Followers.{ended_left, followed_octets, follower_left, follower_told, fresh_follower, has_name, is_follower, is_item_told, is_unit_told, item_held, last_octets, may_follow, name_duid, name_held, name_nac, parts_held};
-ghost use Rattle.p25_c.specs.{Places.{filled}, Rooms.{IsWriting, write_left}};
+ghost use Rattle.std.specs.Prelude.{◌≡◌, ◌<◌, ◌≤◌, Ok, true, length};
+ghost use Rattle.p25_c.specs.Followers.{ended_left, followed_octets, follower_left, follower_told, fresh_follower, is_follower, is_item_told, item_held, last_octets, may_follow, name_held, parts_held};
+ghost use Rattle.p25_c.specs.Rooms.{IsWriting};
 ghost use Rattle.p25_follow.specs.{Expected.{names_of}, Relayed.{IsFitItem}};
-ghost use Rattle.p25_units.specs.{Items.{IsSoundItem, covered, place_of}, Units.{whole_octets}};
+ghost use Rattle.p25_units.specs.Items.{IsSoundItem, covered, place_of};
 
 use crate::building::write_bits;
 use crate::items::{ItemParts, OUTSIDE};
@@ -218,6 +218,7 @@ fn follower_told(reached: u64, followed: &Followed) -> FollowerState
         Some(name) => (1, name.nac, name.duid),
         None => (0, 0, 0),
     };
+    // The bits of the stretch as octets, with zeros after them. There is always room for them.
     let mut octets = [0; 864];
     let mut bits = BitBuf::new();
     bits.append(stretch, 0, stretch.len());

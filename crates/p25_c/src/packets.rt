@@ -2,7 +2,6 @@
 
 ghost use Rattle.std.specs.{Prelude.{◌≡◌, ◌*◌, ◌≤◌, ◌==◌, count_by, length, map}, List.{flat_map}};
 ghost use Rattle.p25_c.specs.Packets.{head_told, is_bad, no_packet, packet_answer, packet_asked, packet_bad, packet_fault, packet_left, packet_told, slot_good, slot_octets, slot_serial, slots_told, unit_bits};
-ghost use Rattle.p25_bits.specs.Bits.{octet_bits};
 
 use crate::building::NO_UNIT;
 use crate::items::{OUTSIDE, is_inside};
@@ -181,8 +180,8 @@ fn no_packet(nac: u16, head: [u8; 10]) -> PacketParts
     }
 }
 
-// Sets octets to 1 for each slot that is good and to 0 for each other, octets to the serial numbers of the slots, and octets to theirs, sixteen
-// each, and answers how many slots are not good.
+// Sets `good` to 1 for each slot that is good and to 0 for each other, `serials` to the serial numbers of the slots, and `octets` to their
+// octets, sixteen each, and answers how many slots are not good.
 fn put_slots(slots: &[Slot], good: &mut [u8], serials: &mut [u8], octets: &mut [u8]) -> u8
     requires few { length slots.now ≤ 127 }
     requires good { length slots.now ≡ length good.old }

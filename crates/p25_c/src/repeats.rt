@@ -1,8 +1,8 @@
 //! Items at any bit of a recording: their octets, and units there repaired and under another network access code (NAC).
 
-ghost use Rattle.std.specs.Prelude.{◌≡◌, ◌+◌, ◌-◌, ◌*◌, ◌^◌, ◌<◌, ◌≤◌, Ok, true, length};
+ghost use Rattle.std.specs.Prelude.{◌≡◌, ◌+◌, ◌*◌, ◌^◌, ◌<◌, ◌≤◌, length};
 ghost use Rattle.p25_bits.specs.Bits.{octet_bits, part};
-ghost use Rattle.p25_c.specs.{Building.{IsWritingUnder}, Items.{is_inside}, Places.{bridged_at, filled, has_item, item_cut, repaired_at}, Rooms.{IsWriting}};
+ghost use Rattle.p25_c.specs.{Building.{IsWritingUnder}, Places.{bridged_at, filled, has_item, item_cut, repaired_at}, Rooms.{IsWriting}};
 
 use crate::building::{NO_UNIT, sent_symbol, write_bits};
 use crate::items::{ItemParts, OUTSIDE, blank, find_at, is_inside};

@@ -1,4 +1,4 @@
-//! What calls write into the room that a caller gives.
+//! What calls answer of the room that a caller gives: that there is too little, or how much was written.
 
 ghost use Rattle.std.specs.Prelude.{◌≡◌, ◌≤◌, pos};
 

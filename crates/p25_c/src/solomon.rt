@@ -3,7 +3,6 @@
 //! A word is an array of octets from 0 to 63, one for each symbol of six bits, in the order of sending: first those of the
 //! information, then the check symbols.
 
-ghost use Rattle.std.specs.Prelude.{◌≡◌};
 ghost use Rattle.p25_code.specs.Erasures.{without_erased};
 ghost use Rattle.p25_reed_solomon.specs.RsReadings.{rs_erased_reading_of, rs_reading_of};
 ghost use Rattle.p25_word_calls.specs.Symbols.{IsSymbolReading, IsSymbolWriting};

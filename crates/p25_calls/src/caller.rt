@@ -1,6 +1,6 @@
 //! A caller, which groups the units among items into calls.
 
-ghost use Rattle.std.specs.Prelude.{◌≡◌, ◌+◌, ◌-◌, ◌^◌, ◌<◌, ◌≤◌, IfSome};
+ghost use Rattle.std.specs.Prelude.{◌≡◌, ◌-◌, ◌^◌, ◌<◌, IfSome};
 ghost use Rattle.p25_calls.specs.Taking.{HasSoundPending, answer_to, behind_item, fresh_caller, open_call};
 ghost use Rattle.p25_units.specs.Items.{IsSoundItem, place_of};
 

@@ -1,6 +1,6 @@
 //! The run that a unit is the last of, and the calls that it ends.
 
-ghost use Rattle.std.specs.Prelude.{◌≡◌, ◌+◌, ◌-◌, ◌^◌, ◌<◌, ◌≤◌, IfSome};
+ghost use Rattle.std.specs.Prelude.{◌≡◌, ◌-◌, ◌^◌, ◌<◌, IfSome};
 ghost use Rattle.p25_calls.specs.{Seen.{unit_end}, Taking.{IsPending, broken_off, run_with, terminated, unit_answer, unit_pending}};
 
 use crate::call::Call;

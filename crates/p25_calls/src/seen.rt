@@ -1,6 +1,6 @@
 //! What a call takes from an item.
 
-ghost use Rattle.std.specs.Prelude.{◌≡◌, ◌+◌, ◌^◌, ◌<◌, ◌≤◌, ◌==◌, IfSome};
+ghost use Rattle.std.specs.Prelude.{◌≡◌, ◌+◌, ◌^◌, ◌<◌, ◌==◌, IfSome};
 ghost use Rattle.p25_bch_nid.specs.Duids.{duid_tdulc};
 ghost use Rattle.p25_calls.specs.Seen.{algid_in, is_header, is_link_unit, is_terminator, is_voice, link_in, unit_end, unit_of};
 ghost use Rattle.p25_units.specs.Items.{IsSoundItem, covered, place_of};

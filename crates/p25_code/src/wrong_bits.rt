@@ -6,7 +6,7 @@
 //! columns at the places that are 1, its syndrome, is 0. What is wrong is a number of as many bits as the word has, the first
 //! bit highest, with a 1 for each wrong bit.
 
-ghost use Rattle.std.specs.Prelude.{◌≡◌, ℕ, ◌+◌, ◌^◌, ◌<◌, ◌≤◌, ◌++◌, true, length, MatchOption};
+ghost use Rattle.std.specs.Prelude.{◌≡◌, ◌+◌, ◌^◌, ◌<◌, ◌≤◌, ◌++◌, true, length, MatchOption};
 ghost use Rattle.p25_code.specs.{Binary.{check_columns, rows_fit}, WrongBits.{number_sum, AreInverse, AreWrong, NoneByRows, NoneWrong}};
 
 /// Answers at most `radius` wrong bits that make the syndrome `sum`, of which at most one is a bit of information. There is

@@ -1,6 +1,6 @@
 //! A field of two Golay words, each with two symbols of an outer word of four, written and read.
 
-ghost use Rattle.std.specs.Prelude.{◌≡◌, ◌≤◌, length};
+ghost use Rattle.std.specs.Prelude.{◌≤◌};
 
 use super::{put_coded, read_field};
 use p25_bits::BitBuf;

@@ -1,7 +1,7 @@
 //! A register that divides the bits shifted into it by a polynomial of degree 32. It holds the remainder of x^32 times
 //! what was shifted in.
 
-ghost use Rattle.std.specs.Prelude.{ℕ, ◌+◌, ◌-◌, ◌*◌, ◌^◌, ◌<◌, Bool, List, ◌++◌};
+ghost use Rattle.std.specs.Prelude.{ℕ, ◌+◌, ◌*◌, ◌^◌, Bool, List, ◌++◌};
 ghost use Rattle.p25_bits.specs.{Bits.{field_of, octet_bits}, Divisible.{IsRemainder}};
 ghost use Rattle.p25_crc.specs.Remainders.{AreRemainders};
 

@@ -1,6 +1,6 @@
 #![tactic(auto, unfolding(crate::specs::Asked::is_response, crate::specs::Asked::is_ack, crate::specs::Asked::asked_by_flags))]
 
-ghost use Rattle.std.specs.{Prelude.{◌≡◌, ◌<◌, ◌≤◌, ◌&&◌, nat_le, not, Bool, List, length, take}, List.{list_any}};
+ghost use Rattle.std.specs.{Prelude.{◌≡◌, ◌≤◌, ◌&&◌, nat_le, not, Bool, List, length, take}, List.{list_any}};
 ghost use Rattle.p25_packet_blocks.specs.FlagOctets.{flags_of_octets};
 ghost use Rattle.p25_delivery.specs.Asked.{is_response, is_ack, is_crc_nack, is_retry, wanted_flags, asked_by_flags, asked_of};
 

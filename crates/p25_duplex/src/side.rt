@@ -1,4 +1,4 @@
-ghost use Rattle.std.specs.Prelude.{◌≡◌, ◌∷◌, [], length};
+ghost use Rattle.std.specs.Prelude.{◌≡◌, length};
 ghost use Rattle.p25_duplex.specs.DuplexSteps.{other_side, side_word};
 
 /// One of the two stations of a duplex world.

@@ -4,7 +4,6 @@ ghost use Rattle.p25_duplex.specs.DuplexSteps.{duplex_step, first_duplex, statio
 use crate::event::{DuplexEvent, DuplexStep};
 use crate::side::Side;
 use crate::station::Station;
-use p25_stations::Step;
 use std::alloc::Global;
 use std::marker::Model;
 

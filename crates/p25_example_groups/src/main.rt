@@ -4,7 +4,7 @@
 //! more. At the end of the input call `finish`, and take items once more: the end decides what no octet decided.
 #![tactic(auto)]
 
-ghost use Rattle.std.specs.{Prelude.{◌≡◌, ◌+◌, ◌-◌, ◌*◌, ◌^◌, ◌<◌, ◌≤◌, Some, [], true, false, length, IfSome, OnOk}, Io.KnownBytes.{Appends}};
+ghost use Rattle.std.specs.{Prelude.{◌≡◌, ◌+◌, ◌-◌, ◌*◌, ◌^◌, ◌<◌, Some, [], false, length, IfSome, OnOk}, Io.KnownBytes.{Appends}};
 ghost use Rattle.p25_bits.specs.Bits.{octet_bits};
 ghost use Rattle.p25_stream.specs.Scan.{given};
 ghost use Rattle.p25_example_groups.specs.{Printed.{HasPrinted, lines_left, lines_of, talk_line}, Talks.{talk_of, talk_text}};

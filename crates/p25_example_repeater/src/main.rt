@@ -5,11 +5,11 @@
 //! replaced by the image of its frame under the other code. No item changes its length, so each stays where it was.
 #![tactic(auto)]
 
-ghost use Rattle.std.specs.{Prelude.{◌≡◌, ◌+◌, ◌-◌, ◌*◌, ◌^◌, ◌<◌, ◌≤◌, ◌++◌, [], false, length, IfSome, OnOk}, Io.KnownBytes.{Appends}};
+ghost use Rattle.std.specs.{Prelude.{◌≡◌, ◌+◌, ◌-◌, ◌*◌, ◌^◌, ◌<◌, ◌++◌, [], false, length, IfSome, OnOk}, Io.KnownBytes.{Appends}};
 ghost use Rattle.p25_bits.specs.Bits.{octet_bits};
 ghost use Rattle.p25_stream.specs.Scan.{given};
 ghost use Rattle.p25_units.specs.Items.{IsSoundItem};
-ghost use Rattle.p25_example_repeater.specs.{Repeated.{network, repeated}, Written.{AreWritten, HasRepeated, bits_due, recording_repeated}};
+ghost use Rattle.p25_example_repeater.specs.{Repeated.{repeated}, Written.{AreWritten, HasRepeated, bits_due, recording_repeated}};
 
 use p25_bits::BitBuf;
 use p25_stream::{Item, Scanner};

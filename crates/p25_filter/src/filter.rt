@@ -1,6 +1,6 @@
 //! What a command does with the octets of its input, one after the other, apart from reading and writing.
 
-ghost use Rattle.std.specs.Prelude.{◌≡◌, ℕ, ◌+◌, ◌*◌, ◌^◌, ◌<◌, ◌≤◌, Bool, true, false, List, [], ◌∷◌, length, take};
+ghost use Rattle.std.specs.Prelude.{◌≡◌, ℕ, ◌+◌, ◌*◌, ◌^◌, ◌<◌, ◌≤◌, Bool, true, false, List, [], length, take};
 ghost use Rattle.p25_filter.specs.Futures.{Future, Progress, IsClosed, IsIdle, NextPiece};
 
 use super::ending::{Ending, Refusal};

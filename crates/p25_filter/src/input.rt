@@ -1,6 +1,6 @@
 //! The work on an input: reading it in pieces, handing its octets to a command, and writing what the command gives.
 
-ghost use Rattle.std.specs.Prelude.{◌≡◌, ℕ, ◌+◌, ◌*◌, ◌^◌, ◌<◌, ◌≤◌, false, true, List, [], ◌∷◌, length, take, OnOk, IfErr};
+ghost use Rattle.std.specs.Prelude.{◌≡◌, ℕ, ◌+◌, ◌*◌, ◌^◌, ◌<◌, ◌≤◌, false, List, [], length, take, OnOk, IfErr};
 ghost use Rattle.p25_io.specs.Events.{Event};
 ghost use Rattle.p25_filter.specs.{Futures.{IsIdle, IsStopped, IsWrittenOut, Moved}, Traces.{IsRun}};
 

@@ -1,6 +1,6 @@
 //! The units that lie end to end from a place on, with their fronts written.
 
-ghost use Rattle.std.specs.Prelude.{◌≡◌, ◌||◌, nat_le, ◌+◌, ◌≤◌, ◌<◌, ◌++◌, IfSome, [], drop, false, true, length, take};
+ghost use Rattle.std.specs.Prelude.{◌≡◌, ◌||◌, nat_le, ◌+◌, ◌≤◌, ◌++◌, IfSome, [], drop, false, true, length, take};
 ghost use Rattle.p25_follow.specs.{Chains.{chain_by, with_front}, Expected.{name_of, names_of}, Following.{follow, left_of}};
 
 use crate::expected::kind_length;

@@ -1,6 +1,6 @@
 //! A follower of the items of a stream.
 
-ghost use Rattle.std.specs.Prelude.{◌≡◌, ◌+◌, ◌≤◌, ◌<◌, [], None, true, length};
+ghost use Rattle.std.specs.Prelude.{◌≡◌, ◌≤◌, ◌<◌, true, length};
 ghost use Rattle.p25_units.specs.Items.{IsSoundItem};
 ghost use Rattle.p25_follow.specs.{Expected.{names_of}, Followed.{is_rest, unit_name}};
 ghost use Rattle.p25_follow.specs.Following.{IsFollow, behind_item, follow, fresh_follow, written_before, written_end};

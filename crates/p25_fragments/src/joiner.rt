@@ -1,4 +1,4 @@
-ghost use Rattle.std.specs.Prelude.{◌≡◌, ◌%◌, ◌<◌};
+ghost use Rattle.std.specs.Prelude.{◌≡◌};
 ghost use Rattle.p25_fragments.specs.Joining.{first_joining, is_refused, part_taken, message_taken};
 
 use arrayvec::ArrayVec;

@@ -10,7 +10,7 @@ use crate::long_step::{LongEvent, LongStep, Then};
 use p25_delivery::Mark;
 use p25_messages::{LongList, LongMessage, Message};
 use p25_stations::{Event, Step, StepKind, World};
-use std::alloc::{AllocError, Global};
+use std::alloc::Global;
 use std::marker::Model;
 
 /// A part that is outstanding: its long message, and its number.

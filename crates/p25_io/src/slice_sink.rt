@@ -1,5 +1,5 @@
 //! A sink into memory that was lent to it, in which chosen calls fail.
-ghost use Rattle.std.specs.Prelude.{◌≡◌, ◌+◌, ◌-◌, ◌<◌, ◌≤◌, ◌⊎◌, ◌↔◌, ◌++◌, [], length, take, min, Some, Contains, IsErr, OnOk, OnErr};
+ghost use Rattle.std.specs.Prelude.{◌≡◌, ◌+◌, ◌-◌, ◌<◌, ◌≤◌, ◌⊎◌, ◌↔◌, ◌++◌, [], length, take, Some, Contains, IsErr, OnOk, OnErr};
 ghost use Rattle.p25_io.specs.{Faults.{counted, faults_after, HasCause}, Octets.{Appended, AppendedBeginning}};
 
 use crate::{Failed, Sink};

@@ -79,10 +79,3 @@ first-others (word ∷ words) first at = let same : word ≡ first = cc at in ap
 pub one-other : {X : Type 0} (words : List X) (x : X) → length words ≡ 2 → slice_get words 1 ≡ Some x → drop 1 words ≡ x ∷ []
 one-other (first ∷ second ∷ []) x count at = let same : second ≡ x = cc at in ap (λ y. y ∷ []) same
 one-other words x count at = absurd (omega arith)
-
-pub two-others : {X : Type 0} (words : List X) (x y : X) → length words ≡ 3 → slice_get words 1 ≡ Some x → slice_get words 2 ≡ Some y → drop 1 words ≡ x ∷ y ∷ []
-two-others (first ∷ second ∷ third ∷ []) x y count at next =
-    let same : second ≡ x = cc at in
-    let last : third ≡ y = cc next in
-    ap₂ (λ a b. a ∷ b ∷ []) same last
-two-others words x y count at next = absurd (omega arith)

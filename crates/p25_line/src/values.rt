@@ -1,5 +1,5 @@
-ghost use Rattle.std.specs.{Prelude.{◌≡◌, ◌≢◌, ℕ, ◌≤◌, List, length, take, drop, decimal, IsTrue, IfSome, MatchOption}, Bool.{OnTrue, OnFalse}};
-ghost use Rattle.std.specs.{List.{list_all}, Option.{option_map}};
+ghost use Rattle.std.specs.{Prelude.{◌≡◌, ◌≢◌, ℕ, ◌≤◌, List, length, take, drop, decimal, IfSome, MatchOption}, Bool.{OnTrue, OnFalse}, List.{list_all}};
+ghost use Rattle.std.specs.Option.{option_map};
 ghost use Rattle.hex.specs.Hex.{encode_lower};
 ghost use Rattle.p25_line.specs.{Octets.{octets_up_to}, Values.{AllOctets, is_lower_digit}};
 

@@ -1,4 +1,4 @@
-ghost use Rattle.std.specs.Prelude.{◌≡◌, ◌+◌, ◌^◌, ◌<◌, ◌≤◌, ◌↔◌, IsTrue, Some, List, [], ◌∷◌, ◌++◌, length, slice_get, vec_len, OnOk, OnErr};
+ghost use Rattle.std.specs.Prelude.{◌≡◌, ◌+◌, ◌^◌, ◌<◌, ◌≤◌, ◌↔◌, IsTrue, Some, [], ◌∷◌, ◌++◌, length, slice_get, vec_len, OnOk, OnErr};
 ghost use Rattle.p25_messages.specs.MessageList.{ListParts, pieces_between, start_before, room_for, IsKept};
 
 use crate::message::MessageOf;
@@ -70,15 +70,14 @@ impl<const MOST: usize> MessageListOf<MOST> {
         &self.octets.as_slice()[start(ends, i)..start(ends, i + 1)]
     }
 
-    /// Makes room for 1 to 16 more messages. Answers AllocError where there is not enough memory; the messages stay, and
-    /// no room is lost.
+    /// Makes room for 1 to 16 more messages. Answers AllocError where there is not enough memory, which comes only where there
+    /// was no such room; the messages stay, and no room is lost.
     pub fn reserve(&mut self, messages: u32) -> Result<(), AllocError>
         requires some { 0 < messages }
         requires most { messages ≤ 16 }
         ensures list { self.new.list ≡ self.old.list }
         ensures spare { self.old.spare ≤ self.new.spare }
         ensures ok { OnOk result (messages ≤ self.new.spare) }
-        // It fails only where the room was not there before.
         ensures err { OnErr result (self.old.spare < messages) }
     {
         self.ends.reserve(messages as usize)?;

@@ -1,4 +1,4 @@
-ghost use Rattle.std.specs.{Prelude.{◌≡◌, ◌*◌, ◌<◌, ◌⊎◌, ◌↔◌, false, length, replicate, slice_get, slice_set, Some, IsSome}, Bool.{beq}};
+ghost use Rattle.std.specs.{Prelude.{◌≡◌, ◌<◌, ◌⊎◌, ◌↔◌, false, length, replicate, slice_get, slice_set, Some, IsSome}, Bool.{beq}};
 ghost use Rattle.std.specs.{Cmp.{bool_eq_equiv, partial_equiv_from_equiv}, Cmp.Lexicographic.{pointwise, lists_equiv}};
 ghost use Rattle.p25_bits.specs.Bits.{octet_bits};
 ghost use Rattle.p25_packet_blocks.specs.FlagOctets.{flag_octets, flags_of_octets};
@@ -53,7 +53,7 @@ impl Flags {
         &self.flags[..self.count]
     }
 
-    /// Answers flag `i`.
+    /// Answers flag `i`, counted from 0 and below the number of them.
     pub fn get(&self, i: usize) -> bool
         requires { i < length self.now }
         ensures { slice_get self.now i ≡ Some result }
@@ -61,7 +61,7 @@ impl Flags {
         self.flags[i]
     }
 
-    /// Sets flag `i`.
+    /// Sets flag `i`, counted from 0 and below the number of them.
     pub fn set(&mut self, i: usize, flag: bool)
         requires { i < length self.old }
         ensures { self.new ≡ slice_set self.old i flag }

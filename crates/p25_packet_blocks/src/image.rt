@@ -1,6 +1,6 @@
 //! Units of packets (PDU) written, without their status symbols.
 
-ghost use Rattle.std.specs.Prelude.{◌≡◌, ◌+◌, ◌*◌, ◌-◌, ◌<◌, ◌≤◌, ◌++◌, length, false};
+ghost use Rattle.std.specs.Prelude.{◌≡◌, ◌+◌, ◌*◌, ◌<◌, ◌≤◌, ◌++◌, length};
 ghost use Rattle.p25_bits.specs.Numbers.{joined_below};
 ghost use Rattle.p25_trellis.specs.Nearest.{three_quarter_block};
 ghost use Rattle.p25_packet_blocks.specs.{declared.packet.Packet.TheVariants.{Confirmed as confirmed_packet, Plain as plain_packet}, Heads.{head_blocks}};
@@ -119,6 +119,7 @@ pub fn packet_image(nac: u16, packet: &Packet, out: &mut BitBuf)
     let head = packet.head();
     out.clear();
     put_front(&Nid { nac, duid: PDU }, out);
+    // The header block: the header's ten octets and the header CRC.
     octets_fit(&head.0);
     let mut octets: BoundedList<u8, 12> = BoundedList::new();
     octets.extend(&head.0);

@@ -1,6 +1,6 @@
 //! Units of packets (PDU) read as they are sent, with their status symbols.
 
-ghost use Rattle.std.specs.Prelude.{◌≡◌, ◌+◌, ◌*◌, ◌≤◌, length, drop, IfOk};
+ghost use Rattle.std.specs.Prelude.{◌≡◌, ◌+◌, ◌≤◌, length, drop, IfOk};
 ghost use Rattle.p25_packet_blocks.specs.UnitReading.{sent_read_of, packet_unit_of};
 
 use crate::head::ReadHead;
@@ -22,6 +22,7 @@ pub fn read_head_at(bits: &BitBuf, at: usize) -> Result<ReadHead, Field>
 {
     // The number of bits held bounds every place below.
     let _ = bits.len();
+    // The 196 bits of the header block, without the status symbols among them.
     let mut header = BitBuf::new();
     header.append(bits, at + 114, 28);
     header.append(bits, at + 2 * SENT_BLOCK_LENGTH, BARE_BLOCK_LENGTH);

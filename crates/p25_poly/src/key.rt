@@ -2,7 +2,7 @@
 
 ghost use Rattle.std.specs.Prelude.{◌≡◌, ℕ, ◌+◌, ◌*◌, ◌/◌, ◌<◌, ◌≤◌, length};
 ghost use Rattle.p25_gf64.specs.declared.symbol.Sym.{Sym};
-ghost use Rattle.p25_poly.specs.{declared.side.Side.{Side}, Euclid.{behind, IsPair}, Key.{IsKey}, Polynomial.{coefficient_of}};
+ghost use Rattle.p25_poly.specs.{Euclid.{behind, IsPair}, Key.{IsKey}, Polynomial.{coefficient_of}};
 
 use crate::polynomial::Poly;
 use crate::side::Side;
@@ -26,6 +26,7 @@ pub fn key_solve(syndromes: &[Sym]) -> Key
 {
     let mut front = Side::power(syndromes.len());
     let mut back = Side::series(syndromes);
+    // Each side is lowered by the other in turn, until the degree of one is below half.
     while 2 * back.degree >= syndromes.len() && 2 * front.degree >= syndromes.len() {
         lower(&mut front, &mut back, syndromes.len());
         if 2 * back.degree >= syndromes.len() {

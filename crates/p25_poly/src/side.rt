@@ -1,6 +1,6 @@
 //! The sides of Euclid's algorithm.
 
-ghost use Rattle.std.specs.Prelude.{◌≡◌, ◌≢◌, ℕ, ◌+◌, ◌-◌, ◌<◌, ◌≤◌, length};
+ghost use Rattle.std.specs.Prelude.{◌≡◌, ◌≢◌, ℕ, ◌+◌, ◌<◌, ◌≤◌, length};
 
 use crate::multiples::add_moved;
 use p25_gf64::Sym;

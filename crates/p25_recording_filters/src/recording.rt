@@ -1,6 +1,6 @@
 //! The work of a command on a recording: its items, as they are decided, and what a report writes of them.
 
-ghost use Rattle.std.specs.Prelude.{◌≡◌, [], Result, Ok};
+ghost use Rattle.std.specs.Prelude.{◌≡◌, []};
 ghost use Rattle.p25_stream.specs.Scan.{given};
 ghost use Rattle.p25_recording_filters.specs.Recordings.{fresh, IsClosing};
 

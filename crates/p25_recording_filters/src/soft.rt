@@ -1,11 +1,11 @@
 //! The work of `soft` on a soft recording: its levels become bits, and the blocks of broken packets (PDU) are read again from them.
 
-ghost use Rattle.std.specs.Prelude.{◌≡◌, ◌≢◌, ◌+◌, ◌-◌, ◌%◌, ◌^◌, ◌<◌, ◌≤◌, true, false, [], ◌∷◌, ◌++◌, length, take, drop, map};
+ghost use Rattle.std.specs.Prelude.{◌≡◌, ◌≢◌, ◌+◌, ◌%◌, ◌^◌, ◌<◌, ◌≤◌, true, false, [], ◌∷◌, ◌++◌, length, take, map};
 ghost use Rattle.p25_bits.specs.Bits.{bits_of};
 ghost use Rattle.p25_stream.specs.Scan.{given};
-ghost use Rattle.p25_units.specs.{Items.{covered, place_of}, Units.{whole_octets}};
+ghost use Rattle.p25_units.specs.Items.{place_of};
 ghost use Rattle.p25_soft.specs.Levels.{hard_bits};
-ghost use Rattle.p25_recording_filters.specs.{Commands.{unfilled}, SoftLevels.{filled, item_softened, octet_level}};
+ghost use Rattle.p25_recording_filters.specs.SoftLevels.{filled, item_softened, octet_level};
 ghost use Rattle.p25_recording_filters.specs.Softs.{IsHeardAmong, IsHolding, PutSoftItem, first_level, fresh_soft, is_even_packet};
 
 use crate::held_levels::HeldLevels;
@@ -151,8 +151,8 @@ impl Soft {
         }
     }
 
-    // Sets `out` to the octets that are written of the next item, and lets the levels go before the group of the place after it. There is
-    // one.
+    // Sets `out` to the octets that the bits of the next item fill after those kept back; there is such an item. Lets the levels go before
+    // the group of the place after it.
     fn put_next(&mut self, out: &mut Line)
         requires { given self.old.scan ≢ [] }
         ensures { PutSoftItem self.old out.new self.new }

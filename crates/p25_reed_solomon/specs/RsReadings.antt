@@ -84,10 +84,6 @@ pub rs_erased_reads_as : (n k : ℕ) (list : List (Option Sym)) → IsErasedRead
 unfolding rs_erased_reading_of
 rs_erased_reads_as n k = IsErasedReadAs-erased_reading_of symbols_searched same_symbols (IsWord n k) (IsWord-tested n k) n (n - k) (length_of_word_of n k)
 
--- twice the radius is the number of check symbols, so a list without an erasure is read as the symbols are
-pub checks_twice_radius : (n k : ℕ) → IsCode n k → n - k ≡ 2 * radius_of n k
-checks_twice_radius n k code = sym code.even
-
 -- fewer erasures are allowed than two words differ in symbols
 pub erasures_within_of : (n k : ℕ) → n - k < n - k + 1
 erasures_within_of n k = omega arith

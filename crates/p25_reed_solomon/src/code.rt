@@ -1,4 +1,4 @@
-ghost use Rattle.std.specs.Prelude.{◌+◌, ◌-◌, ◌/◌};
+ghost use Rattle.std.specs.Prelude.{◌+◌, ◌-◌};
 ghost use Rattle.p25_gf64.proofs.SymbolLaws.{same_from_eq};
 ghost use Rattle.p25_reed_solomon.specs.{Words.{IsCode, IsWord, radius_of}, WordLaws.{begins_of, length_of_word_of, one_word_of, within_of, words_apart}};
 ghost use Rattle.p25_reed_solomon.specs.RsReadings.{erasures_within_of, rs_erased_reading_of, rs_erased_reads_as, rs_reading_of, rs_reads_as};

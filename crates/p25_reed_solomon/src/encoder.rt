@@ -4,7 +4,7 @@
 //! j-th power of 1/x. Times the highest power of x it is the usual polynomial, so both have the same
 //! zeros but 0.
 
-ghost use Rattle.std.specs.Prelude.{◌≡◌, ℕ, ◌+◌, ◌-◌, ◌≤◌, length, take};
+ghost use Rattle.std.specs.Prelude.{◌≡◌, ℕ, ◌+◌, ◌≤◌, length, take};
 ghost use Rattle.p25_gf64.specs.Gf64.{gf64};
 ghost use Rattle.p25_algebra.specs.Series.{coefficient, shifted, IsShort};
 ghost use Rattle.p25_reed_solomon.specs.{Generator.{IsGenerator}, Words.{IsCode, IsWord}};
@@ -22,8 +22,8 @@ pub(crate) fn encode(info: &[Sym], word: &mut [Sym])
     let generator = generator_of(checks);
     word.fill(Sym::default());
     word[..info.len()].copy_from_slice(info);
-    // Multiples of the generator polynomial are added, so that all symbols but the last become zero. The
-    // values at its zeros stay: what is left is the remainder.
+    // Multiples of the generator polynomial are added, so that all symbols but the last `checks` become zero.
+    // The values at its zeros stay: what is left is the remainder.
     for i in 0..info.len() {
         let factor = word[i];
         add_multiple(word, factor, &generator, checks + 1, i);

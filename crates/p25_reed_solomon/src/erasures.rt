@@ -1,6 +1,6 @@
 //! The erasures of a received word: how many there are, and the polynomial with a zero for each of them as a factor of others.
 
-ghost use Rattle.std.specs.Prelude.{◌≡◌, ℕ, ◌+◌, ◌<◌, ◌≤◌, length};
+ghost use Rattle.std.specs.Prelude.{◌≡◌, ℕ, ◌<◌, ◌≤◌, length};
 ghost use Rattle.p25_gf64.specs.Gf64.{gf64};
 ghost use Rattle.p25_algebra.specs.Series.{coefficient, shifted};
 ghost use Rattle.p25_reed_solomon.specs.{Errors.{erased_below}, Locator.{times_erasures}};

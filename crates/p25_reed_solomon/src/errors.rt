@@ -1,6 +1,6 @@
 //! The errors of a received word: which places are wrong, and what was added at each.
 
-ghost use Rattle.std.specs.Prelude.{◌≡◌, ℕ, ◌+◌, ◌<◌, ◌≤◌, length, IsTrue, slice_index_or};
+ghost use Rattle.std.specs.Prelude.{◌≡◌, ℕ, ◌<◌, ◌≤◌, length, IsTrue, slice_index_or};
 ghost use Rattle.p25_gf64.specs.{declared.symbol.Sym.{Sym}, Gf64.{gf64}};
 ghost use Rattle.p25_algebra.specs.Series.{coefficient};
 ghost use Rattle.p25_reed_solomon.specs.Errors.{Explains, erased_below, placed};

@@ -35,9 +35,7 @@ pub(crate) fn fill_values(polynomial: &[Sym], points: &[Sym], values: &mut [Sym]
     ensures { (r : ℕ) → r < length values.old
         → coefficient gf64 values.new r ≡ value_at gf64 (length polynomial.now) (coefficient gf64 polynomial.now) (coefficient gf64 points.now r) }
 {
-    for value in values.iter_mut() {
-        *value = Sym::default();
-    }
+    values.fill(Sym::default());
     for i in (0..polynomial.len()).rev() {
         horner_step(values, points, polynomial[i]);
     }

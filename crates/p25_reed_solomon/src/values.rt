@@ -1,6 +1,6 @@
 //! The errors at the zeros of a locator, by Forney's formula: the value of the evaluator divided by the slope of the locator.
 
-ghost use Rattle.std.specs.Prelude.{◌≡◌, ◌≢◌, ℕ, ◌+◌, ◌-◌, ◌<◌, ◌≤◌, length, slice_index_or};
+ghost use Rattle.std.specs.Prelude.{◌≡◌, ◌≢◌, ℕ, ◌<◌, ◌≤◌, length, slice_index_or};
 ghost use Rattle.p25_gf64.specs.Gf64.{gf64};
 ghost use Rattle.p25_algebra.specs.Series.{coefficient, value_at, slope_at};
 ghost use Rattle.p25_reed_solomon.specs.Errors.{point_of};
@@ -64,6 +64,7 @@ fn slopes_of(polynomial: &[Sym], points: &[Sym]) -> [Sym; 32]
     let mut slopes = [Sym::default(); 32];
     let mut values = [Sym::default(); 32];
     for i in (0..polynomial.len()).rev() {
+        // Horner's rule for the slopes takes the values before this step.
         for r in 0..32 {
             slopes[r] = slopes[r].mul(points[r]).add(values[r]);
         }

@@ -1,12 +1,12 @@
 //! The wrong places of a received word, for codes whose errors are known once their places are.
 
-ghost use Rattle.std.specs.Prelude.{◌≡◌, ◌≢◌, ◌↔◌, ℕ, ◌-◌, ◌<◌, ◌≤◌, length};
+ghost use Rattle.std.specs.Prelude.{◌≡◌, ◌≢◌, ◌↔◌, ℕ, ◌<◌, ◌≤◌, length};
 ghost use Rattle.p25_gf64.specs.{declared.symbol.Sym.{Sym}, Gf64.{gf64}};
 ghost use Rattle.p25_algebra.specs.Series.{coefficient, value_at};
 ghost use Rattle.p25_reed_solomon.specs.Errors.{AreErrors, point_of};
 
 use p25_gf64::Sym;
-use p25_poly::{Poly, key_solve};
+use p25_poly::key_solve;
 
 /// Answers a polynomial of degree 11 at most, its lowest coefficient first, that vanishes at the point of a place, the inverse of α to
 /// the exponent of its coefficient, exactly where the received word of n symbols is wrong there: for any errors that explain its first

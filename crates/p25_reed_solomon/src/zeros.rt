@@ -1,6 +1,6 @@
 //! The places at which a locator vanishes.
 
-ghost use Rattle.std.specs.Prelude.{◌-◌, ◌<◌, ◌≤◌, length};
+ghost use Rattle.std.specs.Prelude.{◌<◌, ◌≤◌, length};
 ghost use Rattle.p25_gf64.specs.Gf64.{gf64};
 ghost use Rattle.p25_algebra.specs.Series.{coefficient, IsZero};
 ghost use Rattle.p25_reed_solomon.specs.Errors.{AreZeros};
@@ -17,6 +17,7 @@ pub(crate) fn zeros(polynomial: &[Sym], n: usize) -> ArrayVec<usize, 24>
     ensures zeros { AreZeros n polynomial.now n result.items }
     ensures few { length result.items < length polynomial.now }
 {
+    // The points of the places among n are powers of α, one after the other.
     let mut points = [Sym::default(); 64];
     fill_powers(64 - n as u32, &mut points);
     let mut values = [Sym::default(); 64];

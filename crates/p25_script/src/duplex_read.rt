@@ -3,7 +3,7 @@
 ghost use Rattle.std.specs.Prelude.{◌≡◌, ◌↔◌, ◌<◌, ◌≤◌, [], ◌∷◌, IfOk, Err, length};
 ghost use Rattle.p25_line.specs.declared.fault.LineFault.TheVariants.{Long};
 ghost use Rattle.p25_duplex.specs.{DuplexRuns.{IsDuplexEvent}, declared.event.DuplexEvent.{DuplexEvent as event_type}};
-ghost use Rattle.p25_script.specs.DuplexLines.{IsDuplexScripted, direction_word, duplex_by_words, duplex_event_of, duplex_text, event_behind, hearer_named, start_named, start_word};
+ghost use Rattle.p25_script.specs.DuplexLines.{IsDuplexScripted, direction_word, duplex_by_words, duplex_event_of, duplex_text, event_behind, start_named, start_word};
 ghost use Rattle.p25_script.specs.DuplexReadLaws.{duplex_not_long};
 
 use super::names::EventKind;
@@ -29,7 +29,7 @@ const STARTS: [DuplexStart; 3] = [
 ];
 
 impl DuplexStart {
-    // Answers the kind of event that the first word of a line names. None comes exactly where it names none.
+    // Answers what the first word of a line tells. None comes exactly where it tells nothing.
     fn named(word: &[u8]) -> Option<DuplexStart>
         ensures { result ≡ start_named word.now }
     {

@@ -1,6 +1,6 @@
 //! Events of long messages read from lines.
 
-ghost use Rattle.std.specs.{Prelude.{◌≡◌, ◌↔◌, ◌<◌, ◌≤◌, ◌==◌, IfOk, Err, length, drop, slice_get}, Str.{bytes_eq}};
+ghost use Rattle.std.specs.{Prelude.{◌≡◌, ◌↔◌, ◌<◌, ◌≤◌, IfOk, Err, length, drop, slice_get}, Str.{bytes_eq}};
 ghost use Rattle.p25_line.specs.declared.fault.LineFault.TheVariants.{Long};
 ghost use Rattle.p25_fragments.specs.declared.long_step.LongEvent.{LongEvent as event_type};
 ghost use Rattle.p25_script.specs.LongScript.{IsLongScripted, long_event_by_words, long_event_of, long_event_text, other_event};

@@ -1,12 +1,11 @@
 //! The texts of the steps of long messages.
 
-ghost use Rattle.std.specs.Prelude.{◌≡◌, ◌+◌, ◌≤◌, ◌++◌, [], codes, decimal, length};
+ghost use Rattle.std.specs.Prelude.{◌≡◌, ◌+◌, ◌≤◌, ◌++◌, decimal, length};
 ghost use Rattle.p25_script.specs.{StepTexts.{step_text_of}, LongTexts.{ended_line, first_line_of, line_before, line_behind, long_step_text_of, second_piece}};
-ghost use Rattle.p25_line.specs.Octets.{octets_text};
 
 use super::shown::ScriptStep;
 use super::steps::step_text;
-use p25_fragments::{LongMessage, LongStep, Then};
+use p25_fragments::{LongStep, Then};
 use p25_line::Line;
 use p25_stations::Step;
 
@@ -48,7 +47,7 @@ fn put_first(first: &Option<Step>, out: &mut Line)
     }
 }
 
-// Sets `out` to the line after the step of the inner world.
+// Sets `out` to the line after the step of the inner world, or to nothing where there is none.
 #[tactic(auto, unfolding(crate::specs::LongTexts::line_behind))]
 fn put_behind(then: &Then, out: &mut Line)
     ensures { out.new ≡ line_behind then.now }

@@ -1,7 +1,7 @@
 //! The texts of steps.
 
-ghost use Rattle.std.specs.Prelude.{◌≡◌, ◌+◌, ◌*◌, ◌<◌, ◌≤◌, Bool, true, ◌++◌, [], ◌∷◌, length, if◌then◌else◌, codes, decimal};
-ghost use Rattle.p25_messages.specs.declared.step_kind.StepKind.TheVariants.{Taken, Retry};
+ghost use Rattle.std.specs.Prelude.{◌≡◌, ◌+◌, ◌<◌, ◌≤◌, ◌++◌, [], ◌∷◌, length, if◌then◌else◌, codes, decimal};
+ghost use Rattle.p25_messages.specs.declared.step_kind.StepKind.TheVariants.{Retry};
 ghost use Rattle.p25_line.specs.{CommaLists.{comma_text}, Octets.{octets_text}};
 ghost use Rattle.p25_script.specs.{StepTexts.{flags_text, kind_text, serials_of, step_text_of}, Script.{way_word}};
 

@@ -9,7 +9,7 @@ use crate::step::{Event, Step};
 use p25_delivery::{Inbound, Outbound, StepKind, Way};
 use p25_messages::Flips;
 use p25_packet_blocks::Packet;
-use std::alloc::{AllocError, Global};
+use std::alloc::Global;
 use std::marker::Model;
 
 /// The two stations of a world and the air between them. What a world keeps of its history is not known here.

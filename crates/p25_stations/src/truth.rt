@@ -1,6 +1,6 @@
 #![tactic(auto, unfolding(crate::specs::Air::is_true_slot, crate::specs::Air::are_true_slots, crate::specs::Air::is_true_to))]
 
-ghost use Rattle.std.specs.Prelude.{◌≡◌, ◌&&◌};
+ghost use Rattle.std.specs.Prelude.{◌≡◌};
 ghost use Rattle.p25_stations.specs.Air.{is_true_slot, are_true_slots, is_true_to};
 
 use p25_packet_blocks::{Packet, Slot, Slots};

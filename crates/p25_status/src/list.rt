@@ -90,7 +90,7 @@ impl<T: Copy + Default, const MOST: usize> BoundedList<T, MOST> {
         self.items.push(item);
     }
 
-    /// Becomes the empty list.
+    /// Empties the list.
     pub fn clear(&mut self)
         ensures { self.new ≡ [] }
     {

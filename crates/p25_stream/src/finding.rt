@@ -1,8 +1,8 @@
 //! The first item of the bits of some octets, with no scanner.
 
-ghost use Rattle.std.specs.Prelude.{◌≡◌, ◌+◌, ◌%◌, ◌<◌, ◌≤◌, ◌++◌, [], false, true, length, take, drop};
-ghost use Rattle.p25_bits.specs.Bits.{bits_of, octet_bits};
-ghost use Rattle.p25_stream.specs.{Judgements.{IsJudged, is_settled}, Finding.{IsFilled, IsFirst}, Items.{items_by}};
+ghost use Rattle.std.specs.Prelude.{◌≡◌, ◌+◌, ◌<◌, ◌≤◌, ◌++◌, [], false, true, length, take, drop};
+ghost use Rattle.p25_bits.specs.Bits.{octet_bits};
+ghost use Rattle.p25_stream.specs.{Finding.{IsFilled, IsFirst}, Items.{items_by}};
 ghost use Rattle.p25_units.specs.Items.{IsSoundItem};
 
 use crate::arriving::put_some;

@@ -1,6 +1,6 @@
 //! What is known of the item that some bits begin with.
 
-ghost use Rattle.std.specs.Prelude.{◌≡◌, true, false};
+ghost use Rattle.std.specs.Prelude.{◌≡◌};
 ghost use Rattle.p25_stream.specs.Judgements.{is_settled, waits};
 
 use p25_units::{Begun, Field};

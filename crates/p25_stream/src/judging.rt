@@ -1,6 +1,6 @@
 //! The item that some bits begin with.
 
-ghost use Rattle.std.specs.Prelude.{◌≡◌, ◌+◌, ◌-◌, ◌*◌, ◌^◌, ◌<◌, ◌≤◌, ℕ, true, false, length, drop};
+ghost use Rattle.std.specs.Prelude.{◌≡◌, ◌+◌, ◌-◌, ◌*◌, ◌^◌, ◌<◌, ◌≤◌, ℕ, true, false, length};
 ghost use Rattle.p25_bits.specs.Bits.{bits_of, part};
 ghost use Rattle.p25_status.specs.Sync.{has_sync};
 ghost use Rattle.p25_units.specs.{Begins.{IsBegun}, Items.{IsSoundItem}};

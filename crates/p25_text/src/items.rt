@@ -1,13 +1,13 @@
 //! The texts of items.
 
-ghost use Rattle.std.specs.Prelude.{◌≡◌, ◌+◌, ◌*◌, ◌<◌, ◌≤◌, ◌++◌, [], length};
+ghost use Rattle.std.specs.Prelude.{◌≡◌, ◌+◌, ◌<◌, ◌≤◌, ◌++◌, [], length};
 ghost use Rattle.p25_units.specs.Items.{IsSoundItem};
 ghost use Rattle.p25_text.specs.ItemTexts.{item_text_of, status_digits};
 
 use super::write::put_unit;
 use p25_line::Line;
 use p25_status::{put_field_name, put_field_names};
-use p25_units::{Field, FieldList, Frame, Item, Statuses, frame_length};
+use p25_units::{FieldList, Frame, Item, Statuses, frame_length};
 
 /// Sets `out` to the text of an item, without the end of its line.
 #[tactic(auto, unfolding(crate::specs::ItemTexts::item_text_of))]
@@ -73,6 +73,7 @@ fn put_broken(place: u64, count: u32, identifier: (u16, u8), fields: &FieldList,
     out.put(b" nac=");
     out.put_three_digits(identifier.0);
     out.put(b" duid=");
+    // The last of its two hexadecimal digits.
     let mut digits = [0; 2];
     let _ = hex::encode_to_slice([identifier.1], &mut digits);
     out.put(&digits[1..]);

@@ -1,6 +1,6 @@
 //! The values of packets (PDU): their headers, blocks and octets, read from words.
 
-ghost use Rattle.std.specs.Prelude.{◌≡◌, ◌<◌, ◌≤◌, length, IfSome};
+ghost use Rattle.std.specs.Prelude.{◌≡◌, ◌≤◌, length, IfSome};
 ghost use Rattle.p25_packet_blocks.specs.Kinds.{IsPlainFormat};
 ghost use Rattle.p25_line.specs.CommaLists.{counted, list_in};
 ghost use Rattle.p25_text.specs.{Packets.{block_in, confirmed_in, plain_in, slot_in}, Values.{octets_or_none}};

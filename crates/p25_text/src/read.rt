@@ -1,6 +1,6 @@
 //! Units read from lines.
 
-ghost use Rattle.std.specs.{Prelude.{◌≡◌, ◌↔◌, ℕ, ◌<◌, IfOk, Err, length, drop}, Option.{option_map}};
+ghost use Rattle.std.specs.Prelude.{◌≡◌, ◌↔◌, ◌<◌, IfOk, Err, length, drop};
 ghost use Rattle.p25_line.specs.declared.fault.LineFault.TheVariants.{Long};
 ghost use Rattle.p25_units.specs.{UnitParts.{UnitParts}, Units.{IsSendableUnit}};
 ghost use Rattle.p25_text.specs.{Grammar.{body_in, read_line_of, read_words as unit_of_words, text_of, unit_in}, Names.{keys_of}};

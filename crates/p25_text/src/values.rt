@@ -1,6 +1,6 @@
 //! The values of the keys of a unit line.
 
-ghost use Rattle.std.specs.{Prelude.{◌≡◌, ℕ, ◌+◌, ◌<◌, ◌≤◌, List, [], ◌∷◌, ◌++◌, length, drop, map, slice_get, IfSome}, Option.{option_map}};
+ghost use Rattle.std.specs.{Prelude.{◌≡◌, ℕ, ◌+◌, ◌<◌, ◌≤◌, List, length, drop, map, slice_get, IfSome}, Option.{option_map}};
 ghost use Rattle.p25_text.specs.{Grammar.{behind, values_behind}, Names.{key_text}, Values.{nac_in, octets_in}};
 
 use super::names::UnitKey;
@@ -26,7 +26,7 @@ impl<'a> Model for Values<'a> {
 }
 
 impl<'a> Values<'a> {
-    /// Answers value `i`.
+    /// Answers value `i`, counted from 0 and below the number of them.
     pub fn get(&self, i: usize) -> &'a [u8]
         requires { i < length self.now }
         ensures { slice_get self.now i ≡ Some result.now }

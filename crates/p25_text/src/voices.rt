@@ -1,9 +1,8 @@
 //! The lines of voice units (HDU, LDU1, LDU2, TDU and TDULC): written, and their values read from words.
 
-ghost use Rattle.std.specs.{Prelude.{◌≡◌, ◌+◌, ◌*◌, ◌≤◌, [], ◌∷◌, ◌++◌, length, take, drop}, Option.{option_and_then}};
-ghost use Rattle.p25_text.specs.{Grammar.{text_of}, Names.{other_keys}, Values.{key_value_text}};
-ghost use Rattle.p25_text.specs.{Voices.{frame_octets, frames_of, octets_behind, pair_of, voice_in}, declared.names.UnitKey.TheVariants.{Frames}};
-ghost use Rattle.p25_text.specs.declared.names.UnitKind.TheVariants.{Hdu, Ldu1, Ldu2, Tdulc};
+ghost use Rattle.std.specs.Prelude.{◌≡◌, ◌+◌, ◌*◌, ◌≤◌, ◌++◌, length, take, drop};
+ghost use Rattle.p25_text.specs.{Grammar.{text_of}, Values.{key_value_text}, Voices.{frame_octets, frames_of, pair_of, voice_in}};
+ghost use Rattle.p25_text.specs.{declared.names.UnitKey.TheVariants.{Frames}, declared.names.UnitKind.TheVariants.{Hdu, Ldu1, Ldu2, Tdulc}};
 
 use super::names::{UnitKey, UnitKind};
 use super::values::{Values, octets_value};

@@ -1,7 +1,6 @@
 //! The lines of units.
 
-ghost use Rattle.std.specs.Prelude.{◌≡◌, ◌+◌, ◌*◌, ◌<◌, ◌≤◌, ◌∷◌, ◌++◌, length};
-ghost use Rattle.hex.specs.Hex.{encode_lower};
+ghost use Rattle.std.specs.Prelude.{◌≡◌, ◌+◌, ◌*◌, ◌≤◌, ◌∷◌, ◌++◌, length};
 ghost use Rattle.p25_text.specs.{Grammar.{text_of}, Names.{key_text, kind_word}, Values.{key_value_text}, declared.names.UnitKey.TheVariants.{Nac}};
 ghost use Rattle.p25_line.specs.Values.{three_digits};
 

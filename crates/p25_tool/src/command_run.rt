@@ -1,6 +1,6 @@
 //! The call that the program makes.
 
-ghost use Rattle.std.specs.Prelude.{◌≡◌, ℕ, ◌≤◌, ◌↔◌, false, List, [], None};
+ghost use Rattle.std.specs.Prelude.{◌≡◌, ◌≤◌, ◌↔◌, false, List, [], None};
 ghost use Rattle.p25_io.specs.{Events.{Event}, Faults.{Rose}, Tapes.{calls_on, is_torn}};
 ghost use Rattle.p25_filter.specs.{Traces.{IsRun}, LineFilters.{first_line, line_future}};
 ghost use Rattle.p25_tool.specs.{Outputs.{command_future}, CallClauses.{CallSays}, CallRuns.{IsCallRun}, Words.{command_of}};

@@ -1,5 +1,5 @@
 ghost use Rattle.std.specs.Prelude.{◌≡◌, ◌+◌, ◌≤◌, ◌++◌, length, codes, decimal, Some};
-ghost use Rattle.p25_tool.specs.Outcomes.{ending_outcome, fault_word, line_of, status_of, filter_outcome};
+ghost use Rattle.p25_tool.specs.Outcomes.{fault_word, line_of, status_of, filter_outcome};
 
 use p25_filter::{Ending, FilterEnd};
 use p25_line::{Line, LineFault};

@@ -1,7 +1,7 @@
 //! The first least path of a table of costs: from the last step to the first the least cost of what follows each
 //! state, and then forward the lowest symbol that attains it.
 
-ghost use Rattle.std.specs.Prelude.{◌≡◌, ℕ, ◌+◌, ◌*◌, ◌^◌, ◌<◌, ◌≤◌, All, length};
+ghost use Rattle.std.specs.Prelude.{◌≡◌, ℕ, ◌^◌, ◌<◌, ◌≤◌, All, length};
 ghost use Rattle.p25_trellis.specs.{Trellis.{IsFirstLeastReading}, Costs.{cost_in, path_cost}, Least.{step_cost, HasLeastFrom, IsLowestLeast}};
 
 use super::near::BLOCK_RESTS;

@@ -1,7 +1,7 @@
 //! The search of the first nearest path to nibbles that were received: from the last step to the first the least distance of what
 //! follows each state and the lowest symbol that it begins with, all states of a step side by side, and then the path of these symbols.
 
-ghost use Rattle.std.specs.Prelude.{◌≡◌, ℕ, ◌+◌, ◌*◌, ◌/◌, ◌%◌, ◌<◌, All, length, min, slice_index};
+ghost use Rattle.std.specs.Prelude.{◌≡◌, ℕ, ◌+◌, ◌/◌, ◌%◌, ◌<◌, All, length, slice_index};
 ghost use Rattle.p25_trellis.specs.{Trellis.{IsFirstLeastReading}, Tables.{nibble_distance}, Costs.{path_cost, received_cost}};
 ghost use Rattle.p25_trellis.specs.Least.{HasLeastFrom, HasLowestFrom, IsLowestLeast};
 

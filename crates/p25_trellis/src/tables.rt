@@ -1,7 +1,7 @@
 //! The tables of each rate, as the search of a path reads them: the nibbles of its points, which symbol sends a nibble, and how a symbol
 //! ranks at a nibble.
 
-ghost use Rattle.std.specs.Prelude.{ℕ, ◌^◌};
+ghost use Rattle.std.specs.Prelude.{◌^◌};
 ghost use Rattle.p25_trellis.specs.TableLaws.{AreTables};
 
 use super::rate::{Half, RatePoints, ThreeQuarter};

@@ -1,9 +1,8 @@
 //! Fronts, frame sync and network identifier (NID), written, read and compared.
 
-ghost use Rattle.std.specs.Prelude.{◌≡◌, ◌+◌, ◌^◌, ◌<◌, ◌≤◌, ◌++◌, IfSome, length, drop, option_map, take};
-ghost use Rattle.p25_bits.specs.{Bits.{field_of, bits_of}, Distance.{distance_of}};
+ghost use Rattle.std.specs.Prelude.{◌≡◌, ◌+◌, ◌^◌, ◌<◌, ◌≤◌, ◌++◌, IfSome, length, drop, option_map};
+ghost use Rattle.p25_bits.specs.Bits.{field_of};
 ghost use Rattle.p25_unit_front.specs.Front.{front_fixes_of, identifier_bits, identifier_of, unit_front};
-ghost use Rattle.p25_bch_nid.specs.NidWord.{nid_word};
 
 use p25_bch_nid::{Nid, ReadNid, nid_bits, nid_distance, read_nid, read_nid_counted};
 use p25_bits::BitBuf;

@@ -1,6 +1,6 @@
 //! A unit with the status symbols that are sent among its bits.
 
-ghost use Rattle.std.specs.Prelude.{◌≡◌, ◌≤◌, ◌<◌, ◌*◌};
+ghost use Rattle.std.specs.Prelude.{◌≡◌, ◌≤◌};
 ghost use Rattle.p25_units.specs.Units.{IsSendableBody, IsSoundFrame, IsWholeBody, filled_frame, frame_length_of};
 
 use crate::unit::{Body, Unit};
@@ -19,7 +19,7 @@ pub struct Frame {
 }
 
 impl Frame {
-    // A frame into which another is read. It is large, so it is made apart from its caller.
+    // A frame into which another is read. It is large, so it is made in a function of its own.
     pub(crate) fn blank() -> Frame {
         Frame {
             unit: Unit::new(0, Body::Voice(VoiceUnit::End)),

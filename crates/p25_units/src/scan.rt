@@ -1,6 +1,6 @@
 //! What the bits from a place on say of a unit there.
 
-ghost use Rattle.std.specs.Prelude.{◌≡◌, ◌+◌, ◌≤◌, true, length, drop};
+ghost use Rattle.std.specs.Prelude.{◌≡◌, ◌≤◌, true, length, drop};
 ghost use Rattle.p25_status.specs.Sync.{has_sync};
 ghost use Rattle.p25_units.specs.{Begins.{IsBegun}, Needs.{length_need, need_of}};
 

@@ -1,6 +1,6 @@
 //! Units as they are sent.
 
-ghost use Rattle.std.specs.Prelude.{◌≡◌, ◌<◌, ◌≤◌, Ok, length};
+ghost use Rattle.std.specs.Prelude.{◌≡◌, ◌<◌, Ok, length};
 ghost use Rattle.p25_units.specs.Readings.{unit_reading_of};
 ghost use Rattle.p25_units.specs.Units.{IsSendableBody, IsSendableUnit, IsSoundFrame, IsWholeBody, body_image_of, body_length, frame_as, frame_length_of, image_of, unit_image_of};
 

@@ -1,6 +1,6 @@
 //! A unit: whose it is, and what it carries.
 
-ghost use Rattle.std.specs.Prelude.{◌≡◌, ℕ, ◌<◌, ◌≤◌, Ok, Some, length};
+ghost use Rattle.std.specs.Prelude.{◌≡◌, ◌<◌, ◌≤◌, Ok, Some, length};
 ghost use Rattle.p25_status.specs.Outcomes.{IfRead, read_or};
 ghost use Rattle.p25_voice_units.specs.{Lengths.{voice_length_of}, Readings.{voice_reading_of}};
 ghost use Rattle.p25_packet_blocks.specs.Reading.{header_bits, packet_reading_of, read_head_of, HasItsLength};

@@ -1,6 +1,6 @@
 //! The kinds of sample units, and what each carries.
 
-ghost use Rattle.std.specs.Prelude.{◌≡◌, ◌+◌, ◌-◌, ◌*◌, ◌^◌, ◌<◌, ◌≤◌, length, take};
+ghost use Rattle.std.specs.Prelude.{◌≡◌, ◌*◌, ◌^◌, ◌<◌, ◌≤◌, length, take};
 ghost use Rattle.p25_vectors.specs.Draws.{octets_drawn, state_after};
 ghost use Rattle.p25_vectors.specs.Bodies.{blocks_drawn, body_next, header_of, kind_of, llid_drawn, slots_drawn, sync_of, voice_drawn};
 ghost use Rattle.p25_vectors.specs.declared.bodies.Kind.TheVariants.{Confirmed as confirmed_kind, Plain as plain_kind};
@@ -122,6 +122,7 @@ fn draw_llid(draws: &mut Draws) -> u32
     triple_at(&octets, 0)
 }
 
+// Draws the good slots of a confirmed packet, whose serial numbers begin with 0.
 fn draw_slots(blocks: u8, draws: &mut Draws) -> Slots
     requires { blocks ≤ 4 }
     ensures slots { result ≡ slots_drawn blocks draws.old }
@@ -135,6 +136,7 @@ fn draw_slots(blocks: u8, draws: &mut Draws) -> Slots
     slots
 }
 
+// Draws octets, `count` of them.
 fn draw_octets(count: usize, draws: &mut Draws) -> Octets
     requires { count ≤ 1520 }
     ensures octets { result ≡ octets_drawn count draws.old }
@@ -148,6 +150,7 @@ fn draw_octets(count: usize, draws: &mut Draws) -> Octets
     octets
 }
 
+// Draws a confirmed packet.
 fn draw_confirmed(draws: &mut Draws) -> Packet
     ensures packet { packet_in result ≡ (body_next confirmed_kind draws.old).0 }
     ensures state { draws.new ≡ (body_next confirmed_kind draws.old).1 }
@@ -157,6 +160,7 @@ fn draw_confirmed(draws: &mut Draws) -> Packet
     Packet::Confirmed(Confirmed::new(head, draw_slots(blocks, draws)))
 }
 
+// Draws an unconfirmed packet.
 fn draw_plain(draws: &mut Draws) -> Packet
     ensures packet { packet_in result ≡ (body_next plain_kind draws.old).0 }
     ensures state { draws.new ≡ (body_next plain_kind draws.old).1 }

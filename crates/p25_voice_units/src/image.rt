@@ -1,6 +1,6 @@
 //! Voice units (HDU, LDU1, LDU2, TDU and TDULC) as bits.
 
-ghost use Rattle.std.specs.{Prelude.{◌≡◌, ◌+◌, ◌*◌, ◌/◌, ◌<◌, ◌≤◌, ◌++◌, Bool, List, Ok, Some, true, length, sum_by}, List.{list_all}};
+ghost use Rattle.std.specs.{Prelude.{◌≡◌, ◌+◌, ◌/◌, ◌<◌, ◌≤◌, ◌++◌, Bool, List, Ok, Some, true, length, sum_by}, List.{list_all}};
 ghost use Rattle.p25_coded_fields.specs.Written.{Encodes};
 ghost use Rattle.p25_bits.specs.Bits.{octet_bits};
 ghost use Rattle.p25_reed_solomon.specs.{Encoding.{rs_word}, Words.{IsCode}};

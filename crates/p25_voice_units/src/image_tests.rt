@@ -1,7 +1,5 @@
 //! The bits of units of each kind, HDU, LDU1, LDU2, TDU and TDULC, computed apart from this code.
 
-ghost use Rattle.std.specs.Prelude.{◌<◌, ◌≤◌, length};
-
 use super::{Voice, VoiceFrame, VoiceUnit, voice_image, voice_length};
 use p25_bits::BitBuf;
 use p25_link::{EncryptionSync, HeaderWord, LinkControl};

@@ -1,7 +1,7 @@
 //! The laws of the images, of the readings and of the layouts of voice units (HDU, LDU1, LDU2, TDU and TDULC). Each function states
 //! what is proved, and makes no call.
 
-ghost use Rattle.std.specs.Prelude.{◌≡◌, ◌↔◌, ◌+◌, ◌*◌, ◌%◌, ◌≤◌, ℕ, Bool, List, Some, length, Ok};
+ghost use Rattle.std.specs.Prelude.{◌≡◌, ◌↔◌, ◌%◌, ◌≤◌, ℕ, Bool, List, Some, length, Ok};
 ghost use Rattle.p25_voice_units.specs.{declared.unit.VoiceUnit.{VoiceUnit}, Layouts.{hdu_rows, ldu_rows, tdu_rows, tdulc_rows}, FieldLayouts.{word_places}};
 ghost use Rattle.p25_voice_units.specs.{Images.{voice_image_of}, Places.{IsVoiceImage}, Lengths.{voice_duid, voice_length_of}, Sendable.{IsSendableVoice}};
 ghost use Rattle.p25_voice_units.specs.Readings.{voice_reading_of, frame_places, low_places};

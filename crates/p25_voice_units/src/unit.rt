@@ -1,6 +1,6 @@
 //! The kinds of voice units: HDU, LDU1, LDU2, TDU and TDULC.
 
-ghost use Rattle.std.specs.Prelude.{◌≡◌, ℕ, ◌≤◌, Some};
+ghost use Rattle.std.specs.Prelude.{◌≡◌, ◌≤◌, Some};
 ghost use Rattle.p25_voice_units.specs.Lengths.{voice_duid, voice_length_of};
 
 use crate::voice::Voice;

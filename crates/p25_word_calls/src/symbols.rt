@@ -1,6 +1,6 @@
 //! Words of the Reed-Solomon codes, the octets of whose symbols are given.
 
-ghost use Rattle.std.specs.Prelude.{◌≡◌, ◌<◌, ◌≤◌, All, length, map, IsTrue};
+ghost use Rattle.std.specs.Prelude.{◌≡◌, ◌<◌, All, length, map, IsTrue};
 ghost use Rattle.p25_code.specs.Erasures.{without_erased};
 ghost use Rattle.p25_gf64.specs.Symbol.{number};
 ghost use Rattle.p25_reed_solomon.specs.{Words.{IsCode}, RsReadings.{rs_erased_reading_of, rs_reading_of}};

@@ -1,8 +1,6 @@
 //! A call of four voice units (HDU, LDU1, LDU2 and TDULC): built, shown, counted, repaired, bridged and grouped; each read and each
 //! write fails in turn, and it is cut off after each of its octets.
 
-ghost use Rattle.std.specs.Prelude.{◌≤◌, ◌<◌, length};
-
 use super::{Call, build, calm, ends, lines_of, put_named, writes};
 use p25_line::Line;
 use p25_tool::Outcome;

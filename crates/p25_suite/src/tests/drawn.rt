@@ -2,7 +2,7 @@
 //! bits at drawn places, as few as the codes of the unit correct. Each kind after noise, and 200 units end to end, are shown and
 //! repaired as they were sent.
 
-ghost use Rattle.std.specs.Prelude.{◌≤◌, ◌<◌, length};
+ghost use Rattle.std.specs.Prelude.{◌<◌};
 
 use super::{build, change_bit, put_named, put_short, words_of, writes};
 use p25_bits::BitBuf;

@@ -1,7 +1,6 @@
 //! The largest input, and one octet more.
 
-ghost use Rattle.std.specs.Prelude.{◌≡◌, None, OnOk, OnErr};
-ghost use Rattle.p25_io.specs.{Faults.{HasCause}, Octets.{Appended, AppendedBeginning}};
+ghost use Rattle.std.specs.Prelude.{None};
 
 use super::words_of;
 use p25_io::{Failed, Sink, SteadySource};

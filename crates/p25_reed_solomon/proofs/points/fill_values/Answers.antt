@@ -1,8 +1,8 @@
-use Rattle.std.proofs.Common.{◌≡◌, ◌-◌, ◌+◌, length, ap, ap₂, sym, ◌∙◌, arith}
-use Rattle.p25_gf64.specs.Gf64.{gf64}
+use Rattle.std.proofs.Common.{◌≡◌, List, ◌-◌, ◌+◌, length, ap, ap₂, sym, ◌∙◌, arith}
+use Rattle.p25_gf64.specs.{declared.symbol.Sym.{Sym}, Gf64.{gf64}}
 use Rattle.p25_algebra.specs.Series.{coefficient, value_at}
 use Rattle.p25_algebra.proofs.ValueLaws.{value-none}
-use Rattle.p25_poly.proofs.CoefficientLaws.{coefficient_read, horner_step}
+use Rattle.p25_poly.proofs.CoefficientLaws.{coefficient_blank, coefficient_read, horner_step}
 use Rattle.p25_reed_solomon.proofs.ListLaws.{value_whole}
 use Rattle.p25_reed_solomon.proofs.points.fill_values.Goals as goal
 
@@ -10,7 +10,8 @@ pub loop-i-init : goal.loop-i-init
 loop-i-init c = λ r low.
     let n = length c.args.polynomial.now in
     let none : 0 ≡ n - n = omega arith in
-    c.loop-value.invariant r (omega arith) ∙ sym (value-none gf64 _ (coefficient gf64 c.args.points.now r))
+    ap (λ (s : List Sym). coefficient gf64 s r) (c.fill.ensures.after (λ y e. e)) ∙ coefficient_blank gf64 c.default.result _ r c.default.ensures
+    ∙ sym (value-none gf64 _ (coefficient gf64 c.args.points.now r))
     ∙ ap (λ m. value_at gf64 m (λ k. coefficient gf64 c.args.polynomial.now (n + k)) (coefficient gf64 c.args.points.now r)) none
 
 pub loop-i-preserved : goal.loop-i-preserved
