@@ -2,9 +2,9 @@
 
 ghost use Rattle.std.specs.Prelude.{◌≡◌, ◌<◌, ◌≤◌, Ok, Some, length};
 ghost use Rattle.p25_status.specs.Outcomes.{IfRead, read_or};
-ghost use Rattle.p25_voice_units.specs.{Lengths.{voice_length_of}, Readings.{voice_reading_of}};
+ghost use Rattle.p25_voice_units.specs.{Lengths.{voice_length_of}, Readings.{voice_reading_of}, declared.unit.VoiceUnit.TheVariants.{End}};
 ghost use Rattle.p25_packet_blocks.specs.Reading.{header_bits, packet_reading_of, read_head_of, HasItsLength};
-ghost use Rattle.p25_units.specs.{Fixes.{body_fixes_of}, Readings.{body_from, packet_body_from}, Units.{body_duid}};
+ghost use Rattle.p25_units.specs.{Fixes.{body_fixes_of}, Readings.{body_from, packet_body_from}, Units.{body_duid}, declared.unit.Body.TheVariants.{Voice}};
 
 use p25_bch_nid::{Nid, PDU};
 use p25_bits::BitBuf;
@@ -74,26 +74,21 @@ impl Unit {
         ensures most { IfRead result (λ wrong. wrong ≤ 864) }
     {
         self.nac = nid.nac;
+        if let Body::Packet(_) = &self.body {
+            self.make_voice();
+        }
         match &mut self.body {
             Body::Voice(held) => read_voice_in(nid.duid, bare, held),
-            Body::Packet(_) => self.read_voice_anew(nid, bare),
+            Body::Packet(_) => unreachable!(),
         }
     }
 
-    // Does what `read_voice` does, where the unit was a packet. A body takes room, which is cleared, so it is made apart from its caller.
+    // Makes it carry a voice unit: room into which one is read. A body takes room, which is cleared, so it is made apart from its caller.
     #[inline(never)]
-    fn read_voice_anew(&mut self, nid: &Nid, bare: &BitBuf) -> ReadOutcome
-        requires { voice_length_of nid.now.duid ≡ Some (length bare.now) }
-        ensures nac { self.new.nac ≡ nid.now.nac }
-        ensures body { read_or result self.new.body ≡ body_from (voice_reading_of nid.now.duid bare.now) }
-        ensures wrong { IfRead result (λ wrong. wrong ≡ body_fixes_of self.new bare.now) }
-        ensures most { IfRead result (λ wrong. wrong ≤ 864) }
+    fn make_voice(&mut self)
+        ensures { self.new ≡ record self.old { body = Voice End } }
     {
-        self.nac = nid.nac;
-        let mut voice = VoiceUnit::End;
-        let outcome = read_voice_in(nid.duid, bare, &mut voice);
-        self.body = Body::Voice(voice);
-        outcome
+        self.body = Body::Voice(VoiceUnit::End);
     }
 
     // Becomes the packet (PDU) of a unit without status symbols whose header was read, under a network access code, and answers what
