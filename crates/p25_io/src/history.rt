@@ -1,7 +1,7 @@
 // The events that a port went through. They exist only in proofs.
 ghost use Rattle.std.specs.Prelude.{◌≡◌, List, [], ◌∷◌, ◌++◌};
 ghost use base.Fml.{ftrue};
-ghost use Rattle.p25_io.specs.Events.{Event};
+ghost use Rattle.p25_io.specs.{Events.{Event}, Histories.{events_code}};
 
 use std::marker::Model;
 
