@@ -212,12 +212,12 @@ void p25_follower_begin(p25_follower *follower);
 
    Answers how many octets it wrote, at most P25_FOLLOW_ROOM; or the first of these that applies, and then *follower and `into` stay:
    P25_OUTSIDE, where the item does not begin where the one before it ended, its numbers are those of no item, the octets lack a bit of it,
-   or *follower is none that these calls set; or P25_NO_ROOM. */
+   or the numbers of *follower fit none, which does not happen to one that these calls set; or P25_NO_ROOM. */
 int32_t p25_follower_take(p25_follower *follower, const uint8_t *octets, size_t n, uint64_t begin, const p25_item *item, uint8_t *into,
                           size_t room);
 
 /* Ends a recording: writes what was kept back, and sets *follower to one that no item was taken by. Answers how many octets it wrote, at
-   most 864; or P25_OUTSIDE, where *follower is none that these calls set, or P25_NO_ROOM, and then *follower and `into` stay. */
+   most 864; or P25_OUTSIDE, where the numbers of *follower fit none, or P25_NO_ROOM, and then *follower and `into` stay. */
 int32_t p25_follower_finish(p25_follower *follower, uint8_t *into, size_t room);
 
 /* Writes what `p25 relay` writes in place of the item that begins at bit `from` of a recording, of which octets are given as to
@@ -355,11 +355,12 @@ void p25_caller_begin(p25_caller *caller);
    with the unit before, where there is a break after that one. So a call comes with the item that decides that it has ended.
 
    Answers P25_OUTSIDE where the item may not be taken, and then *caller and *call stay: it does not begin where the one before it ended;
-   it begins at 2^60 or above; 2^32 - 1 items were taken; or *caller is none that these calls set. */
+   it begins at 2^60 or above; 2^32 - 1 items were taken; or the numbers of *caller fit none, which does not happen to one that these calls
+   set. */
 int32_t p25_caller_take(p25_caller *caller, const p25_item *item, const p25_fields *fields, p25_call *call);
 
 /* Ends a recording: answers P25_CALL where a call is still open. *caller is then one that no item was taken by. Answers P25_OUTSIDE
-   where *caller is none that these calls set, and then it stays. */
+   where the numbers of *caller fit none, and then it stays. */
 int32_t p25_caller_finish(p25_caller *caller, p25_call *call);
 
 /* Packets ------------------------------------------------------------------------------------------------------------------ */

@@ -83,7 +83,7 @@ impl BitBuf {
         requires before { take first numbers.old ≡ numbers_from width first (drop at self.now) }
         ensures { numbers.new ≡ numbers_from width (length numbers.old) (drop at self.now) }
     {
-        // The number of bits held bounds every place below.
+        // For the prover: the number of bits held bounds every place below.
         let _ = self.len();
         for i in first..numbers.len() {
             numbers[i] = self.field(at + width as usize * i, width) as u8;
@@ -97,7 +97,7 @@ impl BitBuf {
         ensures long { length octets.new ≡ length octets.old }
         ensures taken { take result octets.new ≡ numbers_from 8 result (drop at self.now) }
     {
-        // The number of bits held bounds every place below.
+        // For the prover: the number of bits held bounds every place below.
         let _ = self.len();
         let whole = octets.len() / 8;
         for g in 0..whole {

@@ -63,8 +63,8 @@ pub extern "C" fn p25_caller_begin(caller: &mut CallerState)
 ///
 /// Answers 1 where a call ends, and sets `call` to it: with this item, its terminator, or with the unit before, where there is a break
 /// after that one. Answers 0 where none ends. Answers -1 where the item may not be taken, and then `caller` stays: it does not begin
-/// where the one before it ended, it begins at 2^60 or above, 2^32 - 1 items were taken, or `caller` is none that these calls set. At 0
-/// and -1 `call` stays.
+/// where the one before it ended, it begins at 2^60 or above, 2^32 - 1 items were taken, or the numbers of `caller` fit none: its open run
+/// ends after the last item, or has more units than items were taken. At 0 and -1 `call` stays.
 #[unsafe(no_mangle)]
 pub extern "C" fn p25_caller_take(
     caller: &mut CallerState,
@@ -95,7 +95,8 @@ pub extern "C" fn p25_caller_take(
 }
 
 /// Ends a recording: answers 1 and sets `call` to the call that is still open, or answers 0 where none is. `caller` is then one that no
-/// item was taken by. Answers -1 where `caller` is none that these calls set, and then it stays. At 0 and -1 `call` stays.
+/// item was taken by. Answers -1 where the numbers of `caller` fit none, as `p25_caller_take` does, and then it stays. At 0 and -1
+/// `call` stays.
 #[unsafe(no_mangle)]
 pub extern "C" fn p25_caller_finish(caller: &mut CallerState, call: &mut CallParts) -> i32
     ensures answer { result ≡ call_answer (last_asked caller.old) }

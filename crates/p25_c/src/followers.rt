@@ -15,12 +15,16 @@ use p25_bits::BitBuf;
 use p25_follow::Follower;
 use p25_line::Line;
 use p25_recording_filters::{Followed, Report};
+use p25_status::SENT_BLOCK_LENGTH;
 use p25_units::{FieldList, Item};
 
 // The most bits of a stretch that are kept, and one more; the most bits of an item of a stretch.
 const STRETCH_END: u16 = 6_912;
 
 const STRETCH_ITEM: u32 = 4_096;
+
+// How many bits are sent for each status symbol: a unit has whole blocks of them, at least two.
+const BLOCK: u32 = SENT_BLOCK_LENGTH as u32;
 
 /// What is kept between the items of a recording: the next one begins at bit `reached`. Where `has_unit` is not 0 the last unit has this
 /// NAC and DUID, and the first `stretch` bits of `octets` are those after it that are not settled yet. `waits` bits that fill no octet
@@ -53,7 +57,8 @@ pub extern "C" fn p25_follower_begin(follower: &mut FollowerState)
 ///
 /// Where it does not, all of `into` and of `follower` stays, and it answers the first of these that applies: -1, the item may not be
 /// taken, since it does not begin where the one before it ended, its numbers are those of no item, these octets lack a bit of it, or
-/// `follower` is none that these calls set; -2, there are more octets to be written than `into` has.
+/// the numbers of `follower` fit none: 6,912 bits or more are kept, or some without a unit before them, its network access code (NAC) is
+/// above 4,095, its kind above 15, or 8 bits or more wait for their octet; -2, there are more octets to be written than `into` has.
 #[unsafe(no_mangle)]
 pub extern "C" fn p25_follower_take(
     follower: &mut FollowerState,
@@ -82,8 +87,8 @@ pub extern "C" fn p25_follower_take(
 /// Ends a recording: writes the bits that were kept back. Answers how many octets it wrote, at most 864, and `follower` is then one that
 /// no item was taken by. A last bit that fills no octet is not written: a recording of whole octets has none.
 ///
-/// Where it does not, all of `into` and of `follower` stays, and it answers -1 where `follower` is none that these calls set, or -2 where
-/// there are more octets to be written than `into` has.
+/// Where it does not, all of `into` and of `follower` stays, and it answers -1 where the numbers of `follower` fit none, as
+/// `p25_follower_take` does, or -2 where there are more octets to be written than `into` has.
 #[unsafe(no_mangle)]
 pub extern "C" fn p25_follower_finish(follower: &mut FollowerState, into: &mut [u8]) -> i32
     ensures written { IsWriting (last_octets follower.old) into.old into.new result }
@@ -144,7 +149,9 @@ fn is_item_told(item: &ItemParts) -> bool
     ensures { result ≡ is_item_told item.now }
 {
     match item.kind {
-        1 | 2 => { item.nac <= 4_095 && item.duid <= 15 && item.bits % 72 == 0 && item.bits >= 144 }
+        1 | 2 => {
+            item.nac <= 4_095 && item.duid <= 15 && item.bits % BLOCK == 0 && item.bits >= 2 * BLOCK
+        }
         3 | 4 => item.bits <= STRETCH_ITEM,
         5 => true,
         _ => false,

@@ -16,7 +16,7 @@ const NEEDED: usize = 3_241;
 const SHORTEST: usize = 360;
 
 /// A packet. `head` are the ten octets of its header, and `llid`, `format`, `full`, `blocks`, `pad`, `syn`, `number`, `response_class`,
-/// `response_type` and `response_status` are its fields, as `p25_packet_read` says. `length` of the octets of `octets` are those behind the header, and the
+/// `response_type` and `response_status` are the fields that it has, by its format. `length` of the octets of `octets` are those behind the header, and the
 /// others are 0. Of a confirmed packet `bad` is the number of blocks that fail, and for each block there is an octet in `good`, 1 or 0,
 /// and in `serials`.
 #[derive(Clone, Copy)]

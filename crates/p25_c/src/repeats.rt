@@ -58,6 +58,7 @@ pub(crate) fn cut(octets: &[u8], at: u64, count: u32, bits: &mut BitBuf)
 {
     let (at, count) = (at as usize, count as usize);
     let some = &octets[at / 8..(at + count + 7) / 8];
+    // For the prover: octets are below 256.
     octets_fit(some);
     let mut whole = BitBuf::new();
     whole.put_numbers(some, 8);

@@ -54,7 +54,7 @@ pub extern "C" fn p25_stream_begin(stream: &mut Stream)
 /// Takes octets, from the first one on, as many as there is room for, and answers how many: all of them, or 8,168 less those that are
 /// held from bit `from` on. Octets before that bit may be let go.
 ///
-/// Where it takes none, the stream stays, and it answers the first of these that applies: -1, the numbers fit no stream; -6, it has
+/// Where it refuses, the stream stays, and it answers the first of these that applies: -1, the numbers fit no stream; -6, it has
 /// ended; -7, dibits wait for their octet.
 #[unsafe(no_mangle)]
 pub extern "C" fn p25_stream_push(stream: &mut Stream, octets: &[u8]) -> i32
@@ -76,7 +76,7 @@ pub extern "C" fn p25_stream_push(stream: &mut Stream, octets: &[u8]) -> i32
 /// Takes dibits, an octet for each, of which the two lowest bits are looked at: from the first one on, as many as there is room for.
 /// Four make an octet of the recording, the first one highest. Answers how many: all of them, or 4 for each octet of room.
 ///
-/// Where it takes none, the stream stays, and it answers -1 or -6 as `p25_stream_push` does.
+/// Where it refuses, the stream stays, and it answers -1 or -6 as `p25_stream_push` does.
 #[unsafe(no_mangle)]
 pub extern "C" fn p25_stream_push_dibits(stream: &mut Stream, dibits: &[u8]) -> i32
     ensures { IsDibitsPushed dibits.now stream.old stream.new result }

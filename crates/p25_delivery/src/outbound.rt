@@ -103,6 +103,7 @@ impl Outbound {
         ensures sendable { IfSome result.1 IsSendable }
         ensures spare { self.old.spare ≤ self.new.spare + 1 }
     {
+        // For the prover: octets are below 256.
         octets_fit(message.octets());
         let offer = self.sender.offer(message);
         if let Offer::Taken { .. } = offer {
@@ -155,7 +156,7 @@ impl Outbound {
     {
         let heard = self.sender.hear(packet);
         if let SenderHeard::Acknowledged { .. } = heard {
-            // No more are acknowledged than were sent, whose number fits.
+            // For the prover: no more are acknowledged than were sent, whose number fits.
             let _ = self.sent.len();
             self.acknowledged += 1;
         }

@@ -9,15 +9,10 @@ use crate::told::with_kind;
 use p25_bch_nid::{Nid, nid_bits};
 use p25_bits::BitBuf;
 use p25_status::{BARE_BLOCK_LENGTH, SENT_BLOCK_LENGTH, SYNC};
+use p25_unit_front::{AFTER_STATUS, BEFORE_STATUS, SENT_FRONT_LENGTH};
 
 /// How many bits a step looks at, at most: those of four logical link units.
 pub const STEP_REACH: usize = 6912;
-
-// Where a front ends, as it is sent with its status symbol.
-const FRONT_END: usize = 114;
-
-// With how many bits an identifier goes on after the status symbol.
-const AFTER_STATUS: u32 = 42;
 
 // Appends bits from a place on, so many, with the front of a name written.
 fn put_with_front(name: &Nid, bits: &BitBuf, at: usize, count: usize, out: &mut BitBuf)
@@ -27,18 +22,18 @@ fn put_with_front(name: &Nid, bits: &BitBuf, at: usize, count: usize, out: &mut 
     ensures list { out.new ≡ out.old ++ with_front (name_of name.now) (take count (drop at bits.now)) }
     ensures len { length out.new ≡ length out.old + count }
 {
-    // The number of bits held bounds every place below.
+    // For the prover: the number of bits held bounds every place below.
     let _ = bits.len();
     let identifier = nid_bits(name);
     out.put_field(SYNC, 48);
-    out.put_field(identifier >> AFTER_STATUS, 22);
+    out.put_field(identifier >> AFTER_STATUS, BEFORE_STATUS);
     out.append(
         bits,
         at + BARE_BLOCK_LENGTH,
         SENT_BLOCK_LENGTH - BARE_BLOCK_LENGTH,
     );
     out.put_field(identifier % (1 << AFTER_STATUS), AFTER_STATUS);
-    out.append(bits, at + FRONT_END, count - FRONT_END);
+    out.append(bits, at + SENT_FRONT_LENGTH, count - SENT_FRONT_LENGTH);
 }
 
 // Whether a step can be made over so many bits: they are whole, or all that it looks at is there.

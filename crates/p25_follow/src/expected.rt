@@ -15,6 +15,7 @@ pub fn kind_length(kind: u8) -> usize
     ensures value { result ≡ kind_length kind }
     ensures most { result ≤ 1728 }
 {
+    // For the prover: voice units are as long as their kinds say.
     image_laws();
     match voice_length(kind) {
         Some(bare) => bare / BARE_BLOCK_LENGTH * SENT_BLOCK_LENGTH,

@@ -50,4 +50,4 @@ mod told;
 
 pub use follower::{Follower, is_rest};
 pub use p25_units::Item;
-pub use relay::relay_item;
+pub use relay::{relay_item, relay_item_in};

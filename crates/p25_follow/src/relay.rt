@@ -7,12 +7,9 @@ ghost use Rattle.p25_follow.specs.Relayed.{IsFitItem, relayed, relayed_broken};
 use p25_bch_nid::Nid;
 use p25_bits::BitBuf;
 use p25_status::{Status, Statuses, unweave, weave};
-use p25_stream::bridge_item;
-use p25_unit_front::put_front;
+use p25_stream::bridge_item_in;
+use p25_unit_front::{FRONT_LENGTH, put_front};
 use p25_units::Item;
-
-// How many bits of a unit its front has, without a status symbol.
-const FRONT_LENGTH: usize = 112;
 
 /// Replaces the bits that an item covers by those that are forwarded in their place, as many.
 ///
@@ -26,10 +23,22 @@ pub fn relay_item(item: &Item, nac: u16, status: Status, raw: &mut BitBuf)
     requires raw { length raw.old ≡ covered item.now }
     ensures { raw.new ≡ relayed nac status item.now raw.old }
 {
+    relay_item_in(item, nac, status, &mut BitBuf::new(), raw);
+}
+
+/// Replaces the bits that an item covers as `relay_item` does. `room` takes the bits of a whole unit without status symbols, so that
+/// no buffer has to be made; what it holds before and after the call means nothing.
+pub fn relay_item_in(item: &Item, nac: u16, status: Status, room: &mut BitBuf, raw: &mut BitBuf)
+    requires sound { IsSoundItem item.now }
+    requires fits { IsFitItem item.now }
+    requires nac { nac < 4096 }
+    requires raw { length raw.old ≡ covered item.now }
+    ensures { raw.new ≡ relayed nac status item.now raw.old }
+{
     match item {
         Item::Whole { .. } => {
             raw.clear();
-            let _ = bridge_item(item, nac, status, raw);
+            let _ = bridge_item_in(item, nac, status, room, raw);
         }
         Item::Broken { duid, .. } => relay_broken(nac, *duid, status, raw),
         Item::NoUnit { .. } | Item::Gap { .. } | Item::Cut { .. } => {}

@@ -10,7 +10,7 @@ use crate::expected::first_expected;
 use p25_bch_nid::{Nid, TDU, TDULC};
 use p25_bits::BitBuf;
 use p25_status::{SYNC_LENGTH, sync_distance};
-use p25_unit_front::{front_fixes, read_identifier};
+use p25_unit_front::{SENT_FRONT_LENGTH, front_fixes, read_identifier};
 
 /// What is told of a unit by its front.
 #[derive(Clone, Copy, Debug, PartialEq, Eq)]
@@ -19,7 +19,7 @@ pub enum Told {
     Expected(u8),
     /// Its identifier reads as that of a unit that may not come here.
     Other,
-    /// Its front is too far from those of all kinds that may come.
+    /// Its front is too far from those of all kinds that may come, no kind may come, or fewer than 114 bits are there.
     Nothing,
 }
 
@@ -40,9 +40,6 @@ pub const FRONT_SLACK: u32 = 30;
 
 // In how many of these 63 it may be wrong for the code to read it.
 const IDENTIFIER_RADIUS: u32 = 11;
-
-// How many bits as sent the front of a unit has, with its status symbol.
-const SENT_FRONT: usize = 114;
 
 // In how many bits the sync is wrong of the unit whose sent bits begin at a place.
 fn sync_errors(bits: &BitBuf, at: usize) -> u32
@@ -138,7 +135,7 @@ pub fn look_at(before: &Nid, bits: &BitBuf, at: usize) -> Look
     requires { at ≤ length bits.now }
     ensures { told_of (name_of before.now) (drop at bits.now) ≡ told_by_look result (is_read (drop at bits.now)) }
 {
-    if bits.len() - at < SENT_FRONT {
+    if bits.len() - at < SENT_FRONT_LENGTH {
         return Look {
             told: Told::Nothing,
             clear: true,
@@ -173,7 +170,7 @@ fn is_read(bits: &BitBuf, at: usize) -> bool
     requires { at ≤ length bits.now }
     ensures { result ≡ is_read (drop at bits.now) }
 {
-    if bits.len() - at < SENT_FRONT {
+    if bits.len() - at < SENT_FRONT_LENGTH {
         return false;
     }
     match read_identifier(bits, at) {

@@ -166,7 +166,7 @@ impl LongStations {
                 Then::Plain
             }
             _ => {
-                // All room stays.
+                // For the prover: the joiner is sound, and its room stays.
                 let _ = &self.joiner;
                 Then::Plain
             }
@@ -194,7 +194,7 @@ impl LongStations {
             });
             return Then::Next(step);
         }
-        // No more are acknowledged than were taken, whose number fits.
+        // For the prover: no more are acknowledged than were taken, whose number fits.
         let _ = self.taken.len();
         self.acknowledged += 1;
         Then::Finished

@@ -40,7 +40,7 @@ fn event_fits(event: &LongEvent)
     ensures { IsEventOf (offers_beside event.now) event.now }
 {
     if let LongEvent::Long(message) = event {
-        // A long message has at most 4,000 octets.
+        // For the prover: a long message has at most 4,000 octets.
         let _ = message.octets();
     }
 }
@@ -140,6 +140,7 @@ impl LongWorld {
     /// only where no room was left; then the world stays as it was.
     pub fn step(&mut self, event: &LongEvent) -> Result<LongStep, AllocError>
         ensures ok { IfOk result (λ step. (self.new.state, step) ≡ long_step self.old.state event.now) }
+        ensures spare { self.old.spare ≤ self.new.spare + 1 }
         ensures beside { OnOk result (self.new.beside ≡ (self.old.beside || offers_beside event.now)) }
         ensures err { OnErr result (self.new.state ≡ self.old.state) }
         ensures same { OnErr result (self.new.beside ≡ self.old.beside) }

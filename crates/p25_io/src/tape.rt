@@ -35,6 +35,8 @@ pub struct Tape<'a> {
 impl<'a> Tape<'a> {
     /// Answers a tape without a call, over a source and a sink.
     pub fn new(alloc: Global, source: MemorySource<'a>, sink: SliceSink<'a>) -> Tape<'a>
+        ensures source { result.source ≡ source.entry }
+        ensures sink { result.sink ≡ sink.entry }
         ensures blank { result.calls.items ≡ [] }
         ensures whole { result.torn ≡ false }
     {

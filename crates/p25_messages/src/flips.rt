@@ -1,24 +1,24 @@
 ghost use Rattle.std.specs.Prelude.{◌≡◌, ℕ, ◌+◌, ◌<◌, ◌≤◌, ◌↔◌, IsTrue, Some, List, [], ◌∷◌, ◌++◌, length, slice_get, All};
 ghost use Rattle.std.specs.List.Sorted.{IsStrictlyIncreasing};
 
-use arrayvec::ArrayVec;
+use p25_status::BoundedList;
 use std::marker::Model;
 
 /// The places of wrong bits in a transmission: a strictly ascending list of at most 4,096 numbers below 25,920, the length
 /// of the longest unit as it is sent.
 #[derive(Clone, Debug, PartialEq, Eq, Drop)]
 pub struct Flips {
-    items: ArrayVec<u16, 4096>,
+    places: BoundedList<u16, 4096>,
 }
 
 impl Model for Flips {
     ghost Value = { List ℕ };
 
-    ghost view = { λ s. s.items.items };
+    ghost view = { λ s. s.places };
 
-    ghost invariant = { λ s. IsStrictlyIncreasing s.items.items × All (λ place. place < 25920) s.items.items };
+    ghost invariant = { λ s. IsStrictlyIncreasing s.places × All (λ place. place < 25920) s.places };
 
-    ghost inverse = { λ places. record { items = record { items = places } } };
+    ghost inverse = { λ places. record { places = places } };
 }
 
 impl Flips {
@@ -27,7 +27,7 @@ impl Flips {
         ensures { result ≡ [] }
     {
         Flips {
-            items: ArrayVec::new(),
+            places: BoundedList::new(),
         }
     }
 
@@ -38,7 +38,7 @@ impl Flips {
         ensures ascending { IsStrictlyIncreasing self.now }
         ensures below { All (λ place. place < 25920) self.now }
     {
-        self.items.len()
+        self.places.len()
     }
 
     /// Answers whether the list holds no place.
@@ -53,7 +53,7 @@ impl Flips {
         ensures value { result.now ≡ self.now }
         ensures most { length self.now ≤ 4096 }
     {
-        self.items.as_slice()
+        self.places.as_slice()
     }
 
     /// Answers place `i` of the list.
@@ -62,7 +62,7 @@ impl Flips {
         ensures place { slice_get self.now i ≡ Some result }
         ensures below { result < 25920 }
     {
-        self.items.as_slice()[i]
+        self.places.get(i)
     }
 
     /// Appends a place, which is below 25,920 and above all places held.
@@ -73,6 +73,6 @@ impl Flips {
         ensures list { self.new ≡ self.old ++ entry ∷ [] }
         ensures len { length self.new ≡ length self.old + 1 }
     {
-        self.items.push(entry);
+        self.places.push(entry);
     }
 }

@@ -58,9 +58,9 @@ abbrev pub llid_octets : ℕ → List ℕ
 llid_octets llid = llid / 65536 ∷ llid / 256 % 256 ∷ llid % 256 ∷ []
 
 -- the ten octets of a header, by those before its LLID, its LLID, and those after it
-abbrev pub head_by_octets : (first second : ℕ) → ℕ → (sixth seventh eighth : ℕ) → PacketHead
-head_by_octets first second llid sixth seventh eighth =
-    record { 0 = first ∷ second ∷ 0 ∷ [] ++ llid_octets llid ++ sixth ∷ seventh ∷ eighth ∷ 0 ∷ [] }
+abbrev pub head_by_octets : (first second : ℕ) → ℕ → (seventh eighth ninth : ℕ) → PacketHead
+head_by_octets first second llid seventh eighth ninth =
+    record { 0 = first ∷ second ∷ 0 ∷ [] ++ llid_octets llid ++ seventh ∷ eighth ∷ ninth ∷ 0 ∷ [] }
 
 -- the header of a confirmed packet, by its LLID, full message flag, blocks to follow, pad count and N(S)
 unfoldable pub confirmed_head : ℕ → Bool → ℕ → ℕ → ℕ → PacketHead

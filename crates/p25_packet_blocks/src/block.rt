@@ -50,8 +50,8 @@ impl Block {
     }
 }
 
-/// What stands in the place of a block of a confirmed packet (PDU) that was received: the block, or that its CRC-9 does not
-/// agree. The default, which fills the unused places of a list, means nothing.
+/// What stands for a block of a confirmed packet (PDU) that was received: the block, or that its CRC-9 does not agree. The default,
+/// which fills the unused entries of a list, means nothing. TIA-102.BAAA, Packet Data, Confirmed Data Block.
 #[derive(Clone, Copy, Debug, PartialEq, Eq, Default)]
 pub enum Slot {
     /// The block.
@@ -61,5 +61,6 @@ pub enum Slot {
     Bad,
 }
 
-/// A list of at most 127 slots, one for each block to follow of a confirmed packet (PDU), in the order of sending.
+/// A list of at most 127 slots, one for each block to follow of a confirmed packet (PDU), in the order of sending. TIA-102.BAAA, Packet
+/// Data.
 pub type Slots = BoundedList<Slot, 127>;

@@ -8,7 +8,7 @@ use p25_bits::BitBuf;
 use std::marker::Model;
 
 /// The flags of a selective retry (PDU), one for each block of a message: true means that the block was received. There are 64
-/// or 128.
+/// or 128. TIA-102.BAAA, Packet Data.
 #[derive(Clone, Debug, Drop)]
 pub struct Flags {
     flags: [bool; 128],
@@ -86,7 +86,8 @@ impl Eq for Flags {
 }
 
 /// Answers the octets that a selective retry carries for flags, before its packet CRC: 8 octets of 64 flags, and 20 of
-/// 128 flags, of which the last four are 0. The first flag is the most significant bit of the first octet.
+/// 128 flags, of which the last four are 0. The first flag is the most significant bit of the first octet. TIA-102.BAAA, Packet
+/// Data.
 pub fn flags_make(flags: &Flags) -> Octets
     ensures octets { result ≡ flag_octets flags.now }
     ensures read { flags_of_octets result ≡ Some flags.now }
@@ -118,7 +119,7 @@ fn flags_in(octets: &[u8]) -> Flags
 }
 
 /// Answers the flags of the octets that a selective retry carried before its packet CRC: 64 of 8 octets, or 128 of the
-/// first 16 of 20 octets. None comes exactly where there are neither 8 nor 20 octets.
+/// first 16 of 20 octets. None comes exactly where there are neither 8 nor 20 octets. TIA-102.BAAA, Packet Data.
 pub fn flags_read(octets: &Octets) -> Option<Flags>
     ensures flags { result ≡ flags_of_octets octets.now }
     ensures there { IsSome result ↔ ((length octets.now ≡ 8) ⊎ (length octets.now ≡ 20)) }

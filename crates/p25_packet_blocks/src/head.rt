@@ -133,8 +133,8 @@ impl PacketHead {
         ensures syn { head_syn result ≡ false }
         ensures llid { head_llid result ≡ llid }
     {
-        let sixth = 128 * u8::from(full) + blocks;
-        head_by_octets(0x56, 0xC0, llid, sixth, pad, 16 * number + 8)
+        let seventh = 128 * u8::from(full) + blocks;
+        head_by_octets(0x56, 0xC0, llid, seventh, pad, 16 * number + 8)
     }
 
     /// Answers the header of an unconfirmed packet of data: format 15 hex, with the full message flag. TIA-102.BAAA, Packet Data,
@@ -196,12 +196,12 @@ fn head_by_octets(
     first: u8,
     second: u8,
     llid: u32,
-    sixth: u8,
     seventh: u8,
     eighth: u8,
+    ninth: u8,
 ) -> PacketHead
     requires { llid < 2 ^ 24 }
-    ensures { result ≡ head_by_octets first second llid sixth seventh eighth }
+    ensures { result ≡ head_by_octets first second llid seventh eighth ninth }
 {
     PacketHead([
         first,
@@ -210,9 +210,9 @@ fn head_by_octets(
         (llid / 65536) as u8,
         (llid / 256 % 256) as u8,
         (llid % 256) as u8,
-        sixth,
         seventh,
         eighth,
+        ninth,
         0,
     ])
 }

@@ -14,13 +14,13 @@ use p25_crc::{crc9, crc16, crc32};
 use p25_status::Field;
 use p25_trellis::{Half, ThreeQuarter, read_block};
 
-/// Where the header block begins in the unit of a packet (PDU) without status symbols.
+/// Where the header block begins in the unit of a packet (PDU) without status symbols: after the front. TIA-102.BAAA, Packet Data.
 pub const HEADER_AT: usize = 112;
 
-/// Where the blocks to follow begin in the unit of a packet (PDU) without status symbols.
+/// Where the blocks to follow begin in the unit of a packet (PDU) without status symbols. TIA-102.BAAA, Packet Data.
 pub const BLOCKS_AT: usize = 308;
 
-/// How many bits a block of a packet (PDU) has.
+/// How many bits a block of a packet (PDU) has: 98 dibits. TIA-102.BAAA, Trellis Coding.
 pub const BLOCK_LENGTH: usize = 196;
 
 // The header that the block at a place holds, and how many bits of the block were wrong.

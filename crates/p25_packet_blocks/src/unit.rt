@@ -10,7 +10,7 @@ use crate::read::read_header;
 use p25_bch_nid::PDU;
 use p25_bits::BitBuf;
 use p25_status::{BARE_BLOCK_LENGTH, Field, SENT_BLOCK_LENGTH, Statuses, is_sync, unweave};
-use p25_unit_front::read_identifier;
+use p25_unit_front::{SENT_FRONT_LENGTH, read_identifier};
 
 /// Answers the header of the packet (PDU) whose unit as it is sent begins at place `at`, and how many bits of its block were wrong. The
 /// 316 bits with its front and its header block are there. PacketHeader comes exactly where the last two octets of the block are
@@ -20,11 +20,11 @@ pub fn read_head_at(bits: &BitBuf, at: usize) -> Result<ReadHead, Field>
     ensures read { result ≡ sent_read_of (drop at bits.now) }
     ensures few { IfOk result (λ read. read.wrong ≤ 196) }
 {
-    // The number of bits held bounds every place below.
+    // For the prover: the number of bits held bounds every place below.
     let _ = bits.len();
     // The 196 bits of the header block, without the status symbols among them.
     let mut header = BitBuf::new();
-    header.append(bits, at + 114, 28);
+    header.append(bits, at + SENT_FRONT_LENGTH, 28);
     header.append(bits, at + 2 * SENT_BLOCK_LENGTH, BARE_BLOCK_LENGTH);
     header.append(bits, at + 3 * SENT_BLOCK_LENGTH, BARE_BLOCK_LENGTH);
     header.append(bits, at + 4 * SENT_BLOCK_LENGTH, 28);

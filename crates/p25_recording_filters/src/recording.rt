@@ -111,6 +111,7 @@ impl<R: Report> Filter for Recording<R> {
         if self.scanner.is_drained() {
             return Ok(self.close(out));
         }
+        // For the prover: items lie end to end.
         item_laws();
         // Bits that nobody looks at are not copied.
         let taken = if R::LOOKS_AT_BITS {

@@ -26,8 +26,8 @@ pub trait Report {
     /// It has taken the items of a recording that end at a place.
     ghost HasReached: { Self → ℕ → Type 0 } = { λ _ _. Unit {0} };
 
-    /// Sets `out` to what is written of an item and the bits that it covers, and changes these. Where it looks at the bits, they are
-    /// exactly as many as the item covers.
+    /// Sets `out` to what is written of an item and the bits that it covers. Where it looks at the bits, they are exactly as many as the
+    /// item covers; it may change them, and what they are after the call means nothing.
     fn put(&mut self, item: &Item, raw: &mut BitBuf, out: &mut Line)
         requires sound { IsSoundItem item.now }
         requires fits { IsFitItem item.now }

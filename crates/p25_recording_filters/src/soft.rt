@@ -65,7 +65,7 @@ fn hear(levels: &mut HeldLevels, level: i8, scanner: &mut Scanner)
     ensures going { scanner.new.finished ≡ false }
     ensures quiet { length levels.new % 4 ≢ 0 → scanner.new ≡ scanner.old }
 {
-    // The number of bits held bounds that of the levels.
+    // For the prover: the number of bits held bounds that of the levels.
     let _ = scanner.held();
     levels.push(level);
     let len = levels.len();
@@ -200,6 +200,7 @@ impl Filter for Soft {
         if self.scanner.is_drained() {
             return Ok(false);
         }
+        // For the prover: items lie end to end.
         item_laws();
         self.put_next(out);
         Ok(true)

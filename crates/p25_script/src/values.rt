@@ -7,8 +7,8 @@ ghost use Rattle.p25_script.specs.Values.{place_in, places_in};
 use p25_line::{comma_part, is_dash, number_value, octets_or_dash};
 use p25_messages::{Flips, MessageOf};
 
-/// Answers the message of at most `MOST` octets that a word is. `None` comes exactly where the word is neither `-` nor an
-/// even number of lower-case hexadecimal digits, two for each octet.
+/// Answers the message that a word is. `None` comes exactly where the word is neither `-` nor an even number of lower-case
+/// hexadecimal digits, two for each octet, and where it writes more than `MOST` octets.
 pub fn message_value<const MOST: usize>(word: &[u8]) -> Option<MessageOf<MOST>>
     requires { MOST ≤ 2 ^ 32 }
     ensures { result ≡ octets_up_to MOST word.now }

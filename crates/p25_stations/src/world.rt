@@ -123,6 +123,7 @@ impl World {
     /// only where no room was left; then the world stays as it was.
     pub fn step(&mut self, event: &Event) -> Result<Step, AllocError>
         ensures ok { IfOk result (λ step. (self.new.state, step) ≡ world_step self.old.state event.now) }
+        ensures spare { self.old.spare ≤ self.new.spare + 1 }
         ensures err { OnErr result (self.new.state ≡ self.old.state) }
         ensures room { OnErr result (self.old.spare ≡ 0) }
     {

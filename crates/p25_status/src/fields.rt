@@ -22,7 +22,7 @@ pub enum Field {
     LowSpeed2,
     /// The header block of a packet (PDU), where its CRC does not agree.
     PacketHeader,
-    /// The length of a packet (PDU), where it is not the one that its header tells.
+    /// The length of a packet (PDU), where fewer bits are there than its header tells.
     Length,
     /// The format of a packet (PDU), where it is none that this toolkit reads.
     Format,

@@ -11,7 +11,8 @@ pub enum ReadOutcome {
     /// No field fails, and the value is what was read. `wrong` is the number of looked-at bits that were received otherwise than
     /// they are sent for it: so many were put right.
     Read { wrong: u32 },
-    /// Exactly these fields fail, in their order, and there is one at least. The value means nothing.
+    /// Exactly these fields fail, in their order, and there is one at least. The value means nothing, unless the call says
+    /// otherwise.
     Failing { fields: FieldList },
 }
 

@@ -45,7 +45,7 @@ pub fn unweave(bits: &BitBuf, at: usize, len: usize, out: &mut BitBuf, statuses:
     ensures bare_len { length out.new ≡ 70 * length statuses.new }
     ensures len { 72 * length statuses.new ≡ len }
 {
-    // The number of bits held bounds every place below.
+    // For the prover: the number of bits held bounds every place below.
     let _ = bits.len();
     out.clear();
     statuses.clear();

@@ -28,6 +28,7 @@ pub(crate) fn put_some(octets: &[u8], held: &mut BitBuf) -> usize
         held.put_field(u64::from(octets[0]), 8);
         return 1;
     }
+    // For the prover: octets are below 256.
     octets_fit(octets);
     let word = u64::from_be_bytes([
         octets[0], octets[1], octets[2], octets[3], octets[4], octets[5], octets[6], octets[7],

@@ -173,7 +173,7 @@ fn none_of_many(held: &BitBuf, from: usize, count: usize) -> bool
     requires before { from ≤ sync_place held.now }
     ensures { result ≡ true → from + 8 * count ≤ sync_place held.now }
 {
-    // The number of bits held bounds every place below.
+    // For the prover: the number of bits held bounds every place below.
     let _ = held.len();
     for k in 0..count / 2 {
         let at = from + 2 * AT_ONCE * k;

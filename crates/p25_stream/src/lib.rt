@@ -37,5 +37,5 @@ mod tests;
 
 pub use finding::{find_item, find_item_in};
 pub use p25_units::Item;
-pub use repeats::{bridge_item, repair_item, repair_item_in};
+pub use repeats::{bridge_item, bridge_item_in, repair_item, repair_item_in};
 pub use scanner::Scanner;

@@ -6,7 +6,7 @@ ghost use Rattle.p25_stream.specs.Repeats.{bridged, is_whole_item, repaired};
 
 use p25_bits::BitBuf;
 use p25_status::weave;
-use p25_units::{Item, Status, Statuses, image_as, unit_image};
+use p25_units::{Item, Status, Statuses, image_as_in, unit_image};
 
 /// Replaces the bits that an item covers by those of its frame where it is `Whole`, so that no wrong bit is left in its
 /// sync, its network identifier (NID) and its code words; its status symbols and the bits without a code stay as received. The
@@ -41,10 +41,27 @@ pub fn bridge_item(item: &Item, nac: u16, status: Status, out: &mut BitBuf) -> b
     ensures bits { out.new ≡ bridged nac status item.now out.old }
     ensures whole { result ≡ is_whole_item item.now }
 {
+    bridge_item_in(item, nac, status, &mut BitBuf::new(), out)
+}
+
+/// Sets `out` and answers as `bridge_item` does. `room` takes the frame's bits without status symbols, so that no buffer has to be
+/// made; what it holds before and after the call means nothing.
+pub fn bridge_item_in(
+    item: &Item,
+    nac: u16,
+    status: Status,
+    room: &mut BitBuf,
+    out: &mut BitBuf,
+) -> bool
+    requires sound { IsSoundItem item.now }
+    requires nac { nac < 4096 }
+    ensures bits { out.new ≡ bridged nac status item.now out.old }
+    ensures whole { result ≡ is_whole_item item.now }
+{
     match item {
         Item::Whole { frame, .. } => {
             let statuses = Statuses::filled(status, frame.statuses.len());
-            image_as(frame, nac, &statuses, out);
+            image_as_in(frame, nac, &statuses, room, out);
             true
         }
         Item::Broken { .. } | Item::NoUnit { .. } | Item::Gap { .. } | Item::Cut { .. } => false,

@@ -27,7 +27,7 @@ pub(crate) fn take_nibbles(bits: &BitBuf, at: usize) -> [u8; 49]
     ensures sent { interleaved result ≡ numbers_from 4 49 (drop at bits.now) }
     ensures len { length result ≡ 49 }
 {
-    // The number of bits held bounds every place below.
+    // For the prover: the number of bits held bounds every place below.
     let _ = bits.len();
     let mut nibbles = [0; 49];
     put_fourths(bits.field(at, 52), 0, 13, &mut nibbles);

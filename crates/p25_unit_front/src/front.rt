@@ -8,14 +8,21 @@ use p25_bch_nid::{Nid, ReadNid, nid_bits, nid_distance, read_nid, read_nid_count
 use p25_bits::BitBuf;
 use p25_status::{SENT_BLOCK_LENGTH, SYNC, sync_distance};
 
+/// How many bits a front has without its status symbol: those of the frame sync and of the network identifier (NID). TIA-102.BAAA,
+/// Frame Synchronization, Network Identifier.
+pub const FRONT_LENGTH: usize = 112;
+
+/// How many bits are sent for a front: those with the status symbol that stands within its identifier.
+pub const SENT_FRONT_LENGTH: usize = 114;
+
+/// How many bits of the network identifier (NID) stand before the status symbol within it.
+pub const BEFORE_STATUS: u32 = 22;
+
+/// With how many bits the network identifier (NID) goes on after the status symbol within it.
+pub const AFTER_STATUS: u32 = 42;
+
 // Where the network identifier (NID) begins in a sent unit.
 const IDENTIFIER_AT: usize = 48;
-
-// How many of its bits stand before the status symbol within it.
-const BEFORE_STATUS: u32 = 22;
-
-// With how many bits it goes on after the status symbol.
-const AFTER_STATUS: u32 = 42;
 
 /// Appends the front of a unit: the 48 bits of the frame sync and the 64 bits of the network identifier (NID), first to last,
 /// without a status symbol. TIA-102.BAAA, Frame Synchronization, Network Identifier.
@@ -70,7 +77,7 @@ fn identifier(bits: &BitBuf, at: usize) -> u64
     ensures value { result ≡ field_of (identifier_bits (drop at bits.now)) }
     ensures fits { result < 2 ^ 64 }
 {
-    // The number of bits held bounds every place below.
+    // For the prover: the number of bits held bounds every place below.
     let _ = bits.len();
     let before = bits.field(at + IDENTIFIER_AT, BEFORE_STATUS);
     before * (1 << AFTER_STATUS) + bits.field(at + SENT_BLOCK_LENGTH, AFTER_STATUS)

@@ -20,4 +20,7 @@ pub mod laws;
 #[cfg(test)]
 mod tests;
 
-pub use front::{front_fixes, put_front, read_front, read_identifier};
+pub use front::{
+    AFTER_STATUS, BEFORE_STATUS, FRONT_LENGTH, SENT_FRONT_LENGTH, front_fixes, put_front,
+    read_front, read_identifier,
+};

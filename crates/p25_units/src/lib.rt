@@ -41,5 +41,5 @@ pub use p25_status::{Field, FieldList, Status, Statuses};
 pub use p25_voice_units::VoiceUnit;
 pub use read::read_unit;
 pub use scan::{need, need_synced, need_with};
-pub use sending::{image, image_as, unit_image};
+pub use sending::{image, image_as, image_as_in, unit_image};
 pub use unit::{Body, Unit};

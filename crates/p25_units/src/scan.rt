@@ -10,15 +10,13 @@ use p25_bch_nid::PDU;
 use p25_bits::BitBuf;
 use p25_packet_blocks::packet_length;
 use p25_status::{BARE_BLOCK_LENGTH, Field, SENT_BLOCK_LENGTH, is_sync};
+use p25_unit_front::SENT_FRONT_LENGTH;
 use p25_voice_units::voice_length;
-
-// The bits from which a network identifier (NID) can be read: those up to its last, with the status symbol within it.
-const IDENTIFIED: usize = 114;
 
 // The bits from which the header of a packet (PDU) can be read: those up to the last of its block, with four status symbols.
 const HEADED: usize = 316;
 
-/// Answers what the bits from place `at` on need, the first that holds: 48 bits; a sync (`NoSync`); 114 bits; a network
+/// Answers what the bits from place `at` on need, the first that is wanting: 48 bits; a sync (`NoSync`); 114 bits; a network
 /// identifier (NID) that can be read (`NoLength` of `Nid`) and is that of a known unit (`NoLength` of `Duid`); of a packet (PDU)
 /// 316 bits, and a header whose CRC agrees (`NoLength` of `PacketHeader`); all bits of that unit. `More` tells how many bits
 /// have to be there from the place on.
@@ -54,8 +52,8 @@ pub fn need_synced(bits: &BitBuf, at: usize, begun: &mut Begun) -> Need
     ensures need { result ≡ need_of (drop at bits.now) }
     ensures begun { IsBegun begun.new (drop at bits.now) }
 {
-    if bits.len() - at < IDENTIFIED {
-        return Need::More(IDENTIFIED);
+    if bits.len() - at < SENT_FRONT_LENGTH {
+        return Need::More(SENT_FRONT_LENGTH);
     }
     let Some(read) = begun.identify(bits, at) else {
         return Need::NoLength(Field::Nid);

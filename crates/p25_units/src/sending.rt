@@ -34,9 +34,25 @@ pub fn image_as(frame: &Frame, nac: u16, statuses: &Statuses, out: &mut BitBuf)
     requires symbols { length statuses.now ≡ length frame.now.statuses }
     ensures { out.new ≡ image_of (frame_as nac statuses.now frame.now) }
 {
-    let mut bare = BitBuf::new();
-    body_image(nac, frame.unit.body(), &mut bare);
-    weave(&bare, statuses, out);
+    image_as_in(frame, nac, statuses, &mut BitBuf::new(), out);
+}
+
+/// Sets `out` as `image_as` does. `room` takes the frame's bits without status symbols, so that no buffer has to be made; what it
+/// holds before and after the call means nothing.
+pub fn image_as_in(
+    frame: &Frame,
+    nac: u16,
+    statuses: &Statuses,
+    room: &mut BitBuf,
+    out: &mut BitBuf,
+)
+    requires sound { IsSoundFrame frame.now }
+    requires nac { nac < 4096 }
+    requires symbols { length statuses.now ≡ length frame.now.statuses }
+    ensures { out.new ≡ image_of (frame_as nac statuses.now frame.now) }
+{
+    body_image(nac, frame.unit.body(), room);
+    weave(room, statuses, out);
 }
 
 /// Sets `out` to the bits of a unit without status symbols, first to last. No slot of a packet is Bad.

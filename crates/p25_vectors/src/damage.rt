@@ -22,7 +22,7 @@ fn invert(at: usize, count: usize, bits: &mut BitBuf)
     ensures list { bits.new ≡ inverted at count bits.old }
     ensures len { length bits.new ≡ length bits.old }
 {
-    // The number of bits held bounds every place below.
+    // For the prover: the number of bits held bounds every place below.
     let _ = bits.len();
     for k in 0..count {
         bits.flip(at + k);
@@ -137,6 +137,7 @@ fn damage_link(most: usize, draws: &mut Draws, bits: &mut BitBuf) -> u32
     ensures few { result ≤ 864 }
     ensures state { draws.new ≡ state_after (field_draws 24 most draws.old + 2) draws.old }
 {
+    // For the prover: the places of the words are those of the layouts.
     part_places();
     let field = damage_field(&LDU_WORDS, HAMMING10, most, draws, bits);
     field + damage_words(&LOW_WORDS, LOW_SPEED, 0, draws, bits)
@@ -152,6 +153,7 @@ fn damage_voice(voice: &VoiceUnit, draws: &mut Draws, bits: &mut BitBuf) -> u32
     ensures few { result ≤ 864 }
     ensures state { draws.new ≡ state_after (body_damage_draws (voice_in voice.now) draws.old) draws.old }
 {
+    // For the prover: the places of the words are those of the layouts.
     part_places();
     match voice {
         VoiceUnit::End => 0,

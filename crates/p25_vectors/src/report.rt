@@ -44,7 +44,7 @@ pub fn sample(n: u64) -> SampleReport
     report
 }
 
-// Whether bits read as a frame. Those of the series always do: `sample` counts that they did, so that a program which is not so is seen.
+// Whether bits read as a frame. Those of the series always do, as is proved, so no other answer comes; `sample` reads them nevertheless, and counts.
 fn reads_as(bits: &BitBuf, frame: &Frame) -> bool
     requires length { need_of bits.now ≡ Length (length bits.now) }
     requires sound { IsSoundFrame frame.now }

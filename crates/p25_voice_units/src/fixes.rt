@@ -18,6 +18,7 @@ pub fn voice_fixes(unit: &VoiceUnit, received: &BitBuf, image: &BitBuf) -> u32
     ensures value { result ≡ voice_fixes_of unit.now received.now image.now }
     ensures most { result ≤ 1680 }
 {
+    // For the prover: the places of the words are those of the layouts.
     part_places();
     match unit {
         VoiceUnit::Header(_) => differing(&HDU_WORDS, 18, received, image),

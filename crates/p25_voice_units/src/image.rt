@@ -102,7 +102,7 @@ fn put_coded_rows<I: NumberCode, const N: usize, const K: usize>(
     put_rows::<I>(rows, &symbols, low, frames, out);
 }
 
-// Says that the octets of low speed data (LSD) and of voice frames are below 256.
+// For the prover: the octets of low speed data (LSD) and of voice frames are below 256. Nothing is done.
 fn fit_speech(low: &[u8; 2], voice: &Voice)
     ensures { IsSpeech low.now voice.now }
 {

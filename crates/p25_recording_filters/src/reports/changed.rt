@@ -6,10 +6,10 @@ ghost use Rattle.p25_recording_filters.specs.Commands.{IsSoundChange, change_of,
 use crate::report::Report;
 use p25_bits::BitBuf;
 use p25_filter::Ending;
-use p25_follow::relay_item;
+use p25_follow::relay_item_in;
 use p25_line::Line;
 use p25_status::Status;
-use p25_stream::{bridge_item, repair_item_in};
+use p25_stream::{bridge_item_in, repair_item_in};
 use p25_units::Item;
 use std::marker::Model;
 
@@ -98,9 +98,9 @@ fn change_item(change: Change, item: &Item, room: &mut BitBuf, raw: &mut BitBuf)
         Change::Repaired => repair_item_in(item, room, raw),
         Change::Bridged { nac, status } => {
             raw.clear();
-            let _ = bridge_item(item, nac, status, raw);
+            let _ = bridge_item_in(item, nac, status, room, raw);
         }
-        Change::Relayed { nac, status } => relay_item(item, nac, status, raw),
+        Change::Relayed { nac, status } => relay_item_in(item, nac, status, room, raw),
     }
 }
 

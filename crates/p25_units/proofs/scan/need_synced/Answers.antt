@@ -11,8 +11,8 @@ use Rattle.p25_units.proofs.scan.need_synced.Goals as goal
 need_of-read : (rest : List Bool) (nac duid : ℕ) → has_sync rest ≡ true → 114 ≤ length rest → identifier_of rest ≡ Some (nac, duid) → need_of rest ≡ kind_need duid rest
 need_of-read rest nac duid synced long read = need_of-synced rest synced ∙ synced_need-read rest (Some (nac, duid)) long read ∙ identified_need-some (nac, duid) rest
 
-pub returns-then-len-at-lt-IDENTIFIED-clause-need : goal.returns-then-len-at-lt-IDENTIFIED-clause-need
-returns-then-len-at-lt-IDENTIFIED-clause-need c =
+pub returns-then-len-at-lt-SENT_FRONT_LENGTH-clause-need : goal.returns-then-len-at-lt-SENT_FRONT_LENGTH-clause-need
+returns-then-len-at-lt-SENT_FRONT_LENGTH-clause-need c =
     let rest = drop c.args.at c.args.bits.now in
     sym (need_of-synced rest c.requires.synced ∙ synced_need-short rest (omega (arith, length-drop c.args.at c.args.bits.now)))
 

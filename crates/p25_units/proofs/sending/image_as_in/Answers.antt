@@ -2,7 +2,7 @@ use Rattle.std.proofs.Common.{◌*◌, ap, ◌∙◌, sym}
 use Rattle.p25_status.specs.Woven.{woven}
 use Rattle.p25_units.specs.Units.{body_image_of, body_length, image_of, unit_image_of}
 use Rattle.p25_units.proofs.UnitsLaws.{symbols-sound}
-use Rattle.p25_units.proofs.sending.image_as.Goals as goal
+use Rattle.p25_units.proofs.sending.image_as_in.Goals as goal
 
 pub weave-requires : goal.weave-requires
 weave-requires c = c.body_image.ensures.len ∙ ap body_length c.body.ensures ∙ symbols-sound c.args.frame.now c.requires.sound ∙ ap (λ n. 70 * n) (sym c.requires.symbols)
