@@ -175,7 +175,13 @@ fn is_shown<T: Debug>(alloc: Global, value: &T, text: &str) -> bool {
 fn values_are_shown(rt: HostRuntime) -> Result<(), Fail> {
     let message = Message::new(b"ab").ok_or("two octets")?;
     assert!(rt; is_shown(rt.alloc(), &message, "MessageOf { items: [97, 98] }"));
-    assert!(rt; is_shown(rt.alloc(), &places(Some(4)), "Flips { items: [3, 4] }"));
+    assert!(rt;
+        is_shown(
+            rt.alloc(),
+            &places(Some(4)),
+            "Flips { places: BoundedList { items: [3, 4] } }"
+        )
+    );
     let kinds = [
         (StepKind::Busy, "Busy"),
         (

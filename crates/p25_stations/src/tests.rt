@@ -188,7 +188,7 @@ fn false_passes_are_counted_up_to_the_last_number(rt: HostRuntime) {
 #[test]
 fn events_and_steps_are_shown(rt: HostRuntime) -> Result<(), Fail> {
     let event = Event::ToReceiver(behind_the_end());
-    let text = "ToReceiver(Flips { items: [576, 25919] })";
+    let text = "ToReceiver(Flips { places: BoundedList { items: [576, 25919] } })";
     assert_eq!(rt; format!(in rt.alloc(); "{event:?}")?.as_str(), text);
     let step = Step::quiet(StepKind::Idle);
     let text = "Step { kind: Idle, false_pass: false }";
