@@ -49,7 +49,7 @@ fn put_block(block: &Block, out: &mut BitBuf)
     ensures block { IsDataBlock block.now }
 {
     let carried = block.octets();
-    // For the prover: octets are below 256.
+    // For the prover, here and below: octets are below 256.
     octets_fit(carried);
     let first = 512 * u16::from(block.serial()) + crc9(block.serial(), carried);
     let mut octets: BoundedList<u8, 18> = BoundedList::new();
@@ -83,7 +83,6 @@ fn put_plain(packet: &Plain, out: &mut BitBuf)
     ensures octets { IsHead packet.now.head → IsSendablePlain packet.now }
 {
     let carried = packet.octets().octets();
-    // For the prover: octets are below 256.
     octets_fit(carried);
     let mut octets: BoundedList<u8, 1524> = BoundedList::new();
     octets.extend(carried);
@@ -121,7 +120,6 @@ pub fn packet_image(nac: u16, packet: &Packet, out: &mut BitBuf)
     let head = packet.head();
     out.clear();
     put_front(&Nid { nac, duid: PDU }, out);
-    // For the prover: octets are below 256.
     octets_fit(&head.0);
     // The header block: the header's ten octets and the header CRC.
     let mut octets: BoundedList<u8, 12> = BoundedList::new();

@@ -44,8 +44,7 @@ pub fn bridge_item(item: &Item, nac: u16, status: Status, out: &mut BitBuf) -> b
     bridge_item_in(item, nac, status, &mut BitBuf::new(), out)
 }
 
-/// Sets `out` and answers as `bridge_item` does. `room` takes the frame's bits without status symbols, so that no buffer has to be
-/// made; what it holds before and after the call means nothing.
+/// Sets `out` and answers as `bridge_item` does. `room` takes the frame's bits without status symbols, as in `repair_item_in`.
 pub fn bridge_item_in(
     item: &Item,
     nac: u16,

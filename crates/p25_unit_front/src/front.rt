@@ -8,8 +8,7 @@ use p25_bch_nid::{Nid, ReadNid, nid_bits, nid_distance, read_nid, read_nid_count
 use p25_bits::BitBuf;
 use p25_status::{SENT_BLOCK_LENGTH, SYNC, sync_distance};
 
-/// How many bits a front has without its status symbol: those of the frame sync and of the network identifier (NID). TIA-102.BAAA,
-/// Frame Synchronization, Network Identifier.
+/// How many bits a front has without its status symbol. TIA-102.BAAA, Frame Synchronization, Network Identifier.
 pub const FRONT_LENGTH: usize = 112;
 
 /// How many bits are sent for a front: those with the status symbol that stands within its identifier.

@@ -37,8 +37,7 @@ pub fn image_as(frame: &Frame, nac: u16, statuses: &Statuses, out: &mut BitBuf)
     image_as_in(frame, nac, statuses, &mut BitBuf::new(), out);
 }
 
-/// Sets `out` as `image_as` does. `room` takes the frame's bits without status symbols, so that no buffer has to be made; what it
-/// holds before and after the call means nothing.
+/// Sets `out` as `image_as` does. `room` takes the frame's bits without status symbols: what it holds before and after means nothing.
 pub fn image_as_in(
     frame: &Frame,
     nac: u16,

@@ -137,7 +137,7 @@ fn damage_link(most: usize, draws: &mut Draws, bits: &mut BitBuf) -> u32
     ensures few { result ≤ 864 }
     ensures state { draws.new ≡ state_after (field_draws 24 most draws.old + 2) draws.old }
 {
-    // For the prover: the places of the words are those of the layouts.
+    // For the prover, here and below: the places of the words are those of the layouts.
     part_places();
     let field = damage_field(&LDU_WORDS, HAMMING10, most, draws, bits);
     field + damage_words(&LOW_WORDS, LOW_SPEED, 0, draws, bits)
@@ -153,7 +153,6 @@ fn damage_voice(voice: &VoiceUnit, draws: &mut Draws, bits: &mut BitBuf) -> u32
     ensures few { result ≤ 864 }
     ensures state { draws.new ≡ state_after (body_damage_draws (voice_in voice.now) draws.old) draws.old }
 {
-    // For the prover: the places of the words are those of the layouts.
     part_places();
     match voice {
         VoiceUnit::End => 0,
