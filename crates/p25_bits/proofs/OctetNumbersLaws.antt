@@ -1,8 +1,8 @@
 -- Numbers that octets write in base 256: by their bits, which they share with the octets. By induction on the octets.
-use Rattle.std.proofs.Common.{◌≡◌, ℕ, zero, suc, ◌+◌, ◌*◌, ◌^◌, ◌<◌, List, [], ◌∷◌, length, refl, ap, ap₂, sym, ◌∙◌, arith, pow-add, All}
+use Rattle.std.proofs.Common.{◌≡◌, ℕ, zero, suc, ◌+◌, ◌*◌, ◌^◌, ◌<◌, ◌≤◌, List, [], ◌∷◌, length, length-take, take, get_or, refl, ap, ap₂, sym, ◌∙◌, arith, pow-add, All}
 use Rattle.std.proofs.{Math.Nat.{mul_comm, mul_assoc, add-mul, pow-suc, mod-eq_of_lt}, lemmas.List.Elements.{All-head, All-tail}}
 use Rattle.p25_bits.specs.{Bits.{bits_of, field_of, octet_bits}, Numbers.{number_after, octets_number}}
-use Rattle.p25_bits.proofs.BitsLaws.{field_of-bits_of, field_of-append, field_of-nil, length-octet_bits, octet_bits-cons, octet_bits-nil}
+use Rattle.p25_bits.proofs.BitsLaws.{bits_of-field_of, field_of-bits_of, field_of-append, field_of-nil, length-octet_bits, octet_bits-cons, octet_bits-nil}
 
 pub octets_number-nil : octets_number [] ≡ 0
 unfolding octets_number number_after
@@ -44,3 +44,22 @@ octets_number-bits (octet ∷ octets) small =
     (octets_number-bits octets (All-tail P octet octets small))
     ∙ sym (field_of-append (bits_of 8 octet) (octet_bits octets))
     ∙ sym (ap field_of (octet_bits-cons octet octets))
+
+-- the number that the first eight octets write
+eight_number : (octets : List ℕ) → 8 ≤ length octets
+    → octets_number (take 8 octets) ≡ get_or octets 0 0 * 72057594037927936 + get_or octets 1 0 * 281474976710656 + get_or octets 2 0 * 1099511627776 + get_or octets 3 0 * 4294967296
+    + get_or octets 4 0 * 16777216 + get_or octets 5 0 * 65536 + get_or octets 6 0 * 256 + get_or octets 7 0
+unfolding octets_number number_after
+eight_number (a ∷ b ∷ c ∷ d ∷ e ∷ f ∷ g ∷ h ∷ rest) long = omega arith
+eight_number octets long = absurd (omega arith)
+
+-- the bits of the word that they make
+pub bits_of-eight : (octets : List ℕ) (word : ℕ) → 8 ≤ length octets → All (λ octet. octet < 256) (take 8 octets)
+    → word ≡ get_or octets 0 0 * 72057594037927936 + get_or octets 1 0 * 281474976710656 + get_or octets 2 0 * 1099511627776 + get_or octets 3 0 * 4294967296
+    + get_or octets 4 0 * 16777216 + get_or octets 5 0 * 65536 + get_or octets 6 0 * 256 + get_or octets 7 0
+    → bits_of 64 word ≡ octet_bits (take 8 octets)
+bits_of-eight octets word long small is =
+    let bits = octet_bits (take 8 octets) in
+    let width : length bits ≡ 64 = omega (arith, length-octet_bits (take 8 octets), length-take 8 octets) in
+    let number : word ≡ field_of bits = is ∙ sym (eight_number octets long) ∙ octets_number-bits (take 8 octets) small in
+    ap (bits_of 64) number ∙ ap (λ n. bits_of n (field_of bits)) (sym width) ∙ bits_of-field_of bits

@@ -2,9 +2,10 @@
 //! a list of bits.
 
 ghost use Rattle.std.specs.Prelude.{◌≡◌, ◌+◌, ◌*◌, ◌^◌, ◌<◌, ◌≤◌, ◌++◌, All, length, take, drop};
-ghost use Rattle.p25_bits.specs.{Bits.{bits_of, field_of}, Numbers.{number_bits, numbers_from, pair_at, triple_at}};
+ghost use Rattle.p25_bits.specs.{Bits.{bits_of, field_of, octet_bits}, Numbers.{number_bits, numbers_from, pair_at, triple_at}};
 
 use super::bit_buf::BitBuf;
+use super::laws::octets_fit;
 
 /// Answers the number that at most 64 bits write, the first bit highest.
 pub fn number_of(bits: &[bool]) -> u64
@@ -56,9 +57,55 @@ impl BitBuf {
         ensures list { self.new ≡ self.old ++ number_bits width numbers.now }
         ensures len { length self.new ≡ length self.old + width * length numbers.now }
     {
+        let first = if width == 8 {
+            self.put_eights(numbers)
+        } else {
+            0
+        };
+        self.put_each(&numbers[first..], width);
+    }
+
+    // Appends numbers, one after the other.
+    fn put_each(&mut self, numbers: &[u8], width: u32)
+        requires width { width ≤ 8 }
+        requires fits { All (λ number. number < 2 ^ width) numbers.now }
+        requires room { length self.old + width * length numbers.now ≤ 25928 }
+        ensures list { self.new ≡ self.old ++ number_bits width numbers.now }
+        ensures len { length self.new ≡ length self.old + width * length numbers.now }
+    {
         for number in numbers {
             self.put_field(u64::from(*number), width);
         }
+    }
+
+    /// Appends the first eight octets at once, the highest bit of each first.
+    #[inline]
+    pub fn put_eight(&mut self, octets: &[u8])
+        requires there { 8 ≤ length octets.now }
+        requires room { length self.old + 64 ≤ 25928 }
+        ensures list { self.new ≡ self.old ++ octet_bits (take 8 octets.now) }
+        ensures len { length self.new ≡ length self.old + 64 }
+    {
+        // For the prover: octets are below 256.
+        octets_fit(octets);
+        let eight = u64::from_be_bytes([
+            octets[0], octets[1], octets[2], octets[3], octets[4], octets[5], octets[6], octets[7],
+        ]);
+        self.put_field(eight, 64);
+    }
+
+    // Appends octets, eight at once, as long as there are eight, and answers how many.
+    fn put_eights(&mut self, octets: &[u8]) -> usize
+        requires { length self.old + 8 * length octets.now ≤ 25928 }
+        ensures most { result ≤ length octets.now }
+        ensures list { self.new ≡ self.old ++ number_bits 8 (take result octets.now) }
+        ensures len { length self.new ≡ length self.old + 8 * result }
+    {
+        let whole = octets.len() / 8;
+        for g in 0..whole {
+            self.put_eight(&octets[8 * g..]);
+        }
+        8 * whole
     }
 
     /// Sets the numbers to those that the bits from place `at` on write, `width` bits each, the first bit highest.

@@ -91,6 +91,20 @@ fn numbers(rt: HostRuntime) {
     assert_eq!(rt; number_of(&word), 0b1_0110);
 }
 
+#[test]
+fn octets_eight_at_once(rt: HostRuntime) {
+    let octets = [
+        0x01, 0x23, 0x45, 0x67, 0x89, 0xAB, 0xCD, 0xEF, 0xFE, 0xDC, 0xBA,
+    ];
+    let mut bits = BitBuf::new();
+    bits.push(true);
+    bits.put_numbers(&octets, 8);
+    assert!(rt; bits.len() == 89 && bits.field(1, 64) == 0x0123_4567_89AB_CDEF);
+    assert_eq!(rt; bits.field(65, 24), 0xFE_DCBA);
+    bits.put_eight(&octets[1..]);
+    assert!(rt; bits.len() == 153 && bits.field(89, 64) == 0x2345_6789_ABCD_EFFE);
+}
+
 // The generator of the BCH code (63,16), two of its words, and a word with one bit wrong.
 #[test]
 fn remainders(rt: HostRuntime) {

@@ -1,4 +1,4 @@
-ghost use Rattle.std.specs.Prelude.{◌≡◌, ℕ, ⊤, ◌≤◌, ◌↔◌, List, length, IsSome, IfSome};
+ghost use Rattle.std.specs.Prelude.{◌≡◌, ℕ, ⊤, ◌≤◌, ◌↔◌, List, length, take, IsSome, IfSome};
 
 use arrayvec::ArrayVec;
 use std::alloc::AllocError;
@@ -30,6 +30,15 @@ impl<const MOST: usize> MessageOf<MOST> {
         Some(MessageOf {
             items: ArrayVec::try_from(octets).ok()?,
         })
+    }
+
+    /// Answers the message of the first `count` octets, or of all where there are fewer. It is made of them in their place.
+    pub fn beginning_of(octets: [u8; MOST], count: usize) -> MessageOf<MOST>
+        ensures { result ≡ take count octets }
+    {
+        let mut items = ArrayVec::from(octets);
+        items.truncate(count);
+        MessageOf { items }
     }
 
     /// Answers the octets of the message, in order.

@@ -15,7 +15,7 @@ pub fn message_value<const MOST: usize>(word: &[u8]) -> Option<MessageOf<MOST>>
 {
     let mut room = [0; MOST];
     let count = octets_or_dash(word, &mut room)?;
-    MessageOf::new(&room[..count])
+    Some(MessageOf::beginning_of(room, count))
 }
 
 // The place that a text is: a number below 25,920.

@@ -5,7 +5,6 @@ ghost use Rattle.p25_bits.specs.Bits.{octet_bits};
 ghost use Rattle.p25_stream.specs.Scan.{octets_taken};
 
 use p25_bits::BitBuf;
-use p25_bits::laws::octets_fit;
 
 // The most bits that are held.
 const HELD_MOST: usize = 25_927;
@@ -28,11 +27,6 @@ pub(crate) fn put_some(octets: &[u8], held: &mut BitBuf) -> usize
         held.put_field(u64::from(octets[0]), 8);
         return 1;
     }
-    // For the prover: octets are below 256.
-    octets_fit(octets);
-    let word = u64::from_be_bytes([
-        octets[0], octets[1], octets[2], octets[3], octets[4], octets[5], octets[6], octets[7],
-    ]);
-    held.put_field(word, 64);
+    held.put_eight(octets);
     8
 }
