@@ -1,15 +1,14 @@
 -- The lines of units, as they are put together: the words of a line are its kind and, after a space each, its keys with their values.
-use Rattle.std.proofs.Common.{◌≡◌, ℕ, ◌+◌, ◌/◌, ◌%◌, ◌==◌, Bool, true, false, cond, List, [], ◌∷◌, ◌++◌, take, map, slice_get, slice_index, Some, refl, sym, ap, ap₂, ◌∙◌, append-nil, append_assoc}
+use Rattle.std.proofs.Common.{◌≡◌, ℕ, ◌+◌, ◌/◌, ◌%◌, ◌==◌, Bool, true, false, cond, List, [], ◌∷◌, ◌++◌, take, slice_get, slice_index, Some, refl, sym, ap, ap₂, ◌∙◌, append-nil, append_assoc}
 use Rattle.std.specs.List.{join_with_byte}
 use Rattle.hex.specs.Hex.{encode_lower, encode_with, lower_digits}
-use Rattle.p25_packet_blocks.specs.{ConfirmedParts.{ConfirmedParts}, Parts.{PlainParts}, Heads.{head_format}, declared.block.Slot.{Slot}, declared.head.PacketHead.{PacketHead}}
-use Rattle.p25_packet_blocks.specs.declared.packet.Packet.TheVariants.{Confirmed, Plain}
-use Rattle.p25_voice_units.specs.{declared.unit.VoiceUnit.{VoiceUnit}, declared.voice.VoiceFrame.{VoiceFrame}}
-use Rattle.p25_units.specs.{UnitParts.{UnitParts}, declared.unit.Body.TheVariants.{Voice, Packet}}
-use Rattle.p25_line.specs.{CommaLists.{list_text}, Octets.{octets_text}, Values.{three_digits}}
-use Rattle.p25_text.specs.{Grammar.{keyed, kind_of, text_of, values_of}, Names.{key_text, keys_of, kind_word, other_keys}, Packets.{packet_kind, slot_text}, Values.{key_value_text}}
-use Rattle.p25_text.specs.{Voices.{frame_octets, voice_kind, voice_octets, voice_values}, declared.names.UnitKey.{UnitKey}, declared.names.UnitKey.TheVariants.{Nac, Head, Blocks, Octets}}
-use Rattle.p25_text.specs.{declared.names.UnitKind.{UnitKind}, declared.names.UnitKind.TheVariants.{Confirmed as ConfirmedKind, Plain as PlainKind, Response as ResponseKind}}
+use Rattle.p25_packet_blocks.specs.{Heads.{head_format}, declared.packet.Packet.{Packet as PacketParts}, declared.packet.Packet.TheVariants.{Confirmed, Plain}}
+use Rattle.p25_voice_units.specs.declared.voice.VoiceFrame.{VoiceFrame}
+use Rattle.p25_units.specs.{UnitParts.{UnitParts}, declared.unit.Body.TheVariants.{Packet}}
+use Rattle.p25_line.specs.Values.{three_digits}
+use Rattle.p25_text.specs.{Grammar.{body_values, keyed, kind_of, text_of, values_of}, Names.{key_at, key_text, keys_of, kind_word, other_keys}, Packets.{packet_kind, packet_values}}
+use Rattle.p25_text.specs.{Voices.{frame_octets}, declared.names.UnitKey.{UnitKey}, declared.names.UnitKey.TheVariants.{Nac}, declared.names.UnitKind.{UnitKind}}
+use Rattle.p25_text.specs.declared.names.UnitKind.TheVariants.{Plain as PlainKind, Response as ResponseKind}
 use Rattle.p25_line.proofs.CommaWriteLaws.{take-read}
 
 -- keys with their values, a space before each
@@ -32,86 +31,63 @@ abbrev pub start_text : UnitKind → ℕ → List ℕ
 start_text kind nac = kind_word kind ++ 32 ∷ key_text Nac ++ three_digits nac
 
 -- a line by its beginning and the rest
-text-start : (unit : UnitParts) (kind : UnitKind) (keys : List UnitKey) (values : List (List ℕ))
-    → kind_of unit.body ≡ kind → keys_of kind ≡ Nac ∷ keys → values_of unit ≡ three_digits unit.nac ∷ values
-    → text_of unit ≡ start_text kind unit.nac ++ tail_text keys values
-text-start unit kind keys values same_kind same_keys same_values =
-    text-tail unit
-    ∙ ap (λ k. kind_word k ++ tail_text (keys_of k) (values_of unit)) same_kind
-    ∙ ap (λ k. kind_word kind ++ tail_text k (values_of unit)) same_keys
-    ∙ ap (λ v. kind_word kind ++ tail_text (Nac ∷ keys) v) same_values
-    ∙ regroup (kind_word kind) (32 ∷ key_text Nac) (three_digits unit.nac) (tail_text keys values)
+text-start : (unit : UnitParts) → text_of unit ≡ start_text (kind_of unit.body) unit.nac ++ tail_text (other_keys (kind_of unit.body)) (body_values unit.body)
+text-start unit =
+    let kind = kind_of unit.body in
+    text-tail unit ∙ regroup (kind_word kind) (32 ∷ key_text Nac) (three_digits unit.nac) (tail_text (other_keys kind) (body_values unit.body))
   where
     regroup : (a b c d : List ℕ) → a ++ ((b ++ c) ++ d) ≡ ((a ++ b) ++ c) ++ d
     regroup a b c d = simp append_assoc
-
--- ---- packets
-
--- two more keys with their values
-two_more : (start first second a b : List ℕ) → start ++ ((first ++ a) ++ ((second ++ b) ++ [])) ≡ ((start ++ (first ++ a)) ++ second) ++ b
-two_more start first second a b = simp (append_assoc, append-nil)
-
-pub text-confirmed : (nac : ℕ) (packet : ConfirmedParts) (head : PacketHead) (slots : List Slot) → head ≡ packet.head → slots ≡ packet.slots
-    → text_of (record { nac = nac; body = Packet (Confirmed packet) }) ≡ ((start_text ConfirmedKind nac ++ key_value_text Head head.0) ++ 32 ∷ key_text Blocks) ++ list_text slot_text slots
-text-confirmed nac packet head slots same_head same_slots =
-    text-start (record { nac = nac; body = Packet (Confirmed packet) }) ConfirmedKind (Head ∷ Blocks ∷ []) (encode_lower packet.head.0 ∷ list_text slot_text packet.slots ∷ []) refl refl refl
-    ∙ two_more (start_text ConfirmedKind nac) (32 ∷ key_text Head) (32 ∷ key_text Blocks) (encode_lower packet.head.0) (list_text slot_text packet.slots)
-    ∙ ap₂ (λ (h : PacketHead) s. ((start_text ConfirmedKind nac ++ key_value_text Head h.0) ++ 32 ∷ key_text Blocks) ++ list_text slot_text s) (sym same_head) (sym same_slots)
-
-plain_keys : (response : Bool) → keys_of (cond response ResponseKind PlainKind) ≡ Nac ∷ Head ∷ Octets ∷ []
-plain_keys true = refl
-plain_keys false = refl
-
-pub text-plain : (nac : ℕ) (packet : PlainParts) (kind : UnitKind) (head : PacketHead) (octets : List ℕ) → kind ≡ packet_kind (Plain packet) → head ≡ packet.head → octets ≡ packet.octets
-    → text_of (record { nac = nac; body = Packet (Plain packet) }) ≡ ((start_text kind nac ++ key_value_text Head head.0) ++ 32 ∷ key_text Octets) ++ octets_text octets
-text-plain nac packet kind head octets same_kind same_head same_octets =
-    let is = packet_kind (Plain packet) in
-    text-start (record { nac = nac; body = Packet (Plain packet) }) is (Head ∷ Octets ∷ []) (encode_lower packet.head.0 ∷ octets_text packet.octets ∷ [])
-    refl (plain_keys (head_format packet.head == 0x03)) refl
-    ∙ two_more (start_text is nac) (32 ∷ key_text Head) (32 ∷ key_text Octets) (encode_lower packet.head.0) (octets_text packet.octets)
-    ∙ ap₂ (λ (h : PacketHead) o. ((start_text is nac ++ key_value_text Head h.0) ++ 32 ∷ key_text Octets) ++ octets_text o) (sym same_head) (sym same_octets)
-    ∙ ap (λ k. ((start_text k nac ++ key_value_text Head head.0) ++ 32 ∷ key_text Octets) ++ octets_text octets) (sym same_kind)
-
--- a line after a text, by the four parts that are put
-pub four_parts : (out start head key value one two three four whole : List ℕ) → one ≡ out ++ start → two ≡ one ++ head → three ≡ two ++ key → four ≡ three ++ value
-    → whole ≡ ((start ++ head) ++ key) ++ value → four ≡ out ++ whole
-four_parts out start head key value one two three four whole first second third fourth same =
-    fourth ∙ ap (λ l. l ++ value) (third ∙ ap (λ l. l ++ key) (second ∙ ap (λ l. l ++ head) first)) ∙ regroup out start head key value ∙ ap (λ l. out ++ l) (sym same)
-  where
-    regroup : (o a b c d : List ℕ) → ((((o ++ a) ++ b) ++ c) ++ d) ≡ o ++ (((a ++ b) ++ c) ++ d)
-    regroup o a b c d = simp append_assoc
-
--- ---- voice units
-
--- the line of a voice unit is its beginning and its fields
-pub text-voice : (nac : ℕ) (unit : VoiceUnit)
-    → text_of (record { nac = nac; body = Voice unit }) ≡ start_text (voice_kind unit) nac ++ tail_text (other_keys (voice_kind unit)) (voice_values unit)
-text-voice nac unit = text-start (record { nac = nac; body = Voice unit }) (voice_kind unit) (other_keys (voice_kind unit)) (voice_values unit) refl refl refl
 
 -- texts after each other
 abbrev joined : List ℕ → List (List ℕ) → List ℕ
 joined out [] = out
 joined out (part ∷ parts) = joined (out ++ part) parts
 
--- the fields of a unit, each after those before
+-- keys with their values, each after those before
 abbrev fields_text : List UnitKey → List (List ℕ) → List (List ℕ)
-fields_text [] fields = []
+fields_text [] values = []
 fields_text (key ∷ keys) [] = []
-fields_text (key ∷ keys) (octets ∷ fields) = key_value_text key octets ∷ fields_text keys fields
+fields_text (key ∷ keys) (value ∷ values) = (32 ∷ key_text key ++ value) ∷ fields_text keys values
 
-joined-tail : (keys : List UnitKey) (fields : List (List ℕ)) (out : List ℕ) → joined out (fields_text keys fields) ≡ out ++ tail_text keys (map encode_lower fields)
-joined-tail (key ∷ keys) (octets ∷ fields) out =
-    joined-tail keys fields (out ++ key_value_text key octets) ∙ append_assoc out (key_value_text key octets) (tail_text keys (map encode_lower fields))
-joined-tail keys fields out = sym (append-nil out)
+joined-tail : (keys : List UnitKey) (values : List (List ℕ)) (out : List ℕ) → joined out (fields_text keys values) ≡ out ++ tail_text keys values
+joined-tail (key ∷ keys) (value ∷ values) out =
+    joined-tail keys values (out ++ (32 ∷ key_text key ++ value)) ∙ append_assoc out (32 ∷ key_text key ++ value) (tail_text keys values)
+joined-tail keys values out = sym (append-nil out)
 
--- a line is put by its beginning and then each field
-pub voice-put : (nac : ℕ) (unit : VoiceUnit) (out now : List ℕ) → now ≡ joined (out ++ start_text (voice_kind unit) nac) (fields_text (other_keys (voice_kind unit)) (voice_octets unit))
-    → now ≡ out ++ text_of (record { nac = nac; body = Voice unit })
-voice-put nac unit out now is =
+-- a line is put by its beginning and then each key with its value
+pub unit-put : (unit : UnitParts) (out now : List ℕ) → now ≡ joined (out ++ start_text (kind_of unit.body) unit.nac) (fields_text (other_keys (kind_of unit.body)) (body_values unit.body))
+    → now ≡ out ++ text_of unit
+unit-put unit out now is =
+    let kind = kind_of unit.body in
     is
-    ∙ joined-tail (other_keys (voice_kind unit)) (voice_octets unit) (out ++ start_text (voice_kind unit) nac)
-    ∙ append_assoc out (start_text (voice_kind unit) nac) (tail_text (other_keys (voice_kind unit)) (voice_values unit))
-    ∙ ap (λ l. out ++ l) (sym (text-voice nac unit))
+    ∙ joined-tail (other_keys kind) (body_values unit.body) (out ++ start_text kind unit.nac)
+    ∙ append_assoc out (start_text kind unit.nac) (tail_text (other_keys kind) (body_values unit.body))
+    ∙ ap (λ l. out ++ l) (sym (text-start unit))
+
+-- ---- packets
+
+packet_keys : (packet : PacketParts) → other_keys (packet_kind packet) ≡ key_at (packet_kind packet) 1 ∷ key_at (packet_kind packet) 2 ∷ []
+packet_keys (Confirmed packet) = refl
+packet_keys (Plain packet) = plain_keys (head_format packet.head == 0x03)
+  where
+    plain_keys : (response : Bool) → other_keys (cond response ResponseKind PlainKind) ≡ key_at (cond response ResponseKind PlainKind) 1 ∷ key_at (cond response ResponseKind PlainKind) 2 ∷ []
+    plain_keys true = refl
+    plain_keys false = refl
+
+-- the line of a packet (PDU) is put by its beginning, its first key with the value, its last key, and the value of that
+pub packet-put : (nac : ℕ) (packet : PacketParts) (kind : UnitKind) (head last out one two three four : List ℕ) → kind ≡ packet_kind packet → head ∷ last ∷ [] ≡ packet_values packet
+    → one ≡ out ++ start_text kind nac → two ≡ one ++ (32 ∷ key_text (key_at kind 1) ++ head) → three ≡ two ++ 32 ∷ key_text (key_at kind 2) → four ≡ three ++ last
+    → four ≡ out ++ text_of (record { nac = nac; body = Packet packet })
+packet-put nac packet kind head last out one two three four same_kind same_values first second third fourth =
+    let key : ℕ → List ℕ = λ i. 32 ∷ key_text (key_at kind i) in
+    unit-put (record { nac = nac; body = Packet packet }) out four (
+    fourth ∙ ap (λ l. l ++ last) third ∙ append_assoc two (key 2) last ∙ ap (λ l. l ++ (key 2 ++ last)) (second ∙ ap (λ l. l ++ (key 1 ++ head)) first)
+    ∙ ap (λ k. joined (out ++ start_text k nac) (fields_text (key_at k 1 ∷ key_at k 2 ∷ []) (head ∷ last ∷ []))) same_kind
+    ∙ ap₂ (λ keys values. joined (out ++ start_text (packet_kind packet) nac) (fields_text keys values)) (sym (packet_keys packet)) same_values
+    )
+
+-- ---- voice frames
 
 -- frames one after the other
 pub frames-none : (frames : List VoiceFrame) → encode_lower (frame_octets (take 0 frames)) ≡ []

@@ -1,5 +1,5 @@
 -- The kinds of unit lines, and their keys.
-use Rattle.std.specs.{Prelude.{List, [], ◌∷◌, codes, ℕ, Option}, Str.{bytes_eq}, List.{find}}
+use Rattle.std.specs.{Prelude.{List, [], ◌∷◌, get_or, codes, ℕ, Option}, Str.{bytes_eq}, List.{find}}
 use Rattle.p25_text.specs.declared.names.UnitKey.{UnitKey}
 use Rattle.p25_text.specs.declared.names.UnitKey.TheVariants.{Nac, Mi, Mfid, Algid, Kid, Tgid, Lc, Lsd, Frames, Head, Blocks, Octets}
 use Rattle.p25_text.specs.{declared.names.UnitKind.{UnitKind}, declared.names.UnitKind.TheVariants.{Hdu, Ldu1, Ldu2, Tdu, Tdulc, Confirmed, Plain, Response}}
@@ -29,6 +29,10 @@ other_keys Response = Head ∷ Octets ∷ []
 -- the keys of a kind, in their order
 abbrev pub keys_of : UnitKind → List UnitKey
 keys_of kind = Nac ∷ other_keys kind
+
+-- key `i` of a kind, counted from 0
+abbrev pub key_at : UnitKind → ℕ → UnitKey
+key_at kind i = get_or (keys_of kind) i Nac
 
 -- a key as it stands before its value
 abbrev pub key_text : UnitKey → List ℕ

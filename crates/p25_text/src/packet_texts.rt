@@ -2,10 +2,10 @@
 
 ghost use Rattle.std.specs.Prelude.{◌≡◌, ◌+◌, ◌≤◌, ◌++◌, length};
 ghost use Rattle.p25_line.specs.CommaLists.{list_text};
-ghost use Rattle.p25_text.specs.{Grammar.{text_of}, Packets.{packet_kind, slot_text}};
+ghost use Rattle.p25_text.specs.{Grammar.{text_of}, Names.{keys_of}, Packets.{packet_kind, slot_text}};
 
-use super::names::{UnitKey, UnitKind};
-use super::write::{put_key, put_key_value, put_start};
+use super::names::UnitKind;
+use super::write::{put_key, put_start, put_value};
 use p25_line::Line;
 use p25_packet_blocks::{Packet, Plain, RESPONSE_FORMAT, Slot, Slots};
 use p25_units::Body;
@@ -19,14 +19,15 @@ pub fn put_packet(nac: u16, packet: &Packet, out: &mut Line)
     match packet {
         Packet::Confirmed(packet) => {
             put_start(UnitKind::Confirmed, nac, out);
-            put_key_value(UnitKey::Head, &packet.head().0, out);
-            put_key(UnitKey::Blocks, out);
+            put_value(UnitKind::Confirmed, 1, &packet.head().0, out);
+            put_key(UnitKind::Confirmed, 2, out);
             put_slots(packet.slots(), out);
         }
         Packet::Plain(packet) => {
-            put_start(plain_kind(packet), nac, out);
-            put_key_value(UnitKey::Head, &packet.head().0, out);
-            put_key(UnitKey::Octets, out);
+            let kind = plain_kind(packet);
+            put_start(kind, nac, out);
+            put_value(kind, 1, &packet.head().0, out);
+            put_key(kind, 2, out);
             out.put_octets(packet.octets().octets());
         }
     }
@@ -34,7 +35,8 @@ pub fn put_packet(nac: u16, packet: &Packet, out: &mut Line)
 
 // The kind of the line of a packet (PDU) that is not confirmed.
 fn plain_kind(packet: &Plain) -> UnitKind
-    ensures { result ≡ packet_kind (Packet.Plain packet.now) }
+    ensures kind { result ≡ packet_kind (Packet.Plain packet.now) }
+    ensures three { length (keys_of result) ≡ 3 }
 {
     if packet.head().format() == RESPONSE_FORMAT {
         UnitKind::Response

@@ -1,12 +1,12 @@
 //! The lines of voice units (HDU, LDU1, LDU2, TDU and TDULC): written, and their values read from words.
 
-ghost use Rattle.std.specs.Prelude.{◌≡◌, ◌+◌, ◌*◌, ◌≤◌, ◌++◌, length, take, drop};
-ghost use Rattle.p25_text.specs.{Grammar.{text_of}, Values.{key_value_text}, Voices.{frame_octets, frames_of, pair_of, voice_in}};
-ghost use Rattle.p25_text.specs.{declared.names.UnitKey.TheVariants.{Frames}, declared.names.UnitKind.TheVariants.{Hdu, Ldu1, Ldu2, Tdulc}};
+ghost use Rattle.std.specs.Prelude.{◌≡◌, ◌+◌, ◌*◌, ◌<◌, ◌≤◌, ◌++◌, length, take, drop};
+ghost use Rattle.p25_text.specs.{Grammar.{text_of}, Names.{key_at, keys_of}, Values.{key_value_text}, Voices.{frame_octets, frames_of, pair_of, voice_in}};
+ghost use Rattle.p25_text.specs.declared.names.UnitKind.TheVariants.{Hdu, Ldu1, Ldu2, Tdulc};
 
-use super::names::{UnitKey, UnitKind};
+use super::names::UnitKind;
 use super::values::{Values, octets_value};
-use super::write::{put_key, put_key_value, put_start};
+use super::write::{put_key, put_start, put_value};
 use p25_line::Line;
 use p25_link::{EncryptionSync, HeaderWord, LinkControl};
 use p25_units::Body;
@@ -21,50 +21,52 @@ pub fn put_voice(nac: u16, unit: &VoiceUnit, out: &mut Line)
     match unit {
         VoiceUnit::Header(word) => {
             put_start(UnitKind::Hdu, nac, out);
-            put_key_value(UnitKey::Mi, &word.mi, out);
-            put_key_value(UnitKey::Mfid, &[word.mfid], out);
-            put_key_value(UnitKey::Algid, &[word.algid], out);
-            put_pair(UnitKey::Kid, word.kid, out);
-            put_pair(UnitKey::Tgid, word.tgid, out);
+            put_value(UnitKind::Hdu, 1, &word.mi, out);
+            put_value(UnitKind::Hdu, 2, &[word.mfid], out);
+            put_value(UnitKind::Hdu, 3, &[word.algid], out);
+            put_pair(UnitKind::Hdu, 4, word.kid, out);
+            put_pair(UnitKind::Hdu, 5, word.tgid, out);
         }
         VoiceUnit::Link1 { link, low, voice } => {
             put_start(UnitKind::Ldu1, nac, out);
-            put_key_value(UnitKey::Lc, &link.0, out);
-            put_key_value(UnitKey::Lsd, low, out);
-            put_frames(voice, out);
+            put_value(UnitKind::Ldu1, 1, &link.0, out);
+            put_value(UnitKind::Ldu1, 2, low, out);
+            put_frames(UnitKind::Ldu1, 3, voice, out);
         }
         VoiceUnit::Link2 { sync, low, voice } => {
             put_start(UnitKind::Ldu2, nac, out);
-            put_key_value(UnitKey::Mi, &sync.mi, out);
-            put_key_value(UnitKey::Algid, &[sync.algid], out);
-            put_pair(UnitKey::Kid, sync.kid, out);
-            put_key_value(UnitKey::Lsd, low, out);
-            put_frames(voice, out);
+            put_value(UnitKind::Ldu2, 1, &sync.mi, out);
+            put_value(UnitKind::Ldu2, 2, &[sync.algid], out);
+            put_pair(UnitKind::Ldu2, 3, sync.kid, out);
+            put_value(UnitKind::Ldu2, 4, low, out);
+            put_frames(UnitKind::Ldu2, 5, voice, out);
         }
         VoiceUnit::End => put_start(UnitKind::Tdu, nac, out),
         VoiceUnit::EndLink { link } => {
             put_start(UnitKind::Tdulc, nac, out);
-            put_key_value(UnitKey::Lc, &link.0, out);
+            put_value(UnitKind::Tdulc, 1, &link.0, out);
         }
     }
 }
 
-// Appends a key and a number of two octets, the higher first.
-fn put_pair(key: UnitKey, number: u16, out: &mut Line)
-    requires { length out.old + 12 ≤ 8192 }
-    ensures text { out.new ≡ out.old ++ key_value_text key (pair_of number) }
+// Appends a space, key `i` of a kind, counted from 0, and a number of two octets, the higher first.
+fn put_pair(kind: UnitKind, i: usize, number: u16, out: &mut Line)
+    requires some { i < length (keys_of kind) }
+    requires room { length out.old + 12 ≤ 8192 }
+    ensures text { out.new ≡ out.old ++ key_value_text (key_at kind i) (pair_of number) }
     ensures short { length out.new ≤ length out.old + 12 }
 {
-    put_key_value(key, &number.to_be_bytes(), out);
+    put_value(kind, i, &number.to_be_bytes(), out);
 }
 
-// Appends the key of the voice frames of an LDU1 or an LDU2, and their octets.
-fn put_frames(voice: &Voice, out: &mut Line)
-    requires { length out.old + 332 ≤ 8192 }
-    ensures text { out.new ≡ out.old ++ key_value_text Frames (frame_octets voice.now) }
+// Appends a space, key `i` of a kind, counted from 0, and the octets of the voice frames of an LDU1 or an LDU2.
+fn put_frames(kind: UnitKind, i: usize, voice: &Voice, out: &mut Line)
+    requires some { i < length (keys_of kind) }
+    requires room { length out.old + 332 ≤ 8192 }
+    ensures text { out.new ≡ out.old ++ key_value_text (key_at kind i) (frame_octets voice.now) }
     ensures short { length out.new ≤ length out.old + 332 }
 {
-    put_key(UnitKey::Frames, out);
+    put_key(kind, i, out);
     let frames = voice.frames();
     for frame in frames {
         out.put_hex(&frame.0);

@@ -1,10 +1,10 @@
 //! The lines of units.
 
-ghost use Rattle.std.specs.Prelude.{◌≡◌, ◌+◌, ◌*◌, ◌≤◌, ◌∷◌, ◌++◌, length};
-ghost use Rattle.p25_text.specs.{Grammar.{text_of}, Names.{key_text, kind_word}, Values.{key_value_text}, declared.names.UnitKey.TheVariants.{Nac}};
+ghost use Rattle.std.specs.Prelude.{◌≡◌, ◌+◌, ◌*◌, ◌<◌, ◌≤◌, ◌∷◌, ◌++◌, length};
+ghost use Rattle.p25_text.specs.{Grammar.{text_of}, Names.{key_at, key_text, keys_of, kind_word}, Values.{key_value_text}};
 ghost use Rattle.p25_line.specs.Values.{three_digits};
 
-use super::names::{UnitKey, UnitKind};
+use super::names::UnitKind;
 use super::packet_texts::put_packet;
 use super::voices::put_voice;
 use p25_line::Line;
@@ -31,33 +31,35 @@ pub fn put_unit(unit: &Unit, out: &mut Line)
     }
 }
 
-/// Appends the word of a kind, and the first key with the network access code (NAC).
+/// Appends the word of a kind, and its first key with the network access code (NAC).
 pub fn put_start(kind: UnitKind, nac: u16, out: &mut Line)
     requires { length out.old + 17 ≤ 8192 }
-    ensures text { out.new ≡ out.old ++ (kind_word kind ++ 32 ∷ key_text Nac ++ three_digits nac) }
+    ensures text { out.new ≡ out.old ++ (kind_word kind ++ 32 ∷ key_text (key_at kind 0) ++ three_digits nac) }
     ensures short { length out.new ≤ length out.old + 17 }
 {
     out.put(kind.word());
-    put_key(UnitKey::Nac, out);
+    put_key(kind, 0, out);
     out.put_three_digits(nac);
 }
 
-/// Appends a space and a key.
-pub fn put_key(key: UnitKey, out: &mut Line)
-    requires { length out.old + 8 ≤ 8192 }
-    ensures text { out.new ≡ out.old ++ 32 ∷ key_text key }
+/// Appends a space and key `i` of a kind, counted from 0.
+pub fn put_key(kind: UnitKind, i: usize, out: &mut Line)
+    requires some { i < length (keys_of kind) }
+    requires room { length out.old + 8 ≤ 8192 }
+    ensures text { out.new ≡ out.old ++ 32 ∷ key_text (key_at kind i) }
     ensures short { length out.new ≤ length out.old + 8 }
 {
     out.put(b" ");
-    out.put(key.text());
+    out.put(kind.keys()[i].text());
 }
 
-/// Appends a space, a key and its value: octets with two digits each.
-pub fn put_key_value(key: UnitKey, octets: &[u8], out: &mut Line)
-    requires { length out.old + 8 + 2 * length octets.now ≤ 8192 }
-    ensures text { out.new ≡ out.old ++ key_value_text key octets.now }
+/// Appends a space, key `i` of a kind, counted from 0, and its value: octets with two digits each.
+pub fn put_value(kind: UnitKind, i: usize, octets: &[u8], out: &mut Line)
+    requires some { i < length (keys_of kind) }
+    requires room { length out.old + 8 + 2 * length octets.now ≤ 8192 }
+    ensures text { out.new ≡ out.old ++ key_value_text (key_at kind i) octets.now }
     ensures short { length out.new ≤ length out.old + 8 + 2 * length octets.now }
 {
-    put_key(key, out);
+    put_key(kind, i, out);
     out.put_hex(octets);
 }

@@ -1,6 +1,6 @@
 use Rattle.std.proofs.{Common.{◌∷◌, ◌++◌, ◌<◌, length, sym, ap, ◌∙◌, append-nil, append_assoc, arith}, lemmas.List.{take_all}, lemmas.Option.{slice_get-get_or}}
 use Rattle.hex.specs.Hex.{encode_lower}
-use Rattle.p25_text.specs.{Names.{key_text}, Voices.{frame_octets}, declared.names.UnitKey.TheVariants.{Frames}}
+use Rattle.p25_text.specs.{Names.{key_at, key_text}, Voices.{frame_octets}}
 use Rattle.p25_text.proofs.WriteLaws.{frames-none, next-frame}
 use Rattle.p25_text.proofs.voices.put_frames.Goals as goal
 
@@ -27,4 +27,4 @@ returns-clause-text c =
     c.loop-frame.invariant.text
     ∙ ap (λ f. c.put_key.new.out ++ encode_lower (frame_octets f)) (all ∙ c.frames-frames.ensures.value)
     ∙ ap (λ l. l ++ encode_lower (frame_octets c.args.voice.now)) c.put_key.ensures.text
-    ∙ append_assoc c.args.out.now (32 ∷ key_text Frames) (encode_lower (frame_octets c.args.voice.now))
+    ∙ append_assoc c.args.out.now (32 ∷ key_text (key_at c.args.kind c.args.i)) (encode_lower (frame_octets c.args.voice.now))
