@@ -34,7 +34,7 @@ impl<const MOST: usize> MessageOf<MOST> {
 
     /// Answers the message of the first `count` octets, or of all where there are fewer. It is made of them in their place.
     pub fn beginning_of(octets: [u8; MOST], count: usize) -> MessageOf<MOST>
-        ensures { result ≡ take count octets }
+        ensures { result ≡ take count octets.entry }
     {
         let mut items = ArrayVec::from(octets);
         items.truncate(count);

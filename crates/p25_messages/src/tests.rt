@@ -1,6 +1,6 @@
 //! Messages, long messages and their parts, lists of both, places of wrong bits, and how they are shown: each call once.
 
-use super::{Flips, LongList, LongMessage, Message, MessageList, StepKind, Way};
+use super::{Flips, LongList, LongMessage, Message, MessageList, MessageOf, StepKind, Way};
 use std::alloc::Global;
 use std::fmt::Debug;
 use std::test::Fail;
@@ -17,6 +17,15 @@ fn the_example_of_the_head(rt: HostRuntime) -> Result<(), Fail> {
 // How many octets the message of some octets has, if they are a message.
 fn size(octets: &[u8]) -> Option<usize> {
     Some(Message::new(octets)?.octets().len())
+}
+
+#[test]
+fn messages_of_an_array(rt: HostRuntime) {
+    // Rows: how many octets of three are taken, and the message.
+    for (count, octets) in [(0, b"".as_slice()), (2, b"ab"), (3, b"abc"), (4, b"abc")] {
+        let message = MessageOf::<3>::beginning_of(*b"abc", count);
+        assert!(rt; message.octets() == octets);
+    }
 }
 
 #[test]
