@@ -1,13 +1,13 @@
 -- The lines of units, as they are put together: the words of a line are its kind and, after a space each, its keys with their values.
-use Rattle.std.proofs.Common.{◌≡◌, ℕ, ◌+◌, ◌/◌, ◌%◌, ◌==◌, Bool, true, false, cond, List, [], ◌∷◌, ◌++◌, take, slice_get, slice_index, Some, refl, sym, ap, ap₂, ◌∙◌, append-nil, append_assoc}
-use Rattle.std.specs.List.{join_with_byte}
+use Rattle.std.proofs.Common.{◌≡◌, ℕ, ◌+◌, ◌/◌, ◌%◌, ◌<◌, ◌==◌, Bool, true, false, cond, List, [], ◌∷◌, ◌++◌, take, slice_get, slice_index, Some, refl, sym, ap, ap₂, ◌∙◌, append-nil, append_assoc, arith}
+use Rattle.std.specs.{Int.{to_be_bytes, w16}, List.{join_with_byte}}
 use Rattle.hex.specs.Hex.{encode_lower, encode_with, lower_digits}
 use Rattle.p25_packet_blocks.specs.{Heads.{head_format}, declared.packet.Packet.{Packet as PacketParts}, declared.packet.Packet.TheVariants.{Confirmed, Plain}}
 use Rattle.p25_voice_units.specs.declared.voice.VoiceFrame.{VoiceFrame}
 use Rattle.p25_units.specs.{UnitParts.{UnitParts}, declared.unit.Body.TheVariants.{Packet}}
 use Rattle.p25_line.specs.Values.{three_digits}
 use Rattle.p25_text.specs.{Grammar.{body_values, keyed, kind_of, text_of, values_of}, Names.{key_at, key_text, keys_of, kind_word, other_keys}, Packets.{packet_kind, packet_values}}
-use Rattle.p25_text.specs.{Voices.{frame_octets}, declared.names.UnitKey.{UnitKey}, declared.names.UnitKey.TheVariants.{Nac}, declared.names.UnitKind.{UnitKind}}
+use Rattle.p25_text.specs.{Voices.{frame_octets, pair_of}, declared.names.UnitKey.{UnitKey}, declared.names.UnitKey.TheVariants.{Nac}, declared.names.UnitKind.{UnitKind}}
 use Rattle.p25_text.specs.declared.names.UnitKind.TheVariants.{Plain as PlainKind, Response as ResponseKind}
 use Rattle.p25_line.proofs.CommaWriteLaws.{take-read}
 
@@ -64,6 +64,10 @@ unit-put unit out now is =
     ∙ joined-tail (other_keys kind) (body_values unit.body) (out ++ start_text kind unit.nac)
     ∙ append_assoc out (start_text kind unit.nac) (tail_text (other_keys kind) (body_values unit.body))
     ∙ ap (λ l. out ++ l) (sym (text-start unit))
+
+-- the octets of a number of two octets, the higher first
+pub pair-octets : (number : ℕ) → number < 65536 → to_be_bytes w16 number ≡ pair_of number
+pair-octets number small = let high : number / 256 % 256 ≡ number / 256 = omega arith in ap (λ h. h ∷ number % 256 ∷ []) high
 
 -- ---- packets
 

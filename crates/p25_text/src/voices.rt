@@ -1,8 +1,8 @@
 //! The lines of voice units (HDU, LDU1, LDU2, TDU and TDULC): written, and their values read from words.
 
-ghost use Rattle.std.specs.Prelude.{◌≡◌, ◌+◌, ◌*◌, ◌<◌, ◌≤◌, ◌++◌, length, take, drop};
-ghost use Rattle.p25_text.specs.{Grammar.{text_of}, Names.{key_at, keys_of}, Values.{key_value_text}, Voices.{frame_octets, frames_of, pair_of, voice_in}};
-ghost use Rattle.p25_text.specs.declared.names.UnitKind.TheVariants.{Hdu, Ldu1, Ldu2, Tdulc};
+ghost use Rattle.std.specs.Prelude.{◌≡◌, ◌+◌, ◌*◌, ◌≤◌, ◌++◌, length, take, drop};
+ghost use Rattle.hex.specs.Hex.{encode_lower};
+ghost use Rattle.p25_text.specs.{Grammar.{text_of}, Voices.{frame_octets, frames_of, voice_in}, declared.names.UnitKind.TheVariants.{Hdu, Ldu1, Ldu2, Tdulc}};
 
 use super::names::UnitKind;
 use super::values::{Values, octets_value};
@@ -24,22 +24,24 @@ pub fn put_voice(nac: u16, unit: &VoiceUnit, out: &mut Line)
             put_value(UnitKind::Hdu, 1, &word.mi, out);
             put_value(UnitKind::Hdu, 2, &[word.mfid], out);
             put_value(UnitKind::Hdu, 3, &[word.algid], out);
-            put_pair(UnitKind::Hdu, 4, word.kid, out);
-            put_pair(UnitKind::Hdu, 5, word.tgid, out);
+            put_value(UnitKind::Hdu, 4, &word.kid.to_be_bytes(), out);
+            put_value(UnitKind::Hdu, 5, &word.tgid.to_be_bytes(), out);
         }
         VoiceUnit::Link1 { link, low, voice } => {
             put_start(UnitKind::Ldu1, nac, out);
             put_value(UnitKind::Ldu1, 1, &link.0, out);
             put_value(UnitKind::Ldu1, 2, low, out);
-            put_frames(UnitKind::Ldu1, 3, voice, out);
+            put_key(UnitKind::Ldu1, 3, out);
+            put_frames(voice, out);
         }
         VoiceUnit::Link2 { sync, low, voice } => {
             put_start(UnitKind::Ldu2, nac, out);
             put_value(UnitKind::Ldu2, 1, &sync.mi, out);
             put_value(UnitKind::Ldu2, 2, &[sync.algid], out);
-            put_pair(UnitKind::Ldu2, 3, sync.kid, out);
+            put_value(UnitKind::Ldu2, 3, &sync.kid.to_be_bytes(), out);
             put_value(UnitKind::Ldu2, 4, low, out);
-            put_frames(UnitKind::Ldu2, 5, voice, out);
+            put_key(UnitKind::Ldu2, 5, out);
+            put_frames(voice, out);
         }
         VoiceUnit::End => put_start(UnitKind::Tdu, nac, out),
         VoiceUnit::EndLink { link } => {
@@ -49,24 +51,12 @@ pub fn put_voice(nac: u16, unit: &VoiceUnit, out: &mut Line)
     }
 }
 
-// Appends a space, key `i` of a kind, counted from 0, and a number of two octets, the higher first.
-fn put_pair(kind: UnitKind, i: usize, number: u16, out: &mut Line)
-    requires some { i < length (keys_of kind) }
-    requires room { length out.old + 12 ≤ 8192 }
-    ensures text { out.new ≡ out.old ++ key_value_text (key_at kind i) (pair_of number) }
-    ensures short { length out.new ≤ length out.old + 12 }
+// Appends the octets of the voice frames of an LDU1 or an LDU2.
+fn put_frames(voice: &Voice, out: &mut Line)
+    requires { length out.old + 324 ≤ 8192 }
+    ensures text { out.new ≡ out.old ++ encode_lower (frame_octets voice.now) }
+    ensures short { length out.new ≤ length out.old + 324 }
 {
-    put_value(kind, i, &number.to_be_bytes(), out);
-}
-
-// Appends a space, key `i` of a kind, counted from 0, and the octets of the voice frames of an LDU1 or an LDU2.
-fn put_frames(kind: UnitKind, i: usize, voice: &Voice, out: &mut Line)
-    requires some { i < length (keys_of kind) }
-    requires room { length out.old + 332 ≤ 8192 }
-    ensures text { out.new ≡ out.old ++ key_value_text (key_at kind i) (frame_octets voice.now) }
-    ensures short { length out.new ≤ length out.old + 332 }
-{
-    put_key(kind, i, out);
     let frames = voice.frames();
     for frame in frames {
         out.put_hex(&frame.0);
