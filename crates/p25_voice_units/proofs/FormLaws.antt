@@ -1,6 +1,6 @@
 -- A unit's bits by its places: a unit is laid out and carries its coded field exactly where its bits are its front and the pieces of its
 -- rows. One way goes from the words of the field to the pieces and then to the whole, the other way back.
-use Rattle.std.proofs.Common.{◌≡◌, ◌↔◌, ℕ, ◌+◌, ◌*◌, ◌<◌, ◌≤◌, Bool, true, List, ◌++◌, length, take, get_or, All, ap, ap₂, sym, subst, ◌∙◌, arith, length-append, take-append-drop, Option}
+use Rattle.std.proofs.Common.{◌≡◌, ◌↔◌, ℕ, ◌+◌, ◌*◌, ◌<◌, ◌≤◌, Bool, true, List, ◌++◌, length, take, get_or, All, ap, ap₂, sym, subst, ◌∙◌, arith, length-append, take-append-drop, Option, Some}
 use Rattle.std.proofs.{lemmas.Bool.{leb-true}, lemmas.List.Sums.{AllPass-from_list_all}, lemmas.List.{get_or_default, take_at}}
 use Rattle.std.specs.{List.{list_all}, Prelude.{nat_le}}
 use Rattle.p25_bits.specs.Bits.{part}
@@ -15,7 +15,8 @@ use Rattle.p25_unit_front.proofs.FrontLaws.{length-unit_front, IsFront-unit_fron
 use Rattle.p25_coded_fields.specs.{Fixes.{inner_bits}, Layouts.{Layout, field_bits, field_layout, sent_in}, Within.{HasField}}
 use Rattle.p25_coded_fields.proofs.FieldLaws.{field_there, field_word, field_word_there, flat_map_places}
 use Rattle.p25_voice_units.specs.{declared.layout.Piece.{Piece}, FieldLayouts.{word_places}, Pieces.{piece_length}, Images.{Contents, piece_bits, rows_bits}, Places.{IsLaidOut}}
-use Rattle.p25_voice_units.proofs.RowsLaws.{IsCarried, rows_length, rows_stand, rows_supplied, length-rows_bits, rows_parts, rows_only}
+use Rattle.p25_voice_units.specs.Lengths.{voice_length_of}
+use Rattle.p25_voice_units.proofs.{LengthsLaws.{one_length}, RowsLaws.{IsCarried, rows_length, rows_stand, rows_supplied, length-rows_bits, rows_parts, rows_only}}
 use Rattle.p25_voice_units.proofs.FieldRowsLaws.{rows_counted, group_word, words_from_rows, rows_from_words, rows_have}
 
 -- rows that suit what is carried: they follow the front end to end, and number its inner words in order; and these are as many as the
@@ -42,21 +43,21 @@ module _ {IsWord : List Bool → Type 0} {size k : ℕ} {carried : Contents}
       (rows_parts carries table 112 (unit_front nac duid) (length-unit_front nac duid) are.stand are.fit)
 
   -- so they are laid out
-  pub laid_out : (nac duid : ℕ) (bare : List Bool) → bare ≡ unit_front nac duid ++ rows_bits carried table → IsLaidOut nac duid count table carried.low carried.voice bare
-  laid_out nac duid bare is = record {
-    long = ap length is ∙ length-unit nac duid;
+  pub laid_out : (nac duid : ℕ) (bare : List Bool) → voice_length_of duid ≡ Some count → bare ≡ unit_front nac duid ++ rows_bits carried table → IsLaidOut nac duid table carried.low carried.voice bare
+  laid_out nac duid bare known is = record {
+    long = known ∙ ap Some (sym (ap length is ∙ length-unit nac duid));
     front = subst (λ (xs : List Bool). IsFront nac duid xs)
         (sym (ap (take 112) is ∙ take_at (unit_front nac duid) (rows_bits carried table) 112 (length-unit_front nac duid))) (IsFront-unit_front nac duid);
     pieces = rows_have carried size table bare (unit_parts nac duid bare is);
   }
 
   -- bits that are laid out and have their words are the unit's
-  pub laid_out-only : (nac duid : ℕ) (bare : List Bool) → IsLaidOut nac duid count table carried.low carried.voice bare
+  pub laid_out-only : (nac duid : ℕ) (bare : List Bool) → voice_length_of duid ≡ Some count → IsLaidOut nac duid table carried.low carried.voice bare
       → ((i : ℕ) → i < length (word_places size table) → part (get_or (word_places size table) i 0) size bare ≡ group_word carries (0 + i)) → bare ≡ unit_front nac duid ++ rows_bits carried table
-  laid_out-only nac duid bare is words =
+  laid_out-only nac duid bare known is words =
       sym (take-append-drop 112 bare)
       ∙ ap₂ (λ (xs ys : List Bool). xs ++ ys) (unit_front-only nac duid (take 112 bare) is.front)
-      (rows_only size carried table 112 bare are.stand (is.long ∙ are.fill) (rows_from_words carries table 0 bare are.counted words is.pieces))
+      (rows_only size carried table 112 bare are.stand (one_length duid known is.long ∙ are.fill) (rows_from_words carries table 0 bare are.counted words is.pieces))
 
   -- its inner words are those of its symbols
   pub words_in_unit : (nac duid : ℕ) (bare : List Bool) → bare ≡ unit_front nac duid ++ rows_bits carried table
@@ -112,6 +113,10 @@ module _ {IsWord : List Bool → Type 0} {size k : ℕ} {carried : Contents}
         (there.begins ∙ ap (λ (xs : List Sym). symbol_bits (part (carried.each * i) carried.each xs)) sent ∙ sym encoded.begins)
 
     -- so bits are laid out and carry the field exactly where they are the unit's
-    pub unit_form : (nac duid : ℕ) (bare : List Bool) → (IsLaidOut nac duid count table carried.low carried.voice bare × HasField IsWord (IsOuterWord n information) coded info bare)
+    pub unit_form : (nac duid : ℕ) (bare : List Bool) → voice_length_of duid ≡ Some count
+        → (IsLaidOut nac duid table carried.low carried.voice bare × HasField IsWord (IsOuterWord n information) coded info bare)
         ↔ (bare ≡ unit_front nac duid ++ rows_bits carried table)
-    unit_form nac duid bare = (λ (laid, has). laid_out-only nac duid bare laid (words_carried bare laid.long has), λ is. (laid_out nac duid bare is, field_carried nac duid bare is))
+    unit_form nac duid bare known = (
+      λ (laid, has). laid_out-only nac duid bare known laid (words_carried bare (one_length duid known laid.long) has),
+      λ is. (laid_out nac duid bare known is, field_carried nac duid bare is),
+    )

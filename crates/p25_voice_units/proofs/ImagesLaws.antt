@@ -84,18 +84,18 @@ length-voice_image_of nac (EndLink link) keeps = length-tdulc ∙ ap Some (sym (
 pub IsVoiceImage-iff : (nac : ℕ) (unit : VoiceUnit) (bare : List Bool) → IsSendableVoice unit → IsVoiceImage nac unit bare ↔ (bare ≡ voice_image_of nac unit)
 unfolding IsSendableVoice IsVoiceImage voice_image_of voice_body
 IsVoiceImage-iff nac (Header word) bare keeps =
-    unit_form (golay18_carried _) (header_suits word) 36 20 header_code (header_symbols word) (header_words.count_of word) refl golay18_reading_of nac 0 bare
+    unit_form (golay18_carried _) (header_suits word) 36 20 header_code (header_symbols word) (header_words.count_of word) refl golay18_reading_of nac 0 bare length-header
 IsVoiceImage-iff nac (Link1 link low voice) bare keeps =
     let info = link_symbols link in
     let long = link_words.count_of link in
-    unit_form (hamming10_carried _ low voice keeps.speech) (ldu_suits 12 info low voice link_code long keeps.speech) 24 12 link_code info long refl hamming10_reading_of nac 5 bare
+    unit_form (hamming10_carried _ low voice keeps.speech) (ldu_suits 12 info low voice link_code long keeps.speech) 24 12 link_code info long refl hamming10_reading_of nac 5 bare length-ldu1
 IsVoiceImage-iff nac (Link2 sync low voice) bare keeps =
     let info = sync_symbols sync in
     let long = sync_words.count_of sync in
-    unit_form (hamming10_carried _ low voice keeps.speech) (ldu_suits 16 info low voice sync_code long keeps.speech) 24 16 sync_code info long refl hamming10_reading_of nac 10 bare
+    unit_form (hamming10_carried _ low voice keeps.speech) (ldu_suits 16 info low voice sync_code long keeps.speech) 24 16 sync_code info long refl hamming10_reading_of nac 10 bare length-ldu2
 IsVoiceImage-iff nac End bare keeps = (
-  λ laid. laid_out-only (golay18_carried []) end_suits nac 3 bare laid (λ i inside. absurd (omega (arith, inside, no_words i))),
-  λ is. laid_out (golay18_carried []) end_suits nac 3 bare is,
+  λ laid. laid_out-only (golay18_carried []) end_suits nac 3 bare length-end laid (λ i inside. absurd (omega (arith, inside, no_words i))),
+  λ is. laid_out (golay18_carried []) end_suits nac 3 bare length-end is,
 )
 IsVoiceImage-iff nac (EndLink link) bare keeps =
-    unit_form (golay24_carried _) (tdulc_suits link) 24 12 link_code (link_symbols link) (link_words.count_of link) refl golay24_reading_of nac 15 bare
+    unit_form (golay24_carried _) (tdulc_suits link) 24 12 link_code (link_symbols link) (link_words.count_of link) refl golay24_reading_of nac 15 bare length-tdulc

@@ -23,6 +23,10 @@ pub length-tdulc : voice_length_of 15 ≡ Some 420
 unfolding voice_length_of
 length-tdulc = refl
 
+-- an identifier has one length
+pub one_length : {count len : ℕ} → (duid : ℕ) → voice_length_of duid ≡ Some count → voice_length_of duid ≡ Some len → len ≡ count
+one_length duid known is = cc
+
 -- what is chosen by the identifier of a voice unit's kind, or of none: so it is for all where it is for each
 module _ {X : Type 0} (header end ldu1 ldu2 tdulc other : X) where
   abbrev by_duid : ℕ → X

@@ -14,11 +14,12 @@ use Rattle.p25_link.proofs.WordsLaws.{header_words, link_words, sync_words}
 use Rattle.p25_coded_fields.proofs.{WithinLaws.{field_within, near_from_lost, near_itself}, CodesLaws.{near_from_reading, field_information}}
 use Rattle.p25_voice_units.specs.{declared.layout.Piece.TheVariants.{Nulls}, declared.unit.VoiceUnit.{VoiceUnit}, declared.unit.VoiceUnit.TheVariants.{Header, Link1, Link2, End, EndLink}}
 use Rattle.p25_voice_units.specs.{declared.voice.VoiceFrame.{VoiceFrame}, Layouts.{ldu_rows, hdu_rows, tdulc_rows}, FieldLayouts.{link_layout, word_places, header_layout, sync_layout, tdulc_layout}}
-use Rattle.p25_voice_units.specs.{Images.{frame_at, voice_image_of}, Lengths.{voice_duid}, Places.{HasPiece, IsLaidOut, IsVoiceImage}}
+use Rattle.p25_voice_units.specs.{Images.{frame_at, voice_image_of}, Lengths.{voice_duid, voice_length_of}, Places.{HasPiece, IsLaidOut, IsVoiceImage}}
 use Rattle.p25_voice_units.specs.Readings.{ldu1_in, ldu2_in, frame_places, low_places, frame_in, voice_in, low_in, header_in, link_in, sync_in, header_from, ldu_from, tdulc_from, voice_reading_of}
 use Rattle.p25_voice_units.specs.{Sendable.{IsVoiceFrame, IsSpeech, IsSendableVoice}, WithinRadius.{AreLowWithin, IsVoiceWithin, received_voice, IsVoiceWithinByWords}}
 use Rattle.p25_status.specs.{declared.fields.Field.{Field}, declared.fields.Field.TheVariants.{LinkControl as LinkField, EncryptionSync as SyncField}}
-use Rattle.p25_voice_units.proofs.{ImagesLaws.{IsVoiceImage-iff}, KindsLaws.{reading-header, reading-end, reading-ldu1, reading-ldu2, reading-tdulc, ldu_whole}, ReadLaws.{nine_frames}}
+use Rattle.p25_voice_units.proofs.{ImagesLaws.{IsVoiceImage-iff}, KindsLaws.{reading-header, reading-end, reading-ldu1, reading-ldu2, reading-tdulc, ldu_whole}}
+use Rattle.p25_voice_units.proofs.{LengthsLaws.{one_length, length-header, length-ldu1, length-ldu2, length-tdulc}, ReadLaws.{nine_frames}}
 use Rattle.p25_voice_units.proofs.{FieldCodesLaws.{header_codes, link_codes, sync_codes, tdulc_codes, header_there, link_there, tdulc_there}, CodesLaws.{header_code, link_code, sync_code}}
 use Rattle.std.specs.Bool.{beq}
 use Rattle.p25_gf64.specs.declared.symbol.Sym.{Sym}
@@ -68,12 +69,12 @@ voice_within nac (Link1 link low voice) sent received keeps is long near =
     reading-ldu1 received
     ∙ ldu_within LinkField (λ link low. Link1 link low (voice_in received)) (link_in link_layout received) link low voice sent received
     (ap (option_map link_of_symbols) (field_within link_codes (link_symbols link) sent received is.1 near.field) ∙ ap Some (link_words.back link keeps.word))
-    keeps.speech is.0.pieces (long ∙ is.0.long) near.low
+    keeps.speech is.0.pieces (long ∙ one_length 5 length-ldu1 is.0.long) near.low
 voice_within nac (Link2 sync low voice) sent received keeps is long near =
     reading-ldu2 received
     ∙ ldu_within SyncField (λ sync low. Link2 sync low (voice_in received)) (sync_in received) sync low voice sent received
     (ap (option_map sync_of_symbols) (field_within sync_codes (sync_symbols sync) sent received is.1 near.field) ∙ ap Some (sync_words.back sync keeps.word))
-    keeps.speech is.0.pieces (long ∙ is.0.long) near.low
+    keeps.speech is.0.pieces (long ∙ one_length 10 length-ldu2 is.0.long) near.low
 voice_within nac End sent received keeps is long near = reading-end received
 voice_within nac (EndLink link) sent received keeps is long near =
     reading-tdulc received
@@ -84,18 +85,18 @@ pub within_from_words : (nac : ℕ) (unit : VoiceUnit) (sent received : List Boo
     → IsVoiceImage nac unit sent → length received ≡ length sent → IsVoiceWithinByWords unit sent received → IsVoiceWithin unit sent received
 unfolding IsVoiceImage IsVoiceWithin IsVoiceWithinByWords
 within_from_words nac (Header word) sent received is long few =
-    near_from_lost header_codes (header_symbols word) sent received is.1 (header_there received (long ∙ is.0.long)) (omega arith)
+    near_from_lost header_codes (header_symbols word) sent received is.1 (header_there received (long ∙ one_length 0 length-header is.0.long)) (omega arith)
 within_from_words nac (Link1 link low voice) sent received is long few = record {
-  field = near_from_lost link_codes (link_symbols link) sent received is.1 (link_there received (long ∙ is.0.long)) (omega (arith, few.field));
+  field = near_from_lost link_codes (link_symbols link) sent received is.1 (link_there received (long ∙ one_length 5 length-ldu1 is.0.long)) (omega (arith, few.field));
   low = few.low;
 }
 within_from_words nac (Link2 sync low voice) sent received is long few = record {
-  field = near_from_lost sync_codes (sync_symbols sync) sent received is.1 (link_there received (long ∙ is.0.long)) (omega (arith, few.field));
+  field = near_from_lost sync_codes (sync_symbols sync) sent received is.1 (link_there received (long ∙ one_length 10 length-ldu2 is.0.long)) (omega (arith, few.field));
   low = few.low;
 }
 within_from_words nac End sent received is long few = tt
 within_from_words nac (EndLink link) sent received is long few =
-    near_from_lost tdulc_codes (link_symbols link) sent received is.1 (tdulc_there received (long ∙ is.0.long)) (omega arith)
+    near_from_lost tdulc_codes (link_symbols link) sent received is.1 (tdulc_there received (long ∙ one_length 15 length-tdulc is.0.long)) (omega arith)
 
 -- undamaged bits are within radius
 low_itself : (sent : List Bool) → AreLowWithin sent sent
@@ -103,11 +104,12 @@ low_itself sent i d inside = let at = get_or (low_places ldu_rows) i d in omega 
 
 pub within_itself : (nac : ℕ) (unit : VoiceUnit) (sent : List Bool) → IsVoiceImage nac unit sent → IsVoiceWithin unit sent sent
 unfolding IsVoiceImage IsVoiceWithin
-within_itself nac (Header word) sent is = near_itself header_codes (header_symbols word) sent is.1 (header_there sent is.0.long)
-within_itself nac (Link1 link low voice) sent is = record { field = near_itself link_codes (link_symbols link) sent is.1 (link_there sent is.0.long); low = low_itself sent }
-within_itself nac (Link2 sync low voice) sent is = record { field = near_itself sync_codes (sync_symbols sync) sent is.1 (link_there sent is.0.long); low = low_itself sent }
+within_itself nac (Header word) sent is = near_itself header_codes (header_symbols word) sent is.1 (header_there sent (one_length 0 length-header is.0.long))
+within_itself nac (Link1 link low voice) sent is = record { field = near_itself link_codes (link_symbols link) sent is.1 (link_there sent (one_length 5 length-ldu1 is.0.long)); low = low_itself sent }
+within_itself nac (Link2 sync low voice) sent is =
+    record { field = near_itself sync_codes (sync_symbols sync) sent is.1 (link_there sent (one_length 10 length-ldu2 is.0.long)); low = low_itself sent }
 within_itself nac End sent is = tt
-within_itself nac (EndLink link) sent is = near_itself tdulc_codes (link_symbols link) sent is.1 (tdulc_there sent is.0.long)
+within_itself nac (EndLink link) sent is = near_itself tdulc_codes (link_symbols link) sent is.1 (tdulc_there sent (one_length 15 length-tdulc is.0.long))
 
 -- the voice frame at its place
 frame_back : (at : ℕ) (frame : VoiceFrame) (bare : List Bool) → IsVoiceFrame frame → at + 144 ≤ length bare → part at 144 bare ≡ octet_bits frame.0 → frame_in at bare ≡ frame
@@ -139,9 +141,10 @@ frame_row low voice bare pieces (suc (suc (suc (suc (suc (suc (suc (suc zero))))
 frame_row low voice bare pieces (suc (suc (suc (suc (suc (suc (suc (suc (suc i))))))))) inside = absurd (omega arith)
 
 -- so undamaged bits give the frames
-voice_back : (nac duid : ℕ) (low : List ℕ) (voice : List VoiceFrame) (bare : List Bool) → IsSpeech low voice → IsLaidOut nac duid 1680 ldu_rows low voice bare → voice_in bare ≡ voice
+voice_back : (nac duid : ℕ) (low : List ℕ) (voice : List VoiceFrame) (bare : List Bool) → IsSpeech low voice → voice_length_of duid ≡ Some 1680
+    → IsLaidOut nac duid ldu_rows low voice bare → voice_in bare ≡ voice
 unfolding voice_in
-voice_back nac duid low voice bare keeps is = ext_get_or blank (map frame (frame_places ldu_rows)) voice (many ∙ sym keeps.nine) (λ i inside. at i (omega (arith, many)))
+voice_back nac duid low voice bare keeps known is = ext_get_or blank (map frame (frame_places ldu_rows)) voice (many ∙ sym keeps.nine) (λ i inside. at i (omega (arith, many)))
   where
     blank : VoiceFrame
     blank = record { 0 = [] }
@@ -156,13 +159,13 @@ voice_back nac duid low voice bare keeps is = ext_get_or blank (map frame (frame
     at i inside =
         let row = frame_row low voice bare is.pieces i inside in
         get_or-map frame (frame_places ldu_rows) i 0 blank (omega (arith, nine_frames))
-        ∙ frame_back (slice_index (frame_places ldu_rows) i) (frame_at voice i) bare (keeps.frames i blank (omega (arith, keeps.nine))) (omega (arith, row.1, is.long)) row.0
+        ∙ frame_back (slice_index (frame_places ldu_rows) i) (frame_at voice i) bare (keeps.frames i blank (omega (arith, keeps.nine))) (omega (arith, row.1, one_length duid known is.long)) row.0
 
 pub received_itself : (nac : ℕ) (unit : VoiceUnit) (sent : List Bool) → IsSendableVoice unit → IsVoiceImage nac unit sent → received_voice unit sent ≡ unit
 unfolding IsSendableVoice IsVoiceImage
 received_itself nac (Header word) sent keeps is = refl
-received_itself nac (Link1 link low voice) sent keeps is = ap (Link1 link low) (voice_back nac 5 low voice sent keeps.speech is.0)
-received_itself nac (Link2 sync low voice) sent keeps is = ap (Link2 sync low) (voice_back nac 10 low voice sent keeps.speech is.0)
+received_itself nac (Link1 link low voice) sent keeps is = ap (Link1 link low) (voice_back nac 5 low voice sent keeps.speech length-ldu1 is.0)
+received_itself nac (Link2 sync low voice) sent keeps is = ap (Link2 sync low) (voice_back nac 10 low voice sent keeps.speech length-ldu2 is.0)
 received_itself nac End sent keeps is = refl
 received_itself nac (EndLink link) sent keeps is = refl
 
