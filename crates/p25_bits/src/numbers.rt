@@ -57,22 +57,6 @@ impl BitBuf {
         ensures list { self.new ≡ self.old ++ number_bits width numbers.now }
         ensures len { length self.new ≡ length self.old + width * length numbers.now }
     {
-        let first = if width == 8 {
-            self.put_eights(numbers)
-        } else {
-            0
-        };
-        self.put_each(&numbers[first..], width);
-    }
-
-    // Appends numbers, one after the other.
-    fn put_each(&mut self, numbers: &[u8], width: u32)
-        requires width { width ≤ 8 }
-        requires fits { All (λ number. number < 2 ^ width) numbers.now }
-        requires room { length self.old + width * length numbers.now ≤ 25928 }
-        ensures list { self.new ≡ self.old ++ number_bits width numbers.now }
-        ensures len { length self.new ≡ length self.old + width * length numbers.now }
-    {
         for number in numbers {
             self.put_field(u64::from(*number), width);
         }
@@ -92,20 +76,6 @@ impl BitBuf {
             octets[0], octets[1], octets[2], octets[3], octets[4], octets[5], octets[6], octets[7],
         ]);
         self.put_field(eight, 64);
-    }
-
-    // Appends octets, eight at once, as long as there are eight, and answers how many.
-    fn put_eights(&mut self, octets: &[u8]) -> usize
-        requires { length self.old + 8 * length octets.now ≤ 25928 }
-        ensures most { result ≤ length octets.now }
-        ensures list { self.new ≡ self.old ++ number_bits 8 (take result octets.now) }
-        ensures len { length self.new ≡ length self.old + 8 * result }
-    {
-        let whole = octets.len() / 8;
-        for g in 0..whole {
-            self.put_eight(&octets[8 * g..]);
-        }
-        8 * whole
     }
 
     /// Sets the numbers to those that the bits from place `at` on write, `width` bits each, the first bit highest.

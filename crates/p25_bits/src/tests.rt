@@ -93,16 +93,13 @@ fn numbers(rt: HostRuntime) {
 
 #[test]
 fn octets_eight_at_once(rt: HostRuntime) {
-    let octets = [
-        0x01, 0x23, 0x45, 0x67, 0x89, 0xAB, 0xCD, 0xEF, 0xFE, 0xDC, 0xBA,
-    ];
+    let octets = [0x01, 0x23, 0x45, 0x67, 0x89, 0xAB, 0xCD, 0xEF, 0xFE];
     let mut bits = BitBuf::new();
     bits.push(true);
-    bits.put_numbers(&octets, 8);
-    assert!(rt; bits.len() == 89 && bits.field(1, 64) == 0x0123_4567_89AB_CDEF);
-    assert_eq!(rt; bits.field(65, 24), 0xFE_DCBA);
+    bits.put_eight(&octets);
     bits.put_eight(&octets[1..]);
-    assert!(rt; bits.len() == 153 && bits.field(89, 64) == 0x2345_6789_ABCD_EFFE);
+    assert!(rt; bits.len() == 129 && bits.field(1, 64) == 0x0123_4567_89AB_CDEF);
+    assert_eq!(rt; bits.field(65, 64), 0x2345_6789_ABCD_EFFE);
 }
 
 // The generator of the BCH code (63,16), two of its words, and a word with one bit wrong.

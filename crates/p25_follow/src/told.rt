@@ -10,7 +10,7 @@ use crate::expected::first_expected;
 use p25_bch_nid::{Nid, TDU, TDULC};
 use p25_bits::BitBuf;
 use p25_status::{SYNC_LENGTH, sync_distance};
-use p25_unit_front::{SENT_FRONT_LENGTH, front_fixes, read_identifier};
+use p25_unit_front::{SENT_FRONT_LENGTH, front_fixes, read_front};
 
 /// What is told of a unit by its front.
 #[derive(Clone, Copy, Debug, PartialEq, Eq)]
@@ -173,7 +173,7 @@ fn is_read(bits: &BitBuf, at: usize) -> bool
     if bits.len() - at < SENT_FRONT_LENGTH {
         return false;
     }
-    match read_identifier(bits, at) {
+    match read_front(bits, at) {
         Some(_) => true,
         None => false,
     }

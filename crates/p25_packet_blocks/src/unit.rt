@@ -10,7 +10,7 @@ use crate::read::read_header;
 use p25_bch_nid::PDU;
 use p25_bits::BitBuf;
 use p25_status::{BARE_BLOCK_LENGTH, Field, SENT_BLOCK_LENGTH, Statuses, is_sync, unweave};
-use p25_unit_front::{SENT_FRONT_LENGTH, read_identifier};
+use p25_unit_front::{SENT_FRONT_LENGTH, read_front};
 
 /// Answers the header of the packet (PDU) whose unit as it is sent begins at place `at`, and how many bits of its block were wrong. The
 /// 316 bits with its front and its header block are there. PacketHeader comes exactly where the last two octets of the block are
@@ -43,8 +43,8 @@ pub fn read_packet_unit(bits: &BitBuf) -> Result<(u16, Packet), Field>
     if !is_sync(bits, 0) {
         return Err(Field::Sync);
     }
-    let nid = match read_identifier(bits, 0) {
-        Some(nid) => nid,
+    let nid = match read_front(bits, 0) {
+        Some(front) => front.nid,
         None => return Err(Field::Nid),
     };
     if nid.duid != PDU {

@@ -4,7 +4,7 @@ ghost use Rattle.std.specs.Prelude.{◌≡◌, ◌+◌, ◌^◌, ◌<◌, ◌≤
 ghost use Rattle.p25_bits.specs.Bits.{field_of};
 ghost use Rattle.p25_unit_front.specs.Front.{front_fixes_of, identifier_bits, identifier_of, unit_front};
 
-use p25_bch_nid::{Nid, ReadNid, nid_bits, nid_distance, read_nid, read_nid_counted};
+use p25_bch_nid::{Nid, ReadNid, nid_bits, nid_distance, read_nid_counted};
 use p25_bits::BitBuf;
 use p25_status::{SENT_BLOCK_LENGTH, SYNC, sync_distance};
 
@@ -35,17 +35,9 @@ pub fn put_front(nid: &Nid, out: &mut BitBuf)
 }
 
 /// Answers the network identifier (NID) of the unit whose sent bits begin at place `at`: the NAC and the DUID of the word of the
-/// BCH code (63,16) within 11 bits of the first 63 bits of its identifier. `None` comes exactly where no word lies so near.
+/// BCH code (63,16) within 11 bits of the first 63 bits of its identifier; and the number of wrong bits in the sync and in those
+/// 63 bits: what `front_fixes` answers for it. Nothing is encoded to count them. `None` comes exactly where no word lies so near.
 /// TIA-102.BAAA, Network Identifier.
-pub fn read_identifier(bits: &BitBuf, at: usize) -> Option<Nid>
-    requires { at + 114 ≤ length bits.now }
-    ensures { option_map (λ nid. (nid.nac, nid.duid)) result ≡ identifier_of (drop at bits.now) }
-{
-    read_nid(identifier(bits, at))
-}
-
-/// Answers the network identifier (NID) that `read_identifier` answers, with the number of wrong bits in the sync and in the first
-/// 63 bits of the identifier: what `front_fixes` answers for it. Nothing is encoded to count them. TIA-102.BAAA, Network Identifier.
 pub fn read_front(bits: &BitBuf, at: usize) -> Option<ReadNid>
     requires { at + 114 ≤ length bits.now }
     ensures value { option_map (λ read. (read.nid.nac, read.nid.duid)) result ≡ identifier_of (drop at bits.now) }

@@ -22,5 +22,5 @@ mod tests;
 
 pub use front::{
     AFTER_STATUS, BEFORE_STATUS, FRONT_LENGTH, SENT_FRONT_LENGTH, front_fixes, put_front,
-    read_front, read_identifier,
+    read_front,
 };

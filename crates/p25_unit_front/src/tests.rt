@@ -2,7 +2,7 @@
 
 ghost use Rattle.std.specs.Prelude.{◌≡◌, length};
 
-use super::{front_fixes, put_front, read_front, read_identifier};
+use super::{front_fixes, put_front, read_front};
 use p25_bch_nid::{Nid, ReadNid};
 use p25_bits::BitBuf;
 use std::test::Fail;
@@ -45,7 +45,6 @@ fn fronts(rt: HostRuntime) -> Result<(), Fail> {
     for (wrong_sync, wrong_identifier, read, fixes) in rows {
         let sent = sent_front(wrong_sync, wrong_identifier);
         if read {
-            assert_eq!(rt; read_identifier(&sent, 0), Some(nid));
             assert_eq!(rt; read_front(&sent, 0), Some(ReadNid { nid, wrong: fixes }));
         }
         assert_eq!(rt; front_fixes(&sent, 0, &nid), fixes);

@@ -27,7 +27,11 @@ fn put_frame(octets: &[u8; 18], out: &mut BitBuf)
     ensures list { out.new ≡ out.old ++ octet_bits octets.now }
     ensures len { length out.new ≡ length out.old + 144 }
 {
-    out.put_numbers(octets, 8);
+    // For the prover: octets are below 256.
+    octets_fit(octets);
+    out.put_eight(octets);
+    out.put_eight(&octets[8..]);
+    out.put_numbers(&octets[16..], 8);
 }
 
 // Appends a piece of a unit, whose inner words carry the symbols.

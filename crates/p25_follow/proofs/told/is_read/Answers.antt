@@ -13,11 +13,11 @@ returns-in-Some c =
     let bits = c.args.bits.now in
     let at = c.args.at in
     let long : 114 ≤ length (drop at bits) = omega (arith, length-drop at bits, c.len.ensures.value, c.if-len-at-lt-SENT_FRONT_LENGTH.false) in
-    sym (is_read-some (drop at bits) _ long (sym c.in-Some.ensures))
+    sym (is_read-some (drop at bits) _ long (sym c.in-Some.ensures.value))
 
 pub returns-in-None : goal.returns-in-None
 returns-in-None c =
     let bits = c.args.bits.now in
     let at = c.args.at in
     let long : 114 ≤ length (drop at bits) = omega (arith, length-drop at bits, c.len.ensures.value, c.if-len-at-lt-SENT_FRONT_LENGTH.false) in
-    sym (is_read-none (drop at bits) long (sym c.in-None.ensures))
+    sym (is_read-none (drop at bits) long (sym c.in-None.ensures.value))

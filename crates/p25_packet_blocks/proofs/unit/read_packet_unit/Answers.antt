@@ -14,12 +14,12 @@ returns-then-not-is_sync c =
 pub returns-in-None : goal.returns-in-None
 returns-in-None c =
     let near : distance_of (take 48 c.args.bits.now) sync_bits ≤ sync_slack = grind (arith, c.if-not-is_sync.ensures) in
-    sym (packet_unit_of-nid c.args.bits.now (has_sync-yes c.args.bits.now (omega arith) near) (sym c.in-None.ensures))
+    sym (packet_unit_of-nid c.args.bits.now (has_sync-yes c.args.bits.now (omega arith) near) (sym c.in-None.ensures.value))
 
 pub returns-then-nid-ne-PDU : goal.returns-then-nid-ne-PDU
 returns-then-nid-ne-PDU c =
     let near : distance_of (take 48 c.args.bits.now) sync_bits ≤ sync_slack = grind (arith, c.if-not-is_sync.ensures) in
-    sym (packet_unit_of-duid c.args.bits.now (c.in-Some.nid.nac, c.in-Some.nid.duid) (has_sync-yes c.args.bits.now (omega arith) near) (sym c.in-Some.ensures) c.if-nid-ne-PDU.true)
+    sym (packet_unit_of-duid c.args.bits.now (c.in-Some.front.nid.nac, c.in-Some.front.nid.duid) (has_sync-yes c.args.bits.now (omega arith) near) (sym c.in-Some.ensures.value) c.if-nid-ne-PDU.true)
 
 pub returns-in_err-read : goal.returns-in_err-read
 returns-in_err-read c =
@@ -27,16 +27,16 @@ returns-in_err-read c =
     let p = err_from_is_err_and c.from_residual.result c.from_residual.ensures.1 in
     let unread = sent_head_of-unread c.args.bits.now p.0 (sym c.in_err-read.ensures.read ∙ ap Err (sym p.2)) in
     p.1
-    ∙ sym (packet_unit_of-bad c.args.bits.now (c.in-Some.nid.nac, c.in-Some.nid.duid) p.0 (has_sync-yes c.args.bits.now (omega arith) near)
-    (sym c.in-Some.ensures) c.if-nid-ne-PDU.false (sent_packet_of-bad c.args.bits.now p.0 unread))
+    ∙ sym (packet_unit_of-bad c.args.bits.now (c.in-Some.front.nid.nac, c.in-Some.front.nid.duid) p.0 (has_sync-yes c.args.bits.now (omega arith) near)
+    (sym c.in-Some.ensures.value) c.if-nid-ne-PDU.false (sent_packet_of-bad c.args.bits.now p.0 unread))
 
 pub returns-then-len : goal.returns-then-len
 returns-then-len c =
     let near : distance_of (take 48 c.args.bits.now) sync_bits ≤ sync_slack = grind (arith, c.if-not-is_sync.ensures) in
     let read = c.in_ok-read.read in
     let short : length c.args.bits.now < packet_sent_length (head_blocks read.head) = omega (arith, c.len.ensures.value, c.packet_length-len.ensures.value, c.if-len.true) in
-    sym (packet_unit_of-bad c.args.bits.now (c.in-Some.nid.nac, c.in-Some.nid.duid) Length (has_sync-yes c.args.bits.now (omega arith) near)
-    (sym c.in-Some.ensures) c.if-nid-ne-PDU.false
+    sym (packet_unit_of-bad c.args.bits.now (c.in-Some.front.nid.nac, c.in-Some.front.nid.duid) Length (has_sync-yes c.args.bits.now (omega arith) near)
+    (sym c.in-Some.ensures.value) c.if-nid-ne-PDU.false
     (sent_packet_of-short c.args.bits.now read.head (sent_head_of-read c.args.bits.now read (sym c.in_ok-read.ensures.read)) short))
 
 -- the packet is that of the header and of the bits without status symbols
@@ -53,13 +53,13 @@ returns-in_err-read_blocks c =
     let read = whole c.in_ok-read.read c.args.bits.now c.unweave.new.out c.packet_length-len.result (sym c.in_ok-read.ensures.read) c.packet_length-len.ensures.value
     (omega (arith, c.len.ensures.value, c.if-len.false)) c.unweave.ensures.bare in
     p.1
-    ∙ sym (packet_unit_of-bad c.args.bits.now (c.in-Some.nid.nac, c.in-Some.nid.duid) p.0 (has_sync-yes c.args.bits.now (omega arith) near)
-    (sym c.in-Some.ensures) c.if-nid-ne-PDU.false (read ∙ sym c.in_err-read_blocks.ensures.packet ∙ ap Err (sym p.2)))
+    ∙ sym (packet_unit_of-bad c.args.bits.now (c.in-Some.front.nid.nac, c.in-Some.front.nid.duid) p.0 (has_sync-yes c.args.bits.now (omega arith) near)
+    (sym c.in-Some.ensures.value) c.if-nid-ne-PDU.false (read ∙ sym c.in_err-read_blocks.ensures.packet ∙ ap Err (sym p.2)))
 
 pub returns : goal.returns
 returns c =
     let near : distance_of (take 48 c.args.bits.now) sync_bits ≤ sync_slack = grind (arith, c.if-not-is_sync.ensures) in
     let read = whole c.in_ok-read.read c.args.bits.now c.unweave.new.out c.packet_length-len.result (sym c.in_ok-read.ensures.read) c.packet_length-len.ensures.value
     (omega (arith, c.len.ensures.value, c.if-len.false)) c.unweave.ensures.bare in
-    sym (packet_unit_of-good c.args.bits.now (c.in-Some.nid.nac, c.in-Some.nid.duid) c.read_blocks.new.self (has_sync-yes c.args.bits.now (omega arith) near)
-    (sym c.in-Some.ensures) c.if-nid-ne-PDU.false (read ∙ sym c.in_ok-read_blocks.ensures.packet))
+    sym (packet_unit_of-good c.args.bits.now (c.in-Some.front.nid.nac, c.in-Some.front.nid.duid) c.read_blocks.new.self (has_sync-yes c.args.bits.now (omega arith) near)
+    (sym c.in-Some.ensures.value) c.if-nid-ne-PDU.false (read ∙ sym c.in_ok-read_blocks.ensures.packet))

@@ -1,27 +1,43 @@
-use Rattle.std.proofs.{Common.{◌≡◌, ℕ, ◌-◌, ◌≤◌, ◌++◌, List, Bool, length, take, drop, sym, ap, ap₂, ◌∙◌, append-nil, append_assoc, length-drop, take-append-drop, arith}, lemmas.List.{take_all}}
-use Rattle.p25_bits.specs.Numbers.{number_bits}
-use Rattle.p25_bits.proofs.{NumbersLaws.{number_bits-append, number_bits-nil}, bit_buf.BitBuf.put_numbers.Goals.{then-width-eq8, else-width-eq8}}
+use Rattle.std.proofs.{Common.{◌≡◌, ℕ, ◌+◌, ◌*◌, ◌≤◌, ◌++◌, List, Bool, length, take, sym, ap, ◌∙◌, append-nil, arith}, Math.Nat.{mul-le-mul_left, mul-zero}, lemmas.List.{take_all}}
+use Rattle.p25_bits.specs.{Bits.{bits_of}, Numbers.{number_bits}}
+use Rattle.p25_bits.proofs.NumbersLaws.{more_bits, number_bits-nil, number_bits_more}
 use Rattle.p25_bits.proofs.bit_buf.BitBuf.put_numbers.Goals as goal
+
+pub loop-number-init : goal.loop-number-init
+loop-number-init c = (
+  sym (append-nil c.args.self.now) ∙ ap (λ (xs : List Bool). c.args.self.now ++ xs) (sym (number_bits-nil c.args.width)),
+  omega (arith, mul-zero c.args.width),
+)
+
+pub put_field-requires : goal.put_field-requires
+put_field-requires c =
+    let i = c.loop-number.number-index in
+    let w = c.args.width in
+    let numbers = c.args.numbers.now in
+    let more : i + 1 ≤ length numbers = omega arith in record {
+      width = omega arith;
+      fits = rw c.from.ensures (c.requires.fits i 0 c.loop-number-test.true);
+      room = omega (arith, more_bits (length c.args.self.now) w i, mul-le-mul_left w more);
+    }
+
+pub loop-number-preserved : goal.loop-number-preserved
+loop-number-preserved c =
+    let i = c.loop-number.number-index in
+    let w = c.args.width in
+    let numbers = c.args.numbers.now in (
+      c.put_field.ensures.list
+          ∙ ap (λ (xs : List Bool). xs ++ bits_of w c.from.result) c.loop-number.invariant.0
+          ∙ ap (λ n. (c.args.self.now ++ number_bits w (take i numbers)) ++ bits_of w n) c.from.ensures
+          ∙ number_bits_more c.args.self.now w numbers i c.loop-number-test.true,
+      c.put_field.ensures.len ∙ ap (λ n. n + w) c.loop-number.invariant.1 ∙ more_bits (length c.args.self.now) w i,
+    )
 
 pub returns-clause-list : goal.returns-clause-list
 returns-clause-list c =
-    let first = c.if-width-eq8.first in
-    let w = c.args.width in
     let numbers = c.args.numbers.now in
-    let held = c.args.self.now in
-    let begun : c.if-width-eq8.self ≡ held ++ number_bits w (take first numbers)
-    = elim c.if-width-eq8.branch [
-      | then-width-eq8 b ↦
-          b.self-is ∙ b.put_eights-first.ensures.list
-          ∙ ap₂ (λ width n. held ++ number_bits width (take n numbers)) (sym b.if-width-eq8.true) (sym b.first-is)
-      | else-width-eq8 b ↦
-          b.self-is ∙ sym (append-nil held) ∙ ap (λ (bits : List Bool). held ++ bits) (sym (number_bits-nil w))
-          ∙ ap (λ n. held ++ number_bits w (take n numbers)) (sym b.first-is)
-    ] in
-    let rest = drop first numbers in
-    let all : length rest ≤ length numbers - first = omega (arith, length-drop first numbers) in
-    c.put_each.ensures.list
-    ∙ ap₂ (λ (bits : List Bool) (ns : List ℕ). bits ++ number_bits w ns) begun (take_all (length numbers - first) rest all)
-    ∙ append_assoc held (number_bits w (take first numbers)) (number_bits w rest)
-    ∙ ap (λ (bits : List Bool). held ++ bits) (sym (number_bits-append w (take first numbers) rest))
-    ∙ ap (λ (ns : List ℕ). held ++ number_bits w ns) (take-append-drop first numbers)
+    c.loop-number.invariant.0 ∙ ap (λ (ns : List ℕ). c.args.self.now ++ number_bits c.args.width ns) (take_all c.loop-number.number-index numbers c.loop-number-test.false)
+
+pub returns-clause-len : goal.returns-clause-len
+returns-clause-len c =
+    let done : c.loop-number.number-index ≡ length c.args.numbers.now = omega arith in
+    c.loop-number.invariant.1 ∙ ap (λ n. length c.args.self.now + c.args.width * n) done
