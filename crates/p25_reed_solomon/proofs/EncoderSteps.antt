@@ -15,10 +15,10 @@ infixl 70 ◌⊗◌
 -- ---- the generator
 
 -- one is the product of no factors
-pub generator_none : (z one : Sym) → z ≡ 𝟘 → one ≡ 𝟙 → IsGenerator 0 (set (replicate 23 z) 0 one)
+pub generator_none : (z one : Sym) → z ≡ 𝟘 → one ≡ 𝟙 → IsGenerator 0 (set (replicate 64 z) 0 one)
 generator_none z one none same = record {
-  monic = written_at gf64 (replicate 23 z) 0 one (omega (arith, length-replicate 23 z)) ∙ same;
-  short = record { above = λ i high. written_elsewhere gf64 (replicate 23 z) 0 i one (omega arith) ∙ coefficient_blank gf64 z 23 i none };
+  monic = written_at gf64 (replicate 64 z) 0 one (omega (arith, length-replicate 64 z)) ∙ same;
+  short = record { above = λ i high. written_elsewhere gf64 (replicate 64 z) 0 i one (omega arith) ∙ coefficient_blank gf64 z 64 i none };
   vanishes = λ i low high. absurd (omega arith);
 }
 
@@ -84,22 +84,22 @@ value_of_word n i word none =
     ∙ mul_zero gf64 (power gf64 (power gf64 alpha i) (n - 1))
 
 -- the sum of two lists with one value has the value zero
-pub sum_vanishes : (n : ℕ) (first second word : List Sym) (y : Sym) → ((j : ℕ) → coefficient gf64 word j ≡ coefficient gf64 first j ⊕ coefficient gf64 second j)
+pub sum_vanishes : (n : ℕ) (first second word : List Sym) (y : Sym) → ((j : ℕ) → j < n → coefficient gf64 word j ≡ coefficient gf64 first j ⊕ coefficient gf64 second j)
     → value_at gf64 n (coefficient gf64 second) y ≡ value_at gf64 n (coefficient gf64 first) y → value_at gf64 n (coefficient gf64 word) y ≡ 𝟘
 sum_vanishes n first second word y sum same =
-    value_same gf64 n (coefficient gf64 word) (λ j. coefficient gf64 first j ⊕ coefficient gf64 second j) y (λ j low. sum j)
+    value_same gf64 n (coefficient gf64 word) (λ j. coefficient gf64 first j ⊕ coefficient gf64 second j) y sum
     ∙ value-add gf64 n (coefficient gf64 first) (coefficient gf64 second) y
     ∙ ap (λ w. value_at gf64 n (coefficient gf64 first) y ⊕ w) same
     ∙ add_self gf64 (value_at gf64 n (coefficient gf64 first) y)
 
 -- the word is the sum of the information followed by zeros and the remainder
-pub word_is_sum : (k : ℕ) (info blank placed divided word : List Sym) → ((j : ℕ) → coefficient gf64 blank j ≡ 𝟘)
+pub word_is_sum : (k n : ℕ) (info blank placed divided word : List Sym) → ((j : ℕ) → coefficient gf64 blank j ≡ 𝟘)
     → ((j : ℕ) → j < k → coefficient gf64 placed j ≡ coefficient gf64 info j) → ((j : ℕ) → k ≤ j → coefficient gf64 placed j ≡ coefficient gf64 blank j)
     → ((j : ℕ) → j < k → coefficient gf64 divided j ≡ 𝟘)
-    → ((j : ℕ) → j < k → coefficient gf64 word j ≡ coefficient gf64 info j) → ((j : ℕ) → k ≤ j → coefficient gf64 word j ≡ coefficient gf64 divided j)
-    → (j : ℕ) → coefficient gf64 word j ≡ coefficient gf64 placed j ⊕ coefficient gf64 divided j
-word_is_sum k info blank placed divided word blank_is front rest cleared front_again rest_again j =
+    → ((j : ℕ) → j < k → coefficient gf64 word j ≡ coefficient gf64 info j) → ((j : ℕ) → k ≤ j → j < n → coefficient gf64 word j ≡ coefficient gf64 divided j)
+    → (j : ℕ) → j < n → coefficient gf64 word j ≡ coefficient gf64 placed j ⊕ coefficient gf64 divided j
+word_is_sum k n info blank placed divided word blank_is front rest cleared front_again rest_again j inside =
     elim (cases_lt j k) [
       | inl below ↦ front_again j below ∙ sym (ap₂ ◌⊕◌ (front j below) (cleared j below) ∙ add_zero gf64 (coefficient gf64 info j))
-      | inr above ↦ rest_again j above ∙ sym (ap (λ w. w ⊕ coefficient gf64 divided j) (rest j above ∙ blank_is j) ∙ zero_add gf64 (coefficient gf64 divided j))
+      | inr above ↦ rest_again j above inside ∙ sym (ap (λ w. w ⊕ coefficient gf64 divided j) (rest j above ∙ blank_is j) ∙ zero_add gf64 (coefficient gf64 divided j))
     ]

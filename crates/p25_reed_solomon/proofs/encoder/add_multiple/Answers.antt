@@ -17,5 +17,5 @@ loop-i-preserved c =
     c.loop-i.invariant
 
 pub returns : goal.returns
-returns c = added_all gf64 c.args.count c.loop-i.i c.loop-i.into
+returns c = added_all gf64 32 c.loop-i.i c.loop-i.into
     (coefficient gf64 c.args.into.now) c.args.factor c.args.shift (coefficient gf64 c.args.other.now) (omega arith) c.requires.short c.loop-i.invariant
