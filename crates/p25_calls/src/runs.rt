@@ -52,14 +52,10 @@ pub fn take_unit(pending: &mut Option<Call>, unit: &Option<UnitSeen>) -> Option<
     ensures answer { result ≡ unit_answer pending.old unit.now }
     ensures pending { pending.new ≡ unit_pending pending.old unit.now }
 {
-    match unit {
-        None => None,
-        Some(unit) => {
-            let before = *pending;
-            let run = run_with(&before, unit);
-            // A further unit may still join it where its last unit is a voice unit, and no terminator (TDU or TDULC).
-            *pending = (unit.is_voice() && !unit.is_terminator()).then_some(run);
-            broken_off(&before, unit).or(terminated(&run, unit))
-        }
-    }
+    let unit = unit.as_ref()?;
+    let before = *pending;
+    let run = run_with(&before, unit);
+    // A further unit may still join it where its last unit is a voice unit, and no terminator (TDU or TDULC).
+    *pending = (unit.is_voice() && !unit.is_terminator()).then_some(run);
+    broken_off(&before, unit).or(terminated(&run, unit))
 }

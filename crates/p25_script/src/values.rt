@@ -24,10 +24,8 @@ fn place_value(text: &[u8]) -> Option<u16>
     ensures below { IfSome result (λ place. place < 25920) }
     ensures some { IfSome result (λ place. 0 < length text.now) }
 {
-    match number_value(text, 25_919) {
-        Some(place) => Some(place as u16),
-        None => None,
-    }
+    let place = number_value(text, 25_919)?;
+    Some(place as u16)
 }
 
 /// Answers the places that a word is. `None` comes exactly where the word is neither `-` nor numbers below 25,920 without
@@ -44,9 +42,7 @@ pub fn places_value(word: &[u8]) -> Option<Flips>
     let mut least = 0;
     while start <= word.len() {
         let part = comma_part(word, start);
-        let Some(place) = place_value(part) else {
-            return None;
-        };
+        let place = place_value(part)?;
         if place < least {
             return None;
         }

@@ -44,10 +44,7 @@ pub fn values_of_words<'a>(words: &LineWords<'a>, keys: &[UnitKey]) -> Option<Va
 {
     let mut values = ArrayVec::new();
     for (i, key) in keys.iter().enumerate() {
-        let Some(value) = value_after(words.get(i + 1), *key) else {
-            return None;
-        };
-        values.push(value);
+        values.push(value_after(words.get(i + 1), *key)?);
     }
     Some(Values { values })
 }
@@ -56,12 +53,7 @@ pub fn values_of_words<'a>(words: &LineWords<'a>, keys: &[UnitKey]) -> Option<Va
 fn value_after(word: &[u8], key: UnitKey) -> Option<&[u8]>
     ensures { option_map (λ value. value.now) result ≡ behind (key_text key) word.now }
 {
-    let text = key.text();
-    if word.starts_with(text) {
-        Some(&word[text.len()..])
-    } else {
-        None
-    }
+    word.strip_prefix(key.text())
 }
 
 /// Answers the network access code (NAC) that a word is. `None` comes exactly where the word is not three digits.

@@ -15,10 +15,6 @@ number-read most bound word None is few refused = sym (number_below-none bound w
 number-read most bound word (Some number) is few read =
     sym (ap (number_below bound) (sym read.1) ∙ number_below-decimal bound number (omega (arith, read.0, is)) (omega (arith, few)))
 
-pub number-most : (word : List ℕ) (result : Option ℕ) → IsNumberRead 10000 word result → IfSome result (λ count. count ≤ 10000)
-number-most word None refused = tt
-number-most word (Some number) is = is.0
-
 -- what is made of a number below 4 is its symbol
 status-made : (number : ℕ) (result : Option Status) → number < 4 → (IsSome result ↔ (number < 4)) → IfSome result (λ status. status_number status ≡ number)
     → result ≡ Some (status_modulo number)

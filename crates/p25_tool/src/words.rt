@@ -1,10 +1,11 @@
-ghost use Rattle.std.specs.Prelude.{◌≡◌, ℕ, ◌<◌, ◌≤◌, List, [], length, option_map, take, IfSome};
+ghost use Rattle.std.specs.Prelude.{◌≡◌, ℕ, ◌<◌, List, [], option_map, IfSome};
 ghost use Rattle.p25_tool.specs.Words.{IsSoundCommand, forwarding_of, one_word_command, sample_of, status_in, three_word_command, two_word_command};
 ghost use Rattle.p25_line.specs.Values.{number_below};
 
 use super::command::Command;
+use arrayvec::ArrayVec;
 use p25_line::number_value;
-use p25_status::Status;
+use p25_status::{BoundedList, Status};
 use p25_text::parts::nac_value;
 use std::marker::Model;
 
@@ -12,52 +13,19 @@ use std::marker::Model;
 const SAMPLE_MOST: u64 = 10_000;
 
 // A word of at most 16 octets.
-#[derive(Clone, Debug, Drop)]
-struct Word {
-    text: [u8; 16],
-    len: usize,
-}
-
-impl Model for Word {
-    ghost Value = { List ℕ };
-
-    ghost view = { λ w. take w.len w.text };
-
-    ghost invariant = { λ w. w.len ≤ 16 };
-}
-
-impl Word {
-    // The first 16 octets of a word.
-    fn new(word: &[u8]) -> Word
-        ensures { result ≡ take 16 word.now }
-    {
-        let len = word.len().min(16);
-        let mut text = [0; 16];
-        text[..len].copy_from_slice(&word[..len]);
-        Word { text, len }
-    }
-
-    fn octets(&self) -> &[u8]
-        ensures { result.now ≡ self.now }
-    {
-        &self.text[..self.len]
-    }
-}
+type Word = BoundedList<u8, 16>;
 
 /// The words of a call: at most four, each of at most 16 octets. No command has four words or a word of 16 octets, so
 /// nothing is lost.
 #[derive(Clone, Debug, Drop)]
 pub struct Words {
-    words: [Word; 4],
-    count: usize,
+    words: ArrayVec<Word, 4>,
 }
 
 impl Model for Words {
     ghost Value = { List (List ℕ) };
 
-    ghost view = { λ w. take w.count w.words };
-
-    ghost invariant = { λ w. (w.count ≤ 4) × (length w.words ≡ 4) };
+    ghost view = { λ w. w.words.items };
 }
 
 impl Words {
@@ -68,13 +36,7 @@ impl Words {
         ensures { result ≡ [] }
     {
         Words {
-            words: [
-                Word::new(b""),
-                Word::new(b""),
-                Word::new(b""),
-                Word::new(b""),
-            ],
-            count: 0,
+            words: ArrayVec::new(),
         }
     }
 
@@ -82,9 +44,10 @@ impl Words {
     pub fn add(&mut self, word: &[u8])
         ensures { self.new ≡ added self.old word.now }
     {
-        if self.count < 4 {
-            self.words[self.count] = Word::new(word);
-            self.count += 1;
+        if !self.words.is_full() {
+            let mut kept = Word::new();
+            kept.extend(&word[..word.len().min(16)]);
+            self.words.push(kept);
         }
     }
 
@@ -93,14 +56,10 @@ impl Words {
         ensures command { result ≡ command_of self.now }
         ensures sound { IfSome result IsSoundCommand }
     {
-        match self.count {
-            1 => one_word(self.words[0].octets()),
-            2 => two_words(self.words[0].octets(), self.words[1].octets()),
-            3 => three_words(
-                self.words[0].octets(),
-                self.words[1].octets(),
-                self.words[2].octets(),
-            ),
+        match self.words.as_slice() {
+            [word] => one_word(word.octets()),
+            [word, value] => two_words(word.octets(), value.octets()),
+            [word, nac, status] => three_words(word.octets(), nac.octets(), status.octets()),
             _ => None,
         }
     }
@@ -161,10 +120,8 @@ fn build_command(status: &[u8]) -> Option<Command>
     ensures command { result ≡ option_map Command.Build (status_in status.now) }
     ensures sound { IfSome result IsSoundCommand }
 {
-    match status_value(status) {
-        Some(status) => Some(Command::Build { status }),
-        None => None,
-    }
+    let status = status_value(status)?;
+    Some(Command::Build { status })
 }
 
 // The command `sample` with a number.
@@ -172,18 +129,10 @@ fn sample_command(count: &[u8]) -> Option<Command>
     ensures command { result ≡ sample_of (number_below 10001 count.now) }
     ensures sound { IfSome result IsSoundCommand }
 {
-    match count_value(count) {
-        Some(0) | None => None,
-        Some(count) => Some(Command::Sample { count }),
+    match number_value(count, SAMPLE_MOST)? {
+        0 => None,
+        count => Some(Command::Sample { count }),
     }
-}
-
-// The number of at most 10,000 that a word is.
-fn count_value(word: &[u8]) -> Option<u64>
-    ensures number { result ≡ number_below 10001 word.now }
-    ensures most { IfSome result (λ count. count ≤ 10000) }
-{
-    number_value(word, SAMPLE_MOST)
 }
 
 // The command of three words.
@@ -191,10 +140,9 @@ fn three_words(word: &[u8], nac: &[u8], status: &[u8]) -> Option<Command>
     ensures command { result ≡ three_word_command word.now nac.now status.now }
     ensures sound { IfSome result IsSoundCommand }
 {
-    match (nac_value(nac), status_value(status)) {
-        (Some(nac), Some(status)) => forwarding(word, nac, status),
-        _ => None,
-    }
+    let nac = nac_value(nac)?;
+    let status = status_value(status)?;
+    forwarding(word, nac, status)
 }
 
 // The command that forwards under a network access code (NAC) with a status symbol.
@@ -216,8 +164,6 @@ fn forwarding(word: &[u8], nac: u16, status: Status) -> Option<Command>
 fn status_value(word: &[u8]) -> Option<Status>
     ensures { result ≡ status_in word.now }
 {
-    match number_value(word, 3) {
-        Some(number) => Status::new(number as u8),
-        None => None,
-    }
+    let number = number_value(word, 3)?;
+    Status::new(number as u8)
 }

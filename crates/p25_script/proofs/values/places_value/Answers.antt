@@ -17,9 +17,9 @@ loop-start-init c =
 
 pub returns-then-place-least : goal.returns-then-place-least
 returns-then-place-least c =
-    let low : c.in-Some.place < next_place c.loop-start.places = omega (arith, c.if-place-least.true, c.loop-start.invariant.least) in
-    sym (places_in-low c.args.word.now c.comma_part-part.result.now c.loop-start.start (c.loop-start.start + length c.comma_part-part.result.now + 1) c.loop-start.places c.in-Some.place
-    (sym c.is_dash.ensures ∙ c.if-is_dash.false) c.loop-start.invariant.so_far c.comma_part-part.ensures.parts (sym c.in-Some.ensures.place) low)
+    let low : c.in_ok-place.place < next_place c.loop-start.places = omega (arith, c.if-place-least.true, c.loop-start.invariant.least) in
+    sym (places_in-low c.args.word.now c.comma_part-part.result.now c.loop-start.start (c.loop-start.start + length c.comma_part-part.result.now + 1) c.loop-start.places c.in_ok-place.place
+    (sym c.is_dash.ensures ∙ c.if-is_dash.false) c.loop-start.invariant.so_far c.comma_part-part.ensures.parts (sym c.in_ok-place.ensures.place) low)
 
 pub push-requires-clause-above : goal.push-requires-clause-above
 push-requires-clause-above c k d inside =
@@ -29,18 +29,18 @@ push-requires-clause-above c k d inside =
 pub loop-start-preserved : goal.loop-start-preserved
 loop-start-preserved c =
     let places = c.loop-start.places in
-    let place = c.in-Some.place in
+    let place = c.in_ok-place.place in
     let part = c.comma_part-part.result.now in
     let pushed : c.push.new.self ≡ places ++ place ∷ [] = c.push.ensures.list in
     let next : c.loop-start.start + length part + 1 ≡ c.loop-start.start + (length part + 1) = omega arith in
     let more = EntriesSoFar-more place_in c.args.word.now part c.loop-start.start
-    (c.loop-start.start + length part + 1) places place c.loop-start.invariant.so_far c.comma_part-part.ensures.parts (sym c.in-Some.ensures.place) in
+    (c.loop-start.start + length part + 1) places place c.loop-start.invariant.so_far c.comma_part-part.ensures.parts (sym c.in_ok-place.ensures.place) in
     let high : next_place places ≤ place = omega (arith, c.if-place-least.false, c.loop-start.invariant.least) in record {
       so_far = subst (λ i. EntriesSoFar place_in c.args.word.now i c.push.new.self) next (subst (EntriesSoFar place_in c.args.word.now (c.loop-start.start + length part + 1)) (sym pushed) more);
       ascending = ap is_ascending pushed ∙ is_ascending-push places place c.loop-start.invariant.ascending high;
       least = sym (ap next_place pushed ∙ next_place-push places place);
-      low = omega (arith, c.in-Some.ensures.below);
-      count = omega (arith, c.push.ensures.len, c.loop-start.invariant.count, c.in-Some.ensures.some);
+      low = omega (arith, c.in_ok-place.ensures.below);
+      count = omega (arith, c.push.ensures.len, c.loop-start.invariant.count, c.in_ok-place.ensures.some);
       within = omega (arith, c.comma_part-part.ensures.within);
     }
 
