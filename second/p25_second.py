@@ -1,5 +1,5 @@
 #!/usr/bin/env python3
-"""A second reading of the rules of `p25`: the same commands, written of docs/FORMATS.md alone.
+"""A second implementation of the commands of `p25`, written from the documents without the crates (see README.md beside it).
 
 usage: second/p25_second.py COMMAND..    as `p25`, but for `soft` and `sample`
 """
