@@ -83,9 +83,8 @@ name_too() {
 }
 
 put 755 "$top/out/p25" bin/p25
-for page in "$top"/docs/*.1; do
-    put 644 "$page" "share/man/man1/${page##*/}"
-done
+"$top/packaging/man" >"$made"
+put 644 "$made" share/man/man1/p25.1
 echo "installed $1/bin/p25 and $1/share/man/man1/p25.1"
 
 # Beside it the companion programs, the words for shells to complete, the pages, the samples and the release.
