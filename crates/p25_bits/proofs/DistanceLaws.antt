@@ -1,6 +1,6 @@
 -- Laws of the distance of two lists, for any test that calls letters equal exactly where they are one letter, and of the distance of bits as the
 -- weight of an exclusive or. By induction on both lists.
-use Rattle.std.proofs.Common.{◌≡◌, ℕ, zero, suc, ◌+◌, ◌*◌, ◌^◌, ◌<◌, ◌≤◌, inl, inr, Bool, true, false, cond, not, List, [], ◌∷◌, ◌++◌, length, take, drop, refl, ap, ap₂, sym, ◌∙◌, subst, arith, bit_xor, mod-eq_of_lt, nat_eq, length-drop}
+use Rattle.std.proofs.Common.{◌≡◌, ℕ, zero, suc, ◌+◌, ◌^◌, ◌<◌, ◌≤◌, inl, inr, Bool, true, false, cond, List, [], ◌∷◌, ◌++◌, length, take, drop, refl, ap₂, sym, ◌∙◌, subst, arith, bit_xor, mod-eq_of_lt, nat_eq, length-drop}
 use Rattle.std.proofs.{lemmas.Bool.{cases_Bool, cond-true, cond-false}, lemmas.Nat.{ones_cat, xor_block, xor_lt}}
 use Rattle.std.specs.{Bool.{beq}, Cmp.{booleans_Decides, unsigned_Decides, both_ways}, Cmp.Lexicographic.{pointwise, pointwise_decides}, Int.RustNames.{count_ones}}
 use Rattle.p25_bits.specs.{Bits.{digit_of, bits_of, field_of, part, flipped}, Distance.{distance_by, distance_of}}
@@ -10,13 +10,13 @@ use Rattle.p25_bits.proofs.BitsLaws.{length-bits_of, field_of-cons, field_of-lt,
 pub distance_by-same : {X : Type 0} (same : X → X → Bool) → ((x : X) → same x x ≡ true) → (xs : List X) → distance_by same xs xs ≡ 0
 unfolding distance_by
 distance_by-same same alike [] = refl
-distance_by-same same alike (x ∷ xs) = rw (alike x) (omega (arith, distance_by-same same alike xs))
+distance_by-same same alike (x ∷ xs) = rw alike (omega (arith, distance_by-same same alike xs))
 
 -- where a test is symmetric, so is the distance
 pub distance_by-sym : {X : Type 0} (same : X → X → Bool) → ((x y : X) → same x y ≡ same y x) → (xs ys : List X) → distance_by same xs ys ≡ distance_by same ys xs
 unfolding distance_by
 distance_by-sym same turned [] [] = refl
-distance_by-sym same turned (x ∷ xs) (y ∷ ys) = ap₂ ◌+◌ (ap (λ b. cond b 0 1) (turned x y)) (distance_by-sym same turned xs ys)
+distance_by-sym same turned (x ∷ xs) (y ∷ ys) = rw (turned, distance_by-sym same turned xs ys)
 distance_by-sym same turned xs ys = refl
 
 pub cond-le : (b : Bool) → cond b 0 1 ≤ 1
@@ -26,7 +26,7 @@ cond-le false = omega arith
 -- the distance is at most the length
 pub distance_by-le : {X : Type 0} (same : X → X → Bool) (xs ys : List X) → distance_by same xs ys ≤ length xs
 unfolding distance_by
-distance_by-le same (x ∷ xs) (y ∷ ys) = omega (arith, distance_by-le same xs ys, cond-le (same x y))
+distance_by-le same (x ∷ xs) (y ∷ ys) = omega (arith, distance_by-le same xs ys, cond-le)
 distance_by-le same xs ys = omega arith
 
 -- lists of one length at no distance are one list
@@ -40,8 +40,8 @@ same_from_distance_by same alike (x ∷ xs) (y ∷ ys) long near = elim (cases_B
 same_from_distance_by same alike xs ys long near = absurd (omega arith)
 
 letters : (a b c : Bool) → (a ≡ true → b ≡ true → c ≡ true) → cond c 0 1 ≤ cond a 0 1 + cond b 0 1
-letters true true c h = rw (h refl refl) (omega arith)
-letters a b c h = omega (arith, cond-le c)
+letters true true c h = rw h (omega arith)
+letters a b c h = omega (arith, cond-le)
 
 -- the triangle: the way round by a third list is no shorter
 pub distance_by-triangle : {X : Type 0} (same : X → X → Bool) → ((x y z : X) → same x y ≡ true → same y z ≡ true → same x z ≡ true) → (xs ys zs : List X) → length xs ≡ length ys
@@ -105,27 +105,26 @@ distance_of-split n xs ys long = omega arith
 
 -- so the beginnings of two lists differ in no more places than the lists, and so do any two parts
 pub distance_of-take : (n : ℕ) (xs ys : List Bool) → length xs ≡ length ys → distance_of (take n xs) (take n ys) ≤ distance_of xs ys
-distance_of-take n xs ys long = omega (arith, distance_of-split n xs ys long)
+distance_of-take n xs ys long = omega (arith, distance_of-split)
 
 pub distance_of-part : (at count : ℕ) (xs ys : List Bool) → length xs ≡ length ys → distance_of (part at count xs) (part at count ys) ≤ distance_of xs ys
 distance_of-part at count xs ys long =
-    let rest : length (drop at xs) ≡ length (drop at ys) = omega (arith, long, length-drop at xs, length-drop at ys) in
-    omega (arith, distance_of-split at xs ys long, distance_of-take count (drop at xs) (drop at ys) rest)
+    omega (arith, distance_of-split at xs ys long, distance_of-take count (drop at xs) (drop at ys) (omega (arith, length-drop at xs, length-drop at ys)))
 
 -- one inverted bit makes a distance of at most 1
 pub distance_of-flipped : (bits : List Bool) (place : ℕ) → distance_of (flipped bits place) bits ≤ 1
 unfolding distance_by
 distance_of-flipped [] place = omega arith
-distance_of-flipped (bit ∷ bits) zero = omega (arith, cond-le (beq (not bit) bit), distance_of-same bits)
-distance_of-flipped (bit ∷ bits) (suc place) = omega (arith, cond-true {A = ℕ} (beq bit bit) 0 1 (beq-same bit), distance_of-flipped bits place)
+distance_of-flipped (bit ∷ bits) zero = omega (arith, cond-le, distance_of-same bits)
+distance_of-flipped (bit ∷ bits) (suc place) = omega (arith, cond-true {A = ℕ} _ 0 1 (beq-same bit), distance_of-flipped bits place)
 
 -- lists of one length are the same where they differ in no place
 pub pointwise-distance_of : (xs ys : List Bool) → length xs ≡ length ys → nat_eq (distance_of xs ys) 0 ≡ pointwise beq xs ys
 pointwise-distance_of xs ys long =
     let tells = pointwise_decides booleans_Decides xs ys in
-    both_ways (nat_eq (distance_of xs ys) 0) (pointwise beq xs ys)
-    (λ e. tells.1 (same_from_distance_of xs ys long ((unsigned_Decides (distance_of xs ys) 0).0 e)))
-    (λ e. (unsigned_Decides (distance_of xs ys) 0).1 (subst (λ zs. distance_of xs zs ≡ 0) (tells.0 e) (distance_of-same xs)))
+    both_ways _ _
+    (λ e. tells.1 (same_from_distance_of xs ys long ((unsigned_Decides _ 0).0 e)))
+    (λ e. (unsigned_Decides _ 0).1 (rw (← tells.0) (distance_of-same xs)))
 
 -- the exclusive or of two digits has a 1 exactly where they differ
 ones_digits : (x y : Bool) → count_ones (bit_xor (digit_of x) (digit_of y)) ≡ cond (beq x y) 0 1
@@ -137,26 +136,21 @@ ones_digits x y = refl
 -- the number of places in which two lists of one length differ is the weight of the exclusive or of their numbers
 pub ones-xor : (xs ys : List Bool) → length xs ≡ length ys → count_ones (bit_xor (field_of xs) (field_of ys)) ≡ distance_of xs ys
 unfolding distance_by count_ones
-ones-xor [] [] same = ap (λ n. count_ones (bit_xor n n)) field_of-nil
+ones-xor [] [] same = simp field_of-nil
 ones-xor (x ∷ xs) (y ∷ ys) same =
     let k = length xs in
     let long : length ys ≡ k = omega arith in
-    let long' : k ≡ length ys = omega arith in
     let below = field_of-lt xs in
-    let below' : field_of ys < 2 ^ k = subst (λ n. field_of ys < 2 ^ n) long (field_of-lt ys) in
-    let second = field_of-cons y ys ∙ ap (λ n. digit_of y * 2 ^ n + field_of ys) long in
-    ap count_ones (ap₂ bit_xor (field_of-cons x xs) second ∙ xor_block k (digit_of x) (digit_of y) (field_of xs) (field_of ys) below below')
-    ∙ ones_cat k (bit_xor (digit_of x) (digit_of y)) (bit_xor (field_of xs) (field_of ys)) (xor_lt k (field_of xs) (field_of ys) below below')
-    ∙ ap₂ ◌+◌ (ones_digits x y) (ones-xor xs ys long')
+    let below' = simp long at (field_of-lt ys) in
+    rw (field_of-cons, rw long at (field_of-cons y ys), xor_block) (ones_cat k _ _ (xor_lt k (field_of xs) (field_of ys) below below') ∙ ap₂ ◌+◌ (ones_digits x y) (ones-xor xs ys (omega arith)))
 ones-xor xs ys same = absurd (omega arith)
 
 -- so the weight of the exclusive or of two numbers is the distance of their bits
 pub distance_of-bits_of : (width m n : ℕ) → m < 2 ^ width → n < 2 ^ width → distance_of (bits_of width m) (bits_of width n) ≡ count_ones (bit_xor m n)
 distance_of-bits_of width m n small_m small_n =
-    sym (ones-xor (bits_of width m) (bits_of width n) (length-bits_of width m ∙ sym (length-bits_of width n)))
-    ∙ ap₂ (λ a b. count_ones (bit_xor a b)) (field_of-bits_of width m ∙ mod-eq_of_lt small_m) (field_of-bits_of width n ∙ mod-eq_of_lt small_n)
+    simp (field_of-bits_of, mod-eq_of_lt) at (sym (ones-xor (bits_of width m) (bits_of width n) (simp length-bits_of)))
 
 -- and the weight of the exclusive or of two short numbers is small
 pub ones-xor-le : (width m n : ℕ) → m < 2 ^ width → n < 2 ^ width → count_ones (bit_xor m n) ≤ width
 ones-xor-le width m n small_m small_n =
-    omega (arith, distance_of-bits_of width m n small_m small_n, distance_by-le beq (bits_of width m) (bits_of width n), length-bits_of width m)
+    omega (arith, distance_of-bits_of width m n small_m small_n, distance_by-le, length-bits_of)

@@ -1,7 +1,7 @@
 -- Laws of multiples and remainders of polynomials over GF(2). Multiples add up as their quotients do, and the only multiple of lower degree is 0, so there
 -- is one remainder. It is made a coefficient at a time, and falls below the generator's degree where it reaches it.
 use Rattle.std.proofs.Common.{zero, suc, ◌≡◌, ℕ, suc, ◌+◌, ◌-◌, ◌*◌, ◌/◌, ◌%◌, ◌^◌, ◌<◌, ◌≤◌, inl, inr, Bool, true, false, not, cond, List, [], ◌∷◌, bit_xor, bit_and, eqb, refl, ap, ap₂, sym, ◌∙◌, subst, arith, add-one, mod-eq_of_lt}
-use Rattle.std.proofs.{Math.Nat.{pow-suc}, lemmas.Bool.{cases_lt}, lemmas.Nat.{xor_comm, xor_lt, xor_block, xor_shr, shr_high, le-div, pow_pos, shr_split, shr-shr, shr_below, div_below}}
+use Rattle.std.proofs.{lemmas.Bool.{cases_lt}, lemmas.Nat.{xor_comm, xor_lt, xor_block, xor_shr, shr_high, le-div, pow_pos, shr_split, shr-shr, shr_below, div_below}}
 use Rattle.std.proofs.lemmas.Nat.Bits.{shr_and_one}
 use Rattle.std.specs.Int.Bits.{xor_assoc, xor_self, xor_zero_l, xor_zero_r}
 use Rattle.p25_bits.specs.{Bits.{digit_of, bits_of, field_after}, Divisible.{multiple_of, IsDivisible, HasDegree, IsRemainder}}
@@ -10,25 +10,19 @@ use Rattle.p25_bits.proofs.BitsLaws.{digit_of-bit_at, digit_of-le, field_of-afte
 -- of four, the two in the middle change places
 pub xor_middle : (a b c d : ℕ) → bit_xor (bit_xor a b) (bit_xor c d) ≡ bit_xor (bit_xor a c) (bit_xor b d)
 xor_middle a b c d =
-    xor_assoc a b (bit_xor c d)
-    ∙ ap (bit_xor a) (sym (xor_assoc b c d) ∙ ap (λ n. bit_xor n d) (xor_comm b c) ∙ xor_assoc c b d)
-    ∙ sym (xor_assoc a c (bit_xor b d))
+    cc (xor_assoc a b _, xor_assoc b c d, xor_comm b c, xor_assoc c b d, xor_assoc a c _)
 
 -- two numbers with one more low digit each
 pub xor_doubled : (a b r s : ℕ) → r < 2 → s < 2 → bit_xor (2 * a + r) (2 * b + s) ≡ 2 * bit_xor a b + bit_xor r s
 xor_doubled a b r s low lower =
-    let left : 2 * a + r ≡ a * 2 ^ 1 + r = omega arith in
     let right : 2 * b + s ≡ b * 2 ^ 1 + s = omega arith in
-    let back : bit_xor a b * 2 ^ 1 + bit_xor r s ≡ 2 * bit_xor a b + bit_xor r s = omega arith in
-    ap₂ bit_xor left right ∙ xor_block 1 a b r s low lower ∙ back
+    ap₂ bit_xor (omega arith) right ∙ xor_block 1 a b r s low lower ∙ (omega arith)
 
 xor_twice : (a b : ℕ) → bit_xor (2 * a) (2 * b) ≡ 2 * bit_xor a b
 xor_twice a b =
-    let left : 2 * a ≡ 2 * a + 0 = omega arith in
     let right : 2 * b ≡ 2 * b + 0 = omega arith in
-    let back : 2 * bit_xor a b + 0 ≡ 2 * bit_xor a b = omega arith in
     let none : 0 < 2 = omega arith in
-    ap₂ bit_xor left right ∙ xor_doubled a b 0 0 none none ∙ back
+    ap₂ bit_xor (omega arith) right ∙ xor_doubled a b 0 0 none none ∙ (omega arith)
 
 -- 0 is the multiple by nothing
 pub IsDivisible-zero : (generator : ℕ) → IsDivisible generator 0
@@ -44,7 +38,7 @@ IsDivisible-itself generator = record { quotient = true ∷ []; product = xor_ze
 pub IsDivisible-doubled : (generator number : ℕ) → IsDivisible generator number → IsDivisible generator (2 * number)
 unfolding multiple_of
 IsDivisible-doubled generator number d =
-    record { quotient = false ∷ d.quotient; product = xor_zero_r (2 * multiple_of generator d.quotient) ∙ ap (λ n. 2 * n) d.product }
+    record { quotient = false ∷ d.quotient; product = xor_zero_r _ ∙ ap (λ n. 2 * n) d.product }
 
 -- the sum of two coefficients
 abbrev added : Bool → Bool → Bool
@@ -81,21 +75,19 @@ xor_same_top : (degree a b : ℕ) → 2 ^ degree ≤ a → a < 2 ^ suc degree �
 xor_same_top degree a b low below low' below' =
     let left : a ≡ 1 * 2 ^ degree + (a - 2 ^ degree) = omega arith in
     let right : b ≡ 1 * 2 ^ degree + (b - 2 ^ degree) = omega arith in
-    let small : a - 2 ^ degree < 2 ^ degree = omega (arith, pow-suc 2 degree) in
-    let small' : b - 2 ^ degree < 2 ^ degree = omega (arith, pow-suc 2 degree) in
-    let split = ap₂ bit_xor left right ∙ xor_block degree 1 1 (a - 2 ^ degree) (b - 2 ^ degree) small small' in
-    omega (arith, split, xor_lt degree (a - 2 ^ degree) (b - 2 ^ degree) small small', xor_self 1)
+    let small : a - 2 ^ degree < 2 ^ degree = omega arith in
+    let small' : b - 2 ^ degree < 2 ^ degree = omega arith in
+    omega (arith, rw xor_block at (ap₂ bit_xor left right), xor_lt degree _ _ small small')
 
 -- nothing is left of a number below the power by which it is divided
 none_left : (n k : ℕ) → n < 2 ^ k → n / 2 ^ k ≡ 0
-none_left n k below = let e : n ≡ 0 * 2 ^ k + n = omega arith in ap (λ m. m / 2 ^ k) e ∙ shr_high 0 k n below
+none_left n k below = ap (λ m. m / 2 ^ k) (omega arith) ∙ shr_high 0 k n below
 
 -- a number that reaches a power of two does so whatever of lower degree is added
 high_stays : (m c k : ℕ) → 2 ^ k ≤ m → c < 2 ^ k → bit_xor m c < 2 ^ k → ⊥
 high_stays m c k high low below =
-    let some : 1 ≤ m / 2 ^ k = le-div 1 m (2 ^ k) (pow_pos k) (omega arith) in
-    let shifted = xor_shr m c k ∙ ap (bit_xor (m / 2 ^ k)) (none_left c k low) ∙ xor_zero_r (m / 2 ^ k) in
-    omega (arith, shifted, none_left (bit_xor m c) k below, some)
+    let shifted = simp (none_left, xor_zero_r) at (xor_shr m c k) in
+    omega (arith, le-div 1 m _ (pow_pos k) (omega arith))
 
 chosen-lt : (bit : Bool) (g k : ℕ) → g < 2 ^ k → cond bit g 0 < 2 ^ k
 chosen-lt true g k h = h
@@ -103,7 +95,7 @@ chosen-lt false g k h = pow_pos k
 
 -- what is left where the higher coefficients are all 0
 last_coefficient : (generator degree : ℕ) (bit : Bool) → HasDegree generator degree → bit_xor (2 * 0) (cond bit generator 0) < 2 ^ degree → bit_xor (2 * 0) (cond bit generator 0) ≡ 0
-last_coefficient generator degree true g small = absurd (omega (arith, xor_zero_l generator, g.highest))
+last_coefficient generator degree true g small = absurd (omega arith)
 last_coefficient generator degree false g small = xor_zero_l 0
 
 -- the only multiple of lower degree is 0
@@ -112,18 +104,16 @@ unfolding multiple_of
 lowest_multiple generator degree [] g small = refl
 lowest_multiple generator degree (bit ∷ q) g small =
     let M = multiple_of generator q in
-    elim (cases_lt M (2 ^ degree)) [
+    elim (cases_lt M _) [
       | inl low ↦
-          let none = lowest_multiple generator degree q g low in
-          let e = ap (λ (n : ℕ). bit_xor (2 * n) (cond bit generator 0)) none in
-          e ∙ last_coefficient generator degree bit g (subst (λ (n : ℕ). n < 2 ^ degree) e small)
+          let e = ap (λ (n : ℕ). bit_xor (2 * n) (cond bit generator 0)) (lowest_multiple generator degree q g low) in
+          e ∙ last_coefficient generator degree bit g (simp e at small)
       | inr high ↦
-          let chosen_low = chosen-lt bit generator (degree + 1) g.none_above in
           absurd (
-          high_stays (2 * M) (cond bit generator 0) (degree + 1)
-          (rw add-one (omega (arith, pow-suc 2 degree)))
-          chosen_low
-          (rw add-one (omega (arith, pow-suc 2 degree)))
+          high_stays (2 * M) _ _
+          (rw add-one (omega arith))
+          (chosen-lt bit generator _ g.none_above)
+          (rw add-one (omega arith))
           )
     ]
 
@@ -135,18 +125,17 @@ IsDivisible-lower generator degree number g d small =
 -- two numbers whose sum is 0 are one
 pub same_from_xor : (a b : ℕ) → bit_xor a b ≡ 0 → a ≡ b
 same_from_xor a b none =
-    sym (xor_zero_r a) ∙ ap (bit_xor a) (sym (xor_self b)) ∙ sym (xor_assoc a b b) ∙ ap (λ n. bit_xor n b) none ∙ xor_zero_l b
+    cc (xor_zero_r a, xor_self b, xor_assoc a b b)
 
 -- there is one remainder
 pub IsRemainder-unique : (generator degree number r s : ℕ) → HasDegree generator degree → IsRemainder generator degree number r → IsRemainder generator degree number s → r ≡ s
 IsRemainder-unique generator degree number r s g first second =
-    let both = IsDivisible-sum generator (bit_xor number r) (bit_xor number s) first.divisible second.divisible in
-    let e = xor_middle number r number s ∙ ap (λ n. bit_xor n (bit_xor r s)) (xor_self number) ∙ xor_zero_l (bit_xor r s) in
-    same_from_xor r s (IsDivisible-lower generator degree (bit_xor r s) g (subst (IsDivisible generator) e both) (xor_lt degree r s first.lower second.lower))
+    let e = xor_middle number r number s ∙ simp xor_self in
+    same_from_xor r s (IsDivisible-lower generator degree _ g (simp e at (IsDivisible-sum generator _ _ first.divisible second.divisible)) (xor_lt degree r s first.lower second.lower))
 
 -- a polynomial is divisible exactly where its remainder is 0
 pub divisible_from_remainder : (generator degree number : ℕ) → IsRemainder generator degree number 0 → IsDivisible generator number
-divisible_from_remainder generator degree number r = subst (IsDivisible generator) (xor_zero_r number) r.divisible
+divisible_from_remainder generator degree number r = simp xor_zero_r at r.divisible
 
 pub remainder_from_divisible : (generator degree number : ℕ) → IsDivisible generator number → IsRemainder generator degree number 0
 remainder_from_divisible generator degree number d = record { lower = pow_pos degree; divisible = subst (IsDivisible generator) (sym (xor_zero_r number)) d }
@@ -158,45 +147,43 @@ IsRemainder-lower generator degree number small =
 
 -- one more coefficient: the sum of both sides is doubled
 next_sum : (number r digit : ℕ) → digit < 2 → bit_xor (2 * number + digit) (2 * r + digit) ≡ 2 * bit_xor number r
-next_sum number r digit small = xor_doubled number r digit digit small small ∙ ap (λ n. 2 * bit_xor number r + n) (xor_self digit) ∙ omega arith
+next_sum number r digit small = simp (xor_doubled, xor_self) (omega arith)
 
 -- one more coefficient where the register stays low
 pub remainder_kept : (generator degree number r digit : ℕ) → digit < 2
     → IsRemainder generator degree number r → 2 * r + digit < 2 ^ degree → IsRemainder generator degree (2 * number + digit) (2 * r + digit)
 remainder_kept generator degree number r digit small is low =
-    record { lower = low; divisible = subst (IsDivisible generator) (sym (next_sum number r digit small)) (IsDivisible-doubled generator (bit_xor number r) is.divisible) }
+    record { lower = low; divisible = subst (IsDivisible generator) (sym (next_sum number r digit small)) (IsDivisible-doubled generator _ is.divisible) }
 
 -- a register that reaches the generator's degree falls below it
 pub remainder_lower : (generator degree r digit : ℕ) → HasDegree generator degree → digit < 2 → r < 2 ^ degree → 2 ^ degree ≤ 2 * r + digit → bit_xor (2 * r + digit) generator < 2 ^ degree
 remainder_lower generator degree r digit g small lower high =
-    let low : 2 * r + digit < 2 ^ suc degree = omega (arith, pow-suc 2 degree) in
     let e : degree + 1 ≡ suc degree = omega arith in
-    xor_same_top degree (2 * r + digit) generator high low g.highest (subst (λ (n : ℕ). generator < 2 ^ n) e g.none_above)
+    xor_same_top degree _ generator high (omega arith) g.highest (simp e at g.none_above)
 
 -- one more coefficient where the register reaches the generator's degree
 pub remainder_reduced : (generator degree number r digit : ℕ) → HasDegree generator degree → digit < 2 → IsRemainder generator degree number r → 2 ^ degree ≤ 2 * r + digit
     → IsRemainder generator degree (2 * number + digit) (bit_xor (2 * r + digit) generator)
 remainder_reduced generator degree number r digit g small is high =
-    let doubled = subst (IsDivisible generator) (sym (next_sum number r digit small)) (IsDivisible-doubled generator (bit_xor number r) is.divisible) in
+    let doubled = rw (← next_sum number r digit small) at (IsDivisible-doubled generator _ is.divisible) in
     record {
       lower = remainder_lower generator degree r digit g small is.lower high;
-      divisible = subst (IsDivisible generator) (xor_assoc (2 * number + digit) (2 * r + digit) generator) (IsDivisible-sum generator _ generator doubled (IsDivisible-itself generator));
+      divisible = subst (IsDivisible generator) (xor_assoc _ _ generator) (IsDivisible-sum generator _ generator doubled (IsDivisible-itself generator));
     }
 
 -- the quotient by a power of two is 1 exactly where the number lies between it and its double
 pub reaches : (n k : ℕ) → n / 2 ^ k ≡ 1 → 2 ^ k ≤ n
 reaches n k one =
-    let split = shr_split n k in
-    let once : n / 2 ^ k * 2 ^ k ≡ 1 * 2 ^ k = ap (λ q. q * 2 ^ k) one in
+    let once : n / 2 ^ k * 2 ^ k ≡ 1 * 2 ^ k = simp one in
     omega arith
 
 pub stays_low : (n k : ℕ) → n < 2 ^ suc k → (n / 2 ^ k ≡ 1 → ⊥) → n < 2 ^ k
 stays_low n k below other =
-    elim (cases_lt n (2 ^ k)) [
+    elim (cases_lt n _) [
       | inl low ↦ low
       | inr high ↦
-          let some : 1 ≤ n / 2 ^ k = le-div 1 n (2 ^ k) (pow_pos k) (omega arith) in
-          let few : n / 2 ^ k < 2 = div_below n (2 ^ k) 2 (pow_pos k) (omega (arith, pow-suc 2 k)) in
+          let some : 1 ≤ n / 2 ^ k = le-div 1 n _ (pow_pos k) (omega arith) in
+          let few : n / 2 ^ k < 2 = div_below n _ 2 (pow_pos k) (omega arith) in
           absurd (other (omega arith))
     ]
 
@@ -206,34 +193,30 @@ high_more number k h =
     let low : 64 - (k + 1) ≡ 63 - k = omega arith in
     let next : (63 - k) + 1 ≡ 64 - k = omega arith in
     let n = number / 2 ^ (63 - k) in
-    let halved : n / 2 ^ 1 ≡ number / 2 ^ (64 - k) = shr-shr number (63 - k) 1 ∙ ap (λ j. number / 2 ^ j) next in
-    let digit : digit_of (eqb (bit_and n 1) 1) ≡ n % 2 = ap (λ b. digit_of (eqb b 1)) (shr_and_one number (63 - k)) ∙ digit_of-bit_at number (63 - k) in
-    ap (λ j. number / 2 ^ j) low ∙ omega (arith, shr_split n 1, halved, digit)
+    let digit : digit_of (eqb (bit_and n 1) 1) ≡ n % 2 = simp (shr_and_one, digit_of-bit_at) in
+    simp low (omega (arith, shr_split n 1, shr-shr number (63 - k) 1 ∙ ap (λ j. number / 2 ^ j) next, digit))
 
 -- the highest coefficients of a number of 64 bits, as many as the degree, are their own remainder
 pub IsRemainder-highest : (generator degree number : ℕ) → degree < 63 → number < 2 ^ 64 → IsRemainder generator degree (number / 2 ^ (64 - degree)) (number / 2 / 2 ^ (63 - degree))
 IsRemainder-highest generator degree number fits small =
     let whole : 64 ≡ degree + (64 - degree) = omega arith in
-    let both : 1 + (63 - degree) ≡ 64 - degree = omega arith in
-    let same : number / 2 / 2 ^ (63 - degree) ≡ number / 2 ^ (64 - degree) = shr-shr number 1 (63 - degree) ∙ ap (λ n. number / 2 ^ n) both in
-    let below : number / 2 ^ (64 - degree) < 2 ^ degree = shr_below number degree (64 - degree) (subst (λ n. number < 2 ^ n) whole small) in
-    subst (IsRemainder generator degree (number / 2 ^ (64 - degree))) (sym same) (IsRemainder-lower generator degree (number / 2 ^ (64 - degree)) below)
+    subst (IsRemainder generator degree _) (sym (shr-shr number 1 _ ∙ ap (λ n. number / 2 ^ n) (omega arith)))
+    (IsRemainder-lower generator degree _ (shr_below number degree _ (subst (λ n. number < 2 ^ n) whole small)))
 
 -- a sum of two numbers that share no bit
 pub xor_apart : (high k low : ℕ) → low < 2 ^ k → bit_xor (high * 2 ^ k) low ≡ high * 2 ^ k + low
 xor_apart high k low small =
-    let left : high * 2 ^ k ≡ high * 2 ^ k + 0 = omega arith in
     let right : low ≡ 0 * 2 ^ k + low = omega arith in
-    ap₂ bit_xor left right ∙ xor_block k high 0 0 low (pow_pos k) small ∙ ap₂ (λ m n. m * 2 ^ k + n) (xor_zero_r high) (xor_zero_l low)
+    ap₂ bit_xor (omega arith) right ∙ xor_block k high 0 0 low (pow_pos k) small ∙ simp (xor_zero_r, xor_zero_l)
 
 -- some remainder after one more coefficient
 more_remainder : (generator degree number r : ℕ) (bit : Bool)
     → HasDegree generator degree → IsRemainder generator degree number r → (s : ℕ) × IsRemainder generator degree (2 * number + digit_of bit) s
 more_remainder generator degree number r bit g is =
-    let small : digit_of bit < 2 = omega (arith, digit_of-le bit) in
-    elim (cases_lt (2 * r + digit_of bit) (2 ^ degree)) [
+    let small : digit_of bit < 2 = omega (arith, digit_of-le) in
+    elim (cases_lt _ _) [
       | inl low ↦ (2 * r + digit_of bit, remainder_kept generator degree number r (digit_of bit) small is low)
-      | inr high ↦ (bit_xor (2 * r + digit_of bit) generator, remainder_reduced generator degree number r (digit_of bit) g small is high)
+      | inr high ↦ (bit_xor _ generator, remainder_reduced generator degree number r (digit_of bit) g small is high)
     ]
 
 some_remainder_after : (generator degree : ℕ) → HasDegree generator degree
@@ -242,17 +225,16 @@ unfolding field_after
 some_remainder_after generator degree g [] number r is = (r, is)
 some_remainder_after generator degree g (bit ∷ bits) number r is =
     let next = more_remainder generator degree number r bit g is in
-    some_remainder_after generator degree g bits (2 * number + digit_of bit) next.0 next.1
+    some_remainder_after generator degree g bits _ next.0 next.1
 
 -- a number is below the power of two of itself
 lt-two_pow : (number : ℕ) → number < 2 ^ number
 lt-two_pow zero = omega arith
-lt-two_pow (suc number) = omega (arith, lt-two_pow number, pow-suc 2 number, pow_pos number)
+lt-two_pow (suc number) = omega (arith, lt-two_pow number)
 
 -- each polynomial has a remainder
 pub some_remainder : (generator degree number : ℕ) → HasDegree generator degree → (r : ℕ) × IsRemainder generator degree number r
 some_remainder generator degree number g =
     let bits = bits_of number number in
     let some = some_remainder_after generator degree g bits 0 0 (IsRemainder-lower generator degree 0 (pow_pos degree)) in
-    let e = sym (field_of-after bits) ∙ field_of-bits_of number number ∙ mod-eq_of_lt (lt-two_pow number) in
-    (some.0, subst (λ (n : ℕ). IsRemainder generator degree n some.0) e some.1)
+    (some.0, subst (λ (n : ℕ). IsRemainder generator degree n some.0) (rw (← field_of-after, field_of-bits_of) (mod-eq_of_lt (lt-two_pow number))) some.1)

@@ -2,24 +2,23 @@
 -- times a power of x, and of one with more coefficients after it.
 use Rattle.std.proofs.Common.{◌≡◌, ℕ, zero, suc, ◌+◌, ◌*◌, ◌/◌, ◌^◌, ◌<◌, inl, inr, Bool, true, false, cond, ltb, List, [], ◌∷◌, bit_xor, refl, ap, ap₂, sym, ◌∙◌, subst, arith}
 use Rattle.std.proofs.{Math.Nat.{mul_assoc, mul_comm, pow-suc}, lemmas.Bool.{cases_lt, cond_below, cond_above}, lemmas.Nat.{xor_lt, xor_block, xor_shr, shl-shr, pow_pos, shr_below}}
-use Rattle.std.specs.Int.Bits.{xor_assoc, xor_self, xor_zero_l}
+use Rattle.std.specs.Int.Bits.{xor_assoc, xor_self}
 use Rattle.p25_bits.specs.Divisible.{multiple_of, IsDivisible, HasDegree, IsRemainder}
 use Rattle.p25_bits.proofs.DivisibleLaws.{IsDivisible-doubled, IsDivisible-sum, IsRemainder-lower, remainder_kept, remainder_reduced, xor_apart, xor_middle}
 
 -- what is added twice is not there
 added_twice : (a b c : ℕ) → bit_xor (bit_xor a b) (bit_xor b c) ≡ bit_xor a c
-added_twice a b c = xor_assoc a b (bit_xor b c) ∙ ap (bit_xor a) (sym (xor_assoc b b c) ∙ ap (λ n. bit_xor n c) (xor_self b) ∙ xor_zero_l c)
+added_twice a b c = cc (xor_assoc a b _, xor_assoc b b c, xor_self b)
 
 -- the sum of two numbers times a power of two
 pub xor_times_power : (a b k : ℕ) → bit_xor (a * 2 ^ k) (b * 2 ^ k) ≡ bit_xor a b * 2 ^ k
 xor_times_power a b k =
-    let left : a * 2 ^ k ≡ a * 2 ^ k + 0 = omega arith in
     let right : b * 2 ^ k ≡ b * 2 ^ k + 0 = omega arith in
-    ap₂ bit_xor left right ∙ xor_block k a b 0 0 (pow_pos k) (pow_pos k) ∙ ap (λ n. bit_xor a b * 2 ^ k + n) (xor_self 0) ∙ omega arith
+    ap₂ bit_xor (omega arith) right ∙ xor_block k a b 0 0 (pow_pos k) (pow_pos k) ∙ ap (λ n. bit_xor a b * 2 ^ k + n) (xor_self 0) ∙ omega arith
 
 -- a number times the next power of two
 times_next : (n k : ℕ) → n * 2 ^ suc k ≡ 2 * (n * 2 ^ k)
-times_next n k = ap (λ m. n * m) (pow-suc 2 k ∙ mul_comm (2 ^ k) 2) ∙ sym (mul_assoc n 2 (2 ^ k)) ∙ ap (λ m. m * 2 ^ k) (mul_comm n 2) ∙ mul_assoc 2 n (2 ^ k)
+times_next n k = rw (pow-suc, mul_comm, mul_assoc, mul_comm, mul_assoc)
 
 -- the remainder of a sum is the sum of the remainders
 pub IsRemainder-sum : (generator degree a b r s : ℕ) → IsRemainder generator degree a r → IsRemainder generator degree b s → IsRemainder generator degree (bit_xor a b) (bit_xor r s)
@@ -30,9 +29,9 @@ IsRemainder-sum generator degree a b r s first second = record {
 
 -- a multiple times a power of x is a multiple
 pub IsDivisible-times_power : (generator number k : ℕ) → IsDivisible generator number → IsDivisible generator (number * 2 ^ k)
-IsDivisible-times_power generator number zero is = let same : number ≡ number * 2 ^ 0 = omega arith in subst (IsDivisible generator) same is
+IsDivisible-times_power generator number zero is = subst (IsDivisible generator) (omega arith) is
 IsDivisible-times_power generator number (suc k) is =
-    subst (IsDivisible generator) (sym (times_next number k)) (IsDivisible-doubled generator (number * 2 ^ k) (IsDivisible-times_power generator number k is))
+    simp times_next (IsDivisible-doubled generator _ (IsDivisible-times_power generator number k is))
 
 -- more coefficients after a polynomial, both times a power of x: the remainder of what stood before them is enough
 pub IsRemainder-more : (generator degree before width number raised r s : ℕ) → number < 2 ^ width → IsRemainder generator degree (before * 2 ^ raised) r
@@ -41,16 +40,15 @@ IsRemainder-more generator degree before width number raised r s small first sec
     let b = before * 2 ^ raised * 2 ^ width in
     let n = number * 2 ^ raised in
     let moved : b ≡ before * 2 ^ width * 2 ^ raised
-    = mul_assoc before (2 ^ raised) (2 ^ width) ∙ ap (λ m. before * m) (mul_comm (2 ^ raised) (2 ^ width)) ∙ sym (mul_assoc before (2 ^ width) (2 ^ raised)) in
+    = simp (mul_assoc, mul_comm) in
     let whole : bit_xor b n ≡ (before * 2 ^ width + number) * 2 ^ raised
-    = ap (λ m. bit_xor m n) moved ∙ xor_times_power (before * 2 ^ width) number raised ∙ ap (λ m. m * 2 ^ raised) (xor_apart before width number small) in
+    = simp (moved, xor_times_power, xor_apart) in
     let shifted : IsDivisible generator (bit_xor b (r * 2 ^ width))
-    = subst (IsDivisible generator) (sym (xor_times_power (before * 2 ^ raised) r width)) (IsDivisible-times_power generator (bit_xor (before * 2 ^ raised) r) width first.divisible) in
-    let both : bit_xor (bit_xor b (r * 2 ^ width)) (bit_xor (bit_xor (r * 2 ^ width) n) s) ≡ bit_xor ((before * 2 ^ width + number) * 2 ^ raised) s
-    = sym (xor_assoc (bit_xor b (r * 2 ^ width)) (bit_xor (r * 2 ^ width) n) s) ∙ ap (λ m. bit_xor m s) (added_twice b (r * 2 ^ width) n ∙ whole) in
+    = simp xor_times_power (IsDivisible-times_power generator (bit_xor (before * 2 ^ raised) r) width first.divisible) in
     record {
       lower = second.lower;
-      divisible = subst (IsDivisible generator) both (IsDivisible-sum generator (bit_xor b (r * 2 ^ width)) (bit_xor (bit_xor (r * 2 ^ width) n) s) shifted second.divisible);
+      divisible = subst (IsDivisible generator) (rw (← xor_assoc, added_twice, whole)) (IsDivisible-sum generator (bit_xor b (r * 2 ^ width))
+          (bit_xor (bit_xor (r * 2 ^ width) n) s) shifted second.divisible);
     }
 
 -- the remainder of a polynomial times x, by that of the polynomial
@@ -68,23 +66,19 @@ IsRemainder-times_x generator degree number r has is =
     let digit : 0 < 2 = omega arith in
     elim (cases_lt (2 * r + 0) (2 ^ degree)) [
       | inl low ↦
-          subst (IsRemainder generator degree (2 * number + 0)) (cond_below (2 * r + 0) (2 ^ degree) (2 * r + 0) (bit_xor (2 * r + 0) generator) low)
-          (remainder_kept generator degree number r 0 digit is low)
+          rw (← cond_below) (remainder_kept generator degree number r 0 digit is low)
       | inr high ↦
-          subst (IsRemainder generator degree (2 * number + 0)) (cond_above (2 * r + 0) (2 ^ degree) (2 * r + 0) (bit_xor (2 * r + 0) generator) (bit_xor (2 * r + 0) generator) high refl)
-          (remainder_reduced generator degree number r 0 has digit is high)
+          rw (← cond_above _ _ _ _ _ high refl) (remainder_reduced generator degree number r 0 has digit is high)
     ]
 
 -- what is computed so from a polynomial of lower degree is the remainder of its product with that power
 pub IsRemainder-times_power : (generator degree k number : ℕ) → HasDegree generator degree → number < 2 ^ degree → IsRemainder generator degree (number * 2 ^ k) (times_power generator degree k number)
 unfolding times_power
 IsRemainder-times_power generator degree zero number has small =
-    let same : number ≡ number * 2 ^ 0 = omega arith in
-    subst (λ n. IsRemainder generator degree n number) same (IsRemainder-lower generator degree number small)
+    subst (λ n. IsRemainder generator degree n number) (omega arith) (IsRemainder-lower generator degree number small)
 IsRemainder-times_power generator degree (suc k) number has small =
-    let same : 2 * (number * 2 ^ k) + 0 ≡ number * 2 ^ suc k = omega (arith, times_next number k) in
-    subst (λ n. IsRemainder generator degree n (times_power generator degree (suc k) number)) same
-    (IsRemainder-times_x generator degree (number * 2 ^ k) (times_power generator degree k number) has (IsRemainder-times_power generator degree k number has small))
+    subst (λ n. IsRemainder generator degree n (times_power generator degree (suc k) number)) (omega (arith, times_next))
+    (IsRemainder-times_x generator degree _ _ has (IsRemainder-times_power generator degree k number has small))
 
 -- a chosen coefficient times a power of x
 chosen_times_power : (bit : Bool) (generator k : ℕ) → cond bit (generator * 2 ^ k) 0 ≡ cond bit generator 0 * 2 ^ k
@@ -96,8 +90,7 @@ multiple_of-times_power : (generator k : ℕ) (quotient : List Bool) → multipl
 unfolding multiple_of
 multiple_of-times_power generator k [] = omega arith
 multiple_of-times_power generator k (bit ∷ quotient) =
-    ap₂ bit_xor (ap (λ n. 2 * n) (multiple_of-times_power generator k quotient) ∙ sym (mul_assoc 2 (multiple_of generator quotient) (2 ^ k))) (chosen_times_power bit generator k)
-    ∙ xor_times_power (2 * multiple_of generator quotient) (cond bit generator 0) k
+    cc (multiple_of-times_power generator k quotient, mul_assoc 2 _ _, chosen_times_power bit generator k, xor_times_power _ _ k)
 
 -- the remainder of a polynomial by a generator, both times a power of x, begins with the remainder without that power
 pub IsRemainder-without_power : (generator degree k number r : ℕ) → IsRemainder (generator * 2 ^ k) (degree + k) (number * 2 ^ k) r → IsRemainder generator degree number (r / 2 ^ k)

@@ -1,3 +1,5 @@
+//! A list of bits of bounded length, packed into words of 64: its type and its methods. Callers see it as the list of its bits alone.
+
 ghost use Rattle.std.specs.{Prelude.{◌≡◌, ⊤, ◌+◌, ◌^◌, ◌<◌, ◌≤◌, ◌↔◌, Bool, IsTrue, List, [], ◌∷◌, ◌++◌, length, take, drop, slice_get, slice_set}, Bool.{beq}};
 ghost use Rattle.std.specs.{Cmp.{bool_eq_equiv, partial_equiv_from_equiv}, Cmp.Lexicographic.{pointwise, lists_equiv}};
 ghost use Rattle.p25_bits.specs.{Bits.{bits_of, field_of, part, flipped}, Distance.{distance_of}, Numbers.{number_bits}};
