@@ -1,0 +1,29 @@
+//! The names that Rattle's standard library has and Rust's does not, and no others: allocators that are passed on, texts and lists
+//! whose allocation may fail, the runtime that `main` is given.
+//!
+//! A name of Rust's standard library never means something else here. There is no unsafe code.
+#![cfg_attr(not(feature = "std"), no_std)]
+#![forbid(unsafe_code)]
+
+extern crate alloc as heap;
+
+pub mod alloc;
+pub mod convert;
+mod lists;
+pub mod process;
+mod runtime;
+mod texts;
+
+#[cfg(feature = "std")]
+pub mod env;
+#[cfg(feature = "std")]
+mod streams;
+#[cfg(feature = "std")]
+pub mod test;
+
+pub use lists::{TryClone, Vec};
+pub use runtime::HostRuntime;
+pub use texts::{TryToString, shown};
+
+#[cfg(feature = "std")]
+pub use streams::{Input, Output};
