@@ -36,13 +36,12 @@ ack-is_heard s status d = cond-false s.down _ _ d ∙ cond-true _ _ _ (is_respon
 ack-acknowledges : (s : Sending) (message : List ℕ) → s.down ≡ false → s.outstanding ≡ Message message → s.next < 8 → sender_heard s (ack_packet s.next) ≡ (sending_after s.next, Acknowledged s.next)
 unfolding response_heard answered asked_of
 ack-acknowledges s message d o h =
-    ack-is_heard s s.next d ∙ ap (λ (out : Outstanding). response_heard out s (record { head = response_head 1 0 1 s.next 0; octets = [] })) o ∙
-    ap (λ asked. answered asked s message) (cond-true _ _ _ (is_ack-ack s.next h))
+    cc (ack-is_heard s s.next d, cond-true _ _ _ (is_ack-ack s.next h))
 
 ack-opens : (s : Sending) (number : ℕ) → s.down ≡ false → s.outstanding ≡ Opening number → number < 8 → sender_heard s (ack_packet number) ≡ (sending_after number, SenderOpened number)
 unfolding response_heard
 ack-opens s number d o h =
-    ack-is_heard s number d ∙ ap (λ (out : Outstanding). response_heard out s (record { head = response_head 1 0 1 number 0; octets = [] })) o ∙ cond-true _ _ _ (is_ack-ack number h)
+    cc (ack-is_heard s number d, cond-true _ _ _ (is_ack-ack number h))
 
 -- the whole packet of a message carries it
 
@@ -63,13 +62,13 @@ holds-all : (message : List ℕ) (n serial : ℕ) → serial < n → HoldsSerial
 holds-all message zero serial h = absurd (omega arith)
 holds-all message (suc n) serial h =
     let split : map good_slot (each_below (suc n) (message_block message)) ≡ map good_slot (each_below n (message_block message)) ++ good_slot (message_block message n) ∷ []
-    = ap (λ (xs : List BlockParts). map good_slot xs) (each_below-suc n (message_block message)) ∙ map-append good_slot (each_below n (message_block message)) (message_block message n ∷ []) in
+    = cc (each_below-suc n (message_block message), map-append good_slot (each_below n (message_block message)) (message_block message n ∷ [])) in
     let here : HoldsSerial serial (map good_slot (each_below n (message_block message))) ⊎ HoldsSerial serial (good_slot (message_block message n) ∷ [])
     = elim (cases_lt serial n) [
       | inl less ↦ inl (holds-all message n serial less)
       | inr same ↦ inr (subst (λ (k : ℕ). HoldsSerial k (good_slot (message_block message n) ∷ [])) (omega (arith, same)) (holds-one message n))
     ] in
-    subst (HoldsSerial serial) (sym split) (holds-append serial (map good_slot (each_below n (message_block message))) (good_slot (message_block message n) ∷ []) here)
+    rw split (holds-append serial (map good_slot (each_below n (message_block message))) (good_slot (message_block message n) ∷ []) here)
 
 whole-message : (message : List ℕ) → CarriesMessage message (map good_slot (message_blocks message))
 unfolding message_blocks
@@ -100,17 +99,19 @@ whole-heard r number message small sync none short =
     let packet : ConfirmedParts = record { head = confirmed_head 1 true blocks pad number; slots = map good_slot (message_blocks message) } in
     let c = whole-carries number message (omega (arith, sync)) short in
     let other : eqb (head_number packet.head) r.last ≡ false = ne_eqb (head_number packet.head) r.last (λ e. absurd (omega (arith, e, sync, c.number_is, small))) in
-    let next : eqb (head_number packet.head) ((r.last + 1) % 8) ≡ true = eq-eqb (head_number packet.head) ((r.last + 1) % 8) (c.number_is ∙ sym sync) in
+    let next : eqb (head_number packet.head) ((r.last + 1) % 8) ≡ true = eq-eqb (head_number packet.head) ((r.last + 1) % 8) (cc) in
     let full : head_is_full packet.head ≡ true = confirmed_head-full true blocks pad number (counts-small message short).0 in
     let count : head_blocks packet.head ≡ blocks = c.full full in
     let some : eqb (head_blocks packet.head) 0 ≡ false = ne_eqb (head_blocks packet.head) 0 (λ z. absurd (omega (arith, z, count))) in
     let begins : keeping_for r.kept packet.head ≡ Some (empty_places blocks pad)
-    = ap (λ (kept : Option Keeping). keeping_for kept packet.head) none ∙ cond-true _ _ _ full ∙ cond-false _ _ _ some ∙ ap₂ (λ (m n : ℕ). Some (empty_places m n)) count c.pad in
-    data-is_heard r number message packet c ∙ cond-false _ _ _ other ∙ cond-true _ _ _ next ∙ ap (filled r packet) begins ∙
-    ap (λ (n : ℕ). completed r n (record { places = put_slots (empty_places blocks pad).places packet.slots; pad = pad })
-    (all_octets (put_slots (empty_places blocks pad).places packet.slots))) c.number_is ∙
-    completed-read_back r number (record { places = put_slots (empty_places blocks pad).places packet.slots; pad = pad })
-    (all_octets (put_slots (empty_places blocks pad).places packet.slots)) message (read message)
+    = cc (cond-true _ _ _ full, cond-false _ _ _ some) in
+    cc (
+      data-is_heard r number message packet c,
+      cond-false _ _ _ other,
+      cond-true _ _ _ next,
+      completed-read_back r number (record { places = put_slots (empty_places blocks pad).places packet.slots; pad = pad })
+          (all_octets (put_slots (empty_places blocks pad).places packet.slots)) message (read message),
+    )
 
 -- a quiet delivery delivers, and a sender that is down opens
 
@@ -118,7 +119,7 @@ delivers-quiet : (last b : ℕ) (s : Session) (w : Delivery) (message : List ℕ
 delivers-quiet last b s w message q short =
     let sender = w.outbound.sender in
     let receiver = w.inbound.receiver in
-    let sync : (receiver.last + 1) % 8 ≡ sender.next = ap (λ (n : ℕ). (n + 1) % 8) q.last_is ∙ sym q.next in
+    let sync : (receiver.last + 1) % 8 ≡ sender.next = cc in
     record {
       packet = message_packet sender.next message;
       answer = ack_packet sender.next;
@@ -132,8 +133,8 @@ delivers-quiet last b s w message q short =
 pub delivers-delivering : (b : ℕ) (s : Session) (w : Delivery) (message : List ℕ)
     → IsDelivering b s w → w.outbound.sender.outstanding ≡ Nothing → length message ≤ 2028 → DeliversAtOnce w.outbound.sender w.inbound.receiver message
 delivers-delivering b s w message (quiet last q) o short = delivers-quiet last b s w message q short
-delivers-delivering b s w message (busy number other h) o short = let both : Message other ≡ Nothing = sym h.outstanding ∙ o in cc
-delivers-delivering b s w message (opening number h) o short = let both : Opening number ≡ Nothing = sym h.outstanding ∙ o in cc
+delivers-delivering b s w message (busy number other h) o short = let both : Message other ≡ Nothing = cc in cc
+delivers-delivering b s w message (opening number h) o short = let both : Opening number ≡ Nothing = cc in cc
 
 small-opening : (out : Outstanding) (next : ℕ) → IsNumbered out → opening_number out next < 8
 unfolding IsNumbered opening_number

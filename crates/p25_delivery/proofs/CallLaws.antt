@@ -14,7 +14,7 @@ use Rattle.p25_delivery.proofs.PhaseLaws.{IsQuiet, IsWaitingAnswer, IsWaiting, I
 
 -- what a newest transmission is like, where there is one
 pub newest : (o : Option Packet) (P : Packet → Type 0) (packet : Packet) → IfSome o P → o ≡ Some packet → P packet
-newest o P packet h e = subst (λ (x : Option Packet). IfSome x P) e h
+newest o P packet h e = rw e at h
 
 -- a delivery with another sender, and with another newest transmission of data beside it
 
@@ -70,7 +70,7 @@ opening-data number b s w t packet h e d = record {
   small = h.small;
   last_small = h.last_small;
   place = h.place;
-  packet_sent = ap (λ (p : Packet). Some p) d;
+  packet_sent = cc;
   answer = h.answer;
   session_is = h.session_is;
   base_is = h.base_is;
@@ -91,16 +91,16 @@ taken last b s w message q short = record {
   outstanding = refl;
   small = omega arith;
   short = short;
-  packet_sent = inl (ap (λ (n : ℕ). message_packet n message) q.next);
+  packet_sent = inl (cc);
   counted = q.counted;
   place =
       inl (record {
         last_small = omega (arith, q.last_is, q.small);
-        sync = ap (λ (n : ℕ). (n + 1) % 8) q.last_is;
-        kept = subst (λ (o : Option Keeping). IfSome o (KeepsOf message)) (sym q.kept) tt;
-        answer = IfSome_then w.answer q.answer (λ (p : Packet) (e : p ≡ ack_packet last). inl (e ∙ ap ack_packet (sym q.last_is)));
-        sent = ap (λ (xs : List (List ℕ)). xs ++ message ∷ []) (sym q.delivered);
-        acknowledged = q.acknowledged ∙ ap length (sym q.delivered);
+        sync = cc;
+        kept = rw q.kept tt;
+        answer = IfSome_then w.answer q.answer (λ (p : Packet) (e : p ≡ ack_packet last). inl (cc));
+        sent = cc;
+        acknowledged = cc;
       });
 }
 
@@ -109,8 +109,8 @@ pub offer-held : (P : Delivery → Type 0) (w : Delivery) (message : List ℕ) �
     (offered w.outbound.sender message ≡ (w.outbound.sender, Busy)) ⊎ (offered w.outbound.sender message ≡ (w.outbound.sender, OfferDown)) → P w →
     P (with_outbound w (after_offer w.outbound message (offered w.outbound.sender message))).0
 unfolding with_outbound after_offer newest_after
-offer-held P w message (inl e) p = subst (λ (x : Sending × Offer). P (with_outbound w (after_offer w.outbound message x)).0) (sym e) p
-offer-held P w message (inr e) p = subst (λ (x : Sending × Offer). P (with_outbound w (after_offer w.outbound message x)).0) (sym e) p
+offer-held P w message (inl e) p = rw e p
+offer-held P w message (inr e) p = rw e p
 
 pub offer-phase : (w : Delivery) (message : List ℕ) → IsMarked w
     → IsDeliveringNow w → length message ≤ 2028 → IsDeliveringNow (with_outbound w (after_offer w.outbound message (offered w.outbound.sender message))).0
@@ -118,8 +118,7 @@ unfolding AfterOffer with_outbound after_offer newest_after
 offer-phase w message m (quiet last q) short =
     let sender : Sending = record { next = w.outbound.sender.next; outstanding = Message message; tries = 1; down = false } in
     let now : Session → Type 0 = λ (s : Session). IsBusy ((last + 1) % 8) message (first_number w) s (delivery_of_data (one_sent w message) sender (message_packet w.outbound.sender.next message)) in
-    subst (AfterOffer w message) (sym (offer-quiet w.outbound.sender message q.up q.outstanding))
-    (busy ((last + 1) % 8) message (subst now (sym (present-sent w message m)) (taken last (first_number w) (present_session w) w message q short)))
+    rw (offer-quiet w.outbound.sender message q.up q.outstanding) (busy ((last + 1) % 8) message (rw (present-sent w message m) (taken last (first_number w) (present_session w) w message q short)))
 offer-phase w message m (busy number other h) short = offer-held IsDeliveringNow w message (offer-message w.outbound.sender message other h.outstanding) (busy number other h)
 offer-phase w message m (opening number h) short = offer-held IsDeliveringNow w message (offer-opening w.outbound.sender message number h.outstanding) (opening number h)
 
@@ -144,10 +143,9 @@ opening-resent number w (t, ResendDown) h r = opening number (opening-sender num
 
 pub timeout-phase : (w : Delivery) → IsDeliveringNow w → IsDeliveringNow (with_outbound w (after_timeout w.outbound (timed_out w.outbound.sender))).0
 unfolding AfterTimeout with_outbound after_timeout newest_after
-timeout-phase w (quiet last q) = subst (AfterTimeout w) (sym (timeout-quiet w.outbound.sender q.up q.outstanding)) (quiet last q)
+timeout-phase w (quiet last q) = rw (timeout-quiet w.outbound.sender q.up q.outstanding) (quiet last q)
 timeout-phase w (busy number message h) =
-    busy-resent number message w (timed_out w.outbound.sender) h (subst (λ (n : ℕ).
-    Resends (IsDataOf n message) w.outbound.sender (timed_out w.outbound.sender)) h.next (timeout-message w.outbound.sender message h.outstanding))
+    busy-resent number message w (timed_out w.outbound.sender) h (rw (← h.next) (timeout-message w.outbound.sender message h.outstanding))
 timeout-phase w (opening number h) = opening-resent number w (timed_out w.outbound.sender) h (timeout-opening w.outbound.sender number h.outstanding)
 
 -- the session is opened again
@@ -172,13 +170,13 @@ given-up-place number message s r answered small (inl h) = record {
         | inl e ↦ inl e
         | inr (kept, is, e) ↦
             (let back : number ≡ ((number + 4) % 8 + 4) % 8 = omega (arith, small) in
-            inr ((λ z. absurd (omega (arith, z, h.sync, h.last_small, small))), held_flags kept.places, e ∙ ap (λ (n : ℕ). retry_packet n (held_flags kept.places)) back))
+            inr ((λ z. absurd (omega (arith, z, h.sync, h.last_small, small))), held_flags kept.places, cc))
       ]);
 }
 given-up-place number message s r answered small (inr h) = record {
   last_small = omega (arith, h.last_is, small);
   place = inr (omega (arith, h.last_is, small));
-  answer = IfSome_then answered h.answer (λ (p : Packet) (e : p ≡ ack_packet number). inl (e ∙ ap ack_packet (sym h.last_is)));
+  answer = IfSome_then answered h.answer (λ (p : Packet) (e : p ≡ ack_packet number). inl (cc));
 }
 
 given-up : (number : ℕ) (message : List ℕ) (w : Delivery) (t : Sending) → IsMarked w → IsBusy number message (first_number w) (present_session w) w → t.outstanding ≡ Opening ((number + 4) % 8) →
@@ -198,11 +196,11 @@ given-up number message w t m h o =
 
 opening_number-message : (out : Outstanding) (number next : ℕ) (message : List ℕ) → out ≡ Message message → next ≡ number → opening_number out next ≡ (number + 4) % 8
 unfolding opening_number
-opening_number-message out number next message o n = ap (λ (x : Outstanding). opening_number x next) o ∙ ap (λ (k : ℕ). (k + 4) % 8) n
+opening_number-message out number next message o n = cc
 
 opening_number-opening : (out : Outstanding) (number next : ℕ) → out ≡ Opening number → opening_number out next ≡ number
 unfolding opening_number
-opening_number-opening out number next o = ap (λ (x : Outstanding). opening_number x next) o
+opening_number-opening out number next o = cc
 
 pub reopen-phase : (w : Delivery) → IsMarked w → IsDeliveringNow w → IsDeliveringNow
     (with_outbound w (after_reopening w.outbound (length w.inbound.received) (is_opening w.outbound.sender.outstanding) (reopened w.outbound.sender))).0
@@ -214,11 +212,11 @@ reopen-phase w m (busy number message h) =
     subst (λ (out : Outstanding). AfterReopening w (is_opening out) (reopened w.outbound.sender)) (sym h.outstanding)
     (elim (reopen-cases w.outbound.sender ((number + 4) % 8) (opening_number-message w.outbound.sender.outstanding number w.outbound.sender.next message h.outstanding h.next)) [
       | inl e ↦ subst (AfterReopening w false) (sym e) (busy number message h)
-      | inr e ↦ subst (AfterReopening w false) (sym e) (given-up number message w _ m h refl)
+      | inr e ↦ rw e (given-up number message w _ m h refl)
     ])
 reopen-phase w m (opening number h) =
     subst (λ (out : Outstanding). AfterReopening w (is_opening out) (reopened w.outbound.sender)) (sym h.outstanding)
     (elim (reopen-cases w.outbound.sender number (opening_number-opening w.outbound.sender.outstanding number w.outbound.sender.next h.outstanding)) [
       | inl e ↦ subst (AfterReopening w true) (sym e) (opening number h)
-      | inr e ↦ subst (AfterReopening w true) (sym e) (opening number (opening-data number (first_number w) (present_session w) w _ (opening_packet number) h refl refl))
+      | inr e ↦ rw e (opening number (opening-data number (first_number w) (present_session w) w _ (opening_packet number) h refl refl))
     ])

@@ -28,10 +28,9 @@ unpadded-is beginning check pad four agrees small =
     let check_is : drop (length (beginning ++ check) - 4) (beginning ++ check) ≡ check = drop_at beginning check (length (beginning ++ check) - 4) (sym count) in
     let fits : nat_le pad (length (beginning ++ check) - 4) ≡ true = le-leb pad (length (beginning ++ check) - 4) (omega arith) in
     let right : eqb (octets_number (drop (length (beginning ++ check) - 4) (beginning ++ check))) (crc32_of (take (length (beginning ++ check) - 4) (beginning ++ check))) ≡ true
-    = eq-eqb _ _ (ap octets_number check_is ∙ agrees ∙ ap crc32_of (sym front_is)) in
+    = eq-eqb _ _ (cc) in
     let short : length (beginning ++ check) - 4 - pad ≡ length beginning - pad = omega arith in
-    cond-true _ _ _ (and_from _ _ fits right) ∙ ap (λ (n : ℕ). Some (take n (beginning ++ check))) short
-    ∙ ap (λ (xs : List ℕ). Some xs) (take-append-le (length beginning - pad) beginning check (omega arith))
+    cc (cond-true _ _ _ (and_from _ _ fits right), take-append-le (length beginning - pad) beginning check (omega arith))
 
 -- the octets of a message's blocks
 pub message-read_back : (message : List ℕ) → unpadded (message_octets message) (pad_count (length message)) ≡ Some message
@@ -41,17 +40,18 @@ message-read_back message =
     let zeros = replicate pad 0 in
     let many : length zeros ≡ pad = length-replicate {A = ℕ} pad 0 in
     let count : length (message ++ zeros) - pad ≡ length message = omega (arith, length-append message zeros, many) in
-    unpadded-is (message ++ zeros) (four_octets (crc32_of (message ++ zeros))) pad refl (octets_number-four_octets (crc32_of (message ++ zeros))) (omega (arith, length-append message zeros, many)) ∙
-    ap (λ (xs : List ℕ). Some xs) (take_at message zeros (length (message ++ zeros) - pad) (sym count))
+    cc (unpadded-is (message ++ zeros) (four_octets (crc32_of (message ++ zeros))) pad refl (octets_number-four_octets (crc32_of (message ++ zeros))) (omega (arith, length-append message zeros, many)), take_at message zeros (length (message ++ zeros) - pad) (sym count))
 
 -- where a block is put, and where the others stay
 pub put_block-here : (places : List (Option BlockParts)) (block : BlockParts) (j : ℕ) → j < length places → block.serial ≡ j → get_or (put_block places block) j None ≡ Some block
 unfolding put_block
 put_block-here places block j h e =
     let there : nat_lt block.serial (length places) ≡ true = lt-ltb block.serial (length places) (omega arith) in
-    ap (λ (ps : List (Option BlockParts)). get_or ps j None) (cond-true (nat_lt block.serial (length places))
-    (set places block.serial (Some block)) places there) ∙ ap (λ (k : ℕ). get_or (set places k (Some block)) j None) e ∙
-    get_or-set_same places j (Some block) None h
+    cc (
+      cond-true (nat_lt block.serial (length places))
+          (set places block.serial (Some block)) places there,
+      get_or-set_same places j (Some block) None h,
+    )
 
 pub put_block-other : (places : List (Option BlockParts)) (block : BlockParts) (j : ℕ) → (block.serial ≡ j → ⊥) → get_or (put_block places block) j None ≡ get_or places j None
 unfolding put_block
@@ -71,7 +71,7 @@ put_slots-stays message (Bad ∷ slots) places j are h held = put_slots-stays me
 put_slots-stays message (Good block ∷ slots) places j are h held =
     let same : get_or (put_block places block) j None ≡ Some (message_block message j)
     = elim (cases_eq block.serial j) [
-      | inl e ↦ put_block-here places block j h e ∙ ap (λ (b : BlockParts). Some b) are.0 ∙ ap (λ (k : ℕ). Some (message_block message k)) e
+      | inl e ↦ cc (put_block-here places block j h e)
       | inr n ↦ put_block-other places block j n ∙ held
     ] in
     put_slots-stays message slots (put_block places block) j are.1 (omega (arith, length-put_block places block)) same
@@ -84,7 +84,7 @@ put_slots-comes message [] places j are h holds = absurd holds
 put_slots-comes message (Bad ∷ slots) places j are h holds = put_slots-comes message slots places j are h holds
 put_slots-comes message (Good block ∷ slots) places j are h (inl e) =
     put_slots-stays message slots (put_block places block) j are.1 (omega (arith, length-put_block places block))
-    (put_block-here places block j h e ∙ ap (λ (b : BlockParts). Some b) are.0 ∙ ap (λ (k : ℕ). Some (message_block message k)) e)
+    (cc (put_block-here places block j h e))
 put_slots-comes message (Good block ∷ slots) places j are h (inr later) =
     put_slots-comes message slots (put_block places block) j are.1 (omega (arith, length-put_block places block)) later
 
@@ -92,12 +92,10 @@ put_slots-comes message (Good block ∷ slots) places j are h (inr later) =
 pub all_octets-each : (n : ℕ) (block : ℕ → BlockParts) → all_octets (each_below n (λ j. Some (block j))) ≡ Some (joined_below n (λ j. (block j).octets))
 unfolding all_octets
 all_octets-each zero block =
-    ap all_octets (each_below-zero (λ (j : ℕ). Some (block j))) ∙ ap (λ (xs : List ℕ). Some xs) (sym (joined_below-zero (λ (j : ℕ). (block j).octets)))
+    cc (each_below-zero (λ (j : ℕ). Some (block j)), joined_below-zero (λ (j : ℕ). (block j).octets))
 all_octets-each (suc n) block =
     let octets = joined_below n (λ (j : ℕ). (block j).octets) in
-    ap all_octets (each_below-suc n (λ (j : ℕ). Some (block j))) ∙ all_octets-append (each_below n (λ (j : ℕ). Some (block j))) (Some (block n) ∷ []) ∙
-    ap (λ (o : Option (List ℕ)). both_octets o (before_octets (block n).octets (Some []))) (all_octets-each n block) ∙ ap (λ (xs : List ℕ). Some (octets ++ xs)) (append-nil (block n).octets) ∙
-    ap (λ (xs : List ℕ). Some xs) (sym (joined_below-suc n (λ (j : ℕ). (block j).octets)))
+    rw (each_below-suc n (λ (j : ℕ). Some (block j)), all_octets-append (each_below n (λ (j : ℕ). Some (block j))) (Some (block n) ∷ []), all_octets-each n block, append-nil (block n).octets, ← joined_below-suc n (λ (j : ℕ). (block j).octets))
 
 -- the blocks of a message joined are its octets
 pub joined-message_blocks : (message : List ℕ) → joined_below (block_count (length message)) (λ j. (message_block message j).octets) ≡ message_octets message
@@ -117,9 +115,9 @@ places-of_message message places long held =
     let n = block_count (length message) in
     let each : ℕ → Option BlockParts = λ (j : ℕ). Some (message_block message j) in
     let same : places ≡ each_below n each
-    = ext_get_or None places (each_below n each) (long ∙ sym (length-each_below n each))
+    = ext_get_or None places (each_below n each) (cc (length-each_below n each))
     (λ (j : ℕ) (h : j < length places). held j (omega arith) ∙ sym (get_or-each_below n each j None (omega arith))) in
-    ap all_octets same ∙ all_octets-each n (message_block message) ∙ ap (λ (xs : List ℕ). Some xs) (joined-message_blocks message)
+    cc (all_octets-each n (message_block message), joined-message_blocks message)
 
 pub slots-read_back : (message : List ℕ) (slots : List Slot) → CarriesMessage message slots → read_back (block_count (length message)) (pad_count (length message)) slots ≡ Some message
 unfolding read_back unpadded_option
@@ -130,4 +128,4 @@ slots-read_back message slots carries =
     let long : length (put_slots empty slots) ≡ n = length-put_slots empty slots ∙ many in
     let held : (j : ℕ) → j < n → get_or (put_slots empty slots) j None ≡ Some (message_block message j)
     = λ (j : ℕ) (h : j < n). put_slots-comes message slots empty j carries.blocks (omega arith) (carries.all j h) in
-    ap (λ (found : Option (List ℕ)). unpadded_option found (pad_count (length message))) (places-of_message message (put_slots empty slots) long held) ∙ message-read_back message
+    cc (places-of_message message (put_slots empty slots) long held, message-read_back message)

@@ -31,7 +31,7 @@ counted-present out s e = record { acknowledged = omega arith; sent = omega arit
 
 -- the counts with what is outstanding under another name
 counts-at : (w : Delivery) (out : Outstanding) → out ≡ w.outbound.sender.outstanding → HasCounts w → CountsIn out (present_session w)
-counts-at w out e h = subst (λ (x : Outstanding). CountsIn x (present_session w)) (sym e) h
+counts-at w out e h = rw e h
 
 -- an offer
 
@@ -43,7 +43,7 @@ offer-nothing : (s : Sending) (message : List ℕ) → s.outstanding ≡ Nothing
 unfolding offered offered_beside
 offer-nothing s message o =
     let taken : Sending × Offer = (record { next = s.next; outstanding = Message message; tries = 1; down = false }, Taken s.next (block_count (length message)) (message_packet s.next message)) in
-    let is : offered_beside s.outstanding s message ≡ taken = ap (λ (out : Outstanding). offered_beside out s message) o in
+    let is : offered_beside s.outstanding s message ≡ taken = cc in
     elim s.down as (λ (b : Bool). (cond b (s, OfferDown) (offered_beside s.outstanding s message) ≡ (s, OfferDown)) ⊎ (cond b (s, OfferDown) (offered_beside s.outstanding s message) ≡ taken)) [
       | true ↦ inl refl
       | false ↦ inr is
@@ -54,11 +54,11 @@ unfolding AfterOffer with_outbound after_offer CountsBy
 offer-counts w message Nothing o m h =
     let s = present_session w in
     elim (offer-nothing w.outbound.sender message o) [
-      | inl e ↦ subst (AfterOffer w message) (sym e) h
+      | inl e ↦ rw e h
       | inr e ↦
           (let was : length s.sent ≡ s.acknowledged = counts-at w Nothing (sym o) h in
           let now : length (s.sent ++ message ∷ []) ≡ s.acknowledged + 1 = omega (arith, was, length-append s.sent (message ∷ [])) in
-          subst (AfterOffer w message) (sym e) (subst (CountsIn (Message message)) (sym (present-sent w message m)) now))
+          rw e (subst (CountsIn (Message message)) (sym (present-sent w message m)) now))
     ]
 offer-counts w message (Message other) o m h = offer-held HasCounts w message (offer-message w.outbound.sender message other o) h
 offer-counts w message (Opening number) o m h = offer-held HasCounts w message (offer-opening w.outbound.sender message number o) h
@@ -87,13 +87,13 @@ reopen-counts : (w : Delivery) (out : Outstanding) → w.outbound.sender.outstan
 unfolding AfterReopening with_outbound after_reopening CountsBy
 reopen-counts w (Opening number) o h =
     elim (reopen-cases w.outbound.sender (opening_number w.outbound.sender.outstanding w.outbound.sender.next) refl) [
-      | inl e ↦ subst (AfterReopening w true) (sym e) h
-      | inr e ↦ subst (AfterReopening w true) (sym e) (counts-at w (Opening number) (sym o) h)
+      | inl e ↦ rw e h
+      | inr e ↦ rw e (counts-at w (Opening number) (sym o) h)
     ]
 reopen-counts w out o h =
     elim (reopen-cases w.outbound.sender (opening_number w.outbound.sender.outstanding w.outbound.sender.next) refl) [
-      | inl e ↦ subst (AfterReopening w false) (sym e) h
-      | inr e ↦ subst (AfterReopening w false) (sym e) (subst (CountsIn (Opening (opening_number w.outbound.sender.outstanding w.outbound.sender.next))) (sym (present-marked w)) refl)
+      | inl e ↦ rw e h
+      | inr e ↦ rw e (subst (CountsIn (Opening (opening_number w.outbound.sender.outstanding w.outbound.sender.next))) (sym (present-marked w)) refl)
     ]
 
 -- a packet that the sender hears
@@ -112,18 +112,18 @@ stays-counts w message x t h = absurd t.1
 message-counts : (w : Delivery) (message : List ℕ) (packet : Packet) (x : Sending × SenderHeard)
     → w.outbound.sender.outstanding ≡ Message message → IsMarked w → HearsAnswer w.outbound.sender message packet x → HasCounts w → AfterAnswer w x
 unfolding AfterAnswer with_outbound after_answer CountsBy
-message-counts w message packet x o m (goes_on a e) h = subst (AfterAnswer w) (sym e) (subst (CountsIn Nothing) (sym (present-acknowledged w m)) (counts-at w (Message message) (sym o) h))
+message-counts w message packet x o m (goes_on a e) h = rw e (subst (CountsIn Nothing) (sym (present-acknowledged w m)) (counts-at w (Message message) (sym o) h))
 message-counts w message packet x o m (stays t) h = stays-counts w message x t h
 
 opening-counts : (w : Delivery) (number : ℕ) (packet : Packet) (x : Sending × SenderHeard)
     → w.outbound.sender.outstanding ≡ Opening number → HearsOpening w.outbound.sender number packet x → HasCounts w → AfterAnswer w x
 unfolding AfterAnswer with_outbound after_answer CountsBy
-opening-counts w number packet x o (opens a e) h = subst (AfterAnswer w) (sym e) (counts-at w (Opening number) (sym o) h)
-opening-counts w number packet x o (waits e) h = subst (AfterAnswer w) (sym e) h
+opening-counts w number packet x o (opens a e) h = rw e (counts-at w (Opening number) (sym o) h)
+opening-counts w number packet x o (waits e) h = rw e h
 
 answer-counts : (w : Delivery) (packet : Packet) (out : Outstanding) → w.outbound.sender.outstanding ≡ out → IsMarked w → HasCounts w → AfterAnswer w (sender_heard w.outbound.sender packet)
 unfolding AfterAnswer with_outbound after_answer
-answer-counts w packet Nothing o m h = subst (AfterAnswer w) (sym (quiet-answer w.outbound.sender packet o)) h
+answer-counts w packet Nothing o m h = rw (quiet-answer w.outbound.sender packet o) h
 answer-counts w packet (Message message) o m h = message-counts w message packet (sender_heard w.outbound.sender packet) o m (message-answer w.outbound.sender message packet o) h
 answer-counts w packet (Opening number) o m h = opening-counts w number packet (sender_heard w.outbound.sender packet) o (opening-answer w.outbound.sender number packet o) h
 
@@ -152,4 +152,4 @@ sessions-counted events =
     let w = delivery_run first_delivery events in
     let h : IsCountedLink w = run-keeps_all happens IsCountedLink happens-counted events first_delivery (first-counts, first-divided IsCounted) in
     let present = counted-present w.outbound.sender.outstanding (present_session w) h.0 in
-    subst AreCounted (sym (sessions-split w)) (each-all IsCounted (ended_sessions w ++ present_session w ∷ []) (All-push IsCounted (ended_sessions w) (present_session w) h.1.1 present))
+    rw (sessions-split w) (each-all IsCounted (ended_sessions w ++ present_session w ∷ []) (All-push IsCounted (ended_sessions w) (present_session w) h.1.1 present))

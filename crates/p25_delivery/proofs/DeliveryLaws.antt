@@ -49,12 +49,12 @@ busy-place : (number : ℕ) (message : List ℕ) (b : ℕ) (s t : Session) (w v 
     → v.outbound.sender ≡ w.outbound.sender → v.packet_sent ≡ w.packet_sent → t.acknowledged ≡ s.acknowledged → IsBusy number message b s w →
     IsWaiting number message t v.inbound.receiver v.answer ⊎ IsArrived number message t v.inbound.receiver v.answer → IsBusy number message b t v
 busy-place number message b s t w v sender packet a h place = record {
-  next = ap (λ (x : Sending). x.next) sender ∙ h.next;
-  outstanding = ap (λ (x : Sending). x.outstanding) sender ∙ h.outstanding;
+  next = cc;
+  outstanding = cc;
   small = h.small;
   short = h.short;
-  packet_sent = subst (λ (o : Option Packet). IfSome o (IsDataOf number message)) (sym packet) h.packet_sent;
-  counted = h.counted ∙ ap (λ (n : ℕ). (b + n) % 8) (sym a);
+  packet_sent = rw packet h.packet_sent;
+  counted = cc;
   place = place;
 }
 
@@ -101,29 +101,28 @@ data-quiet last w packet q heard =
     elim (newest w.packet_sent (IsQuietData last s.sent) heard.sent q.packet_sent heard.newest_is) [
       | inl (none, e) ↦
           (let p = opening-packet_heard last heard.sent packet e heard.true_to in
-          subst (λ (x : Packet). AfterData w (receiver_heard r x)) (sym p.1)
-          (subst (AfterData w) (sym (opening-is_heard r last p.0 q.small p.2)) (quiet last (quiet-heard last b s w (record { last = last; kept = None }) q refl refl))))
+          rw (p.1, (opening-is_heard r last p.0 q.small p.2)) (quiet last (quiet-heard last b s w (record { last = last; kept = None }) q refl refl)))
       | inr (earlier, message, e, short, d) ↦
           (let p = data-heard last message heard.sent packet q.small short d heard.true_to in
           let again : IsQuiet last b s (delivery_of_answer w r (ack_packet r.last))
           = subst (λ (n : ℕ). IsQuiet last b s (delivery_of_answer w r (ack_packet n))) (sym q.last_is) (quiet-heard last b s w r q q.last_is q.kept) in
-          subst (λ (x : Packet). AfterData w (receiver_heard r x)) (sym p.1) (subst (AfterData w) (sym (last-heard r last message p.0 q.last_is p.2)) (quiet last again)))
+          rw (p.1, (last-heard r last message p.0 q.last_is p.2)) (quiet last again))
     ]
 
 data-waiting : (number : ℕ) (message : List ℕ) (w : Delivery) (x : Receiving × Heard)
     → IsMarked w → IsBusy number message (first_number w) (present_session w) w → IsWaiting number message (present_session w) w.inbound.receiver w.answer →
     HearsNext w.inbound.receiver number message x → AfterData w x
 unfolding AfterData with_inbound after_data newest_after
-data-waiting number message w x m h p (ignores e) = subst (AfterData w) (sym e) (busy number message h)
+data-waiting number message w x m h p (ignores e) = rw e (busy number message h)
 data-waiting number message w x m h p (keeps kept k e) =
     let s = present_session w in
     let now = delivery_of_answer w (record { last = w.inbound.receiver.last; kept = Some kept }) (retry_packet number (held_flags kept.places)) in
-    subst (AfterData w) (sym e) (busy number message (busy-place number message (first_number w) s s w now refl refl refl h (inl (waiting-kept number message s w.inbound.receiver w.answer kept p k))))
+    rw e (busy number message (busy-place number message (first_number w) s s w now refl refl refl h (inl (waiting-kept number message s w.inbound.receiver w.answer kept p k))))
 data-waiting number message w x m h p (delivers e) =
     let s = present_session w in
     let now = delivery_of_answer (one_delivered w message) (record { last = number; kept = None }) (ack_packet number) in
     let arrives = busy-place number message (first_number w) s (with_delivered s message) w now refl refl refl h (inr (waiting-delivered number message s w.inbound.receiver w.answer p)) in
-    subst (AfterData w) (sym e) (busy number message (subst (λ (t : Session). IsBusy number message (first_number w) t now) (sym (present-delivered w message m)) arrives))
+    rw e (busy number message (rw (present-delivered w message m) arrives))
 
 data-busy : (number : ℕ) (message : List ℕ) (w : Delivery) (packet : Packet) → IsMarked w → IsBusy number message (first_number w) (present_session w) w → IsHeardOf w.packet_sent packet →
     IsWaiting number message (present_session w) w.inbound.receiver w.answer ⊎ IsArrived number message (present_session w) w.inbound.receiver w.answer
@@ -134,12 +133,10 @@ data-busy number message w packet m h heard place =
     let s = present_session w in
     let d = newest w.packet_sent (IsDataOf number message) heard.sent h.packet_sent heard.newest_is in
     let p = data-heard number message heard.sent packet h.small h.short d heard.true_to in
-    subst (λ (x : Packet). AfterData w (receiver_heard r x)) (sym p.1)
-    (elim place [
+    rw p.1 (elim place [
       | inl here ↦ data-waiting number message w (receiver_heard r (Confirmed p.0)) m h here (next-heard r number message p.0 here.last_small here.sync here.kept p.2)
       | inr came ↦
-          subst (AfterData w) (sym (last-heard r number message p.0 came.last_is p.2))
-          (busy number message (busy-place number message (first_number w) s s w (delivery_of_answer w r (ack_packet r.last)) refl refl refl h (inr (arrived-again number message s r w.answer came))))
+          rw (last-heard r number message p.0 came.last_is p.2) (busy number message (busy-place number message (first_number w) s s w (delivery_of_answer w r (ack_packet r.last)) refl refl refl h (inr (arrived-again number message s r w.answer came))))
     ])
 
 data-opening : (number : ℕ) (w : Delivery) (packet : Packet)
@@ -147,10 +144,9 @@ data-opening : (number : ℕ) (w : Delivery) (packet : Packet)
 unfolding AfterData with_inbound after_data newest_after
 data-opening number w packet h heard =
     let r = w.inbound.receiver in
-    let both : Some heard.sent ≡ Some (opening_packet number) = sym heard.newest_is ∙ h.packet_sent in
+    let both : Some heard.sent ≡ Some (opening_packet number) = cc in
     let p = opening-packet_heard number heard.sent packet (same_Some heard.sent (opening_packet number) both) heard.true_to in
-    subst (λ (x : Packet). AfterData w (receiver_heard r x)) (sym p.1)
-    (subst (AfterData w) (sym (opening-is_heard r number p.0 h.small p.2)) (opening number (opening-heard number (first_number w) (present_session w) w h)))
+    rw (p.1, (opening-is_heard r number p.0 h.small p.2)) (opening number (opening-heard number (first_number w) (present_session w) w h))
 
 data-phase : (w : Delivery) (packet : Packet) → IsMarked w → IsDeliveringNow w → IsHeardOf w.packet_sent packet → AfterData w (receiver_heard w.inbound.receiver packet)
 data-phase w packet m (quiet last q) heard = data-quiet last w packet q heard
@@ -176,11 +172,11 @@ waiting-unacknowledged : (number : ℕ) (r : Receiving) (sent packet : Packet)
     → number < 8 → r.last < 8 → (r.last + 1) % 8 ≡ number → IsWaitingAnswer r number sent → IsTrueTo sent packet → acks packet number ≡ true → ⊥
 waiting-unacknowledged number r sent packet small last sync (inl e) t a =
     let is : packet ≡ ack_packet r.last = ack-heard r.last sent packet e t ∙ e in
-    let yes_to : r.last ≡ number = acks-ack r.last number last (subst (λ (p : Packet). acks p number ≡ true) is a) in
+    let yes_to : r.last ≡ number = acks-ack r.last number last (rw is at a) in
     absurd (omega (arith, yes_to, sync, last))
 waiting-unacknowledged number r sent packet small last sync (inr (kept, k, e)) t a =
     let is : packet ≡ retry_packet number (held_flags kept.places) = retry-heard number (held_flags kept.places) sent packet e t ∙ e in
-    acks-retry number number (held_flags kept.places) small (subst (λ (p : Packet). acks p number ≡ true) is a)
+    acks-retry number number (held_flags kept.places) small (rw is at a)
 
 arrived-acknowledged : (number : ℕ) (message : List ℕ) (b : ℕ) (s : Session) (w : Delivery) → IsBusy number message b s w → IsArrived number message s w.inbound.receiver w.answer →
     IsQuiet number b (with_acknowledged s) (delivery_of_sender (one_acknowledged w) (sending_after number))
@@ -208,15 +204,15 @@ answer-place number message w packet m h heard a (inl p) =
     absurd (waiting-unacknowledged number w.inbound.receiver heard.sent packet h.small p.last_small p.sync sent heard.true_to a)
 answer-place number message w packet m h heard a (inr p) =
     let now = delivery_of_sender (one_acknowledged w) (sending_after number) in
-    quiet number (subst (λ (t : Session). IsQuiet number (first_number w) t now) (sym (present-acknowledged w m)) (arrived-acknowledged number message (first_number w) (present_session w) w h p))
+    quiet number (rw (present-acknowledged w m) (arrived-acknowledged number message (first_number w) (present_session w) w h p))
 
 answer-busy : (number : ℕ) (message : List ℕ) (w : Delivery) (packet : Packet) (x : Sending × SenderHeard)
     → IsMarked w → IsBusy number message (first_number w) (present_session w) w → IsHeardOf w.answer packet →
     HearsAnswer w.outbound.sender message packet x → AfterAnswer w x
 answer-busy number message w packet x m h heard (goes_on a e) =
-    let is : x ≡ (sending_after number, Acknowledged number) = e ∙ ap (λ (n : ℕ). (sending_after n, Acknowledged n)) h.next in
-    subst (AfterAnswer w) (sym is) (answer-place number message w packet m h heard (subst (λ (n : ℕ). acks packet n ≡ true) h.next a) h.place)
-answer-busy number message w packet x m h heard (stays t) = busy-stays number message w x h t.0 (subst (λ (n : ℕ). RetriesOf n message x.1) h.next t.1)
+    let is : x ≡ (sending_after number, Acknowledged number) = cc in
+    rw is (answer-place number message w packet m h heard (rw h.next at a) h.place)
+answer-busy number message w packet x m h heard (stays t) = busy-stays number message w x h t.0 (rw h.next at t.1)
 
 -- an opening packet is acknowledged only once it has come
 opened-place : (number b : ℕ) (s : Session) (w : Delivery) (sent packet : Packet)
@@ -225,14 +221,14 @@ opened-place : (number b : ℕ) (s : Session) (w : Delivery) (sent packet : Pack
 opened-place number b s w sent packet h (inl e) t a =
     let last = w.inbound.receiver.last in
     let is : packet ≡ ack_packet last = ack-heard last sent packet e t ∙ e in
-    let here : last ≡ number = acks-ack last number h.last_small (subst (λ (p : Packet). acks p number ≡ true) is a) in
+    let here : last ≡ number = acks-ack last number h.last_small (rw is at a) in
     elim h.place [
-      | inl p ↦ (here, p.1, e ∙ ap ack_packet here)
+      | inl p ↦ (here, p.1, cc)
       | inr p ↦ absurd (elim p [ inl far ↦ omega (arith, here, far, h.small) | inr far ↦ omega (arith, here, far, h.small) ])
     ]
 opened-place number b s w sent packet h (inr (away, flags, e)) t a =
     let is : packet ≡ retry_packet ((number + 4) % 8) flags = retry-heard ((number + 4) % 8) flags sent packet e t ∙ e in
-    absurd (acks-retry ((number + 4) % 8) number flags (omega arith) (subst (λ (p : Packet). acks p number ≡ true) is a))
+    absurd (acks-retry ((number + 4) % 8) number flags (omega arith) (rw is at a))
 
 opened : (number b : ℕ) (s : Session) (w : Delivery) (sent : Packet)
     → IsOpening number b s w → w.inbound.receiver.last ≡ number → w.inbound.receiver.kept ≡ None → w.answer ≡ Some sent → sent ≡ ack_packet number →
@@ -244,10 +240,10 @@ opened number b s w sent h l k n e = record {
   last_is = l;
   next = refl;
   kept = k;
-  packet_sent = subst (λ (o : Option Packet). IfSome o (IsQuietData number s.sent)) (sym h.packet_sent) (inl (ap (λ (t : Session). t.sent) h.session_is, refl));
-  answer = subst (λ (o : Option Packet). IfSome o (λ packet. packet ≡ ack_packet number)) (sym n) e;
-  delivered = ap (λ (t : Session). t.delivered) h.session_is ∙ sym (ap (λ (t : Session). t.sent) h.session_is);
-  acknowledged = ap (λ (t : Session). t.acknowledged) h.session_is ∙ sym (ap (λ (t : Session). length t.sent) h.session_is);
+  packet_sent = rw h.packet_sent (inl (cc, refl));
+  answer = rw n e;
+  delivered = cc;
+  acknowledged = cc;
   counted = omega (arith, h.base_is, ap (λ (t : Session). t.acknowledged) h.session_is);
 }
 
@@ -258,12 +254,12 @@ unfolding AfterAnswer with_outbound after_answer newest_after
 answer-opening number w packet x h heard (opens a e) =
     let answer = newest w.answer (IsOpeningAnswer w.inbound.receiver.last number) heard.sent h.answer heard.newest_is in
     let place = opened-place number (first_number w) (present_session w) w heard.sent packet h answer heard.true_to a in
-    subst (AfterAnswer w) (sym e) (quiet number (opened number (first_number w) (present_session w) w heard.sent h place.0 place.1 heard.newest_is place.2))
-answer-opening number w packet x h heard (waits e) = subst (AfterAnswer w) (sym e) (opening number h)
+    rw e (quiet number (opened number (first_number w) (present_session w) w heard.sent h place.0 place.1 heard.newest_is place.2))
+answer-opening number w packet x h heard (waits e) = rw e (opening number h)
 
 answer-phase : (w : Delivery) (packet : Packet) → IsMarked w → IsDeliveringNow w → IsHeardOf w.answer packet → AfterAnswer w (sender_heard w.outbound.sender packet)
 unfolding AfterAnswer with_outbound after_answer newest_after
-answer-phase w packet m (quiet last q) heard = subst (AfterAnswer w) (sym (quiet-answer w.outbound.sender packet q.outstanding)) (quiet last q)
+answer-phase w packet m (quiet last q) heard = rw (quiet-answer w.outbound.sender packet q.outstanding) (quiet last q)
 answer-phase w packet m (busy number message h) heard =
     answer-busy number message w packet (sender_heard w.outbound.sender packet) m h heard (message-answer w.outbound.sender message packet h.outstanding)
 answer-phase w packet m (opening number h) heard = answer-opening number w packet (sender_heard w.outbound.sender packet) h heard (opening-answer w.outbound.sender number packet h.outstanding)
@@ -328,7 +324,7 @@ sent-reopens : (o : Outgoing) (delivered : ℕ) (again : Bool) (s : Sending) (n 
     → s.outstanding ≡ Opening n → (after_reopening o delivered again (s, ReopenSent n packet)).1.0 ≡ Reopened number →
     (after_reopening o delivered again (s, ReopenSent n packet)).0.sender.outstanding ≡ Opening number
 unfolding after_reopening
-sent-reopens o delivered again s n number packet out e = let same : n ≡ number = cc in out ∙ ap (λ (k : ℕ). Opening k) same
+sent-reopens o delivered again s n number packet out e = let same : n ≡ number = cc in cc
 
 up-reopens : (o : Outgoing) (delivered : ℕ) (again : Bool) (s : Sending) (number : ℕ) → (after_reopening o delivered again (s, ReopenUp)).1.0 ≡ Reopened number → ⊥
 unfolding after_reopening
@@ -350,9 +346,9 @@ reopened-opens w number e =
     ]
 
 opening-base : (number b : ℕ) (s : Session) (w : Delivery) → IsDelivering b s w → w.outbound.sender.outstanding ≡ Opening number → b ≡ (number + 1) % 8
-opening-base number b s w (quiet last q) o = let both : Nothing ≡ Opening number = sym q.outstanding ∙ o in cc
-opening-base number b s w (busy other message h) o = let both : Message message ≡ Opening number = sym h.outstanding ∙ o in cc
-opening-base number b s w (opening other h) o = let both : Opening other ≡ Opening number = sym h.outstanding ∙ o in let same : other ≡ number = cc in h.base_is ∙ ap (λ (n : ℕ). (n + 1) % 8) same
+opening-base number b s w (quiet last q) o = let both : Nothing ≡ Opening number = cc in cc
+opening-base number b s w (busy other message h) o = let both : Message message ≡ Opening number = cc in cc
+opening-base number b s w (opening other h) o = let both : Opening other ≡ Opening number = cc in let same : other ≡ number = cc in cc
 
 pub first-is : (events : List Happening) → IsCleanRun first_delivery events → (number : ℕ) → (happens (delivery_run first_delivery events) Opening_again).1 ≡ Reopened number →
     first_number (happens (delivery_run first_delivery events) Opening_again).0 ≡ (number + 1) % 8

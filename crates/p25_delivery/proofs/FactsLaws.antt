@@ -9,22 +9,22 @@ use Rattle.p25_delivery.proofs.PhaseLaws.{IsQuietData, IsQuiet, IsWaitingAnswer,
 
 -- the first of a list, where all of it, or all but the last, is meant
 take-same : (xs ys : List (List ℕ)) → xs ≡ ys → xs ≡ take (length xs) ys
-take-same xs ys e = e ∙ sym (take_all (length xs) ys (omega (arith, ap length e)))
+take-same xs ys e = cc (take_all (length xs) ys (omega (arith, ap length e)))
 
 take-front : (xs ys : List (List ℕ)) (last : List ℕ) → ys ≡ xs ++ last ∷ [] → xs ≡ take (length xs) ys
-take-front xs ys last e = sym (ap (λ (zs : List (List ℕ)). take (length xs) zs) e ∙ take_at xs (last ∷ []) (length xs) refl)
+take-front xs ys last e = sym (cc (take_at xs (last ∷ []) (length xs) refl))
 
 sent-by : (out : Outstanding) (s : Session) (w : Delivery) → w.outbound.sender.outstanding ≡ out → SentBy out s → SentBy w.outbound.sender.outstanding s
-sent-by out s w o h = subst (λ (x : Outstanding). SentBy x s) (sym o) h
+sent-by out s w o h = rw o h
 
 -- nothing is kept of any message
 nothing-kept : (kept : Option Keeping) (P : Keeping → Type 0) → kept ≡ None → IfSome kept P
-nothing-kept kept P e = subst (λ (o : Option Keeping). IfSome o P) (sym e) tt
+nothing-kept kept P e = rw e tt
 
 facts-quiet : (last b : ℕ) (s : Session) (w : Delivery) → IsQuiet last b s w → SessionFacts b s w
 unfolding SentBy IsNewestData
 facts-quiet last b s w q =
-    let same : length s.delivered ≡ s.acknowledged = ap length q.delivered ∙ sym q.acknowledged in
+    let same : length s.delivered ≡ s.acknowledged = cc in
     record {
       sent = sent-by Nothing s w q.outstanding (sym q.acknowledged);
       number = q.next ∙ q.counted;
@@ -36,13 +36,13 @@ facts-quiet last b s w q =
           elim d [
             | inl (none, e) ↦
                 (let base : last ≡ (b + 7) % 8 = omega (arith, q.small, q.counted, q.acknowledged, ap length none) in
-                inl (none, e ∙ ap opening_packet base))
+                inl (none, cc))
             | inr (earlier, message, e, short, of) ↦
                 (let number : last ≡ (b + length s.sent - 1) % 8 = omega (arith, q.small, q.counted, q.acknowledged, ap length e, length-append earlier (message ∷ [])) in
                 inr (earlier, message, e, subst (λ (n : ℕ). IsDataOf n message p) number of))
           ]);
       kept = nothing-kept w.inbound.receiver.kept _ q.kept;
-      newest_answer = IfSome_then w.answer q.answer (λ (p : Packet) (e : p ≡ ack_packet last). inl (e ∙ ap ack_packet (sym q.last_is)));
+      newest_answer = IfSome_then w.answer q.answer (λ (p : Packet) (e : p ≡ ack_packet last). inl (cc));
     }
 
 facts-waiting : (number : ℕ) (message : List ℕ) (b : ℕ) (s : Session) (w : Delivery) → IsBusy number message b s w → IsWaiting number message s w.inbound.receiver w.answer → SessionFacts b s w
@@ -57,13 +57,13 @@ facts-waiting number message b s w h p =
       last = omega (arith, p.last_small, p.sync, h.counted, p.acknowledged);
       delivered = take-front s.delivered s.sent message p.sent;
       newest_data = IfSome_then w.packet_sent h.packet_sent (λ (packet : Packet) (d : IsDataOf number message packet).
-          inr (s.delivered, message, p.sent, subst (λ (n : ℕ). IsDataOf n message packet) newest d));
+          inr (s.delivered, message, p.sent, rw newest at d));
       kept = IfSome_then w.inbound.receiver.kept p.kept (λ (k : Keeping) (of : KeepsOf message k). (sym p.acknowledged, message, h.outstanding, of));
       newest_answer =
           IfSome_then w.answer p.answer (λ (packet : Packet) (a : IsWaitingAnswer w.inbound.receiver number packet).
           elim a [
             | inl e ↦ inl e
-            | inr (kept, k, e) ↦ inr (kept, k, e ∙ ap (λ (n : ℕ). retry_packet n (held_flags kept.places)) (sym p.sync))
+            | inr (kept, k, e) ↦ inr (kept, k, cc)
           ]);
     }
 
@@ -71,7 +71,7 @@ facts-arrived : (number : ℕ) (message : List ℕ) (b : ℕ) (s : Session) (w :
 unfolding SentBy IsNewestData
 facts-arrived number message b s w h p =
     let count : length s.sent ≡ s.acknowledged + 1 = omega (arith, ap length p.sent, length-append p.earlier (message ∷ []), p.acknowledged) in
-    let all : length s.delivered ≡ s.acknowledged + 1 = ap length p.delivered ∙ count in
+    let all : length s.delivered ≡ s.acknowledged + 1 = cc in
     let newest : number ≡ (b + length s.sent - 1) % 8 = omega (arith, count, h.counted) in
     record {
       sent = sent-by (Message message) s w h.outstanding (count, (p.earlier, p.sent));
@@ -80,9 +80,9 @@ facts-arrived number message b s w h p =
       last = omega (arith, p.last_is, h.small, h.counted, all);
       delivered = take-same s.delivered s.sent p.delivered;
       newest_data = IfSome_then w.packet_sent h.packet_sent
-          (λ (packet : Packet) (d : IsDataOf number message packet). inr (p.earlier, message, p.sent, subst (λ (n : ℕ). IsDataOf n message packet) newest d));
+          (λ (packet : Packet) (d : IsDataOf number message packet). inr (p.earlier, message, p.sent, rw newest at d));
       kept = nothing-kept w.inbound.receiver.kept _ p.kept;
-      newest_answer = IfSome_then w.answer p.answer (λ (packet : Packet) (e : packet ≡ ack_packet number). inl (e ∙ ap ack_packet (sym p.last_is)));
+      newest_answer = IfSome_then w.answer p.answer (λ (packet : Packet) (e : packet ≡ ack_packet number). inl (cc));
     }
 
 facts-busy : (number : ℕ) (message : List ℕ) (b : ℕ) (s : Session) (w : Delivery) → IsBusy number message b s w → SessionFacts b s w
@@ -93,4 +93,4 @@ unfolding FactsBy
 facts-delivering b s w (quiet last q) = subst (λ (x : Outstanding). FactsBy x b s w) (sym q.outstanding) (facts-quiet last b s w q)
 facts-delivering b s w (busy number message h) = subst (λ (x : Outstanding). FactsBy x b s w) (sym h.outstanding) (facts-busy number message b s w h)
 facts-delivering b s w (opening number h) =
-    subst (λ (x : Outstanding). FactsBy x b s w) (sym h.outstanding) (record { nothing_yet = h.session_is; newest_data = h.packet_sent; place = h.place; newest_answer = h.answer })
+    rw h.outstanding (record { nothing_yet = h.session_is; newest_data = h.packet_sent; place = h.place; newest_answer = h.answer })

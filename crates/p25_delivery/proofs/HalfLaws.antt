@@ -25,10 +25,10 @@ KeepsIncoming x = IsIncoming x.0 × IfSome x.1.1 IsSendable
 
 -- a call of a sender or a receiver gives a state and an answer
 pub call-state : {S A : Type 0} {s : S} {a : A} (x : S × A) → (s, a) ≡ x → s ≡ x.0
-call-state {S = S} {A = A} x e = ap (λ (p : S × A). p.0) e
+call-state {S = S} {A = A} x e = cc
 
 pub call-answer : {S A : Type 0} {s : S} {a : A} (x : S × A) → (s, a) ≡ x → a ≡ x.1
-call-answer {S = S} {A = A} x e = ap (λ (p : S × A). p.1) e
+call-answer {S = S} {A = A} x e = cc
 
 -- What a sending half says, by what is outstanding.
 
@@ -42,7 +42,7 @@ pub outgoing-counts : (o : Outgoing) → IsOutgoing o → o.acknowledged + lengt
 outgoing-counts o sound = counts-fit o o.sender.outstanding sound.counted
 
 pub counted-at : (o : Outgoing) (out : Outstanding) → o.sender.outstanding ≡ out → IsOutgoing o → IsCountedWith out o
-counted-at o out e sound = subst (λ (x : Outstanding). IsCountedWith x o) e sound.counted
+counted-at o out e sound = rw (← e) sound.counted
 
 pub quiet-is : (o : Outgoing) → IsCountedWith Nothing o → (o.sender.down ≡ false) × (o.sender.tries ≡ 0) × (o.acknowledged + length o.marks ≤ length o.sent)
 unfolding IsCountedWith
@@ -67,8 +67,8 @@ number-in out number e is = subst IsNumbered e is
 -- data of a message can be sent
 data-sendable : (number : ℕ) (message : List ℕ) (packet : Packet) → number < 8 → IsMessage message → IsDataOf number message packet → IsSendable packet
 unfolding IsDataOf
-data-sendable number message packet n is (inl e) = subst IsSendable (sym e) (message_packet-sendable number message n is)
-data-sendable number message packet n is (inr (wanted, e)) = subst IsSendable (sym e) (blocks_packet-sendable number message wanted n is)
+data-sendable number message packet n is (inl e) = rw e (message_packet-sendable number message n is)
+data-sendable number message packet n is (inr (wanted, e)) = rw e (blocks_packet-sendable number message wanted n is)
 
 -- A half with another sender, of which the same is outstanding.
 
@@ -87,8 +87,8 @@ same-outgoing o s out up e same sending sound =
     let now : s.outstanding ≡ out = same.outstanding ∙ e in
     record {
       sender = sending;
-      message = subst IsMessageIn (sym same.outstanding) sound.message;
-      counted = subst (λ (x : Outstanding). IsCountedWith x (record o { sender = s })) (sym now) (counted-again o s out up (counted-at o out e sound));
+      message = rw same.outstanding sound.message;
+      counted = rw (← now) at (counted-again o s out up (counted-at o out e sound));
     }
 
 up-message : (message : List ℕ) → IsHeldUp (Message message)
@@ -114,17 +114,16 @@ offer-by : (o : Outgoing) (message : List ℕ) (out : Outstanding) → o.sender.
 unfolding after_offer
 offer-by o message Nothing e is sound =
     let c = counted-at o Nothing e sound in
-    subst (λ (x : Sending × Offer). KeepsOutgoing (after_offer o message x)) (sym (offer-quiet o.sender message (quiet-is o c).0 e))
-    (taken-keeps o message c is sound, message_packet-sendable o.sender.next message sound.sender.next is)
+    rw (offer-quiet o.sender message (quiet-is o c).0 e) (taken-keeps o message c is sound, message_packet-sendable o.sender.next message sound.sender.next is)
 offer-by o message (Message other) e is sound =
     elim (offer-message o.sender message other e) [
-      | inl f ↦ subst (λ (x : Sending × Offer). KeepsOutgoing (after_offer o message x)) (sym f) (sound, tt)
-      | inr f ↦ subst (λ (x : Sending × Offer). KeepsOutgoing (after_offer o message x)) (sym f) (sound, tt)
+      | inl f ↦ rw f (sound, tt)
+      | inr f ↦ rw f (sound, tt)
     ]
 offer-by o message (Opening number) e is sound =
     elim (offer-opening o.sender message number e) [
-      | inl f ↦ subst (λ (x : Sending × Offer). KeepsOutgoing (after_offer o message x)) (sym f) (sound, tt)
-      | inr f ↦ subst (λ (x : Sending × Offer). KeepsOutgoing (after_offer o message x)) (sym f) (sound, tt)
+      | inl f ↦ rw f (sound, tt)
+      | inr f ↦ rw f (sound, tt)
     ]
 
 pub offer-keeps : (o : Outgoing) (message : List ℕ) → IsMessage message → IsOutgoing o → KeepsOutgoing (after_offer o message (offered o.sender message))
@@ -144,7 +143,7 @@ timeout-by : (o : Outgoing) (out : Outstanding) → o.sender.outstanding ≡ out
 unfolding after_timeout
 timeout-by o Nothing e sound =
     let c = counted-at o Nothing e sound in
-    subst (λ (x : Sending × Resend). KeepsOutgoing (after_timeout o x)) (sym (timeout-quiet o.sender (quiet-is o c).0 e)) (sound, tt)
+    rw (timeout-quiet o.sender (quiet-is o c).0 e) (sound, tt)
 timeout-by o (Message message) e sound =
     let is = message-in o.sender.outstanding message e sound.message in
     resends-keeps (IsDataOf o.sender.next message) o (Message message) (timed_out o.sender) (up-message message) e
@@ -153,7 +152,7 @@ timeout-by o (Message message) e sound =
 timeout-by o (Opening number) e sound =
     let n = number-in o.sender.outstanding number e sound.sender.outstanding in
     resends-keeps (λ packet. packet ≡ opening_packet number) o (Opening number) (timed_out o.sender) (up-opening number) e
-    (λ (packet : Packet) (is : packet ≡ opening_packet number). subst IsSendable (sym is) (opening_packet-sendable number n))
+    (λ (packet : Packet) (is : packet ≡ opening_packet number). rw is (opening_packet-sendable number n))
     (timeout-opening o.sender number e) (timeout-sending o.sender sound.sender) sound
 
 pub timeout-keeps : (o : Outgoing) → IsOutgoing o → KeepsOutgoing (after_timeout o (timed_out o.sender))
@@ -184,24 +183,23 @@ reopen-by : (o : Outgoing) (delivered : ℕ) (out : Outstanding) → o.sender.ou
 unfolding after_reopening
 reopen-by o delivered Nothing e sound =
     let c = counted-at o Nothing e sound in
-    subst (λ (x : Sending × ReopenAnswer). KeepsOutgoing (after_reopening o delivered false x)) (sym (reopen-up o.sender (quiet-is o c).0)) (sound, tt)
+    rw (reopen-up o.sender (quiet-is o c).0) (sound, tt)
 reopen-by o delivered (Message message) e sound =
     let c = message-counted o message (counted-at o (Message message) e sound) in
     let number = opening_number (Message message) o.sender.next in
     let n = four-more message o.sender.next in
     let mark = mark_of o delivered in
-    elim (reopen-cases o.sender number (ap (λ (x : Outstanding). opening_number x o.sender.next) e)) [
-      | inl f ↦ subst (λ (x : Sending × ReopenAnswer). KeepsOutgoing (after_reopening o delivered false x)) (sym f) (sound, tt)
+    elim (reopen-cases o.sender number (cc)) [
+      | inl f ↦ rw f (sound, tt)
       | inr f ↦
-          subst (λ (x : Sending × ReopenAnswer). KeepsOutgoing (after_reopening o delivered false x)) (sym f)
-          (opened-again o number (o.marks ++ mark ∷ []) n (omega (arith, c, length-append o.marks (mark ∷ []))) sound, opening_packet-sendable number n)
+          rw f (opened-again o number (o.marks ++ mark ∷ []) n (omega (arith, c, length-append o.marks (mark ∷ []))) sound, opening_packet-sendable number n)
     ]
 reopen-by o delivered (Opening number) e sound =
     let c = opening-counted o number (counted-at o (Opening number) e sound) in
     let n = number-in o.sender.outstanding number e sound.sender.outstanding in
-    elim (reopen-cases o.sender number (ap (λ (x : Outstanding). opening_number x o.sender.next) e ∙ same-number number o.sender.next)) [
-      | inl f ↦ subst (λ (x : Sending × ReopenAnswer). KeepsOutgoing (after_reopening o delivered true x)) (sym f) (sound, tt)
-      | inr f ↦ subst (λ (x : Sending × ReopenAnswer). KeepsOutgoing (after_reopening o delivered true x)) (sym f) (opened-again o number o.marks n c sound, opening_packet-sendable number n)
+    elim (reopen-cases o.sender number (cc (same-number number o.sender.next))) [
+      | inl f ↦ rw f (sound, tt)
+      | inr f ↦ rw f (opened-again o number o.marks n c sound, opening_packet-sendable number n)
     ]
 
 pub reopen-keeps : (o : Outgoing) (delivered : ℕ) → IsOutgoing o → KeepsOutgoing (after_reopening o delivered (is_opening o.sender.outstanding) (reopened o.sender))
@@ -242,19 +240,19 @@ message-keeps : (o : Outgoing) (message : List ℕ) (packet : Packet) (x : Sendi
     IsOutgoing o → KeepsOutgoing (after_answer o x)
 unfolding after_answer
 message-keeps o message packet x e (goes_on a is) sending sound =
-    subst (λ (y : Sending × SenderHeard). KeepsOutgoing (after_answer o y)) (sym is) (acknowledged-keeps o (message-counted o message (counted-at o (Message message) e sound)), tt)
+    rw is (acknowledged-keeps o (message-counted o message (counted-at o (Message message) e sound)), tt)
 message-keeps o message packet x e (stays stay) sending sound = stays-keeps o message x e stay sending sound
 
 waiting-keeps : (o : Outgoing) (number : ℕ) (packet : Packet) (x : Sending × SenderHeard)
     → o.sender.outstanding ≡ Opening number → HearsOpening o.sender number packet x → IsOutgoing o → KeepsOutgoing (after_answer o x)
 unfolding after_answer
 waiting-keeps o number packet x e (opens a is) sound =
-    subst (λ (y : Sending × SenderHeard). KeepsOutgoing (after_answer o y)) (sym is) (open-keeps o number (opening-counted o number (counted-at o (Opening number) e sound)), tt)
-waiting-keeps o number packet x e (waits is) sound = subst (λ (y : Sending × SenderHeard). KeepsOutgoing (after_answer o y)) (sym is) (sound, tt)
+    rw is (open-keeps o number (opening-counted o number (counted-at o (Opening number) e sound)), tt)
+waiting-keeps o number packet x e (waits is) sound = rw is (sound, tt)
 
 answer-by : (o : Outgoing) (packet : Packet) (out : Outstanding) → o.sender.outstanding ≡ out → IsOutgoing o → KeepsOutgoing (after_answer o (sender_heard o.sender packet))
 unfolding after_answer
-answer-by o packet Nothing e sound = subst (λ (y : Sending × SenderHeard). KeepsOutgoing (after_answer o y)) (sym (quiet-answer o.sender packet e)) (sound, tt)
+answer-by o packet Nothing e sound = rw (quiet-answer o.sender packet e) (sound, tt)
 answer-by o packet (Message message) e sound = message-keeps o message packet
     (sender_heard o.sender packet) e (message-answer o.sender message packet e) (heard-sending o.sender packet sound.sender) sound
 answer-by o packet (Opening number) e sound = waiting-keeps o number packet (sender_heard o.sender packet) e (opening-answer o.sender number packet e) sound

@@ -9,7 +9,7 @@ confirmed_head-llid full blocks pad number = refl
 
 pub confirmed_head-syn : (full : Bool) (blocks pad number : ℕ) → number < 8 → head_syn (confirmed_head 1 full blocks pad number) ≡ false
 unfolding head_syn confirmed_head
-confirmed_head-syn full blocks pad number h = let e : (16 * number + 8) / 128 ≡ 0 = omega arith in ap (λ (n : ℕ). eqb n 1) e
+confirmed_head-syn full blocks pad number h = let e : (16 * number + 8) / 128 ≡ 0 = omega arith in cc
 
 pub confirmed_head-number : (full : Bool) (blocks pad number : ℕ) → number < 8 → head_number (confirmed_head 1 full blocks pad number) ≡ number
 unfolding head_number confirmed_head
@@ -26,8 +26,8 @@ confirmed_head-blocks false blocks pad number h = omega arith
 
 pub confirmed_head-full : (full : Bool) (blocks pad number : ℕ) → blocks < 128 → head_is_full (confirmed_head 1 full blocks pad number) ≡ full
 unfolding head_is_full confirmed_head
-confirmed_head-full true blocks pad number h = let e : (128 + blocks) / 128 ≡ 1 = omega arith in ap (λ (n : ℕ). eqb n 1) e
-confirmed_head-full false blocks pad number h = let e : (0 + blocks) / 128 ≡ 0 = omega arith in ap (λ (n : ℕ). eqb n 1) e
+confirmed_head-full true blocks pad number h = let e : (128 + blocks) / 128 ≡ 1 = omega arith in cc
+confirmed_head-full false blocks pad number h = let e : (0 + blocks) / 128 ≡ 0 = omega arith in cc
 
 -- the header of an opening packet
 pub opening_head-llid : (number : ℕ) → head_llid (opening_head 1 number) ≡ 1
@@ -36,7 +36,7 @@ opening_head-llid number = refl
 
 pub opening_head-syn : (number : ℕ) → number < 8 → head_syn (opening_head 1 number) ≡ true
 unfolding head_syn opening_head
-opening_head-syn number h = let e : (0x88 + 16 * number) / 128 ≡ 1 = omega arith in ap (λ (n : ℕ). eqb n 1) e
+opening_head-syn number h = let e : (0x88 + 16 * number) / 128 ≡ 1 = omega arith in cc
 
 pub opening_head-number : (number : ℕ) → number < 8 → head_number (opening_head 1 number) ≡ number
 unfolding head_number opening_head

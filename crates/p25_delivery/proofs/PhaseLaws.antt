@@ -95,26 +95,26 @@ orderly-waiting : (s : Session) (message : List ℕ) → s.sent ≡ s.delivered 
 orderly-waiting s message sent a = record { rest = message ∷ []; beginning = sent; acknowledged = omega arith; delivered = omega arith }
 
 orderly-arrived : (s : Session) → s.delivered ≡ s.sent → s.acknowledged ≤ length s.delivered → length s.delivered ≤ s.acknowledged + 1 → IsOrderly s
-orderly-arrived s d a m = record { rest = []; beginning = sym d ∙ sym (append-nil s.delivered); acknowledged = a; delivered = m }
+orderly-arrived s d a m = record { rest = []; beginning = cc (append-nil s.delivered); acknowledged = a; delivered = m }
 
 orderly-busy : (number : ℕ) (message : List ℕ) (s : Session) (r : Receiving) (answered : Option Packet) → IsWaiting number message s r answered ⊎ IsArrived number message s r answered → IsOrderly s
 orderly-busy number message s r answered (inl h) = orderly-waiting s message h.sent h.acknowledged
 orderly-busy number message s r answered (inr h) =
-    let count : length s.delivered ≡ length h.earlier + 1 = ap length (h.delivered ∙ h.sent) ∙ length-append h.earlier (message ∷ []) in
+    let count : length s.delivered ≡ length h.earlier + 1 = cc (length-append h.earlier (message ∷ [])) in
     orderly-arrived s h.delivered (omega (arith, count, h.acknowledged)) (omega (arith, count, h.acknowledged))
 
 pub orderly-delivering : (b : ℕ) (s : Session) (w : Delivery) → IsDelivering b s w → IsOrderly s
 orderly-delivering b s w (quiet last q) = orderly-arrived s q.delivered (omega (arith, q.acknowledged, ap length q.delivered)) (omega (arith, q.acknowledged, ap length q.delivered))
 orderly-delivering b s w (busy number message h) = orderly-busy number message s w.inbound.receiver w.answer h.place
 orderly-delivering b s w (opening number h) =
-    orderly-arrived s (ap (λ (t : Session). t.delivered) h.session_is ∙ sym (ap (λ (t : Session). t.sent) h.session_is))
+    orderly-arrived s (cc)
     (omega (arith, ap (λ (t : Session). t.acknowledged) h.session_is)) (omega (arith, ap (λ (t : Session). length t.delivered) h.session_is))
 
 -- all sessions are, where those that have ended are
 
 pub orderly-divided : (w : Delivery) → IsDivided IsOrderly w → IsOrderly (present_session w) → AreOrderly (sessions_of w)
 orderly-divided w d o =
-    subst AreOrderly (sym (sessions-split w)) (each-all IsOrderly (ended_sessions w ++ present_session w ∷ []) (All-push IsOrderly (ended_sessions w) (present_session w) d.1 o))
+    rw (sessions-split w) (each-all IsOrderly (ended_sessions w ++ present_session w ∷ []) (All-push IsOrderly (ended_sessions w) (present_session w) d.1 o))
 
 pub orderly-kept : (w : Delivery) → IsKept w → AreOrderly (sessions_of w)
 orderly-kept w k = orderly-divided w k.divided (orderly-delivering (first_number w) (present_session w) w k.delivering)

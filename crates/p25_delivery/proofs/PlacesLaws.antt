@@ -29,11 +29,11 @@ put_slots-append places (Good block ∷ xs) ys = put_slots-append (put_block pla
 pub put_slots-good : (places : List (Option BlockParts)) (slots : List Slot) (j : ℕ) (block : BlockParts)
     → slice_get slots j ≡ Some (Good block) → put_slots places (take (j + 1) slots) ≡ put_block (put_slots places (take j slots)) block
 unfolding put_slots
-put_slots-good places slots j block e = ap (put_slots places) (take_get slots j (Good block) e) ∙ put_slots-append places (take j slots) (Good block ∷ [])
+put_slots-good places slots j block e = cc (take_get slots j (Good block) e, put_slots-append places (take j slots) (Good block ∷ []))
 
 pub put_slots-bad : (places : List (Option BlockParts)) (slots : List Slot) (j : ℕ) → slice_get slots j ≡ Some Bad → put_slots places (take (j + 1) slots) ≡ put_slots places (take j slots)
 unfolding put_slots
-put_slots-bad places slots j e = ap (put_slots places) (take_get slots j Bad e) ∙ put_slots-append places (take j slots) (Bad ∷ [])
+put_slots-bad places slots j e = cc (take_get slots j Bad e, put_slots-append places (take j slots) (Bad ∷ []))
 
 -- no slots put nothing
 pub put_slots-nil : (places : List (Option BlockParts)) → put_slots places [] ≡ places
@@ -50,22 +50,21 @@ both_octets-nil None = refl
 both_octets-nil (Some octets) = refl
 
 both_octets-before : (first : List ℕ) (some others : Option (List ℕ)) → before_octets first (both_octets some others) ≡ both_octets (before_octets first some) others
-both_octets-before first (Some octets) (Some more) = ap (λ (xs : List ℕ). Some xs) (sym (append_assoc first octets more))
+both_octets-before first (Some octets) (Some more) = cc (append_assoc first octets more)
 both_octets-before first some others = refl
 
 pub all_octets-append : (xs ys : List (Option BlockParts)) → all_octets (xs ++ ys) ≡ both_octets (all_octets xs) (all_octets ys)
 unfolding all_octets
 all_octets-append [] ys = sym (both_octets-nil (all_octets ys))
 all_octets-append (None ∷ xs) ys = refl
-all_octets-append (Some block ∷ xs) ys = ap (before_octets block.octets) (all_octets-append xs ys) ∙ both_octets-before block.octets (all_octets xs) (all_octets ys)
+all_octets-append (Some block ∷ xs) ys = cc (all_octets-append xs ys, both_octets-before block.octets (all_octets xs) (all_octets ys))
 
 -- one more place of which the block is held
 pub all_octets-more : (places : List (Option BlockParts)) (i : ℕ) (block : BlockParts) (octets : List ℕ) → slice_get places i ≡ Some (Some block) → all_octets (take i places) ≡ Some octets →
     all_octets (take (i + 1) places) ≡ Some (octets ++ block.octets)
 unfolding all_octets
 all_octets-more places i block octets e f =
-    ap all_octets (take_get places i (Some block) e) ∙ all_octets-append (take i places) (Some block ∷ []) ∙ ap (λ (o : Option (List ℕ)). both_octets o (before_octets block.octets (Some []))) f ∙
-    ap (λ (xs : List ℕ). Some (octets ++ xs)) (append-nil block.octets)
+    cc (take_get places i (Some block) e, all_octets-append (take i places) (Some block ∷ []), append-nil block.octets)
 
 -- no octets where a place is empty
 pub all_octets-empty : (places : List (Option BlockParts)) (i : ℕ) → slice_get places i ≡ Some None → all_octets places ≡ None

@@ -24,7 +24,7 @@ put_block-keeps : (message : List ℕ) (places : List (Option BlockParts)) (bloc
     (get_or places j None ≡ Some (message_block message j)) → (get_or (put_block places block) j None ≡ None) ⊎ (get_or (put_block places block) j None ≡ Some (message_block message j))
 put_block-keeps message places block j h b held =
     elim (cases_eq block.serial j) [
-      | inl e ↦ inr (put_block-here places block j h e ∙ ap (λ (x : BlockParts). Some x) b ∙ ap (λ (k : ℕ). Some (message_block message k)) e)
+      | inl e ↦ inr (cc (put_block-here places block j h e))
       | inr n ↦ elim held [ inl e ↦ inl (put_block-other places block j n ∙ e) | inr e ↦ inr (put_block-other places block j n ∙ e) ]
     ]
 
@@ -52,14 +52,14 @@ whole-places message kept octets k e =
     = λ (j : ℕ) (h : j < block_count (length message)).
     elim (k.held j h) [
       | inl empty ↦
-          (let here : slice_get kept.places j ≡ Some None = slice_get-get_or kept.places j None (omega (arith, k.count)) ∙ ap (λ (x : Option BlockParts). Some x) empty in
-          let gone : None ≡ Some octets = sym (all_octets-empty kept.places j here) ∙ e in
+          (let here : slice_get kept.places j ≡ Some None = cc (slice_get-get_or kept.places j None (omega (arith, k.count))) in
+          let gone : None ≡ Some octets = cc (all_octets-empty kept.places j here) in
           cc)
       | inr held ↦ held
     ] in
     let all : Some octets ≡ Some (message_octets message) = sym e ∙ places-of_message message kept.places k.count each in
     let same : octets ≡ message_octets message = cc in
-    ap₂ unpadded same k.pad_is ∙ message-read_back message
+    cc (message-read_back message)
 
 -- what is kept while a packet of the message is heard
 keeping-keeps : (message : List ℕ) (kept : Option Keeping) → IfSome kept (KeepsOf message) → KeepsOf message (keeping_full kept (block_count (length message)) (pad_count (length message)))
@@ -68,7 +68,7 @@ keeping-keeps message None k = empty-keeps message
 keeping-keeps message (Some kept) k =
     let same : (eqb (length kept.places) (block_count (length message)) && eqb kept.pad (pad_count (length message))) ≡ true
     = and_from _ _ (eq-eqb (length kept.places) (block_count (length message)) k.count) (eq-eqb kept.pad (pad_count (length message)) k.pad_is) in
-    subst (KeepsOf message) (sym (cond-true _ kept (empty_places (block_count (length message)) (pad_count (length message))) same)) k
+    rw (cond-true _ kept (empty_places (block_count (length message)) (pad_count (length message))) same) k
 
 kept-by_full : (message : List ℕ) (kept : Option Keeping) (number : ℕ) (packet : ConfirmedParts) (full : Bool)
     → CarriesData number message packet → IfSome kept (KeepsOf message) → head_is_full packet.head ≡ full →
@@ -79,8 +79,8 @@ kept-by_full message kept number packet true c k e =
     let some : eqb (head_blocks packet.head) 0 ≡ false = ne_eqb (head_blocks packet.head) 0 (λ z. absurd (omega (arith, z, blocks))) in
     let is : cond (eqb (head_blocks packet.head) 0) None (Some (keeping_full kept (head_blocks packet.head) (head_pad packet.head)))
     ≡ Some (keeping_full kept (block_count (length message)) (pad_count (length message)))
-    = cond-false _ None (Some (keeping_full kept (head_blocks packet.head) (head_pad packet.head))) some ∙ ap₂ (λ (m n : ℕ). Some (keeping_full kept m n)) blocks c.pad in
-    subst (λ (o : Option Keeping). IfSome o (KeepsOf message)) (sym is) (keeping-keeps message kept k)
+    = cc (cond-false _ None (Some (keeping_full kept (head_blocks packet.head) (head_pad packet.head))) some) in
+    rw is (keeping-keeps message kept k)
 
 keeping_for-keeps : (message : List ℕ) (kept : Option Keeping) (number : ℕ) (packet : ConfirmedParts)
     → CarriesData number message packet → IfSome kept (KeepsOf message) → IfSome (keeping_for kept packet.head) (KeepsOf message)
@@ -110,8 +110,7 @@ unfolding filled
 hears-filled r number message packet None c k = ignores refl
 hears-filled r number message packet (Some kept) c k =
     let now : Keeping = record { places = put_slots kept.places packet.slots; pad = kept.pad } in
-    subst (λ (n : ℕ). HearsNext r number message (completed r n now (all_octets now.places)))
-    (sym c.number_is) (hears-completed r number message now (all_octets now.places) (slots-keep message packet.slots kept c.blocks k) refl)
+    rw c.number_is (hears-completed r number message now (all_octets now.places) (slots-keep message packet.slots kept c.blocks k) refl)
 
 -- a packet of data is not one with Syn
 pub data-is_heard : (r : Receiving) (number : ℕ) (message : List ℕ) (packet : ConfirmedParts) → CarriesData number message packet → receiver_heard r (Confirmed packet) ≡ data_heard r packet
@@ -127,26 +126,25 @@ pub next-heard : (r : Receiving) (number : ℕ) (message : List ℕ) (packet : C
 unfolding data_heard
 next-heard r number message packet small sync kept c =
     let other : eqb (head_number packet.head) r.last ≡ false = ne_eqb (head_number packet.head) r.last (λ e. absurd (omega (arith, e, sync, c.number_is, small))) in
-    let next : eqb (head_number packet.head) ((r.last + 1) % 8) ≡ true = eq-eqb (head_number packet.head) ((r.last + 1) % 8) (c.number_is ∙ sym sync) in
+    let next : eqb (head_number packet.head) ((r.last + 1) % 8) ≡ true = eq-eqb (head_number packet.head) ((r.last + 1) % 8) (cc) in
     let is : receiver_heard r (Confirmed packet) ≡ filled r packet (keeping_for r.kept packet.head)
     = data-is_heard r number message packet c ∙ cond-false _ _ _ other ∙ cond-true _ _ _ next in
-    subst (HearsNext r number message) (sym is) (hears-filled r number message packet (keeping_for r.kept packet.head) c (keeping_for-keeps message r.kept number packet c kept))
+    rw is (hears-filled r number message packet (keeping_for r.kept packet.head) c (keeping_for-keeps message r.kept number packet c kept))
 
 -- blocks of the last message again
 pub last-heard : (r : Receiving) (number : ℕ) (message : List ℕ) (packet : ConfirmedParts)
     → r.last ≡ number → CarriesData number message packet → receiver_heard r (Confirmed packet) ≡ (r, Again r.last (ack_packet r.last))
 unfolding data_heard
 last-heard r number message packet last c =
-    data-is_heard r number message packet c ∙ cond-true _ _ _ (eq-eqb (head_number packet.head) r.last (c.number_is ∙ sym last))
+    data-is_heard r number message packet c ∙ cond-true _ _ _ (eq-eqb (head_number packet.head) r.last (cc))
 
 -- an opening packet
 pub opening-is_heard : (r : Receiving) (number : ℕ) (packet : ConfirmedParts) → number < 8 → packet.head ≡ opening_head 1 number →
     receiver_heard r (Confirmed packet) ≡ (record { last = number; kept = None }, Opened number (ack_packet number))
 unfolding receiver_heard opening_heard
 opening-is_heard r number packet small e =
-    let llid : head_llid packet.head ≡ 1 = ap head_llid e ∙ opening_head-llid number in
-    let syn : head_syn packet.head ≡ true = ap head_syn e ∙ opening_head-syn number small in
-    let none : head_blocks packet.head ≡ 0 = ap head_blocks e ∙ opening_head-blocks number in
-    let is : head_number packet.head ≡ number = ap head_number e ∙ opening_head-number number small in
-    cond-true _ _ _ (eq-eqb (head_llid packet.head) 1 llid) ∙ cond-true _ _ _ syn
-    ∙ cond-true _ _ _ (eq-eqb (head_blocks packet.head) 0 none) ∙ ap (λ (n : ℕ). (record { last = n; kept = None }, Opened n (ack_packet n))) is
+    let llid : head_llid packet.head ≡ 1 = cc (opening_head-llid number) in
+    let syn : head_syn packet.head ≡ true = cc (opening_head-syn number small) in
+    let none : head_blocks packet.head ≡ 0 = cc (opening_head-blocks number) in
+    let is : head_number packet.head ≡ number = cc (opening_head-number number small) in
+    cc (cond-true _ _ _ (eq-eqb (head_llid packet.head) 1 llid), cond-true _ _ _ syn, cond-true _ _ _ (eq-eqb (head_blocks packet.head) 0 none))

@@ -7,7 +7,7 @@ use Rattle.p25_messages.specs.declared.answers.Heard.{Heard}
 -- of what was kept before, a message that is finished leaves V(R) alone
 pub finished-last : (r s : Receiving) (number : ℕ) (message : Option (List ℕ)) → s.last ≡ r.last → finished s number message ≡ finished r number message
 unfolding finished
-finished-last r s number None e = ap (λ (n : ℕ). finished (record { last = n; kept = None }) number None) e
+finished-last r s number None e = cc
 finished-last r s number (Some message) e = refl
 
 -- all places are held
@@ -19,7 +19,7 @@ pub filled-whole : (r s : Receiving) (packet : ConfirmedParts) (kept : Keeping)
 unfolding filled completed
 filled-whole r s packet kept slots places octets number pad message answer l e p o n d m a =
     let held : all_octets (put_slots kept.places packet.slots) ≡ Some octets
-    = ap (λ (xs : List Slot). all_octets (put_slots kept.places xs)) (sym e) ∙ ap all_octets (sym p) ∙ sym o in
+    = cc in
     let whole : Option (List ℕ) → Receiving × Heard
     = λ (found : Option (List ℕ)). completed r (head_number packet.head) (record { places = put_slots kept.places packet.slots; pad = kept.pad }) found in
-    a ∙ finished-last r s number message l ∙ ap (λ (k : ℕ). finished r k message) n ∙ ap (finished r (head_number packet.head)) (m ∙ ap (unpadded octets) d) ∙ ap whole (sym held)
+    cc (finished-last r s number message l)

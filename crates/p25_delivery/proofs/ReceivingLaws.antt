@@ -30,7 +30,7 @@ unfolding held_flags
 held-flags places few =
     let n = length places in
     let all : length (map is_some places ++ replicate (flag_count n - n) false) ≡ n + (flag_count n - n)
-    = length-append (map is_some places) (replicate (flag_count n - n) false) ∙ ap₂ (λ (a b : ℕ). a + b) (length-map places is_some) (length-replicate {A = Bool} (flag_count n - n) false) in
+    = cc (length-append (map is_some places) (replicate (flag_count n - n) false), length-map places is_some, length-replicate {A = Bool} (flag_count n - n) false) in
     elim (cases_lt 64 n) [
       | inl more ↦
           (let count : flag_count n ≡ 128 = cond-false (nat_le n 64) 64 128 (false_from_ne_true _ (λ fits. omega (arith, more, leb-true _ _ fits))) in

@@ -33,7 +33,7 @@ run-append step w (x ∷ xs) ys = run-append step (step w x).0 xs ys
 pub steps-append : {W E S : Type 0} (step : W → E → W × S) (w : W) (xs ys : List E) → steps_by step w (xs ++ ys) ≡ steps_by step w xs ++ steps_by step (run_by step w xs) ys
 unfolding run_by steps_by
 steps-append step w [] ys = refl
-steps-append {W} {E} {S} step w (x ∷ xs) ys = ap (λ (steps : List S). (step w x).1 ∷ steps) (steps-append step (step w x).0 xs ys)
+steps-append {W} {E} {S} step w (x ∷ xs) ys = cc (steps-append step (step w x).0 xs ys)
 
 -- events one after the other that each meet a condition at their moment do so together
 pub meet-append : {W E S : Type 0} (step : W → E → W × S) (Meets : W → E → Type 0) (w : W) (xs ys : List E)

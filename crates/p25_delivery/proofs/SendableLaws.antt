@@ -125,7 +125,7 @@ unfolding IsSendable
 confirmed-sendable full pad number slots count e b p n all =
     let blocks : head_blocks (confirmed_head 1 full count pad number) ≡ count = confirmed_head-blocks full count pad number b in
     record {
-      kind = record { format = confirmed_head-format full count pad number; count = e ∙ sym blocks };
+      kind = record { format = confirmed_head-format full count pad number; count = cc };
       head = confirmed_head-is_head full count pad number b p n;
       good = blocks-from_all slots (head_blocks (confirmed_head 1 full count pad number)) (omega (arith, e, blocks)) all;
     }
@@ -200,7 +200,7 @@ retry-sendable status flags blocks s l few many =
       kind =
           record {
             format = inr (response_head-format 2 0 status blocks);
-            count = length-flag_octets flags (flag_octets flags) blocks refl l few many ∙ ap (λ (n : ℕ). 12 * n - 4) (sym (response_head-blocks 2 0 status blocks small));
+            count = cc (length-flag_octets flags (flag_octets flags) blocks refl l few many, response_head-blocks 2 0 status blocks small);
           };
       head = response_head-is_head 2 0 status blocks (omega arith) (omega arith) s small;
       small = flag_octets-small flags;

@@ -24,19 +24,19 @@ pub record IsSame (s t : Sending) : Type 0 where
 pub offer-quiet : (s : Sending) (message : List ℕ) → s.down ≡ false → s.outstanding ≡ Nothing →
     offered s message ≡ (record { next = s.next; outstanding = Message message; tries = 1; down = false }, Taken s.next (block_count (length message)) (message_packet s.next message))
 unfolding offered offered_beside
-offer-quiet s message d o = cond-false s.down _ _ d ∙ ap (λ (out : Outstanding). offered_beside out s message) o
+offer-quiet s message d o = cc (cond-false s.down _ _ d)
 
 pub offer-message : (s : Sending) (message other : List ℕ) → s.outstanding ≡ Message other → (offered s message ≡ (s, Busy)) ⊎ (offered s message ≡ (s, OfferDown))
 unfolding offered offered_beside
 offer-message s message other o =
-    let busy : offered_beside s.outstanding s message ≡ (s, Busy) = ap (λ (out : Outstanding). offered_beside out s message) o in
+    let busy : offered_beside s.outstanding s message ≡ (s, Busy) = cc in
     elim s.down as (λ (b : Bool). (cond b (s, OfferDown) (offered_beside s.outstanding s message) ≡ (s, Busy))
     ⊎ (cond b (s, OfferDown) (offered_beside s.outstanding s message) ≡ (s, OfferDown))) [ true ↦ inr refl | false ↦ inl busy ]
 
 pub offer-opening : (s : Sending) (message : List ℕ) (number : ℕ) → s.outstanding ≡ Opening number → (offered s message ≡ (s, Busy)) ⊎ (offered s message ≡ (s, OfferDown))
 unfolding offered offered_beside
 offer-opening s message number o =
-    let busy : offered_beside s.outstanding s message ≡ (s, Busy) = ap (λ (out : Outstanding). offered_beside out s message) o in
+    let busy : offered_beside s.outstanding s message ≡ (s, Busy) = cc in
     elim s.down as (λ (b : Bool). (cond b (s, OfferDown) (offered_beside s.outstanding s message) ≡ (s, Busy))
     ⊎ (cond b (s, OfferDown) (offered_beside s.outstanding s message) ≡ (s, OfferDown))) [ true ↦ inr refl | false ↦ inl busy ]
 
@@ -62,7 +62,7 @@ resent-of P s number packet p =
 pub timeout-of : (P : Packet → Type 0) (s : Sending) (out : Outstanding) → s.outstanding ≡ out → Resends P s (timed_out_with out s) → Resends P s (timed_out s)
 unfolding timed_out
 timeout-of P s out o h =
-    let here = subst (λ (x : Outstanding). Resends P s (timed_out_with x s)) (sym o) h in
+    let here = rw (← o) at h in
     elim s.down as (λ (b : Bool). Resends P s (cond b (s, ResendDown) (timed_out_with s.outstanding s))) [
       | true ↦ (record { next = refl; outstanding = refl }, tt)
       | false ↦ here
@@ -78,7 +78,7 @@ timeout-opening s number o = timeout-of (λ packet. packet ≡ opening_packet nu
 
 pub timeout-quiet : (s : Sending) → s.down ≡ false → s.outstanding ≡ Nothing → timed_out s ≡ (s, Idle)
 unfolding timed_out timed_out_with
-timeout-quiet s d o = cond-false s.down _ _ d ∙ ap (λ (out : Outstanding). timed_out_with out s) o
+timeout-quiet s d o = cc (cond-false s.down _ _ d)
 
 -- a reopening
 
@@ -160,7 +160,7 @@ hears-asked : (s : Sending) (message : List ℕ) (response : PlainParts) (b : Bo
     → is_ack response.head s.next ≡ b → HearsAnswer s message (Plain response) (answered (asked_of s.next (block_count (length message)) response) s message)
 unfolding acks asked_of
 hears-asked s message response true e =
-    goes_on e (ap (λ (asked : Asked). answered asked s message) (cond-true (is_ack response.head s.next) NextMessage _ e) ∙ (goes s message))
+    goes_on e (cc (cond-true (is_ack response.head s.next) NextMessage _ e, goes s message))
 hears-asked s message response false e =
     let blocks = block_count (length message) in
     let flags = asked_by_flags blocks (flags_of_octets response.octets) in
@@ -171,7 +171,7 @@ hears-asked s message response false e =
     = elim (is_retry response.head s.next) as (λ (b : Bool). Stays s message
     (answered (cond b flags (cond (is_crc_nack response.head s.next) WholeMessage NothingAsked)) s message))
     [ true ↦ stays-flags s message blocks (flags_of_octets response.octets) | false ↦ last ] in
-    stays (subst (λ (asked : Asked). Stays s message (answered asked s message)) (sym (cond-false (is_ack response.head s.next) NextMessage _ e)) rest)
+    stays (rw (cond-false (is_ack response.head s.next) NextMessage _ e) rest)
 
 pub message-answer : (s : Sending) (message : List ℕ) (packet : Packet) → s.outstanding ≡ Message message → HearsAnswer s message packet (sender_heard s packet)
 unfolding sender_heard response_heard
@@ -200,7 +200,7 @@ unfolding sender_heard
 opening-answer s number (Confirmed packet) o = waits refl
 opening-answer s number (Plain packet) o =
     let heard : HearsOpening s number (Plain packet) (response_heard s.outstanding s packet)
-    = subst (λ (out : Outstanding). HearsOpening s number (Plain packet) (response_heard out s packet)) (sym o) (opening-response s number packet (is_ack packet.head number) refl) in
+    = rw (← o) at (opening-response s number packet (is_ack packet.head number) refl) in
     let ours : HearsOpening s number (Plain packet) (cond (is_response packet.head) (response_heard s.outstanding s packet) (s, Ignored))
     = elim (is_response packet.head) as (λ (b : Bool). HearsOpening s number (Plain packet) (cond b (response_heard s.outstanding s packet) (s, Ignored))) [ true ↦ heard | false ↦ waits refl ] in
     elim s.down as (λ (b : Bool). HearsOpening s number (Plain packet)
@@ -211,7 +211,7 @@ pub quiet-answer : (s : Sending) (packet : Packet) → s.outstanding ≡ Nothing
 unfolding sender_heard response_heard
 quiet-answer s (Confirmed packet) o = refl
 quiet-answer s (Plain packet) o =
-    let heard : response_heard s.outstanding s packet ≡ (s, Ignored) = ap (λ (out : Outstanding). response_heard out s packet) o in
+    let heard : response_heard s.outstanding s packet ≡ (s, Ignored) = cc in
     let ours : cond (is_response packet.head) (response_heard s.outstanding s packet) (s, Ignored) ≡ (s, Ignored)
     = elim (is_response packet.head) as (λ (b : Bool). cond b (response_heard s.outstanding s packet) (s, Ignored) ≡ (s, Ignored)) [ true ↦ heard | false ↦ refl ] in
     elim s.down as (λ (b : Bool). cond b (s, Ignored) (cond (is_response packet.head) (response_heard s.outstanding s packet) (s, Ignored)) ≡ (s, Ignored)) [ true ↦ refl | false ↦ ours ]

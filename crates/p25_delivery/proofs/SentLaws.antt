@@ -36,11 +36,11 @@ unfolding AreBlocksOf
 no-blocks message = tt
 
 pub all-blocks : (message : List ℕ) (n : ℕ) → AreBlocksOf message (map good_slot (each_below n (message_block message)))
-all-blocks message zero = subst (λ (xs : List BlockParts). AreBlocksOf message (map good_slot xs)) (sym (each_below-zero (message_block message))) (no-blocks message)
+all-blocks message zero = rw (each_below-zero (message_block message)) (no-blocks message)
 all-blocks message (suc n) =
     let split : map good_slot (each_below (suc n) (message_block message)) ≡ map good_slot (each_below n (message_block message)) ++ good_slot (message_block message n) ∷ []
-    = ap (λ (xs : List BlockParts). map good_slot xs) (each_below-suc n (message_block message)) ∙ map-append good_slot (each_below n (message_block message)) (message_block message n ∷ []) in
-    subst (AreBlocksOf message) (sym split) (AreBlocksOf-append message
+    = cc (each_below-suc n (message_block message), map-append good_slot (each_below n (message_block message)) (message_block message n ∷ [])) in
+    rw split (AreBlocksOf-append message
     (map good_slot (each_below n (message_block message))) (good_slot (message_block message n) ∷ []) (all-blocks message n) (one-block message n))
 
 -- what the block of a serial number adds to the slots that are wanted
@@ -57,14 +57,13 @@ some-block message wanted serial =
 
 some-blocks : (message : List ℕ) (wanted : List Bool) (n : ℕ) → AreBlocksOf message (joined_below n (wanted_slot message wanted)) × (length (joined_below n (wanted_slot message wanted)) ≤ n)
 some-blocks message wanted zero =
-    subst (λ (xs : List Slot). AreBlocksOf message xs × (length xs ≤ 0)) (sym (joined_below-zero (wanted_slot message wanted))) (no-blocks message, omega arith)
+    rw (joined_below-zero (wanted_slot message wanted)) (no-blocks message, omega arith)
 some-blocks message wanted (suc n) =
     let before = some-blocks message wanted n in
     let more = some-block message wanted n in
     let xs = joined_below n (wanted_slot message wanted) in
     let ys = wanted_slot message wanted n in
-    subst (λ (zs : List Slot). AreBlocksOf message zs × (length zs ≤ suc n)) (sym (joined_below-suc n (wanted_slot message wanted)))
-    (AreBlocksOf-append message xs ys before.0 more.0, omega (arith, length-append xs ys, before.1, more.1))
+    rw (joined_below-suc n (wanted_slot message wanted)) (AreBlocksOf-append message xs ys before.0 more.0, omega (arith, length-append xs ys, before.1, more.1))
 
 -- slots that are true to blocks of a message are such blocks, or Bad
 true-blocks : (message : List ℕ) (sent heard : List Slot) → AreTrueSlots sent heard → AreBlocksOf message sent → AreBlocksOf message heard
@@ -77,7 +76,7 @@ true-blocks message (Bad ∷ sent) (Good block ∷ heard) (inr e, t) a = cc
 true-blocks message (Good was ∷ sent) (Good block ∷ heard) (inl e, t) a = cc
 true-blocks message (Good was ∷ sent) (Good block ∷ heard) (inr e, t) a =
     let same : block ≡ was = cc in
-    (subst (λ (b : BlockParts). b ≡ message_block message b.serial) (sym same) a.0, true-blocks message sent heard t a.1)
+    (rw same a.0, true-blocks message sent heard t a.1)
 true-blocks message sent heard t a = absurd t
 
 -- a confirmed packet is heard as one
@@ -91,16 +90,16 @@ pub plain-heard : (sent heard : Packet) (plain : PlainParts) → sent ≡ Plain 
 unfolding IsTrueTo
 plain-heard (Confirmed sent) heard plain e t = cc
 plain-heard (Plain sent) (Confirmed heard) plain e t = absurd t
-plain-heard (Plain sent) (Plain heard) plain e t = ap (λ (p : PlainParts). Plain p) t
+plain-heard (Plain sent) (Plain heard) plain e t = cc
 
 CarriesData-true : (number : ℕ) (message : List ℕ) (sent packet : ConfirmedParts)
     → CarriesData number message sent → packet.head ≡ sent.head → AreTrueSlots sent.slots packet.slots → CarriesData number message packet
 CarriesData-true number message sent packet c h t = record {
-  llid = ap head_llid h ∙ c.llid;
-  syn = ap head_syn h ∙ c.syn;
-  number_is = ap head_number h ∙ c.number_is;
-  pad = ap head_pad h ∙ c.pad;
-  full = λ f. ap head_blocks h ∙ c.full (sym (ap head_is_full h) ∙ f);
+  llid = cc;
+  syn = cc;
+  number_is = cc;
+  pad = cc;
+  full = λ f. cc (c.full (cc));
   blocks = true-blocks message sent.slots packet.slots t c.blocks;
 }
 
@@ -138,7 +137,7 @@ blocks-carry number message wanted n l =
       syn = confirmed_head-syn false count pad number n;
       number_is = confirmed_head-number false count pad number n;
       pad = confirmed_head-pad false count pad number small.1;
-      full = λ f. absurd (false≢true (sym (confirmed_head-full false count pad number few) ∙ f));
+      full = λ f. absurd (false≢true (cc (confirmed_head-full false count pad number few)));
       blocks = some.0;
     }
 
@@ -149,11 +148,11 @@ pub data-heard : (number : ℕ) (message : List ℕ) (sent heard : Packet)
 unfolding IsDataOf message_packet blocks_packet
 data-heard number message sent heard n l (inl e) t =
     let whole : ConfirmedParts = record { head = confirmed_head 1 true (block_count (length message)) (pad_count (length message)) number; slots = map good_slot (message_blocks message) } in
-    let h = confirmed-heard whole heard (subst (λ (p : Packet). IsTrueTo p heard) e t) in
+    let h = confirmed-heard whole heard (rw e at t) in
     (h.0, h.1, CarriesData-true number message whole h.0 (whole-carries number message n l) h.2 h.3)
 data-heard number message sent heard n l (inr (wanted, e)) t =
     let some : ConfirmedParts = record { head = confirmed_head 1 false (length (wanted_slots message wanted)) (pad_count (length message)) number; slots = wanted_slots message wanted } in
-    let h = confirmed-heard some heard (subst (λ (p : Packet). IsTrueTo p heard) e t) in
+    let h = confirmed-heard some heard (rw e at t) in
     (h.0, h.1, CarriesData-true number message some h.0 (blocks-carry number message wanted n l) h.2 h.3)
 
 -- what is heard of an opening packet
@@ -162,7 +161,7 @@ pub opening-packet_heard : (number : ℕ) (sent heard : Packet)
 unfolding opening_packet
 opening-packet_heard number sent heard e t =
     let opener : ConfirmedParts = record { head = opening_head 1 number; slots = [] } in
-    let h = confirmed-heard opener heard (subst (λ (p : Packet). IsTrueTo p heard) e t) in
+    let h = confirmed-heard opener heard (rw e at t) in
     (h.0, h.1, h.2)
 
 -- answers are heard as they were sent

@@ -13,15 +13,14 @@ use Rattle.p25_delivery.specs.SentPackets.{station_llid, good_slot, message_pack
 pub block_of_octets : (message octets : List ℕ) (serial : ℕ) (block : BlockParts)
     → octets ≡ message_octets message → block ≡ record { serial = serial; octets = part (16 * serial) 16 octets } → block ≡ message_block message serial
 unfolding message_block
-block_of_octets message octets serial block e b = b ∙ ap (λ (xs : List ℕ). record { serial = serial; octets = part (16 * serial) 16 xs }) e
+block_of_octets message octets serial block e b = cc
 
 -- all slots, one more
 pub slots_more : (message : List ℕ) (before after : List Slot) (serial : ℕ) (block : BlockParts)
     → before ≡ map good_slot (each_below serial (message_block message)) → block ≡ message_block message serial →
     after ≡ before ++ good_slot block ∷ [] → after ≡ map good_slot (each_below (serial + 1) (message_block message))
 slots_more message before after serial block b e a =
-    a ∙ ap₂ (λ (xs : List Slot) (x : BlockParts). xs ++ good_slot x ∷ []) b e ∙ sym (map-append good_slot (each_below serial (message_block message)) (message_block message serial ∷ [])) ∙
-    ap (λ (xs : List BlockParts). map good_slot xs) (sym (each_below-more serial (message_block message)))
+    cc (map-append good_slot (each_below serial (message_block message)) (message_block message serial ∷ []), each_below-more serial (message_block message))
 
 -- the whole packet
 pub message_packet-is : (number : ℕ) (message : List ℕ) (head : PacketHead) (slots : List Slot) (count pad : ℕ)
@@ -29,8 +28,7 @@ pub message_packet-is : (number : ℕ) (message : List ℕ) (head : PacketHead) 
     pad ≡ pad_count (length message) → slots ≡ map good_slot (each_below count (message_block message)) → Confirmed (record { head = head; slots = slots }) ≡ message_packet number message
 unfolding message_packet message_blocks
 message_packet-is number message head slots count pad h c p s =
-    ap₂ (λ (x : PacketHead) (xs : List Slot). Confirmed (record { head = x; slots = xs }))
-    (h ∙ ap₂ (λ (m n : ℕ). confirmed_head station_llid true m n number) c p) (s ∙ ap (λ (n : ℕ). map good_slot (each_below n (message_block message))) c)
+    cc
 
 -- what the block of a serial number adds to the slots that are wanted
 abbrev pub wanted_slot : List ℕ → List Bool → ℕ → List Slot
@@ -41,16 +39,14 @@ pub wanted_more : (message : List ℕ) (wanted : List Bool) (before after : List
     block ≡ message_block message serial → after ≡ before ++ good_slot block ∷ [] → after ≡ joined_below (serial + 1) (wanted_slot message wanted)
 wanted_more message wanted before after serial block b w e a =
     let here : wanted_slot message wanted serial ≡ good_slot (message_block message serial) ∷ []
-    = ap (λ (flag : Bool). cond flag (good_slot (message_block message serial) ∷ []) []) (get_or_from_slice_get wanted serial true false w) in
-    a ∙ ap₂ (λ (xs : List Slot) (x : BlockParts). xs ++ good_slot x ∷ []) b e ∙ ap
-    (λ (xs : List Slot). joined_below serial (wanted_slot message wanted) ++ xs) (sym here) ∙ sym (joined_below-more serial (wanted_slot message wanted))
+    = cc (get_or_from_slice_get wanted serial true false w) in
+    cc (joined_below-more serial (wanted_slot message wanted))
 
 pub wanted_same : (message : List ℕ) (wanted : List Bool) (before : List Slot) (serial : ℕ) → before ≡ joined_below serial (wanted_slot message wanted) → slice_get wanted serial ≡ Some false →
     before ≡ joined_below (serial + 1) (wanted_slot message wanted)
 wanted_same message wanted before serial b w =
-    let here : wanted_slot message wanted serial ≡ [] = ap (λ (flag : Bool). cond flag (good_slot (message_block message serial) ∷ []) []) (get_or_from_slice_get wanted serial false false w) in
-    b ∙ sym (append-nil (joined_below serial (wanted_slot message wanted))) ∙ ap
-    (λ (xs : List Slot). joined_below serial (wanted_slot message wanted) ++ xs) (sym here) ∙ sym (joined_below-more serial (wanted_slot message wanted))
+    let here : wanted_slot message wanted serial ≡ [] = cc (get_or_from_slice_get wanted serial false false w) in
+    cc (append-nil (joined_below serial (wanted_slot message wanted)), joined_below-more serial (wanted_slot message wanted))
 
 -- the packet of the blocks that are wanted
 pub blocks_packet-is : (number : ℕ) (message : List ℕ) (wanted : List Bool) (head : PacketHead) (slots : List Slot) (pad : ℕ)
@@ -58,7 +54,7 @@ pub blocks_packet-is : (number : ℕ) (message : List ℕ) (wanted : List Bool) 
     slots ≡ wanted_slots message wanted → Confirmed (record { head = head; slots = slots }) ≡ blocks_packet number message wanted
 unfolding blocks_packet
 blocks_packet-is number message wanted head slots pad h p s =
-    ap₂ (λ (x : PacketHead) (xs : List Slot). Confirmed (record { head = x; slots = xs })) (h ∙ ap₂ (λ (xs : List Slot) (n : ℕ). confirmed_head station_llid false (length xs) n number) s p) s
+    cc
 
 -- flags fill the blocks of a selective retry: 64 fill one, and 128 two
 pub length-flag_octets : (flags : List Bool) (octets : List ℕ) (blocks : ℕ)
@@ -68,11 +64,10 @@ unfolding flag_octets
 length-flag_octets flags octets blocks o (inl e) few many =
     let one : blocks ≡ 1 = few (omega arith) in
     let eight : length octets ≡ 8
-    = ap length o ∙ ap (λ (n : ℕ). length (octets_from (n / 8) flags ++ cond (eqb n 128) (0 ∷ 0 ∷ 0 ∷ 0 ∷ []) [])) e ∙ ap length (append-nil (octets_from 8 flags)) ∙ length-numbers_from 8 8 flags in
+    = cc (append-nil (octets_from 8 flags), length-numbers_from 8 8 flags) in
     omega arith
 length-flag_octets flags octets blocks o (inr e) few many =
     let two : blocks ≡ 2 = many (omega arith) in
     let twenty : length octets ≡ 20
-    = ap length o ∙ ap (λ (n : ℕ). length (octets_from (n / 8) flags ++ cond (eqb n 128) (0 ∷ 0 ∷ 0 ∷ 0 ∷ []) [])) e
-    ∙ length-append (octets_from 16 flags) (0 ∷ 0 ∷ 0 ∷ 0 ∷ []) ∙ ap (λ (n : ℕ). n + 4) (length-numbers_from 8 16 flags) in
+    = cc (length-append (octets_from 16 flags) (0 ∷ 0 ∷ 0 ∷ 0 ∷ []), length-numbers_from 8 16 flags) in
     omega arith

@@ -78,7 +78,7 @@ sessions-from : (from : Mark) (marks : List Mark) (w : Delivery)
     → sessions_from from marks w ≡ ended_from from marks w.outbound.sent w.inbound.received ++ session_between (last_mark from marks) (present_mark w) w ∷ []
 unfolding sessions_from ended_from last_mark
 sessions-from from [] w = refl
-sessions-from from (mark ∷ marks) w = ap (λ (xs : List Session). session_between from mark w ∷ xs) (sessions-from mark marks w)
+sessions-from from (mark ∷ marks) w = cc (sessions-from mark marks w)
 
 pub sessions-split : (w : Delivery) → sessions_of w ≡ ended_sessions w ++ present_session w ∷ []
 sessions-split w = sessions-from first_mark w.outbound.marks w
@@ -97,9 +97,7 @@ ended-more limit from [] sent received more_sent more_received s r e f here all 
 ended-more limit from (to ∷ marks) sent received more_sent more_received s r e f here all =
     let next = All-head (IsWithin limit) to marks all in
     let session : List (List ℕ) → List (List ℕ) → Session = λ (xs ys : List (List ℕ)). record { sent = xs; delivered = ys; acknowledged = to.acknowledged - from.acknowledged } in
-    ap₂ (λ (x : Session) (rest : List Session). x ∷ rest)
-    (ap₂ session (e from.sent (to.sent - from.sent) (omega (arith, here.sent, next.sent, s))) (f from.delivered (to.delivered - from.delivered) (omega (arith, here.delivered, next.delivered, r))))
-    (ended-more limit to marks sent received more_sent more_received s r e f next (All-tail (IsWithin limit) to marks all))
+    cc (e from.sent (to.sent - from.sent) (omega (arith, here.sent, next.sent, s)), f from.delivered (to.delivered - from.delivered) (omega (arith, here.delivered, next.delivered, r)), ended-more limit to marks sent received more_sent more_received s r e f next (All-tail (IsWithin limit) to marks all))
 
 -- and a mark ends one more
 
@@ -107,7 +105,7 @@ ended-marked : (from to : Mark) (marks : List Mark) (w : Delivery) → ended_fro
     session_between (last_mark from marks) to w ∷ []
 unfolding ended_from last_mark
 ended-marked from to [] w = refl
-ended-marked from to (mark ∷ marks) w = ap (λ (xs : List Session). session_between from mark w ∷ xs) (ended-marked mark to marks w)
+ended-marked from to (mark ∷ marks) w = cc (ended-marked mark to marks w)
 
 -- The present session, with one more message.
 
@@ -119,12 +117,11 @@ rest-none xs = sym (drop-is_part (length xs) xs) ∙ drop_all (length xs) xs (om
 
 pub present-sent : (w : Delivery) (message : List ℕ) → IsMarked w → present_session (one_sent w message) ≡ with_sent (present_session w) message
 present-sent w message all =
-    ap (λ (xs : List (List ℕ)). record (present_session w) { sent = xs }) (rest-more (last_mark first_mark w.outbound.marks).sent w.outbound.sent (message ∷ []) (present-within w all).sent)
+    cc (rest-more (last_mark first_mark w.outbound.marks).sent w.outbound.sent (message ∷ []) (present-within w all).sent)
 
 pub present-delivered : (w : Delivery) (message : List ℕ) → IsMarked w → present_session (one_delivered w message) ≡ with_delivered (present_session w) message
 present-delivered w message all =
-    ap (λ (xs : List (List ℕ)). record (present_session w) { delivered = xs })
-    (rest-more (last_mark first_mark w.outbound.marks).delivered w.inbound.received (message ∷ []) (present-within w all).delivered)
+    cc (rest-more (last_mark first_mark w.outbound.marks).delivered w.inbound.received (message ∷ []) (present-within w all).delivered)
 
 pub present-acknowledged : (w : Delivery) → IsMarked w → present_session (one_acknowledged w) ≡ with_acknowledged (present_session w)
 present-acknowledged w all = ap (λ (n : ℕ). record (present_session w) { acknowledged = n }) (omega (arith, (present-within w all).acknowledged))
@@ -151,9 +148,9 @@ IsDivided P w = IsMarked w × All P (ended_sessions w)
 divided-more : (P : Session → Type 0) (w v : Delivery) → IsWithin (present_mark v) (present_mark w)
     → ended_sessions v ≡ ended_sessions w → v.outbound.marks ≡ w.outbound.marks → IsDivided P w → IsDivided P v
 divided-more P w v l e m h = (
-  subst (All (IsWithin (present_mark v))) (sym m) (All-weaker (IsWithin (present_mark w))
+  rw m (All-weaker (IsWithin (present_mark w))
       (IsWithin (present_mark v)) (within-more (present_mark w) (present_mark v) l) w.outbound.marks h.0),
-  subst (All P) (sym e) h.1,
+  rw e h.1,
 )
 
 pub divided-sent : (P : Session → Type 0) (w : Delivery) (message : List ℕ) → IsDivided P w → IsDivided P (one_sent w message)
@@ -179,7 +176,7 @@ pub divided-marked : (P : Session → Type 0) (w : Delivery) → IsDivided P w �
 divided-marked P w h p =
     let limit = present_mark w in (
       All-push (IsWithin limit) w.outbound.marks limit h.0 (record { sent = omega arith; delivered = omega arith; acknowledged = omega arith }),
-      subst (All P) (sym (ended-marked first_mark limit w.outbound.marks w)) (All-push P (ended_sessions w) (present_session w) h.1 p),
+      rw (ended-marked first_mark limit w.outbound.marks w) (All-push P (ended_sessions w) (present_session w) h.1 p),
     )
 
 pub first-divided : (P : Session → Type 0) → IsDivided P first_delivery

@@ -17,12 +17,12 @@ unfoldable pub AreInOrder : Mark → List Mark → Mark → Type 0
 AreInOrder from [] last = IsWithin last from
 AreInOrder from (mark ∷ marks) last = IsWithin mark from × AreInOrder mark marks last
 
-in-order-grown : (from : Mark) (marks : List Mark) (last more : Mark) → IsWithin more last → AreInOrder from marks last → AreInOrder from marks more
+pub in-order-grown : (from : Mark) (marks : List Mark) (last more : Mark) → IsWithin more last → AreInOrder from marks last → AreInOrder from marks more
 unfolding AreInOrder
 in-order-grown from [] last more grown order = within-more last more grown from order
 in-order-grown from (mark ∷ marks) last more grown order = (order.0, in-order-grown mark marks last more grown order.1)
 
-in-order-marked : (from : Mark) (marks : List Mark) (last : Mark) → AreInOrder from marks last → AreInOrder from (marks ++ last ∷ []) last
+pub in-order-marked : (from : Mark) (marks : List Mark) (last : Mark) → AreInOrder from marks last → AreInOrder from (marks ++ last ∷ []) last
 unfolding AreInOrder
 in-order-marked from [] last order = (order, record { sent = omega arith; delivered = omega arith; acknowledged = omega arith })
 in-order-marked from (mark ∷ marks) last order = (order.0, in-order-marked mark marks last order.1)
@@ -93,8 +93,7 @@ whole-sent : (from : Mark) (marks : List Mark) (w : Delivery) → AreInOrder fro
 unfolding AreInOrder sessions_from
 whole-sent from [] w order = append-nil (part from.sent (length w.outbound.sent - from.sent) w.outbound.sent)
 whole-sent from (mark ∷ marks) w order =
-    ap (λ (zs : List (List ℕ)). part from.sent (mark.sent - from.sent) w.outbound.sent ++ zs) (whole-sent mark marks w order.1)
-    ∙ parts-meet from.sent mark.sent (length w.outbound.sent) w.outbound.sent order.0.sent (in-order-first mark marks (present_mark w) order.1).sent
+    cc (whole-sent mark marks w order.1, parts-meet from.sent mark.sent (length w.outbound.sent) w.outbound.sent order.0.sent (in-order-first mark marks (present_mark w) order.1).sent)
 
 whole-delivered : (from : Mark) (marks : List Mark) (w : Delivery) → AreInOrder from marks (present_mark w)
     → flat_map (λ (session : Session). session.delivered) (sessions_from from marks w)
@@ -102,9 +101,11 @@ whole-delivered : (from : Mark) (marks : List Mark) (w : Delivery) → AreInOrde
 unfolding AreInOrder sessions_from
 whole-delivered from [] w order = append-nil (part from.delivered (length w.inbound.received - from.delivered) w.inbound.received)
 whole-delivered from (mark ∷ marks) w order =
-    ap (λ (zs : List (List ℕ)). part from.delivered (mark.delivered - from.delivered) w.inbound.received ++ zs) (whole-delivered mark marks w order.1)
-    ∙ parts-meet from.delivered mark.delivered (length w.inbound.received) w.inbound.received order.0.delivered
-    (in-order-first mark marks (present_mark w) order.1).delivered
+    cc (
+      whole-delivered mark marks w order.1,
+      parts-meet from.delivered mark.delivered (length w.inbound.received) w.inbound.received order.0.delivered
+          (in-order-first mark marks (present_mark w) order.1).delivered,
+    )
 
 whole-acknowledged : (from : Mark) (marks : List Mark) (w : Delivery) → AreInOrder from marks (present_mark w)
     → sum_by (λ (session : Session). session.acknowledged) (sessions_from from marks w) ≡ w.outbound.acknowledged - from.acknowledged

@@ -19,7 +19,7 @@ same-octets xs ys e = same_text xs ys (sym e)
 same-block : (was block : BlockParts) → eqb was.serial block.serial && bytes_eq was.octets block.octets ≡ true → block ≡ was
 same-block was block e =
     let parts = and_parts _ _ e in
-    ap₂ (λ (n : ℕ) (xs : List ℕ). record { serial = n; octets = xs }) (sym (eqb-true was.serial block.serial parts.0)) (sym (same-octets was.octets block.octets parts.1))
+    rw (← eqb-true was.serial block.serial parts.0, ← same-octets was.octets block.octets parts.1)
 
 true-slots : (sent heard : List Slot) → are_true_slots sent heard ≡ true → AreTrueSlots sent heard
 unfolding are_true_slots is_true_slot AreTrueSlots
@@ -27,11 +27,11 @@ true-slots [] [] e = tt
 true-slots (was ∷ sent) (Bad ∷ heard) e = (inl refl, true-slots sent heard (and_parts (is_true_slot was Bad) _ e).1)
 true-slots (Good was ∷ sent) (Good block ∷ heard) e =
     let parts = and_parts _ _ e in
-    (inr (ap (λ (b : BlockParts). Good b) (same-block was block parts.0)), true-slots sent heard parts.1)
+    (inr (cc (same-block was block parts.0)), true-slots sent heard parts.1)
 true-slots sent heard e = cc
 
 same-head : (was head : PacketHead) → bytes_eq was.0 head.0 ≡ true → head ≡ was
-same-head was head e = ap (λ (xs : List ℕ). record { 0 = xs }) (sym (same-octets was.0 head.0 e))
+same-head was head e = rw (← same-octets was.0 head.0 e)
 
 true-packet : (sent heard : Packet) → is_true_to sent heard ≡ true → IsTrueTo sent heard
 unfolding is_true_to IsTrueTo
@@ -40,7 +40,7 @@ true-packet (Confirmed sent) (Confirmed heard) e =
     (same-head sent.head heard.head parts.0, true-slots sent.slots heard.slots parts.1)
 true-packet (Plain sent) (Plain heard) e =
     let parts = and_parts _ _ e in
-    ap₂ (λ (h : PacketHead) (xs : List ℕ). record { head = h; octets = xs }) (same-head sent.head heard.head parts.0) (sym (same-octets sent.octets heard.octets parts.1))
+    rw (same-head sent.head heard.head parts.0, ← same-octets sent.octets heard.octets parts.1)
 true-packet sent heard e = cc
 
 heard-same : (sent read packet : Packet) (false_pass : Bool) → Heard read (not (is_true_to sent read)) ≡ Heard packet false_pass → false_pass ≡ not (is_true_to sent packet)
@@ -99,12 +99,12 @@ unfolding is_true_to IsTrueTo
 true-exactly (Confirmed sent) (Confirmed heard) =
     let P : PacketHead → Type 0 = λ (h : PacketHead). bytes_eq sent.head.0 h.0 ≡ true in (
       λ (t : (heard.head ≡ sent.head) × AreTrueSlots sent.slots heard.slots).
-          and_from _ _ (subst P (sym t.0) (itself sent.head.0)) (true-tests sent.slots heard.slots t.1),
+          and_from _ _ (rw t.0 (itself sent.head.0)) (true-tests sent.slots heard.slots t.1),
       true-packet (Confirmed sent) (Confirmed heard),
     )
 true-exactly (Plain sent) (Plain heard) =
     let P : PlainParts → Type 0 = λ (p : PlainParts). (bytes_eq sent.head.0 p.head.0 && bytes_eq sent.octets p.octets) ≡ true in
-    (λ (e : heard ≡ sent). subst P (sym e) (and_from _ _ (itself sent.head.0) (itself sent.octets)), true-packet (Plain sent) (Plain heard))
+    (λ (e : heard ≡ sent). rw e (and_from _ _ (itself sent.head.0) (itself sent.octets)), true-packet (Plain sent) (Plain heard))
 true-exactly sent heard = (λ t. absurd t, true-packet sent heard)
 
 -- Within radius.
@@ -118,18 +118,21 @@ is-sending : (packet : Packet) → IsSendable packet → IsSending station_nac p
 is-sending packet sendable = record {
   nac_fits = omega arith;
   sendable = sendable;
-  counted = ap (λ (n : ℕ). 70 * n) (length-replicate (packet_parts (head_blocks (packet_head packet))) station_status);
+  counted = cc (length-replicate (packet_parts (head_blocks (packet_head packet))) station_status);
 }
 
 own-heard : (sent : Packet) → carried_from sent (Ok (station_nac, sent)) ≡ Heard sent false
 unfolding carried_from
-own-heard sent = ap (λ (b : Bool). Heard sent (not b)) (packet-itself sent)
+own-heard sent = cc (packet-itself sent)
 
 pub air-within : ReadsWithin → (sent : Packet) (flips : List ℕ) → IsSendable sent → ArrivesWithin sent flips → carried_of sent flips ≡ Heard sent false
 unfolding carried_of ArrivesWithin transmission_of
 air-within reads sent flips sendable within =
-    ap (carried_from sent) (reads station_nac sent (replicate (packet_parts (head_blocks (packet_head sent))) station_status)
-    (received_bits sent flips) (is-sending sent sendable) within) ∙ own-heard sent
+    cc (
+      reads station_nac sent (replicate (packet_parts (head_blocks (packet_head sent))) station_status)
+          (received_bits sent flips) (is-sending sent sendable) within,
+      own-heard sent,
+    )
 
 -- What the code reads.
 
@@ -140,12 +143,12 @@ carried-lost sent flips field e = ap (carried_from sent) e
 pub carried-foreign : (sent : Packet) (flips : List ℕ) (nac : ℕ) (packet : Packet)
     → packet_unit_of (received_bits sent flips) ≡ Ok (nac, packet) → (nac ≡ station_nac → ⊥) → carried_of sent flips ≡ Foreign
 unfolding carried_of carried_from
-carried-foreign sent flips nac packet e other = ap (carried_from sent) e ∙ cond-false (eqb nac station_nac) _ _ (ne_eqb _ _ other)
+carried-foreign sent flips nac packet e other = cc (cond-false (eqb nac station_nac) _ _ (ne_eqb _ _ other))
 
 pub carried-heard : (sent : Packet) (flips : List ℕ) (nac : ℕ) (packet : Packet)
     → packet_unit_of (received_bits sent flips) ≡ Ok (nac, packet) → nac ≡ station_nac → carried_of sent flips ≡ Heard packet (not (is_true_to sent packet))
 unfolding carried_of carried_from
-carried-heard sent flips nac packet e own = ap (carried_from sent) e ∙ cond-true (eqb nac station_nac) _ _ (eq-eqb _ _ own)
+carried-heard sent flips nac packet e own = rw e (cond-true (eqb nac station_nac) _ _ (eq-eqb _ _ own))
 
 -- A packet that can be sent has no Bad slot.
 pub sendable-whole : (packet : Packet) → IsSendable packet → IsWholePacket packet

@@ -20,14 +20,13 @@ with_flips-push bits (first ∷ flips) place = with_flips-push (flipped bits fir
 pub flipped-past : (bits : List Bool) (place : ℕ) → length bits ≤ place → flipped bits place ≡ bits
 flipped-past [] place h = refl
 flipped-past (bit ∷ bits) zero h = absurd (omega arith)
-flipped-past (bit ∷ bits) (suc place) h = ap (λ (xs : List Bool). bit ∷ xs) (flipped-past bits place (omega arith))
+flipped-past (bit ∷ bits) (suc place) h = cc (flipped-past bits place (omega arith))
 
 -- one more place
 pub with_flips-more : (bits now : List Bool) (flips : List ℕ) (i place : ℕ)
     → slice_get flips i ≡ Some place → i < length flips → now ≡ with_flips bits (take i flips) → flipped now place ≡ with_flips bits (take (i + 1) flips)
 with_flips-more bits now flips i place is h e =
-    ap (λ (xs : List Bool). flipped xs place) e ∙ sym (with_flips-push bits (take i flips) place)
-    ∙ ap (λ (places : List ℕ). with_flips bits places) (ap (λ (x : ℕ). take i flips ++ x ∷ []) (sym (get_or_from_slice_get flips i place 0 is)) ∙ sym (take_more flips i 0 h))
+    cc (with_flips-push bits (take i flips) place, get_or_from_slice_get flips i place 0 is, take_more flips i 0 h)
 
 -- Slots.
 
@@ -42,12 +41,11 @@ pub are_true_slots-step : (sent heard : List Slot) (i : ℕ) (was slot : Slot) (
     → length sent ≡ length heard → i < length sent → slice_get sent i ≡ Some was → slice_get heard i ≡ Some slot → same ≡ is_true_slot was slot →
     are_true_slots (drop i sent) (drop i heard) ≡ (same && are_true_slots (drop (i + 1) sent) (drop (i + 1) heard))
 are_true_slots-step sent heard i was slot same long h s t e =
-    are_true_slots-is sent heard i h (omega arith)
-    ∙ ap (λ (b : Bool). b && are_true_slots (drop (i + 1) sent) (drop (i + 1) heard)) (ap₂ is_true_slot (get_or_from_slice_get sent i was Bad s) (get_or_from_slice_get heard i slot Bad t) ∙ sym e)
+    cc (are_true_slots-is sent heard i h (omega arith), get_or_from_slice_get sent i was Bad s, get_or_from_slice_get heard i slot Bad t)
 
 pub are_true_slots-lengths : (sent heard : List Slot) → (length sent ≡ length heard → ⊥) → are_true_slots sent heard ≡ false
 unfolding are_true_slots
 are_true_slots-lengths [] [] h = absurd (h refl)
 are_true_slots-lengths (was ∷ sent) (slot ∷ heard) h =
-    ap (λ (b : Bool). is_true_slot was slot && b) (are_true_slots-lengths sent heard (λ e. h (ap suc e))) ∙ and-false (is_true_slot was slot)
+    cc (are_true_slots-lengths sent heard (λ e. h (ap suc e)), and-false (is_true_slot was slot))
 are_true_slots-lengths sent heard h = refl

@@ -24,10 +24,9 @@ use Rattle.p25_stations.proofs.{AirLaws.{ReadsWithin, air-within}, SoundLaws.{Is
 three-steps : (w v u t : WorldState) (a b c : Event) (x y z : Step) → world_step w a ≡ (v, x) → world_step v b ≡ (u, y) → world_step u c ≡ (t, z) → steps_of w (a ∷ b ∷ c ∷ []) ≡ x ∷ y ∷ z ∷ []
 unfolding steps_by
 three-steps w v u t a b c x y z e f g =
-    let second : (world_step (world_step w a).0 b) ≡ (u, y) = ap (λ (p : WorldState × Step). world_step p.0 b) e ∙ f in
-    let third : world_step (world_step (world_step w a).0 b).0 c ≡ (t, z) = ap (λ (p : WorldState × Step). world_step p.0 c) second ∙ g in
-    ap₂ (λ (p : Step) (ps : List Step). p ∷ ps) (ap (λ (p : WorldState × Step). p.1) e)
-    (ap₂ (λ (p : Step) (ps : List Step). p ∷ ps) (ap (λ (p : WorldState × Step). p.1) second) (ap (λ (p : WorldState × Step). p.1 ∷ []) third))
+    let second : (world_step (world_step w a).0 b) ≡ (u, y) = cc in
+    let third : world_step (world_step (world_step w a).0 b).0 c ≡ (t, z) = cc in
+    cc
 
 -- two deliveries after an event, each at its moment
 record Moments (v u : WorldState) (b c : Event) : Type 0 where
@@ -37,9 +36,9 @@ record Moments (v u : WorldState) (b c : Event) : Type 0 where
 moments : (w v u : WorldState) (a b c : Event) (x y : Step) → world_step w a ≡ (v, x) → world_step v b ≡ (u, y) → AreWithin w (a ∷ b ∷ c ∷ []) → Moments v u b c
 unfolding MeetAt
 moments w v u a b c x y e f within =
-    let first : (world_step w a).0 ≡ v = ap (λ (p : WorldState × Step). p.0) e in
-    let second : (world_step (world_step w a).0 b).0 ≡ u = ap (λ (p : WorldState). (world_step p b).0) first ∙ ap (λ (p : WorldState × Step). p.0) f in
-    record { first = subst (λ (p : WorldState). IsWithin p b) first within.1.0; second = subst (λ (p : WorldState). IsWithin p c) second within.1.1.0 }
+    let first : (world_step w a).0 ≡ v = cc in
+    let second : (world_step (world_step w a).0 b).0 ≡ u = rw (first, f) in
+    record { first = rw first at within.1.0; second = rw second at within.1.1.0 }
 
 second-within : (w : WorldState) (a b c : Event) → AreWithin w (a ∷ b ∷ c ∷ []) → IsWithin (world_step w a).0 b
 unfolding MeetAt
@@ -52,9 +51,9 @@ within-step : ReadsWithin → (w : WorldState) (way : Way) (newest : Option Pack
     delivered w way (delivery_of way newest flips) ≡ quiet_step w (happens w.delivery (heard_by way packet))
 unfolding delivered delivery_of heard_of counted_when
 within-step reads w way newest packet flips e sendable within =
-    let can = subst (λ (n : Option Packet). IfSome n IsSendable) e sendable in
-    let arrives = subst (λ (n : Option Packet). IfSome n (λ sent. ArrivesWithin sent flips)) e within in
-    ap (λ (n : Option Packet). delivered w way (delivery_of way n flips)) e ∙ ap (λ (c : Carried). delivered w way (heard_of way c)) (air-within reads packet flips can arrives)
+    let can = rw e at sendable in
+    let arrives = rw e at within in
+    cc (air-within reads packet flips can arrives)
 
 data-step : ReadsWithin → (w : WorldState) (packet : Packet) (flips : List ℕ) (x : Receiving × HeardAnswer)
     → IsSoundDelivery w.delivery → w.delivery.packet_sent ≡ Some packet → IsWithin w (ToReceiver flips) →
@@ -62,8 +61,7 @@ data-step : ReadsWithin → (w : WorldState) (packet : Packet) (flips : List ℕ
     world_step w (ToReceiver flips) ≡ quiet_step w (with_inbound w.delivery (after_data w.delivery.inbound x))
 unfolding world_step newest_by heard_by happens IsWithin
 data-step reads w packet flips x sound e within h =
-    within-step reads w Packets w.delivery.packet_sent packet flips e sound.packet_sent within
-    ∙ ap (λ (y : Receiving × HeardAnswer). quiet_step w (with_inbound w.delivery (after_data w.delivery.inbound y))) h
+    cc (within-step reads w Packets w.delivery.packet_sent packet flips e sound.packet_sent within)
 
 answer-step : ReadsWithin → (w : WorldState) (packet : Packet) (flips : List ℕ) (x : Sending × SenderHeard)
     → IsSoundDelivery w.delivery → w.delivery.answer ≡ Some packet → IsWithin w (ToSender flips) →
@@ -71,8 +69,7 @@ answer-step : ReadsWithin → (w : WorldState) (packet : Packet) (flips : List �
     world_step w (ToSender flips) ≡ quiet_step w (with_outbound w.delivery (after_answer w.delivery.outbound x))
 unfolding world_step newest_by heard_by happens IsWithin
 answer-step reads w packet flips x sound e within h =
-    within-step reads w Answers w.delivery.answer packet flips e sound.answer within
-    ∙ ap (λ (y : Sending × SenderHeard). quiet_step w (with_outbound w.delivery (after_answer w.delivery.outbound y))) h
+    cc (within-step reads w Answers w.delivery.answer packet flips e sound.answer within)
 
 -- the events are those of any world
 to-receiver : (flips : List ℕ) → IsEvent (ToReceiver flips)
@@ -88,7 +85,7 @@ unfolding IsEvent
 send-event message is = is
 
 next-sound : (w v : WorldState) (event : Event) (x : Step) → world_step w event ≡ (v, x) → IsEvent event → IsSoundDelivery w.delivery → IsSoundDelivery v.delivery
-next-sound w v event x e is sound = subst (λ (u : WorldState). IsSoundDelivery u.delivery) (ap (λ (p : WorldState × Step). p.0) e) (step-sound w event is sound)
+next-sound w v event x e is sound = rw e at (step-sound w event is sound)
 
 -- A message.
 
@@ -107,10 +104,10 @@ delivers reads w message first second sound is d within =
     let u = (quiet_step v (with_inbound v.delivery (after_data v.delivery.inbound (d.after, HeardDelivered number message d.answer)))).0 in
     let t = (quiet_step u (with_outbound u.delivery (after_answer u.delivery.outbound (sending_after number, HeardAck number)))).0 in
     let one : world_step w (Send message) ≡ (v, true_step (Taken number blocks))
-    = ap (λ (x : Sending × Offer). quiet_step w (with_outbound w.delivery (after_offer w.delivery.outbound message x))) d.taken in
+    = cc in
     let v_sound : IsSoundDelivery v.delivery = next-sound w v (Send message) (true_step (Taken number blocks)) one (send-event message is) sound in
     let v_within : IsWithin v (ToReceiver first) = subst (λ (p : WorldState). IsWithin p (ToReceiver first))
-    (ap (λ (p : WorldState × Step). p.0) one) (second-within w (Send message) (ToReceiver first) (ToSender second) within) in
+    (cc) (second-within w (Send message) (ToReceiver first) (ToSender second) within) in
     let two : world_step v (ToReceiver first) ≡ (u, true_step (Delivered number message))
     = data-step reads v d.packet first (d.after, HeardDelivered number message d.answer) v_sound refl v_within d.delivered in
     let m = moments w v u (Send message) (ToReceiver first) (ToSender second) (true_step (Taken number blocks)) (true_step (Delivered number message)) one two within in
@@ -158,7 +155,7 @@ unfolding reopened
 number-is s t number packet down e =
     let y = opening_number s.outstanding s.next in
     let sent : Sending × ReopenAnswer = (record { next = s.next; outstanding = Opening y; tries = 1; down = false }, ReopenSent y (opening_packet y)) in
-    let is : sent ≡ (t, ReopenSent number packet) = sym (cond-true s.down sent (s, ReopenUp) down) ∙ e in
+    let is : sent ≡ (t, ReopenSent number packet) = cc (cond-true s.down sent (s, ReopenUp) down) in
     let same : ReopenSent y (opening_packet y) ≡ ReopenSent number packet = ap (λ (x : Sending × ReopenAnswer). x.1) is in
     cc
 
@@ -172,15 +169,14 @@ opens reads w v first second sound o h within =
     let u = (quiet_step v (with_inbound v.delivery (after_data v.delivery.inbound (record { last = number; kept = None }, ReceiverOpened number o.answer)))).0 in
     let t = (quiet_step u (with_outbound u.delivery (after_answer u.delivery.outbound (sending_after number, SenderOpened number)))).0 in
     let v_sound : IsSoundDelivery v.delivery = next-sound w v Reopen (true_step (Reopened number)) h.step reopen-event sound in
-    let v_within : IsWithin v (ToReceiver first) = subst (λ (p : WorldState). IsWithin p (ToReceiver first))
-    (ap (λ (p : WorldState × Step). p.0) h.step) (second-within w Reopen (ToReceiver first) (ToSender second) within) in
+    let v_within : IsWithin v (ToReceiver first) = rw h.step at (second-within w Reopen (ToReceiver first) (ToSender second) within) in
     let two : world_step v (ToReceiver first) ≡ (u, true_step (SynHeard number))
     = data-step reads v o.packet first (record { last = number; kept = None }, ReceiverOpened number o.answer) v_sound h.newest v_within
-    (ap (λ (r : Receiving). receiver_heard r o.packet) h.receiver ∙ o.heard) in
+    (cc) in
     let m = moments w v u Reopen (ToReceiver first) (ToSender second) (true_step (Reopened number)) (true_step (SynHeard number)) h.step two within in
     let u_sound : IsSoundDelivery u.delivery = next-sound v u (ToReceiver first) (true_step (SynHeard number)) two (to-receiver first) v_sound in
     let three : world_step u (ToSender second) ≡ (t, true_step (LinkOpened number))
-    = answer-step reads u o.answer second (sending_after number, SenderOpened number) u_sound refl m.second (ap (λ (s : Sending). sender_heard s o.answer) h.sender ∙ o.opened) in
+    = answer-step reads u o.answer second (sending_after number, SenderOpened number) u_sound refl m.second (cc) in
     three-steps w v u t Reopen (ToReceiver first) (ToSender second) (true_step (Reopened number)) (true_step (SynHeard number)) (true_step (LinkOpened number)) h.step two three
 
 pub run-opens_within : ReadsWithin → (events : List Event) (first second : List ℕ) → AreEvents events → (world_run first_world events).delivery.outbound.sender.down ≡ true →
@@ -195,4 +191,4 @@ run-opens_within reads events first second are down within =
     let o = opens-down s w.delivery.inbound.receiver sound.outbound.sender down in
     let h = after-opening w (is_opening s.outstanding) o.waits o.number o.packet refl o.sent in
     let steps = opens reads w (reopened_world w (is_opening s.outstanding) (o.waits, ReopenSent o.number o.packet)).0 first second sound o h within in
-    steps ∙ ap (λ (n : ℕ). true_step (Reopened n) ∷ true_step (SynHeard n) ∷ true_step (LinkOpened n) ∷ []) (number-is s o.waits o.number o.packet down o.sent)
+    cc (number-is s o.waits o.number o.packet down o.sent)

@@ -3,8 +3,8 @@
 use Rattle.std.proofs.Common.{◌≡◌, Bool, false, List, [], ◌∷◌, ℕ, Option, Some, refl, ap, sym, subst, ◌∙◌}
 use Rattle.p25_packet_blocks.specs.declared.packet.Packet.{Packet}
 use Rattle.p25_delivery.specs.{Runs.{run_by, steps_by, MeetAt, EachIs}, Delivery.{Delivery, first_delivery, Happening, delivery_run, sessions_of}}
-use Rattle.p25_delivery.specs.{Orderly.{IsHeardOf, IsClean, IsCleanRun as IsCleanDelivery, AreOrderly, AreCounted}, Facts.{DeliveryFacts}}
-use Rattle.p25_delivery.proofs.{DeliveryLaws.{sessions-orderly, facts-kept}, CountLaws.{sessions-counted}}
+use Rattle.p25_delivery.specs.{Orderly.{IsHeardOf, IsClean, IsCleanRun as IsCleanDelivery, AreOrderly, AreCounted, AreWhole}, Facts.{DeliveryFacts}}
+use Rattle.p25_delivery.proofs.{DeliveryLaws.{sessions-orderly, facts-kept}, CountLaws.{sessions-counted}, WholeLaws.{run-whole as delivery-whole}}
 use Rattle.p25_stations.specs.{declared.air.Carried.TheVariants.{Heard}, declared.step.Event.{Event}, declared.step.Step.{Step}, Air.{carried_of}, WorldState.{WorldState, first_world}}
 use Rattle.p25_stations.specs.{Steps.{world_step}, Runs.{IsEvent, AreEvents, world_run, steps_of, AreClean, IsCleanRun}}
 use Rattle.p25_stations.proofs.{AirLaws.{air-true}, StepLaws.{HasHappen, offers, is_late, opens, brings_data, brings_answer, Does, rests, does, step-does}}
@@ -12,7 +12,7 @@ use Rattle.p25_stations.proofs.{AirLaws.{air-true}, StepLaws.{HasHappen, offers,
 -- what is heard in no false pass is true to what was sent
 heard-of : (sent packet : Packet) (flips : List ℕ) (newest : Option Packet) (false_pass : Bool)
     → newest ≡ Some sent → carried_of sent flips ≡ Heard packet false_pass → false_pass ≡ false → IsHeardOf newest packet
-heard-of sent packet flips newest false_pass n e f = record { sent = sent; newest_is = n; true_to = air-true sent flips packet (e ∙ ap (λ (b : Bool). Heard packet b) f) }
+heard-of sent packet flips newest false_pass n e f = record { sent = sent; newest_is = n; true_to = air-true sent flips packet (cc) }
 
 pub happening-clean : (delivery : Delivery) (event : Event) (false_pass : Bool) (happening : Happening)
     → HasHappen delivery event false_pass happening → IsEvent event → false_pass ≡ false → IsClean delivery happening
@@ -61,7 +61,7 @@ pub from-deliveries : (P : Delivery → Type 0) → ((happenings : List Happenin
     (events : List Event) → AreEvents events → IsCleanRun events → P (world_run first_world events).delivery
 from-deliveries P law events are clean =
     let b = run-between events first_world in
-    subst P (sym b.becomes) (law b.happenings (b.clean (are, clean)))
+    rw b.becomes (law b.happenings (b.clean (are, clean)))
 
 pub run-facts : (events : List Event) → AreEvents events → IsCleanRun events → DeliveryFacts (world_run first_world events).delivery
 run-facts = from-deliveries DeliveryFacts facts-kept
@@ -74,4 +74,7 @@ run-orderly = from-deliveries (λ (delivery : Delivery). AreOrderly (sessions_of
 pub run-counted : (events : List Event) → AreCounted (sessions_of (world_run first_world events).delivery)
 run-counted events =
     let b = run-between events first_world in
-    subst (λ (delivery : Delivery). AreCounted (sessions_of delivery)) (sym b.becomes) (sessions-counted b.happenings)
+    rw b.becomes (sessions-counted b.happenings)
+
+pub run-whole : (events : List Event) → AreWhole (world_run first_world events).delivery
+run-whole events = let b = run-between events first_world in rw b.becomes (delivery-whole b.happenings)

@@ -20,7 +20,7 @@ unfolding run_by steps_by EachIs
 none-counted step passes is_false counts [] w e = (e, tt)
 none-counted step passes is_false counts (event ∷ events) w e =
     let rest = none-counted step passes is_false counts events (step w event).0 e in
-    let here = none-before (is_false (step w event).1) (passes w) (sym (counts w event) ∙ rest.0) in
+    let here = none-before (is_false (step w event).1) (passes w) (cc (counts w event)) in
     (here.1, (here.0, rest.1))
 
 -- and where none of its steps is one, none is counted
@@ -29,4 +29,4 @@ pub none-from : {W E S : Type 0} (step : W → E → W × S) (passes : W → ℕ
 unfolding run_by steps_by EachIs counted_when
 none-from step passes is_false counts [] w e clean = e
 none-from step passes is_false counts (event ∷ events) w e clean =
-    none-from step passes is_false counts events (step w event).0 (counts w event ∙ ap (λ (b : Bool). counted_when b (passes w)) clean.0 ∙ e) clean.1
+    none-from step passes is_false counts events (step w event).0 (cc (counts w event)) clean.1

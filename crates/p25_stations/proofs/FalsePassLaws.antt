@@ -15,7 +15,7 @@ delivered-within : ReadsWithin → (w : WorldState) (way : Way) (newest : Option
     → (delivered w way (delivery_of way newest flips)).1.false_pass ≡ false
 unfolding delivered delivery_of heard_of
 delivered-within reads w way None flips sendable within = refl
-delivered-within reads w way (Some packet) flips sendable within = ap (λ (c : Carried). (delivered w way (heard_of way c)).1.false_pass) (air-within reads packet flips sendable within)
+delivered-within reads w way (Some packet) flips sendable within = cc (air-within reads packet flips sendable within)
 
 pub step-within : ReadsWithin → (w : WorldState) (event : Event) → IsSoundDelivery w.delivery → IsWithin w event → (world_step w event).1.false_pass ≡ false
 unfolding world_step newest_by IsWithin
@@ -28,7 +28,7 @@ step-within reads w event sound within = refl
 twice : (packet : Packet) (flips : List ℕ) (false_pass : Bool) → (ArrivesWithin packet flips → false_pass ≡ false) → false_pass ≡ true → IsSendable packet → 2 ≤ places_within packet flips
 twice packet flips false_pass clean e sendable =
     elim (cases_lt (places_within packet flips) 2) [
-      | inl few ↦ absurd (false≢true (sym (clean (few-arrive packet flips sendable few)) ∙ e))
+      | inl few ↦ absurd (false≢true (cc (clean (few-arrive packet flips sendable few))))
       | inr many ↦ omega arith
     ]
 

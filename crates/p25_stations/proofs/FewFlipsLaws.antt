@@ -24,19 +24,16 @@ distance-bare_in zero xs ys e f = omega arith
 distance-bare_in (suc blocks) xs ys e f =
     let long : length (take 70 xs) ≡ length (take 70 ys) = omega (arith, length-part 0 70 xs (omega (arith, e)), length-part 0 70 ys (omega (arith, f))) in
     let front : distance_of (take 70 xs) (take 70 ys) ≤ distance_of (take 72 xs) (take 72 ys)
-    = subst (λ (bits : List Bool). distance_of bits (take 70 ys) ≤ distance_of (take 72 xs) (take 72 ys)) (take-take 70 72 xs (omega arith))
-    (subst (λ (bits : List Bool). distance_of (take 70 (take 72 xs)) bits ≤ distance_of (take 72 xs) (take 72 ys)) (take-take 70 72 ys (omega arith))
-    (distance_of-take 70 (take 72 xs) (take 72 ys) (omega (arith, length-part 0 72 xs (omega (arith, e)), length-part 0 72 ys (omega (arith, f)))))) in
+    = rw (← take-take 70 72 xs (omega arith)) (rw (take-take 70 72 ys (omega arith)) at (distance_of-take 70 (take 72 xs) (take 72 ys) (omega (arith, length-part 0 72 xs (omega (arith, e)), length-part 0 72 ys (omega (arith, f)))))) in
     let rest = distance-bare_in blocks (drop 72 xs) (drop 72 ys) (omega (arith, e, length-drop 72 xs)) (omega (arith, f, length-drop 72 ys)) in
-    omega (arith, distance_by-append beq (take 70 xs) (bare_in blocks (drop 72 xs)) (take 70 ys) (bare_in blocks (drop 72 ys)) long, front, rest, distance_of-split 72 xs ys (e ∙ sym f))
+    omega (arith, distance_by-append beq (take 70 xs) (bare_in blocks (drop 72 xs)) (take 70 ys) (bare_in blocks (drop 72 ys)) long, front, rest, distance_of-split 72 xs ys (cc))
 
 distance-bare_of : (blocks : ℕ) (xs ys : List Bool) → length xs ≡ 72 * blocks → length ys ≡ 72 * blocks → distance_of (bare_of xs) (bare_of ys) ≤ distance_of xs ys
 unfolding bare_of
 distance-bare_of blocks xs ys e f =
     let x : length xs / 72 ≡ blocks = omega (arith, e) in
     let y : length ys / 72 ≡ blocks = omega (arith, f) in
-    subst (λ (n : ℕ). distance_of (bare_in n xs) (bare_in (length ys / 72) ys) ≤ distance_of xs ys) (sym x)
-    (subst (λ (n : ℕ). distance_of (bare_in blocks xs) (bare_in n ys) ≤ distance_of xs ys) (sym y) (distance-bare_in blocks xs ys e f))
+    rw (x, y) (distance-bare_in blocks xs ys e f)
 
 -- Flips.
 
@@ -54,7 +51,7 @@ distance-with_flips bits [] count e = omega (arith, distance_of-same bits)
 distance-with_flips bits (place ∷ flips) count e =
     let next = flipped bits place in
     let through = distance_of-triangle (with_flips next flips) next bits (length-with_flips next flips) in
-    let rest = distance-with_flips next flips count (e ∙ sym (length-flipped bits place)) in
+    let rest = distance-with_flips next flips count (cc (length-flipped bits place)) in
     let more = sum_by-cons (λ (p : ℕ). cond (nat_lt p count) 1 0) place flips in
     let here : distance_of next bits ≤ cond (nat_lt place count) 1 0
     = elim (cases_lt place count) [
@@ -70,7 +67,7 @@ unfolding transmission_of
 length-transmission packet sendable =
     let n = packet_parts (head_blocks (packet_head packet)) in
     let count = length-replicate n station_status in
-    length-woven (packet_image_of station_nac packet) (replicate n station_status) (image_long station_nac packet sendable ∙ ap (λ (k : ℕ). 70 * k) (sym count)) ∙ ap (λ (k : ℕ). 72 * k) count
+    cc (length-woven (packet_image_of station_nac packet) (replicate n station_status) (cc (image_long station_nac packet sendable)))
 
 least-radius : (packet : Packet) → 1 ≤ block_radius packet
 least-radius (Confirmed packet) = omega arith
@@ -82,7 +79,7 @@ distance-identifier xs ys e h =
     let first : length (part 48 22 xs) ≡ length (part 48 22 ys) = length-part 48 22 xs (omega arith) ∙ sym (length-part 48 22 ys (omega (arith, e))) in
     let second : length (part 72 42 xs) ≡ length (part 72 42 ys) = length-part 72 42 xs (omega arith) ∙ sym (length-part 72 42 ys (omega (arith, e))) in
     let all : length (part 48 22 xs ++ part 72 42 xs) ≡ length (part 48 22 ys ++ part 72 42 ys)
-    = length-append (part 48 22 xs) (part 72 42 xs) ∙ ap₂ (λ (a b : ℕ). a + b) first second ∙ sym (length-append (part 48 22 ys) (part 72 42 ys)) in
+    = cc (length-append (part 48 22 xs) (part 72 42 xs), length-append (part 48 22 ys) (part 72 42 ys)) in
     omega (
       arith,
       distance_of-take 63 (part 48 22 xs ++ part 72 42 xs) (part 48 22 ys ++ part 72 42 ys) all,

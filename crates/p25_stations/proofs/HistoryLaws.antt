@@ -1,9 +1,9 @@
 -- Each step of a world makes its history one event longer.
 use Rattle.std.proofs.Common.{◌≡◌, ℕ, List, [], ◌∷◌, ◌++◌, refl, sym, ap, subst, ◌∙◌}
-use Rattle.p25_delivery.specs.{Delivery.{sessions_of}, Facts.{DeliveryFacts}, Orderly.{AreCounted, AreOrderly}, Runs.{run_by, EachIs}, SoundHalves.{IsMessage}}
+use Rattle.p25_delivery.specs.{Delivery.{sessions_of}, Facts.{DeliveryFacts}, Orderly.{AreCounted, AreOrderly, AreWhole}, Runs.{run_by, EachIs}, SoundHalves.{IsMessage}}
 use Rattle.p25_delivery.proofs.RunLaws.{run-append}
 use Rattle.p25_stations.specs.{Steps.{Event, Send, Step, WorldState, first_world, world_step}, Runs.{HasHistory, IsCleanRun, IsEvent}}
-use Rattle.p25_stations.proofs.{CleanLaws.{run-orderly, run-facts, run-counted}, FalsePassLaws.{clean-from_none}}
+use Rattle.p25_stations.proofs.{CleanLaws.{run-orderly, run-facts, run-counted, run-whole}, FalsePassLaws.{clean-from_none}}
 
 -- what holds of each entry of two lists holds of each of both
 pub each-append : {X : Type 0} (Is : X → Type 0) (xs ys : List X) → EachIs Is xs → EachIs Is ys → EachIs Is (xs ++ ys)
@@ -34,13 +34,16 @@ history-step w next event step before kept now =
 
 -- where no false pass is counted, the history is clean
 history-clean : (w : WorldState) (h : HasHistory w) → w.false_passes ≡ 0 → IsCleanRun h.events
-history-clean w h none = clean-from_none h.events (ap (λ (v : WorldState). v.false_passes) h.run ∙ none)
+history-clean w h none = clean-from_none h.events (cc)
 
 pub history-facts : (w : WorldState) → HasHistory w → w.false_passes ≡ 0 → DeliveryFacts w.delivery
-history-facts w h none = subst (λ (v : WorldState). DeliveryFacts v.delivery) h.run (run-facts h.events h.kept (history-clean w h none))
+history-facts w h none = rw h.run at (run-facts h.events h.kept (history-clean w h none))
 
 pub history-orderly : (w : WorldState) → HasHistory w → w.false_passes ≡ 0 → AreOrderly (sessions_of w.delivery)
-history-orderly w h none = subst (λ (v : WorldState). AreOrderly (sessions_of v.delivery)) h.run (run-orderly h.events h.kept (history-clean w h none))
+history-orderly w h none = rw h.run at (run-orderly h.events h.kept (history-clean w h none))
 
 pub history-counted : (w : WorldState) → HasHistory w → AreCounted (sessions_of w.delivery)
-history-counted w h = subst (λ (v : WorldState). AreCounted (sessions_of v.delivery)) h.run (run-counted h.events)
+history-counted w h = rw h.run at (run-counted h.events)
+
+pub history-whole : (w : WorldState) → HasHistory w → AreWhole w.delivery
+history-whole w h = rw h.run at (run-whole h.events)

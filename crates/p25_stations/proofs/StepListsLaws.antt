@@ -27,8 +27,8 @@ silent : (event : Event) (w : Delivery) (x : Delivery × StepKind)
     (delivered_by x.1 ≡ []) × (sent_by event x.1 ≡ []) × (is_acknowledged x.1 ≡ false) → Tells event w x
 silent event w x same told =
     record {
-      delivered = same.0 ∙ none w.inbound.received ∙ ap (λ (ms : List (List ℕ)). w.inbound.received ++ ms) (sym told.0);
-      sent = same.1 ∙ none w.outbound.sent ∙ ap (λ (ms : List (List ℕ)). w.outbound.sent ++ ms) (sym told.1);
+      delivered = cc (none w.inbound.received);
+      sent = cc (none w.outbound.sent);
       acknowledged = omega (arith, same.2, ap (λ (b : Bool). cond {A = ℕ} b 1 0) told.2);
     }
 

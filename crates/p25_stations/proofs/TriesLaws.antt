@@ -27,7 +27,7 @@ taken-tries : (o : Outgoing) (message : List ℕ) → o.sender.tries ≡ 0 → (
     x ≡ (record { next = o.sender.next; outstanding = Message message; tries = 1; down = false }, OfferTaken o.sender.next (block_count (length message)) (message_packet o.sender.next message)) →
     Tells o.sender.tries (after_offer o message x)
 unfolding after_offer
-taken-tries o message none x e = subst (λ (y : Sending × Offer). Tells o.sender.tries (after_offer o message y)) (sym e) (ap (λ (n : ℕ). n + 1) none)
+taken-tries o message none x e = rw e (cc)
 
 offer-tries : (o : Outgoing) (message : List ℕ) (out : Outstanding) → o.sender.outstanding ≡ out → IsOutgoing o → Tells o.sender.tries (after_offer o message (offered o.sender message))
 unfolding after_offer
@@ -36,10 +36,10 @@ offer-tries o message Nothing is sound =
     taken-tries o message quiet.1 (offered o.sender message) (offer-quiet o.sender message quiet.0 is)
 offer-tries o message (Message other) is sound =
     let P : Sending × Offer → Type 0 = λ (y : Sending × Offer). Tells o.sender.tries (after_offer o message y) in
-    elim (offer-message o.sender message other is) [ inl e ↦ subst P (sym e) refl | inr e ↦ subst P (sym e) refl ]
+    elim (offer-message o.sender message other is) [ inl e ↦ rw e refl | inr e ↦ rw e refl ]
 offer-tries o message (Opening number) is sound =
     let P : Sending × Offer → Type 0 = λ (y : Sending × Offer). Tells o.sender.tries (after_offer o message y) in
-    elim (offer-opening o.sender message number is) [ inl e ↦ subst P (sym e) refl | inr e ↦ subst P (sym e) refl ]
+    elim (offer-opening o.sender message number is) [ inl e ↦ rw e refl | inr e ↦ rw e refl ]
 
 -- A timeout.
 
@@ -134,7 +134,7 @@ unfolding EachIs run_by steps_by tries_in
 run-tries [] w tries e are sound = e
 run-tries (event ∷ events) w tries e are sound =
     let next = world_step w event in
-    let now : tries_after tries next.1.kind ≡ next.0.delivery.outbound.sender.tries = ap (λ (n : ℕ). tries_after n next.1.kind) e ∙ tries-told w event next (step-does w event) sound in
+    let now : tries_after tries next.1.kind ≡ next.0.delivery.outbound.sender.tries = cc (tries-told w event next (step-does w event) sound) in
     run-tries events next.0 (tries_after tries next.1.kind) now are.1 (step-sound w event are.0 sound)
 
 pub run-sixteen : (events : List Event) → AreEvents events → tries_in 0 (steps_of first_world events) ≤ 16

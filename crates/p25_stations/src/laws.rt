@@ -3,7 +3,7 @@
 
 ghost use Rattle.std.specs.Prelude.{◌≡◌, ℕ, ◌≤◌, true, false, List, [], ◌∷◌, length, ◌<◌, ◌↔◌};
 ghost use Rattle.p25_delivery.specs.{MessageBlocks.{block_count}, SenderRules.{opening_number}, declared.sender.Outstanding.TheVariants.{Nothing}};
-ghost use Rattle.p25_delivery.specs.{Orderly.{AreOrderly, AreCounted, IsTrueTo}, Delivery.{sessions_of}, Facts.{DeliveryFacts}, SoundHalves.{IsMessage}};
+ghost use Rattle.p25_delivery.specs.{Orderly.{AreOrderly, AreCounted, AreWhole, IsTrueTo}, Delivery.{sessions_of}, Facts.{DeliveryFacts}, SoundHalves.{IsMessage}};
 ghost use Rattle.p25_messages.specs.declared.step_kind.StepKind.TheVariants.{Taken, Reopened, Delivered, SynHeard, Acknowledged, LinkOpened};
 ghost use Rattle.p25_stations.specs.Steps.{world_step, Packet as packet_type, Event as event_type, Send, Reopen, ToReceiver, ToSender, first_world};
 ghost use Rattle.p25_stations.specs.Runs.{AreEvents, world_run, steps_of, IsCleanRun, IsWithin, AreWithin, IsTwiceDamaged, true_step, tries_in, delivered_in, sent_in, acknowledged_in};
@@ -26,10 +26,11 @@ pub fn world_facts()
 {}
 
 /// **Theorem.** Its clauses say what every run keeps, clean or not. In each session what was acknowledged was sent, and
-/// one message at most was sent that was not acknowledged. A message or an opening packet is sent 16 times at most. And no
+/// one message at most was sent that was not acknowledged; and the sessions are the whole of the lists. A message or an opening packet is sent 16 times at most. And no
 /// step was a false pass exactly where none is counted.
 pub fn runs_are_counted()
     ensures sessions { (events : List event_type) → AreCounted (sessions_of (world_run first_world events).delivery) }
+    ensures whole { (events : List event_type) → AreWhole (world_run first_world events).delivery }
     ensures tries { (events : List event_type) → AreEvents events → tries_in 0 (steps_of first_world events) ≤ 16 }
     ensures clean { (events : List event_type) → (world_run first_world events).false_passes ≡ 0 → IsCleanRun events }
     ensures none { (events : List event_type) → IsCleanRun events → (world_run first_world events).false_passes ≡ 0 }

@@ -1,5 +1,5 @@
 ghost use Rattle.std.specs.Prelude.{◌≡◌, ◌+◌, ◌<◌, ◌≤◌, length, OnOk, OnErr, IfOk};
-ghost use Rattle.p25_delivery.specs.{Delivery.{sessions_of}, Facts.{DeliveryFacts}, Orderly.{AreCounted, AreOrderly}};
+ghost use Rattle.p25_delivery.specs.{Delivery.{sessions_of}, Facts.{DeliveryFacts}, Orderly.{AreCounted, AreOrderly, AreWhole}};
 ghost use Rattle.p25_stations.specs.{Runs.{HasHistory, IsEvent}, Steps.{world_step}, WorldState.{first_world}};
 
 use crate::fitting::message_fits;
@@ -50,12 +50,14 @@ impl World {
     /// Does nothing; its clauses say what holds of every world. Some list of events brought it from its first state to this one.
     /// Where it counts no false pass, its delivery keeps the facts that `DeliveryFacts` names, and each session is orderly: what
     /// was delivered is the beginning of what was sent, each message once, every message that was acknowledged was delivered, and
-    /// one at most was delivered that was not acknowledged. In any case one at most was sent that was not acknowledged.
+    /// one at most was delivered that was not acknowledged. In any case one at most was sent that was not acknowledged, and the
+    /// sessions are the whole of the lists: joined, their messages are all that were sent and all that were delivered.
     pub fn facts(&self)
         ensures history { HasHistory self.now.state }
         ensures kept { self.now.state.false_passes ≡ 0 → DeliveryFacts self.now.state.delivery }
         ensures orderly { self.now.state.false_passes ≡ 0 → AreOrderly (sessions_of self.now.state.delivery) }
         ensures counted { AreCounted (sessions_of self.now.state.delivery) }
+        ensures whole { AreWhole self.now.state.delivery }
     {
         let _ = &self.stations;
     }

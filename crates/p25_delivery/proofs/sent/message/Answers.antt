@@ -23,7 +23,6 @@ returns c =
     let message = c.args.message.now in
     let all : c.loop-serial.serial ≡ c.blocks_for-count.result = omega arith in
     let slots : c.loop-serial.slots ≡ map good_slot (each_below c.blocks_for-count.result (message_block message))
-    = c.loop-serial.invariant.list ∙ ap (λ (n : ℕ). map good_slot (each_below n (message_block message))) all in
-    ap (λ (packet : ConfirmedParts). Confirmed packet) c.new.ensures ∙
-    message_packet-is c.args.number message c.confirmed-head.result c.loop-serial.slots
-    c.blocks_for-count.result c.pad_for.result c.confirmed-head.ensures.octets c.blocks_for-count.ensures.value c.pad_for.ensures.value slots
+    = cc in
+    cc (message_packet-is c.args.number message c.confirmed-head.result c.loop-serial.slots
+    c.blocks_for-count.result c.pad_for.result c.confirmed-head.ensures.octets c.blocks_for-count.ensures.value c.pad_for.ensures.value slots)

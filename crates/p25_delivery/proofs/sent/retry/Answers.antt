@@ -11,6 +11,6 @@ new-requires c =
     elim c.if-len-le64.branch [ then-len-le64 w ↦ absurd (omega (arith, w.if-len-le64.true, c.len.ensures.value)) | else-len-le64 w ↦ w.blocks-is ] in
     record {
       format = inr c.response-head.ensures.format;
-      count = length-flag_octets flags c.flags_make.result c.if-len-le64.blocks c.flags_make.ensures.octets
-          (rw c.len.ensures.value at c.len.ensures.counts) few many ∙ ap (λ (n : ℕ). 12 * n - 4) (sym c.response-head.ensures.blocks);
+      count = cc (length-flag_octets flags c.flags_make.result c.if-len-le64.blocks c.flags_make.ensures.octets
+          (rw c.len.ensures.value at c.len.ensures.counts) few many);
     }

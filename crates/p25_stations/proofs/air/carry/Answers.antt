@@ -9,7 +9,7 @@ use Rattle.p25_stations.proofs.air.carry.Goals as goal
 reading : (packet : Packet) (flips : List ℕ) (sent received : List Bool) (given read : Result (ℕ × Packet) Field)
     → sent ≡ transmission_of packet → received ≡ with_flips sent flips → given ≡ packet_unit_of received → given ≡ read →
     packet_unit_of (received_bits packet flips) ≡ read
-reading packet flips sent received given read s r g e = ap packet_unit_of (sym (r ∙ ap (λ (bits : List Bool). with_flips bits flips) s)) ∙ sym g ∙ e
+reading packet flips sent received given read s r g e = cc
 
 pub returns-in-Err : goal.returns-in-Err
 returns-in-Err c =
@@ -30,4 +30,4 @@ returns-in-Ok-2 c =
     (reading c.args.packet.now c.args.flips.now c.transmit.new.out c.invert.new.bits c.read_packet_unit.result
     (Ok (c.in-Ok.nac, c.in-Ok.field-0-1)) c.transmit.ensures.bits c.invert.ensures.bits c.read_packet_unit.ensures c.in-Ok.is)
     c.if-nac-ne-NAC.false in
-    ap (λ (b : Bool). Heard c.in-Ok.field-0-1 (not b)) c.is_true_to-false_pass.ensures ∙ sym heard
+    cc

@@ -12,8 +12,8 @@ loop-i-preserved c =
     let here = c.get.ensures.place ∙ ap Some (sym c.from-place.ensures) in
     let more = with_flips-more c.args.bits.now c.loop-i.bits flips c.loop-i.i place here (omega (arith, c.len-i-end.ensures.value)) c.loop-i.invariant.bits in
     elim c.if-place-len.branch [
-      | then-place-len h ↦ record { bits = h.bits-is ∙ h.flip.ensures.list ∙ more; len = ap length h.bits-is ∙ h.flip.ensures.len ∙ c.loop-i.invariant.len }
+      | then-place-len h ↦ record { bits = cc; len = cc }
       | else-place-len h ↦
           (let past = flipped-past c.loop-i.bits place (omega (arith, h.if-place-len.false, c.len.ensures.value)) in
-          record { bits = h.bits-is ∙ sym past ∙ more; len = ap length h.bits-is ∙ c.loop-i.invariant.len })
+          record { bits = cc; len = cc })
     ]

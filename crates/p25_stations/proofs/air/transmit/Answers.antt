@@ -12,5 +12,4 @@ pub returns-clause-bits : goal.returns-clause-bits
 unfolding transmission_of
 returns-clause-bits c =
     let parts : c.len.result / 70 ≡ packet_parts (head_blocks (packet_head c.args.packet.now)) = omega (arith, c.packet_image.ensures.len, c.len.ensures.value) in
-    c.weave.ensures.list ∙ ap₂ (λ (bits : List Bool) (statuses : List Status). woven bits statuses) c.packet_image.ensures.list
-    (c.filled-statuses.ensures.list ∙ ap₂ (λ (n : ℕ) (s : Status). replicate n s) parts (same_status c.default.result station_status c.default.ensures))
+    cc (same_status c.default.result station_status c.default.ensures)

@@ -5,6 +5,6 @@ use Rattle.p25_stations.proofs.fitting.message_fits.Goals as goal
 pub returns : goal.returns
 returns c =
     record {
-      short = subst (λ (octets : List ℕ). length octets ≤ 2028) c.octets.ensures.octets c.octets.ensures.most;
+      short = rw c.octets.ensures.octets at c.octets.ensures.most;
       octets = subst AreOctets c.octets.ensures.octets c.octets_fit.ensures;
     }

@@ -24,4 +24,4 @@ loop-i-preserved c =
     let long : length sent ≡ length heard = omega (arith, c.len.ensures.value, c.len-2.ensures.value, c.if-len.false) in
     let step = are_true_slots-step sent heard i c.get.result c.get-in-loop-i.result c.is_true_slot.result long
     (omega (arith, c.len-i-end.ensures.value)) c.get.ensures c.get-in-loop-i.ensures c.is_true_slot.ensures in
-    c.loop-i.invariant ∙ step ∙ ap (λ (b : Bool). b && are_true_slots (drop (i + 1) sent) (drop (i + 1) heard)) c.if-not-is_true_slot.false
+    rw (c.loop-i.invariant, step, c.if-not-is_true_slot.false)

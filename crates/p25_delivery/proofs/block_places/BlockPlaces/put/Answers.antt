@@ -15,17 +15,15 @@ pub loop-j-preserved : goal.loop-j-preserved
 loop-j-preserved c =
     elim c.match-get.branch [
       | in-Good w ↦
-          (let here : slice_get c.args.slots.now c.loop-j.j ≡ Some (Good w.in-Good.block) = c.get.ensures ∙ ap Some w.in-Good.is in
+          (let here : slice_get c.args.slots.now c.loop-j.j ≡ Some (Good w.in-Good.block) = cc in
           record {
             list =
-                ap (λ (s : Inside). s.places.items) w.self-inside-is ∙ w.put_at.ensures ∙ ap (λ ps. put_block ps w.in-Good.block) c.loop-j.invariant.list ∙
-                sym (put_slots-good c.self.inside.places.items c.args.slots.now c.loop-j.j w.in-Good.block here);
-            pad = ap (λ (s : Inside). s.pad) w.self-inside-is ∙ c.loop-j.invariant.pad;
+                cc (put_slots-good c.self.inside.places.items c.args.slots.now c.loop-j.j w.in-Good.block here);
+            pad = cc;
           })
       | in_default w ↦
           record {
-            list = ap (λ (s : Inside). s.places.items) w.self-inside-is ∙ c.loop-j.invariant.list
-                ∙ sym (put_slots-bad c.self.inside.places.items c.args.slots.now c.loop-j.j (c.get.ensures ∙ ap Some w.in_default.is));
-            pad = ap (λ (s : Inside). s.pad) w.self-inside-is ∙ c.loop-j.invariant.pad;
+            list = cc (put_slots-bad c.self.inside.places.items c.args.slots.now c.loop-j.j (cc));
+            pad = cc;
           }
     ]

@@ -11,7 +11,7 @@ returns-in_err-block-clause-octets c =
     let places = c.args.places.now in
     let here : slice_get places c.loop-place.place-index ≡ Some None
     = slice_get_read places (length places) c.loop-place.place-index c.place-item.result refl c.loop-place-test.true c.place-item.is ∙ ap Some c.in_err-block.was in
-    c.from_residual.ensures ∙ sym (all_octets-empty places c.loop-place.place-index here)
+    cc (all_octets-empty places c.loop-place.place-index here)
 
 pub loop-place-preserved : goal.loop-place-preserved
 loop-place-preserved c =
@@ -20,11 +20,9 @@ loop-place-preserved c =
     let here : slice_get places c.loop-place.place-index ≡ Some (Some block)
     = slice_get_read places (length places) c.loop-place.place-index c.place-item.result refl c.loop-place-test.true c.place-item.is ∙ ap Some c.in_ok-block.was in
     let more = rw c.unwrap.ensures at c.try_extend_from_slice.ensures.ok in
-    let long : length c.octets.result.now ≡ 16 = ap length c.octets.ensures.value ∙ c.octets.ensures.len in
+    let long : length c.octets.result.now ≡ 16 = cc in
     record {
       octets =
-          all_octets-more places c.loop-place.place-index block c.loop-place.items.items here c.loop-place.invariant.octets
-          ∙ ap (λ xs. Some (c.loop-place.items.items ++ xs)) (sym c.octets.ensures.value) ∙
-          ap Some (sym more);
+          cc (all_octets-more places c.loop-place.place-index block c.loop-place.items.items here c.loop-place.invariant.octets);
       len = omega (arith, ap length more, length-append c.loop-place.items.items c.octets.result.now);
     }

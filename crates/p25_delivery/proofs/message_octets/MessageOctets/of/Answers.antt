@@ -17,4 +17,4 @@ returns-clause-list c =
     let check = c.crc32-check.ensures.value ∙ ap crc32_of (c.as_slice.ensures.value ∙ padded) in
     let last = c.to_be_bytes.ensures ∙ ap (λ (n : ℕ). n / 16777216 % 256 ∷ n / 65536 % 256 ∷ n / 256 % 256 ∷ n % 256 ∷ []) check
     ∙ put_four (crc32_of (padded_octets message)) (crc32_of-lt (padded_octets message)) in
-    (rw c.unwrap-3.ensures at c.try_extend_from_slice-3.ensures.ok) ∙ ap₂ join padded last
+    cc (rw c.unwrap-3.ensures at c.try_extend_from_slice-3.ensures.ok)

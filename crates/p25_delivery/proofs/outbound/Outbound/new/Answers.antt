@@ -12,4 +12,4 @@ unfolding made
 invariant_of-result c =
     let lists = ap₂ (λ (s : Sending) (sent : List (List ℕ)). made s sent c.new-3.result.items) c.new.ensures c.new-2.ensures in
     let marks = ap (λ (m : List Mark). made first_sending [] m) c.new-3.ensures.items in
-    subst IsOutgoing (sym (lists ∙ marks)) first-outgoing
+    rw (lists, marks) first-outgoing

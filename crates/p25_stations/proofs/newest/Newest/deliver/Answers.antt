@@ -5,4 +5,4 @@ use Rattle.p25_stations.proofs.AirLaws.{sendable-whole}
 use Rattle.p25_stations.proofs.newest.Newest.deliver.Goals as goal
 
 pub carry-requires : goal.carry-requires
-carry-requires c = sendable-whole c.in-Some.packet (subst (λ (newest : Option Packet). IfSome newest IsSendable) c.in-Some.is c.self.invariant)
+carry-requires c = sendable-whole c.in-Some.packet (rw c.in-Some.is at c.self.invariant)
