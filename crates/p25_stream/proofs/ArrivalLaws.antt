@@ -1,7 +1,7 @@
 -- Units end to end are whole, by induction on their list: each is decided by its own bits. A unit after other bits is found there, by
 -- induction on the number of those bits: the first item of them ends before it, or it is a unit that covers its first bit.
-use Rattle.std.proofs.Common.{◌≡◌, ℕ, zero, suc, ◌+◌, ◌<◌, ◌≤◌, ◌⊎◌, inl, inr, Bool, true, false, List, [], ◌∷◌, ◌++◌, length, drop, refl, ap, ap₂, sym, ◌∙◌, subst, arith, append_assoc, append-nil, length-append, length-drop, sum_by}
-use Rattle.std.proofs.{lemmas.Bool.{cases_lt}, lemmas.List.{drop-append-le, drop_all}, lemmas.List.Elements.{All-head, All-tail}, lemmas.List.Sums.{sum_by-cons}}
+use Rattle.std.proofs.Common.{◌≡◌, ℕ, zero, suc, ◌+◌, ◌<◌, ◌≤◌, ◌⊎◌, inl, inr, Bool, true, false, List, [], ◌∷◌, ◌++◌, length, drop, refl, ap, sym, ◌∙◌, arith, append_assoc, append-nil, length-append, length-drop, sum_by}
+use Rattle.std.proofs.{lemmas.Bool.{cases_lt}, Math.Nat.{add-zero}, lemmas.List.{drop-append-le, drop_all, drop_at}, lemmas.List.Elements.{All-head, All-tail}, lemmas.List.Sums.{sum_by-cons}}
 use Rattle.p25_status.specs.Sync.{has_sync}
 use Rattle.p25_status.proofs.SyncLaws.{has_sync-append, has_sync-length}
 use Rattle.p25_units.specs.{Items.{covered}, Units.{IsSendableUnit, IsSoundFrame}, declared.item.Item.{Item}, declared.item.Item.TheVariants.{NoUnit, Gap}}
@@ -21,10 +21,7 @@ wholes_of-cons place arrival arrivals = refl
 -- a unit alone: its item is decided by its bits, and covers them
 module _ (at : ℕ) (arrival : Arrival) (is : IsNearArrival arrival) where
   alone : (first_item at arrival.bits ≡ whole_of at arrival) × (is_decided arrival.bits ≡ true) × (covered (first_item at arrival.bits) ≡ length arrival.bits)
-  alone =
-      subst (λ (bits : List Bool). (first_item at bits ≡ whole_of at arrival) × (is_decided bits ≡ true) × (covered (first_item at bits) ≡ length arrival.bits))
-      (append-nil arrival.bits)
-      (near-whole at arrival.frame arrival.bits [] is.sound is.sendable is.near)
+  alone = rw append-nil at (near-whole at arrival.frame arrival.bits [] is.sound is.sendable is.near)
 
   pub covered-whole_of : covered (whole_of at arrival) ≡ length arrival.bits
   covered-whole_of = ap covered (sym alone.0) ∙ alone.2
@@ -37,25 +34,23 @@ module _ (at : ℕ) (arrival : Arrival) (is : IsNearArrival arrival) where
 
   -- where bits begin with it, it is the first of the items, and those of the bits after it follow
   pub items_by-arrival : (ended : Bool) (more : List Bool) → items_by ended at (arrival.bits ++ more) ≡ whole_of at arrival ∷ items_by ended (at + length arrival.bits) more
-  items_by-arrival ended more =
-      items_by-decided ended at arrival.bits more alone.1
-      ∙ ap (λ (n : ℕ). first_item at arrival.bits ∷ items_by ended (at + n) (drop n arrival.bits ++ more)) alone.2
-      ∙ ap₂ (λ (item : Item) (left : List Bool). item ∷ items_by ended (at + length arrival.bits) (left ++ more)) alone.0 (drop_all (length arrival.bits) arrival.bits (omega arith))
+  items_by-arrival ended more = rw (items_by-decided ended at arrival.bits more alone.1, alone.2, alone.0, drop_all (length arrival.bits) arrival.bits (omega arith))
 
 -- units end to end
 pub units-whole : UnitsAreWhole
 units-whole ended at [] more near =
-    let none : at ≡ at + 0 = omega arith in
-    ap (λ (n : ℕ). items_by ended n more) none ∙ ap (λ (items : List Item). items ++ items_by ended (at + 0) more) (sym (wholes_of-nil at))
+    rw (wholes_of-nil, add-zero)
 units-whole ended at (arrival ∷ arrivals) more near =
     let bits = arrival.bits in
     let later = bits_arrived arrivals in
     let place : at + length bits + length later ≡ at + length (bits ++ later) = omega (arith, length-append bits later) in
-    ap (items_by ended at) (append_assoc bits later more)
-    ∙ items_by-arrival at arrival (All-head IsNearArrival arrival arrivals near) ended (later ++ more)
-    ∙ ap (λ (items : List Item). whole_of at arrival ∷ items) (units-whole ended (at + length bits) arrivals more (All-tail IsNearArrival arrival arrivals near))
-    ∙ ap (λ (n : ℕ). whole_of at arrival ∷ (wholes_of (at + length bits) arrivals ++ items_by ended n more)) place
-    ∙ ap (λ (items : List Item). items ++ items_by ended (at + length (bits ++ later)) more) (sym (wholes_of-cons at arrival arrivals))
+    rw (
+      append_assoc bits later more,
+      items_by-arrival at arrival (All-head IsNearArrival arrival arrivals near) ended (later ++ more),
+      units-whole ended (at + length bits) arrivals more (All-tail IsNearArrival arrival arrivals near),
+      place,
+      wholes_of-cons,
+    )
 
 -- among the items of some bits are those of the bits from a place on, and the items before these end there
 pub record IsReached (at place : ℕ) (rest : List Bool) (items : List Item) : Type 0 where
@@ -73,7 +68,7 @@ module _ (place : ℕ) (rest : List Bool) (synced : has_sync rest ≡ true) wher
         before = item ∷ hidden.before;
         item = hidden.item;
         after = hidden.after;
-        among = ap (λ (is : List Item). item ∷ is) hidden.among;
+        among = rw hidden.among;
         unit = hidden.unit;
         begins = hidden.begins;
         covers = hidden.covers;
@@ -81,7 +76,7 @@ module _ (place : ℕ) (rest : List Bool) (synced : has_sync rest ≡ true) wher
   later at item items (inr reached) =
       inr (record {
         before = item ∷ reached.before;
-        among = ap (λ (is : List Item). item ∷ is) reached.among;
+        among = rw reached.among;
         ends = omega (arith, sum_by-cons covered item reached.before, reached.ends);
       })
 
@@ -90,9 +85,8 @@ module _ (place : ℕ) (rest : List Bool) (synced : has_sync rest ≡ true) wher
     no_gap : (start count : ℕ) → Gap start count ≡ first_item at (bits ++ rest) → length bits < count → ⊥
     no_gap start count same far =
         let gap = gap-first at (bits ++ rest) start count same in
-        let behind : drop (length bits) (bits ++ rest) ≡ rest
-        = drop-append-le (length bits) bits rest (omega arith) ∙ ap (λ (left : List Bool). left ++ rest) (drop_all (length bits) bits (omega arith)) in
-        let unseen : has_sync rest ≡ false = ap has_sync (sym behind) ∙ has_sync-before (bits ++ rest) (length bits) (omega (arith, gap.1)) in
+        let behind : drop (length bits) (bits ++ rest) ≡ rest = drop_at bits rest (length bits) refl in
+        let unseen = rw behind at (has_sync-before (bits ++ rest) (length bits) (omega (arith, gap.1))) in
         let both : true ≡ false = sym synced ∙ unseen in
         absurd (cc)
 
@@ -105,7 +99,7 @@ module _ (place : ℕ) (rest : List Bool) (synced : has_sync rest ≡ true) wher
       → IsHidden place (items_of at (bits ++ rest)) ⊎ IsReached at place rest (items_of at (bits ++ rest))
   walk turns at [] few here =
       let same : at ≡ place = omega arith in
-      inr (record { before = []; among = ap (λ (p : ℕ). items_of p rest) same; ends = omega arith })
+      inr (record { before = []; among = rw same; ends = omega arith })
   walk zero at (bit ∷ bits) few here = absurd (omega arith)
   walk (suc turns) at (bit ∷ bits) few here =
       let front = bit ∷ bits in
@@ -130,7 +124,7 @@ module _ (place : ℕ) (rest : List Bool) (synced : has_sync rest ≡ true) wher
             let behind : drop count all ≡ left ++ rest = drop-append-le count front rest near in
             let less : length left ≤ turns = omega (arith, length-drop count front, fits.0) in
             let place_is : place ≡ at + count + length left = omega (arith, length-drop count front) in
-            subst (λ (items : List Item). IsHidden place items ⊎ IsReached at place rest items) (sym (unfolds ∙ ap (λ (bits : List Bool). item ∷ items_of (at + count) bits) behind))
+            rw (unfolds, behind)
             (later at item (items_of (at + count) (left ++ rest)) (walk turns (at + count) left less place_is))
       ]
 
@@ -144,7 +138,7 @@ found at place arrival more items is (inl hidden) = inl hidden
 found at place arrival more items is (inr reached) =
     inr (record {
       before = reached.before;
-      among = reached.among ∙ ap (λ (is : List Item). reached.before ++ is) (items_by-arrival place arrival is true more);
+      among = rw (reached.among, items_by-arrival place arrival is true more);
       ends = reached.ends;
     })
 

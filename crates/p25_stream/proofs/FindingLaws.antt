@@ -1,38 +1,29 @@
 -- Octets that are taken from a place on until the first item is known: the bits held and those left are the bits from there on, and so
 -- the first item of those held is the first of all.
-use Rattle.std.proofs.Common.{◌≡◌, ℕ, ◌+◌, ◌-◌, ◌*◌, ◌/◌, ◌%◌, ◌<◌, ◌≤◌, Bool, true, false, ◌||◌, inl, inr, List, [], ◌∷◌, ◌++◌, length, take, drop, get_or, ap, ap₂, sym, subst, ◌∙◌, arith, append_assoc, append-nil, length-append, length-take, add-one}
+use Rattle.std.proofs.Common.{◌≡◌, ℕ, ◌+◌, ◌-◌, ◌*◌, ◌/◌, ◌%◌, ◌<◌, ◌≤◌, Bool, true, false, ◌||◌, inl, inr, List, [], ◌∷◌, ◌++◌, length, take, drop, get_or, ap, ◌∙◌, arith, append_assoc, append-nil, length-append, length-take, add-one}
 use Rattle.std.proofs.{Math.Seq.{drop-cons, take-add}, lemmas.Bool.{cases_Bool}, lemmas.List.{drop-append-le, drop_all, take-append-drop, take_rest}}
 use Rattle.p25_bits.specs.Bits.{bits_of, octet_bits}
 use Rattle.p25_bits.proofs.{BitsLaws.{length-bits_of, length-octet_bits, octet_bits-append, octet_bits-cons, octet_bits-nil}, PartLaws.{drop_behind}}
 use Rattle.p25_units.specs.Items.{covered}
-use Rattle.p25_stream.specs.{Judgements.{IsJudged, is_settled}, Finding.{IsFilled, IsFirst}, Items.{first_item, is_decided, items_by}, declared.judged.Judged.{Judged}}
+use Rattle.p25_stream.specs.{Judgements.{IsJudged, is_settled}, Finding.{IsFilled, IsFirst}, Items.{first_item, items_by}, declared.judged.Judged.{Judged}}
 use Rattle.p25_stream.proofs.{JudgementsLaws.{IsJudged-decided}, ItemsLaws.{covered-first_item, decided-some, items_by-decided, items_by-more, items_by-nil, items_by-none}}
 
 pub put-none : (held : List Bool) (octets : List ℕ) → held ≡ held ++ octet_bits (take 0 octets)
-put-none held octets = sym (append-nil held) ∙ ap (λ (zs : List Bool). held ++ zs) (sym octet_bits-nil)
+put-none held octets = rw (octet_bits-nil, append-nil)
 
 pub put-more : (before held later : List Bool) (octets : List ℕ) (taken count : ℕ) → held ≡ before ++ octet_bits (take taken octets)
     → later ≡ held ++ octet_bits (take count (take (length octets - taken) (drop taken octets))) → later ≡ before ++ octet_bits (take (taken + count) octets)
 put-more before held later octets taken count was is =
-    let rest = take count (drop taken octets) in
-    is
-    ∙ ap (λ (zs : List ℕ). held ++ octet_bits (take count zs)) (take_rest octets taken)
-    ∙ ap (λ (zs : List Bool). zs ++ octet_bits rest) was
-    ∙ append_assoc before (octet_bits (take taken octets)) (octet_bits rest)
-    ∙ ap (λ (zs : List Bool). before ++ zs) (sym (octet_bits-append (take taken octets) rest) ∙ ap octet_bits (sym (take-add taken count octets)))
+    rw (is, take_rest, was, append_assoc, ← octet_bits-append, ← take-add)
 
 -- what is held and what is left are what there is
 pub filled : (before held : List Bool) (octets : List ℕ) (taken : ℕ) (judged : Judged) → held ≡ before ++ octet_bits (take taken octets)
     → IsJudged judged held → (is_settled judged ≡ false → length octets ≤ taken) → IsFilled before (octet_bits octets) held judged
 filled before held octets taken judged is known all = record {
   more = octet_bits (drop taken octets);
-  joined =
-      ap (λ (zs : List ℕ). before ++ octet_bits zs) (sym (take-append-drop taken octets))
-      ∙ ap (λ (zs : List Bool). before ++ zs) (octet_bits-append (take taken octets) (drop taken octets))
-      ∙ sym (append_assoc before (octet_bits (take taken octets)) (octet_bits (drop taken octets)))
-      ∙ ap (λ (zs : List Bool). zs ++ octet_bits (drop taken octets)) (sym is);
+  joined = rw (is, append_assoc, ← octet_bits-append, take-append-drop);
   known = known;
-  all = λ open'. ap octet_bits (drop_all taken octets (all open')) ∙ octet_bits-nil;
+  all = λ open'. rw (drop_all taken octets (all open'), octet_bits-nil);
 }
 
 -- an item of a place is the first of the items there, where more bits do not matter or do not come
@@ -45,21 +36,17 @@ module _ (ended : Bool) (place : ℕ) (before rest held : List Bool) (judged : J
   -- where all bits are held, or the first item is known, it is that of the bits held
   pub first-ended : 0 < length held → ended ≡ true → is_settled judged ≡ false → IsFirst ended place (before ++ rest) (first_item place held)
   first-ended some goes open' =
-      let same : before ++ rest ≡ held = is.joined ∙ ap (λ (zs : List Bool). held ++ zs) (is.all open') ∙ append-nil held in
-      subst (λ (zs : List Bool). IsFirst ended place zs (first_item place held)) (sym same)
-      (first-is ended place held some (items_by-more ended place held some (ap (λ (b : Bool). b || is_decided held) goes)))
+      rw (is.joined, is.all open', append-nil) (first-is ended place held some (items_by-more ended place held some (rw goes)))
 
   pub first-known : 0 < length held → is_settled judged ≡ true → IsFirst ended place (before ++ rest) (first_item place held)
   first-known some known =
       let item = first_item place held in
       let decided = IsJudged-decided judged held is.known ∙ known in
       let fits = (covered-first_item place held some).1 in
-      let left = drop-append-le (covered item) held is.more fits in
-      subst (λ (zs : List Bool). IsFirst ended place zs item) (sym is.joined)
-      record {
-        items = items_by-decided ended place held is.more decided ∙ ap (λ (zs : List Bool). item ∷ items_by ended (place + covered item) zs) (sym left);
+      rw is.joined (record {
+        items = rw (items_by-decided ended place held is.more decided, drop-append-le (covered item) held is.more fits);
         there = omega (arith, fits, length-append held is.more);
-      }
+      })
 
   pub first-found : 0 < length held → (ended || is_settled judged) ≡ true → IsFirst ended place (before ++ rest) (first_item place held)
   first-found some goes =
@@ -67,15 +54,14 @@ module _ (ended : Bool) (place : ℕ) (before rest held : List Bool) (judged : J
         | inl known ↦ first-known some known
         | inr open' ↦ elim (cases_Bool ended) [
           | inl yes' ↦ first-ended some yes' open'
-          | inr no' ↦ let two : false ≡ true = sym (ap₂ ◌||◌ no' open') ∙ goes in absurd (cc)
+          | inr no' ↦ absurd (let two = rw (no', open') at goes in cc)
         ]
       ]
 
   -- and where it is not known and more may come, there is none
   pub none-found : ended ≡ false → is_settled judged ≡ false → items_by ended place (before ++ rest) ≡ []
   none-found goes open' =
-      let same : before ++ rest ≡ held = is.joined ∙ ap (λ (zs : List Bool). held ++ zs) (is.all open') ∙ append-nil held in
-      ap (items_by ended place) same ∙ items_by-none ended place held (ap₂ ◌||◌ goes (IsJudged-decided judged held is.known ∙ open'))
+      rw (is.joined, is.all open', append-nil) (items_by-none ended place held (rw (goes, IsJudged-decided judged held is.known, open')))
 
 -- the bits held are as many as one octet has from the place on, or more
 pub held-some : (before rest held : List Bool) (judged : Judged) → IsFilled before rest held judged → 0 < length before → 0 < length held
@@ -97,19 +83,12 @@ bits-at octets at before inside is =
     let long : length front ≡ 8 * first = omega (arith, length-octet_bits (take first octets), length-take first octets) in
     let within : at % 8 ≤ length (bits_of 8 octet) = omega (arith, length-bits_of 8 octet) in
     let at_is : at ≡ 8 * first + at % 8 = omega arith in
-    let later : drop first octets ≡ octet ∷ drop (first + 1) octets
-    = drop-cons octets first 0 inside ∙ ap (λ (n : ℕ). octet ∷ drop n octets) (sym (add-one first)) in
-    let whole : octet_bits octets ≡ front ++ (bits_of 8 octet ++ behind)
-    = ap octet_bits (sym (take-append-drop first octets))
-    ∙ octet_bits-append (take first octets) (drop first octets)
-    ∙ ap (λ (zs : List Bool). front ++ zs) (ap octet_bits later ∙ octet_bits-cons octet (drop (first + 1) octets)) in
-    ap₂ drop at_is whole
-    ∙ drop_behind (8 * first) (at % 8) front (bits_of 8 octet ++ behind) long
-    ∙ drop-append-le (at % 8) (bits_of 8 octet) behind within
-    ∙ ap₂ (λ (xs : List Bool) (ys : List ℕ). xs ++ octet_bits ys) (sym is) (sym (take_rest octets (first + 1)))
+    let later : drop first octets ≡ octet ∷ drop (first + 1) octets = rw add-one (drop-cons octets first 0 inside) in
+    let whole : octet_bits octets ≡ front ++ (bits_of 8 octet ++ behind) = rw (← octet_bits-cons, ← later, ← octet_bits-append, take-append-drop) in
+    rw (whole, is, take_rest octets (first + 1), ← drop-append-le (at % 8) (bits_of 8 octet) behind within, ← drop_behind (8 * first) (at % 8) front (bits_of 8 octet ++ behind) long, ← at_is)
 
 -- there are none from their end on
 pub none-at_end : (ended : Bool) (place at : ℕ) (octets : List ℕ) → 8 * length octets ≤ at → items_by ended place (drop at (octet_bits octets)) ≡ []
 none-at_end ended place at octets end =
     let long : length (octet_bits octets) ≤ at = omega (arith, length-octet_bits octets) in
-    ap (items_by ended place) (drop_all at (octet_bits octets) long) ∙ items_by-nil ended place
+    rw (drop_all at (octet_bits octets) long, items_by-nil)

@@ -1,6 +1,6 @@
 -- The laws of items: an item among others is the first of what those before it leave, and a step of the walk says the rest.
-use Rattle.std.proofs.Common.{◌≡◌, ℕ, zero, suc, ◌+◌, ◌<◌, ◌≤◌, inl, inr, Bool, true, List, [], ◌∷◌, ◌++◌, length, take, drop, refl, ap, ap₂, sym, ◌∙◌, subst, arith, length-drop}
-use Rattle.std.proofs.{lemmas.Bool.{cases_lt}, lemmas.List.{drop-drop, take-append-le}, Math.Seq.{take-length}, lemmas.List.Sums.{sum_by-cons}}
+use Rattle.std.proofs.Common.{◌≡◌, ℕ, zero, suc, ◌+◌, ◌<◌, ◌≤◌, inl, inr, Bool, true, List, [], ◌∷◌, ◌++◌, length, take, drop, refl, ap, sym, ◌∙◌, subst, add_assoc, arith, length-drop}
+use Rattle.std.proofs.{lemmas.Bool.{cases_lt}, lemmas.List.{drop-drop, take-append-le}, Math.Nat.{add-zero}, Math.Seq.{take-length}, lemmas.List.Sums.{sum_by-cons}}
 use Rattle.std.specs.List.{sum_by}
 use Rattle.p25_status.proofs.SyncLaws.{has_sync-append, has_sync-length}
 use Rattle.p25_units.specs.{Fixes.{fixes_of}, Items.{covered, place_of, IsSoundItem, unit_item_of}, Units.{frame_length_of, image_of}, WholeLaws.{IsWholeOf}, declared.item.Item.{Item}}
@@ -11,34 +11,26 @@ use Rattle.p25_stream.specs.{Items.{sync_place, first_item, items_by, items_of},
 use Rattle.p25_stream.proofs.SyncPlaceLaws.{sync_place-left, sync_place-unsynced}
 use Rattle.p25_stream.proofs.ItemsLaws.{covered-first_item, place_of-first_item, IsSoundItem-first_item, first_item-cases, gap-first, items_by-nil, items_by-more, items_by-first, first_item-synced, is_decided-synced}
 
--- an item among others is the first of the bits that those before it leave
-pub items_by-among : (before : List Item) (item : Item) (after : List Item) (ended : Bool) (at : ℕ) (bits : List Bool)
-    → items_by ended at bits ≡ before ++ item ∷ after
-    → items_by ended (at + sum_by covered before) (drop (sum_by covered before) bits) ≡ item ∷ after
-items_by-among [] item after ended at bits is = let none : at + 0 ≡ at = omega arith in ap (λ n. items_by ended n bits) none ∙ is
-items_by-among (first ∷ before) item after ended at bits is =
-    let sum = sum_by covered before in
-    let parts = items_by-first ended at bits first (before ++ item ∷ after) is in
-    let behind = items_by-among before item after ended (at + covered first) (drop (covered first) bits) (sym parts.2) in
-    let place : at + covered first + sum ≡ at + (covered first + sum) = omega arith in
-    ap (λ n. items_by ended (at + n) (drop n bits)) (sum_by-cons covered first before)
-    ∙ ap₂ (λ n rest. items_by ended n rest) (sym place) (sym (drop-drop sum (covered first) bits))
-    ∙ behind
+-- items among others are those of the bits that the items before them leave
+pub items_by-among : (before items : List Item) (ended : Bool) (at : ℕ) (bits : List Bool) → items_by ended at bits ≡ before ++ items
+    → items_by ended (at + sum_by covered before) (drop (sum_by covered before) bits) ≡ items
+items_by-among [] items ended at bits is = rw add-zero is
+items_by-among (first ∷ before) items ended at bits is =
+    let parts = items_by-first ended at bits first (before ++ items) is in
+    rw sum_by-cons (rw (add_assoc, drop-drop) at (items_by-among before items ended (at + covered first) (drop (covered first) bits) (sym parts.2)))
 
--- an item among the items of some bits
+-- an item among the items of some bits is the first of those that are left, and its bits are there
 module _ (ended : Bool) (at : ℕ) (bits : List Bool) (before : List Item) (item : Item) (after : List Item) (is : items_by ended at bits ≡ before ++ item ∷ after) where
   pub item-among : (0 < length (drop (sum_by covered before) bits)) × (item ≡ first_item (at + sum_by covered before) (drop (sum_by covered before) bits))
       × (after ≡ items_by ended (at + sum_by covered before + covered item) (drop (covered item) (drop (sum_by covered before) bits)))
-  item-among = items_by-first ended (at + sum_by covered before) (drop (sum_by covered before) bits) item after (items_by-among before item after ended at bits is)
+      × (0 < covered item) × (covered item ≤ length (drop (sum_by covered before) bits))
+  item-among = items_by-first ended (at + sum_by covered before) (drop (sum_by covered before) bits) item after (items_by-among before (item ∷ after) ended at bits is)
 
   pub item-covers : (0 < covered item) × (place_of item ≡ at + sum_by covered before)
-  item-covers = (
-    subst (λ (i : Item). 0 < covered i) (sym item-among.1) (covered-first_item (at + sum_by covered before) (drop (sum_by covered before) bits) item-among.0).0,
-    ap place_of item-among.1 ∙ place_of-first_item (at + sum_by covered before) (drop (sum_by covered before) bits),
-  )
+  item-covers = (item-among.3, ap place_of item-among.1 ∙ place_of-first_item (at + sum_by covered before) (drop (sum_by covered before) bits))
 
   pub item-sound : IsSoundItem item
-  item-sound = subst (λ (i : Item). IsSoundItem i) (sym item-among.1) (IsSoundItem-first_item (at + sum_by covered before) (drop (sum_by covered before) bits))
+  item-sound = rw item-among.1 (IsSoundItem-first_item (at + sum_by covered before) (drop (sum_by covered before) bits))
 
 -- the items of ended bits cover them
 covered-items : (turns at : ℕ) (bits : List Bool) → length bits ≤ turns → sum_by covered (items_of at bits) ≡ length bits

@@ -122,9 +122,10 @@ pub items_by-none : (ended : Bool) (at : ℕ) (bits : List Bool) → (ended || i
 items_by-none ended at [] stops = items_by-nil ended at
 items_by-none ended at (bit ∷ bits) stops = items_by-cons ended at bit bits ∙ cond-false (ended || is_decided (bit ∷ bits)) _ [] stops
 
--- a list with a first item gives its parts
+-- a list with a first item gives its parts, and what that item covers is there
 pub items_by-first : (ended : Bool) (at : ℕ) (bits : List Bool) (item : Item) (items : List Item) → items_by ended at bits ≡ item ∷ items
     → (0 < length bits) × (item ≡ first_item at bits) × (items ≡ items_by ended (at + covered item) (drop (covered item) bits))
+    × (0 < covered item) × (covered item ≤ length bits)
 items_by-first ended at [] item items is = let none : [] ≡ item ∷ items = sym (items_by-nil ended at) ∙ is in absurd (cc)
 items_by-first ended at (bit ∷ bits) item items is =
     let all = bit ∷ bits in
@@ -134,8 +135,9 @@ items_by-first ended at (bit ∷ bits) item items is =
           let first = first_item at all in
           let two : first ∷ items_by ended (at + covered first) (drop (covered first) all) ≡ item ∷ items = sym (items_by-more ended at all (omega arith) goes) ∙ is in
           let same : first ≡ item = cc in
-          let rest : items_by ended (at + covered first) (drop (covered first) all) ≡ items = cc in
-          (omega arith, sym same, sym rest ∙ ap (λ i. items_by ended (at + covered i) (drop (covered i) all)) same)
+          let rest : items ≡ items_by ended (at + covered first) (drop (covered first) all) = cc in
+          let fits = rw same at (covered-first_item at all (omega arith)) in
+          (omega arith, sym same, rw same at rest, fits.0, fits.1)
     ]
 
 -- a gap that is known is the same under more bits, and known

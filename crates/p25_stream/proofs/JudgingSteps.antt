@@ -1,6 +1,6 @@
 -- What the functions that judge bits need at each step: the windows of one number, and each answer as a case of what is
 -- remembered.
-use Rattle.std.proofs.Common.{◌≡◌, ℕ, zero, suc, ◌+◌, ◌-◌, ◌/◌, ◌%◌, ◌^◌, ◌<◌, ◌≤◌, inl, inr, Bool, true, false, List, ◌++◌, length, take, drop, ap, sym, ◌∙◌, subst, arith, append_assoc, length-drop}
+use Rattle.std.proofs.Common.{◌≡◌, ℕ, zero, suc, ◌+◌, ◌-◌, ◌/◌, ◌%◌, ◌^◌, ◌<◌, ◌≤◌, inl, inr, Bool, true, false, List, length, take, drop, ap, sym, ◌∙◌, arith, append_assoc, length-drop}
 use Rattle.std.proofs.{lemmas.Bool.{cases_lt}, Math.Seq.{take-length}}
 use Rattle.p25_bits.specs.{Bits.{bits_of, field_of, part}, Distance.{distance_of}}
 use Rattle.p25_bits.proofs.{BitsLaws.{length-bits_of, bits_of-add, bits_of-mod}, NumbersLaws.{bits_of-field}, PartLaws.{part-part, part_joined, part_left, part_right}}
@@ -15,28 +15,25 @@ window_of place count number inside =
     let low = count - 1 - place in
     let high = number / 2 ^ low in
     let split : 47 + count ≡ (place + 48) + low = omega arith in
-    let cut = ap (λ n. bits_of n number) split ∙ bits_of-add (place + 48) low number ∙ ap (λ (xs : List Bool). xs ++ bits_of low number) (bits_of-add place 48 high) in
-    let front = bits_of place (high / 2 ^ 48) in
-    bits_of-mod 48 high
-    ∙ sym (part_joined place 48 front (bits_of 48 high) (bits_of low number) (length-bits_of place (high / 2 ^ 48)) (length-bits_of 48 high))
-    ∙ ap (part place 48) (sym (cut ∙ append_assoc front (bits_of 48 high) (bits_of low number)))
+    rw (bits_of-mod 48 high, split, bits_of-add (place + 48) low number, bits_of-add place 48 high, append_assoc)
+    (sym (part_joined place 48 (bits_of place (high / 2 ^ 48)) (bits_of 48 high) (bits_of low number) (length-bits_of place (high / 2 ^ 48)) (length-bits_of 48 high)))
 
 whole_take : (bits : List Bool) → length bits ≡ 48 → take 48 bits ≡ bits
-whole_take bits long = ap (λ n. take n bits) (sym long) ∙ take-length bits
+whole_take bits long = rw (← long, take-length)
 
 -- a window with a sync, and one without
 pub window-synced : (bits : List Bool) (window : ℕ) → bits_of 48 window ≡ bits → distance_of (bits_of 48 window) sync_bits ≤ sync_slack → has_sync bits ≡ true
 window-synced bits window is near =
     let long : 48 ≤ length bits = omega (arith, ap length is, length-bits_of 48 window) in
     let whole : take 48 bits ≡ bits_of 48 window = whole_take bits (sym (ap length is) ∙ length-bits_of 48 window) ∙ sym is in
-    has_sync-yes bits long (subst (λ (xs : List Bool). distance_of xs sync_bits ≤ sync_slack) (sym whole) near)
+    has_sync-yes bits long (rw whole near)
 
 pub window-unsynced : (bits : List Bool) (window : ℕ) → bits_of 48 window ≡ bits → (distance_of (bits_of 48 window) sync_bits ≤ sync_slack → ⊥) → has_sync bits ≡ false
 window-unsynced bits window is far =
     let whole : take 48 bits ≡ bits_of 48 window = whole_take bits (sym (ap length is) ∙ length-bits_of 48 window) ∙ sym is in
     elim (cases_lt sync_slack (distance_of (take 48 bits) sync_bits)) [
       | inl more ↦ has_sync-no bits more
-      | inr few ↦ absurd (far (subst (λ (xs : List Bool). distance_of xs sync_bits ≤ sync_slack) whole few))
+      | inr few ↦ absurd (far (rw whole at few))
     ]
 
 -- the windows of a field are those of the bits that it stands in
@@ -46,10 +43,7 @@ window_in bits k count place number there inside is =
     let fits : k + (47 + count) ≤ length bits = omega arith in
     let within : place + 48 ≤ 47 + count = omega arith in
     let few : 48 ≤ length (drop (k + place) bits) = omega (arith, length-drop (k + place) bits) in
-    ap (λ n. has_sync (part place 48 (bits_of (47 + count) n))) is
-    ∙ ap (λ (xs : List Bool). has_sync (part place 48 xs)) (bits_of-field (47 + count) k bits fits)
-    ∙ ap has_sync (part-part k (47 + count) place 48 bits within)
-    ∙ has_sync-take (drop (k + place) bits) 48 (omega arith) few
+    rw (is, bits_of-field (47 + count) k bits fits, part-part k (47 + count) place 48 bits within, has_sync-take (drop (k + place) bits) 48 (omega arith) few)
 
 -- so many more places without a sync
 pub searched-many : (bits : List Bool) (k n : ℕ) → k + n + 47 ≤ length bits → k ≤ sync_place bits → ((place : ℕ) → place < n → has_sync (drop (k + place) bits) ≡ false) → k + n ≤ sync_place bits
@@ -71,15 +65,9 @@ pub none-of_two_eights : (number : ℕ) → ((place : ℕ) → place < 8 → has
 none-of_two_eights number high low place inside = elim (cases_lt place 8) [
   | inl early ↦
       let fits : place + 48 ≤ length (bits_of 55 (number / 2 ^ 8)) = omega (arith, length-bits_of 55 (number / 2 ^ 8)) in
-      ap (λ (xs : List Bool). has_sync (part place 48 xs)) (bits_of-add 55 8 number)
-      ∙ ap has_sync (part_left place 48 (bits_of 55 (number / 2 ^ 8)) (bits_of 8 number) fits)
-      ∙ high place early
+      rw (bits_of-add 55 8 number, part_left place 48 (bits_of 55 (number / 2 ^ 8)) (bits_of 8 number) fits) (high place early)
   | inr late ↦
       let front = bits_of 8 (number / 2 ^ 55) in
       let long : length front ≡ 8 = length-bits_of 8 (number / 2 ^ 55) in
-      ap (λ (xs : List Bool). has_sync (part place 48 xs)) (bits_of-add 8 55 number)
-      ∙ ap has_sync (part_right place 48 front (bits_of 55 number) (omega (arith, long)))
-      ∙ ap (λ n. has_sync (part (place - n) 48 (bits_of 55 number))) long
-      ∙ ap (λ (xs : List Bool). has_sync (part (place - 8) 48 xs)) (sym (bits_of-mod 55 number))
-      ∙ low (place - 8) (omega arith)
+      rw (bits_of-add 8 55 number, part_right place 48 front (bits_of 55 number) (omega (arith, long)), long, ← bits_of-mod 55 number) (low (place - 8) (omega arith))
 ]

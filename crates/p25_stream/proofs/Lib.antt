@@ -1,6 +1,7 @@
 pub mod SyncPlaceLaws
 pub mod ItemsLaws
 pub mod ItemLaws
+pub mod WrittenLaws
 pub mod ArrivalLaws
 pub mod TerminatorLaws
 pub mod ArrivingLaws

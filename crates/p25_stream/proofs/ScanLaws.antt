@@ -1,5 +1,5 @@
 -- What a scanner gives: the items of what it holds and of any bits that come later.
-use Rattle.std.proofs.Common.{◌≡◌, ◌↔◌, ℕ, ◌+◌, ◌<◌, ◌≤◌, inl, inr, Bool, true, false, not, ◌||◌, List, [], ◌∷◌, ◌++◌, length, take, drop, refl, ap, ap₂, sym, ◌∙◌, subst, arith, append-nil}
+use Rattle.std.proofs.Common.{◌≡◌, ◌↔◌, ℕ, ◌+◌, ◌<◌, ◌≤◌, inl, inr, Bool, true, false, not, ◌||◌, List, [], ◌∷◌, ◌++◌, length, take, drop, refl, ap, sym, ◌∙◌, arith, append-nil}
 use Rattle.std.proofs.{lemmas.Bool.{cases_Bool, not-true}, lemmas.List.{nil_from_length}}
 use Rattle.std.specs.Prelude.{IsTrue}
 use Rattle.p25_units.specs.{Items.{covered}, declared.item.Item.{Item}}
@@ -38,7 +38,7 @@ drained-going judged place held is =
 pub drained-open : (judged : Judged) (scan told : Scan) → scan ≡ told → given told ≡ [] → told.finished ≡ false → IsJudged judged scan.held → is_settled judged ≡ false
 drained-open judged scan told same none going is =
     (drained-going judged scan.place scan.held is).1
-    (subst (λ (b : Bool). items_by b scan.place scan.held ≡ []) (ap (λ (s : Scan). s.finished) same ∙ going) (ap given same ∙ none))
+    (rw same (rw going at none))
 
 pub drained-few : (judged : Judged) (scan told : Scan) → scan ≡ told → given told ≡ [] → told.finished ≡ false → IsJudged judged scan.held → length scan.held < 25920
 drained-few judged scan told same none going is = IsJudged-few judged scan.held is (drained-open judged scan told same none going is)
@@ -51,13 +51,9 @@ gave-first scan now item raw some is raw_bits left place same =
     let goes = items_by-some scan.finished scan.place scan.held some in
     let fits = covered-first_item scan.place scan.held goes.0 in
     record {
-      items =
-          items_by-more scan.finished scan.place scan.held goes.0 goes.1
-          ∙ ap (λ i. i ∷ items_by scan.finished (scan.place + covered i) (drop (covered i) scan.held)) (sym is)
-          ∙ ap₂ (λ n rest. item ∷ items_by scan.finished n rest) (sym place) (sym left)
-          ∙ ap (λ b. item ∷ items_by b now.place now.held) (sym same);
-      some = subst (λ (i : Item). 0 < covered i) (sym is) fits.0;
-      there = subst (λ (i : Item). covered i ≤ length scan.held) (sym is) fits.1;
+      items = rw (place, left, same, items_by-more scan.finished scan.place scan.held goes.0 goes.1, is);
+      some = rw is fits.0;
+      there = rw is fits.1;
       raw_bits = raw_bits;
       left = left;
       place = place;
@@ -70,49 +66,40 @@ gave-ended : (ended finished : Bool) (at : ℕ) (held more : List Bool) (item : 
     → items_by ended at (held ++ more) ≡ item ∷ items_by ended (at + covered item) (drop (covered item) held ++ more)
 gave-ended ended true at held more item items is goes =
     let none = goes refl in
-    let parts = items_by-first true at held item items is in
-    ap₂ (λ b rest. items_by b at rest) none.0 (ap (λ (xs : List Bool). held ++ xs) none.1 ∙ append-nil held)
-    ∙ is ∙ ap (λ (xs : List Item). item ∷ xs) parts.2
-    ∙ ap₂ (λ b rest. item ∷ items_by b (at + covered item) rest) (sym none.0) (sym (ap (λ (xs : List Bool). drop (covered item) held ++ xs) none.1 ∙ append-nil (drop (covered item) held)))
+    rw (none.1, append-nil, append-nil, none.0, is, (items_by-first true at held item items is).2)
 gave-ended ended false at held more item items is goes =
     let parts = items_by-first false at held item items is in
-    let known = (items_by-some false at held (λ none. let two = sym none ∙ is in cc)).1 in
-    items_by-decided ended at held more known
-    ∙ ap (λ i. i ∷ items_by ended (at + covered i) (drop (covered i) held ++ more)) (sym parts.1)
+    rw (items_by-decided ended at held more (items_by-some false at held (λ none. let two = sym none ∙ is in cc)).1, parts.1)
 
 pub gave-items : (before now : Scan) (item : Item) (raw : List Bool) (ended : Bool) (more : List Bool) → Gave before item raw now → (before.finished ≡ true → (ended ≡ true) × (more ≡ []))
     → items_by ended before.place (before.held ++ more) ≡ item ∷ items_by ended now.place (now.held ++ more)
 gave-items before now item raw ended more gave goes =
-    gave-ended ended before.finished before.place before.held more item (given now) gave.items goes
-    ∙ ap₂ (λ n rest. item ∷ items_by ended n (rest ++ more)) (sym gave.place) (sym gave.left)
+    rw (gave.place, gave.left) (gave-ended ended before.finished before.place before.held more item (given now) gave.items goes)
 
 -- whether a scanner is drained, as it answers
 pub drained-when-finished : (scan : Scan) (empty : Bool) → scan.finished ≡ true → IsTrue empty ↔ (scan.held ≡ []) → IsTrue empty ↔ (given scan ≡ [])
 drained-when-finished scan empty ended held =
     let is = drained-finished scan.place scan.held in (
-      λ none. ap (λ b. items_by b scan.place scan.held) ended ∙ is.0 (ap length (held.0 none)),
-      λ none. held.1 (nil_from_length scan.held (is.1 (ap (λ b. items_by b scan.place scan.held) (sym ended) ∙ none))),
+      λ none. rw ended (is.0 (ap length (held.0 none))),
+      λ none. held.1 (nil_from_length scan.held (is.1 (rw ended at none))),
     )
 
 pub drained-when-going : (judged : Judged) (scan : Scan) (known : Bool)
     → scan.finished ≡ false → IsJudged judged scan.held → known ≡ is_settled judged → IsTrue (not known) ↔ (given scan ≡ [])
 drained-when-going judged scan known going is same =
     let open' = drained-going judged scan.place scan.held is in (
-      λ none. ap (λ b. items_by b scan.place scan.held) going ∙ open'.0 (sym same ∙ not-true known none),
-      λ none. ap not (same ∙ open'.1 (ap (λ b. items_by b scan.place scan.held) (sym going) ∙ none)),
+      λ none. rw going (open'.0 (sym same ∙ not-true known none)),
+      λ none. ap not (same ∙ open'.1 (rw going at none)),
     )
 
 -- what the first item covers is held
 pub next-fits : (scan : Scan) (item : Item) → (given scan ≡ [] → ⊥) → item ≡ first_item scan.place scan.held → covered item ≤ length scan.held
 next-fits scan item some is =
     let goes = items_by-some scan.finished scan.place scan.held some in
-    subst (λ (i : Item). covered i ≤ length scan.held) (sym is) (covered-first_item scan.place scan.held goes.0).1
+    rw is (covered-first_item scan.place scan.held goes.0).1
 
 -- the next item and its bits, once a scanner holds these no longer
 pub gave-next : (scan set now : Scan) (item : Item) (raw : List Bool) (count : ℕ) → (given scan ≡ [] → ⊥) → item ≡ first_item scan.place scan.held → set ≡ scan → count ≡ covered item
     → raw ≡ take count set.held → now ≡ record set { place = set.place + count; held = drop count set.held } → Gave scan item raw now
 gave-next scan set now item raw count some is same long bits left =
-    gave-first scan now item raw some is (bits ∙ ap₂ (λ (n : ℕ) (s : Scan). take n s.held) long same)
-    (ap (λ (s : Scan). s.held) left ∙ ap₂ (λ (n : ℕ) (s : Scan). drop n s.held) long same)
-    (ap (λ (s : Scan). s.place) left ∙ ap₂ (λ (n : ℕ) (s : Scan). s.place + n) long same)
-    (ap (λ (s : Scan). s.finished) left ∙ ap (λ (s : Scan). s.finished) same)
+    gave-first scan now item raw some is (rw (long, same) at bits) (rw (left, same, long)) (rw (left, same, long)) (rw (left, same))

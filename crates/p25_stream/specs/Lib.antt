@@ -5,3 +5,4 @@ pub mod Scan
 pub mod Judgements
 pub mod Finding
 pub mod Repeats
+pub mod Written
