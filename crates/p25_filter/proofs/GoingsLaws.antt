@@ -3,8 +3,7 @@
 use Rattle.std.proofs.Common.{ℕ, ◌<◌, ◌≤◌, true, false, List, [], ◌∷◌, ◌++◌, length, refl, sym, ◌∙◌, append_assoc, append-nil}
 use Rattle.p25_io.specs.{Chains.{Chain}, Events.{Event, Wrote, WriteFailed}}
 use Rattle.p25_filter.specs.{declared.ending.FilterEnd.{FilterEnd}, declared.ending.FilterEnd.TheVariants.{Ended, Memory, WriteFault}, Futures.{Future, Progress}}
-use Rattle.p25_filter.specs.Traces.{Broken, EndsAs, Going, IsDecided, Over, Phase, Standing, standing_at}
-use Rattle.p25_filter.specs.Goings.{Comes, Finishes, Goes, Leads, MayEnd, Stands}
+use Rattle.p25_filter.specs.{Traces.{Broken, EndsAs, Going, IsDecided, Over, Phase, Standing, standing_at}, Goings.{Comes, Finishes, Goes, Leads, MayEnd, Stands}}
 use Rattle.p25_filter.proofs.TracesLaws.{EndsAs-after, IsLive-append, after_all-append}
 
 -- what is on the page is decided

@@ -3,10 +3,9 @@
 use Rattle.std.proofs.Common.{◌≡◌, ℕ, ◌-◌, ◌<◌, ◌≤◌, Bool, true, false, List, [], ◌∷◌, ◌++◌, length, take, min, Some, None, Ok, Err, refl, ap, sym, ◌∙◌, arith, append_assoc, append-nil, length-take}
 use Rattle.std.proofs.lemmas.List.{take_all}
 use Rattle.p25_io.specs.{Chains.{Chain}, Events.{Event, Read, ReadFailed}}
-use Rattle.p25_filter.specs.{declared.ending.Ending.{Ending}, declared.ending.Refusal.{Refusal}, declared.ending.Refusal.TheVariants.{Ended, Memory}}
-use Rattle.p25_filter.specs.{declared.ending.FilterEnd.{FilterEnd}, declared.ending.FilterEnd.TheVariants.{Ended as FilterEnded, Memory as FilterMemory, ReadFault, TooLong}}
-use Rattle.p25_filter.specs.{Futures.{Future, IsClosed, IsIdle, IsRefusedBy, NextPiece, Progress}, Runs.{input_most, read_most}}
-use Rattle.p25_filter.specs.Traces.{Going, IsRun, IsSettled, Over, phase_by, standing_at}
+use Rattle.p25_filter.specs.{declared.ending.Ending.{Ending}, declared.ending.Refusal.{Refusal}, declared.ending.Refusal.TheVariants.{Ended, Memory}, declared.ending.FilterEnd.{FilterEnd}}
+use Rattle.p25_filter.specs.declared.ending.FilterEnd.TheVariants.{Ended as FilterEnded, Memory as FilterMemory, ReadFault, TooLong}
+use Rattle.p25_filter.specs.{Futures.{Future, IsClosed, IsIdle, IsRefusedBy, NextPiece, Progress}, Runs.{input_most, read_most}, Traces.{Going, IsRun, IsSettled, Over, phase_by, standing_at}}
 use Rattle.p25_filter.specs.Goings.{Comes, Finishes, Goes, MayEnd, SoFar, Stands}
 use Rattle.p25_filter.proofs.{GoingsLaws.{Finishes-after, Leads-trans}, TracesLaws.{first-read}}
 

@@ -1,9 +1,8 @@
 -- Live runs of events: what the first octets of an input are, and events after events.
-use Rattle.std.proofs.Common.{◌≡◌, ℕ, ◌+◌, ◌-◌, ◌≤◌, List, [], ◌∷◌, ◌++◌, length, take, drop, min, refl, ap, sym, ◌∙◌, arith, append_assoc, append-nil, length-take}
-use Rattle.std.proofs.{lemmas.List.{nil_from_length}, Math.Seq.{take-add, take-append-add}}
+use Rattle.std.proofs.{Common.{◌≡◌, ℕ, ◌+◌, ◌-◌, ◌≤◌, List, [], ◌∷◌, ◌++◌, length, take, drop, min, refl, ap, sym, ◌∙◌, arith, append_assoc, append-nil, length-take}, lemmas.List.{nil_from_length}}
+use Rattle.std.proofs.Math.Seq.{take-add, take-append-add}
 use Rattle.p25_io.specs.Events.{Event}
-use Rattle.p25_filter.specs.{declared.ending.FilterEnd.{FilterEnd}, declared.ending.FilterEnd.TheVariants.{ReadFault, WriteFault}}
-use Rattle.p25_filter.specs.{Futures.{Future}, Runs.{input_most}}
+use Rattle.p25_filter.specs.{declared.ending.FilterEnd.{FilterEnd}, declared.ending.FilterEnd.TheVariants.{ReadFault, WriteFault}, Futures.{Future}, Runs.{input_most}}
 use Rattle.p25_filter.specs.Traces.{EndsAs, IsLive, Standing, after_all, standing_after}
 
 -- the first octets of an input and so many more

@@ -1,4 +1,5 @@
-use Rattle.std.proofs.{Common.{◌≡◌, ℕ, ◌+◌, ◌-◌, ◌≤◌, List, [], ◌++◌, length, take, drop, ap, sym, subst, ◌∙◌, arith, append-nil, length-drop}, Math.Seq.{take-add}, lemmas.List.{take_all, take-append-drop}}
+use Rattle.std.proofs.{Common.{◌≡◌, ℕ, ◌+◌, ◌-◌, ◌≤◌, List, [], ◌++◌, length, take, drop, ap, sym, subst, ◌∙◌, arith, append-nil, length-drop}, Math.Seq.{take-add}}
+use Rattle.std.proofs.lemmas.List.{take_all, take-append-drop}
 use Rattle.p25_filter.specs.{declared.ending.FilterEnd.TheVariants.{WriteFault}, Futures.{IsIdle}, Goings.{Comes, Goes}}
 use Rattle.p25_filter.proofs.GoingsLaws.{Comes-after, Comes-more, Goes-next, Goes-none, Goes-trans}
 use Rattle.p25_filter.proofs.input.feed.Goals as goal

@@ -1,7 +1,6 @@
 use Rattle.std.proofs.Common.{[]}
 use Rattle.p25_filter.specs.Goings.{Goes}
-use Rattle.p25_filter.proofs.GoingsLaws.{Goes-next, Goes-none, Goes-trans}
-use Rattle.p25_filter.proofs.page.gather.Goals.{then-len-gt-LINE_MOST+in_ok-flush, else-len-gt-LINE_MOST}
+use Rattle.p25_filter.proofs.{GoingsLaws.{Goes-next, Goes-none, Goes-trans}, page.gather.Goals.{then-len-gt-LINE_MOST+in_ok-flush, else-len-gt-LINE_MOST}}
 use Rattle.p25_filter.proofs.page.gather.Goals as goal
 
 pub returns-clause-ok : goal.returns-clause-ok
