@@ -1,11 +1,13 @@
--- The steps of the work on an input: what asking for a piece answers, and why the work stops, case by case.
-use Rattle.std.proofs.Common.{◌≡◌, ℕ, Bool, true, false, List, [], ◌++◌, Some, Ok, Err, inl, inr, sym, subst, ◌∙◌}
-use Rattle.std.specs.Prelude.{Contains}
-use Rattle.p25_io.specs.Events.{Event}
-use Rattle.p25_filter.specs.{declared.ending.Ending.{Ending}, declared.ending.FilterEnd.{FilterEnd}, declared.ending.FilterEnd.TheVariants.{Ended as FilterEnded, Memory as FilterMemory, WriteFault}}
-use Rattle.p25_filter.specs.{declared.ending.Refusal.{Refusal}, declared.ending.Refusal.TheVariants.{Ended, Memory}, Writes.{Written}}
-use Rattle.p25_filter.specs.Futures.{Future, Progress, IsClosed, IsRefused, IsRefusedBy, IsIdle, IsWrittenOut, NextPiece, Moved, IsCutOff, IsStopped, EndsBy}
-use Rattle.p25_filter.proofs.{FuturesLaws.{IsCutOff-page, IsCutOff-after, IsEnded-page, IsEnded-after, IsPaused-page, IsPaused-after}, WritesLaws.{Begins-same}}
+-- The loop of the work on an input: what asking for a piece answers, and the work from its first event on, read after read. Each
+-- law adds the events of a read or of a step to those so far.
+use Rattle.std.proofs.Common.{◌≡◌, ℕ, ◌-◌, ◌<◌, ◌≤◌, Bool, true, false, List, [], ◌∷◌, ◌++◌, length, take, min, Some, None, Ok, Err, refl, ap, sym, ◌∙◌, arith, append_assoc, append-nil, length-take}
+use Rattle.std.proofs.lemmas.List.{take_all}
+use Rattle.p25_io.specs.{Chains.{Chain}, Events.{Event, Read, ReadFailed}}
+use Rattle.p25_filter.specs.{declared.ending.Ending.{Ending}, declared.ending.Refusal.{Refusal}, declared.ending.Refusal.TheVariants.{Ended, Memory}, declared.ending.FilterEnd.{FilterEnd}}
+use Rattle.p25_filter.specs.declared.ending.FilterEnd.TheVariants.{Ended as FilterEnded, Memory as FilterMemory, ReadFault, TooLong}
+use Rattle.p25_filter.specs.{Futures.{Future, IsClosed, IsIdle, IsRefusedBy, NextPiece, Progress}, Runs.{input_most, read_most}, Traces.{Going, IsRun, IsSettled, Over, phase_by, standing_at}}
+use Rattle.p25_filter.specs.Goings.{Comes, Finishes, Goes, MayEnd, SoFar, Stands}
+use Rattle.p25_filter.proofs.{GoingsLaws.{Finishes-after, Leads-trans}, TracesLaws.{first-read}}
 
 -- a piece was given
 pub piece-given : (before now : Future) (is : Bool) (piece : List ℕ) → NextPiece before (Ok is) piece now → is ≡ true → Progress before [] piece now
@@ -24,103 +26,175 @@ pub piece-refused : (before now : Future) (refusal : Refusal) (piece : List ℕ)
 unfolding NextPiece
 piece-refused before now refusal piece given = given
 
-module _ {P : Type 0} (moves : P → List Event → P → Type 0) (stays : (port : P) → moves port [] port)
-    (joins : (first next last : P) (xs ys : List Event) → moves first xs next → moves next ys last → moves first (xs ++ ys) last) where
-  -- a write failed
-  pub stopped-fault : (first last : P) (page octets : List ℕ) (before : Future) → IsCutOff moves first page before octets last
-      → IsStopped moves first page before octets WriteFault last
-  unfolding IsStopped
-  stopped-fault first last page octets before cut = cut
+-- so the work may end
+pub may-end : (now : Future) (ending : Ending) → IsRefusedBy now (Ended ending) → MayEnd now (FilterEnded ending)
+unfolding IsRefusedBy
+may-end now ending refused = refused
 
-  -- the page before the end was written, or not
-  stopped-page : (first second third : P) (page kept octets : List ℕ) (a b : Future) (so end : FilterEnd)
-      → Moved moves first page a octets second kept b → (Written moves second kept third → IsStopped moves first page a octets so third)
-      → IsWrittenOut moves second kept so end third → IsStopped moves first page a octets end third
-  stopped-page first second third page kept octets a b so end moved whole (inl last) =
-      subst (λ (e : FilterEnd). IsStopped moves first page a octets e third) (sym last.0) (whole last.1)
-  stopped-page first second third page kept octets a b so end moved whole (inr last) =
-      subst (λ (e : FilterEnd). IsStopped moves first page a octets e third) (sym last.0)
-      (stopped-fault first third page octets a (IsCutOff-page moves stays joins first second third page kept octets a b moved last.1))
+pub wants-memory : (now : Future) → IsRefusedBy now Memory → MayEnd now FilterMemory
+unfolding IsRefusedBy
+wants-memory now pausing = pausing
 
-  -- the page before a refusal
-  pub ended-page : (first second third : P) (page kept octets : List ℕ) (a b : Future) (ending : Ending) (end : FilterEnd)
-      → Moved moves first page a octets second kept b → IsRefusedBy b (Ended ending)
-      → IsWrittenOut moves second kept (FilterEnded ending) end third → IsStopped moves first page a octets end third
-  unfolding IsRefusedBy
-  ended-page first second third page kept octets a b ending end moved refused =
-      stopped-page first second third page kept octets a b (FilterEnded ending) end moved
-      (λ written. unfold IsStopped in IsEnded-page moves stays joins first second third page kept octets a b ending moved refused written)
-
-  -- and where memory is wanting
-  pub paused-page : (first second third : P) (page kept octets : List ℕ) (a b : Future) (end : FilterEnd)
-      → Moved moves first page a octets second kept b → IsRefusedBy b Memory
-      → IsWrittenOut moves second kept FilterMemory end third → IsStopped moves first page a octets end third
-  unfolding IsRefusedBy
-  paused-page first second third page kept octets a b end moved pausing =
-      stopped-page first second third page kept octets a b FilterMemory end moved
-      (λ written. unfold IsStopped in IsPaused-page moves stays joins first second third page kept octets a b moved pausing written)
-
-  -- a stop after a move
-  pub stopped-after : (first second third : P) (page kept xs ys : List ℕ) (a b : Future) (end : FilterEnd)
-      → Moved moves first page a xs second kept b → IsStopped moves second kept b ys end third
-      → IsStopped moves first page a (xs ++ ys) end third
-  unfolding IsStopped
-  stopped-after first second third page kept xs ys a b WriteFault moved stopped =
-      IsCutOff-after moves stays joins first second third page kept xs ys a b moved stopped
-  stopped-after first second third page kept xs ys a b (FilterEnded ending) moved stopped =
-      IsEnded-after moves stays joins first second third page kept xs ys a b ending moved stopped
-  stopped-after first second third page kept xs ys a b FilterMemory moved stopped =
-      IsPaused-after moves stays joins first second third page kept xs ys a b moved stopped
-  stopped-after first second third page kept xs ys a b _ moved stopped = absurd stopped
-
-  -- a stop from a page that is empty
-  pub on-blank_page : (first last : P) (page octets : List ℕ) (before : Future) (end : FilterEnd) → page ≡ []
-      → IsStopped moves first page before octets end last → IsStopped moves first [] before octets end last
-  on-blank_page first last page octets before end empty stopped =
-      subst (λ (zs : List ℕ). IsStopped moves first zs before octets end last) empty stopped
-
-  -- a move from one
-  pub Moved-blank : (first last : P) (page octets kept : List ℕ) (before now : Future) → page ≡ []
-      → Moved moves first page before octets last kept now → Moved moves first [] before octets last kept now
-  Moved-blank first last page octets kept before now empty moved = subst (λ (zs : List ℕ). Moved moves first zs before octets last kept now) empty moved
-
-  -- the input ended, and the work stopped
-  pub ends-stopped : (first last : P) (a closed : Future) (end : FilterEnd) → IsClosed a closed → IsStopped moves first [] closed [] end last
-      → EndsBy moves first a end last
-  unfolding IsStopped EndsBy
-  ends-stopped first last a closed WriteFault is_closed cut =
-      record { text = cut.text; cut = cut.cut; begins = Begins-same (is_closed.writes true []) (cut.begins true []) }
-  ends-stopped first last a closed FilterMemory is_closed paused =
-      let pause = paused.pauses true [] in
-      record {
-        text = paused.text;
-        written = paused.written;
-        pauses =
-            subst (λ (zs : List ℕ). Contains (a.pauses true []) zs) pause.whole
-            (subst (λ (texts : List (List ℕ)). Contains texts pause.pause) (is_closed.pauses true []) pause.is);
-        begins = Begins-same (is_closed.writes true []) (paused.begins true []);
-      }
-  ends-stopped first last a closed (FilterEnded ending) is_closed ended = (
-    subst (λ (zs : List ℕ). Written moves first zs last) (sym (ended.whole true []) ∙ is_closed.writes true []) ended.written,
-    sym (is_closed.ends true []) ∙ ended.ends true [],
-  )
-  ends-stopped first last a closed _ is_closed stopped = absurd stopped
-
-  -- the input ended: all was given, and the page is written
-  pub ends-page : (first second third : P) (page kept : List ℕ) (a closed b : Future) (ending : Ending) (end : FilterEnd)
-      → IsClosed a closed → page ≡ [] → Moved moves first page closed [] second kept b
-      → ((is : Bool) (more : List ℕ) → b.writes is more ≡ []) → ((is : Bool) (more : List ℕ) → b.ends is more ≡ Some ending)
-      → IsWrittenOut moves second kept (FilterEnded ending) end third → EndsBy moves first a end third
-  ends-page first second third page kept a closed b ending end is_closed empty moved idle ends last =
-      ends-stopped first third a closed end is_closed
-      (on-blank_page first third page [] closed end empty
-      (ended-page first second third page kept [] closed b ending end moved (unfold IsRefusedBy in refused) last))
-    where
-      refused : IsRefused b ending
-      refused = record { writes = idle; ends = ends }
+pub all-is_given : (now : Future) (ending : Ending) → ((is : Bool) (more : List ℕ) → now.writes is more ≡ [])
+    → ((is : Bool) (more : List ℕ) → now.ends is more ≡ Some ending) → MayEnd now (FilterEnded ending)
+all-is_given now ending writes ends = record { writes = writes; ends = ends }
 
 -- with nothing to give once the input has ended, all was written
 pub idle-finished : (finished was : Bool) (now : Future) → IsIdle finished now → finished ≡ was → was ≡ true → (is : Bool) (more : List ℕ) → now.writes is more ≡ []
 unfolding IsIdle
 idle-finished true was now idle same is_true = idle
 idle-finished false was now idle same is_true = cc
+
+-- with nothing to give, what the octets so far decide is written, and they refuse nothing
+idle-decided : (future now : Future) (octets text : List ℕ) → Stands future (standing_at Going octets text) [] [] now → IsIdle false now
+    → (future.ends false (take input_most octets) ≡ None) × (text ≡ future.writes false (take input_most octets))
+unfolding IsIdle
+idle-decided future now octets text stands idle = (
+  rw (← append-nil (take input_most octets)) (stands.given.ends false [] ∙ idle.1),
+  sym (rw (← append-nil (take input_most octets)) (stands.given.writes false [] ∙ rw idle.0 (simp append-nil))),
+)
+
+settled : (future now : Future) (octets text : List ℕ) → length octets ≤ input_most → Stands future (standing_at Going octets text) [] [] now → IsIdle false now
+    → IsSettled future (standing_at Going octets text)
+settled future now octets text few stands idle =
+    let decided = rw (take_all input_most octets few) at (idle-decided future now octets text stands idle) in
+    record { going = refl; few = few; ends = decided.0; wrote = decided.1 }
+
+-- more octets are read
+stands-read : (future now : Future) (octets piece fed text : List ℕ) → length octets ≤ input_most → take input_most (octets ++ piece) ≡ octets ++ fed
+    → Stands future (standing_at Going octets text) [] [] now → Stands future (standing_at Going (octets ++ piece) text) [] (fed ++ []) now
+stands-read future now octets piece fed text few whole stands =
+    let all = take_all input_most octets few in
+    record {
+      whole = stands.whole;
+      given = record {
+        writes = λ ended more. rw (whole, append_assoc octets fed more, append-nil fed) (rw all at (stands.given.writes ended (fed ++ more)));
+        ends = λ ended more. rw (whole, append_assoc octets fed more, append-nil fed) (rw all at (stands.given.ends ended (fed ++ more)));
+        pauses = λ ended more pause is.
+            rw (whole, append_assoc octets fed more) (rw all at (stands.given.pauses ended (fed ++ more) pause (rw (append-nil fed) at is)));
+      };
+    }
+
+-- the input ended
+stands-over : (future now closed : Future) (octets text : List ℕ) → length octets ≤ input_most → IsClosed now closed
+    → Stands future (standing_at Going octets text) [] [] now → Stands future (standing_at Over octets text) [] [] closed
+stands-over future now closed octets text few is_closed stands =
+    let all : take input_most octets ++ [] ≡ octets = append-nil (take input_most octets) ∙ take_all input_most octets few in
+    record {
+      whole = λ same. cc;
+      given = record {
+        writes = λ ended more. rw (is_closed.writes ended more) (rw all at (stands.given.writes true []));
+        ends = λ ended more. rw (is_closed.ends ended more) (rw all at (stands.given.ends true []));
+        pauses = λ ended more pause is. rw all at (stands.given.pauses true [] pause (rw (is_closed.pauses ended more) at is));
+      };
+    }
+
+-- octets that are some leave the input going on
+goes-on : (piece : List ℕ) → 0 < length piece → phase_by piece ≡ Going
+goes-on [] some = absurd (omega (arith, some))
+goes-on (octet ∷ piece) some = refl
+
+-- a run of events came to its end
+abbrev pub Came : {P : Type 0} → (P → List Event → P → Type 0) → P → Future → P → FilterEnd → Type 0
+Came moves first future last end = (events : List Event) × moves first events last × IsRun future events end
+
+module _ {P : Type 0} {moves : P → List Event → P → Type 0} (chain : Chain moves) (first : P) (future : Future) where
+  pub SoFar-first : SoFar moves first future Going [] [] [] future first
+  SoFar-first = record {
+    events = [];
+    moved = chain.stays first;
+    leads = record {
+      text = [];
+      live = tt;
+      after = refl;
+      stands = record {
+        whole = λ same. cc;
+        given = record { writes = λ ended more. refl; ends = λ ended more. refl; pauses = λ ended more pause is. is };
+      };
+    };
+  }
+
+  -- a step
+  pub SoFar-goes : {phase : _} {octets page kept : List ℕ} {a b : Future} {last next : P} (xs waiting : List ℕ)
+      → SoFar moves first future phase octets page (xs ++ waiting) a last → Goes moves last page a xs next kept b
+      → SoFar moves first future phase octets kept waiting b next
+  SoFar-goes {phase} {octets} xs waiting so_far goes = record {
+    events = so_far.events ++ goes.events;
+    moved = chain.joins so_far.events goes.events so_far.moved goes.moved;
+    leads =
+        Leads-trans future _ so_far.events goes.events _ _ _ _ _ _ _ _ _ _ so_far.leads
+        (goes.leads future (standing_at phase octets so_far.leads.text) waiting so_far.leads.stands);
+  }
+
+  -- the last step
+  came-by : {phase : _} {octets page waiting : List ℕ} {a : Future} {last next : P} (end : FilterEnd) (events : List Event)
+      → (so_far : SoFar moves first future phase octets page waiting a last) → moves last events next
+      → Finishes future (standing_at phase octets so_far.leads.text) events end → Came moves first future next end
+  came-by end events so_far moved finishes =
+      let all = Finishes-after future _ so_far.events events _ _ _ _ _ end so_far.leads finishes in
+      (so_far.events ++ events, chain.joins so_far.events events so_far.moved moved, record { live = all.live; ends = all.ends })
+
+  pub Came-comes : {phase : _} {octets page : List ℕ} {a : Future} {last next : P} {end : FilterEnd} (xs waiting : List ℕ)
+      → SoFar moves first future phase octets page (xs ++ waiting) a last → Comes moves last page a xs end next → Came moves first future next end
+  Came-comes {phase} {octets} {end = end} xs waiting so_far comes =
+      came-by end comes.events so_far comes.moved (comes.finishes future (standing_at phase octets so_far.leads.text) waiting so_far.leads.stands)
+
+  -- a read of some octets into a buffer of the most of a read, of which the first are taken, as many as fit
+  pub SoFar-read : {last next : P} {now : Future} (octets buf : List ℕ) (count fits : ℕ) → SoFar moves first future Going octets [] [] now last
+      → length octets ≤ input_most → IsIdle false now → (count ≤ length buf) × moves last (Read (take count buf) ∷ []) next
+      → 0 < count → length buf ≤ read_most → fits ≡ min count (input_most - length octets)
+      → SoFar moves first future Going (octets ++ take count buf) [] (take fits buf ++ []) now next
+  SoFar-read {now = now} octets buf count fits so_far few idle given some room fit =
+      let piece = take count buf in
+      let text = so_far.leads.text in
+      let stands = so_far.leads.stands in
+      let bound : length piece ≤ read_most = omega (arith, length-take count buf, given.0, room) in
+      let on : phase_by piece ≡ Going = goes-on piece (omega (arith, length-take count buf, given.0, some)) in
+      record {
+        events = so_far.events ++ Read piece ∷ [];
+        moved = chain.joins so_far.events (Read piece ∷ []) so_far.moved given.1;
+        leads =
+            Leads-trans future _ so_far.events (Read piece ∷ []) _ _ _ _ _ _ _ _ _ _ so_far.leads
+            (record {
+              text = text;
+              live = ((settled future now octets text few stands idle, bound), tt);
+              after = ap (λ phase. standing_at phase (octets ++ piece) text) on;
+              stands = stands-read future now octets piece (take fits buf) text few (first-read octets buf count fits few given.0 fit) stands;
+            });
+      }
+
+  -- a read of none
+  pub SoFar-over : {last next : P} {now closed : Future} (octets piece : List ℕ) → SoFar moves first future Going octets [] [] now last
+      → length octets ≤ input_most → IsIdle false now → moves last (Read piece ∷ []) next → piece ≡ [] → IsClosed now closed
+      → SoFar moves first future Over octets [] [] closed next
+  SoFar-over {now = now} {closed = closed} octets [] so_far few idle moved none is_closed =
+      let text = so_far.leads.text in
+      let stands = so_far.leads.stands in
+      record {
+        events = so_far.events ++ Read [] ∷ [];
+        moved = chain.joins so_far.events (Read [] ∷ []) so_far.moved moved;
+        leads =
+            Leads-trans future _ so_far.events (Read [] ∷ []) _ _ _ _ _ _ _ _ _ _ so_far.leads
+            (record {
+              text = text;
+              live = ((settled future now octets text few stands idle, omega arith), tt);
+              after = ap (λ (zs : List ℕ). standing_at Over zs text) (append-nil octets);
+              stands = stands-over future now closed octets text few is_closed stands;
+            });
+      }
+  SoFar-over octets (octet ∷ piece) so_far few idle moved none is_closed = cc
+
+  -- a read failed
+  pub Came-read_fault : {last next : P} {now : Future} (octets : List ℕ) → SoFar moves first future Going octets [] [] now last → length octets ≤ input_most
+      → IsIdle false now → moves last (ReadFailed ∷ []) next → Came moves first future next ReadFault
+  Came-read_fault {now = now} octets so_far few idle moved =
+      came-by ReadFault (ReadFailed ∷ []) so_far moved
+      (record { live = (settled future now octets so_far.leads.text few so_far.leads.stands idle, tt); ends = ([], refl) })
+
+  -- the input is too long
+  pub Came-too_long : {last : P} {now : Future} (octets : List ℕ) → SoFar moves first future Going octets [] [] now last → input_most < length octets
+      → IsIdle false now → Came moves first future last TooLong
+  Came-too_long {last = last} {now = now} octets so_far many idle =
+      let decided = idle-decided future now octets so_far.leads.text so_far.leads.stands idle in
+      came-by TooLong [] so_far (chain.stays last)
+      (record { live = tt; ends = record { going = refl; many = many; ends = decided.0; wrote = decided.1 } })

@@ -1,7 +1,6 @@
-pub mod WritesLaws
-pub mod FuturesLaws
-pub mod InputLaws
 pub mod TracesLaws
+pub mod GoingsLaws
+pub mod InputLaws
 pub mod RunsLaws
 pub mod OrdersLaws
 pub mod SameLaws

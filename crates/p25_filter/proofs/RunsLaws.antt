@@ -7,8 +7,7 @@ use Rattle.p25_io.specs.{Events.{Event, Read, ReadFailed, Wrote, WriteFailed}, F
 use Rattle.p25_io.proofs.OctetsLaws.{Appended-none, Appended-same, Appended-trans, AppendedBeginning-longer, AppendedBeginning-same, Rose-within, Taken-none, Taken-told, Taken-trans}
 use Rattle.p25_filter.specs.{declared.ending.Ending.{Ending}, declared.ending.FilterEnd.{FilterEnd}, declared.ending.FilterEnd.TheVariants.{Ended, ReadFault, WriteFault, TooLong, Memory}}
 use Rattle.p25_filter.specs.{Futures.{Future}, Runs.{Filtered, IsFinal, IsMemory, IsReadFault, IsWriteFault, Meets, all_written, input_most, read_most}}
-use Rattle.p25_filter.specs.Traces.{Broken, Going, IsDecided, IsFinalAt, IsLive, IsMemoryAt, IsRun, IsSettled, Over, Phase, Standing, after_all, at_first, standing_after, standing_at}
-use Rattle.p25_filter.specs.Writes.{Begins}
+use Rattle.p25_filter.specs.Traces.{Begins, Broken, Going, IsDecided, IsFinalAt, IsLive, IsMemoryAt, IsRun, IsSettled, Over, Phase, Standing, after_all, at_first, standing_after, standing_at}
 use Rattle.p25_filter.proofs.TracesLaws.{IsLive-parts, after_all-append}
 pub use Rattle.p25_filter.proofs.TracesLaws.{first-take}
 

@@ -1,8 +1,7 @@
-pub mod Writes
 pub mod Futures
-pub mod Pages
 pub mod Runs
 pub mod Traces
+pub mod Goings
 pub mod Orders
 pub mod Lines
 pub mod LineRules

@@ -3,7 +3,7 @@ use Rattle.std.specs.Prelude.{◌≡◌, ℕ, ◌<◌, ◌≤◌, Bool, true, fa
 use Rattle.p25_io.specs.Events.{Event, Read, ReadFailed, Wrote, WriteFailed}
 use Rattle.p25_filter.specs.{declared.ending.Ending.{Ending}, declared.ending.FilterEnd.{FilterEnd}}
 use Rattle.p25_filter.specs.{declared.ending.FilterEnd.TheVariants.{Ended, ReadFault, WriteFault, TooLong, Memory}, Futures.{Future}}
-use Rattle.p25_filter.specs.{Runs.{input_most, read_most}, Writes.{Begins}}
+use Rattle.p25_filter.specs.Runs.{input_most, read_most}
 
 -- more octets may come; or the input has ended; or a read or a write failed
 pub data Phase : Type 0 where
@@ -39,6 +39,11 @@ standing_after at (WriteFailed piece count) = standing_at Broken at.octets (at.t
 abbrev pub after_all : Standing → List Event → Standing
 after_all at [] = at
 after_all at (event ∷ events) = after_all (standing_after at event) events
+
+-- a text is the beginning of a whole
+pub record Begins (text whole : List ℕ) : Type 0 where
+  pub rest : List ℕ
+  pub is : whole ≡ text ++ rest
 
 -- a text is decided: it is the beginning of what is written whatever octets come after those that were read, of which none past
 -- the most is looked at; or of what is written for all of them

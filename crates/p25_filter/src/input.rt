@@ -1,8 +1,8 @@
 //! The work on an input: reading it in pieces, handing its octets to a command, and writing what the command gives.
 
-ghost use Rattle.std.specs.Prelude.{◌≡◌, ℕ, ◌+◌, ◌*◌, ◌^◌, ◌<◌, ◌≤◌, false, List, [], length, take, OnOk, IfErr};
+ghost use Rattle.std.specs.Prelude.{◌≡◌, ◌+◌, ◌*◌, ◌^◌, ◌<◌, ◌≤◌, false, List, [], length, OnOk, IfErr};
 ghost use Rattle.p25_io.specs.Events.{Event};
-ghost use Rattle.p25_filter.specs.{Futures.{IsIdle, IsStopped, IsWrittenOut, Moved}, Traces.{IsRun}};
+ghost use Rattle.p25_filter.specs.{Futures.{Future, IsIdle}, Goings.{Comes, Goes, MayEnd}, Traces.{IsRun}};
 
 use super::ending::{FilterEnd, Refusal};
 use super::filter::Filter;
@@ -15,7 +15,7 @@ const INPUT_MOST: usize = 16_777_216;
 
 // Writes the page, after which there is no further piece, and answers how the work ends: so, or by a write that fails.
 fn end_so<P: Port>(end: FilterEnd, page: &mut Line, port: &mut P) -> FilterEnd
-    ensures { IsWrittenOut P.moves port.old page.old end result port.new }
+    ensures { (now : Future) → MayEnd now end → Comes P.moves port.old page.old now [] result port.new }
 {
     match flush(page, port) {
         Ok(()) => end,
@@ -30,10 +30,10 @@ fn drain<W: Filter, P: Port>(
     piece: &mut Line,
     port: &mut P,
 ) -> Result<(), FilterEnd>
-    ensures moved { OnOk result (Moved P.moves port.old page.old (W.future filter.old) [] port.new page.new (W.future filter.new)) }
+    ensures goes { OnOk result (Goes P.moves port.old page.old (W.future filter.old) [] port.new page.new (W.future filter.new)) }
     ensures drained { OnOk result (W.IsDrained filter.new) }
     ensures idle { OnOk result (IsIdle (W.is_finished filter.new) (W.future filter.new)) }
-    ensures stopped { IfErr result (λ stop. IsStopped P.moves port.old page.old (W.future filter.old) [] stop port.new) }
+    ensures comes { IfErr result (λ end. Comes P.moves port.old page.old (W.future filter.old) [] end port.new) }
     ensures same { W.is_finished filter.new ≡ W.is_finished filter.old }
     ensures size { W.size filter.new ≤ W.size filter.old }
 {
@@ -65,11 +65,11 @@ fn feed<W: Filter, P: Port>(
     requires idle { IsIdle false (W.future filter.old) }
     requires going { W.is_finished filter.old ≡ false }
     requires few { W.size filter.old + 8 * length octets.now < 2 ^ 28 }
-    ensures moved { OnOk result (Moved P.moves port.old page.old (W.future filter.old) octets.now port.new [] (W.future filter.new)) }
+    ensures goes { OnOk result (Goes P.moves port.old page.old (W.future filter.old) octets.now port.new [] (W.future filter.new)) }
     ensures empty { OnOk result (page.new ≡ []) }
     ensures drained { OnOk result (W.IsDrained filter.new) }
     ensures idle { OnOk result (IsIdle false (W.future filter.new)) }
-    ensures stopped { IfErr result (λ stop. (count : ℕ) × IsStopped P.moves port.old page.old (W.future filter.old) (take count octets.now) stop port.new) }
+    ensures comes { IfErr result (λ end. Comes P.moves port.old page.old (W.future filter.old) octets.now end port.new) }
     ensures going { W.is_finished filter.new ≡ false }
     ensures size { W.size filter.new ≤ W.size filter.old + 8 * length octets.now }
 {

@@ -1,5 +1,6 @@
 pub mod Adapters
 pub mod Asked
+pub mod Chains
 pub mod Events
 pub mod Faults
 pub mod Histories

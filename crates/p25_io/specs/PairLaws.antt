@@ -1,7 +1,7 @@
 -- No event leads from a pair to itself, and events after events join: by induction on the events, for the source and for the sink.
 use Rattle.std.specs.Prelude.{ℕ, List, [], ◌∷◌, ◌++◌, Option}
 use Rattle.std.proofs.Common.{refl, ◌∙◌, subst}
-use Rattle.p25_io.specs.{declared.pair.Pair.{Pair}, Events.{Event, Read, ReadFailed, Wrote, WriteFailed}, Pairs.{SourceGoes, SinkGoes, PairGoes}}
+use Rattle.p25_io.specs.{Chains.{Chain}, Events.{Event, Read, ReadFailed, Wrote, WriteFailed}, Pairs.{SourceGoes, SinkGoes, PairGoes}}
 
 pub SourceGoes-joins : {S : Type 0} (left : S → Option (List ℕ)) (faults : S → ℕ) (first next last : S) (xs ys : List Event)
     → SourceGoes left faults first xs next → SourceGoes left faults next ys last → SourceGoes left faults first (xs ++ ys) last
@@ -23,18 +23,15 @@ SinkGoes-joins written faults first next last (Wrote piece ∷ xs) ys went goes 
 SinkGoes-joins written faults first next last (WriteFailed piece count ∷ xs) ys went goes =
     (went.0, went.1, SinkGoes-joins written faults went.0 next last xs ys went.2 goes)
 
-pub PairGoes-stays : {S K : Type 0} (left : S → Option (List ℕ)) (source_faults : S → ℕ) (written : K → Option (List ℕ)) (sink_faults : K → ℕ)
-    (pair : Pair S K) → PairGoes left source_faults written sink_faults pair [] pair
-PairGoes-stays left source_faults written sink_faults pair = record { same_source = refl; same_sink = refl; source = refl; sink = refl }
-
-pub PairGoes-joins : {S K : Type 0} (left : S → Option (List ℕ)) (source_faults : S → ℕ) (written : K → Option (List ℕ)) (sink_faults : K → ℕ)
-    (first next last : Pair S K) (xs ys : List Event)
-    → PairGoes left source_faults written sink_faults first xs next → PairGoes left source_faults written sink_faults next ys last
-    → PairGoes left source_faults written sink_faults first (xs ++ ys) last
-PairGoes-joins left source_faults written sink_faults first next last xs ys went goes =
-    record {
-      same_source = goes.same_source ∙ went.same_source;
-      same_sink = goes.same_sink ∙ went.same_sink;
-      source = SourceGoes-joins left source_faults first.source.now next.source.now last.source.now xs ys went.source goes.source;
-      sink = SinkGoes-joins written sink_faults first.sink.now next.sink.now last.sink.now xs ys went.sink goes.sink;
-    }
+pub PairGoes-chain : {S K : Type 0} (left : S → Option (List ℕ)) (source_faults : S → ℕ) (written : K → Option (List ℕ)) (sink_faults : K → ℕ)
+    → Chain (PairGoes left source_faults written sink_faults)
+PairGoes-chain left source_faults written sink_faults = record {
+  stays = λ pair. record { same_source = refl; same_sink = refl; source = refl; sink = refl };
+  joins = λ {first} {next} {last} xs ys went goes.
+      record {
+        same_source = goes.same_source ∙ went.same_source;
+        same_sink = goes.same_sink ∙ went.same_sink;
+        source = SourceGoes-joins left source_faults first.source.now next.source.now last.source.now xs ys went.source goes.source;
+        sink = SinkGoes-joins written sink_faults first.sink.now next.sink.now last.sink.now xs ys went.sink goes.sink;
+      };
+}

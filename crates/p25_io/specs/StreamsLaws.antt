@@ -3,7 +3,7 @@ use Rattle.std.specs.{Prelude.{◌≡◌, ℕ, ◌+◌, List, [], ◌∷◌, ◌
 use Rattle.std.proofs.Common.{sym, ap, subst, ◌∙◌, arith, append_assoc, append-nil, length-append, ◌⊎◌, inl, inr, ◌<◌}
 use Rattle.std.proofs.{KnownBytes.{Appends-nil, Appends-trans, Consumes-nil, Consumes-trans}, lemmas.Grind.{flat_map-append}}
 use Rattle.std.proofs.lemmas.List.Elements.{Contains-append_cases}
-use Rattle.p25_io.specs.{declared.streams.Streams.{Streams}, Streams.{StreamsGo, events_on, reader_in, writer_in}}
+use Rattle.p25_io.specs.{Chains.{Chain}, declared.streams.Streams.{Streams}, Streams.{StreamsGo, events_on, reader_in, writer_in}}
 use Rattle.p25_io.specs.Events.{Event, Read, ReadFailed, Wrote, WriteFailed, octets_read, octets_written, read_by, reads_in, writes_in, written_by}
 
 reads_in-append : (xs ys : List Event) → reads_in (xs ++ ys) ≡ reads_in xs + reads_in ys
@@ -47,7 +47,7 @@ none-in : (event : Event) → Contains [] event → ⊥
 none-in event none = let below : none.0 < 0 = none.1 in absurd (omega (arith, below))
 
 module _ {R W : Type 0} (remaining : R → Option (List ℕ)) (contents : W → Option (List ℕ)) where
-  pub StreamsGo-stays : (streams : Streams R W) → StreamsGo remaining contents streams [] streams
+  StreamsGo-stays : (streams : Streams R W) → StreamsGo remaining contents streams [] streams
   StreamsGo-stays streams = record {
     made = sym (append-nil (events_on streams));
     read = Consumes-nil (remaining (reader_in streams));
@@ -58,7 +58,7 @@ module _ {R W : Type 0} (remaining : R → Option (List ℕ)) (contents : W → 
     flushed = omega arith;
   }
 
-  pub StreamsGo-joins : (first next last : Streams R W) (xs ys : List Event) → StreamsGo remaining contents first xs next
+  StreamsGo-joins : (first next last : Streams R W) (xs ys : List Event) → StreamsGo remaining contents first xs next
       → StreamsGo remaining contents next ys last → StreamsGo remaining contents first (xs ++ ys) last
   StreamsGo-joins first next last xs ys went goes =
       let all_read : octets_read (xs ++ ys) ≡ octets_read xs ++ octets_read ys = flat_map-append read_by xs ys in
@@ -81,3 +81,6 @@ module _ {R W : Type 0} (remaining : R → Option (List ℕ)) (contents : W → 
       by_place (inl before) =
           ended-on (remaining (reader_in first)) (remaining (reader_in next)) (remaining (reader_in last)) _ _ went.read goes.read (went.ending before)
       by_place (inr after) = ended-later (remaining (reader_in first)) (remaining (reader_in next)) (remaining (reader_in last)) _ went.read (goes.ending after)
+
+  pub StreamsGo-chain : Chain (StreamsGo remaining contents)
+  StreamsGo-chain = record { stays = StreamsGo-stays; joins = λ {first} {next} {last} xs ys. StreamsGo-joins first next last xs ys }

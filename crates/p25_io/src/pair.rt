@@ -24,13 +24,11 @@ impl<'a, S: Source, K: Sink> Pair<'a, S, K> {
 }
 
 impl<'a, S: Source, K: Sink> Port for Pair<'a, S, K> {
-    ghost use Rattle.p25_io.specs.{Pairs.{PairGoes}, PairLaws.{PairGoes-stays, PairGoes-joins}};
+    ghost use Rattle.p25_io.specs.{Pairs.{PairGoes}, PairLaws.{PairGoes-chain}};
 
     ghost moves = { PairGoes S.left S.faults K.written K.faults };
 
-    ghost stays = { PairGoes-stays S.left S.faults K.written K.faults };
-
-    ghost joins = { PairGoes-joins S.left S.faults K.written K.faults };
+    ghost chain = { PairGoes-chain S.left S.faults K.written K.faults };
 
     fn read(&mut self, buf: &mut [u8]) -> Result<usize, Failed> {
         self.source.read(buf)

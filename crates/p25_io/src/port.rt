@@ -1,7 +1,7 @@
 //! Where octets come from and where they go to, in the order of the calls.
 
-ghost use Rattle.std.specs.Prelude.{◌≡◌, ℕ, ◌<◌, ◌≤◌, List, [], ◌∷◌, ◌++◌, length, take, IfOk, OnOk, OnErr};
-ghost use Rattle.p25_io.specs.Events.{Event, Read, ReadFailed, Wrote, WriteFailed};
+ghost use Rattle.std.specs.Prelude.{◌≡◌, ℕ, ◌<◌, ◌≤◌, List, [], ◌∷◌, length, take, IfOk, OnOk, OnErr};
+ghost use Rattle.p25_io.specs.{Chains.{Chain}, Events.{Event, Read, ReadFailed, Wrote, WriteFailed}};
 
 use crate::Failed;
 
@@ -27,7 +27,5 @@ pub trait Port {
         ensures err { OnErr result ((count : ℕ) × (count ≤ length piece.now) × moves self.old (WriteFailed piece.now count ∷ []) self.new) };
 
     // No event leads from a state to itself, and events after events join.
-    ghost stays: { (port : Self) → moves port [] port };
-
-    ghost joins: { (first next last : Self) (xs ys : List Event) → moves first xs next → moves next ys last → moves first (xs ++ ys) last };
+    ghost chain: { Chain moves };
 }

@@ -44,13 +44,11 @@ impl<R: Read, W: Write> Streams<R, W> {
 }
 
 impl<R: Read, W: Write> Port for Streams<R, W> {
-    ghost use Rattle.p25_io.specs.{Streams.{StreamsGo}, StreamsLaws.{StreamsGo-stays, StreamsGo-joins}};
+    ghost use Rattle.p25_io.specs.{Streams.{StreamsGo}, StreamsLaws.{StreamsGo-chain}};
 
     ghost moves = { StreamsGo R.remaining W.contents };
 
-    ghost stays = { StreamsGo-stays R.remaining W.contents };
-
-    ghost joins = { StreamsGo-joins R.remaining W.contents };
+    ghost chain = { StreamsGo-chain R.remaining W.contents };
 
     fn read(&mut self, buf: &mut [u8]) -> Result<usize, Failed> {
         let result = self.reader.read(buf);

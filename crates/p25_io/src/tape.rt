@@ -87,13 +87,11 @@ fn call_of(alloc: Global, note: &Note<'_>) -> Result<Call, AllocError>
 }
 
 impl Port for Tape<'_> {
-    ghost use Rattle.p25_io.specs.TapeLaws.{TapeGoes-stays, TapeGoes-joins};
+    ghost use Rattle.p25_io.specs.TapeLaws.{TapeGoes-chain};
 
     ghost moves = { TapeGoes };
 
-    ghost stays = { TapeGoes-stays };
-
-    ghost joins = { TapeGoes-joins };
+    ghost chain = { TapeGoes-chain };
 
     fn read(&mut self, buf: &mut [u8]) -> Result<usize, Failed> {
         let result = self.source.read(buf);

@@ -1,13 +1,12 @@
 use Rattle.std.proofs.Common.{◌≡◌, ◌≤◌, []}
-use Rattle.p25_filter.specs.Futures.{Moved}
+use Rattle.p25_filter.specs.Goings.{Goes}
 use Rattle.p25_filter.proofs.input.drain.Given as goal
 
 abbrev pub invariant-loop-page : goal.invariant-loop-page
 invariant-loop-page g l =
-    let moves = g.P.Port.moves in
     let future = g.W.Filter.future in
     record {
-      moved : Moved moves l.initial.port l.initial.page (future l.initial.filter) [] l.port l.page (future l.filter);
+      goes : Goes g.P.Port.moves l.initial.port l.initial.page (future l.initial.filter) [] l.port l.page (future l.filter);
       same : g.W.Filter.is_finished l.filter ≡ g.W.Filter.is_finished l.initial.filter;
       size : g.W.Filter.size l.filter ≤ g.W.Filter.size l.initial.filter;
     }

@@ -1,14 +1,13 @@
 use Rattle.std.proofs.Common.{◌≡◌, ◌+◌, ◌-◌, ◌*◌, ◌≤◌, false, length, take}
-use Rattle.p25_filter.specs.Futures.{IsIdle, Moved}
+use Rattle.p25_filter.specs.{Futures.{IsIdle}, Goings.{Goes}}
 use Rattle.p25_filter.proofs.input.feed.Given as goal
 
 abbrev pub invariant-loop-done : goal.invariant-loop-done
 invariant-loop-done g l =
-    let moves = g.P.Port.moves in
     let future = g.W.Filter.future in
     record {
       there : l.done ≤ length l.octets;
-      moved : Moved moves l.initial.port l.initial.page (future l.initial.filter) (take l.done l.octets) l.port l.page (future l.filter);
+      goes : Goes g.P.Port.moves l.initial.port l.initial.page (future l.initial.filter) (take l.done l.octets) l.port l.page (future l.filter);
       drained : g.W.Filter.IsDrained l.filter;
       idle : IsIdle false (future l.filter);
       going : g.W.Filter.is_finished l.filter ≡ false;

@@ -1,6 +1,5 @@
 use Rattle.std.proofs.Common.{◌≡◌, ℕ, ◌-◌, ◌*◌, ◌≤◌, false, List, [], length}
-use Rattle.p25_filter.specs.{Futures.{IsIdle, Progress}, Traces.{Going, standing_at}}
-use Rattle.p25_filter.proofs.TracesLaws.{SoFar}
+use Rattle.p25_filter.specs.{Futures.{IsIdle}, Goings.{SoFar}, Traces.{Going}}
 use Rattle.p25_filter.proofs.input.run_on.Given as goal
 
 abbrev pub invariant-loop-count : goal.invariant-loop-count
@@ -8,9 +7,7 @@ invariant-loop-count g l =
     let future = g.W.Filter.future in
     record {
       octets : List ℕ;
-      text : List ℕ;
-      so_far : SoFar g.P.Port.moves l.initial.port (future l.initial.filter) (standing_at Going octets text) l.port;
-      progress : Progress (future l.initial.filter) octets text (future l.filter);
+      so_far : SoFar g.P.Port.moves l.initial.port (future l.initial.filter) Going octets [] [] (future l.filter) l.port;
       count : length octets ≡ l.taken;
       drained : g.W.Filter.IsDrained l.filter;
       idle : IsIdle false (future l.filter);

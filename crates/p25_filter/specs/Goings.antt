@@ -1,0 +1,80 @@
+-- Which reads and writes the work on an input makes, step by step. `Traces` says what may come after which events (`IsLive`), and how
+-- a run of events ends (`EndsAs`); here stands how the steps of the work keep to that.
+--
+-- The work reads octets, hands them to the command, and gathers what the command gives on a page, which is written when it is full
+-- and before the next read. `Stands` says how octets, page and command fit together between two events. `Goes` is a step after which
+-- the work goes on: of gathering a piece, of writing the page, of all that a read decides. `Comes` is a step with which it ends.
+-- Both are said from wherever the work may have stood, so steps follow one another. `SoFar` is the work from its first event on.
+use Rattle.std.specs.Prelude.{◌≡◌, ℕ, true, List, [], ◌++◌, take}
+use Rattle.p25_io.specs.Events.{Event}
+use Rattle.p25_filter.specs.{declared.ending.FilterEnd.{FilterEnd}, declared.ending.FilterEnd.TheVariants.{Ended, Memory}}
+use Rattle.p25_filter.specs.{Futures.{Future, IsPausing, IsRefused, Progress}, Runs.{input_most}}
+use Rattle.p25_filter.specs.Traces.{Broken, EndsAs, IsLive, Over, Phase, Standing, after_all, at_first, standing_at}
+
+-- the future after these octets, and the one after which no more octets come
+abbrev pub ahead : List ℕ → Future → Future
+ahead octets future = record {
+  writes = λ ended more. future.writes ended (octets ++ more);
+  ends = λ ended more. future.ends ended (octets ++ more);
+  pauses = λ ended more. future.pauses ended (octets ++ more);
+}
+
+abbrev pub over : List ℕ → Future → Future
+over octets future = record {
+  writes = λ ended more. future.writes true octets;
+  ends = λ ended more. future.ends true octets;
+  pauses = λ ended more. future.pauses true octets;
+}
+
+-- the future of the command at its beginning, once these octets were read, of which none past the most is looked at
+abbrev pub seen : Phase → List ℕ → Future → Future
+seen Over octets future = over octets future
+seen phase octets future = ahead (take input_most octets) future
+
+-- what was written, what is on the page and what the command at work gives for the octets that wait is what its future at the
+-- beginning gives for the octets that were read
+pub record Stands (future : Future) (at : Standing) (page waiting : List ℕ) (now : Future) : Type 0 where
+  pub whole : at.phase ≡ Broken → ⊥
+  pub given : Progress (seen at.phase at.octets future) [] (at.text ++ page) (ahead waiting now)
+
+-- the events from here on may come, and lead to where these octets were read, and page, waiting octets and command fit together
+pub record Leads (future : Future) (at : Standing) (events : List Event) (phase : Phase) (octets page waiting : List ℕ) (now : Future) : Type 0 where
+  pub text : List ℕ
+  pub live : IsLive future at events
+  pub after : after_all at events ≡ standing_at phase octets text
+  pub stands : Stands future (standing_at phase octets text) page waiting now
+
+-- the events from here on may come, and the work ends so after them
+pub record Finishes (future : Future) (at : Standing) (events : List Event) (end : FilterEnd) : Type 0 where
+  pub live : IsLive future at events
+  pub ends : EndsAs future events (after_all at events) end
+
+-- a step from page and command to a later page and command: from wherever the work stood with these octets first among those that
+-- wait, the events of the step, all of them writes, lead to where these octets wait no more
+pub record Goes {P : Type 0} (moves : P → List Event → P → Type 0) (first : P) (page : List ℕ) (before : Future) (octets : List ℕ)
+    (last : P) (kept : List ℕ) (now : Future) : Type 0 where
+  pub events : List Event
+  pub moved : moves first events last
+  pub leads : (future : Future) (at : Standing) (waiting : List ℕ) → Stands future at page (octets ++ waiting) before
+      → Leads future at events at.phase at.octets kept waiting now
+
+-- a step with which the work ends: from wherever it stood with these octets first among those that wait
+pub record Comes {P : Type 0} (moves : P → List Event → P → Type 0) (first : P) (page : List ℕ) (before : Future) (octets : List ℕ)
+    (end : FilterEnd) (last : P) : Type 0 where
+  pub events : List Event
+  pub moved : moves first events last
+  pub finishes : (future : Future) (at : Standing) (waiting : List ℕ) → Stands future at page (octets ++ waiting) before
+      → Finishes future at events end
+
+-- the command gives no further piece for this cause: the input is refused or has ended, or memory is wanting
+abbrev pub MayEnd : Future → FilterEnd → Type 0
+MayEnd now (Ended ending) = IsRefused now ending
+MayEnd now Memory = IsPausing now
+MayEnd now end = ⊥
+
+-- the work from its first event on: these octets were read, and page, waiting octets and command fit together
+pub record SoFar {P : Type 0} (moves : P → List Event → P → Type 0) (first : P) (future : Future) (phase : Phase) (octets page waiting : List ℕ)
+    (now : Future) (last : P) : Type 0 where
+  pub events : List Event
+  pub moved : moves first events last
+  pub leads : Leads future at_first events phase octets page waiting now
