@@ -106,7 +106,9 @@ for page in RECIPES.md FORMATS.md WEAK.md; do
 done
 put 644 "$top/RELEASE" share/p25/RELEASE
 # What companions share, and the parts of the page that p25-page makes.
-put 644 "$top/companions/p25_lines.py" share/p25/p25_lines.py
+for part in "$top"/companions/*.py; do
+    put 644 "$part" "share/p25/${part##*/}"
+done
 for part in "$top"/companions/p25_page/*; do
     put 644 "$part" "share/p25/p25_page/${part##*/}"
 done

@@ -1,4 +1,4 @@
-# Completion for bash of the words of p25 and of its companions: read it by `. completion.bash`, or from the folder of
+# Completion for bash of the words of p25 and of its helper scripts: read it by `. completion.bash`, or from the folder of
 # completions.
 
 _p25() {
@@ -14,12 +14,13 @@ _p25() {
 }
 complete -o default -F _p25 p25 ./p25
 
-# The options of a companion are those that its help names before its first empty line.
+# The options of a helper script are those that its help names before its first empty line.
 _p25_companion() {
     local word=${COMP_WORDS[COMP_CWORD]} words
-    words="-h $("${COMP_WORDS[0]}" -h 2>/dev/null | sed '/^$/q' | grep -Eo -e '[[ ]--?[a-z-]+' | tr -d '[ ' | sort -u)"
-    case ${COMP_WORDS[0]##*/} in
-        p25-octets) words="$words dibits digits bits octets floats" ;;
+    # Where no option is begun, files are offered, by the default.
+    case $word:${COMP_WORDS[0]##*/} in
+        -*) words="-h --help --version $("${COMP_WORDS[0]}" -h 2>/dev/null | sed '/^$/q' | grep -Eo -e '[[ ]--?[a-z-]+' | tr -d '[ ' | sort -u)" ;;
+        *:p25-octets) words='dibits digits bits octets floats' ;;
     esac
     mapfile -t COMPREPLY < <(compgen -W "$words" -- "$word")
 }

@@ -38,16 +38,15 @@
 
   // -- Calls.
   const [LATE, OPEN, ALARM, PIECE] = [1, 2, 4, 8];
-  const withName = (names, number, word) => (names[number] ? `${names[number]} (${number})` : `${word} ${number}`);
-  const calls = data.calls.map(([begin, length, network, radio, to, alg, marks, sent, heard, broken, wrong, looked]) => ({
+  const calls = data.calls.map(([begin, length, network, talker, to, alg, marks, sent, heard, broken, wrong, looked]) => ({
     begin, length, network: data.networks[network], sent, heard, broken, lost: sent - heard,
     rate: looked ? (100 * wrong) / looked : null,
-    from: radio === null ? "not known" : withName(data.radios, radio, "radio"),
-    to: to === null ? "not known" : to < 0 ? withName(data.radios, -1 - to, "radio") : withName(data.groups, to, "group"),
-    lane: to === null ? "not known" : to < 0 ? "radio to radio" : withName(data.groups, to, "group"),
+    from: data.talkers[talker],
+    to: data.called[to][0],
+    lane: data.called[to][1],
     cipher: alg < 0 ? "not known" : data.ciphers[alg],
     alarm: (marks & ALARM) !== 0,
-    kind: marks & ALARM ? "alarm" : alg < 0 ? "unknown" : alg === data.clear ? "clear" : "secret",
+    kind: marks & ALARM ? "alarm" : alg < 0 ? "unknown" : data.clear.includes(alg) ? "clear" : "secret",
     notes: [marks & LATE && "beginning not heard", marks & OPEN && "end not heard", marks & PIECE && "may go on the call before"].filter(Boolean).join("; "),
   }));
   const secondsText = (time) => `${(time / 1000).toFixed(1)} s`;
