@@ -17,18 +17,12 @@ module _ {F : Type 0} (K : Field F) where
   -- the product with a quotient
   pub factored_product : (f q s : ℕ → F) (z : F) → ((k : ℕ) → f k ≡ z ⊗ q k ⊕ shifted K 1 q k) → (i : ℕ) → product_at K f s i ≡ z ⊗ product_at K q s i ⊕ shifted K 1 (product_at K q s) i
   factored_product f q s z whole i =
-      product_same_left K f (λ k. z ⊗ q k ⊕ shifted K 1 q k) s whole i
-      ∙ product-add_left K (λ k. z ⊗ q k) (shifted K 1 q) s i
-      ∙ ap₂ ◌⊕◌ (product-mul_left K z q s i) (product-shifted K 1 q s i)
+      rw (product_same_left K f (λ k. z ⊗ q k ⊕ shifted K 1 q k) s whole i, product-add_left K (λ k. z ⊗ q k) (shifted K 1 q) s i, product-mul_left K z q s i, product-shifted K 1 q s i)
 
   -- a coefficient of the quotient by x + z, by the first coefficients
   pub front_sum : (x z : F) (w e : ℕ → F) → x ⊗ z ≡ 𝟙 → ((i : ℕ) → e i ≡ z ⊗ w i ⊕ shifted K 1 w i) → (i : ℕ) → w i ≡ power K x (suc i) ⊗ value_at K (suc i) e z
   front_sum x z w e one whole zero =
-      sym (one_mul K (w 0))
-      ∙ ap (λ v. v ⊗ w 0) (sym one)
-      ∙ mul_assoc K x z (w 0)
-      ∙ ap (λ v. x ⊗ v) (sym (whole 0 ∙ ap (λ v. z ⊗ w 0 ⊕ v) (shifted-first K w) ∙ add_zero K (z ⊗ w 0)))
-      ∙ ap₂ ◌⊗◌ (sym (power-suc K x 0 ∙ ap (λ v. x ⊗ v) (power-zero K x) ∙ mul_one K x)) (sym constant)
+      cc (one_mul K (w 0), one, mul_assoc K x z (w 0), add_zero K (z ⊗ w 0), shifted-first K w, whole 0, mul_one K x, power-zero K x, power-suc K x 0, constant)
     where
       constant : value_at K 1 e z ≡ e 0
       constant =
@@ -36,18 +30,25 @@ module _ {F : Type 0} (K : Field F) where
           ∙ ap₂ ◌⊕◌ (sum-none K (λ i. e i ⊗ power K z i)) (ap (λ v. e 0 ⊗ v) (power-zero K z) ∙ mul_one K (e 0))
           ∙ zero_add K (e 0)
   front_sum x z w e one whole (suc i) =
-      sym (one_mul K (w (suc i)))
-      ∙ ap (λ v. v ⊗ w (suc i)) (sym one)
-      ∙ mul_assoc K x z (w (suc i))
-      ∙ ap (λ v. x ⊗ v) (sym (add_twice K (w i) (z ⊗ w (suc i))) ∙ ap (λ v. w i ⊕ v) (add_comm K (w i) (z ⊗ w (suc i)) ∙ ap (λ v. z ⊗ w (suc i) ⊕ v) (sym (shifted-next K w i)) ∙ sym (whole (suc i))))
-      ∙ mul_add K x (w i) (e (suc i))
-      ∙ ap₂ ◌⊕◌ (ap (λ v. x ⊗ v) (front_sum x z w e one whole i) ∙ sym (mul_assoc K x (power K x (suc i)) (value_at K (suc i) e z))
-      ∙ ap (λ v. v ⊗ value_at K (suc i) e z) (sym (power-suc K x (suc i))))
-      (ap (λ v. x ⊗ v) (sym (one_mul K (e (suc i))) ∙ ap (λ v. v ⊗ e (suc i)) (sym (power_of_one K (suc i)) ∙ ap (λ v. power K v (suc i)) (sym one) ∙ power_of_mul K x z (suc i)))
-      ∙ last (power K x (suc i)) (power K z (suc i)) (e (suc i))
-      ∙ ap (λ v. v ⊗ (e (suc i) ⊗ power K z (suc i))) (sym (power-suc K x (suc i))))
-      ∙ sym (mul_add K (power K x (suc (suc i))) (value_at K (suc i) e z) (e (suc i) ⊗ power K z (suc i)))
-      ∙ ap (λ v. power K x (suc (suc i)) ⊗ v) (sym (sum-suc K (suc i) (λ i. e i ⊗ power K z i)))
+      cc (
+        one_mul K (w (suc i)),
+        one,
+        mul_assoc K x z (w (suc i)),
+        add_twice K (w i) (z ⊗ w (suc i)),
+        add_comm K (w i) (z ⊗ w (suc i)),
+        shifted-next K w i,
+        whole (suc i),
+        mul_add K x (w i) (e (suc i)),
+        front_sum x z w e one whole i,
+        mul_assoc K x (power K x (suc i)) (value_at K (suc i) e z),
+        power-suc K x (suc i),
+        one_mul K (e (suc i)),
+        power_of_one K (suc i),
+        power_of_mul K x z (suc i),
+        last (power K x (suc i)) (power K z (suc i)) (e (suc i)),
+        mul_add K (power K x (suc (suc i))) (value_at K (suc i) e z) (e (suc i) ⊗ power K z (suc i)),
+        sum-suc K (suc i) (λ i. e i ⊗ power K z i),
+      )
     where
       last : (p q c : F) → x ⊗ (p ⊗ q ⊗ c) ≡ x ⊗ p ⊗ (c ⊗ q)
       last p q c = simp (mul_assoc K, mul_comm K)
@@ -55,10 +56,7 @@ module _ {F : Type 0} (K : Field F) where
   lower_power : (x y : F) (m k : ℕ) → x ⊗ y ≡ 𝟙 → k ≤ m → power K x (m - k + 1) ≡ power K x (m + 1) ⊗ power K y k
   lower_power x y m k one low =
       let split : m + 1 ≡ (m - k + 1) + k = omega arith in
-      sym (mul_one K (power K x (m - k + 1)))
-      ∙ ap (λ w. power K x (m - k + 1) ⊗ w) (sym (power_of_one K k) ∙ ap (λ w. power K w k) (sym one) ∙ power_of_mul K x y k)
-      ∙ sym (mul_assoc K (power K x (m - k + 1)) (power K x k) (power K y k))
-      ∙ ap (λ w. w ⊗ power K y k) (sym (power-add K x (m - k + 1) k) ∙ ap (power K x) (sym split))
+      cc (mul_one K (power K x (m - k + 1)), power_of_one K k, one, power_of_mul K x y k, mul_assoc K (power K x (m - k + 1)) (power K x k) (power K y k), power-add K x (m - k + 1) k, split)
 
   -- the product of a polynomial with power sums, as a sum over the elements
   pub product_sums : (n m : ℕ) (x v q s : ℕ → F) → ((j : ℕ) → j < n → x j ⊗ inverse (x j) ≡ 𝟙) → ((i : ℕ) → i ≤ m → s i ≡ power_sum K n x v (i + 1))

@@ -13,11 +13,11 @@ module _ {F : Type 0} (K : Field F) where
   infixl 70 ◌⊗◌
   pub shifted_below : (s : ℕ) (f : ℕ → F) (n : ℕ) → n < s → shifted K s f n ≡ 𝟘
   unfolding shifted
-  shifted_below s f n h = ap (λ t. cond t 𝟘 (f (n - s))) (lt-ltb n s h)
+  shifted_below s f n h = simp lt-ltb
 
   pub shifted_from : (s : ℕ) (f : ℕ → F) (n : ℕ) → s ≤ n → shifted K s f n ≡ f (n - s)
   unfolding shifted
-  shifted_from s f n h = ap (λ t. cond t 𝟘 (f (n - s))) (le-ltb n s h)
+  shifted_from s f n h = simp le-ltb
 
   -- the product is the sum of the second factor's multiples by the first factor's terms
   pub product_by_rows : (m : ℕ) (f g : ℕ → F) → IsShort K m f → (n : ℕ) → product_at K f g n ≡ sum_below K m (λ i. f i ⊗ shifted K i g n)
@@ -57,7 +57,7 @@ module _ {F : Type 0} (K : Field F) where
 
   pub product-add_left : (f g h : ℕ → F) (n : ℕ) → product_at K (λ i. f i ⊕ g i) h n ≡ product_at K f h n ⊕ product_at K g h n
   product-add_left f g h n =
-      product_comm (λ i. f i ⊕ g i) h n ∙ product-add h f g n ∙ ap₂ ◌⊕◌ (product_comm h f n) (product_comm h g n)
+      rw (product_comm (λ i. f i ⊕ g i) h n, product-add h f g n, product_comm h f n, product_comm h g n)
 
   pub product-mul_left : (c : F) (f g : ℕ → F) (n : ℕ) → product_at K (λ i. c ⊗ f i) g n ≡ c ⊗ product_at K f g n
   product-mul_left c f g n =
@@ -81,18 +81,19 @@ module _ {F : Type 0} (K : Field F) where
 
   pub product_assoc : (f g h : ℕ → F) (n : ℕ) → product_at K (product_at K f g) h n ≡ product_at K f (product_at K g h) n
   product_assoc f g h zero =
-      product_at_zero (product_at K f g) h
-      ∙ ap (λ w. w ⊗ h 0) (product_at_zero f g)
-      ∙ mul_assoc K (f 0) (g 0) (h 0)
-      ∙ sym (product_at_zero f (product_at K g h) ∙ ap (λ w. f 0 ⊗ w) (product_at_zero g h))
+      simp (product_at_zero, mul_assoc)
   product_assoc f g h (suc n) =
-      product_first (product_at K f g) h n
-      ∙ ap₂ (λ a b. a ⊗ h (suc n) ⊕ b) (product_at_zero f g)
-      (product_same_left (λ i. product_at K f g (suc i)) (λ i. f 0 ⊗ g (suc i) ⊕ product_at K (λ i. f (suc i)) g i) h (product_first f g) n
-      ∙ product-add_left (λ i. f 0 ⊗ g (suc i)) (product_at K (λ i. f (suc i)) g) h n
-      ∙ ap₂ ◌⊕◌ (product-mul_left (f 0) (λ i. g (suc i)) h n) (product_assoc (λ i. f (suc i)) g h n))
-      ∙ regroup (f 0) (g 0) (h (suc n)) (product_at K (λ i. g (suc i)) h n) (product_at K (λ i. f (suc i)) (product_at K g h) n)
-      ∙ sym (product_first f (product_at K g h) n ∙ ap (λ w. f 0 ⊗ w ⊕ product_at K (λ i. f (suc i)) (product_at K g h) n) (product_first g h n))
+      cc (
+        product_first (product_at K f g) h n,
+        product_at_zero f g,
+        product_same_left (λ i. product_at K f g (suc i)) (λ i. f 0 ⊗ g (suc i) ⊕ product_at K (λ i. f (suc i)) g i) h (product_first f g) n,
+        product-add_left (λ i. f 0 ⊗ g (suc i)) (product_at K (λ i. f (suc i)) g) h n,
+        product-mul_left (f 0) (λ i. g (suc i)) h n,
+        product_assoc (λ i. f (suc i)) g h n,
+        regroup (f 0) (g 0) (h (suc n)) (product_at K (λ i. g (suc i)) h n) (product_at K (λ i. f (suc i)) (product_at K g h) n),
+        product_first g h n,
+        product_first f (product_at K g h) n,
+      )
     where
       regroup : (a b c p q : F) → a ⊗ b ⊗ c ⊕ (a ⊗ p ⊕ q) ≡ a ⊗ (b ⊗ c ⊕ p) ⊕ q
       regroup a b c p q = simp (mul_add K, mul_assoc K, add_assoc K)
@@ -103,12 +104,15 @@ module _ {F : Type 0} (K : Field F) where
       elim (cases_lt n s) [
         | inl below ↦
             sum_of_zeros K (suc n) (λ i. f i ⊗ h (n - i)) (λ i low. ap (λ w. f i ⊗ w) (others (n - i) (omega arith)) ∙ mul_zero K (f i))
-            ∙ sym (ap (λ w. c ⊗ w) (shifted_below s f n below) ∙ mul_zero K c)
+            ∙ sym (simp (shifted_below, mul_zero))
         | inr above ↦
-            sum_of_one K (suc n) (n - s) (λ i. f i ⊗ h (n - i)) (omega arith) (λ i low apart. ap (λ w. f i ⊗ w) (others (n - i) (omega arith)) ∙ mul_zero K (f i))
-            ∙ ap (λ w. f (n - s) ⊗ w) (ap h (back above) ∙ at)
-            ∙ mul_comm K (f (n - s)) c
-            ∙ ap (λ w. c ⊗ w) (sym (shifted_from s f n above))
+            cc (
+              sum_of_one K (suc n) (n - s) (λ i. f i ⊗ h (n - i)) (omega arith) (λ i low apart. ap (λ w. f i ⊗ w) (others (n - i) (omega arith)) ∙ mul_zero K (f i)),
+              back above,
+              at,
+              mul_comm K (f (n - s)) c,
+              shifted_from s f n above,
+            )
       ]
     where
       back : s ≤ n → n - (n - s) ≡ s
@@ -118,7 +122,7 @@ module _ {F : Type 0} (K : Field F) where
   pub shifted_agree : (s count n : ℕ) (f g : ℕ → F) → n < count → ((i : ℕ) → i < count → f i ≡ g i) → shifted K s f n ≡ shifted K s g n
   shifted_agree s count n f g low same =
       elim (cases_lt n s) [
-        | inl below ↦ shifted_below s f n below ∙ sym (shifted_below s g n below)
+        | inl below ↦ simp shifted_below
         | inr from ↦ shifted_from s f n from ∙ same (n - s) (omega arith) ∙ sym (shifted_from s g n from)
       ]
 
@@ -144,8 +148,8 @@ module _ {F : Type 0} (K : Field F) where
   pub product_zero : (f g : ℕ → F) (n : ℕ) → ((i j : ℕ) → i + j ≡ n → (f i ≡ 𝟘) ⊎ (g j ≡ 𝟘)) → product_at K f g n ≡ 𝟘
   product_zero f g n e =
       sum_of_zeros K (suc n) (λ i. f i ⊗ g (n - i)) (λ i low. elim (e i (n - i) (omega arith)) [
-        | inl left ↦ ap (λ w. w ⊗ g (n - i)) left ∙ zero_mul K (g (n - i))
-        | inr right ↦ ap (λ w. f i ⊗ w) right ∙ mul_zero K (f i)
+        | inl left ↦ simp (left, zero_mul)
+        | inr right ↦ simp (right, mul_zero)
       ])
 
   -- the leading coefficient of a product
@@ -228,7 +232,4 @@ module _ {F : Type 0} (K : Field F) where
   pub same_remainder : (n : ℕ) (b q p r t : ℕ → F) (d : ℕ) → IsDegree K b d
       → IsShort K n q → IsShort K n p → IsShort K d r → IsShort K d t → ((i : ℕ) → product_at K b q i ⊕ r i ≡ product_at K b p i ⊕ t i) → (i : ℕ) → r i ≡ t i
   same_remainder n b q p r t d degree short_q short_p short_r short_t same i =
-      sym (add_twice K (product_at K b q i) (r i))
-      ∙ ap (λ w. product_at K b q i ⊕ w) (same i)
-      ∙ ap (λ w. w ⊕ (product_at K b p i ⊕ t i)) (product_same b q p (same_quotient n b q p r t d degree short_q short_p short_r short_t same) i)
-      ∙ add_twice K (product_at K b p i) (t i)
+      cc (add_twice K (product_at K b q i) (r i), same i, product_same b q p (same_quotient n b q p r t d degree short_q short_p short_r short_t same) i, add_twice K (product_at K b p i) (t i))

@@ -1,5 +1,5 @@
 -- Values of sums and products of polynomials.
-use Rattle.std.proofs.{Common.{◌≡◌, ℕ, zero, suc, ◌+◌, ◌-◌, ◌≤◌, sym, ap, ap₂, ◌∙◌, inl, inr, arith}, lemmas.Bool.{cases_lt}}
+use Rattle.std.proofs.{Common.{◌≡◌, ℕ, zero, suc, ◌+◌, ◌-◌, ◌≤◌, sym, ap, ◌∙◌, inl, inr, arith}, lemmas.Bool.{cases_lt}}
 use Rattle.p25_gf64.specs.Field.{Field, power}
 use Rattle.p25_gf64.proofs.{FieldLaws.{zero_add, mul_comm, mul_assoc, one_mul, add_mul, zero_mul}, PowerLaws.{power-zero, power-suc}}
 use Rattle.p25_algebra.specs.{Sums.{sum_below}, Series.{value_at, product_at, shifted, IsShort}}
@@ -29,7 +29,7 @@ module _ {F : Type 0} (K : Field F) where
   shifted-suc s f n =
       elim (cases_lt n s) [
         | inl below ↦ shifted_below K (suc s) f (suc n) (omega arith) ∙ sym (shifted_below K s f n below)
-        | inr from ↦ shifted_from K (suc s) f (suc n) (omega arith) ∙ ap f same ∙ sym (shifted_from K s f n from)
+        | inr from ↦ cc (shifted_from K (suc s) f (suc n) (omega arith), same, shifted_from K s f n from)
       ]
     where
       same : suc n - suc s ≡ n - s
@@ -46,18 +46,22 @@ module _ {F : Type 0} (K : Field F) where
   value-shifted zero k n f x short fits =
       value_same K n (shifted K 0 f) f x (λ i h. shifted-none f i)
       ∙ value_longer k n f x (omega arith) short
-      ∙ sym (ap (λ w. w ⊗ value_at K k f x) (power-zero K x) ∙ one_mul K (value_at K k f x))
+      ∙ sym (simp (power-zero, one_mul))
   value-shifted (suc s) k zero f x short fits = absurd (omega arith)
   value-shifted (suc s) k (suc n) f x short fits =
-      value_first K n (shifted K (suc s) f) x
-      ∙ ap₂ (λ a b. a ⊕ x ⊗ b) (shifted_below K (suc s) f 0 (omega arith))
-      (value_same K n (λ i. shifted K (suc s) f (suc i)) (shifted K s f) x (λ i h. shifted-suc s f i) ∙ value-shifted s k n f x short (omega arith))
-      ∙ zero_add K (x ⊗ (power K x s ⊗ value_at K k f x))
-      ∙ sym (ap (λ w. w ⊗ value_at K k f x) (power-suc K x s) ∙ mul_assoc K x (power K x s) (value_at K k f x))
+      cc (
+        value_first K n (shifted K (suc s) f) x,
+        shifted_below K (suc s) f 0 (omega arith),
+        value_same K n (λ i. shifted K (suc s) f (suc i)) (shifted K s f) x (λ i h. shifted-suc s f i),
+        value-shifted s k n f x short (omega arith),
+        zero_add K (x ⊗ (power K x s ⊗ value_at K k f x)),
+        mul_assoc K x (power K x s) (value_at K k f x),
+        power-suc K x s,
+      )
 
   sum-mul_right : (n : ℕ) (t : ℕ → F) (c : F) → sum_below K n t ⊗ c ≡ sum_below K n (λ i. t i ⊗ c)
   sum-mul_right n t c =
-      mul_comm K (sum_below K n t) c ∙ sym (sum-mul K n c t) ∙ sum_same K n (λ i. c ⊗ t i) (λ i. t i ⊗ c) (λ i h. mul_comm K c (t i))
+      simp (mul_comm, sum-mul, sum_same)
 
   -- the value of a product is the product of the values
   pub value-product : (m k n : ℕ) (f g : ℕ → F) (x : F) → IsShort K m f → IsShort K k g → m + k ≤ n → value_at K n (product_at K f g) x ≡ value_at K m f x ⊗ value_at K k g x

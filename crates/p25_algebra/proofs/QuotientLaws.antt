@@ -56,9 +56,7 @@ module _ {F : Type 0} (K : Field F) where
   pub value_by_rest : (n : ℕ) (f : ℕ → F) (z : F) → 0 < n → value_at K n f z ≡ f 0 ⊕ z ⊗ rest_at K n f z 0
   value_by_rest n f z some =
       let one_more : n ≡ suc (n - 1) = omega arith in
-      ap (λ m. value_at K m f z) one_more
-      ∙ value_first K (n - 1) f z
-      ∙ ap (λ w. f 0 ⊕ z ⊗ w) (value_same K (n - 1) (λ i. f (suc i)) (λ i. f (suc 0 + i)) z (λ i low. ap f (next i)))
+      cc (one_more, value_first K (n - 1) f z, value_same K (n - 1) (λ i. f (suc i)) (λ i. f (suc 0 + i)) z (λ i low. ap f (next i)))
     where
       next : (i : ℕ) → suc i ≡ suc 0 + i
       next i = omega arith
@@ -67,11 +65,10 @@ module _ {F : Type 0} (K : Field F) where
   pub factored : (n : ℕ) (f : ℕ → F) (z : F) → 0 < n → IsShort K n f → value_at K n f z ≡ 𝟘 → (k : ℕ) → f k ≡ z ⊗ rest_at K n f z k ⊕ shifted K 1 (rest_at K n f z) k
   factored n f z some short none zero =
       same_from_sum K (f 0) (z ⊗ rest_at K n f z 0) (sym (value_by_rest n f z some) ∙ none)
-      ∙ sym (ap (λ w. z ⊗ rest_at K n f z 0 ⊕ w) (shifted-first (rest_at K n f z)) ∙ add_zero K (z ⊗ rest_at K n f z 0))
+      ∙ sym (simp (shifted-first, add_zero))
   factored n f z some short none (suc k) =
       let q = rest_at K n f z in
-      sym (add_twice K (z ⊗ q (suc k)) (f (suc k)))
-      ∙ ap (λ w. z ⊗ q (suc k) ⊕ w) (add_comm K (z ⊗ q (suc k)) (f (suc k)) ∙ sym (rest_next n f z short k) ∙ sym (shifted-next q k))
+      cc (add_twice K (z ⊗ q (suc k)) (f (suc k)), add_comm K (z ⊗ q (suc k)) (f (suc k)), rest_next n f z short k, shifted-next q k)
 
   -- and there is no other such factor
   pub rest_unique : (n m : ℕ) (f q : ℕ → F) (z : F) → IsShort K n f → IsShort K m q → ((k : ℕ) → f k ≡ z ⊗ q k ⊕ shifted K 1 q k) → (k : ℕ) → q k ≡ rest_at K n f z k
@@ -91,10 +88,15 @@ module _ {F : Type 0} (K : Field F) where
   -- the value of such a product
   pub value-factored : (n : ℕ) (f q : ℕ → F) (z y : F) → 0 < n → IsShort K (n - 1) q → ((k : ℕ) → f k ≡ z ⊗ q k ⊕ shifted K 1 q k) → value_at K n f y ≡ (z ⊕ y) ⊗ value_at K n q y
   value-factored n f q z y some short whole =
-      value_same K n f (λ k. z ⊗ q k ⊕ shifted K 1 q k) y (λ k low. whole k)
-      ∙ value-add K n (λ k. z ⊗ q k) (shifted K 1 q) y
-      ∙ ap₂ ◌⊕◌ (value-mul K n z q y) (value-shifted K 1 (n - 1) n q y short (omega arith) ∙ ap₂ ◌⊗◌ (power-one K y) (sym (value_longer K (n - 1) n q y (omega arith) short)))
-      ∙ sym (add_mul K z y (value_at K n q y))
+      cc (
+        value_same K n f (λ k. z ⊗ q k ⊕ shifted K 1 q k) y (λ k low. whole k),
+        value-add K n (λ k. z ⊗ q k) (shifted K 1 q) y,
+        value-mul K n z q y,
+        value-shifted K 1 (n - 1) n q y short (omega arith),
+        power-one K y,
+        value_longer K (n - 1) n q y (omega arith) short,
+        add_mul K z y (value_at K n q y),
+      )
 
   -- ---- times 1 + y x
 
@@ -110,21 +112,25 @@ module _ {F : Type 0} (K : Field F) where
 
   pub value-times_linear : (n : ℕ) (y : F) (f : ℕ → F) (z : F) → IsShort K n f → value_at K (suc n) (times_linear K y f) z ≡ (𝟙 ⊕ y ⊗ z) ⊗ value_at K n f z
   value-times_linear n y f z short =
-      value-add K (suc n) f (λ i. y ⊗ shifted K 1 f i) z
-      ∙ ap₂ ◌⊕◌ (value_longer K n (suc n) f z (omega arith) short ∙ sym (one_mul K (value_at K n f z)))
-      (value-mul K (suc n) y (shifted K 1 f) z ∙ ap (λ w. y ⊗ w)
-      (value-shifted K 1 n (suc n) f z short (omega arith) ∙ ap (λ w. w ⊗ value_at K n f z) (power-one K z)) ∙ sym (mul_assoc K y z (value_at K n f z)))
-      ∙ sym (add_mul K 𝟙 (y ⊗ z) (value_at K n f z))
+      cc (
+        value-add K (suc n) f (λ i. y ⊗ shifted K 1 f i) z,
+        value_longer K n (suc n) f z (omega arith) short,
+        one_mul K (value_at K n f z),
+        value-mul K (suc n) y (shifted K 1 f) z,
+        value-shifted K 1 n (suc n) f z short (omega arith),
+        power-one K z,
+        mul_assoc K y z (value_at K n f z),
+        add_mul K 𝟙 (y ⊗ z) (value_at K n f z),
+      )
 
   -- it makes no difference which factor of a product is multiplied
   pub product-times_linear : (y : F) (f g : ℕ → F) (n : ℕ) → product_at K (times_linear K y f) g n ≡ times_linear K y (product_at K f g) n
   product-times_linear y f g n =
-      product-add_left K f (λ i. y ⊗ shifted K 1 f i) g n
-      ∙ ap (λ w. product_at K f g n ⊕ w) (product-mul_left K y (shifted K 1 f) g n ∙ ap (λ w. y ⊗ w) (product-shifted K 1 f g n))
+      simp (product-add_left, product-mul_left, product-shifted)
 
   pub times_linear_same : (y : F) (f g : ℕ → F) → ((i : ℕ) → f i ≡ g i) → (n : ℕ) → times_linear K y f n ≡ times_linear K y g n
-  times_linear_same y f g e zero = ap₂ (λ a b. a ⊕ y ⊗ b) (e 0) (shifted-first f ∙ sym (shifted-first g))
-  times_linear_same y f g e (suc n) = ap₂ (λ a b. a ⊕ y ⊗ b) (e (suc n)) (shifted-next f n ∙ e n ∙ sym (shifted-next g n))
+  times_linear_same y f g e zero = cc (e 0, shifted-first f, shifted-first g)
+  times_linear_same y f g e (suc n) = cc (e (suc n), shifted-next f n, e n, shifted-next g n)
 
   pub product-times_linear_right : (y : F) (f g : ℕ → F) (n : ℕ) → product_at K f (times_linear K y g) n ≡ times_linear K y (product_at K f g) n
   product-times_linear_right y f g n =

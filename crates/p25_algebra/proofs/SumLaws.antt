@@ -21,22 +21,22 @@ module _ {F : Type 0} (K : Field F) where
   pub sum_same : (n : ℕ) (s t : ℕ → F) → ((i : ℕ) → i < n → s i ≡ t i) → sum_below K n s ≡ sum_below K n t
   unfolding sum_below
   sum_same zero s t e = refl
-  sum_same (suc n) s t e = ap₂ ◌⊕◌ (sum_same n s t (λ i h. e i (omega arith))) (e n (omega arith))
+  sum_same (suc n) s t e = cc (sum_same n s t (λ i h. e i (omega arith)), e n (omega arith))
 
   pub sum_of_zeros : (n : ℕ) (t : ℕ → F) → ((i : ℕ) → i < n → t i ≡ 𝟘) → sum_below K n t ≡ 𝟘
   unfolding sum_below
   sum_of_zeros zero t e = refl
-  sum_of_zeros (suc n) t e = ap₂ ◌⊕◌ (sum_of_zeros n t (λ i h. e i (omega arith))) (e n (omega arith)) ∙ add_zero K 𝟘
+  sum_of_zeros (suc n) t e = cc (sum_of_zeros n t (λ i h. e i (omega arith)), e n (omega arith), add_zero K 𝟘)
 
   pub sum-add : (n : ℕ) (s t : ℕ → F) → sum_below K n (λ i. s i ⊕ t i) ≡ sum_below K n s ⊕ sum_below K n t
   unfolding sum_below
   sum-add zero s t = sym (add_zero K 𝟘)
-  sum-add (suc n) s t = ap (λ w. w ⊕ (s n ⊕ t n)) (sum-add n s t) ∙ add_swap K (sum_below K n s) (sum_below K n t) (s n) (t n)
+  sum-add (suc n) s t = cc (sum-add n s t, add_swap K (sum_below K n s) (sum_below K n t) (s n) (t n))
 
   pub sum-mul : (n : ℕ) (c : F) (t : ℕ → F) → sum_below K n (λ i. c ⊗ t i) ≡ c ⊗ sum_below K n t
   unfolding sum_below
   sum-mul zero c t = sym (mul_zero K c)
-  sum-mul (suc n) c t = ap (λ w. w ⊕ c ⊗ t n) (sum-mul n c t) ∙ sym (mul_add K c (sum_below K n t) (t n))
+  sum-mul (suc n) c t = cc (sum-mul n c t, mul_add K c (sum_below K n t) (t n))
 
   -- terms that are zero past n add nothing
   pub sum_longer : (n m : ℕ) (t : ℕ → F) → n ≤ m → ((i : ℕ) → n ≤ i → i < m → t i ≡ 𝟘) → sum_below K m t ≡ sum_below K n t
@@ -45,30 +45,26 @@ module _ {F : Type 0} (K : Field F) where
   sum_longer n (suc m) t h e =
       elim (cases_eq n (suc m)) [
         | inl same ↦ rw same refl
-        | inr apart ↦ ap₂ ◌⊕◌ (sum_longer n m t (omega arith) (λ i low high. e i low (omega arith))) (e m (omega arith) (omega arith)) ∙ add_zero K (sum_below K n t)
+        | inr apart ↦ cc (sum_longer n m t (omega arith) (λ i low high. e i low (omega arith)), e m (omega arith) (omega arith), add_zero K (sum_below K n t))
       ]
 
   -- a sum with one term that may not be zero is that term
   pub sum_of_one : (n j : ℕ) (t : ℕ → F) → j < n → ((i : ℕ) → i < n → i ≢ j → t i ≡ 𝟘) → sum_below K n t ≡ t j
   sum_of_one n j t h e =
-      sum_longer (suc j) n t h (λ i low high. e i high (omega arith))
-      ∙ sum-suc j t
-      ∙ ap (λ w. w ⊕ t j) (sum_of_zeros j t (λ i low. e i (omega arith) (omega arith)))
-      ∙ zero_add K (t j)
+      rw (sum_longer (suc j) n t h (λ i low high. e i high (omega arith)), sum-suc j t, sum_of_zeros j t (λ i low. e i (omega arith) (omega arith)), zero_add K (t j))
 
   -- the first term apart
   pub sum_first : (n : ℕ) (t : ℕ → F) → sum_below K (suc n) t ≡ t 0 ⊕ sum_below K n (λ i. t (suc i))
   unfolding sum_below
-  sum_first zero t = zero_add K (t 0) ∙ sym (add_zero K (t 0))
-  sum_first (suc n) t = ap (λ w. w ⊕ t (suc n)) (sum_first n t) ∙ add_assoc K (t 0) (sum_below K n (λ i. t (suc i))) (t (suc n))
+  sum_first zero t = simp (zero_add, add_zero)
+  sum_first (suc n) t = cc (sum_first n t, add_assoc K (t 0) (sum_below K n (λ i. t (suc i))) (t (suc n)))
 
   -- two sums change places
   pub sum_exchange : (n m : ℕ) (t : ℕ → ℕ → F) → sum_below K n (λ i. sum_below K m (λ j. t i j)) ≡ sum_below K m (λ j. sum_below K n (λ i. t i j))
   unfolding sum_below
   sum_exchange zero m t = sym (sum_of_zeros m (λ j. 𝟘) (λ j h. refl))
   sum_exchange (suc n) m t =
-      ap (λ w. w ⊕ sum_below K m (λ j. t n j)) (sum_exchange n m t)
-      ∙ sym (sum-add m (λ j. sum_below K n (λ i. t i j)) (λ j. t n j))
+      cc (sum_exchange n m t, sum-add m (λ j. sum_below K n (λ i. t i j)) (λ j. t n j))
 
   -- the last terms first
   pub sum_reverse : (n : ℕ) (t : ℕ → F) → sum_below K n (λ i. t (n - 1 - i)) ≡ sum_below K n t

@@ -18,10 +18,13 @@ module _ {F : Type 0} (K : Field F) where
   -- the value by the value of the other coefficients, as Horner's rule has it
   pub value_first : (n : ℕ) (f : ℕ → F) (x : F) → value_at K (suc n) f x ≡ f 0 ⊕ x ⊗ value_at K n (λ i. f (suc i)) x
   value_first n f x =
-      sum_first K n (λ i. f i ⊗ power K x i)
-      ∙ ap₂ ◌⊕◌ (ap (λ w. f 0 ⊗ w) (power-zero K x) ∙ mul_one K (f 0))
-      (sum_same K n (λ i. f (suc i) ⊗ power K x (suc i)) (λ i. x ⊗ (f (suc i) ⊗ power K x i)) (λ i h. ap (λ w. f (suc i) ⊗ w) (power-suc K x i) ∙ mul_left_comm K (f (suc i)) x (power K x i))
-      ∙ sum-mul K n x (λ i. f (suc i) ⊗ power K x i))
+      rw (
+        sum_first K n (λ i. f i ⊗ power K x i),
+        power-zero K x,
+        mul_one K (f 0),
+        sum_same K n (λ i. f (suc i) ⊗ power K x (suc i)) (λ i. x ⊗ (f (suc i) ⊗ power K x i)) (λ i h. ap (λ w. f (suc i) ⊗ w) (power-suc K x i) ∙ mul_left_comm K (f (suc i)) x (power K x i)),
+        sum-mul K n x (λ i. f (suc i) ⊗ power K x i),
+      )
 
   -- values of equal coefficients are equal
   pub value_same : (n : ℕ) (f g : ℕ → F) (x : F) → ((i : ℕ) → i < n → f i ≡ g i) → value_at K n f x ≡ value_at K n g x
@@ -48,9 +51,7 @@ module _ {F : Type 0} (K : Field F) where
 
   quotient_none : (f : ℕ → F) (z x : F) → value_at K 1 f x ≡ value_at K 0 f x ⊗ (x ⊕ z) ⊕ value_at K 1 f z
   quotient_none f z x =
-      constant x
-      ∙ sym (zero_add K (f 0))
-      ∙ ap₂ ◌⊕◌ (sym (ap (λ w. w ⊗ (x ⊕ z)) (value-none f x) ∙ zero_mul K (x ⊕ z))) (sym (constant z))
+      simp (constant, zero_add, zero_mul, value-none)
     where
       constant : (y : F) → value_at K 1 f y ≡ f 0
       constant y =

@@ -1,7 +1,7 @@
 -- Power sums over different elements: where at most m factors are not zero and the sums vanish for m
 -- successive exponents, every factor is zero. By induction on the elements: times the sum of its element and the last one, each factor keeps
 -- its zeros, the last drops out, and the sums vanish for one exponent less.
-use Rattle.std.proofs.{Common.{◌≡◌, ◌≢◌, ◌⊎◌, ℕ, zero, suc, ◌+◌, ◌<◌, ◌≤◌, refl, sym, ap, ap₂, ◌∙◌, inl, inr, arith}, lemmas.Bool.{cases_eq}}
+use Rattle.std.proofs.{Common.{◌≡◌, ◌≢◌, ◌⊎◌, ℕ, zero, suc, ◌+◌, ◌<◌, ◌≤◌, refl, sym, ap, ◌∙◌, inl, inr, arith}, lemmas.Bool.{cases_eq}}
 use Rattle.p25_gf64.specs.Field.{Field, power}
 use Rattle.p25_gf64.proofs.{FieldLaws.{add_zero, zero_add, add_self, same_from_sum, mul_comm, mul_assoc, mul_left_comm, mul_add, zero_mul, other_zero}, PowerLaws.{power-suc, power_ne_zero}}
 use Rattle.p25_algebra.specs.Sums.{power_sum, weight_by, nonzeros, AreApart}
@@ -43,25 +43,22 @@ module _ {F : Type 0} (K : Field F) where
 
   lowered_term : (x v p y : F) → v ⊗ (x ⊕ y) ⊗ p ≡ v ⊗ (x ⊗ p) ⊕ y ⊗ (v ⊗ p)
   lowered_term x v p y =
-      mul_assoc K v (x ⊕ y) p
-      ∙ ap (λ w. v ⊗ w) (mul_comm K (x ⊕ y) p ∙ mul_add K p x y ∙ ap₂ ◌⊕◌ (mul_comm K p x) (mul_comm K p y))
-      ∙ mul_add K v (x ⊗ p) (y ⊗ p)
-      ∙ ap (λ w. v ⊗ (x ⊗ p) ⊕ w) (mul_left_comm K v y p)
+      simp (mul_assoc, mul_comm, mul_add, mul_left_comm)
 
   -- the sum of the lowered factors is the next sum and y times this one
   pub power_sum-lowered : (n : ℕ) (x v : ℕ → F) (y : F) (i : ℕ) → power_sum K n x (lowered x v y) i ≡ power_sum K n x v (suc i) ⊕ y ⊗ power_sum K n x v i
   power_sum-lowered n x v y i =
-      sum_same K n (λ j. v j ⊗ (x j ⊕ y) ⊗ power K (x j) i) (λ j. v j ⊗ power K (x j) (suc i) ⊕ y ⊗ (v j ⊗ power K (x j) i))
-      (λ j h. lowered_term (x j) (v j) (power K (x j) i) y ∙ ap (λ w. v j ⊗ w ⊕ y ⊗ (v j ⊗ power K (x j) i)) (sym (power-suc K (x j) i)))
-      ∙ sum-add K n (λ j. v j ⊗ power K (x j) (suc i)) (λ j. y ⊗ (v j ⊗ power K (x j) i))
-      ∙ ap (λ w. power_sum K n x v (suc i) ⊕ w) (sum-mul K n y (λ j. v j ⊗ power K (x j) i))
+      rw (
+        sum_same K n (λ j. v j ⊗ (x j ⊕ y) ⊗ power K (x j) i) (λ j. v j ⊗ power K (x j) (suc i) ⊕ y ⊗ (v j ⊗ power K (x j) i))
+            (λ j h. lowered_term (x j) (v j) (power K (x j) i) y ∙ ap (λ w. v j ⊗ w ⊕ y ⊗ (v j ⊗ power K (x j) i)) (sym (power-suc K (x j) i))),
+        sum-add K n (λ j. v j ⊗ power K (x j) (suc i)) (λ j. y ⊗ (v j ⊗ power K (x j) i)),
+        sum-mul K n y (λ j. v j ⊗ power K (x j) i),
+      )
 
   -- without its last term
   last_apart : (p q r s y : F) → q ≡ r ⊗ y → p ⊕ q ≡ 𝟘 → s ⊕ r ≡ 𝟘 → p ⊕ y ⊗ s ≡ 𝟘
   last_apart p q r s y e high low =
-      ap₂ (λ a b. a ⊕ y ⊗ b) (same_from_sum K p q high ∙ e) (same_from_sum K s r low)
-      ∙ ap (λ w. r ⊗ y ⊕ w) (mul_comm K y r)
-      ∙ add_self K (r ⊗ y)
+      rw (same_from_sum K p q high, e, same_from_sum K s r low, mul_comm K y r, add_self K (r ⊗ y))
 
   abbrev Vanishing : ℕ → (ℕ → F) → (ℕ → F) → ℕ → ℕ → Type 0
   Vanishing n x v m s = (i : ℕ) → s ≤ i → i < s + m → power_sum K n x v i ≡ 𝟘
@@ -108,11 +105,14 @@ module _ {F : Type 0} (K : Field F) where
   last_too : (n : ℕ) (x v : ℕ → F) (s : ℕ) → x n ≢ 𝟘 → ((j : ℕ) → j < n → v j ≡ 𝟘) → power_sum K (suc n) x v s ≡ 𝟘 → v n ≡ 𝟘
   last_too n x v s live zeros none =
       other_zero K (power K (x n) s) (v n) (power_ne_zero K (x n) s live)
-      (mul_comm K (power K (x n) s) (v n)
-      ∙ sym (zero_add K (v n ⊗ power K (x n) s))
-      ∙ ap (λ w. w ⊕ v n ⊗ power K (x n) s) (sym (sum_of_zeros K n (λ j. v j ⊗ power K (x j) s) (λ j h. ap (λ w. w ⊗ power K (x j) s) (zeros j h) ∙ zero_mul K (power K (x j) s))))
-      ∙ sym (sum-suc K n (λ j. v j ⊗ power K (x j) s))
-      ∙ none)
+      (cc (
+        mul_comm K (power K (x n) s) (v n),
+        zero_add K (v n ⊗ power K (x n) s),
+        sum_of_zeros K n (λ j. v j ⊗ power K (x j) s) (λ j h. ap (λ w. w ⊗ power K (x j) s) (zeros j h)
+            ∙ zero_mul K (power K (x j) s)),
+        sum-suc K n (λ j. v j ⊗ power K (x j) s),
+        none,
+      ))
 
   -- the case of a last factor that is not zero, which can't be
   last_is_other : (n : ℕ) (x : ℕ → F) → IsDecided n x → AreApart (suc n) x → x n ≢ 𝟘 → (m s : ℕ) (v : ℕ → F) → v n ≢ 𝟘 → nonzeros K (suc n) v ≤ m → Vanishing (suc n) x v m s → ⊥

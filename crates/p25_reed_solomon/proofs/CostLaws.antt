@@ -1,5 +1,5 @@
 -- The cost of a word to a list with erasures, by the errors between what was received and the word: by induction on both lists.
-use Rattle.std.proofs.Common.{◌≡◌, ℕ, zero, suc, ◌+◌, ◌*◌, Bool, true, false, cond, List, [], ◌∷◌, length, Some, None, refl, ap₂, sym, ◌∙◌, arith}
+use Rattle.std.proofs.Common.{◌≡◌, ℕ, zero, suc, ◌+◌, ◌*◌, Bool, true, false, cond, List, [], ◌∷◌, length, Some, None, refl, sym, arith}
 use Rattle.p25_gf64.specs.{declared.symbol.Sym.{Sym}, Gf64.{gf64}}
 use Rattle.p25_algebra.specs.{Sums.{nonzeros, weight_by}, Series.{coefficient}}
 use Rattle.p25_algebra.proofs.VanishingLaws.{weight_zero}
@@ -31,8 +31,11 @@ pub kept_distance-nonzeros : (received word : List Sym) (erased : List Bool) →
 unfolding kept_distance without_erased nonzeros
 kept_distance-nonzeros [] word erased long erasures = refl
 kept_distance-nonzeros (x ∷ received) (y ∷ word) (gone ∷ erased) long erasures =
-    ap₂ ◌+◌ (place_distance gone x y) (kept_distance-nonzeros received word erased (omega arith) (omega arith))
-    ∙ sym (nonzeros_first (length received) (kept_errors (gone ∷ erased) (λ j. gf64.add (coefficient gf64 (x ∷ received) j) (coefficient gf64 (y ∷ word) j))))
+    cc (
+      place_distance gone x y,
+      kept_distance-nonzeros received word erased (omega arith) (omega arith),
+      nonzeros_first (length received) (kept_errors (gone ∷ erased) (λ j. gf64.add (coefficient gf64 (x ∷ received) j) (coefficient gf64 (y ∷ word) j))),
+    )
 kept_distance-nonzeros (x ∷ received) word erased long erasures = absurd (omega arith)
 
 -- so the cost is that of the errors

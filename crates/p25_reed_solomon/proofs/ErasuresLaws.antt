@@ -1,12 +1,12 @@
 -- Erased places: their number, the polynomial with a zero for each as a factor, and errors with the factors that this gives them. All
 -- by induction on the places.
-use Rattle.std.proofs.Common.{◌≡◌, ◌≢◌, ℕ, zero, suc, ◌+◌, ◌<◌, ◌≤◌, Bool, true, false, cond, List, refl, sym, ap, ap₂, ◌∙◌, subst, inl, inr, arith}
+use Rattle.std.proofs.Common.{◌≡◌, ◌≢◌, ℕ, zero, suc, ◌+◌, ◌<◌, ◌≤◌, Bool, true, false, cond, List, refl, sym, ap, ap₂, ◌∙◌, inl, inr, arith}
 use Rattle.std.proofs.lemmas.Bool.{cases_eq, cases_Bool, cond-true, cond-false, both_ways}
 use Rattle.p25_gf64.specs.{declared.symbol.Sym.{Sym}, Gf64.{gf64}}
-use Rattle.p25_gf64.proofs.FieldLaws.{add_self, add_zero, mul_zero, zero_mul, mul_one, mul_inverse, mul_assoc, mul_comm, mul_ne_zero, same_from_sum}
-use Rattle.p25_algebra.specs.{Sums.{power_sum, nonzeros}, Series.{value_at, product_at, times_linear, IsZero, IsShort}}
+use Rattle.p25_gf64.proofs.FieldLaws.{add_self, add_zero, mul_zero, zero_mul, mul_one, mul_inverse, mul_assoc, mul_comm, mul_ne_zero, other_zero, same_from_sum}
+use Rattle.p25_algebra.specs.{Sums.{power_sum, nonzeros}, Series.{value_at, slope_at, product_at, times_linear, IsZero, IsShort}}
 use Rattle.p25_algebra.proofs.VanishingLaws.{lowered, power_sum-lowered, nonzeros_mono}
-use Rattle.p25_algebra.proofs.QuotientLaws.{shifted-first, shifted-next, short_times_linear, value-times_linear, times_linear_same, product-times_linear, product-times_linear_right}
+use Rattle.p25_algebra.proofs.QuotientLaws.{shifted-first, shifted-next, short_times_linear, value-times_linear, slope-kept, slope-new, times_linear_same, product-times_linear, product-times_linear_right}
 use Rattle.p25_reed_solomon.specs.{ElementLaws.{same_place, element_ne_zero}, Errors.{element_of, point_of, is_erased, erased_below, kept_errors}, Locator.{times_erasures}}
 
 -- ---- one place more
@@ -42,7 +42,7 @@ module _ (n : ℕ) (erased : List Bool) where
   times_erasures-without (suc m) f none =
       elim (cases_Bool (is_erased erased m)) [
         | inl here ↦ absurd (omega (arith, erased_below-gone erased m here, none))
-        | inr kept ↦ times_erasures-kept m f kept ∙ times_erasures-without m f (sym (erased_below-kept erased m kept) ∙ none)
+        | inr kept ↦ times_erasures-kept m f kept ∙ times_erasures-without m f (rw (← erased_below-kept, none))
       ]
 
   -- ---- as a polynomial
@@ -59,17 +59,16 @@ module _ (n : ℕ) (erased : List Bool) where
 
   zero_from_times_linear : (y : Sym) (f : ℕ → Sym) → IsZero gf64 (times_linear gf64 y f) → IsZero gf64 f
   zero_from_times_linear y f none zero =
-      sym (ap (λ w. gf64.add (f 0) (gf64.mul y w)) (shifted-first gf64 f) ∙ ap (gf64.add (f 0)) (mul_zero gf64 y) ∙ add_zero gf64 (f 0)) ∙ none 0
+      cc (add_zero gf64 (f 0), mul_zero gf64 y, shifted-first gf64 f, none 0)
   zero_from_times_linear y f none (suc i) =
-      sym (ap (λ w. gf64.add (f (suc i)) (gf64.mul y w)) (shifted-next gf64 f i ∙ zero_from_times_linear y f none i)
-      ∙ ap (gf64.add (f (suc i))) (mul_zero gf64 y) ∙ add_zero gf64 (f (suc i))) ∙ none (suc i)
+      cc (add_zero gf64 (f (suc i)), mul_zero gf64 y, zero_from_times_linear y f none i, shifted-next gf64 f i, none (suc i))
 
   pub zero_from_times_erasures : (j : ℕ) (f : ℕ → Sym) → IsZero gf64 (times_erasures n erased j f) → IsZero gf64 f
   zero_from_times_erasures zero f none = rw times_erasures-none at none
   zero_from_times_erasures (suc j) f none =
       elim (cases_Bool (is_erased erased j)) [
-        | inl here ↦ zero_from_times_erasures j f (zero_from_times_linear (element_of n j) (times_erasures n erased j f) (subst (IsZero gf64) (times_erasures-gone j f here) none))
-        | inr kept ↦ zero_from_times_erasures j f (subst (IsZero gf64) (times_erasures-kept j f kept) none)
+        | inl here ↦ zero_from_times_erasures j f (zero_from_times_linear (element_of n j) (times_erasures n erased j f) (rw times_erasures-gone at none))
+        | inr kept ↦ zero_from_times_erasures j f (rw times_erasures-kept at none)
       ]
 
   -- it makes no difference which factor of a product is multiplied
@@ -87,13 +86,10 @@ module _ (n : ℕ) (erased : List Bool) where
 
   -- equal coefficients below a bound stay equal
   pub times_linear_agree : (y : Sym) (bound : ℕ) (f g : ℕ → Sym) → ((i : ℕ) → i < bound → f i ≡ g i) → (i : ℕ) → i < bound → times_linear gf64 y f i ≡ times_linear gf64 y g i
-  times_linear_agree y bound f g same zero low = ap₂ (λ a b. gf64.add a (gf64.mul y b)) (same 0 low) (shifted-first gf64 f ∙ sym (shifted-first gf64 g))
-  times_linear_agree y bound f g same (suc i) low = ap₂ (λ a b. gf64.add a (gf64.mul y b)) (same (suc i) low) (shifted-next gf64 f i ∙ same i (omega arith) ∙ sym (shifted-next gf64 g i))
+  times_linear_agree y bound f g same zero low = cc (same 0 low, shifted-first gf64 f, shifted-first gf64 g)
+  times_linear_agree y bound f g same (suc i) low = cc (same (suc i) low, shifted-next gf64 f i, same i (omega arith), shifted-next gf64 g i)
 
   -- ---- values at the points of places
-
-  abbrev long : ℕ → ℕ → ℕ
-  long m j = m + erased_below erased j
 
   -- the factor of a place, at the point of another
 
@@ -101,60 +97,85 @@ module _ (n : ℕ) (erased : List Bool) where
   point_inverse j = mul_inverse gf64 (element_of n j) (element_ne_zero n j)
 
   pub factor_zero : (j : ℕ) → gf64.add gf64.one (gf64.mul (element_of n j) (point_of n j)) ≡ gf64.zero
-  factor_zero j = ap (gf64.add gf64.one) (point_inverse j) ∙ add_self gf64 gf64.one
+  factor_zero j = simp (point_inverse, add_self)
 
   pub factor_ne_zero : (i j : ℕ) → n ≤ 63 → i < n → j < n → i ≢ j → gf64.add gf64.one (gf64.mul (element_of n i) (point_of n j)) ≢ gf64.zero
   factor_ne_zero i j most first second apart none =
-      apart (same_place n i j most first second (
-      sym (mul_one gf64 (element_of n i))
-      ∙ ap (gf64.mul (element_of n i)) (sym (point_inverse j) ∙ mul_comm gf64 (element_of n j) (point_of n j))
-      ∙ sym (mul_assoc gf64 (element_of n i) (point_of n j) (element_of n j))
-      ∙ ap (λ w. gf64.mul w (element_of n j)) (sym (same_from_sum gf64 gf64.one (gf64.mul (element_of n i) (point_of n j)) none))
-      ∙ mul_comm gf64 gf64.one (element_of n j)
-      ∙ mul_one gf64 (element_of n j)))
+      apart (same_place n i j most first second (cc (
+        mul_one gf64 (element_of n i),
+        point_inverse j,
+        mul_comm gf64 (element_of n j) (point_of n j),
+        mul_assoc gf64 (element_of n i) (point_of n j) (element_of n j),
+        same_from_sum gf64 gf64.one (gf64.mul (element_of n i) (point_of n j)) none,
+        mul_comm gf64 gf64.one (element_of n j),
+        mul_one gf64 (element_of n j),
+      )))
 
-  -- one place more
-  pub value-times_erasures : (m j : ℕ) (f : ℕ → Sym) (z : Sym) → IsShort gf64 m f → is_erased erased j ≡ true
-      → value_at gf64 (m + erased_below erased (suc j)) (times_erasures n erased (suc j) f) z
-      ≡ gf64.mul (gf64.add gf64.one (gf64.mul (element_of n j) z)) (value_at gf64 (m + erased_below erased j) (times_erasures n erased j f) z)
-  value-times_erasures m j f z short here =
-      let e : m + erased_below erased (suc j) ≡ suc (m + erased_below erased j) = omega (arith, erased_below-gone erased j here) in
-      ap₂ (λ k g. value_at gf64 k g z) e (times_erasures-gone j f here)
-      ∙ value-times_linear gf64 (m + erased_below erased j) (element_of n j) (times_erasures n erased j f) z (short_times_erasures m j f short)
+  -- what a polynomial f of m coefficients becomes by the factors of the erased places below `upto`: g, of `size` coefficients. It vanishes where f
+  -- does and at those places, and nowhere else; its zeros have slopes, if f is not zero at erased places and its own zeros have slopes
+  pub record IsTimes (m : ℕ) (f : ℕ → Sym) (upto size : ℕ) (g : ℕ → Sym) : Type 0 where
+    pub short : IsShort gf64 size g
+    pub stays : (z : Sym) → value_at gf64 m f z ≡ gf64.zero → value_at gf64 size g z ≡ gf64.zero
+    pub gone : (j : ℕ) → j < upto → is_erased erased j ≡ true → value_at gf64 size g (point_of n j) ≡ gf64.zero
+    pub other : (j : ℕ) → j < n → (is_erased erased j ≡ true → upto ≤ j) → value_at gf64 size g (point_of n j) ≡ gf64.zero → value_at gf64 m f (point_of n j) ≡ gf64.zero
+    pub simple : (j : ℕ) → j < n → (value_at gf64 m f (point_of n j) ≡ gf64.zero → (is_erased erased j ≡ false) × (slope_at gf64 m f (point_of n j) ≢ gf64.zero))
+        → value_at gf64 size g (point_of n j) ≡ gf64.zero → slope_at gf64 size g (point_of n j) ≢ gf64.zero
 
-  pub value-times_kept : (m j : ℕ) (f : ℕ → Sym) (z : Sym) → is_erased erased j ≡ false
-      → value_at gf64 (m + erased_below erased (suc j)) (times_erasures n erased (suc j) f) z ≡ value_at gf64 (m + erased_below erased j) (times_erasures n erased j f) z
-  value-times_kept m j f z none = ap₂ (λ k g. value_at gf64 (m + k) g z) (erased_below-kept erased j none) (times_erasures-kept j f none)
+  first_times : (m : ℕ) (f : ℕ → Sym) → IsShort gf64 m f → IsTimes m f 0 m f
+  first_times m f short = record {
+    short = short;
+    stays = λ z none. none;
+    gone = λ j low gone. absurd (omega arith);
+    other = λ j inside late none. none;
+    simple = λ j inside known none. (known none).1;
+  }
 
-  pub zero_stays : (m j : ℕ) (f : ℕ → Sym) (z : Sym) → IsShort gf64 m f → value_at gf64 m f z ≡ gf64.zero → value_at gf64 (m + erased_below erased j) (times_erasures n erased j f) z ≡ gf64.zero
-  zero_stays m zero f z short none = let e : m + erased_below erased 0 ≡ m = omega (arith, erased_below-none erased) in ap₂ (λ k g. value_at gf64 k g z) e (times_erasures-none f) ∙ none
-  zero_stays m (suc j) f z short none =
-      elim (cases_Bool (is_erased erased j)) [
+  one_kept : (m : ℕ) (f : ℕ → Sym) (i size : ℕ) (g : ℕ → Sym) → is_erased erased i ≡ false → IsTimes m f i size g → IsTimes m f (suc i) size g
+  one_kept m f i size g kept is = record {
+    short = is.short;
+    stays = is.stays;
+    gone = λ j low gone. elim (cases_eq j i) [ inl same ↦ absurd (both_ways (is_erased erased j) (rw same kept) gone) | inr apart ↦ is.gone j (omega arith) gone ];
+    other = λ j inside late none. is.other j inside (λ gone. let after : suc i ≤ j = late gone in omega arith) none;
+    simple = is.simple;
+  }
+
+  one_gone : (m : ℕ) (f : ℕ → Sym) (i size : ℕ) (g : ℕ → Sym) → n ≤ 63 → i < n → 0 < size → is_erased erased i ≡ true
+      → IsTimes m f i size g → IsTimes m f (suc i) (suc size) (times_linear gf64 (element_of n i) g)
+  one_gone m f i size g most low some here is = record {
+    short = short_times_linear gf64 size (element_of n i) g is.short;
+    stays = λ z none. rw (value z, is.stays z none) (mul_zero gf64 _);
+    gone = λ j inside gone. elim (cases_eq i j) [
+      | inl same ↦ value (point_of n j) ∙ rw (same, factor_zero j) (zero_mul gf64 _)
+      | inr apart ↦ rw (value (point_of n j), is.gone j (omega arith) gone) (mul_zero gf64 _)
+    ];
+    other = λ j inside late none. is.other j inside (λ gone. let after : suc i ≤ j = late gone in omega arith)
+        (before j inside (λ same. let gone : is_erased erased j ≡ true = rw same at here in let after : suc i ≤ j = late gone in omega arith) none);
+    simple = λ j inside known none flat. elim (cases_eq i j) [
+      | inl same ↦ mul_ne_zero gf64 (element_of n i) (value_at gf64 size g (point_of n j)) (element_ne_zero n i)
+          (λ zero. both_ways (is_erased erased j) (known (is.other j inside (λ gone. omega arith) zero)).0 (rw same at here))
+          (sym (slope-new gf64 size (element_of n i) g (point_of n j) is.short (rw same (point_inverse j))) ∙ flat)
+      | inr apart ↦
+          let was = before j inside apart none in
+          mul_ne_zero gf64 _ (slope_at gf64 size g (point_of n j)) (factor_ne_zero i j most low inside apart) (is.simple j inside known was)
+          (sym (slope-kept gf64 size (element_of n i) g (point_of n j) some is.short was) ∙ flat)
+    ];
+  }
+    where
+      value : (z : Sym) → value_at gf64 (suc size) (times_linear gf64 (element_of n i) g) z ≡ gf64.mul (gf64.add gf64.one (gf64.mul (element_of n i) z)) (value_at gf64 size g z)
+      value z = value-times_linear gf64 size (element_of n i) g z is.short
+
+      before : (j : ℕ) → j < n → i ≢ j → value_at gf64 (suc size) (times_linear gf64 (element_of n i) g) (point_of n j) ≡ gf64.zero → value_at gf64 size g (point_of n j) ≡ gf64.zero
+      before j inside apart none = other_zero gf64 _ _ (factor_ne_zero i j most low inside apart) (sym (value (point_of n j)) ∙ none)
+
+  pub times : (m : ℕ) (f : ℕ → Sym) → IsShort gf64 m f → 0 < m → n ≤ 63 → (upto : ℕ) → upto ≤ n → IsTimes m f upto (m + erased_below erased upto) (times_erasures n erased upto f)
+  times m f short some most zero low = let e : m + erased_below erased 0 ≡ m = omega (arith, erased_below-none erased) in rw (e, times_erasures-none f) (first_times m f short)
+  times m f short some most (suc i) low =
+      let is = times m f short some most i (omega arith) in
+      elim (cases_Bool (is_erased erased i)) [
         | inl here ↦
-            value-times_erasures m j f z short here
-            ∙ ap (gf64.mul (gf64.add gf64.one (gf64.mul (element_of n j) z))) (zero_stays m j f z short none)
-            ∙ mul_zero gf64 (gf64.add gf64.one (gf64.mul (element_of n j) z))
-        | inr kept ↦ value-times_kept m j f z kept ∙ zero_stays m j f z short none
-      ]
-
-  -- the erased places are zeros
-  pub erasure_vanishes : (m j : ℕ) (f : ℕ → Sym) (i : ℕ) → IsShort gf64 m f
-      → i < j → is_erased erased i ≡ true → value_at gf64 (m + erased_below erased j) (times_erasures n erased j f) (point_of n i) ≡ gf64.zero
-  erasure_vanishes m zero f i short low gone = absurd (omega arith)
-  erasure_vanishes m (suc j) f i short low gone =
-      elim (cases_eq i j) [
-        | inl last ↦
-            value-times_erasures m j f (point_of n i) short (ap (is_erased erased) (sym last) ∙ gone)
-            ∙ ap (λ w. gf64.mul (gf64.add gf64.one (gf64.mul (element_of n w) (point_of n i))) (value_at gf64 (m + erased_below erased j) (times_erasures n erased j f) (point_of n i))) (sym last)
-            ∙ ap (λ w. gf64.mul w (value_at gf64 (m + erased_below erased j) (times_erasures n erased j f) (point_of n i))) (factor_zero i)
-            ∙ zero_mul gf64 (value_at gf64 (m + erased_below erased j) (times_erasures n erased j f) (point_of n i))
-        | inr before ↦ elim (cases_Bool (is_erased erased j)) [
-          | inl here ↦
-              value-times_erasures m j f (point_of n i) short here
-              ∙ ap (gf64.mul (gf64.add gf64.one (gf64.mul (element_of n j) (point_of n i)))) (erasure_vanishes m j f i short (omega arith) gone)
-              ∙ mul_zero gf64 (gf64.add gf64.one (gf64.mul (element_of n j) (point_of n i)))
-          | inr kept ↦ value-times_kept m j f (point_of n i) kept ∙ erasure_vanishes m j f i short (omega arith) gone
-        ]
+            let e : m + erased_below erased (suc i) ≡ suc (m + erased_below erased i) = omega (arith, erased_below-gone erased i here) in
+            rw (e, times_erasures-gone i f here) (one_gone m f i _ _ most (omega arith) (omega arith) here is)
+        | inr kept ↦ rw (erased_below-kept erased i kept, times_erasures-kept i f kept) (one_kept m f i _ _ kept is)
       ]
 
   -- ---- errors with the factors of erased places
@@ -187,32 +208,27 @@ module _ (n : ℕ) (erased : List Bool) where
         | inl here ↦
             let u = erased_below erased j in
             let more = erased_below-gone erased j here in
-            let up : suc (r + 1) ≡ suc r + 1 = omega arith in
-            let at : erased_below erased (suc j) + r ≡ suc (u + r) = omega (arith, more) in
-            let next : u + suc r ≡ suc (u + r) = omega arith in
             ap (λ w. power_sum gf64 n (element_of n) w (r + 1)) (lowered_by-gone j v here)
             ∙ power_sum-lowered gf64 n (element_of n) (lowered_by j v) (element_of n j) (r + 1)
             ∙ ap₂ (λ a b. gf64.add a (gf64.mul (element_of n j) b))
-            (ap (power_sum gf64 n (element_of n) (lowered_by j v)) up ∙ lowered_sums checks s v sums j (suc r) (omega (arith, more)) ∙ ap (times_erasures n erased j s) next)
+            (ap (power_sum gf64 n (element_of n) (lowered_by j v)) (omega arith) ∙ lowered_sums checks s v sums j (suc r) (omega (arith, more)) ∙ ap (times_erasures n erased j s) (omega arith))
             (lowered_sums checks s v sums j r (omega (arith, more)) ∙ sym (shifted-next gf64 (times_erasures n erased j s) (u + r)))
-            ∙ sym (ap₂ (λ g i. g i) (times_erasures-gone j s here) at)
+            ∙ sym (ap₂ (λ g i. g i) (times_erasures-gone j s here) (omega (arith, more)))
         | inr none ↦
             let fewer = erased_below-kept erased j none in
-            ap (λ w. power_sum gf64 n (element_of n) w (r + 1)) (lowered_by-kept j v none)
-            ∙ lowered_sums checks s v sums j r (omega (arith, fewer))
-            ∙ sym (ap₂ (λ g i. g (i + r)) (times_erasures-kept j s none) fewer)
+            cc (lowered_by-kept j v none, lowered_sums checks s v sums j r (omega (arith, fewer)), times_erasures-kept j s none, fewer)
       ]
 
   -- where there is no error there is none
   pub lowered_zero : (j : ℕ) (v : ℕ → Sym) (l : ℕ) → v l ≡ gf64.zero → lowered_by j v l ≡ gf64.zero
-  lowered_zero zero v l none = ap (λ (g : ℕ → Sym). g l) (lowered_by-none v) ∙ none
+  lowered_zero zero v l none = rw (lowered_by-none, none)
   lowered_zero (suc j) v l none =
       elim (cases_Bool (is_erased erased j)) [
         | inl here ↦
-            ap (λ (g : ℕ → Sym). g l) (lowered_by-gone j v here)
+            ap (λ g. g l) (lowered_by-gone j v here)
             ∙ ap (λ w. gf64.mul w (gf64.add (element_of n l) (element_of n j))) (lowered_zero j v l none)
             ∙ zero_mul gf64 (gf64.add (element_of n l) (element_of n j))
-        | inr kept ↦ ap (λ (g : ℕ → Sym). g l) (lowered_by-kept j v kept) ∙ lowered_zero j v l none
+        | inr kept ↦ cc (lowered_by-kept j v kept, lowered_zero j v l none)
       ]
 
   -- erased places have none left
@@ -221,29 +237,29 @@ module _ (n : ℕ) (erased : List Bool) where
   lowered_gone (suc j) v l low gone =
       elim (cases_eq l j) [
         | inl last ↦
-            ap (λ (g : ℕ → Sym). g l) (lowered_by-gone j v (ap (is_erased erased) (sym last) ∙ gone))
+            ap (λ g. g l) (lowered_by-gone j v (cc (last, gone)))
             ∙ ap (λ i. gf64.mul (lowered_by j v l) (gf64.add (element_of n l) (element_of n i))) (sym last)
             ∙ ap (gf64.mul (lowered_by j v l)) (add_self gf64 (element_of n l))
             ∙ mul_zero gf64 (lowered_by j v l)
         | inr before ↦ elim (cases_Bool (is_erased erased j)) [
           | inl here ↦
-              ap (λ (g : ℕ → Sym). g l) (lowered_by-gone j v here)
+              ap (λ g. g l) (lowered_by-gone j v here)
               ∙ ap (λ w. gf64.mul w (gf64.add (element_of n l) (element_of n j))) (lowered_gone j v l (omega arith) gone)
               ∙ zero_mul gf64 (gf64.add (element_of n l) (element_of n j))
-          | inr kept ↦ ap (λ (g : ℕ → Sym). g l) (lowered_by-kept j v kept) ∙ lowered_gone j v l (omega arith) gone
+          | inr kept ↦ cc (lowered_by-kept j v kept, lowered_gone j v l (omega arith) gone)
         ]
       ]
 
   -- other errors stay
   pub lowered_kept : (j : ℕ) (v : ℕ → Sym) (l : ℕ) → n ≤ 63 → j ≤ n → l < n → is_erased erased l ≡ false → v l ≢ gf64.zero → lowered_by j v l ≢ gf64.zero
-  lowered_kept zero v l most low inside kept wrong none = wrong (sym (ap (λ (g : ℕ → Sym). g l) (lowered_by-none v)) ∙ none)
+  lowered_kept zero v l most low inside kept wrong none = wrong (cc (lowered_by-none v, none))
   lowered_kept (suc j) v l most low inside kept wrong none =
       elim (cases_Bool (is_erased erased j)) [
         | inl here ↦
             mul_ne_zero gf64 (lowered_by j v l) (gf64.add (element_of n l) (element_of n j)) (lowered_kept j v l most (omega arith) inside kept wrong)
-            (λ same. both_ways (is_erased erased l) kept (ap (is_erased erased) (same_place n l j most inside (omega arith) (same_from_sum gf64 (element_of n l) (element_of n j) same)) ∙ here))
-            (sym (ap (λ (g : ℕ → Sym). g l) (lowered_by-gone j v here)) ∙ none)
-        | inr other ↦ lowered_kept j v l most (omega arith) inside kept wrong (sym (ap (λ (g : ℕ → Sym). g l) (lowered_by-kept j v other)) ∙ none)
+            (λ same. both_ways (is_erased erased l) kept (cc (same_place n l j most inside (omega arith) (same_from_sum gf64 (element_of n l) (element_of n j) same), here)))
+            (sym (rw lowered_by-gone) ∙ none)
+        | inr other ↦ lowered_kept j v l most (omega arith) inside kept wrong (rw (← lowered_by-kept, none))
       ]
 
   -- no more are left than wrong places without an erasure

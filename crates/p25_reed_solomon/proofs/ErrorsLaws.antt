@@ -1,5 +1,5 @@
 -- Errors at listed places: their power sums, and how many there are, by sums over the places and by induction.
-use Rattle.std.proofs.Common.{◌≡◌, ◌≢◌, ℕ, zero, suc, ◌+◌, ◌<◌, ◌≤◌, cond, eqb, List, length, get_or, set, inl, inr, refl, ap, ap₂, sym, ◌∙◌, arith}
+use Rattle.std.proofs.Common.{◌≡◌, ◌≢◌, ℕ, zero, suc, ◌+◌, ◌<◌, ◌≤◌, cond, eqb, List, length, get_or, set, inl, inr, refl, ap, sym, ◌∙◌, arith}
 use Rattle.std.proofs.{lemmas.Bool.{cases_eq, cases_order, cond-true, cond-false, eq-eqb, ne_eqb}, lemmas.List.{length-set, get_or-set_same, get_or-set_other}}
 use Rattle.p25_gf64.specs.{declared.symbol.Sym.{Sym}, Field.{power}, Gf64.{gf64}}
 use Rattle.p25_gf64.proofs.FieldLaws.{add_zero, mul_comm, zero_mul}
@@ -30,7 +30,7 @@ power_sum-placed n places values i inside =
     (inside c within) (λ j below other. ap (gf64.mul (x j)) (elsewhere places values j c (λ e. other (sym e))) ∙ mul_comm gf64 (x j) gf64.zero
     ∙ zero_mul gf64 (x j))
     ∙ mul_comm gf64 (x (get_or places c 0)) _
-    ∙ ap (λ (s : Sym). gf64.mul s (x (get_or places c 0))) (there places values (get_or places c 0) c refl))
+    ∙ ap (λ s. gf64.mul s (x (get_or places c 0))) (there places values (get_or places c 0) c refl))
 
 -- errors that are zero but at listed places are those of the list
 pub placed-errors : (n : ℕ) (places : List ℕ) (errors : ℕ → Sym) (j : ℕ) → ((c d : ℕ) → c < d → d < length places → get_or places c 0 < get_or places d 0) → (errors j ≢ gf64.zero → IsListed places j)
@@ -64,11 +64,9 @@ nonzeros_bump zero q f g same = omega arith
 nonzeros_bump (suc n) q f g same =
     elim (cases_eq n q) [
       | inl here ↦
-          let below = nonzeros_mono gf64 n g f (λ i h none. same i (λ e. omega (arith, h, here, e)) ∙ none) in
-          omega (arith, below, weight-le (gf64.is_zero (g n)))
+          omega (arith, nonzeros_mono gf64 n g f (λ i h none. same i (λ e. omega (arith, h, here, e)) ∙ none), weight-le (gf64.is_zero (g n)))
       | inr other ↦
-          let same_weight : weight_by (gf64.is_zero (g n)) ≡ weight_by (gf64.is_zero (f n)) = ap (λ (s : Sym). weight_by (gf64.is_zero s)) (same n other) in
-          omega (arith, nonzeros_bump n q f g same, same_weight)
+          omega (arith, nonzeros_bump n q f g same, ap (λ (s : Sym). weight_by (gf64.is_zero s)) (same n other))
     ]
 
 pub zeros_count : (n : ℕ) (f : ℕ → Sym) → ((j : ℕ) → f j ≡ gf64.zero) → nonzeros gf64 n f ≤ 0
@@ -80,11 +78,13 @@ zeros_count (suc n) f none = omega (arith, zeros_count n f none, elim (gf64.is_z
 nonzeros-placed_front : (n : ℕ) (places : List ℕ) (values : ℕ → Sym) (count : ℕ) → nonzeros gf64 n (λ j. sum_below gf64 count (at_place places values j)) ≤ count
 nonzeros-placed_front n places values zero = zeros_count n _ (λ j. sum-none gf64 _)
 nonzeros-placed_front n places values (suc count) =
-    let before = nonzeros-placed_front n places values count in
-    let one_more = nonzeros_bump n (get_or places count 0) (λ j. sum_below gf64 count (at_place places values j))
-    (λ j. sum_below gf64 (suc count) (at_place places values j)) (λ j other. sum-suc gf64 count (at_place places values j)
-    ∙ ap (gf64.add (sum_below gf64 count (at_place places values j))) (elsewhere places values j count (λ e. other (sym e))) ∙ add_zero gf64 _) in
-    omega (arith, before, one_more)
+    omega (
+      arith,
+      nonzeros-placed_front n places values count,
+      nonzeros_bump n (get_or places count 0) (λ j. sum_below gf64 count (at_place places values j))
+          (λ j. sum_below gf64 (suc count) (at_place places values j)) (λ j other. sum-suc gf64 count (at_place places values j)
+          ∙ ap (gf64.add (sum_below gf64 count (at_place places values j))) (elsewhere places values j count (λ e. other (sym e))) ∙ add_zero gf64 _),
+    )
 
 pub nonzeros-placed : (n : ℕ) (places : List ℕ) (values : ℕ → Sym) → nonzeros gf64 n (placed places values) ≤ length places
 nonzeros-placed n places values = nonzeros-placed_front n places values (length places)
@@ -94,7 +94,7 @@ pub nonzeros_same : (n : ℕ) (f g : ℕ → Sym) → ((j : ℕ) → j < n → f
 unfolding nonzeros
 nonzeros_same zero f g same = refl
 nonzeros_same (suc n) f g same =
-    ap₂ ◌+◌ (nonzeros_same n f g (λ j h. same j (omega arith))) (ap (λ (s : Sym). weight_by (gf64.is_zero s)) (same n (omega arith)))
+    cc (nonzeros_same n f g (λ j h. same j (omega arith)), same n (omega arith))
 
 -- one more value is added at its place
 pub placed_more : (places : List ℕ) (values : ℕ → Sym) (out : List Sym) (c : ℕ) (x : Sym) → get_or places c 0 < length out → x ≡ gf64.add (coefficient gf64 out (get_or places c 0)) (values c)
@@ -107,17 +107,9 @@ placed_more places values out c x inside is before j within =
     let more = sym (sum-suc gf64 c (at_place places values j)) ∙ ap (λ n. sum_below gf64 n (at_place places values j)) next in
     elim (cases_eq j p) [
       | inl here ↦
-          ap (coefficient gf64 (set out p x)) here
-          ∙ get_or-set_same out p x gf64.zero inside
-          ∙ is
-          ∙ ap₂ gf64.add (ap (coefficient gf64 out) (sym here) ∙ before j below) (sym (there places values j c (sym here)))
-          ∙ more
+          cc (here, get_or-set_same out p x gf64.zero inside, is, before j below, there places values j c (sym here), more)
       | inr other ↦
-          get_or-set_other out p j x gf64.zero other
-          ∙ before j below
-          ∙ sym (add_zero gf64 (sum_below gf64 c (at_place places values j)))
-          ∙ ap (gf64.add (sum_below gf64 c (at_place places values j))) (sym (elsewhere places values j c (λ e. other (sym e))))
-          ∙ more
+          cc (get_or-set_other out p j x gf64.zero other, before j below, add_zero gf64 (sum_below gf64 c (at_place places values j)), elsewhere places values j c (λ e. other (sym e)), more)
     ]
 
 -- no value stands at any place before the first is added
@@ -132,13 +124,11 @@ nonzeros-none f = refl
 -- one more factor that is not zero counts
 pub nonzeros_some : (n : ℕ) (f : ℕ → Sym) → f n ≢ gf64.zero → nonzeros gf64 (n + 1) f ≡ nonzeros gf64 n f + 1
 nonzeros_some n f some =
-    let next : n + 1 ≡ suc n = omega arith in
-    ap (λ m. nonzeros gf64 m f) next ∙ nonzeros-suc gf64 n f
+    ap (λ m. nonzeros gf64 m f) (omega arith) ∙ nonzeros-suc gf64 n f
     ∙ ap (λ w. nonzeros gf64 n f + w) (elim (gf64.is_zero (f n)) as (λ w. weight_by w ≡ 1) [ inl none ↦ absurd (some none) | inr other ↦ refl ])
 
 -- one more that is zero doesn't
 pub nonzeros_skip : (n : ℕ) (f : ℕ → Sym) → f n ≡ gf64.zero → nonzeros gf64 (n + 1) f ≡ nonzeros gf64 n f
 nonzeros_skip n f none =
-    let next : n + 1 ≡ suc n = omega arith in
-    ap (λ m. nonzeros gf64 m f) next ∙ nonzeros-suc gf64 n f
+    ap (λ m. nonzeros gf64 m f) (omega arith) ∙ nonzeros-suc gf64 n f
     ∙ omega (arith, elim (gf64.is_zero (f n)) as (λ w. weight_by w ≡ 0) [ inl same ↦ refl | inr other ↦ absurd (other none) ])

@@ -1,6 +1,6 @@
 -- The errors that a locator gives: any errors that explain the syndromes stand at its zeros and have the values that Forney's formula
 -- gives there; and values at its zeros with the right power sums explain the syndromes, since each erasure is one of few zeros.
-use Rattle.std.proofs.Common.{◌≡◌, ◌≢◌, ℕ, zero, suc, ◌+◌, ◌*◌, ◌<◌, ◌≤◌, Bool, cond, List, length, take, get_or, inl, inr, ap, ap₂, sym, ◌∙◌, subst, arith}
+use Rattle.std.proofs.Common.{◌≡◌, ◌≢◌, ℕ, zero, suc, ◌+◌, ◌*◌, ◌<◌, ◌≤◌, Bool, cond, List, length, take, get_or, inl, inr, ap, sym, ◌∙◌, subst, arith}
 use Rattle.std.proofs.{lemmas.Bool.{cases_eq, cases_lt, cases_Bool, cond-true, cond-false}, lemmas.List.{get_or-take, length-take}}
 use Rattle.p25_gf64.specs.{declared.symbol.Sym.{Sym}, Field.{power}, Gf64.{gf64}}
 use Rattle.p25_gf64.proofs.FieldLaws.{add_zero, mul_comm, mul_cancel}
@@ -44,7 +44,7 @@ listed_front places values j (suc count) few some =
       | inl here ↦ record { index = count; inside = omega arith; there = here }
       | inr other ↦
           listed_front places values j count (omega arith)
-          (λ none. some (sum-suc gf64 count (at_place places values j) ∙ ap₂ gf64.add none (elsewhere places values j count other) ∙ add_zero gf64 gf64.zero))
+          (λ none. some (simp (sum-suc, none, elsewhere, add_zero)))
     ]
 
 pub placed_listed : (places : List ℕ) (values : ℕ → Sym) (j : ℕ) → placed places values j ≢ gf64.zero → IsListed places j
@@ -80,24 +80,24 @@ nonzeros-with_ones (suc n) erased errors =
           )
       | inr kept ↦
           let same : with_ones erased errors n ≡ kept_errors erased errors n
-          = cond-false (is_erased erased n) gf64.one (errors n) kept ∙ sym (cond-false (is_erased erased n) gf64.zero (errors n) kept) in
+          = simp cond-false in
           omega (
             arith,
             nonzeros-with_ones n erased errors,
             nonzeros-suc gf64 n (with_ones erased errors),
             nonzeros-suc gf64 n (kept_errors erased errors),
             erased_below-kept erased n kept,
-            ap {B = ℕ} (λ (s : Sym). weight_by (gf64.is_zero s)) same,
+            ap {B = ℕ} (λ s. weight_by (gf64.is_zero s)) same,
           )
     ]
 
 module _ (n checks most : ℕ) (syndromes locator evaluator : List Sym) (erased : List Bool) (places : List ℕ) (long : length locator ≡ most + 1) (high : length evaluator ≡ most)
     (is : IsLocator n checks syndromes erased most (coefficient gf64 locator) (coefficient gf64 evaluator)) (are : AreZeros n locator n places) where
   at : (j : ℕ) → value_at gf64 (most + 1) (coefficient gf64 locator) (point_of n j) ≡ gf64.zero → value_at gf64 (length locator) (coefficient gf64 locator) (point_of n j) ≡ gf64.zero
-  at j none = ap (λ m. value_at gf64 m (coefficient gf64 locator) (point_of n j)) long ∙ none
+  at j none = simp (long, none)
 
   from : (j : ℕ) → value_at gf64 (length locator) (coefficient gf64 locator) (point_of n j) ≡ gf64.zero → value_at gf64 (most + 1) (coefficient gf64 locator) (point_of n j) ≡ gf64.zero
-  from j none = ap (λ m. value_at gf64 m (coefficient gf64 locator) (point_of n j)) (sym long) ∙ none
+  from j none = cc (long, none)
 
   -- a wrong place is listed
   pub wrong_is_listed : (errors : ℕ → Sym) → Explains n checks syndromes erased errors → (j : ℕ) → j < n → errors j ≢ gf64.zero → IsListed places j
@@ -115,12 +115,14 @@ module _ (n checks most : ℕ) (syndromes locator evaluator : List Sym) (erased 
       let size = ap (λ m. slope_at gf64 m (coefficient gf64 locator) (point_of n j)) long in
       let live = is.slope errors explains j (are.below c low) here in
       mul_cancel gf64 (slope_at gf64 (most + 1) (coefficient gf64 locator) (point_of n j)) (values c) (errors j) live
-      (mul_comm gf64 (slope_at gf64 (most + 1) (coefficient gf64 locator) (point_of n j)) (values c)
-      ∙ ap (gf64.mul (values c)) (sym size)
-      ∙ forney c low (λ none. live (sym size ∙ none))
-      ∙ ap (λ m. value_at gf64 m (coefficient gf64 evaluator) (point_of n j)) high
-      ∙ sym (is.value errors explains j (are.below c low) here)
-      ∙ mul_comm gf64 (errors j) (slope_at gf64 (most + 1) (coefficient gf64 locator) (point_of n j)))
+      (cc (
+        mul_comm gf64 (slope_at gf64 (most + 1) (coefficient gf64 locator) (point_of n j)) (values c),
+        size,
+        forney c low (λ none. live (sym size ∙ none)),
+        high,
+        is.value errors explains j (are.below c low) here,
+        mul_comm gf64 (errors j) (slope_at gf64 (most + 1) (coefficient gf64 locator) (point_of n j)),
+      ))
 
   -- have the syndromes as their power sums
   pub sums_of_errors : (errors : ℕ → Sym) → Explains n checks syndromes erased errors → (values : ℕ → Sym) → ((c : ℕ) → c < length places → values c ≡ errors (get_or places c 0))
@@ -128,7 +130,7 @@ module _ (n checks most : ℕ) (syndromes locator evaluator : List Sym) (erased 
   sums_of_errors errors explains values same r low =
       sum_same gf64 (length places) _ _ (λ c within. ap (λ v. gf64.mul v (power gf64 (element_of n (get_or places c 0)) (r + 1))) (same c within))
       ∙ sym (power_sum-placed n places (λ c. errors (get_or places c 0)) (r + 1) are.below)
-      ∙ sum_same gf64 n _ _ (λ j within. ap (λ (s : Sym). gf64.mul s (power gf64 (element_of n j) (r + 1))) (placed-errors n places errors j are.rising (wrong_is_listed errors explains j within)))
+      ∙ sum_same gf64 n _ _ (λ j within. ap (λ s. gf64.mul s (power gf64 (element_of n j) (r + 1))) (placed-errors n places errors j are.rising (wrong_is_listed errors explains j within)))
       ∙ explains.sums r low
 
   -- values at the zeros with these power sums explain the syndromes

@@ -10,10 +10,10 @@ use Rattle.p25_poly.proofs.CoefficientLaws.{coefficient_past, written_at, writte
 pub moved_everywhere : (symbols moved : List Sym) → length symbols ≡ 32
     → length moved ≡ 33 → coefficient gf64 moved 0 ≡ gf64.zero → ((k : ℕ) → k < 32 → coefficient gf64 moved (1 + k) ≡ coefficient gf64 symbols k) → (k : ℕ)
     → coefficient gf64 moved k ≡ shifted gf64 1 (coefficient gf64 symbols) k
-moved_everywhere symbols moved short full first others zero = first ∙ sym (shifted-first gf64 (coefficient gf64 symbols))
+moved_everywhere symbols moved short full first others zero = simp (first, shifted-first)
 moved_everywhere symbols moved short full first others (suc k) =
     elim (cases_lt k 32) [
-      | inl low ↦ let e : suc k ≡ 1 + k = omega arith in ap (coefficient gf64 moved) e ∙ others k low ∙ sym (shifted-next gf64 (coefficient gf64 symbols) k)
+      | inl low ↦ ap (coefficient gf64 moved) (omega arith) ∙ others k low ∙ sym (shifted-next gf64 (coefficient gf64 symbols) k)
       | inr high ↦ coefficient_past gf64 moved (suc k) (omega arith) ∙ sym (shifted-next gf64 (coefficient gf64 symbols) k ∙ coefficient_past gf64 symbols k (omega arith))
     ]
 
@@ -30,7 +30,7 @@ value_whole n i f x none =
 
 -- the value before Horner's rule begins
 pub value_begun : (n : ℕ) (f : ℕ → Sym) (x : Sym) → value_at gf64 (n - n) (λ k. f (n + k)) x ≡ gf64.zero
-value_begun n f x = ap (λ m. value_at gf64 m (λ k. f (n + k)) x) none ∙ value-none gf64 (λ k. f (n + k)) x
+value_begun n f x = simp (none, value-none)
   where
     none : n - n ≡ 0
     none = omega arith
@@ -55,10 +55,7 @@ sum_of_listed count elements values element i few are rest =
 -- a term times its element once more
 pub term_next : (v x p q : Sym) (i : ℕ) → p ≡ gf64.mul v (power gf64 x i) → q ≡ gf64.mul p x → q ≡ gf64.mul v (power gf64 x (i + 1))
 term_next v x p q i is next =
-    next
-    ∙ ap (λ w. gf64.mul w x) is
-    ∙ mul_assoc gf64 v (power gf64 x i) x
-    ∙ ap (gf64.mul v) (mul_comm gf64 (power gf64 x i) x ∙ sym (power-suc gf64 x i) ∙ ap (power gf64 x) more)
+    cc (next, is, mul_assoc gf64 v (power gf64 x i) x, mul_comm gf64 (power gf64 x i) x, power-suc gf64 x i, more)
   where
     more : suc i ≡ i + 1
     more = omega arith

@@ -1,17 +1,17 @@
 -- A solution of the key equation of the lowered syndromes, times a factor for each erasure, is a locator. The wrong places without an erasure
 -- are zeros of the key's locator; its zeros have slopes, since key and evaluator have no zero in common; and a factor more keeps the
 -- slopes of old zeros and makes a new zero with a slope.
-use Rattle.std.proofs.Common.{◌≡◌, ◌≢◌, ℕ, zero, suc, ◌+◌, ◌-◌, ◌*◌, ◌/◌, ◌<◌, ◌≤◌, Bool, true, false, List, length, take, drop, sym, ap, ap₂, ◌∙◌, inl, inr, arith}
+use Rattle.std.proofs.Common.{◌≡◌, ◌≢◌, ℕ, zero, suc, ◌+◌, ◌-◌, ◌*◌, ◌/◌, ◌<◌, ◌≤◌, Bool, false, List, length, take, drop, sym, ap, ◌∙◌, inl, inr, arith}
 use Rattle.std.proofs.{lemmas.Bool.{cases_eq, cases_lt, cases_Bool, both_ways}, lemmas.List.{get_or-take, get_or-drop, length-take, length-drop}}
 use Rattle.p25_gf64.specs.{declared.symbol.Sym.{Sym}, Field.{power}, Gf64.{gf64}}
-use Rattle.p25_gf64.proofs.{PowerLaws.{power-zero}, FieldLaws.{add_comm, zero_add, mul_comm, mul_one, mul_zero, zero_mul, mul_ne_zero, other_zero, inverse_ne_zero}}
+use Rattle.p25_gf64.proofs.{PowerLaws.{power-zero}, FieldLaws.{add_comm, zero_add, mul_comm, mul_one, mul_zero, zero_mul, inverse_ne_zero}}
 use Rattle.p25_algebra.specs.{Sums.{power_sum, nonzeros}, Series.{coefficient, value_at, product_at, shifted, slope_at, IsZero, IsShort}}
 use Rattle.p25_algebra.proofs.{SumLaws.{sum_of_one}, ValueLaws.{value-none, value_same}, ProductLaws.{product_agree, product_same, product_same_left, product_comm, product_first, product_at_zero}}
-use Rattle.p25_algebra.proofs.{ProductValueLaws.{value_longer}, QuotientLaws.{shifted-first, shifted-next, slope_longer, slope-kept, slope-new}, LocatorLaws.{locator_vanishes}, ForneyLaws.{forney}}
+use Rattle.p25_algebra.proofs.{ProductValueLaws.{value_longer}, QuotientLaws.{shifted-first, shifted-next, slope_longer}, LocatorLaws.{locator_vanishes}, ForneyLaws.{forney}}
 use Rattle.p25_poly.specs.{declared.polynomial.Poly.{Poly}, Polynomial.{coefficient_of}, Key.{IsKey}}
 use Rattle.p25_poly.proofs.CoefficientLaws.{coefficient_past}
 use Rattle.p25_reed_solomon.specs.{ElementLaws.{elements_apart, element_ne_zero}, Errors.{element_of, point_of, is_erased, erased_below, Explains}, Locator.{times_erasures, IsLocator}}
-use Rattle.p25_reed_solomon.proofs.ErasuresLaws.{erased_below-none, erased_below-gone, erased_below-kept, times_erasures-none, times_erasures-gone, times_erasures-kept, short_times_erasures, zero_from_times_erasures, product-times_erasures, point_inverse, factor_ne_zero, value-times_erasures, value-times_kept, zero_stays, erasure_vanishes, lowered_by, lowered_sums, lowered_zero, lowered_gone, lowered_kept, nonzeros-lowered}
+use Rattle.p25_reed_solomon.proofs.ErasuresLaws.{short_times_erasures, zero_from_times_erasures, product-times_erasures, IsTimes, times, lowered_by, lowered_sums, lowered_zero, lowered_gone, lowered_kept, nonzeros-lowered}
 
 point_ne_zero : (n j : ℕ) → point_of n j ≢ gf64.zero
 point_ne_zero n j = inverse_ne_zero gf64 (element_of n j) (element_ne_zero n j)
@@ -27,7 +27,7 @@ front_everywhere m f out full short low is k =
 
 -- a part of a list
 pub part_read : (symbols : List Sym) (from count r : ℕ) → r < count → coefficient gf64 (take count (drop from symbols)) r ≡ coefficient gf64 symbols (from + r)
-part_read symbols from count r low = get_or-take count (drop from symbols) r gf64.zero low ∙ get_or-drop from symbols r gf64.zero
+part_read symbols from count r low = simp (get_or-take, get_or-drop)
 
 -- without symbols the solution of the key equation is 1
 pub key_of_none : (symbols : List Sym) (locator evaluator : Poly) → length symbols ≡ 0
@@ -53,17 +53,21 @@ pub evaluator_step : (i most : ℕ) (f t old new : ℕ → Sym) (factor : Sym) �
     → ((k : ℕ) → k + suc i < most → old k ≡ product_at gf64 f (λ r. t (suc i + r)) k) → (k : ℕ) → k + i < most → new k ≡ product_at gf64 f (λ r. t (i + r)) k
 evaluator_step i most f t old new factor few is added before zero low =
     let first : i + 0 ≡ i = omega arith in
-    added 0 (omega arith)
-    ∙ ap₂ gf64.add (shifted-first gf64 old) (mul_comm gf64 factor (f 0) ∙ ap (gf64.mul (f 0)) (is ∙ ap t (sym first)))
-    ∙ zero_add gf64 (gf64.mul (f 0) (t (i + 0)))
-    ∙ sym (product_at_zero gf64 f (λ r. t (i + r)))
+    cc (added 0 (omega arith), shifted-first gf64 old, mul_comm gf64 factor (f 0), is, first, zero_add gf64 (gf64.mul (f 0) (t (i + 0))), product_at_zero gf64 f (λ r. t (i + r)))
 evaluator_step i most f t old new factor few is added before (suc k) low =
     let first : i + 0 ≡ i = omega arith in
-    added (suc k) (omega arith)
-    ∙ add_comm gf64 (shifted gf64 1 old (suc k)) (gf64.mul factor (f (suc k)))
-    ∙ ap₂ gf64.add (ap (λ w. gf64.mul w (f (suc k))) (is ∙ ap t (sym first)))
-    (shifted-next gf64 old k ∙ before k (omega arith) ∙ product_same gf64 f (λ r. t (suc i + r)) (λ r. t (i + suc r)) (λ r. ap t (next r)) k ∙ product_comm gf64 f (λ r. t (i + suc r)) k)
-    ∙ sym (product_comm gf64 f (λ r. t (i + r)) (suc k) ∙ product_first gf64 (λ r. t (i + r)) f k)
+    cc (
+      added (suc k) (omega arith),
+      add_comm gf64 (shifted gf64 1 old (suc k)) (gf64.mul factor (f (suc k))),
+      is,
+      first,
+      shifted-next gf64 old k,
+      before k (omega arith),
+      product_same gf64 f (λ r. t (suc i + r)) (λ r. t (i + suc r)) (λ r. ap t (next r)) k,
+      product_comm gf64 f (λ r. t (i + suc r)) k,
+      product_first gf64 (λ r. t (i + r)) f k,
+      product_comm gf64 f (λ r. t (i + r)) (suc k),
+    )
   where
     next : (r : ℕ) → suc i + r ≡ i + suc r
     next r = omega arith
@@ -80,6 +84,9 @@ module _ (n checks half : ℕ) (syndromes symbols : List Sym) (erased : List Boo
 
   evaluator_short : IsShort gf64 half (coefficient_of evaluator)
   evaluator_short = rw halved at key.evaluator_degree
+
+  with_erasures : IsTimes n erased (half + 1) (coefficient_of locator) n (half + 1 + erased_below erased n) (times_erasures n erased n (coefficient_of locator))
+  with_erasures = times n erased (half + 1) (coefficient_of locator) key_short (omega arith) places n (omega arith)
 
   -- the key's locator and the evaluator have no zero in common
   apart : (z : Sym) → z ≢ gf64.zero → value_at gf64 (half + 1) (coefficient_of locator) z ≡ gf64.zero → value_at gf64 half (coefficient_of evaluator) z ≢ gf64.zero
@@ -124,79 +131,30 @@ module _ (n checks half : ℕ) (syndromes symbols : List Sym) (erased : List Boo
               )
         ]
 
-    -- an erased place is no zero before its factor
-    free : (upto : ℕ) → upto ≤ n → (j : ℕ) → j < n → is_erased erased j ≡ true
-        → upto ≤ j → value_at gf64 (half + 1 + erased_below erased upto) (times_erasures n erased upto (coefficient_of locator)) (point_of n j) ≢ gf64.zero
+    -- a zero of the key's locator is not erased
+    key_slope : (j : ℕ) → j < n → value_at gf64 (half + 1) (coefficient_of locator) (point_of n j) ≡ gf64.zero
+        → (is_erased erased j ≡ false) × (slope_at gf64 (half + 1) (coefficient_of locator) (point_of n j) ≢ gf64.zero)
     unfolding left
-    free zero within j inside gone later none =
-        let e : half + 1 + erased_below erased 0 ≡ half + 1 = omega (arith, erased_below-none erased) in
-        (key_zero j inside (sym (ap₂ (λ k g. value_at gf64 k g (point_of n j)) e (times_erasures-none n erased (coefficient_of locator))) ∙ none)).0 (lowered_gone n erased n errors j inside gone)
-    free (suc i) within j inside gone later none =
-        elim (cases_Bool (is_erased erased i)) [
-          | inl here ↦
-              mul_ne_zero gf64 _ _ (factor_ne_zero n erased i j places (omega arith) inside (λ e. omega arith)) (free i (omega arith) j inside gone (omega arith))
-              (sym (value-times_erasures n erased (half + 1) i (coefficient_of locator) (point_of n j) key_short here) ∙ none)
-          | inr kept ↦ free i (omega arith) j inside gone (omega arith) (sym (value-times_kept n erased (half + 1) i (coefficient_of locator) (point_of n j) kept) ∙ none)
-        ]
-
-    -- each zero has a slope
-    simple : (upto : ℕ) → upto ≤ n → (j : ℕ) → j < n → value_at gf64 (half + 1 + erased_below erased upto) (times_erasures n erased upto (coefficient_of locator)) (point_of n j) ≡ gf64.zero
-        → slope_at gf64 (half + 1 + erased_below erased upto) (times_erasures n erased upto (coefficient_of locator)) (point_of n j) ≢ gf64.zero
-    simple zero within j inside none flat =
-        let e : half + 1 + erased_below erased 0 ≡ half + 1 = omega (arith, erased_below-none erased) in
-        (key_zero j inside (sym (ap₂ (λ k g. value_at gf64 k g (point_of n j)) e (times_erasures-none n erased (coefficient_of locator))) ∙ none)).1
-        (sym (ap₂ (λ k g. slope_at gf64 k g (point_of n j)) e (times_erasures-none n erased (coefficient_of locator))) ∙ flat)
-    simple (suc i) within j inside none flat =
-        let before : ℕ → Sym = times_erasures n erased i (coefficient_of locator) in
-        let size : ℕ = half + 1 + erased_below erased i in
-        let z : Sym = point_of n j in
-        let short = short_times_erasures n erased (half + 1) i (coefficient_of locator) key_short in
-        elim (cases_Bool (is_erased erased i)) [
-          | inl here ↦
-              let e : half + 1 + erased_below erased (suc i) ≡ suc size = omega (arith, erased_below-gone erased i here) in
-              let flat_there = sym (ap₂ (λ k g. slope_at gf64 k g z) e (times_erasures-gone n erased i (coefficient_of locator) here)) ∙ flat in
-              elim (cases_eq i j) [
-                | inl same ↦
-                    mul_ne_zero gf64 (element_of n i) (value_at gf64 size before z) (element_ne_zero n i)
-                    (free i (omega arith) j inside (ap (is_erased erased) (sym same) ∙ here) (omega arith))
-                    (sym (slope-new gf64 size (element_of n i) before z short (ap (λ k. gf64.mul (element_of n k) z) same ∙ point_inverse n erased j)) ∙ flat_there)
-                | inr other ↦
-                    let factor = factor_ne_zero n erased i j places (omega arith) inside other in
-                    let was = other_zero gf64 _ (value_at gf64 size before z) factor (sym (value-times_erasures n erased (half + 1) i (coefficient_of locator) z key_short here) ∙ none) in
-                    mul_ne_zero gf64 _ (slope_at gf64 size before z) factor (simple i (omega arith) j inside was)
-                    (sym (slope-kept gf64 size (element_of n i) before z (omega arith) short was) ∙ flat_there)
-              ]
-          | inr kept ↦
-              simple i (omega arith) j inside (sym (value-times_kept n erased (half + 1) i (coefficient_of locator) z kept) ∙ none)
-              (sym (ap₂ (λ k g. slope_at gf64 (half + 1 + k) g z) (erased_below-kept erased i kept) (times_erasures-kept n erased i (coefficient_of locator) kept)) ∙ flat)
-        ]
+    key_slope j inside none = (
+      elim (cases_Bool (is_erased erased j)) [ inl here ↦ absurd ((key_zero j inside none).0 (lowered_gone n erased n errors j inside here)) | inr kept ↦ kept ],
+      (key_zero j inside none).1,
+    )
 
     -- wrong places are zeros
     wrong : (j : ℕ) → j < n → errors j ≢ gf64.zero → value_at gf64 (half + 1 + erased_below erased n) (times_erasures n erased n (coefficient_of locator)) (point_of n j) ≡ gf64.zero
     unfolding left
     wrong j inside other =
         elim (cases_Bool (is_erased erased j)) [
-          | inl here ↦ erasure_vanishes n erased (half + 1) n (coefficient_of locator) j key_short inside here
-          | inr kept ↦ zero_stays n erased (half + 1) n (coefficient_of locator)
-              (point_of n j) key_short (key_vanishes j inside (lowered_kept n erased n errors j places (omega arith) inside kept other))
+          | inl here ↦ with_erasures.gone j inside here
+          | inr kept ↦ with_erasures.stays (point_of n j) (key_vanishes j inside (lowered_kept n erased n errors j places (omega arith) inside kept other))
         ]
 
     -- a zero without an erasure is wrong
-    zero_is_wrong : (upto : ℕ) → upto ≤ n → (j : ℕ) → j < n → is_erased erased j ≡ false
-        → value_at gf64 (half + 1 + erased_below erased upto) (times_erasures n erased upto (coefficient_of locator)) (point_of n j) ≡ gf64.zero
-        → errors j ≢ gf64.zero
+    zero_is_wrong : (j : ℕ) → j < n → is_erased erased j ≡ false
+        → value_at gf64 (half + 1 + erased_below erased n) (times_erasures n erased n (coefficient_of locator)) (point_of n j) ≡ gf64.zero → errors j ≢ gf64.zero
     unfolding left
-    zero_is_wrong zero within j inside kept none right =
-        let e : half + 1 + erased_below erased 0 ≡ half + 1 = omega (arith, erased_below-none erased) in
-        (key_zero j inside (sym (ap₂ (λ k g. value_at gf64 k g (point_of n j)) e (times_erasures-none n erased (coefficient_of locator))) ∙ none)).0 (lowered_zero n erased n errors j right)
-    zero_is_wrong (suc i) within j inside kept none right =
-        elim (cases_Bool (is_erased erased i)) [
-          | inl here ↦
-              zero_is_wrong i (omega arith) j inside kept
-              (other_zero gf64 _ _ (factor_ne_zero n erased i j places (omega arith) inside (λ e. both_ways (is_erased erased j) kept (ap (is_erased erased) (sym e) ∙ here)))
-              (sym (value-times_erasures n erased (half + 1) i (coefficient_of locator) (point_of n j) key_short here) ∙ none)) right
-          | inr other ↦ zero_is_wrong i (omega arith) j inside kept (sym (value-times_kept n erased (half + 1) i (coefficient_of locator) (point_of n j) other) ∙ none) right
-        ]
+    zero_is_wrong j inside kept none right =
+        (key_zero j inside (with_erasures.other j inside (λ gone. absurd (both_ways (is_erased erased j) kept gone)) none)).0 (lowered_zero n erased n errors j right)
 
     -- the error at a zero, for any bound of the degree
     error_there : (m : ℕ) (e : ℕ → Sym) → 1 ≤ m → m ≤ half + erased_below erased n → IsShort gf64 (m + 1) (times_erasures n erased n (coefficient_of locator))
@@ -220,12 +178,12 @@ module _ (n checks half : ℕ) (syndromes symbols : List Sym) (erased : List Boo
       (record {
         short = short;
         nonzero = λ none. key.nonzero (zero_from_times_erasures n erased n (coefficient_of locator) none);
-        gone = λ j inside here. sized j ∙ erasure_vanishes n erased (half + 1) n (coefficient_of locator) j key_short inside here;
+        gone = λ j inside here. sized j ∙ with_erasures.gone j inside here;
         wrong = λ errors explains j inside other. sized j ∙ wrong errors explains j inside other;
-        slope = λ errors explains j inside none flat. simple errors explains n (omega arith) j inside (sym (sized j) ∙ none)
+        slope = λ errors explains j inside none flat. with_erasures.simple j inside (key_slope errors explains j inside) (sym (sized j) ∙ none)
             (slope_longer gf64 (m + 1) (half + 1 + erased_below erased n) (times_erasures n erased n (coefficient_of locator)) (point_of n j) (omega arith) short ∙ flat);
         value = λ errors explains j inside none. error_there errors explains m e positive bound short is_e j inside none;
-        found = λ errors explains j inside kept none. zero_is_wrong errors explains n (omega arith) j inside kept (sym (sized j) ∙ none);
+        found = λ errors explains j inside kept none. zero_is_wrong errors explains j inside kept (sym (sized j) ∙ none);
       })
     where
       short : IsShort gf64 (m + 1) (times_erasures n erased n (coefficient_of locator))

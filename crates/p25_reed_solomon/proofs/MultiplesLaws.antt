@@ -59,18 +59,12 @@ module _ {F : Type 0} (K : Field F) where
   pub value-added : (n k s : ℕ) (f g h : ℕ → F) (c y : F) → IsShort K k g
       → s + k ≤ n → ((j : ℕ) → h j ≡ f j ⊕ c ⊗ shifted K s g j) → value_at K n h y ≡ value_at K n f y ⊕ c ⊗ (power K y s ⊗ value_at K k g y)
   value-added n k s f g h c y short fits e =
-      value_same K n h (λ j. f j ⊕ c ⊗ shifted K s g j) y (λ j low. e j)
-      ∙ value-add K n f (λ j. c ⊗ shifted K s g j) y
-      ∙ ap (λ w. value_at K n f y ⊕ w) (value-mul K n c (shifted K s g) y ∙ ap (λ w. c ⊗ w) (value-shifted K s k n g y short fits))
+      cc (value_same K n h (λ j. f j ⊕ c ⊗ shifted K s g j) y (λ j low. e j), value-add K n f (λ j. c ⊗ shifted K s g j) y, value-mul K n c (shifted K s g) y, value-shifted K s k n g y short fits)
 
   -- it stays where g vanishes
   pub value_stays : (n k s : ℕ) (f g h : ℕ → F) (c y : F) → IsShort K k g → s + k ≤ n → ((j : ℕ) → h j ≡ f j ⊕ c ⊗ shifted K s g j) → value_at K k g y ≡ 𝟘 → value_at K n h y ≡ value_at K n f y
   value_stays n k s f g h c y short fits e none =
-      value-added n k s f g h c y short fits e
-      ∙ ap (λ w. value_at K n f y ⊕ c ⊗ (power K y s ⊗ w)) none
-      ∙ ap (λ w. value_at K n f y ⊕ c ⊗ w) (mul_zero K (power K y s))
-      ∙ ap (λ w. value_at K n f y ⊕ w) (mul_zero K c)
-      ∙ add_zero K (value_at K n f y)
+      cc (value-added n k s f g h c y short fits e, none, mul_zero K (power K y s), mul_zero K c, add_zero K (value_at K n f y))
 
   -- times 1 + c y: what vanished still does
   pub old_zero : (k n : ℕ) (f h : ℕ → F) (c y : F) → n ≡ 1 + k → IsShort K k f → ((j : ℕ) → h j ≡ f j ⊕ c ⊗ shifted K 1 f j) → value_at K k f y ≡ 𝟘 → value_at K n h y ≡ 𝟘
@@ -80,11 +74,15 @@ module _ {F : Type 0} (K : Field F) where
   -- and so does the inverse of c
   pub new_zero : (k n : ℕ) (f h : ℕ → F) (c : F) → n ≡ 1 + k → IsShort K k f → ((j : ℕ) → h j ≡ f j ⊕ c ⊗ shifted K 1 f j) → c ≢ 𝟘 → value_at K n h (inverse c) ≡ 𝟘
   new_zero k n f h c size short e apart =
-      value-added n k 1 f f h c (inverse c) short (omega arith) e
-      ∙ ap₂ (λ a b. a ⊕ c ⊗ (b ⊗ value_at K k f (inverse c))) (value_longer K k n f (inverse c) (omega arith) short) (power-one K (inverse c))
-      ∙ ap (λ w. value_at K k f (inverse c) ⊕ w)
-      (sym (mul_assoc K c (inverse c) (value_at K k f (inverse c))) ∙ ap (λ w. w ⊗ value_at K k f (inverse c)) (mul_inverse K c apart) ∙ one_mul K (value_at K k f (inverse c)))
-      ∙ add_self K (value_at K k f (inverse c))
+      cc (
+        value-added n k 1 f f h c (inverse c) short (omega arith) e,
+        value_longer K k n f (inverse c) (omega arith) short,
+        power-one K (inverse c),
+        mul_assoc K c (inverse c) (value_at K k f (inverse c)),
+        mul_inverse K c apart,
+        one_mul K (value_at K k f (inverse c)),
+        add_self K (value_at K k f (inverse c)),
+      )
 
   pub longer_by_one : (k n : ℕ) (f h : ℕ → F) (c : F) → n ≡ 1 + k → IsShort K k f → ((j : ℕ) → h j ≡ f j ⊕ c ⊗ shifted K 1 f j) → IsShort K n h
   longer_by_one k n f h c size short e = record {
@@ -101,10 +99,15 @@ module _ {F : Type 0} (K : Field F) where
   -- a power of x is the highest times a power of 1/x
   power_down : (x : F) (n j : ℕ) → x ≢ 𝟘 → j < n → power K x (n - 1 - j) ≡ power K x (n - 1) ⊗ power K (inverse x) j
   power_down x n j apart low =
-      sym (mul_one K (power K x (n - 1 - j)))
-      ∙ ap (λ w. power K x (n - 1 - j) ⊗ w) (sym (sym (power_of_mul K x (inverse x) j) ∙ ap (λ w. power K w j) (mul_inverse K x apart) ∙ power_of_one K j))
-      ∙ sym (mul_assoc K (power K x (n - 1 - j)) (power K x j) (power K (inverse x) j))
-      ∙ ap (λ w. w ⊗ power K (inverse x) j) (sym (power-add K x (n - 1 - j) j) ∙ ap (power K x) whole)
+      cc (
+        mul_one K (power K x (n - 1 - j)),
+        power_of_one K j,
+        mul_inverse K x apart,
+        power_of_mul K x (inverse x) j,
+        mul_assoc K (power K x (n - 1 - j)) (power K x j) (power K (inverse x) j),
+        power-add K x (n - 1 - j) j,
+        whole,
+      )
     where
       whole : n - 1 - j + j ≡ n - 1
       whole = omega arith

@@ -1,6 +1,6 @@
 -- The table of values is right at each place: the checker computes each entry. A word's values are the sums of those of the two halves of
 -- its symbols, octet by octet.
-use Rattle.std.proofs.{Common.{◌≡◌, ℕ, suc, ◌+◌, ◌-◌, ◌*◌, ◌/◌, ◌%◌, ◌^◌, ◌<◌, ◌≤◌, ◌==◌, [], List, true, bit_xor, get_or, refl, ap, ap₂, sym, ◌∙◌, arith}, lemmas.Bool.{eqb-true}}
+use Rattle.std.proofs.{Common.{◌≡◌, ℕ, suc, ◌+◌, ◌-◌, ◌*◌, ◌/◌, ◌%◌, ◌^◌, ◌<◌, ◌≤◌, ◌==◌, [], List, true, bit_xor, get_or, refl, ap, arith}, lemmas.Bool.{eqb-true}}
 use Rattle.std.proofs.{lemmas.Nat.{xor_shr, xor_mod, xor_comm, pow_pos, mod-pow-add}, Math.Nat.{le-mul_of_pos_right}}
 use Rattle.p25_bits.proofs.DivisibleLaws.{xor_apart}
 use Rattle.p25_gf64.specs.{Field.{power}, Product.{product, product_by, product_power, times_x}, ProductLaws.{all_below, all_below_at, product_comm, product-xor}, Symbol.{number, alpha}, Gf64.{gf64}}
@@ -34,16 +34,21 @@ entry-is e half v b low inside small here =
     let row_low : row < 72 = omega arith in
     let rest : row % 2 ≡ half = omega arith in
     let high : row / 2 ≡ e = omega arith in
-    let base : product_power 2 (b + 1) ≡ number (power gf64 alpha (b + 1)) = sym (number-power alpha (b + 1) ∙ ap (λ a. product_power a (b + 1)) number_alpha) in
-    eqb-true _ _ (all_below_at 16 (λ b. octet b (entry row v) == computed b row v)
-    (all_below_at 8 (λ v. all_below 16 (λ b. octet b (entry row v) == computed b row v))
-    (all_below_at 72 (λ row. all_below 8 (λ v. all_below 16 (λ b. octet b (entry row v) == computed b row v))) entries_computed row row_low) v small) b here)
-    ∙ ap₂ (λ p q. product (product_power (product_power 2 (b + 1)) p) (v * 8 ^ q)) high rest
-    ∙ ap (λ p. product p (v * 8 ^ half)) (ap (λ a. product_power a e) base ∙ sym (number-power (power gf64 alpha (b + 1)) e) ∙ ap number (sym (power-mul gf64 alpha (b + 1) e)))
+    let base : product_power 2 (b + 1) ≡ number (power gf64 alpha (b + 1)) = simp (number_alpha, number-power) in
+    cc (
+      eqb-true _ _ (all_below_at 16 (λ b. octet b (entry row v) == computed b row v)
+          (all_below_at 8 (λ v. all_below 16 (λ b. octet b (entry row v) == computed b row v))
+          (all_below_at 72 (λ row. all_below 8 (λ v. all_below 16 (λ b. octet b (entry row v) == computed b row v))) entries_computed row row_low) v small) b here),
+      high,
+      rest,
+      base,
+      number-power (power gf64 alpha (b + 1)) e,
+      power-mul gf64 alpha (b + 1) e,
+    )
 
 -- the octets of a sum are the sums of the octets
 octet-xor : (b m n : ℕ) → octet b (bit_xor m n) ≡ bit_xor (octet b m) (octet b n)
-octet-xor b m n = ap (λ k. k % 2 ^ 8) (xor_shr m n (8 * b)) ∙ xor_mod (m / 2 ^ (8 * b)) (n / 2 ^ (8 * b)) 8
+octet-xor b m n = simp (xor_shr, xor_mod)
 
 -- both halves of a symbol
 symbol-is : (e b : ℕ) (s : Sym) → e < 36 → b < 16
@@ -61,20 +66,26 @@ symbol-is e b s low here =
     let whole : v / 8 * 2 ^ 3 + v % 8 ≡ v = omega arith in
     let low_below : v % 8 < 64 = omega arith in
     let high_below : v / 8 * 2 ^ 3 < 64 = omega arith in
-    octet-xor b (entry (2 * e) (v % 8)) (entry (2 * e + 1) (v / 8))
-    ∙ ap₂ bit_xor
-    (ap (λ row. octet b (entry row (v % 8))) (sym first) ∙ entry-is e 0 (v % 8) b low (omega arith) lower here ∙ ap (product (number p)) none)
-    (entry-is e 1 (v / 8) b low (omega arith) upper here ∙ ap (product (number p)) one)
-    ∙ sym (product-xor (number p) (v % 8) (v / 8 * 2 ^ 3) p_below low_below high_below)
-    ∙ ap (product (number p)) (xor_comm (v % 8) (v / 8 * 2 ^ 3) ∙ xor_apart (v / 8) 3 (v % 8) lower ∙ whole)
-    ∙ product_comm (number p) v p_below below
-    ∙ sym (number-mul s p)
+    cc (
+      octet-xor b (entry (2 * e) (v % 8)) (entry (2 * e + 1) (v / 8)),
+      first,
+      entry-is e 0 (v % 8) b low (omega arith) lower here,
+      none,
+      entry-is e 1 (v / 8) b low (omega arith) upper here,
+      one,
+      product-xor (number p) (v % 8) (v / 8 * 2 ^ 3) p_below low_below high_below,
+      xor_comm (v % 8) (v / 8 * 2 ^ 3),
+      xor_apart (v / 8) 3 (v % 8) lower,
+      whole,
+      product_comm (number p) v p_below below,
+      number-mul s p,
+    )
 
 -- nothing yet
 pub values_none : (n : ℕ) (word : List Sym) (b : ℕ) → octet b 0 ≡ number (sum_below gf64 0 (term n word (b + 1)))
 values_none n word b =
     let zero_octet : octet b 0 ≡ 0 = omega arith in
-    zero_octet ∙ sym (ap number (sum-none gf64 (term n word (b + 1))) ∙ number_zero)
+    simp (zero_octet, number_zero, sum-none)
 
 -- a symbol more, by its number
 pub values_more : (n : ℕ) (word : List Sym) (j values b v : ℕ) (s : Sym) → n ≤ 36 → j < n → b < 16 → v ≡ number s → s ≡ coefficient gf64 word j
@@ -84,11 +95,16 @@ values_more n word j values b v s few low here number_is is so_far =
     let e : ℕ = n - 1 - j in
     let small : e < 36 = omega arith in
     let next : suc j ≡ j + 1 = omega arith in
-    ap (λ m. octet b (bit_xor values (bit_xor (entry (2 * e) (m % 8)) (entry (2 * e + 1) (m / 8))))) number_is
-    ∙ octet-xor b values (bit_xor (entry (2 * e) (number s % 8)) (entry (2 * e + 1) (number s / 8)))
-    ∙ ap₂ bit_xor so_far (symbol-is e b s small here ∙ ap (λ t. number (gf64.mul t (power gf64 alpha ((b + 1) * e)))) is)
-    ∙ sym (number-add (sum_below gf64 j (term n word (b + 1))) (term n word (b + 1) j))
-    ∙ ap number (sym (sum-suc gf64 j (term n word (b + 1))) ∙ ap (λ m. sum_below gf64 m (term n word (b + 1))) next)
+    cc (
+      number_is,
+      octet-xor b values (bit_xor (entry (2 * e) (number s % 8)) (entry (2 * e + 1) (number s / 8))),
+      so_far,
+      symbol-is e b s small here,
+      is,
+      number-add (sum_below gf64 j (term n word (b + 1))) (term n word (b + 1) j),
+      sum-suc gf64 j (term n word (b + 1)),
+      next,
+    )
 
 -- the lowest octets of a number are zero where it is zero by a power of 2
 pub octets_zero : (values m b : ℕ) → values % 2 ^ (8 * m) ≡ 0 → b < m → octet b values ≡ 0

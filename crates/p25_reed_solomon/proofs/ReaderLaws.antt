@@ -5,8 +5,8 @@ use Rattle.p25_bits.specs.Distance.{distance_by}
 use Rattle.p25_code.specs.Erasures.{without_erased, erased_cost}
 use Rattle.p25_gf64.specs.{declared.symbol.Sym.{Sym}, Gf64.{gf64}}
 use Rattle.p25_gf64.proofs.FieldLaws.{add_self, add_zero, add_twice}
-use Rattle.p25_algebra.specs.{Sums.{nonzeros, power_sum}, Series.{coefficient}}
-use Rattle.p25_reed_solomon.specs.{Words.{IsCode, IsWord, value_of, same_symbols}, DistanceLaws.{distance-nonzeros}, Errors.{element_of, is_erased, erased_below, kept_errors, Explains}}
+use Rattle.p25_algebra.specs.{Sums.{nonzeros}, Series.{coefficient}}
+use Rattle.p25_reed_solomon.specs.{Words.{IsCode, IsWord, value_of, same_symbols}, DistanceLaws.{distance-nonzeros}, Errors.{is_erased, erased_below, kept_errors, Explains}}
 use Rattle.p25_reed_solomon.specs.ValueLaws.{value-power_sum, front_value-add, front_value_same}
 use Rattle.p25_reed_solomon.proofs.{ErrorsLaws.{nonzeros_same, zeros_count}, CostLaws.{cost-errors}}
 
@@ -15,8 +15,8 @@ pub difference_explains : (n k : ℕ) (received word syndromes : List Sym) (eras
     → ((r : ℕ) → r < n - k → coefficient gf64 syndromes r ≡ value_of n received (r + 1)) → erased_cost same_symbols (without_erased received erased) word ≤ n - k
     → Explains n (n - k) syndromes erased (λ j. gf64.add (coefficient gf64 received j) (coefficient gf64 word j))
 difference_explains n k received word syndromes erased code long erasures of_code are near =
-    let errors : ℕ → Sym = λ j. gf64.add (coefficient gf64 received j) (coefficient gf64 word j) in
-    let cost = cost-errors received word erased (long ∙ sym of_code.long) (erasures ∙ sym long) ∙ ap (λ m. 2 * nonzeros gf64 m (kept_errors erased errors) + erased_below erased m) long in
+    let cost = cost-errors received word erased (long ∙ sym of_code.long) (erasures ∙ sym long)
+    ∙ ap (λ m. 2 * nonzeros gf64 m (kept_errors erased (λ j. gf64.add (coefficient gf64 received j) (coefficient gf64 word j))) + erased_below erased m) long in
     record {
       few = omega (arith, cost);
       sums = λ r below.
@@ -36,7 +36,7 @@ cost_of_errors n k received word syndromes erased errors long_received long eras
     let cost = cost-errors received word erased (long_received ∙ sym long) (erasures ∙ sym long_received)
     ∙ ap (λ m. 2 * nonzeros gf64 m (kept_errors erased sum) + erased_below erased m) long_received in
     let same = nonzeros_same n (kept_errors erased sum) (kept_errors erased errors)
-    (λ j low. ap (cond (is_erased erased j) gf64.zero) (ap (gf64.add (coefficient gf64 received j)) (is j low) ∙ add_twice gf64 (coefficient gf64 received j) (errors j))) in
+    (λ j low. ap (cond (is_erased erased j) gf64.zero) (simp (is, add_twice))) in
     omega (arith, cost, same, explains.few)
 
 -- the cost of what was received, and of any word
@@ -44,16 +44,17 @@ pub cost_of_received : (n : ℕ) (received : List Sym) (erased : List Bool)
     → length received ≡ n → length erased ≡ n → erased_cost same_symbols (without_erased received erased) received ≡ erased_below erased n
 cost_of_received n received erased long erasures =
     let sum : ℕ → Sym = λ j. gf64.add (coefficient gf64 received j) (coefficient gf64 received j) in
-    let cost = cost-errors received received erased refl (erasures ∙ sym long) ∙ ap (λ m. 2 * nonzeros gf64 m (kept_errors erased sum) + erased_below erased m) long in
-    let none = zeros_count n (kept_errors erased sum)
-    (λ j. cond_both (is_erased erased j) gf64.zero (sum j) (λ s. s ≡ gf64.zero) (λ here. refl) (λ kept. add_self gf64 (coefficient gf64 received j))) in
-    omega (arith, cost, none)
+    omega (
+      arith,
+      cost-errors received received erased refl (erasures ∙ sym long) ∙ ap (λ m. 2 * nonzeros gf64 m (kept_errors erased sum) + erased_below erased m) long,
+      zeros_count n (kept_errors erased sum)
+          (λ j. cond_both (is_erased erased j) gf64.zero (sum j) (λ s. s ≡ gf64.zero) (λ here. refl) (λ kept. add_self gf64 (coefficient gf64 received j))),
+    )
 
 pub cost_of_erasures : (n : ℕ) (received word : List Sym) (erased : List Bool)
     → length received ≡ n → length word ≡ n → length erased ≡ n → erased_below erased n ≤ erased_cost same_symbols (without_erased received erased) word
 cost_of_erasures n received word erased long_received long erasures =
-    let cost = cost-errors received word erased (long_received ∙ sym long) (erasures ∙ sym long_received) in
-    omega (arith, cost, ap (erased_below erased) long_received)
+    omega (arith, cost-errors received word erased (long_received ∙ sym long) (erasures ∙ sym long_received), ap (erased_below erased) long_received)
 
 -- errors that explain the syndromes make a word of the code of what was received
 pub corrected : (n k : ℕ) (received word syndromes : List Sym) (erased : List Bool) (errors : ℕ → Sym) → IsCode n k → length received ≡ n → length word ≡ n
@@ -69,7 +70,7 @@ corrected n k received word syndromes erased errors code long_received long are 
           front_value_same n (coefficient gf64 word) (λ j. gf64.add (coefficient gf64 received j) (errors j)) i is
           ∙ front_value-add n (coefficient gf64 received) errors i
           ∙ ap₂ gf64.add (ap (value_of n received) (sym place) ∙ sym (are r (omega arith)))
-          (value-power_sum n errors i ∙ ap (power_sum gf64 n (element_of n) errors) (sym place) ∙ explains.sums r (omega arith))
+          (cc (value-power_sum n errors i, place, explains.sums r (omega arith)))
           ∙ add_self gf64 (coefficient gf64 syndromes r);
     }
 
@@ -78,16 +79,18 @@ pub changed_letters : (n : ℕ) (received word : List Sym) (errors : ℕ → Sym
     → length received ≡ n → length word ≡ n → ((j : ℕ) → j < n → coefficient gf64 word j ≡ gf64.add (coefficient gf64 received j) (errors j))
     → distance_by same_symbols received word ≡ nonzeros gf64 n errors
 changed_letters n received word errors long_received long is =
-    distance-nonzeros received word (long_received ∙ sym long)
-    ∙ ap (λ m. nonzeros gf64 m (λ j. gf64.add (coefficient gf64 received j) (coefficient gf64 word j))) long_received
-    ∙ nonzeros_same n _ errors (λ j below. ap (gf64.add (coefficient gf64 received j)) (is j below) ∙ add_twice gf64 (coefficient gf64 received j) (errors j))
+    cc (
+      distance-nonzeros received word (long_received ∙ sym long),
+      long_received,
+      nonzeros_same n _ errors (λ j below. ap (gf64.add (coefficient gf64 received j)) (is j below)
+          ∙ add_twice gf64 (coefficient gf64 received j) (errors j)),
+    )
 
 -- a word whose syndromes are all zero vanishes at the powers of α from the first on
 pub vanishes_at : (n checks : ℕ) (received : List Sym) → ((r : ℕ) → r < checks → value_of n received (r + 1) ≡ gf64.zero) → (i : ℕ) → 1 ≤ i → i ≤ checks → value_of n received i ≡ gf64.zero
 vanishes_at n checks received zeros i low high =
     let r : ℕ = i - 1 in
-    let place : r + 1 ≡ i = omega arith in
-    ap (value_of n received) (sym place) ∙ zeros r (omega arith)
+    ap (value_of n received) (sym (omega arith)) ∙ zeros r (omega arith)
 
 -- a list without an erasure
 pub no_erasures : (n : ℕ) → All (λ gone. gone ≡ false) (take n (replicate 63 false))

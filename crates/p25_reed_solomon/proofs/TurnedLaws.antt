@@ -12,14 +12,11 @@ use Rattle.p25_reed_solomon.specs.{ElementLaws.{element_ne_zero, element-point, 
 
 -- powers of an element and of its inverse
 powers_cancel : (x y : Sym) (k : ℕ) → gf64.mul x y ≡ gf64.one → gf64.mul (power gf64 x k) (power gf64 y k) ≡ gf64.one
-powers_cancel x y k one = sym (power_of_mul gf64 x y k) ∙ ap (λ w. power gf64 w k) one ∙ power_of_one gf64 k
+powers_cancel x y k one = rw (← power_of_mul, one, power_of_one)
 
 rest_of_power : (x y : Sym) (a b : ℕ) → gf64.mul x y ≡ gf64.one → gf64.mul (power gf64 x (a + b)) (power gf64 y b) ≡ power gf64 x a
 rest_of_power x y a b one =
-    ap (λ w. gf64.mul w (power gf64 y b)) (power-add gf64 x a b)
-    ∙ mul_assoc gf64 (power gf64 x a) (power gf64 x b) (power gf64 y b)
-    ∙ ap (gf64.mul (power gf64 x a)) (powers_cancel x y b one)
-    ∙ mul_one gf64 (power gf64 x a)
+    simp (power-add, mul_assoc, powers_cancel, mul_one)
 
 -- the value of a polynomial whose coefficients are in the other order, at the inverse
 value_turned : (f : ℕ → Sym) (x y : Sym) (m : ℕ) → gf64.mul x y ≡ gf64.one → gf64.mul (power gf64 x m) (value_at gf64 (suc m) (λ k. f (m - k)) y) ≡ value_at gf64 (suc m) f x

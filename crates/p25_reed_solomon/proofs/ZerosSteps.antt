@@ -51,7 +51,7 @@ AreZeros-skip n locator j places are other =
       rising = are.rising;
       zeros = are.zeros;
       all = λ k h z. elim (cases_eq k j) [
-        | inl here ↦ absurd (other (subst (λ (m : ℕ). value_at gf64 (length locator) (coefficient gf64 locator) (point_of n m) ≡ gf64.zero) here z))
+        | inl here ↦ absurd (other (cc))
         | inr before ↦ are.all k (omega (arith, before)) z
       ];
     }
@@ -77,8 +77,8 @@ AreZeros-push n locator j places are here =
             omega (arith, are.below c within, old c within, pushed_last places j d (omega (arith, long)))
       ];
       zeros = λ c h. elim (cases_lt c (length places)) [
-        | inl inside ↦ subst (λ (m : ℕ). value_at gf64 (length locator) (coefficient gf64 locator) (point_of n m) ≡ gf64.zero) (sym (old c inside)) (are.zeros c inside)
-        | inr last ↦ subst (λ (m : ℕ). value_at gf64 (length locator) (coefficient gf64 locator) (point_of n m) ≡ gf64.zero) (sym (pushed_last places j c (omega (arith, long)))) here
+        | inl inside ↦ simp old (are.zeros c inside)
+        | inr last ↦ subst (λ m. value_at gf64 (length locator) (coefficient gf64 locator) (point_of n m) ≡ gf64.zero) (sym (pushed_last places j c (omega (arith, long)))) here
       ];
       all = λ k h z. elim (cases_eq k j) [
         | inl same ↦ record { index = length places; inside = omega (arith, long); there = pushed_last places j (length places) refl ∙ sym same }

@@ -1,3 +1,5 @@
+//! The Reed-Solomon code as a type, with the coder and the decoders of every block code.
+
 ghost use Rattle.std.specs.Prelude.{◌+◌, ◌-◌};
 ghost use Rattle.p25_gf64.proofs.SymbolLaws.{same_from_eq};
 ghost use Rattle.p25_reed_solomon.specs.{Words.{IsCode, IsWord, radius_of}, WordLaws.{begins_of, length_of_word_of, one_word_of, within_of, words_apart}};
