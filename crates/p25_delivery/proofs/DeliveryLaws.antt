@@ -136,7 +136,8 @@ data-busy number message w packet m h heard place =
     rw p.1 (elim place [
       | inl here ↦ data-waiting number message w (receiver_heard r (Confirmed p.0)) m h here (next-heard r number message p.0 here.last_small here.sync here.kept p.2)
       | inr came ↦
-          rw (last-heard r number message p.0 came.last_is p.2) (busy number message (busy-place number message (first_number w) s s w (delivery_of_answer w r (ack_packet r.last)) refl refl refl h (inr (arrived-again number message s r w.answer came))))
+          rw (last-heard r number message p.0 came.last_is p.2) (busy number message (busy-place number message (first_number w) s s w (delivery_of_answer w r (ack_packet r.last)) refl refl refl h
+          (inr (arrived-again number message s r w.answer came))))
     ])
 
 data-opening : (number : ℕ) (w : Delivery) (packet : Packet)

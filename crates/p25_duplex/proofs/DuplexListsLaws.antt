@@ -32,8 +32,8 @@ silent : (event : DuplexEvent) (own : StationState) (x : StationState × Step)
     → (delivered_by x.1.kind ≡ []) × (offered_by event x.1.kind ≡ []) × (is_acknowledged x.1.kind ≡ false) → Tells event own x
 silent event own x same told =
     record {
-      heard = same.0 ∙ none own.inbound.received ∙ ap (λ (ms : List (List ℕ)). own.inbound.received ++ ms) (sym told.0);
-      sent = same.1 ∙ none own.outbound.sent ∙ ap (λ (ms : List (List ℕ)). own.outbound.sent ++ ms) (sym told.1);
+      heard = cc (none own.inbound.received);
+      sent = cc (none own.outbound.sent);
       acknowledged = omega (arith, same.2, ap (λ (b : Bool). cond {A = ℕ} b 1 0) told.2);
     }
 

@@ -31,34 +31,34 @@ opening-data number = refl
 
 ack-answer : (status : ℕ) (packet : Packet) → packet ≡ ack_packet status → IsAnswer packet
 unfolding short_response head_format response_head
-ack-answer status packet e = subst IsAnswer (sym e) refl
+ack-answer status packet e = rw e refl
 
 retry-answer : (status : ℕ) (flags : List Bool) (packet : Packet) → packet ≡ retry_packet status flags → IsAnswer packet
 unfolding retry_packet head_format response_head
-retry-answer status flags packet e = subst IsAnswer (sym e) refl
+retry-answer status flags packet e = rw e refl
 
 data-of : (number : ℕ) (message : List ℕ) (packet : Packet) → IsDataOf number message packet → IsData packet
 unfolding IsDataOf
-data-of number message packet (inl e) = subst IsData (sym e) (message-data number message)
-data-of number message packet (inr (wanted, e)) = subst IsData (sym e) (blocks-data number message wanted)
+data-of number message packet (inl e) = rw e (message-data number message)
+data-of number message packet (inr (wanted, e)) = rw e (blocks-data number message wanted)
 
 newest-data : (b : ℕ) (s : Session) (packet : Packet) → IsNewestData b s packet → IsData packet
 unfolding IsNewestData
-newest-data b s packet (inl (none, e)) = subst IsData (sym e) (opening-data ((b + 7) % 8))
+newest-data b s packet (inl (none, e)) = rw e (opening-data ((b + 7) % 8))
 newest-data b s packet (inr (earlier, message, e, of)) = data-of _ message packet of
 
 -- What a delivery sends.
 
 -- the newest transmission, where it is such a packet
 newest-is : (newest : Option Packet) (P : Packet → Type 0) (packet : Packet) → IfSome newest P → newest ≡ Some packet → P packet
-newest-is newest P packet h e = subst (λ (o : Option Packet). IfSome o P) e h
+newest-is newest P packet h e = rw e at h
 
 session-data : (b : ℕ) (s : Session) (w : Delivery) (packet : Packet) → SessionFacts b s w → w.packet_sent ≡ Some packet → IsData packet
 session-data b s w packet f e = newest-data b s packet (newest-is w.packet_sent (IsNewestData b s) packet f.newest_data e)
 
 sent-by : (o : Outstanding) (b : ℕ) (s : Session) (w : Delivery) (packet : Packet) → FactsBy o b s w → w.packet_sent ≡ Some packet → IsData packet
 unfolding FactsBy
-sent-by (Opening number) b s w packet f e = newest-is w.packet_sent IsData packet (subst (λ (o : Option Packet). IfSome o IsData) (sym f.newest_data) (opening-data number)) e
+sent-by (Opening number) b s w packet f e = newest-is w.packet_sent IsData packet (rw f.newest_data (opening-data number)) e
 sent-by o b s w packet f e = session-data b s w packet f e
 
 pub sent-data : (w : Delivery) (packet : Packet) → DeliveryFacts w → w.packet_sent ≡ Some packet → IsData packet
@@ -86,6 +86,6 @@ answered-answer w packet f e = answer-by w.outbound.sender.outstanding _ _ w pac
 -- a packet that is true to another is of its kind
 pub true-kind : (sent packet : Packet) → IsTrueTo sent packet → is_answer sent ≡ is_answer packet
 unfolding IsTrueTo
-true-kind (Confirmed sent) (Confirmed heard) t = ap (λ (head : PacketHead). eqb (head_format head) 3) (sym t.0)
-true-kind (Plain sent) (Plain heard) t = ap (λ x. is_answer (Plain x)) (sym t)
+true-kind (Confirmed sent) (Confirmed heard) t = cc
+true-kind (Plain sent) (Plain heard) t = cc
 true-kind sent packet t = absurd t

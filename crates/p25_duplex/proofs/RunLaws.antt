@@ -68,7 +68,7 @@ same-sessions : (from : Mark) (marks : List Mark) (w : Delivery) (sent answer : 
     → sessions_from from marks (record w { packet_sent = sent; answer = answer }) ≡ sessions_from from marks w
 unfolding sessions_from
 same-sessions from [] w sent answer = refl
-same-sessions from (mark ∷ marks) w sent answer = ap (λ (rest : List Session). session_between from mark w ∷ rest) (same-sessions mark marks w sent answer)
+same-sessions from (mark ∷ marks) w sent answer = cc (same-sessions mark marks w sent answer)
 
 pub run-orderly : (events : List DuplexEvent) (side : Side) → AreDuplexEvents events → IsCleanDuplex events → AreOrderly (sessions_of (delivery_at side (duplex_run first_duplex events)))
 run-orderly events side are clean =
@@ -76,7 +76,7 @@ run-orderly events side are clean =
     let w = delivery_at side (duplex_run first_duplex events) in
     let after = delivery_after side events in
     subst AreOrderly (same-sessions first_mark w.outbound.marks w after.packet_sent after.answer)
-    (subst (λ (v : Delivery). AreOrderly (sessions_of v)) r.is (sessions-orderly r.happenings r.clean))
+    (rw r.is at (sessions-orderly r.happenings r.clean))
 
 -- what a direction carries of a kind is the newest of that kind that it carried, whatever came over the air
 
@@ -96,8 +96,8 @@ newest-carried kind side (event ∷ events) d newest is =
     newest-carried kind side events next (newest_after now newest) (carries-newest now newest)
 
 first-carries : (kind : Option Packet → Option Packet) (side : Side) → kind None ≡ None → IfSome (kind (station_at side first_duplex).newest) (λ p. None ≡ Some p)
-first-carries kind A e = subst (λ (o : Option Packet). IfSome o (λ p. None ≡ Some p)) (sym e) tt
-first-carries kind B e = subst (λ (o : Option Packet). IfSome o (λ p. None ≡ Some p)) (sym e) tt
+first-carries kind A e = rw e tt
+first-carries kind B e = rw e tt
 
 pub run-newest : (kind : Option Packet → Option Packet) (side : Side) (events : List DuplexEvent) → kind None ≡ None →
     IfSome (kind (station_at side (duplex_run first_duplex events)).newest) (λ p. newest_in kind side None first_duplex events ≡ Some p)

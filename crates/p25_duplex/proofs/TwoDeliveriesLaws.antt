@@ -31,8 +31,8 @@ then-run : (w : Delivery) (h : Happening) → IsRunDelivery w → IsClean w h �
 unfolding run_by MeetAt
 then-run w h r is = record {
   happenings = r.happenings ++ h ∷ [];
-  clean = meet-append happens IsClean first_delivery r.happenings (h ∷ []) r.clean (subst (λ (v : Delivery). IsClean v h) (sym r.is) is, tt);
-  is = run-append happens first_delivery r.happenings (h ∷ []) ∙ ap (λ (v : Delivery). (happens v h).0) r.is;
+  clean = meet-append happens IsClean first_delivery r.happenings (h ∷ []) r.clean (rw r.is is, tt);
+  is = cc (run-append happens first_delivery r.happenings (h ∷ []));
 }
 
 run-facts : (w : Delivery) → IsRunDelivery w → DeliveryFacts w
@@ -76,8 +76,7 @@ follows own other n was s a r = record {
   data_is = newest-twice (data_in own.newest) n.sent;
   answer_is = newest-twice (answer_in other.newest) n.answer;
   runs =
-      subst (λ (x : Option Packet). IsRunDelivery (delivering own other (record (followed own other n) { sent = x }))) (sym s)
-      (subst (λ (y : Option Packet). IsRunDelivery (delivering own other (record was { answer = y }))) (sym a) r);
+      rw (s, a) r;
 }
 
 -- nothing happens at a delivery
@@ -132,7 +131,7 @@ heard-data : (own other : StationState) (n : Newest) (sent packet : Packet) → 
 unfolding newest_after
 heard-data own other n sent packet l e t kind_is = record {
   sent = sent;
-  newest_is = sym l.data_is ∙ ap (λ (o : Option Packet). newest_after (data_in o) n.sent) e ∙ ap (as_data n.sent sent) (true-kind sent packet t ∙ kind_is);
+  newest_is = cc (true-kind sent packet t);
   true_to = t;
 }
 
@@ -140,7 +139,7 @@ heard-answer : (own other : StationState) (n : Newest) (sent packet : Packet) �
 unfolding newest_after
 heard-answer own other n sent packet l e t kind_is = record {
   sent = sent;
-  newest_is = sym l.answer_is ∙ ap (λ (o : Option Packet). newest_after (answer_in o) n.answer) e ∙ ap (as_answer n.answer sent) (true-kind sent packet t ∙ kind_is);
+  newest_is = cc (true-kind sent packet t);
   true_to = t;
 }
 
@@ -158,7 +157,7 @@ carries : (mine its : StationState) (n m : Newest) (sent : Packet) (flips : List
     (delivered_at mine its (heard_of Packets carried)).1.false_pass ≡ false → AreFollowed (delivered_at mine its (heard_of Packets carried)).0 its n m
 unfolding heard_of
 carries mine its n m sent flips (Heard packet false_pass) l e c f =
-    hears (is_answer packet) mine its n m sent packet l e (air-true sent flips packet (c ∙ ap (λ (b : Bool). Heard packet b) f)) refl
+    hears (is_answer packet) mine its n m sent packet l e (air-true sent flips packet (cc)) refl
 carries mine its n m sent flips carried l e c f = stays mine its n m l
 
 delivers : (mine its : StationState) (n m : Newest) (newest : Option Packet) (flips : List ℕ) → AreDeliveries mine its n m → its.newest ≡ newest →

@@ -2,7 +2,7 @@
 //! function here makes a call: its contract is the theorem.
 
 ghost use Rattle.std.specs.Prelude.{◌≡◌, List, Some, IfSome};
-ghost use Rattle.p25_delivery.specs.{Delivery.{Happening, first_delivery, delivery_run, sessions_of}, Orderly.{IsCleanRun, AreOrderly}, Facts.{DeliveryFacts}};
+ghost use Rattle.p25_delivery.specs.{Delivery.{Happening, first_delivery, delivery_run, sessions_of}, Orderly.{IsCleanRun, AreOrderly, AreWhole}, Facts.{DeliveryFacts}};
 ghost use Rattle.p25_duplex.specs.DuplexRuns.{AreDuplexEvents, IsCleanDuplex, duplex_run, duplex_steps, data_in, answer_in, delivery_after, Side as side_type, first_duplex, delivery_at, DuplexEvent as event_type, other_side, side_acknowledged_in, side_heard_in, side_sent_in};
 
 /// **Theorem.** Its clause says that after every list of events without a false pass each session of each side's messages is
@@ -28,6 +28,13 @@ pub fn duplex_facts()
     ensures newest_answer { (events : List event_type) (side : side_type) →
         IfSome (answer_in (delivery_at side (duplex_run first_duplex events)).answer)
         (λ packet. (delivery_after side events).answer ≡ Some packet) }
+{}
+
+/// **Theorem.** Its clause says that in every run, clean or not, the sessions of a side's messages are the whole of its lists: joined,
+/// their messages sent are all that were sent, their messages delivered all that were delivered, their counts of acknowledged messages
+/// add up to that of the run, and there is one session more than messages were given up.
+pub fn duplex_sessions_are_whole()
+    ensures { (events : List event_type) (side : side_type) → AreWhole (delivery_at side (duplex_run first_duplex events)) }
 {}
 
 /// **Theorem.** Its clauses say that no step of a run was a false pass exactly where none is counted.

@@ -1,5 +1,5 @@
 ghost use Rattle.std.specs.Prelude.{◌≡◌, ◌+◌, length, OnErr, IfOk};
-ghost use Rattle.p25_delivery.specs.{Delivery.{sessions_of}, Orderly.{AreOrderly}};
+ghost use Rattle.p25_delivery.specs.{Delivery.{sessions_of}, Orderly.{AreOrderly, AreWhole}};
 ghost use Rattle.p25_duplex.specs.DuplexRuns.{HasDuplexHistory, HasFacts, IsDuplexEvent, Side as side_type, delivery_at, duplex_step, first_duplex};
 
 use crate::event::{DuplexEvent, DuplexStep};
@@ -51,11 +51,14 @@ impl DuplexWorld {
     /// Does nothing; its clauses say what holds of every duplex world. Some list of events brought it from its first state to this
     /// one. Where it counts no false pass, the halves of each side's delivery are those of one that keeps the facts that
     /// `DeliveryFacts` names, and each of its sessions is orderly: what was delivered is the beginning of what was sent, each
-    /// message once, every message that was acknowledged was delivered, and one at most was delivered that was not acknowledged.
+    /// message once, every message that was acknowledged was delivered, and one at most was delivered that was not acknowledged. In
+    /// any case the sessions of a side are the whole of its lists: joined, their messages are all that were sent and all that were
+    /// delivered.
     pub fn facts(&self)
         ensures history { HasDuplexHistory self.now.state }
         ensures kept { (side : side_type) → self.now.state.false_passes ≡ 0 → HasFacts (delivery_at side self.now.state) }
         ensures orderly { (side : side_type) → self.now.state.false_passes ≡ 0 → AreOrderly (sessions_of (delivery_at side self.now.state)) }
+        ensures whole { (side : side_type) → AreWhole (delivery_at side self.now.state) }
     {
         let _ = &self.stations;
     }

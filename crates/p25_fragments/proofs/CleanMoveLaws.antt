@@ -13,7 +13,7 @@ facts-at : (v : Delivery) (out : Outstanding) → IsKept v → outstanding_in v 
 facts-at v out k o = subst (λ (x : Outstanding). FactsBy x (first_number v) (present_session v) v) o (facts-delivering (first_number v) (present_session v) v k.delivering)
 
 sent-at : (v : Delivery) (out : Outstanding) (s : Session) → outstanding_in v ≡ out → SentBy (outstanding_in v) s → SentBy out s
-sent-at v out s o h = subst (λ (x : Outstanding). SentBy x s) o h
+sent-at v out s o h = rw o at h
 
 -- where nothing is outstanding, as many messages were delivered as acknowledged
 count-none : (b : ℕ) (s : Session) (v : Delivery) → SessionFacts b s v → outstanding_in v ≡ Nothing → length s.delivered ≡ s.acknowledged
@@ -28,7 +28,7 @@ quiet-counts v k o = count-none (first_number v) (present_session v) v (facts-at
 last-same : (xs ys : List (List ℕ)) (x y : List ℕ) → xs ++ x ∷ [] ≡ ys ++ y ∷ [] → x ≡ y
 last-same xs ys x y e =
     let count : length xs ≡ length ys = omega (arith, ap length e, length-append xs (x ∷ []), length-append ys (y ∷ [])) in
-    sym (get_or-append_seam xs x [] x) ∙ ap (λ (zs : List (List ℕ)). get_or zs (length xs) x) e ∙ ap (λ (n : ℕ). get_or (ys ++ y ∷ []) n x) count ∙ get_or-append_seam ys y [] x
+    cc (get_or-append_seam xs x [] x, get_or-append_seam ys y [] x)
 
 pub record IsDelivered (v w : Delivery) (message : List ℕ) : Type 0 where
   pub outstanding : outstanding_in v ≡ Message message
@@ -39,8 +39,8 @@ delivered-message : (part message : List ℕ) (s t : Session) (b c : ℕ) (v w :
     (message ≡ part) × (length s.delivered ≡ s.acknowledged)
 unfolding SentBy
 delivered-message part message s t b c v w f g o e =
-    let more : length t.delivered ≡ length s.delivered + 1 = ap (λ (x : Session). length x.delivered) e ∙ length-append s.delivered (message ∷ []) in
-    let same : t.acknowledged ≡ s.acknowledged = ap (λ (x : Session). x.acknowledged) e in
+    let more : length t.delivered ≡ length s.delivered + 1 = cc (length-append s.delivered (message ∷ [])) in
+    let same : t.acknowledged ≡ s.acknowledged = cc in
     let sent = sent-at v (Message part) s o f.sent in
     let count : length s.delivered ≡ s.acknowledged
     = elim f.count [
@@ -48,8 +48,8 @@ delivered-message part message s t b c v w f g o e =
       | inr (n, other, is) ↦ elim g.count [ inl m ↦ absurd (omega (arith, n, m, more, same)) | inr (m, another, has) ↦ absurd (omega (arith, n, m, more, same)) ]
     ] in
     let all : take (length t.delivered) t.sent ≡ s.sent
-    = ap (λ (x : Session). take (length t.delivered) x.sent) e ∙ take_all (length t.delivered) s.sent (omega (arith, more, count, sent.0)) in
-    (last-same s.delivered sent.1.0 message part (sym (ap (λ (x : Session). x.delivered) e) ∙ g.delivered ∙ all ∙ sent.1.1), count)
+    = cc (take_all (length t.delivered) s.sent (omega (arith, more, count, sent.0))) in
+    (last-same s.delivered sent.1.0 message part (cc), count)
 
 delivered-by : (out : Outstanding) (message : List ℕ) (v w : Delivery)
     → IsKept v → IsKept w → outstanding_in v ≡ out → outstanding_in w ≡ out → present_session w ≡ with_delivered (present_session v) message →
@@ -103,7 +103,7 @@ opened-is number v w k l o p n s e =
 
 opening-is : (out : Outstanding) (next number : ℕ) (message : List ℕ) → out ≡ Message message → opening_number out next ≡ number → number ≡ (next + 4) % 8
 unfolding opening_number
-opening-is out next number message o n = sym n ∙ ap (λ (x : Outstanding). opening_number x next) o
+opening-is out next number message o n = cc
 
 pub away : (b : ℕ) (s : Session) (v : Delivery) (number : ℕ) → IsDelivering b s v → v.outbound.sender.down ≡ true → is_opening (outstanding_in v) ≡ false →
     opening_number (outstanding_in v) v.outbound.sender.next ≡ number → v.inbound.receiver.last ≡ number → ⊥
@@ -125,9 +125,9 @@ IsNoMessage other = Unit {0}
 pub no-message : (b : ℕ) (s : Session) (v : Delivery) (packet : ConfirmedParts)
     → IsDelivering b s v → IsHeardOf v.packet_sent (Confirmed packet) → head_syn packet.head ≡ true → IsNoMessage (outstanding_in v)
 unfolding IsNoMessage
-no-message b s v packet (quiet last q) heard syn = subst IsNoMessage (sym q.outstanding) tt
+no-message b s v packet (quiet last q) heard syn = rw q.outstanding tt
 no-message b s v packet (busy number message h) heard syn =
     let d = newest v.packet_sent (IsDataOf number message) heard.sent h.packet_sent heard.newest_is in
     let p = data-heard number message heard.sent (Confirmed packet) h.small h.short d heard.true_to in
     absurd (cc (p.1, p.2.syn, syn))
-no-message b s v packet (opening number h) heard syn = subst IsNoMessage (sym h.outstanding) tt
+no-message b s v packet (opening number h) heard syn = rw h.outstanding tt

@@ -48,15 +48,15 @@ unfolding inner_happened
 happened-on w inner step e =
     let same = ap length e in
     let test : nat_lt (length w.inner.delivery.outbound.marks) (length inner.delivery.outbound.marks) ≡ false = grind (arith, nat_tests) in
-    ap (λ (y : LongState × Then). with_first step y) (cond-false _ _ _ test)
+    cc (cond-false _ _ _ test)
 
 pub happened-end : (w : LongState) (inner : WorldState) (step : Step) (mark : Mark) → inner.delivery.outbound.marks ≡ w.inner.delivery.outbound.marks ++ mark ∷ [] →
     inner_happened w (inner, step) ≡ with_first step (session_ended (record w { inner = inner }))
 unfolding inner_happened
 happened-end w inner step mark e =
-    let more : length inner.delivery.outbound.marks ≡ length w.inner.delivery.outbound.marks + 1 = ap length e ∙ length-append w.inner.delivery.outbound.marks (mark ∷ []) in
+    let more : length inner.delivery.outbound.marks ≡ length w.inner.delivery.outbound.marks + 1 = cc (length-append w.inner.delivery.outbound.marks (mark ∷ [])) in
     let test : nat_lt (length w.inner.delivery.outbound.marks) (length inner.delivery.outbound.marks) ≡ true = grind (arith, nat_tests) in
-    ap (λ (y : LongState × Then). with_first step y) (cond-true _ _ _ test)
+    cc (cond-true _ _ _ test)
 
 pub step-then : (step : Step) (y : LongState × Then) → FollowsThen y → FollowsStep (with_first step y)
 step-then step y f = record { follows = f.follows; unrefused = f.unrefused }
@@ -64,7 +64,7 @@ step-then step y f = record { follows = f.follows; unrefused = f.unrefused }
 -- where no session ended, what follows is that of the step
 pub on : (w : LongState) (inner : WorldState) (step : Step) → inner.delivery.outbound.marks ≡ w.inner.delivery.outbound.marks
     → FollowsThen (after_kind step.kind (record w { inner = inner })) → FollowsStep (inner_happened w (inner, step))
-on w inner step e f = subst FollowsStep (sym (happened-on w inner step e)) (step-then step (after_kind step.kind (record w { inner = inner })) f)
+on w inner step e f = rw (happened-on w inner step e) (step-then step (after_kind step.kind (record w { inner = inner })) f)
 
 -- A step that means nothing.
 
@@ -79,13 +79,13 @@ pub plain-unrefused : Plain ≢ Refused
 plain-unrefused e = absurd (cc)
 
 plain-then : (kind : StepKind) (w : LongState) → IsPlainKind kind → Follows w → FollowsThen (after_kind kind w)
-plain-then kind w p f = subst FollowsThen (sym (after-plain kind w p)) (record { follows = f; unrefused = plain-unrefused })
+plain-then kind w p f = rw (after-plain kind w p) (record { follows = f; unrefused = plain-unrefused })
 
 same-matches : (v u : Delivery) (out : Option OutstandingPart) (j : Joining) (p : Session)
     → IsSameIn v u → HasSameLast v u → present_session u ≡ present_session v → Matches v out j p → Matches u out j p
 same-matches v u out j p o l s m =
-    let last : MatchesBy (outstanding_in v) u.inbound.receiver.last (present_session v) out j p = subst (λ (n : ℕ). MatchesBy (outstanding_in v) n (present_session v) out j p) (sym l) m in
-    matches-from u (outstanding_in v) out j p o (subst (λ (x : Session). MatchesBy (outstanding_in v) u.inbound.receiver.last x out j p) (sym s) last)
+    let last : MatchesBy (outstanding_in v) u.inbound.receiver.last (present_session v) out j p = rw l m in
+    matches-from u (outstanding_in v) out j p o (rw s last)
 
 pub nothing-follows : (w : LongState) (inner : WorldState) (step : Step) → Follows w → IsKept inner.delivery → IsPlainKind step.kind → IsSameIn w.inner.delivery inner.delivery →
     HasSameLast w.inner.delivery inner.delivery → lists_of inner.delivery ≡ lists_of w.inner.delivery →
@@ -106,8 +106,8 @@ opened-matches v u out j p number o l q m =
     matches-from u Nothing out j p q (record {
       out_is = h.out_is;
       joining_is = h.joining_is l;
-      whole_is = ap (λ (x : Session). x.delivered) h.session_is ∙ sym (ap (λ (x : Session). x.sent) h.session_is);
-      acknowledged_is = ap (λ (x : Session). x.acknowledged) h.session_is ∙ sym (ap (λ (x : Session). length x.sent) h.session_is);
+      whole_is = cc;
+      acknowledged_is = cc;
     })
 
 pub opened-follows : (w : LongState) (inner : WorldState) (step : Step) (number : ℕ) → Follows w → IsKept inner.delivery → IsPlainKind step.kind → outstanding_in w.inner.delivery ≡ Opening number →
@@ -132,7 +132,7 @@ syn-matches (Opening number) last s u t out j p is m = record { out_is = m.out_i
 
 syn-then : (w : LongState) (kind : StepKind) (number : ℕ) → kind ≡ SynHeard number → Follows (record w { joining = first_joining }) → FollowsThen (after_kind kind w)
 unfolding after_kind
-syn-then w kind number k f = subst FollowsThen (sym (ap (λ (x : StepKind). after_kind x w) k)) (record { follows = f; unrefused = plain-unrefused })
+syn-then w kind number k f = rw k (record { follows = f; unrefused = plain-unrefused })
 
 pub syn-follows : (w : LongState) (inner : WorldState) (step : Step) (number : ℕ) → Follows w → IsKept inner.delivery → step.kind ≡ SynHeard number → IsNoMessage (outstanding_in w.inner.delivery) →
     IsSameIn w.inner.delivery inner.delivery → lists_of inner.delivery ≡ lists_of w.inner.delivery →

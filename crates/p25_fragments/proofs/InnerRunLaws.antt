@@ -29,8 +29,8 @@ one-event w event = record { events = event ∷ []; world = refl; steps = refl }
 both : (u v w : WorldState) (xs ys : List Step) → IsInnerRun u v xs → IsInnerRun v w ys → IsInnerRun u w (xs ++ ys)
 both u v w xs ys a b = record {
   events = a.events ++ b.events;
-  world = run-append world_step u a.events b.events ∙ ap (λ (x : WorldState). world_run x b.events) a.world ∙ b.world;
-  steps = steps-append world_step u a.events b.events ∙ ap₂ (λ (s t : List Step). s ++ t) a.steps (ap (λ (x : WorldState). steps_of x b.events) a.world ∙ b.steps);
+  world = cc (run-append world_step u a.events b.events);
+  steps = cc (steps-append world_step u a.events b.events);
 }
 
 -- A long message is offered.
@@ -51,9 +51,9 @@ unfolding Runs started steps_in first_steps next_steps
 started-run w message event = one-event w.inner event
 
 offered-run : (w : LongState) (message : List ℕ) (x : WorldState × Step) → x ≡ world_step w.inner (Send (part_of message 0)) → OfferedAs w message x → Runs w (long_offered w message)
-offered-run w message x i (told_down y e) = subst (Runs w) (sym e) (unmoved-down w)
-offered-run w message x i (told_busy y e) = subst (Runs w) (sym e) (unmoved-busy w)
-offered-run w message x i (told_taken number blocks k d o e) = subst (Runs w) (sym (e ∙ ap (started w message) i)) (started-run w message (Send (part_of message 0)))
+offered-run w message x i (told_down y e) = rw e (unmoved-down w)
+offered-run w message x i (told_busy y e) = rw e (unmoved-busy w)
+offered-run w message x i (told_taken number blocks k d o e) = rw (e, i) (started-run w message (Send (part_of message 0)))
 
 -- What follows a step of the inner world.
 

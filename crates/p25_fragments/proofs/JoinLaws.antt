@@ -41,11 +41,11 @@ last-length message number h =
 
 by-mark : (j : Joining) (last : Bool) (mark number : ℕ) (octets : List ℕ) → nat_le 128 mark ≡ last → mark % 128 ≡ number → message_taken j (mark ∷ octets) ≡ part_taken last j number octets
 unfolding message_taken
-by-mark j last mark number octets l n = ap (λ (b : Bool). part_taken b j (mark % 128) octets) l ∙ ap (λ (k : ℕ). part_taken last j k octets) n
+by-mark j last mark number octets l n = cc
 
 accepted : (j : Joining) (last : Bool) (number : ℕ) (octets : List ℕ) → is_refused j.next last number (length octets) ≡ false → part_taken last j number octets ≡ taken_as false last j number octets
 unfolding part_taken
-accepted j last number octets e = ap (λ (b : Bool). taken_as b last j number octets) e
+accepted j last number octets e = cc
 
 -- a part that is not the last
 pub join-inner : (message : List ℕ) (number : ℕ) → length message ≤ 4000 → number + 1 < part_count (length message)
@@ -57,9 +57,7 @@ join-inner message number short h =
     let mark : part_mark (part_count (length message)) number ≡ number = mark-inner (part_count (length message)) number h in
     let few : number < 7 = omega arith in
     let test : nat_le 128 number ≡ false = grind (arith, nat_tests) in
-    ap (λ (m : ℕ). message_taken j (m ∷ octets)) mark ∙ by-mark j false number number octets test (omega arith)
-    ∙ accepted j false number octets (inner-accepted number (length octets) few (inner-length message number h)) ∙
-    ap (λ (xs : List ℕ). (record { next = number + 1; octets = xs }, Part number)) (more-octets message number)
+    cc (by-mark j false number number octets test (omega arith), accepted j false number octets (inner-accepted number (length octets) few (inner-length message number h)), more-octets message number)
 
 -- the last part
 pub join-last : (message : List ℕ) (number : ℕ) → length message ≤ 4000
@@ -72,6 +70,4 @@ join-last message number short h =
     let test : nat_le 128 (number + 128) ≡ true = grind (arith, nat_tests) in
     let sizes = last-length message number h in
     let all : take (500 * (number + 1)) message ≡ message = take_all (500 * (number + 1)) message (omega arith) in
-    ap (λ (m : ℕ). message_taken j (m ∷ octets)) mark ∙ by-mark j true (number + 128) number octets test (omega arith)
-    ∙ accepted j true number octets (last-accepted number (length octets) sizes.0 sizes.1) ∙
-    ap (λ (xs : List ℕ). (first_joining, Whole xs)) (more-octets message number ∙ all)
+    cc (by-mark j true (number + 128) number octets test (omega arith), accepted j true number octets (last-accepted number (length octets) sizes.0 sizes.1), more-octets message number)

@@ -9,5 +9,6 @@ pub mod LongStepLaws
 pub mod LongRunLaws
 pub mod InnerRunLaws
 pub mod MarksLaws
+pub mod OrderLaws
 pub mod LongHistoryLaws
 pub mod LongListsLaws

@@ -1,24 +1,24 @@
 -- Each step of a world of long messages makes its history one event longer; and what its history says of it.
 use Rattle.std.proofs.Common.{◌≡◌, ℕ, ◌≤◌, Bool, false, ◌||◌, length, List, [], ◌∷◌, ◌++◌, refl, sym, ap, subst, ◌∙◌}
-use Rattle.p25_delivery.specs.{Orderly.{AreOrderly}, Runs.{run_by, EachIs}}
+use Rattle.p25_delivery.specs.{Orderly.{AreOrderly, AreWhole}, Runs.{run_by, EachIs}}
 use Rattle.p25_delivery.proofs.RunLaws.{run-append}
 use Rattle.p25_stations.specs.{WorldState.{WorldState}, Runs.{AreClean}, declared.step.Event.TheVariants.{Send}}
 use Rattle.p25_stations.proofs.{FalsePassLaws.{clean-from_none, none-from_clean}, HistoryLaws.{each-append}}
-use Rattle.p25_fragments.specs.{LongState.{LongState, first_long}, declared.long_step.LongEvent.TheVariants.{Long, Inner}}
+use Rattle.p25_fragments.specs.{LongState.{LongState, first_long, long_delivery}, declared.long_step.LongEvent.TheVariants.{Long, Inner}}
 use Rattle.p25_fragments.specs.LongRuns.{HasLongHistory, IsCleanLongRun, IsEventOf, IsLongEvent, IsNoOffer, LongEvent, LongStep, long_run, long_sessions_of, long_step, offers_beside}
-use Rattle.p25_fragments.proofs.{InnerRunLaws.{inner-run}, LongRunLaws.{long-orderly}}
+use Rattle.p25_fragments.proofs.{InnerRunLaws.{inner-run}, LongRunLaws.{long-orderly}, OrderLaws.{run-whole}}
 
 -- the inner world counts its false passes: none is counted exactly where the run is clean
 
 pub long-clean : (events : List LongEvent) → (long_run first_long events).inner.false_passes ≡ 0 → IsCleanLongRun events
 long-clean events none =
     let run = inner-run first_long events in
-    subst AreClean run.steps (clean-from_none run.events (ap (λ (w : WorldState). w.false_passes) run.world ∙ none))
+    subst AreClean run.steps (clean-from_none run.events (cc))
 
 pub long-none : (events : List LongEvent) → IsCleanLongRun events → (long_run first_long events).inner.false_passes ≡ 0
 long-none events clean =
     let run = inner-run first_long events in
-    ap (λ (w : WorldState). w.false_passes) (sym run.world) ∙ none-from_clean run.events (subst AreClean (sym run.steps) clean)
+    cc (none-from_clean run.events (rw run.steps clean))
 
 -- an event that offers no message to the inner world is one of which the laws speak, where a long message has at most 4,000 octets
 pub event-kept : (event : LongEvent) → ((message : List ℕ) → event ≡ Long message → length message ≤ 4000) → IsEventOf (offers_beside event) event
@@ -52,9 +52,12 @@ history-step w next beside offers event step before is now =
 pub history-next : (w next : LongState) (beside now : Bool) (event : LongEvent) (step : LongStep) → HasLongHistory w beside → IsEventOf (offers_beside event) event → (next, step) ≡ long_step w event
     → now ≡ (beside || offers_beside event) → HasLongHistory next now
 history-next w next beside now event step before is told same =
-    subst (λ (b : Bool). HasLongHistory next b) (sym same) (history-step w next beside (offers_beside event) event step before is told)
+    rw same (history-step w next beside (offers_beside event) event step before is told)
 
 pub history-orderly : (w : LongState) (beside : Bool) → HasLongHistory w beside → beside ≡ false → w.inner.false_passes ≡ 0 → AreOrderly (long_sessions_of w)
 history-orderly w beside h own none =
-    let clean = long-clean h.events (ap (λ (v : LongState). v.inner.false_passes) h.run ∙ none) in
-    subst (λ (v : LongState). AreOrderly (long_sessions_of v)) h.run (long-orderly h.events (h.kept own) clean)
+    let clean = long-clean h.events (cc) in
+    rw h.run at (long-orderly h.events (h.kept own) clean)
+
+pub history-whole : (w : LongState) (beside : Bool) → HasLongHistory w beside → AreWhole (long_delivery w)
+history-whole w beside h = rw h.run at (run-whole h.events)

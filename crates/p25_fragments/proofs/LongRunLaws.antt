@@ -47,9 +47,9 @@ unmoved-follows w told t f = record { follows = f; unrefused = t }
 
 offered-follows : (w : LongState) (message : List ℕ) (x : WorldState × Step)
     → Follows w → length message ≤ 4000 → x ≡ world_step w.inner (Send (part_of message 0)) → OfferedAs w message x → FollowsStep (long_offered w message)
-offered-follows w message x f short i (told_down y e) = subst FollowsStep (sym e) (unmoved-follows w Down (λ q. absurd (cc)) f)
-offered-follows w message x f short i (told_busy y e) = subst FollowsStep (sym e) (unmoved-follows w Busy (λ q. absurd (cc)) f)
-offered-follows w message x f short i (told_taken number blocks k d o e) = subst FollowsStep (sym (e ∙ ap (started w message) i)) (started-follows w message f short o d)
+offered-follows w message x f short i (told_down y e) = rw e (unmoved-follows w Down (λ q. absurd (cc)) f)
+offered-follows w message x f short i (told_busy y e) = rw e (unmoved-follows w Busy (λ q. absurd (cc)) f)
+offered-follows w message x f short i (told_taken number blocks k d o e) = rw (e, i) (started-follows w message f short o d)
 
 -- An event of the inner world.
 
@@ -93,7 +93,7 @@ step-follows w (Long message) rest f is clean = offered-follows w message (world
 step-follows w (Inner event) rest f is clean =
     let x = world_step w.inner event in
     let y = inner_happened w x in
-    let c = subst (λ (o : Option Step). AreClean ((first_steps o ++ next_steps y.1.then) ++ rest)) (inner-first w x) clean in
+    let c = rw (inner-first w x) at clean in
     let d = subst AreClean (append_assoc (first_steps (Some x.1)) (next_steps y.1.then) rest) c in
     does-follows w event x f is (first-clean x.1 (next_steps y.1.then ++ rest) d) (step-does w.inner event)
 

@@ -47,9 +47,9 @@ unfolding TakesPart MatchesBy after_delivered
 takes-inner w inner part f k o c m d j n =
     let now : LongState = record w { inner = inner } in
     let taken : message_taken w.joining part ≡ (joined_at m.message (m.number + 1), JoinedPart m.number)
-    = ap₂ (λ (x : Joining) (y : List ℕ). message_taken x y) j m.part_is ∙ join-inner m.message m.number m.short n in
+    = cc (join-inner m.message m.number m.short n) in
     let matches = matches-from inner.delivery (Message part) w.outstanding (joined_at m.message (m.number + 1)) (present w) o (record { of = m; came = came_inner c n d refl }) in
-    subst (λ (x : Joining × Joined). FollowsThen (after_delivered now x)) (sym taken) (record { follows = record { kept = k; divided = f.divided; matches = matches }; unrefused = λ q. absurd (cc) })
+    rw taken (record { follows = record { kept = k; divided = f.divided; matches = matches }; unrefused = λ q. absurd (cc) })
 
 takes-last : (w : LongState) (inner : WorldState) (part : List ℕ) → Follows w → IsKept inner.delivery → outstanding_in inner.delivery ≡ Message part
     → length (present_session inner.delivery).delivered ≡ (present_session inner.delivery).acknowledged + 1 →
@@ -58,7 +58,7 @@ unfolding TakesPart MatchesBy after_delivered
 takes-last w inner part f k o c m d j n =
     let now : LongState = record w { inner = inner } in
     let to : LongState = record now { joining = first_joining; whole = w.whole ++ m.message ∷ [] } in
-    let taken : message_taken w.joining part ≡ (first_joining, JoinedWhole m.message) = ap₂ (λ (x : Joining) (y : List ℕ). message_taken x y) j m.part_is ∙ join-last m.message m.number m.short n in
+    let taken : message_taken w.joining part ≡ (first_joining, JoinedWhole m.message) = cc (join-last m.message m.number m.short n) in
     let more = present-delivered (long_delivery w) m.message f.divided.0 in
     let of : IsPartOf part w.outstanding (present to)
     = record {
@@ -69,13 +69,12 @@ takes-last w inner part f k o c m d j n =
       part_is = m.part_is;
       short = m.short;
       below = m.below;
-      sent_is = ap (λ (x : Session). x.sent) more ∙ m.sent_is;
-      acknowledged_is = ap (λ (x : Session). x.acknowledged) more ∙ m.acknowledged_is;
+      sent_is = cc;
+      acknowledged_is = cc;
     } in
     let whole = ap (λ (x : Session). x.delivered) more ∙ ap (λ (xs : List (List ℕ)). xs ++ m.message ∷ []) d in
     let matches = matches-from inner.delivery (Message part) w.outstanding first_joining (present to) o (record { of = of; came = came_last c n whole refl }) in
-    subst (λ (x : Joining × Joined). FollowsThen (after_delivered now x)) (sym taken)
-    (record { follows = record { kept = k; divided = divided-delivered IsOrderly (long_delivery w) m.message f.divided; matches = matches }; unrefused = λ q. absurd (cc) })
+    rw taken (record { follows = record { kept = k; divided = divided-delivered IsOrderly (long_delivery w) m.message f.divided; matches = matches }; unrefused = λ q. absurd (cc) })
 
 takes-part : (w : LongState) (inner : WorldState) (part : List ℕ)
     → Follows w → IsKept inner.delivery → outstanding_in inner.delivery ≡ outstanding_in w.inner.delivery → IsDelivered w.inner.delivery inner.delivery part
@@ -93,7 +92,7 @@ takes-part w inner part f k o d =
 delivered-then : (w : LongState) (inner : WorldState) (kind : StepKind) (number : ℕ) (part : List ℕ)
     → kind ≡ Delivered number part → TakesPart w inner part → FollowsThen (after_kind kind (record w { inner = inner }))
 unfolding TakesPart after_kind
-delivered-then w inner kind number part k t = subst FollowsThen (sym (ap (λ (x : StepKind). after_kind x (record w { inner = inner })) k)) t
+delivered-then w inner kind number part k t = rw k t
 
 -- A part is offered.
 
@@ -162,7 +161,7 @@ next-then w inner part f k o up m n d j =
     }) in
     let y : LongState × Then = next_offered (record w { inner = inner }) next x in
     let follows : FollowsThen y = record { follows = record { kept = offer.kept; divided = f.divided; matches = matches }; unrefused = λ q. absurd (cc) } in
-    subst FollowsThen (sym (cond-true _ y _ test)) follows
+    rw (cond-true _ y _ test) follows
 
 -- the long message is acknowledged with its last part
 finished-then : (w : LongState) (inner : WorldState) (part : List ℕ) → Follows w → IsKept inner.delivery → outstanding_in inner.delivery ≡ Nothing → (m : IsPartOf part w.outstanding (present w))
@@ -174,16 +173,16 @@ finished-then w inner part f k o m n d j =
     let to : LongState = record w { inner = inner; outstanding = None; acknowledged = w.acknowledged + 1 } in
     let more = present-acknowledged (long_delivery w) f.divided.0 in
     let sent = ap (λ (x : Session). x.sent) more in
-    let count : length (present w).sent ≡ length m.earlier + 1 = ap length m.sent_is ∙ length-append m.earlier (m.message ∷ []) in
+    let count : length (present w).sent ≡ length m.earlier + 1 = cc (length-append m.earlier (m.message ∷ [])) in
     let test : nat_lt (m.number + 1) (part_count (length m.message)) ≡ false = grind (arith, nat_tests) in
     let matches = matches-from inner.delivery Nothing None w.joining (present to) o (record {
       out_is = refl;
       joining_is = j;
-      whole_is = ap (λ (x : Session). x.delivered) more ∙ d ∙ sym m.sent_is ∙ sym sent;
+      whole_is = cc;
       acknowledged_is = omega (arith, ap (λ (x : Session). x.acknowledged) more, m.acknowledged_is, count, ap length sent);
     }) in
     let follows : Follows to = record { kept = k; divided = divided-acknowledged IsOrderly (long_delivery w) f.divided; matches = matches } in
-    subst FollowsThen (sym (cond-false _ _ _ test)) (record { follows = follows; unrefused = λ q. absurd (cc) })
+    rw (cond-false _ _ _ test) (record { follows = follows; unrefused = λ q. absurd (cc) })
 
 acknowledged-then : (w : LongState) (inner : WorldState) (kind : StepKind) (number : ℕ) (part : List ℕ)
     → Follows w → IsKept inner.delivery → kind ≡ Acknowledged number → outstanding_in w.inner.delivery ≡ Message part →

@@ -57,13 +57,13 @@ send-marks w message = offer-marks w.delivery message (offered w.delivery.outbou
 
 started-marks : (w : LongState) (message : List ℕ) → AreMarked w → AreMarked (started w message (world_step w.inner (Send (part_of message 0)))).0
 unfolding AreMarked started
-started-marks w message h = h ∙ ap length (sym (send-marks w.inner (part_of message 0)))
+started-marks w message h = cc (send-marks w.inner (part_of message 0))
 
 offered-marks : (w : LongState) (message : List ℕ) (x : WorldState × Step)
     → AreMarked w → x ≡ world_step w.inner (Send (part_of message 0)) → OfferedAs w message x → AreMarked (long_offered w message).0
-offered-marks w message x h i (told_down y e) = subst (λ (y : LongState × LongStep). AreMarked y.0) (sym e) h
-offered-marks w message x h i (told_busy y e) = subst (λ (y : LongState × LongStep). AreMarked y.0) (sym e) h
-offered-marks w message x h i (told_taken number blocks k d o e) = subst (λ (y : LongState × LongStep). AreMarked y.0) (sym (e ∙ ap (started w message) i)) (started-marks w message h)
+offered-marks w message x h i (told_down y e) = rw e h
+offered-marks w message x h i (told_busy y e) = rw e h
+offered-marks w message x h i (told_taken number blocks k d o e) = rw (e, i) (started-marks w message h)
 
 acknowledged-marks : (out : Option OutstandingPart) (w : LongState) → AreMarked w → AreMarked (after_acknowledged out w).0
 unfolding AreMarked after_acknowledged next_offered
@@ -72,7 +72,7 @@ acknowledged-marks (Some sent) w h =
     let part = part_of sent.message (sent.number + 1) in
     let next : LongState × Then = next_offered w (record sent { number = sent.number + 1 }) (world_step w.inner (Send part)) in
     let last : LongState × Then = (record w { outstanding = None; acknowledged = w.acknowledged + 1 }, Finished) in
-    elim (nat_lt (sent.number + 1) (part_count (length sent.message))) as (λ (b : Bool). AreMarked (cond b next last).0) [ true ↦ h ∙ ap length (sym (send-marks w.inner part)) | false ↦ h ]
+    elim (nat_lt (sent.number + 1) (part_count (length sent.message))) as (λ (b : Bool). AreMarked (cond b next last).0) [ true ↦ cc (send-marks w.inner part) | false ↦ h ]
 
 delivered-marks : (w : LongState) (x : Joining × Joined) → AreMarked w → AreMarked (after_delivered w x).0
 unfolding AreMarked after_delivered
@@ -88,11 +88,10 @@ kind-marks kind w h = h
 inner-marks : (w : LongState) (inner : WorldState) (step : Step) → AreMarked w → OneMore (erasures_in w.inner.delivery) (erasures_in inner.delivery) → AreMarked (inner_happened w (inner, step)).0
 unfolding AreMarked erasures_in OneMore
 inner-marks w inner step h (inl same) =
-    subst (λ (y : LongState × LongStep). AreMarked y.0) (sym (happened-on w inner step same)) (kind-marks step.kind (record w { inner = inner }) (h ∙ ap length (sym same)))
+    rw (happened-on w inner step same) (kind-marks step.kind (record w { inner = inner }) (cc))
 inner-marks w inner step h (inr (mark, more)) =
     let count = length-append w.inner.delivery.outbound.marks (mark ∷ []) in
-    subst (λ (y : LongState × LongStep). AreMarked y.0) (sym (happened-end w inner step mark more))
-    (omega (arith, length-append w.marks (present_mark (long_delivery w) ∷ []), h, ap length more, count))
+    rw (happened-end w inner step mark more) (omega (arith, length-append w.marks (present_mark (long_delivery w) ∷ []), h, ap length more, count))
 
 does-marks : (w : LongState) (event : Event) (x : WorldState × Step) → AreMarked w → Does w.inner event x → AreMarked (inner_happened w x).0
 unfolding OneMore

@@ -56,20 +56,20 @@ abbrev pub Matches : Delivery → Option OutstandingPart → Joining → Session
 Matches v out j p = MatchesAs v v.outbound.sender.outstanding out j p
 
 pub matches-at : (v : Delivery) (o : Outstanding) (out : Option OutstandingPart) (j : Joining) (p : Session) → v.outbound.sender.outstanding ≡ o → Matches v out j p → MatchesAs v o out j p
-matches-at v o out j p e m = subst (λ (x : Outstanding). MatchesAs v x out j p) e m
+matches-at v o out j p e m = rw e at m
 
 pub matches-from : (v : Delivery) (o : Outstanding) (out : Option OutstandingPart) (j : Joining) (p : Session) → v.outbound.sender.outstanding ≡ o → MatchesAs v o out j p → Matches v out j p
-matches-from v o out j p e m = subst (λ (x : Outstanding). MatchesAs v x out j p) (sym e) m
+matches-from v o out j p e m = rw e m
 
 -- So the present session is orderly.
 
 whole-orderly : (p : Session) → p.delivered ≡ p.sent → p.acknowledged ≤ length p.sent → length p.sent ≤ p.acknowledged + 1 → IsOrderly p
-whole-orderly p d a m = record { rest = []; beginning = sym d ∙ sym (append-nil p.delivered); acknowledged = omega (arith, ap length d); delivered = omega (arith, ap length d) }
+whole-orderly p d a m = record { rest = []; beginning = cc (append-nil p.delivered); acknowledged = omega (arith, ap length d); delivered = omega (arith, ap length d) }
 
 earlier-orderly : (p : Session) (message : List ℕ) (earlier : List (List ℕ)) → p.delivered ≡ earlier → p.sent ≡ earlier ++ message ∷ [] → p.acknowledged ≡ length earlier → IsOrderly p
 earlier-orderly p message earlier d e a = record {
   rest = message ∷ [];
-  beginning = e ∙ ap (λ (xs : List (List ℕ)). xs ++ message ∷ []) (sym d);
+  beginning = cc;
   acknowledged = omega (arith, a, ap length d);
   delivered = omega (arith, a, ap length d);
 }
@@ -79,13 +79,13 @@ came-orderly : (message : List ℕ) (number : ℕ) (earlier : List (List ℕ)) (
 came-orderly message number earlier delivered acknowledged j p e a (not_yet c w i) = earlier-orderly p message earlier w e a
 came-orderly message number earlier delivered acknowledged j p e a (came_inner c n w i) = earlier-orderly p message earlier w e a
 came-orderly message number earlier delivered acknowledged j p e a (came_last c n w i) =
-    let count : length p.sent ≡ length earlier + 1 = ap length e ∙ length-append earlier (message ∷ []) in
-    whole-orderly p (w ∙ sym e) (omega (arith, a, count)) (omega (arith, a, count))
+    let count : length p.sent ≡ length earlier + 1 = cc (length-append earlier (message ∷ [])) in
+    whole-orderly p (cc) (omega (arith, a, count)) (omega (arith, a, count))
 
 pub orderly-matches : (o : Outstanding) (last : ℕ) (s : Session) (out : Option OutstandingPart) (j : Joining) (p : Session) → MatchesBy o last s out j p → IsOrderly p
 unfolding MatchesBy
 orderly-matches Nothing last s out j p m = whole-orderly p m.whole_is (omega (arith, m.acknowledged_is)) (omega (arith, m.acknowledged_is))
 orderly-matches (Message part) last s out j p m = came-orderly m.of.message m.of.number m.of.earlier (length s.delivered) s.acknowledged j p m.of.sent_is m.of.acknowledged_is m.came
 orderly-matches (Opening number) last s out j p m =
-    whole-orderly p (ap (λ (x : Session). x.delivered) m.session_is ∙ sym (ap (λ (x : Session). x.sent) m.session_is)) (omega (arith, ap (λ (x : Session). x.acknowledged) m.session_is))
+    whole-orderly p (cc) (omega (arith, ap (λ (x : Session). x.acknowledged) m.session_is))
     (omega (arith, ap (λ (x : Session). length x.sent) m.session_is))

@@ -82,8 +82,8 @@ opening-sent : (v : Delivery) (out : Outstanding) (number : ℕ) (s : Sending)
     → outstanding_in v ≡ out → v.outbound.sender.down ≡ true → opening_number out v.outbound.sender.next ≡ number → s.outstanding ≡ Opening number →
     ReopensBy v out (s, ReopenSent number (opening_packet number))
 unfolding ReopensBy with_outbound after_reopening newest_after IsPlainKind opening_number
-opening-sent v (Opening before) number s o d n p = moves_nothing tt (p ∙ ap Opening (sym n) ∙ sym o) refl refl
-opening-sent v out number s o d n p = ends number tt d (ap is_opening o) (ap (λ (x : Outstanding). opening_number x v.outbound.sender.next) o ∙ n) p refl refl
+opening-sent v (Opening before) number s o d n p = moves_nothing tt (cc) refl refl
+opening-sent v out number s o d n p = ends number tt d (ap is_opening o) (cc) p refl refl
 
 reopen-moves : (v : Delivery) → ReopensBy v (outstanding_in v) (reopened v.outbound.sender)
 unfolding ReopensBy with_outbound after_reopening newest_after IsPlainKind reopened
@@ -178,17 +178,17 @@ answer-same v packet number message x o r = moves_nothing tt o refl refl
 answer-message : (v : Delivery) (message : List ℕ) (packet : Packet) (x : Sending × SenderHeard)
     → outstanding_in v ≡ Message message → HearsAnswer v.outbound.sender message packet x → AnswersBy v packet x
 unfolding AnswersBy with_outbound after_answer newest_after
-answer-message v message packet x o (goes_on a e) = subst (AnswersBy v packet) (sym e) (acknowledges v.outbound.sender.next message refl o refl refl refl)
+answer-message v message packet x o (goes_on a e) = rw e (acknowledges v.outbound.sender.next message refl o refl refl refl)
 answer-message v message packet x o (stays s) = answer-same v packet v.outbound.sender.next message x s.0.outstanding s.1
 
 answer-opening : (v : Delivery) (number : ℕ) (packet : Packet) (x : Sending × SenderHeard) → outstanding_in v ≡ Opening number → HearsOpening v.outbound.sender number packet x → AnswersBy v packet x
 unfolding AnswersBy with_outbound after_answer newest_after IsPlainKind
-answer-opening v number packet x o (opens a e) = subst (AnswersBy v packet) (sym e) (opens_session number tt o refl refl refl refl)
-answer-opening v number packet x o (waits e) = subst (AnswersBy v packet) (sym e) (moves_nothing tt refl refl refl)
+answer-opening v number packet x o (opens a e) = rw e (opens_session number tt o refl refl refl refl)
+answer-opening v number packet x o (waits e) = rw e (moves_nothing tt refl refl refl)
 
 answer-by : (v : Delivery) (packet : Packet) (out : Outstanding) → outstanding_in v ≡ out → AnswersBy v packet (sender_heard v.outbound.sender packet)
 unfolding AnswersBy with_outbound after_answer newest_after IsPlainKind
-answer-by v packet Nothing o = subst (AnswersBy v packet) (sym (quiet-answer v.outbound.sender packet o)) (moves_nothing tt refl refl refl)
+answer-by v packet Nothing o = rw (quiet-answer v.outbound.sender packet o) (moves_nothing tt refl refl refl)
 answer-by v packet (Message message) o = answer-message v message packet _ o (message-answer v.outbound.sender message packet o)
 answer-by v packet (Opening number) o = answer-opening v number packet _ o (opening-answer v.outbound.sender number packet o)
 

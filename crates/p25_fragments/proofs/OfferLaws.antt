@@ -17,13 +17,13 @@ offered-down s message d = cond-true s.down _ _ d
 
 offered-up : (s : Sending) (message : List ℕ) (out : Outstanding) → s.down ≡ false → s.outstanding ≡ out → offered s message ≡ offered_beside out s message
 unfolding offered
-offered-up s message out d o = cond-false s.down _ _ d ∙ ap (λ (x : Outstanding). offered_beside x s message) o
+offered-up s message out d o = cc (cond-false s.down _ _ d)
 
 -- and the step that it is
 step-of : (w : WorldState) (message : List ℕ) (x : Sending × Offer) → offered w.delivery.outbound.sender message ≡ x
     → world_step w (Send message) ≡ quiet_step w (with_outbound w.delivery (after_offer w.delivery.outbound message x))
 unfolding world_step happens
-step-of w message x e = ap (λ (y : Sending × Offer). quiet_step w (with_outbound w.delivery (after_offer w.delivery.outbound message y))) e
+step-of w message x e = cc
 
 send-down : (w : WorldState) (message : List ℕ) → w.delivery.outbound.sender.down ≡ true → world_step w (Send message) ≡ (w, true_step OfferDown)
 unfolding with_outbound after_offer newest_after
@@ -63,7 +63,7 @@ pub data OfferedAs (w : LongState) (message : List ℕ) (x : WorldState × Step)
 beside : (w : LongState) (message : List ℕ) (out : Outstanding) → w.inner.delivery.outbound.sender.down ≡ false
     → w.inner.delivery.outbound.sender.outstanding ≡ out → long_offered w message ≡ long_offered_beside out w message
 unfolding long_offered
-beside w message out d o = cond-false w.inner.delivery.outbound.sender.down _ _ d ∙ ap (λ (x : Outstanding). long_offered_beside x w message) o
+beside w message out d o = cc (cond-false w.inner.delivery.outbound.sender.down _ _ d)
 
 long-down : (w : LongState) (message : List ℕ) → w.inner.delivery.outbound.sender.down ≡ true → long_offered w message ≡ unmoved w Down
 unfolding long_offered
@@ -109,7 +109,7 @@ taken-arm w message inner step (told_taken number blocks t d o e) no_down no_bus
 -- An offer where the state of the code is the one with which the call began.
 
 from : (now w : LongState) (message : List ℕ) (x : LongState × LongStep) → w ≡ now → x ≡ long_offered w message → x ≡ long_offered now message
-from now w message x n e = e ∙ ap (λ (v : LongState). long_offered v message) n
+from now w message x n e = cc
 
 pub down-offer : (now w : LongState) (message part : List ℕ) (inner : WorldState) (step : Step)
     → w ≡ now → part ≡ part_of message 0 → inner ≡ (world_step w.inner (Send part)).0 → step ≡ (world_step w.inner (Send part)).1 →

@@ -1,6 +1,6 @@
 ghost use Rattle.std.specs.Prelude.{◌≡◌, ◌+◌, ◌<◌, ◌≤◌, ◌||◌, false, OnOk, OnErr, IfOk};
-ghost use Rattle.p25_delivery.specs.Orderly.{AreOrderly};
-ghost use Rattle.p25_fragments.specs.{LongRuns.{HasLongHistory, IsEventOf, long_sessions_of, offers_beside}, LongState.{first_long}, LongSteps.{long_step}};
+ghost use Rattle.p25_delivery.specs.Orderly.{AreOrderly, AreWhole};
+ghost use Rattle.p25_fragments.specs.{LongRuns.{HasLongHistory, IsEventOf, long_sessions_of, offers_beside}, LongState.{first_long, long_delivery}, LongSteps.{long_step}};
 
 use crate::long_stations::LongStations;
 use crate::long_step::{LongEvent, LongStep};
@@ -61,10 +61,12 @@ impl LongWorld {
     /// Does nothing; its clauses say what holds of every world. Some list of events brought it from its first state to this one.
     /// Where no message was offered to the inner world beside the parts, and the inner world counts no false pass, each session is
     /// orderly: the long messages whole are the beginning of those taken, in order and each once, every long message that was
-    /// acknowledged is whole, and one at most is whole that was not acknowledged.
+    /// acknowledged is whole, and one at most is whole that was not acknowledged. In any case the sessions are the whole of the lists:
+    /// joined, their long messages are all that were taken and all that came whole.
     pub fn facts(&self)
         ensures history { HasLongHistory self.now.state self.now.beside }
         ensures orderly { self.now.beside ≡ false → self.now.state.inner.false_passes ≡ 0 → AreOrderly (long_sessions_of self.now.state) }
+        ensures whole { AreWhole (long_delivery self.now.state) }
     {
         let _ = &self.stations;
     }

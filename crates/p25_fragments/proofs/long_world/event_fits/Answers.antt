@@ -8,7 +8,7 @@ returns-in-Long c =
     event-kept c.args.event.now (
     λ (message : List ℕ) (is : c.args.event.now ≡ Long message).
     let same : c.in-Long.message ≡ message = cc in
-    subst (λ (octets : List ℕ). length octets ≤ 4000) (c.octets.ensures.octets ∙ same) c.octets.ensures.most
+    rw (c.octets.ensures.octets, same) at c.octets.ensures.most
     )
 
 pub returns-in_default : goal.returns-in_default

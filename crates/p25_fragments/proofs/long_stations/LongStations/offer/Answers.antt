@@ -8,15 +8,13 @@ pub returns-in-OfferDown-clause-step : goal.returns-in-OfferDown-clause-step
 returns-in-OfferDown-clause-step c =
     let began = ap (λ (p : LongParts). p.state) c.self.view_is in
     let told = c.step_ready-step.ensures in
-    ap (λ (t : LongStep). (record (state_of c.self.inside) { inner = c.step_ready-step.new.self.state }, t)) c.unmoved.ensures
-    ∙ down-offer _ _ _ _ _ _ began c.part.ensures (call-state _ told.step) (call-answer _ told.step) c.in-OfferDown.is
+    cc (down-offer _ _ _ _ _ _ began c.part.ensures (call-state _ told.step) (call-answer _ told.step) c.in-OfferDown.is)
 
 pub returns-in-Busy-clause-step : goal.returns-in-Busy-clause-step
 returns-in-Busy-clause-step c =
     let began = ap (λ (p : LongParts). p.state) c.self.view_is in
     let told = c.step_ready-step.ensures in
-    ap (λ (t : LongStep). (record (state_of c.self.inside) { inner = c.step_ready-step.new.self.state }, t)) c.unmoved-in-Busy.ensures
-    ∙ busy-offer _ _ _ _ _ _ began c.part.ensures (call-state _ told.step) (call-answer _ told.step) c.in-Busy.is
+    cc (busy-offer _ _ _ _ _ _ began c.part.ensures (call-state _ told.step) (call-answer _ told.step) c.in-Busy.is)
 
 pub returns-in_default : goal.returns-in_default
 unfolding started
