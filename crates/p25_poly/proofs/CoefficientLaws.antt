@@ -19,8 +19,8 @@ module _ {F : Type 0} (K : Field F) where
   pub coefficient_blank : (z : F) (n i : ℕ) → z ≡ 𝟘 → coefficient K (replicate n z) i ≡ 𝟘
   coefficient_blank z n i e =
       elim (cases_lt i n) [
-        | inl below ↦ get_or-replicate n i z 𝟘 below ∙ e
-        | inr above ↦ coefficient_past (replicate n z) i (omega (arith, length-replicate n z))
+        | inl below ↦ simp (get_or-replicate, e)
+        | inr above ↦ coefficient_past _ i (omega (arith, length-replicate n z))
       ]
 
   -- what is read in a list is its coefficient
@@ -29,11 +29,11 @@ module _ {F : Type 0} (K : Field F) where
 
   -- a list whose front is replaced has the coefficients of the front, and then its own
   pub front_replaced : (front cs : List F) (n i : ℕ) → length front ≡ n → i < n → coefficient K (front ++ drop n cs) i ≡ coefficient K front i
-  front_replaced front cs n i long below = get_or_append_left front (drop n cs) 𝟘 i (omega arith)
+  front_replaced front cs n i long below = get_or_append_left front _ 𝟘 i (omega arith)
 
   pub rest_kept : (front cs : List F) (n i : ℕ) → length front ≡ n → n ≤ i → coefficient K (front ++ drop n cs) i ≡ coefficient K cs i
   rest_kept front cs n i long from =
-      get_or-append_right front (drop n cs) n i 𝟘 long from ∙ get_or-drop n cs (i - n) 𝟘 ∙ ap (coefficient K cs) same
+      cc (get_or-append_right front _ n i 𝟘 long from, get_or-drop n cs _ 𝟘, same)
     where
       same : n + (i - n) ≡ i
       same = omega arith
@@ -45,7 +45,7 @@ module _ {F : Type 0} (K : Field F) where
   -- below the shift nothing is added
   pub nothing_added : (a factor : F) (s : ℕ) (f : ℕ → F) (k : ℕ) → k < s → a ≡ a ⊕ factor ⊗ shifted K s f k
   nothing_added a factor s f k h =
-      sym (ap (λ w. a ⊕ factor ⊗ w) (shifted_below K s f k h) ∙ ap (λ w. a ⊕ w) (mul_zero K factor) ∙ add_zero K a)
+      simp (add_zero, mul_zero, shifted_below)
 
   -- a place that is written has the value, and the others are as before
   pub written_at : (cs : List F) (i : ℕ) (x : F) → i < length cs → coefficient K (set cs i x) i ≡ x
@@ -60,10 +60,9 @@ module _ {F : Type 0} (K : Field F) where
       → (i : ℕ) → coefficient K new i ≡ coefficient K old i ⊕ factor ⊗ coefficient K other i
   multiple_everywhere old other new factor same kept added i =
       elim (cases_lt i (length old)) [
-        | inl below ↦ added i below ∙ ap (λ w. coefficient K old i ⊕ factor ⊗ w) (shifted_from K 0 (coefficient K other) i (omega arith) ∙ ap (coefficient K other) unshifted)
+        | inl below ↦ cc (added i below, shifted_from K 0 _ i (omega arith), unshifted)
         | inr above ↦
-            coefficient_past new i (omega arith)
-            ∙ sym (ap₂ (λ a b. a ⊕ factor ⊗ b) (coefficient_past old i above) (coefficient_past other i (omega arith)) ∙ ap (λ w. 𝟘 ⊕ w) (mul_zero K factor) ∙ add_zero K 𝟘)
+            cc (coefficient_past new i (omega arith), add_zero K 𝟘, mul_zero K factor, coefficient_past old i above, coefficient_past other i (omega arith))
       ]
     where
       unshifted : i - 0 ≡ i
@@ -74,9 +73,7 @@ module _ {F : Type 0} (K : Field F) where
       → length new ≡ length old → ((k : ℕ) → k < length old → coefficient K new k ≡ coefficient K old k ⊕ one ⊗ shifted K 0 (coefficient K other) k)
       → (i : ℕ) → coefficient K new i ≡ coefficient K old i ⊕ coefficient K other i
   one_added old other new one e same kept added i =
-      multiple_everywhere old other new one same kept added i
-      ∙ ap (λ w. coefficient K old i ⊕ w ⊗ coefficient K other i) e
-      ∙ ap (λ w. coefficient K old i ⊕ w) (one_mul K (coefficient K other i))
+      cc (multiple_everywhere old other new one same kept added i, one_mul K (coefficient K other i))
 
   -- a step of Horner's rule
   pub horner_step : (f : ℕ → F) (n i : ℕ) (x : F) → 0 < i → i ≤ n → value_at K (n - i) (λ k. f (i + k)) x ⊗ x ⊕ f (i - 1) ≡ value_at K (n - (i - 1)) (λ k. f (i - 1 + k)) x
@@ -114,7 +111,7 @@ module _ {F : Type 0} (K : Field F) where
       → ((k : ℕ) → k < n → h k ≡ sum_below K m (λ i. f i ⊗ shifted K i g k)) → (k : ℕ) → h k ≡ product_at K f g k
   rows_are_product n m f g h all short_f short_g short_h fits rows k =
       elim (cases_lt k n) [
-        | inl below ↦ rows k below ∙ ap (λ n. sum_below K n (λ i. f i ⊗ shifted K i g k)) all ∙ sym (product_by_rows K n f g short_f k)
+        | inl below ↦ cc (rows k below, product_by_rows K n f g short_f k)
         | inr above ↦ short_h.above k above ∙ sym (product_zero K f g k (λ i j whole. beyond_degrees n n f g short_f short_g fits i j (omega arith)))
       ]
 
@@ -148,7 +145,7 @@ module _ {F : Type 0} (K : Field F) where
   pub rows_step : (i : ℕ) (f g : ℕ → F) (factor new old : F) (k : ℕ) → factor ≡ f i
       → new ≡ old ⊕ factor ⊗ shifted K i g k → old ≡ sum_below K i (λ i. f i ⊗ shifted K i g k) → new ≡ sum_below K (i + 1) (λ i. f i ⊗ shifted K i g k)
   rows_step i f g factor new old k e added rows =
-      added ∙ ap₂ (λ a b. a ⊕ b ⊗ shifted K i g k) rows e ∙ sym (sum-suc K i (λ i. f i ⊗ shifted K i g k)) ∙ ap (λ n. sum_below K n (λ i. f i ⊗ shifted K i g k)) more
+      cc (rows, sum-suc K i _, more)
     where
       more : suc i ≡ i + 1
       more = omega arith

@@ -19,9 +19,7 @@ module _ {F : Type 0} (K : Field F) where
   -- a product with a multiple, moved up, added to one factor
   product-gained : (f g e h : ℕ → F) (c : F) (s n : ℕ) → ((k : ℕ) → e k ≡ f k ⊕ c ⊗ shifted K s g k) → product_at K e h n ≡ product_at K f h n ⊕ c ⊗ shifted K s (product_at K g h) n
   product-gained f g e h c s n gained =
-      product_same_left K e (λ k. f k ⊕ c ⊗ shifted K s g k) h gained n
-      ∙ product-add_left K f (λ k. c ⊗ shifted K s g k) h n
-      ∙ ap (λ w. product_at K f h n ⊕ w) (product-mul_left K c (shifted K s g) h n ∙ ap (λ w. c ⊗ w) (product-shifted K s g h n))
+      cc (product_same_left K e _ h gained n, product-add_left K f (λ k. c ⊗ shifted K s g k) h n, product-mul_left K c (shifted K s g) h n, product-shifted K s g h n)
 
   pub short_longer : (m n : ℕ) (f : ℕ → F) → m ≤ n → IsShort K m f → IsShort K n f
   short_longer m n f fits short = record { above = λ i high. short.above i (omega arith) }
@@ -39,11 +37,13 @@ module _ {F : Type 0} (K : Field F) where
   value-gained : (size p s : ℕ) (f g h : ℕ → F) (c x : F) → IsShort K p g
       → s + p ≤ size → ((k : ℕ) → h k ≡ f k ⊕ c ⊗ shifted K s g k) → value_at K size h x ≡ value_at K size f x ⊕ c ⊗ (power K x s ⊗ value_at K size g x)
   value-gained size p s f g h c x short fits gained =
-      value_same K size h (λ k. f k ⊕ c ⊗ shifted K s g k) x (λ k low. gained k)
-      ∙ value-add K size f (λ k. c ⊗ shifted K s g k) x
-      ∙ ap (λ w. value_at K size f x ⊕ w)
-      (value-mul K size c (shifted K s g) x
-      ∙ ap (λ w. c ⊗ w) (value-shifted K s p size g x short fits ∙ ap (λ w. power K x s ⊗ w) (sym (value_longer K p size g x (omega arith) short))))
+      cc (
+        value_same K size h _ x (λ k low. gained k),
+        value-add K size f (λ k. c ⊗ shifted K s g k) x,
+        value-mul K size c (shifted K s g) x,
+        value-shifted K s p size g x short fits,
+        value_longer K p size g x (omega arith) short,
+      )
 
   -- what is added to both products goes
   crossed : (v a u b c p : F) → v ⊗ (a ⊕ c ⊗ (p ⊗ b)) ⊕ (u ⊕ c ⊗ (p ⊗ v)) ⊗ b ≡ v ⊗ a ⊕ u ⊗ b
@@ -62,40 +62,34 @@ module _ {F : Type 0} (K : Field F) where
   -- a multiple takes the leading coefficient
   taken : (a b : F) → b ≢ 𝟘 → a ⊕ a ⊗ K.inverse b ⊗ b ≡ 𝟘
   taken a b live =
-      ap (λ w. a ⊕ w) (mul_assoc K a (K.inverse b) b ∙ ap (λ w. a ⊗ w) (mul_comm K (K.inverse b) b ∙ mul_inverse K b live) ∙ mul_one K a)
-      ∙ add_self K a
+      simp (mul_assoc, mul_comm, mul_inverse, mul_one, add_self)
 
   -- the value of a power of x
   value_of_power : (n k : ℕ) (f : ℕ → F) (x : F) → k < n → f k ≡ 𝟙 → ((i : ℕ) → i ≢ k → f i ≡ 𝟘) → value_at K n f x ≡ power K x k
   value_of_power n k f x inside one others =
-      sum_of_one K n k (λ i. f i ⊗ power K x i) inside (λ i low apart. ap (λ w. w ⊗ power K x i) (others i apart) ∙ zero_mul K (power K x i))
-      ∙ ap (λ w. w ⊗ power K x k) one
-      ∙ one_mul K (power K x k)
+      cc (sum_of_one K n k _ inside (λ i low apart. ap (λ w. w ⊗ power K x i) (others i apart) ∙ zero_mul K _), one_mul K (power K x k))
 
 -- ---- moved lists
 
 behind_past : (symbols : List Sym) (k : ℕ) → length symbols ≡ 64 → 32 ≤ k → behind symbols k ≡ gf64.zero
-behind_past symbols k full high = coefficient_past gf64 symbols (32 + k) (omega arith)
+behind_past symbols k full high = coefficient_past gf64 symbols _ (omega arith)
 
 -- a part of a padded list is the list moved up
 moved_part : (symbols : List Sym) (s k : ℕ) → IsPadded symbols → s ≤ 32 → k < 32 → coefficient gf64 symbols (32 + k - s) ≡ shifted gf64 s (behind symbols) k
 moved_part symbols s k padded fits low =
     elim (cases_lt k s) [
-      | inl below ↦ padded.blank (32 + k - s) (omega arith) ∙ sym (shifted_below gf64 s (behind symbols) k below)
+      | inl below ↦ padded.blank _ (omega arith) ∙ sym (shifted_below gf64 s (behind symbols) k below)
       | inr from ↦
-          let same : 32 + k - s ≡ 32 + (k - s) = omega arith in
-          ap (coefficient gf64 symbols) same ∙ sym (shifted_from gf64 s (behind symbols) k from)
+          ap (coefficient gf64 symbols) (omega arith) ∙ sym (shifted_from gf64 s (behind symbols) k from)
     ]
 
 moved_everywhere : (c : Sym) (s p last : ℕ) (old other new : List Sym) → IsPadded other → IsShort gf64 p (behind other) → s + p ≤ last → last ≤ 32 → IsMoved 0 last c s old other new → (k : ℕ)
     → behind new k ≡ gf64.add (behind old k) (gf64.mul c (shifted gf64 s (behind other) k))
 moved_everywhere c s p last old other new padded short fits most moved k =
     elim (cases_lt k last) [
-      | inl low ↦ moved.sum k (omega arith) low ∙ ap (λ w. gf64.add (behind old k) (gf64.mul c w)) (moved_part other s k padded (omega arith) (omega arith))
+      | inl low ↦ cc (moved.sum k (omega arith) low, moved_part other s k padded (omega arith) (omega arith))
       | inr high ↦
-          moved.after k high
-          ∙ sym (ap (λ w. gf64.add (behind old k) (gf64.mul c w)) (shifted_from gf64 s (behind other) k (omega arith) ∙ short.above (k - s) (omega arith))
-          ∙ ap (gf64.add (behind old k)) (mul_zero gf64 c) ∙ add_zero gf64 (behind old k))
+          cc (moved.after k high, add_zero gf64 (behind old k), mul_zero gf64 c, short.above (k - s) (omega arith), shifted_from gf64 s (behind other) k (omega arith))
     ]
 
 moved_padded : (c : Sym) (s last : ℕ) (old other new : List Sym) → IsPadded old → IsMoved 0 last c s old other new → IsPadded new

@@ -1,5 +1,5 @@
 -- A polynomial is its coefficients, and quotient and remainder are determined.
-use Rattle.std.proofs.{Common.{◌≡◌, ℕ, ◌<◌, List, length, sym, ap, subst, ◌∙◌, arith}, lemmas.List.{ext_get_or}}
+use Rattle.std.proofs.{Common.{◌≡◌, ℕ, ◌<◌, List, length, sym, ap, ◌∙◌, arith}, lemmas.List.{ext_get_or}}
 use Rattle.std.specs.Coded.{Coded-set, coded_ℕ}
 use Rattle.p25_gf64.specs.{declared.symbol.Sym.{Sym}, Gf64.{gf64}}
 use Rattle.p25_algebra.specs.Series.{product_at, IsShort, IsDegree}
@@ -10,14 +10,14 @@ use Rattle.p25_poly.proofs.{CoefficientLaws.{short_list}, DivisionLaws.{DividedT
 abbrev pub poly_of : (coefficients : List Sym) → length coefficients ≡ 64 → Poly
 poly_of coefficients full = record { coefficients = coefficients; full = full }
 
-same_made : (f g : List Sym) → f ≡ g → (p : length f ≡ 64) (q : length g ≡ 64) → poly_of f p ≡ poly_of g q
+pub same_made : (f g : List Sym) → f ≡ g → (p : length f ≡ 64) (q : length g ≡ 64) → poly_of f p ≡ poly_of g q
 same_made f g e p =
-    subst (λ h. (q : length h ≡ 64) → poly_of f p ≡ poly_of h q) e (λ q. ap (λ r. poly_of f r) (Coded-set coded_ℕ (length f) 64 p q))
+    rw (← e) (λ q. ap (λ r. poly_of f r) (Coded-set coded_ℕ (length f) 64 p q))
 
 -- polynomials with the same 64 coefficients are one polynomial
 pub same_polynomial : (p q : Poly) → ((i : ℕ) → i < 64 → coefficient_of p i ≡ coefficient_of q i) → p ≡ q
 same_polynomial p q e =
-    same_made p.coefficients q.coefficients (ext_get_or gf64.zero p.coefficients q.coefficients (p.full ∙ sym q.full) (λ i h. e i (omega (arith, p.full)))) p.full q.full
+    same_made p.coefficients q.coefficients (ext_get_or gf64.zero p.coefficients q.coefficients (p.full ∙ sym q.full) (λ i h. e i (omega arith))) p.full q.full
 
 -- a polynomial has no coefficient from x^64 on
 pub short_polynomial : (p : Poly) → IsShort gf64 64 (coefficient_of p)

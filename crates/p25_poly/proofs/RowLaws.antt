@@ -45,8 +45,7 @@ pub corrected_row : (n column : ℕ) (row : Row) (x y : ℕ → Sym) → column 
     → y column ≡ gf64.add (x column) (gf64.mul (gf64.add row.right (dot gf64 n (coefficient gf64 row.cells) x))
     (gf64.inverse (coefficient gf64 row.cells column))) → AgreeBut column x y → IsMet n row y
 corrected_row n column row x y inside live gain others =
-    dot_gained gf64 n (coefficient gf64 row.cells) x y column _ inside gain others.same
-    ∙ short_made_up gf64 (dot gf64 n (coefficient gf64 row.cells) x) row.right (coefficient gf64 row.cells column) live
+    rw short_made_up at (dot_gained gf64 n (coefficient gf64 row.cells) x y column _ inside gain others.same)
 
 -- ---- systems
 
@@ -65,23 +64,23 @@ met_with_front n system x first rest = record { each = each }
             after = omega arith
 
 pub met_rest : (n : ℕ) (system : List Row) (x : ℕ → Sym) → AreMet n system x → AreMet n (drop 1 system) x
-met_rest n system x met = record { each = λ r h. rw get_or-drop (met.each (1 + r) (omega (arith, length-drop 1 system))) }
+met_rest n system x met = record { each = λ r h. rw get_or-drop (met.each _ (omega (arith, length-drop 1 system))) }
 
 -- a row of zeros holds exactly where its right side is zero
 pub blank_met : (n : ℕ) (row : Row) (x : ℕ → Sym) → ((k : ℕ) → k < n → coefficient gf64 row.cells k ≡ gf64.zero) → row.right ≡ gf64.zero → IsMet n row x
-blank_met n row x none right = dot_of_zeros gf64 n (coefficient gf64 row.cells) x none ∙ sym right
+blank_met n row x none right = simp (dot_of_zeros, right)
 
 pub blank_right : (n : ℕ) (row : Row) (x : ℕ → Sym) → ((k : ℕ) → k < n → coefficient gf64 row.cells k ≡ gf64.zero) → IsMet n row x → row.right ≡ gf64.zero
-blank_right n row x none met = sym met ∙ dot_of_zeros gf64 n (coefficient gf64 row.cells) x none
+blank_right n row x none met = rw (← met, dot_of_zeros)
 
 -- cleared rows have, with the front row, the solutions of the rows
 pub cleared_forth : (n column : ℕ) (front : Row) (old new : List Row) (x : ℕ → Sym) → AreCleared column front old new → IsMet n front x → AreMet n old x → AreMet n new x
 cleared_forth n column front old new x cleared first met =
-    record { each = λ r h. (cleared.each r (omega (arith, cleared.as_many))).forth n x first (met.each r (omega (arith, cleared.as_many))) }
+    record { each = λ r h. (cleared.each r (omega arith)).forth n x first (met.each r (omega arith)) }
 
 pub cleared_back : (n column : ℕ) (front : Row) (old new : List Row) (x : ℕ → Sym) → AreCleared column front old new → IsMet n front x → AreMet n new x → AreMet n old x
 cleared_back n column front old new x cleared first met =
-    record { each = λ r h. (cleared.each r h).back n x first (met.each r (omega (arith, cleared.as_many))) }
+    record { each = λ r h. (cleared.each r h).back n x first (met.each r (omega arith)) }
 
 -- the unknown of the cleared column is free in the cleared rows
 pub cleared_elsewhere : (n column : ℕ) (front : Row) (old new : List Row) (x y : ℕ → Sym) → AreCleared column front old new → AgreeBut column x y → AreMet n new x → AreMet n new y
@@ -99,12 +98,12 @@ module _ (n column : ℕ) (system cleared : List Row) (front : Row)
   pub corrected_solution : (x y : ℕ → Sym) → AgreeBut column x y → IsMet n front y → AreMet n cleared x → AreMet n system y
   corrected_solution x y agree first met =
       met_with_front n system y (rw (← is_front) first)
-      (cleared_back n column front (drop 1 system) cleared y clears first (cleared_elsewhere n column front (drop 1 system) cleared x y clears agree met))
+      (cleared_back n column front _ cleared y clears first (cleared_elsewhere n column front _ cleared x y clears agree met))
 
   -- what solves all solves the cleared rows
   pub solution_cleared : (x : ℕ → Sym) → AreMet n system x → AreMet n cleared x
   solution_cleared x met =
-      cleared_forth n column front (drop 1 system) cleared x clears (rw is_front (met.each 0 some)) (met_rest n system x met)
+      cleared_forth n column front _ cleared x clears (rw is_front (met.each 0 some)) (met_rest n system x met)
 
 -- rows that are not found empty
 pub not_empty : (rows : List Row) (empty : Bool) → empty ≡ (length rows == 0) → empty ≡ false → 0 < length rows

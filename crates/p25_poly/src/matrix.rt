@@ -1,3 +1,5 @@
+//! A matrix over GF(64) of bounded size: its type and its cells.
+
 ghost use Rattle.std.specs.Prelude.{◌≡◌, ℕ, ◌<◌, ◌≤◌, length};
 
 use crate::row::Row;

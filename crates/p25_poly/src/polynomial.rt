@@ -1,3 +1,5 @@
+//! A polynomial over GF(64) of bounded degree: its type, its coefficients and its arithmetic.
+
 ghost use Rattle.std.specs.Prelude.{◌≡◌, ◌↔◌, ℕ, ◌+◌, ◌<◌, ◌≤◌, length, IsNone, IfSome};
 ghost use Rattle.p25_gf64.specs.Gf64.{gf64};
 ghost use Rattle.p25_algebra.specs.Series.{coefficient, value_at, product_at, IsZero, IsDegree};

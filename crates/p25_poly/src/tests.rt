@@ -1,3 +1,5 @@
+//! Tests of polynomials, of the key equation and of linear systems.
+
 use super::*;
 use p25_gf64::Sym;
 
