@@ -1,6 +1,6 @@
 //! The BCH code (63,16).
 
-ghost use Rattle.p25_bch_nid.specs.{Bch63.{IsBch63}, Bch63Laws.{bch63_is_code}, Bch63Readings.{bch63_reading_of, bch63_reads_as}};
+ghost use Rattle.p25_bch_nid.specs.{Bch63.{IsBch63}, Bch63Laws.{bch63_is_code, encoded}, Bch63Readings.{bch63_reading_of, bch63_reads_as}};
 
 use crate::correction::nearest;
 use p25_bits::{number_of, number_remainder, put_number};
@@ -36,6 +36,8 @@ impl BlockCode for Bch63 {
     ghost radius_is = { 11 };
 
     ghost distance_is = { 23 };
+
+    ghost encoding_is = { encoded };
 
     ghost reading_is = { bch63_reading_of };
 

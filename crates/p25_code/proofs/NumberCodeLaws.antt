@@ -4,9 +4,9 @@ use Rattle.std.proofs.{Math.Nat.{mul_comm}, lemmas.Nat.{mod_below, shr_below, po
 use Rattle.std.specs.{Bool.{beq}, Int.Bits.{xor_self, xor_zero_r}, Int.RustNames.{count_ones}, Option.{MatchOption, option_map}}
 use Rattle.p25_bits.specs.{Bits.{bits_of, field_of}, Distance.{distance_by, distance_of}}
 use Rattle.p25_bits.proofs.{BitsLaws.{length-bits_of, bits_of-joined, bits_of-field_of, field_of-bits_of, field_of-lt}, DistanceLaws.{distance_of-bits_of}, DivisibleLaws.{same_from_xor}}
-use Rattle.p25_code.specs.{declared.code.Reading.{Reading}, declared.code.Reading.TheVariants.{Found, Beyond}, Words.{IsEncoding, IsReading}, Readings.{IsReadAs}}
+use Rattle.p25_code.specs.{declared.code.Reading.{Reading}, declared.code.Reading.TheVariants.{Found, Beyond}, Words.{IsReading}, Readings.{IsReadAs}}
 use Rattle.p25_code.specs.{Binary.{syndrome_of, IsChecked, systematic}, WrongBits.{number_sum, AreWrong, NoneWrong}, CodeLaws.{SystematicCode, columns_of, radius_of}}
-use Rattle.p25_code.proofs.{ReadingLaws.{one_reading}, ParityLaws.{number_sum-xor, number_sum-zero}, SystematicLaws.{encodes_by}, WrongLaws.{twice, length-columns, number_sum-lt, number_sum-parts}}
+use Rattle.p25_code.proofs.{ReadingLaws.{one_reading}, ParityLaws.{number_sum-xor, number_sum-zero}, WrongLaws.{twice, length-columns, number_sum-lt, number_sum-parts}}
 
 module _ (columns : List ℕ) (radius received sum : ℕ) (fits : received < 2 ^ length columns) (sums : number_sum columns received ≡ sum) where
   -- what was received without its wrong bits is a word that passes, within the radius
@@ -196,15 +196,13 @@ module _ {n k d : ℕ} (code : SystematicCode n k d) (info check word places : �
       let bound : 2 ^ (n - k) * 2 ^ k ≡ 2 ^ n = mul_comm (2 ^ (n - k)) (2 ^ k) ∙ sym (pow-add 2 k (n - k)) ∙ ap (λ m. 2 ^ m) (bits_are code) in
       subst (λ m. m < 2 ^ n) (sym word_is) (subst (λ m. info * 2 ^ (n - k) + check < m) bound (mul-add-lt info (2 ^ (n - k)) check (2 ^ k) small check_fits))
 
-  -- it is the encoding
-  pub encodes_number : IsEncoding code.IsWord k (bits_of k info) (bits_of n word)
+  -- its bits are the systematic word
+  pub encodes_number : bits_of n word ≡ systematic code.rows (n - k) (bits_of k info)
   unfolding systematic number_sum
   encodes_number =
-      let made : bits_of n word ≡ systematic code.rows (n - k) (bits_of k info)
-      = ap₂ bits_of (sym (bits_are code)) word_is
+      ap₂ bits_of (sym (bits_are code)) word_is
       ∙ bits_of-joined k (n - k) info check check_fits
-      ∙ ap (λ m. bits_of k info ++ bits_of (n - k) m) (sums ∙ ap (λ m. syndrome_of code.rows (bits_of m info)) code.is.table.rows_long) in
-      subst (IsEncoding code.IsWord k (bits_of k info)) (sym made) (encodes_by code (bits_of k info) (length-bits_of k info))
+      ∙ ap (λ m. bits_of k info ++ bits_of (n - k) m) (sums ∙ ap (λ m. syndrome_of code.rows (bits_of m info)) code.is.table.rows_long)
 
 -- what a reader by numbers leaves and answers is the reading of the bits
 pub read_by_number : (IsWord : List Bool → Type 0) (radius n : ℕ) (reading_of : List Bool → Option (List Bool))
@@ -218,9 +216,6 @@ read_by_number IsWord radius n reading_of reads old new received sent reading lo
     (subst (λ m. MatchOption sent ((reading ≡ Beyond) × (new ≡ old)) (λ number. (new ≡ bits_of m number) × (reading ≡ Found (distance_of old new)))) long put)
 
 -- what an encoder by numbers writes is the encoding of the bits
-pub encode_by_number : (IsWord : List Bool → Type 0) (k n : ℕ) (info word : List Bool) (number made : ℕ)
-    → length info ≡ k → number ≡ field_of info → IsEncoding IsWord k (bits_of k number) (bits_of n made)
-    → word ≡ bits_of n made → IsEncoding IsWord k info word
-encode_by_number IsWord k n info word number made long e is whole =
-    let bits : bits_of k number ≡ info = ap₂ bits_of (sym long) e ∙ bits_of-field_of info in
-    subst (λ i. IsEncoding IsWord k i word) bits (subst (IsEncoding IsWord k (bits_of k number)) (sym whole) is)
+pub encode_by_number : (encoding : List Bool → List Bool) (k n : ℕ) (info word : List Bool) (number made : ℕ)
+    → length info ≡ k → number ≡ field_of info → bits_of n made ≡ encoding (bits_of k number) → word ≡ bits_of n made → word ≡ encoding info
+encode_by_number encoding k n info word number made long e is whole = rw (whole, is, e, ← long, bits_of-field_of info) refl

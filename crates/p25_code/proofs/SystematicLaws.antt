@@ -1,6 +1,6 @@
 -- What makes a systematic binary code of a set of words: the test of its table, and that its words are those that the rows let pass.
-use Rattle.std.specs.{Prelude.{◌≡◌, ℕ, ◌-◌, ◌++◌, Bool, List, length}, Bool.{beq}}
-use Rattle.p25_code.specs.{Words.{IsEncoding}, Binary.{IsChecked, check_columns, systematic}, CodeLaws.{IsCheckedCode, IsSystematic, SystematicCode, radius_of}}
+use Rattle.std.specs.{Prelude.{ℕ, ◌-◌, ◌++◌, Bool, List}, Bool.{beq}}
+use Rattle.p25_code.specs.{Binary.{IsChecked, check_columns}, CodeLaws.{IsCheckedCode, IsSystematic, radius_of}}
 use Rattle.p25_code.specs.Readings.{IsReadAs-reading_of, Tested, bits_searched, reading_of, tested_as}
 use Rattle.p25_code.proofs.BinaryLaws.{IsChecked-tested, encodes, is_code}
 
@@ -16,11 +16,7 @@ is_checked_code {n} {k} {d} {rows} {IsWord} table passes passing =
       passes = passes;
       passing = passing;
       laws = laws;
+      encodes = encodes table IsWord passing;
       reading = reading_of bits_searched beq IsWord tested n (radius_of d);
       reads = IsReadAs-reading_of bits_searched beq IsWord tested n (radius_of d) laws.long;
     }
-
--- the information and its check bits are the encoding
-pub encodes_by : {n k d : ℕ} (code : SystematicCode n k d) (info : List Bool) → length info ≡ k
-    → IsEncoding code.IsWord k info (systematic code.rows (n - k) info)
-encodes_by code = encodes code.is.table code.IsWord code.is.passing

@@ -2,7 +2,7 @@
 use Rattle.std.specs.Prelude.{◌≡◌, ◌≢◌, ℕ, zero, suc, ◌-◌, ◌*◌, ◌/◌, ◌≤◌, ◌<◌, Bool, true, false, ◌&&◌, ◌||◌, ◌==◌, nat_le, List, [], ◌∷◌, ◌++◌, length, take, Option}
 use Rattle.std.specs.{Bool.{beq}, Cmp.{IsEquivalence}}
 use Rattle.p25_bits.specs.Distance.{distance_by}
-use Rattle.p25_code.specs.{declared.checked_code.Parameters.{Parameters}, Readings.{IsReadAs}}
+use Rattle.p25_code.specs.{declared.checked_code.Parameters.{Parameters}, Readings.{IsReadAs}, Words.{Encodes}}
 use Rattle.p25_code.specs.Binary.{IsChecked, check_columns, rows_fit, systematic, weight_of}
 
 -- the laws of a block code, as one record
@@ -39,12 +39,14 @@ pub record IsSystematic (rows : List ℕ) (n k d : ℕ) : Type 0 where
   pub few_checks : n - k ≤ 16
   pub some : 0 < d
 
--- what is known of words by the rows of their check bits: they are what the check matrix lets pass, and a block code that a function reads
+-- what is known of words by the rows of their check bits: they are what the check matrix lets pass, and a block code that a function reads;
+-- the systematic words are its encodings
 pub record IsCheckedCode (n k d : ℕ) (rows : List ℕ) (IsWord : List Bool → Type 0) : Type 0 where
   pub table : IsSystematic rows n k d
   pub passes : (word : List Bool) → IsWord word → IsChecked (rows ++ check_columns (n - k)) word
   pub passing : (word : List Bool) → IsChecked (rows ++ check_columns (n - k)) word → IsWord word
   pub laws : IsBlockCode beq IsWord n k (radius_of d) d
+  pub encodes : Encodes IsWord k (systematic rows (n - k))
   pub reading : List Bool → Option (List Bool)
   pub reads : (received : List Bool) → IsReadAs beq IsWord (radius_of d) received (reading received)
 

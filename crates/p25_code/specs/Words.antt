@@ -1,5 +1,5 @@
 -- Block codes: what an encoding and a reading are, for any set of words and any test that calls letters equal.
-use Rattle.std.specs.Prelude.{◌≡◌, ℕ, ◌<◌, ◌≤◌, Bool, List, take}
+use Rattle.std.specs.Prelude.{◌≡◌, ℕ, ◌<◌, ◌≤◌, Bool, List, length, take}
 use Rattle.p25_bits.specs.Distance.{distance_by}
 use Rattle.p25_code.specs.{declared.code.Reading.{Reading}, declared.code.Reading.TheVariants.{Found, Beyond}}
 
@@ -7,6 +7,10 @@ use Rattle.p25_code.specs.{declared.code.Reading.{Reading}, declared.code.Readin
 pub record IsEncoding {L : Type 0} (IsWord : List L → Type 0) (k : ℕ) (info word : List L) : Type 0 where
   pub word_of_set : IsWord word
   pub begins : take k word ≡ info
+
+-- a function that encodes: for each information of k letters it gives a word of the set that begins with the information
+abbrev pub Encodes : {L : Type 0} → (List L → Type 0) → ℕ → (List L → List L) → Type 0
+Encodes {L} IsWord k encoding = (info : List L) → length info ≡ k → IsEncoding IsWord k info (encoding info)
 
 -- what was received became a word of the set within the radius, and `fixes` letters changed
 pub record IsFound {L : Type 0} (same : L → L → Bool) (IsWord : List L → Type 0) (radius : ℕ) (received word : List L) (fixes : ℕ) : Type 0 where

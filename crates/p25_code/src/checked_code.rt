@@ -46,7 +46,7 @@ pub trait CheckedCode {
 }
 
 impl<C: CheckedCode> BlockCode for C {
-    ghost use Rattle.p25_code.specs.{CodeLaws.{radius_of}, Letters.{same_bit}};
+    ghost use Rattle.p25_code.specs.{Binary.{systematic}, CodeLaws.{radius_of}, Letters.{same_bit}};
 
     const N: usize = C::PARAMETERS.n;
 
@@ -65,6 +65,8 @@ impl<C: CheckedCode> BlockCode for C {
     ghost radius_is = { radius_of C.PARAMETERS.d };
 
     ghost distance_is = { C.PARAMETERS.d };
+
+    ghost encoding_is = { systematic C.code.rows (C.PARAMETERS.n - C.PARAMETERS.k) };
 
     ghost reading_is = { C.code.is.reading };
 
@@ -97,6 +99,8 @@ impl<C: CheckedCode> BlockCode for C {
 }
 
 impl<C: CheckedCode> NumberCode for C {
+    ghost encodes = { λ _. C.code.is.encodes };
+
     ghost fits_number = { λ _. C.code.is.table.few };
 
     fn encode_number(info: u32) -> u32 {

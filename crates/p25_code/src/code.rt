@@ -43,6 +43,9 @@ pub trait BlockCode {
     // No two words are nearer to each other than this.
     ghost distance_is: { ℕ };
 
+    // The encoding of the information as a function: the word that begins with it.
+    ghost encoding_is: { List Self.Letter → List Self.Letter };
+
     // The reading of a received word as a function: the word of the code within the radius, or none.
     ghost reading_is: { List Self.Letter → Option (List Self.Letter) };
 
@@ -56,7 +59,8 @@ pub trait BlockCode {
         requires code { HasCode }
         requires info { length info.now ≡ K }
         requires word { length word.old ≡ N }
-        ensures { IsEncoding IsWord K info.now word.new };
+        ensures value { word.new ≡ encoding_is info.now }
+        ensures encoding { IsEncoding IsWord K info.now word.new };
 
     /// Reads a received word of N letters to the radius (bounded-distance decoding). Answers Found exactly where a word
     /// of the code lies within the radius of it: `word` becomes that one, and `fixes` is how many letters changed.

@@ -1,6 +1,6 @@
 //! Binary codes whose words are numbers too.
 
-ghost use Rattle.std.specs.Prelude.{◌≡◌, ◌^◌, ◌<◌, ◌≤◌, length, IfSome, MatchOption};
+ghost use Rattle.std.specs.Prelude.{◌≡◌, ◌^◌, ◌<◌, ◌≤◌, Bool, List, length, IfSome, MatchOption};
 ghost use Rattle.p25_bits.specs.{Bits.{bits_of, field_of}, Distance.{distance_of}};
 
 use crate::code::{BlockCode, Reading};
@@ -15,7 +15,7 @@ pub trait NumberCode: BlockCode<Letter = bool> {
     fn encode_number(info: u32) -> u32
         requires code { Self.HasCode }
         requires info { info < 2 ^ Self.K }
-        ensures encoding { IsEncoding Self.IsWord Self.K (bits_of Self.K info) (bits_of Self.N result) }
+        ensures encoding { bits_of Self.N result ≡ Self.encoding_is (bits_of Self.K info) }
         ensures fits { result < 2 ^ Self.N };
 
     /// Answers the word of the code that lies within the radius of a received one (bounded-distance decoding). None comes
@@ -25,6 +25,9 @@ pub trait NumberCode: BlockCode<Letter = bool> {
         requires received { received < 2 ^ Self.N }
         ensures reading { option_map (bits_of Self.N) result ≡ Self.reading_is (bits_of Self.N received) }
         ensures fits { IfSome result (λ sent. sent < 2 ^ Self.N) };
+
+    // The encoding is a word of the code that begins with the information.
+    ghost encodes: { Self.HasCode → (info : List Bool) → length info ≡ Self.K → IsEncoding Self.IsWord Self.K info (Self.encoding_is info) };
 
     // A word has at most 32 bits.
     ghost fits_number: { Self.HasCode → Self.N ≤ 32 };

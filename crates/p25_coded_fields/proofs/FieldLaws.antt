@@ -5,11 +5,11 @@ use Rattle.std.proofs.{lemmas.List.{append-nil, take_all, take_more}, lemmas.Lis
 use Rattle.std.specs.List.{flat_map}
 use Rattle.p25_bits.specs.{Bits.{part}, Numbers.{joined_below}}
 use Rattle.p25_bits.proofs.{PartLaws.{length-part}, NumbersLaws.{joined_below-zero, joined_below-suc, joined_below-same, joined_below-parts, length-joined_below, part-joined_below}}
-use Rattle.p25_code.specs.Words.{IsEncoding}
+use Rattle.p25_code.specs.Words.{Encodes, IsEncoding}
 use Rattle.p25_gf64.specs.declared.symbol.Sym.{Sym}
 use Rattle.p25_link.specs.Symbols.{symbols_in, symbol_bits}
 use Rattle.p25_link.proofs.SymbolsLaws.{length-symbol_bits, length-symbols_in, symbol_bits-symbols_in, symbols_in-symbol_bits}
-use Rattle.p25_coded_fields.specs.{Layouts.{Layout, places_from, sent_in, field_bits}, Written.{Encodes}, Within.{HasField}}
+use Rattle.p25_coded_fields.specs.{Layouts.{Layout, places_from, sent_in, field_bits}, Within.{HasField}}
 use Rattle.p25_coded_fields.proofs.SymbolsLaws.{room_at, symbols_in-take}
 
 -- places a step apart

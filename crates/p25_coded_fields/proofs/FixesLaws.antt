@@ -1,129 +1,112 @@
 -- Fixes place by place: one inner word more is one run of bits more in both lists, and their distances add up.
-use Rattle.std.proofs.Common.{◌≡◌, ℕ, ◌+◌, ◌*◌, ◌<◌, ◌≤◌, Bool, List, [], ◌∷◌, ◌++◌, length, take, get_or, Option, Some, None, IfSome, All, refl, ap, ap₂, sym, subst, ◌∙◌, arith, zero-add, length-append}
-use Rattle.std.proofs.{Math.Nat.{mul-le-mul_left, mul_comm}, lemmas.List.{append-nil, length-take-le, take_all, take_more}, lemmas.List.Concat.{flat_map-append}, lemmas.Slice.{take-put_mid}}
-use Rattle.std.specs.{Bool.{beq}, List.{flat_map}}
-use borrow.Rule.Slice.PartMut.{put_mid}
+use Rattle.std.proofs.Common.{◌≡◌, ℕ, suc, ◌+◌, ◌*◌, ◌<◌, ◌≤◌, Bool, List, [], ◌∷◌, ◌++◌, length, take, get_or, Option, Some, None, IfSome, All, refl, ap, ap₂, sym, ◌∙◌, arith, zero-add, length-append}
+use Rattle.std.proofs.{Math.Nat.{mul-le-mul_left, mul-le-mul_right, mul_comm}, lemmas.List.{append-nil, length-take-le, take_all, take_more}, lemmas.List.Concat.{flat_map-append}, lemmas.List.Elements.{All-take}}
+use Rattle.std.specs.{Bool.{beq}}
 use Rattle.p25_bits.specs.{Bits.{part}, Distance.{distance_of}}
-use Rattle.p25_bits.proofs.{DistanceLaws.{distance_by-append, distance_of-same}, NumbersLaws.{joined_below-zero, joined_below-more, joined_below-same}}
+use Rattle.p25_bits.proofs.{DistanceLaws.{distance_by-append, distance_by-le, distance_by-nil}, NumbersLaws.{joined_below-more, joined_below-same}}
 use Rattle.p25_bits.proofs.PartLaws.{length-part, part_add, part_left, part_last}
+use Rattle.p25_code.specs.Words.{Encodes}
 use Rattle.p25_gf64.specs.declared.symbol.Sym.{Sym}
 use Rattle.p25_link.specs.Symbols.{symbol_bits}
-use Rattle.p25_link.proofs.SymbolsLaws.{length-symbol_bits}
-use Rattle.p25_coded_fields.specs.{Layouts.{field_bits}, Written.{Encodes}, Fixes.{inner_bits, field_fixes_of, AreCounted, IsInnerCount}}
-use Rattle.p25_coded_fields.proofs.SymbolsLaws.{one_more, room_at}
-
--- no inner word
-inner_bits-none : (size : ℕ) (bits : List Bool) → inner_bits size [] bits ≡ []
-unfolding inner_bits
-inner_bits-none size bits = refl
-
-field_bits-none : (encoding : List Bool → List Bool) (each : ℕ) (symbols : List Sym) → field_bits encoding each 0 symbols ≡ []
-unfolding field_bits
-field_bits-none encoding each symbols = joined_below-zero (λ i. encoding (symbol_bits (part (each * i) each symbols)))
-
--- one inner word more
-inner_bits-more : (size : ℕ) (places : List ℕ) (i : ℕ) (bits : List Bool)
-    → i < length places → inner_bits size (take (i + 1) places) bits ≡ inner_bits size (take i places) bits ++ part (get_or places i 0) size bits
-unfolding inner_bits
-inner_bits-more size places i bits inside =
-    let run : ℕ → List Bool = λ at. part at size bits in
-    ap (flat_map run) (take_more places i 0 inside)
-    ∙ flat_map-append run (take i places) (get_or places i 0 ∷ [])
-    ∙ ap (λ (xs : List Bool). flat_map run (take i places) ++ xs) (append-nil (part (get_or places i 0) size bits))
-
-field_bits-more : (encoding : List Bool → List Bool) (each i : ℕ) (beginning xs : List Sym) → length beginning ≡ each * i → length xs ≡ each
-    → field_bits encoding each (i + 1) (beginning ++ xs) ≡ field_bits encoding each i beginning ++ encoding (symbol_bits xs)
-unfolding field_bits
-field_bits-more encoding each i beginning xs long long_xs =
-    joined_below-more i (λ j. encoding (symbol_bits (part (each * j) each (beginning ++ xs))))
-    ∙ ap₂ (λ (us vs : List Bool). us ++ vs)
-    (joined_below-same i (λ j. encoding (symbol_bits (part (each * j) each (beginning ++ xs)))) (λ j. encoding (symbol_bits (part (each * j) each beginning)))
-    (λ j inside. ap (λ ys. encoding (symbol_bits ys)) (part_left (each * j) each beginning xs (room_at each j i (length beginning) inside (sym long)))))
-    (ap (λ ys. encoding (symbol_bits ys)) (part_last (each * i) each beginning xs long long_xs))
-
--- before the first place
-pub counted_none : {IsWord : List Bool → Type 0} (size k each : ℕ) (places : List ℕ) (symbols : List Sym) (bits : List Bool) → AreCounted IsWord size k each 0 places symbols bits 0
-counted_none size k each places symbols bits = record {
-  most = omega arith;
-  value = λ encoding encodes. record {
-    value = sym (ap₂ (λ (xs ys : List Bool). distance_of xs ys) (inner_bits-none size bits) (field_bits-none encoding each symbols) ∙ distance_of-same []);
-    received_long = ap length (inner_bits-none size bits) ∙ omega arith;
-    sent_long = ap length (field_bits-none encoding each symbols) ∙ omega arith;
-  };
-}
+use Rattle.p25_coded_fields.specs.{Layouts.{field_bits}, Fixes.{inner_bits, field_fixes_of}}
+use Rattle.p25_coded_fields.proofs.{FieldLaws.{length-field_bits}, SymbolsLaws.{one_more, room_at}}
 
 -- where an inner word has information there are few
 pub few_places : (each n : ℕ) → 0 < each → n * each ≤ 36 → n ≤ 36
 few_places each n some short = let one : 1 ≤ each = omega arith in omega (arith, mul-le-mul_left n one)
 
--- one place more
-module _ {IsWord : List Bool → Type 0} {size k : ℕ} (long : (word : List Bool) → IsWord word → length word ≡ size) where
-  pub counted_more : (each i : ℕ) (places : List ℕ) (beginning xs : List Sym) (bits : List Bool) (count more : ℕ)
-      → 6 * each ≡ k → i < length places → All (λ at. at + size ≤ length bits) places
-      → length beginning ≡ each * i → length xs ≡ each → AreCounted IsWord size k each i places beginning bits count
-      → IsInnerCount IsWord size k (get_or places i 0) xs bits more
-      → AreCounted IsWord size k each (i + 1) places (beginning ++ xs) bits (count + more)
-  counted_more each i places beginning xs bits count more sixes inside there long_front long_xs before is = record {
-    most = omega (arith, before.most, is.few);
-    value = λ encoding encodes.
-        let at = get_or places i 0 in
-        let word = encoding (symbol_bits xs) in
-        let made = encodes (symbol_bits xs) (length-symbol_bits xs ∙ ap (λ n. 6 * n) long_xs ∙ sixes) in
-        let here = before.value encoding encodes in
-        let received = inner_bits size (take i places) bits in
-        let sent = field_bits encoding each i beginning in
-        let more_received = inner_bits-more size places i bits inside in
-        let more_sent = field_bits-more encoding each i beginning xs long_front long_xs in
-        let long_received : length (part at size bits) ≡ size = length-part at size bits (there i 0 inside) in
-        let long_word : length word ≡ size = long word made.word_of_set in
-        record {
-          value =
-              ap₂ (λ a b. a + b) here.value (is.value word made)
-              ∙ sym (distance_by-append beq received (part at size bits) sent word (here.received_long ∙ sym here.sent_long))
-              ∙ ap₂ (λ (us vs : List Bool). distance_of us vs) (sym more_received) (sym more_sent);
-          received_long = ap length more_received ∙ length-append received (part at size bits) ∙ omega (arith, here.received_long, long_received, one_more size i);
-          sent_long = ap length more_sent ∙ length-append sent word ∙ omega (arith, here.sent_long, long_word, one_more size i);
-        };
-  }
-
-  -- one place more in a reader, where all before it and this one were read
-  pub counted_next : (each i m : ℕ) (places : List ℕ) (word xs : List Sym) (bits : List Bool) (count more total : Option ℕ) → 6 * each ≡ k → i < length places
-      → All (λ at. at + size ≤ length bits) places → each * i + each ≤ length word → length xs ≡ each
-      → IfSome count (AreCounted IsWord size k each i places (take (each * i) word) bits) → IfSome more (IsInnerCount IsWord size k (get_or places i 0) xs bits)
-      → IfSome total (λ sum. (a : ℕ) × (b : ℕ) × (count ≡ Some a) × (more ≡ Some b) × (sum ≡ a + b))
-      → IfSome total (AreCounted IsWord size k each (i + 1) places (take (each * (i + 1)) (put_mid (each * i) m word xs)) bits)
-  counted_next each i m places word xs bits count more None sixes inside there fits long_xs before is sum = tt
-  counted_next each i m places word xs bits count more (Some total) sixes inside there fits long_xs before is (a, b, is_a, is_b, same) =
-      let front = take (each * i) word in
-      let room : each * i ≤ length word = omega arith in
-      let next : each * (i + 1) ≡ each * i + length xs = omega (arith, one_more each i) in
-      let first = subst (λ (c : Option ℕ). IfSome c (AreCounted IsWord size k each i places front bits)) is_a before in
-      let second = subst (λ (c : Option ℕ). IfSome c (IsInnerCount IsWord size k (get_or places i 0) xs bits)) is_b is in
-      let next_is : front ++ xs ≡ take (each * (i + 1)) (put_mid (each * i) m word xs) = sym (take-put_mid (each * i) m word xs (each * (i + 1)) next room) in
-      let counted = counted_more each i places front xs bits a b sixes inside there (length-take-le (each * i) word room) long_xs first second in
-      subst (λ (ys : List Sym). AreCounted IsWord size k each (i + 1) places ys bits total) next_is
-      (subst (λ (n : ℕ). AreCounted IsWord size k each (i + 1) places (front ++ xs) bits n) (sym same) counted)
-
 -- the symbols of one group more
 pub front_more : (each i : ℕ) (symbols : List Sym) → take (each * i) symbols ++ part (each * i) each symbols ≡ take (each * (i + 1)) symbols
-front_more each i symbols =
-    ap (λ n. take (each * i) symbols ++ part n each symbols) (sym (zero-add (each * i))) ∙ part_add 0 (each * i) each symbols ∙ ap (λ n. take n symbols) (one_more each i)
+front_more each i symbols = ap (λ n. take (each * i) symbols ++ part n each symbols) (sym (zero-add (each * i))) ∙ part_add 0 (each * i) each symbols ∙ ap (λ n. take n symbols) (one_more each i)
 
--- after the last place
-pub all_groups : (P : ℕ → ℕ → List Sym → Type 0) (each group i n : ℕ) (symbols : List Sym)
-    → each ≡ group → n ≤ i → i ≤ n → n * group ≡ length symbols → P each i (take (each * i) symbols) → P group n symbols
-all_groups P each group i n symbols same past most covers is =
-    let here : i ≡ n = omega arith in
-    let all : length symbols ≤ group * n = omega (arith, mul_comm group n) in
-    let grouped = subst (λ e. P e i (take (e * i) symbols)) same is in
-    let ended = subst (λ m. P group m (take (group * m) symbols)) here grouped in
-    subst (λ (xs : List Sym). P group n xs) (take_all (group * n) symbols all) ended
+-- the first places are there, as all are
+pub there_before : (size len i : ℕ) (places : List ℕ) → All (λ at. at + size ≤ len) places → All (λ at. at + size ≤ len) (take i places)
+there_before size len i places there = All-take (λ at. at + size ≤ len) i places there
 
--- all places
-pub counted_all : {IsWord : List Bool → Type 0} {size k : ℕ} (each : ℕ) (places : List ℕ) (symbols : List Sym) (bits : List Bool) (count : ℕ)
-    → AreCounted IsWord size k each (length places) places symbols bits count
-    → (encoding : List Bool → List Bool) → Encodes IsWord k encoding → count ≡ field_fixes_of encoding size each places symbols bits
-unfolding field_fixes_of
-counted_all {IsWord} {size} {k} each places symbols bits count is encoding encodes =
-    let every : length places ≤ length places = omega arith in
-    (is.value encoding encodes).value ∙ ap (λ ps. distance_of (inner_bits size ps bits) (field_bits encoding each (length places) symbols)) (take_all (length places) places every)
+-- at most as many bits differ as an inner word has
+pub word_most : (size at most : ℕ) (bits sent : List Bool) → size ≤ most → at + size ≤ length bits → distance_of (part at size bits) sent ≤ most
+word_most size at most bits sent small there = omega (arith, distance_by-le beq (part at size bits) sent, length-part at size bits there)
+
+-- the inner words that were received have their bits
+length-inner_bits : (size : ℕ) (places : List ℕ) (bits : List Bool) → All (λ at. at + size ≤ length bits) places → length (inner_bits size places bits) ≡ size * length places
+unfolding inner_bits
+length-inner_bits size [] bits there = omega arith
+length-inner_bits size (at ∷ places) bits there =
+    rw (length-append, length-part at size bits (there 0 at (omega arith)), length-inner_bits size places bits (λ i d inside. there (suc i) d (omega arith)))
+    (omega (arith, one_more size (length places)))
+
+module _ (encoding : List Bool → List Bool) (size each : ℕ) where
+  -- one inner word more
+  field_bits-more : (i : ℕ) (beginning xs : List Sym) → length beginning ≡ each * i → length xs ≡ each
+      → field_bits encoding each (i + 1) (beginning ++ xs) ≡ field_bits encoding each i beginning ++ encoding (symbol_bits xs)
+  unfolding field_bits
+  field_bits-more i beginning xs long long_xs =
+      joined_below-more i (λ j. encoding (symbol_bits (part (each * j) each (beginning ++ xs))))
+      ∙ ap₂ (λ (us vs : List Bool). us ++ vs)
+      (joined_below-same i (λ j. encoding (symbol_bits (part (each * j) each (beginning ++ xs)))) (λ j. encoding (symbol_bits (part (each * j) each beginning)))
+      (λ j inside. rw (part_left (each * j) each beginning xs (room_at each j i (length beginning) inside (sym long))) refl))
+      (rw (part_last (each * i) each beginning xs long long_xs) refl)
+
+  -- before the first place there are none
+  pub fixes_none : (symbols : List Sym) (bits : List Bool) → field_fixes_of encoding size each [] symbols bits ≡ 0
+  unfolding field_fixes_of inner_bits
+  fixes_none symbols bits = distance_by-nil beq (field_bits encoding each 0 symbols)
+
+  -- at most as many as the inner words have bits
+  pub fixes_most : (most : ℕ) (places : List ℕ) (symbols : List Sym) (bits : List Bool)
+      → size ≤ most → All (λ at. at + size ≤ length bits) places → field_fixes_of encoding size each places symbols bits ≤ most * length places
+  unfolding field_fixes_of
+  fixes_most most places symbols bits small there =
+      omega (
+        arith,
+        distance_by-le beq (inner_bits size places bits) (field_bits encoding each (length places) symbols),
+        length-inner_bits size places bits there,
+        mul-le-mul_right (length places) small,
+      )
+
+  -- after the last place
+  pub all_fixes : (group i : ℕ) (places : List ℕ) (symbols : List Sym) (bits : List Bool)
+      → each ≡ group → length places ≤ i → i ≤ length places → length places * group ≡ length symbols
+      → field_fixes_of encoding size each (take i places) (take (each * i) symbols) bits ≡ field_fixes_of encoding size group places symbols bits
+  all_fixes group i places symbols bits same past most covers =
+      let here : i ≡ length places = omega arith in
+      let all : length symbols ≤ group * length places = omega (arith, mul_comm group (length places)) in
+      rw (take_all i places past, same, here, take_all (group * length places) symbols all) refl
+
+  -- one place more
+  pub fixes_more : {IsWord : List Bool → Type 0} {k : ℕ} (long : (word : List Bool) → IsWord word → length word ≡ size) → Encodes IsWord k encoding
+      → (places : List ℕ) (at : ℕ) (beginning xs : List Sym) (bits : List Bool)
+      → 6 * each ≡ k → All (λ at. at + size ≤ length bits) places → length beginning ≡ each * length places → length xs ≡ each
+      → field_fixes_of encoding size each (places ++ at ∷ []) (beginning ++ xs) bits
+      ≡ field_fixes_of encoding size each places beginning bits + distance_of (part at size bits) (encoding (symbol_bits xs))
+  unfolding field_fixes_of inner_bits
+  fixes_more long encodes places at beginning xs bits sixes there long_front long_xs =
+      let received = inner_bits size places bits in
+      let sent = field_bits encoding each (length places) beginning in
+      let even : length received ≡ length sent
+      = length-inner_bits size places bits there ∙ sym (length-field_bits long encoding encodes each (length places) beginning sixes (sym long_front)) in
+      rw (
+        length-append places (at ∷ []),
+        field_bits-more (length places) beginning xs long_front long_xs,
+        flat_map-append (λ (place : ℕ). part place size bits) places (at ∷ []),
+        append-nil (part at size bits),
+      ) (distance_by-append beq received (part at size bits) sent (encoding (symbol_bits xs)) even)
+
+  -- one place more of a list: the symbols so far, and those of the next word
+  pub fixes_next : {IsWord : List Bool → Type 0} {k : ℕ} (long : (word : List Bool) → IsWord word → length word ≡ size) → Encodes IsWord k encoding
+      → (i : ℕ) (places : List ℕ) (word xs symbols : List Sym) (bits : List Bool)
+      → 6 * each ≡ k → All (λ at. at + size ≤ length bits) places → i < length places → each * i ≤ length word → length xs ≡ each → take (each * (i + 1)) symbols ≡ take (each * i) word ++ xs
+      → field_fixes_of encoding size each (take (i + 1) places) (take (each * (i + 1)) symbols) bits
+      ≡ field_fixes_of encoding size each (take i places) (take (each * i) word) bits + distance_of (part (get_or places i 0) size bits) (encoding (symbol_bits xs))
+  fixes_next long encodes i places word xs symbols bits sixes there inside fits long_xs next =
+      let before : length (take i places) ≡ i = length-take-le i places (omega arith) in
+      rw (take_more places i 0 inside, next)
+      (fixes_more long encodes (take i places) (get_or places i 0) (take (each * i) word) xs bits sixes
+      (there_before size (length bits) i places there) (rw before (length-take-le (each * i) word fits)) long_xs)
+
+-- the sum of two counts, where both are known
+pub fixes_counted : (a b c : ℕ) (count more total : Option ℕ) → IfSome count (λ x. x ≡ a) → IfSome more (λ x. x ≡ b)
+    → IfSome total (λ sum. (x : ℕ) × (y : ℕ) × (count ≡ Some x) × (more ≡ Some y) × (sum ≡ x + y)) → c ≡ a + b → IfSome total (λ x. x ≡ c)
+fixes_counted a b c count more None first second is next = tt
+fixes_counted a b c count more (Some total) first second (x, y, is_x, is_y, sum) next =
+    let left = rw is_x at first in let right = rw is_y at second in rw (sum, left, right) (sym next)

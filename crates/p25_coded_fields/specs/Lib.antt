@@ -1,5 +1,4 @@
 pub mod Layouts
-pub mod Written
 pub mod Within
 pub mod Fixes
 pub use Rattle.p25_link.specs.Symbols.{symbol_in, symbols_in, symbol_bits}

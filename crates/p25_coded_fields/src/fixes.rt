@@ -1,7 +1,9 @@
 //! In how many bits the inner words of a field were received otherwise than they are sent.
 
 ghost use Rattle.std.specs.Prelude.{◌≡◌, ◌+◌, ◌*◌, ◌/◌, ◌≤◌, ℕ, All, IfSome, Some, length};
-ghost use Rattle.p25_coded_fields.specs.Fixes.{AreCounted, IsInnerCount};
+ghost use Rattle.p25_bits.specs.{Bits.{part}, Distance.{distance_of}};
+ghost use Rattle.p25_link.specs.Symbols.{symbol_bits};
+ghost use Rattle.p25_coded_fields.specs.Fixes.{field_fixes_of};
 
 use p25_bits::BitBuf;
 use p25_code::NumberCode;
@@ -36,8 +38,8 @@ pub(crate) fn field_fixes<I: NumberCode>(
     requires few { length places.now ≤ 36 }
     requires word { length places.now * (I.K / 6) ≡ length word.now }
     requires there { All (λ at. at + I.N ≤ length bare.now) places.now }
-    requires counted { changed ≡ 0 → IfSome counted (AreCounted I.IsWord I.N I.K (I.K / 6) (length places.now) places.now word.now bare.now) }
-    ensures { AreCounted I.IsWord I.N I.K (I.K / 6) (length places.now) places.now word.now bare.now result }
+    requires counted { changed ≡ 0 → IfSome counted (λ wrong. wrong ≡ field_fixes_of I.encoding_is I.N (I.K / 6) places.now word.now bare.now) }
+    ensures { result ≡ field_fixes_of I.encoding_is I.N (I.K / 6) places.now word.now bare.now }
 {
     if changed == 0 {
         if let Some(wrong) = counted {
@@ -59,7 +61,7 @@ fn inner_fixes<I: NumberCode>(bare: &BitBuf, at: usize, symbols: &[Sym]) -> u32
     requires small { I.N ≤ 24 }
     requires sixes { 6 * length symbols.now ≡ I.K }
     requires there { at + I.N ≤ length bare.now }
-    ensures { IsInnerCount I.IsWord I.N I.K at symbols.now bare.now result }
+    ensures { result ≡ distance_of (part at I.N bare.now) (I.encoding_is (symbol_bits symbols.now)) }
 {
     let received = bare.field(at, I::N as u32) as u32;
     let sent = I::encode_number(symbols_number(symbols) as u32);

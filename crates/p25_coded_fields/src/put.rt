@@ -1,7 +1,8 @@
 //! Fields written.
 
-ghost use Rattle.std.specs.Prelude.{◌≡◌, ◌+◌, ◌*◌, ◌/◌, ◌≤◌, List, Bool, ◌++◌, length};
-ghost use Rattle.p25_coded_fields.specs.{Layouts.{field_bits}, Written.{Encodes, IsPut, IsWritten}};
+ghost use Rattle.std.specs.Prelude.{◌≡◌, ◌+◌, ◌*◌, ◌/◌, ◌≤◌, ◌++◌, length};
+ghost use Rattle.p25_link.specs.Symbols.{symbol_bits};
+ghost use Rattle.p25_coded_fields.specs.Layouts.{field_bits};
 
 use p25_bits::BitBuf;
 use p25_code::NumberCode;
@@ -14,24 +15,22 @@ fn put_inner<I: NumberCode>(symbols: &[Sym], out: &mut BitBuf)
     requires small { I.N ≤ 24 }
     requires sixes { 6 * length symbols.now ≡ I.K }
     requires room { length out.old + I.N ≤ 25928 }
-    ensures put { IsPut I.IsWord I.K symbols.now out.old out.new }
+    ensures list { out.new ≡ out.old ++ I.encoding_is (symbol_bits symbols.now) }
     ensures len { length out.new ≡ length out.old + I.N }
 {
     let word = I::encode_number(symbols_number(symbols) as u32);
     out.put_field(u64::from(word), I::N as u32);
 }
 
-/// Appends `count` inner words, whose information is the symbols in order, so many for each word as its information has. For
-/// every function that encodes, as the inner code does, what is appended is `field_bits` of it. TIA-102.BAAA, Voice Data
-/// Units.
+/// Appends `count` inner words, whose information is the symbols in order, so many for each word as its information has.
+/// TIA-102.BAAA, Voice Data Units.
 pub fn put_coded<I: NumberCode>(symbols: &[Sym], count: usize, out: &mut BitBuf)
     requires code { I.HasCode }
     requires small { I.N ≤ 24 }
     requires sixes { 6 * (I.K / 6) ≡ I.K }
     requires symbols { (I.K / 6) * count ≡ length symbols.now }
     requires room { length out.old + I.N * count ≤ 25928 }
-    ensures written { IsWritten I.IsWord I.N I.K (I.K / 6) count symbols.now out.old out.new }
-    ensures list { (encoding : List Bool → List Bool) → Encodes I.IsWord I.K encoding → out.new ≡ out.old ++ field_bits encoding (I.K / 6) count symbols.now }
+    ensures list { out.new ≡ out.old ++ field_bits I.encoding_is (I.K / 6) count symbols.now }
     ensures len { length out.new ≡ length out.old + I.N * count }
 {
     let each = I::K / 6;

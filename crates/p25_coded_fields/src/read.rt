@@ -1,9 +1,10 @@
 //! Fields read.
 
-ghost use Rattle.std.specs.Prelude.{◌≡◌, ℕ, ◌+◌, ◌*◌, ◌/◌, ◌<◌, ◌≤◌, All, Bool, List, IfSome, length};
-ghost use Rattle.p25_bits.specs.Bits.{part};
+ghost use Rattle.std.specs.Prelude.{◌≡◌, ℕ, ◌+◌, ◌*◌, ◌/◌, ◌<◌, ◌≤◌, All, IfSome, length};
+ghost use Rattle.p25_bits.specs.{Bits.{part}, Distance.{distance_of}};
 ghost use Rattle.p25_code.specs.{Erasures.{without_erased}, Readings.{word_read}};
-ghost use Rattle.p25_coded_fields.specs.{Fixes.{field_fixes_of, IsInnerCount}, Layouts.{field_layout, symbols_or_erasures, outer_word_of}, Written.{Encodes}};
+ghost use Rattle.p25_link.specs.Symbols.{symbol_bits};
+ghost use Rattle.p25_coded_fields.specs.{Fixes.{field_fixes_of}, Layouts.{field_layout, symbols_or_erasures, outer_word_of}};
 
 use crate::fixes::{field_fixes, total_known};
 use p25_bits::BitBuf;
@@ -25,7 +26,7 @@ fn read_inner<I: NumberCode>(
     requires same { length erased.old ≡ length symbols.old }
     requires there { at + I.N ≤ length bare.now }
     ensures erasures { without_erased symbols.new erased.new ≡ symbols_or_erasures (length symbols.old) (I.reading_is (part at I.N bare.now)) }
-    ensures count { IfSome result (IsInnerCount I.IsWord I.N I.K at symbols.new bare.now) }
+    ensures count { IfSome result (λ wrong. wrong ≡ distance_of (part at I.N bare.now) (I.encoding_is (symbol_bits symbols.new))) }
 {
     let received = bare.field(at, I::N as u32) as u32;
     match I::read_number(received) {
@@ -61,8 +62,8 @@ pub fn read_field<I: NumberCode, O: ErasedCode<Letter = Sym>>(
     requires places { length places.now * (I.K / 6) ≡ O.N }
     requires there { All (λ at. at + I.N ≤ length bare.now) places.now }
     ensures value { word_read result word.new ≡ outer_word_of (field_layout places.now I.N (I.K / 6) I.reading_is O.erased_reading_is O.K) bare.now }
-    ensures fixes { 0 < I.K → (encoding : List Bool → List Bool) → Encodes I.IsWord I.K encoding → (fixes : ℕ) → result ≡ Reading.Found fixes
-        → fixes ≡ field_fixes_of encoding I.N (I.K / 6) places.now word.new bare.now }
+    ensures fixes { 0 < I.K → (fixes : ℕ) → result ≡ Reading.Found fixes
+        → fixes ≡ field_fixes_of I.encoding_is I.N (I.K / 6) places.now word.new bare.now }
     ensures most { 0 < I.K → (fixes : ℕ) → result ≡ Reading.Found fixes → fixes ≤ 24 * length places.now }
 {
     let each = I::K / 6;

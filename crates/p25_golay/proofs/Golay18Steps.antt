@@ -3,7 +3,7 @@ use Rattle.std.proofs.{Common.{◌≡◌, ℕ, ◌/◌, ◌^◌, ◌<◌, ◌≤
 use Rattle.std.specs.{Option.{MatchOption}, Int.Bits.{xor_zero_l}, Int.RustNames.{count_ones}}
 use Rattle.p25_code.specs.{Binary.{check_columns}, WrongBits.{number_sum, AreWrong, NoneWrong}}
 use Rattle.p25_code.proofs.{ParityLaws.{number_sum-zero}, WrongLaws.{number_sum-append}, NumberCodeLaws.{one_wrong}}
-use Rattle.p25_golay.specs.{Golay18Laws.{short_rows}, Golay24Laws.{check_rows, golay24_code}}
+use Rattle.p25_golay.specs.{Golay18.{short_rows}, Golay24.{check_rows}, Golay24Laws.{golay24_code}}
 
 -- the rows of the six zeros
 abbrev first_rows : List ℕ

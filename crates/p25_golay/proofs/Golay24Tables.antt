@@ -4,7 +4,7 @@ use Rattle.std.proofs.Common.{◌≡◌, ℕ, ◌/◌, ◌%◌, ◌^◌, ◌<◌
 use Rattle.p25_bits.specs.{Bits.{bits_of}, Numbers.{each_below}}
 use Rattle.p25_code.specs.{Binary.{syndrome_of, check_columns}, WrongBits.{number_sum, AreInverse}}
 use Rattle.p25_code.proofs.{SumTablesLaws.{sums_of, entry-is}, WrongLaws.{number_sum-append, number_sum-mod, are_inverse}}
-use Rattle.p25_golay.specs.{Golay24Laws.{check_rows}, declared.golay24.fn.Golay24.{check_bits.TheConstants.{CHECKS}, wrong_bits.TheConstants.{MESSAGES}}}
+use Rattle.p25_golay.specs.{Golay24.{check_rows}, declared.golay24.fn.Golay24.{check_bits.TheConstants.{CHECKS}, wrong_bits.TheConstants.{MESSAGES}}}
 
 -- the messages of the words with one 1 among the check bits
 abbrev message_rows : List ℕ

@@ -1,14 +1,10 @@
 -- The laws of the shortened Golay code (18,6).
-use Rattle.std.specs.{Prelude.{◌≡◌, ℕ, ◌++◌, Bool, true, false, List, [], ◌∷◌, Option, refl}, Int.Bits.{xor_zero_l}}
+use Rattle.std.specs.{Prelude.{◌≡◌, ℕ, ◌++◌, Bool, true, false, List, ◌∷◌, Option, refl}, Int.Bits.{xor_zero_l}}
 use Rattle.std.proofs.Common.{arith, sym, ◌∙◌}
 use Rattle.p25_bits.specs.Bits.{bits_of}
 use Rattle.p25_code.specs.{Binary.{IsChecked, check_columns, systematic, syndrome_of, weight_of}, CodeLaws.{IsSystematic, SystematicCode, is_heavy, all_bits}}
 use Rattle.p25_code.proofs.SystematicLaws.{is_checked_code}
-use Rattle.p25_golay.specs.{Golay18.{IsGolay18}, Golay24Laws.{golay24_code}}
-
--- the check bits of the last six messages with one 1 of the Golay code (24,12)
-abbrev pub short_rows : List ℕ
-short_rows = 0x6CD ∷ 0x367 ∷ 0xDC6 ∷ 0xA97 ∷ 0x93E ∷ 0x8EB ∷ []
+use Rattle.p25_golay.specs.{Golay18.{short_rows, IsGolay18}, Golay24Laws.{golay24_code}}
 
 -- every word but that of zeros has at least eight ones
 heavy : all_bits 6 (is_heavy short_rows 12 8) ≡ true

@@ -8,11 +8,7 @@ use Rattle.p25_code.specs.CodeLaws.{IsSystematic, SystematicCode, is_heavy, all_
 use Rattle.p25_code.proofs.{SyndromeLaws.{syndrome_of-append}, BinaryLaws.{length_checked}, SystematicLaws.{is_checked_code}}
 use Rattle.p25_code.proofs.RemainderLaws.{power_remainder, remainders, remainders-divisible, divisible-remainders}
 use Rattle.p25_code.proofs.ParityLaws.{mixed_passes, with_parity, syndrome_of-with_parity}
-use Rattle.p25_golay.specs.Golay24.{IsGolay24}
-
--- the check bits of the messages with one 1: the remainder by the generator, then the bit that makes the weight even
-abbrev pub check_rows : List ℕ
-check_rows = 0xC75 ∷ 0x63B ∷ 0xF68 ∷ 0x7B4 ∷ 0x3DA ∷ 0xD99 ∷ 0x6CD ∷ 0x367 ∷ 0xDC6 ∷ 0xA97 ∷ 0x93E ∷ 0x8EB ∷ []
+use Rattle.p25_golay.specs.Golay24.{check_rows, IsGolay24}
 
 -- every word but that of zeros has at least eight ones
 heavy : all_bits 12 (is_heavy check_rows 12 8) ≡ true

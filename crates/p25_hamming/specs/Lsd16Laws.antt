@@ -1,15 +1,11 @@
 -- The laws of the code (16,8) of the low speed data.
-use Rattle.std.specs.Prelude.{◌≡◌, ℕ, ◌<◌, ◌^◌, ◌++◌, Bool, true, List, [], ◌∷◌, length, Option, refl}
+use Rattle.std.specs.Prelude.{◌≡◌, ◌<◌, ◌^◌, ◌++◌, Bool, true, List, length, Option, refl}
 use Rattle.std.proofs.Common.{arith, ap, sym, ◌∙◌}
 use Rattle.p25_bits.specs.{Bits.{bits_of}, Divisible.{HasDegree}}
 use Rattle.p25_code.specs.{Binary.{IsChecked, check_columns, systematic, syndrome_of, weight_of}, CodeLaws.{IsSystematic, SystematicCode, is_heavy, all_bits}}
 use Rattle.p25_code.proofs.{BinaryLaws.{length_checked}, SystematicLaws.{is_checked_code}}
 use Rattle.p25_code.proofs.RemainderLaws.{power_remainder, remainders, remainders-divisible, divisible-remainders}
-use Rattle.p25_hamming.specs.Lsd16.{IsLsd16}
-
--- the remainders of x^15 to x^8 by the generator: the check bits of the messages with one 1
-abbrev pub check_rows : List ℕ
-check_rows = 0x4E ∷ 0x27 ∷ 0x8F ∷ 0xDB ∷ 0xF1 ∷ 0xE4 ∷ 0x72 ∷ 0x39 ∷ []
+use Rattle.p25_hamming.specs.Lsd16.{check_rows, IsLsd16}
 
 -- with the check columns they are the remainders of x^15 to x^0
 columns-remainders : check_rows ++ check_columns 8 ≡ remainders 0x139 8 16

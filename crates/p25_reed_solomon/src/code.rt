@@ -2,7 +2,7 @@
 
 ghost use Rattle.std.specs.Prelude.{◌+◌, ◌-◌};
 ghost use Rattle.p25_gf64.proofs.SymbolLaws.{same_from_eq};
-ghost use Rattle.p25_reed_solomon.specs.{Words.{IsCode, IsWord, radius_of}, WordLaws.{begins_of, length_of_word_of, one_word_of, within_of, words_apart}};
+ghost use Rattle.p25_reed_solomon.specs.{Encoding.{rs_word}, Words.{IsCode, IsWord, radius_of}, WordLaws.{begins_of, length_of_word_of, one_word_of, within_of, words_apart}};
 ghost use Rattle.p25_reed_solomon.specs.RsReadings.{erasures_within_of, rs_erased_reading_of, rs_erased_reads_as, rs_reading_of, rs_reads_as};
 
 use crate::encoder::encode;
@@ -36,6 +36,8 @@ impl<const N: usize, const K: usize> BlockCode for Rs<N, K> {
     ghost radius_is = { radius_of N K };
 
     ghost distance_is = { N - K + 1 };
+
+    ghost encoding_is = { rs_word N K };
 
     ghost reading_is = { rs_reading_of N K };
 

@@ -10,7 +10,9 @@ use Rattle.p25_coded_fields.specs.{Fixes.{inner_bits, field_fixes_of}, Layouts.{
 use Rattle.p25_coded_fields.proofs.CodesLaws.{all_end}
 use Rattle.p25_voice_units.specs.{declared.layout.Piece.TheVariants.{Nulls}, declared.unit.VoiceUnit.{VoiceUnit, TheVariants.{End}}, declared.voice.VoiceFrame.{VoiceFrame}, FieldLayouts.{word_places}}
 use Rattle.p25_voice_units.specs.Fixes.{wide, bits_at, link_looked, low_fixes_of, voice_looked, voice_fixes_of, AreFixes}
-use Rattle.p25_voice_units.specs.{Images.{contents, hamming10_word, lsd16_word, piece_bits, rows_bits, voice_image_of}, Layouts.{ldu_rows}, Readings.{low_places}, Sendable.{IsSpeech}}
+use Rattle.p25_hamming.specs.Hamming10.{hamming10_word}
+use Rattle.p25_hamming.specs.Lsd16.{lsd16_word}
+use Rattle.p25_voice_units.specs.{Images.{contents, piece_bits, rows_bits, voice_image_of}, Layouts.{ldu_rows}, Readings.{low_places}, Sendable.{IsSpeech}}
 use Rattle.p25_unit_front.specs.Front.{unit_front}
 use Rattle.p25_voice_units.proofs.{FixesLaws.{fixes-append}, FormLaws.{length-unit, unit_parts, words_in_unit}, ImagesLaws.{hamming10_carried, ldu_suits}}
 

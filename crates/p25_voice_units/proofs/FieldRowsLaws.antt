@@ -6,14 +6,14 @@ use Rattle.std.proofs.lemmas.List.Elements.{All-nil, All-cons}
 use Rattle.p25_bits.specs.Bits.{bits_of, part}
 use Rattle.p25_bits.proofs.{BitsLaws.{length-bits_of}, PartLaws.{length-part, part-part}, NumbersLaws.{joined_below-parts, joined_below-same}}
 use Rattle.p25_code.specs.Words.{IsEncoding}
-use Rattle.p25_hamming.specs.Lsd16.{IsLsd16}
+use Rattle.p25_hamming.specs.{Lsd16.{IsLsd16}, Lsd16Laws.{lsd16_code}}
 use Rattle.p25_gf64.specs.declared.symbol.Sym.{Sym}
 use Rattle.p25_link.specs.Symbols.{symbol_bits}
 use Rattle.p25_coded_fields.specs.Layouts.{field_bits}
 use Rattle.p25_coded_fields.proofs.{SymbolsLaws.{room_at}, FieldLaws.{length-places_from, get_or-places_from, part-field_bits}}
 use Rattle.p25_voice_units.specs.{declared.layout.Piece.{Piece}, declared.layout.Piece.TheVariants.{Words, Frame, LowSpeed, Nulls}, FieldLayouts.{words_at, word_places}}
 use Rattle.p25_voice_units.specs.{Pieces.{piece_fits, piece_length}, Images.{Contents, piece_bits}, Places.{HasPiece}}
-use Rattle.p25_voice_units.proofs.{CodesLaws.{lsd16_encodes, lsd16_only}, RowsLaws.{IsCarried, rows_supplied}}
+use Rattle.p25_voice_units.proofs.{CodesLaws.{lsd16_only}, RowsLaws.{IsCarried, rows_supplied}}
 
 -- how many inner words a piece has
 abbrev pub word_count : Piece → ℕ
@@ -161,7 +161,7 @@ piece_has carried size at (Words first count) bare is = tt
 piece_has carried size at (Frame i) bare is = is
 piece_has carried size at (LowSpeed i) bare is =
     let octet = get_or carried.low i 0 in
-    subst (λ w. IsEncoding IsLsd16 8 (bits_of 8 octet) w) (sym is) (lsd16_encodes (bits_of 8 octet) (length-bits_of 8 octet))
+    subst (λ w. IsEncoding IsLsd16 8 (bits_of 8 octet) w) (sym is) (lsd16_code.is.encodes (bits_of 8 octet) (length-bits_of 8 octet))
 piece_has carried size at (Nulls count) bare is = is
 
 pub rows_have : (carried : Contents) (size : ℕ) (rows : List (ℕ × Piece)) (bare : List Bool) → All (λ row. part row.0 (piece_length size row.1) bare ≡ piece_bits carried row.1) rows

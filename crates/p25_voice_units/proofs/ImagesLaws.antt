@@ -11,23 +11,26 @@ use Rattle.p25_link.proofs.WordsLaws.{header_words, link_words, sync_words}
 use Rattle.p25_coded_fields.specs.Layouts.{places_from}
 use Rattle.p25_voice_units.specs.{declared.voice.VoiceFrame.{VoiceFrame}, declared.unit.VoiceUnit.{VoiceUnit}, declared.unit.VoiceUnit.TheVariants.{Header, Link1, Link2, End, EndLink}}
 use Rattle.p25_voice_units.specs.{Layouts.{hdu_rows, ldu_rows, tdu_rows, tdulc_rows}, FieldLayouts.{word_places}, Lengths.{voice_duid, voice_length_of}}
-use Rattle.p25_voice_units.specs.{Sendable.{IsVoiceFrame, IsSpeech, IsSendableVoice}, Images.{contents, golay18_word, golay24_word, hamming10_word, voice_body, voice_image_of}, Places.{IsVoiceImage}}
-use Rattle.p25_voice_units.proofs.CodesLaws.{golay18_encodes, golay24_encodes, hamming10_encodes, header_code, link_code, sync_code}
+use Rattle.p25_golay.specs.Golay18.{golay18_word}
+use Rattle.p25_golay.specs.Golay24.{golay24_word}
+use Rattle.p25_hamming.specs.Hamming10.{hamming10_word}
+use Rattle.p25_voice_units.specs.{Sendable.{IsVoiceFrame, IsSpeech, IsSendableVoice}, Images.{contents, voice_body, voice_image_of}, Places.{IsVoiceImage}}
+use Rattle.p25_voice_units.proofs.CodesLaws.{header_code, link_code, sync_code}
 use Rattle.p25_voice_units.proofs.{LengthsLaws.{length-header, length-ldu1, length-ldu2, length-end, length-tdulc}, RowsLaws.{IsCarried, rows_supplied}}
 use Rattle.p25_voice_units.proofs.FormLaws.{AreRows, length-unit, laid_out, laid_out-only, unit_form}
 
 -- what the codes of the inner words need
 pub golay18_carried : (symbols : List Sym) → IsCarried IsGolay18 18 6 (contents golay18_word 1 symbols [] [])
 golay18_carried symbols =
-    record { encodes = golay18_encodes; long = golay18_code.is.laws.long; one_word = golay18_code.is.laws.one_word; sixes = refl; begins = lit≤ tt; frames = All-nil IsVoiceFrame }
+    record { encodes = golay18_code.is.encodes; long = golay18_code.is.laws.long; one_word = golay18_code.is.laws.one_word; sixes = refl; begins = lit≤ tt; frames = All-nil IsVoiceFrame }
 
 pub golay24_carried : (symbols : List Sym) → IsCarried IsGolay24 24 12 (contents golay24_word 2 symbols [] [])
 golay24_carried symbols =
-    record { encodes = golay24_encodes; long = golay24_code.is.laws.long; one_word = golay24_code.is.laws.one_word; sixes = refl; begins = lit≤ tt; frames = All-nil IsVoiceFrame }
+    record { encodes = golay24_code.is.encodes; long = golay24_code.is.laws.long; one_word = golay24_code.is.laws.one_word; sixes = refl; begins = lit≤ tt; frames = All-nil IsVoiceFrame }
 
 pub hamming10_carried : (symbols : List Sym) (low : List ℕ) (voice : List VoiceFrame) → IsSpeech low voice → IsCarried IsHamming10 10 6 (contents hamming10_word 1 symbols low voice)
 hamming10_carried symbols low voice speech =
-    record { encodes = hamming10_encodes; long = hamming10_code.is.laws.long; one_word = hamming10_code.is.laws.one_word; sixes = refl; begins = lit≤ tt; frames = speech.frames }
+    record { encodes = hamming10_code.is.encodes; long = hamming10_code.is.laws.long; one_word = hamming10_code.is.laws.one_word; sixes = refl; begins = lit≤ tt; frames = speech.frames }
 
 -- the outer words
 length-outer : (n k : ℕ) (info : List Sym) → IsCode n k → length info ≡ k → length (rs_word n k info) ≡ n

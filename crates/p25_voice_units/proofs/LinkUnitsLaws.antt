@@ -10,7 +10,8 @@ use Rattle.p25_status.specs.{Outcomes.{read_or, IfRead}, declared.fields.Field.{
 use Rattle.p25_status.specs.{declared.read_outcome.ReadOutcome.{ReadOutcome}, declared.read_outcome.ReadOutcome.TheVariants.{Read, Failing}}
 use Rattle.p25_unit_front.specs.Front.{unit_front}
 use Rattle.p25_voice_units.specs.{declared.unit.VoiceUnit.{VoiceUnit}, declared.unit.VoiceUnit.TheVariants.{Link1, Link2}, declared.voice.VoiceFrame.{VoiceFrame}, FieldLayouts.{word_places}}
-use Rattle.p25_voice_units.specs.{Fixes.{link_looked, low_fixes_of, voice_looked, AreFixes}, Images.{contents, hamming10_word, rows_bits, voice_body, voice_image_of}, Layouts.{ldu_rows}}
+use Rattle.p25_hamming.specs.Hamming10.{hamming10_word}
+use Rattle.p25_voice_units.specs.{Fixes.{link_looked, low_fixes_of, voice_looked, AreFixes}, Images.{contents, rows_bits, voice_body, voice_image_of}, Layouts.{ldu_rows}}
 use Rattle.p25_voice_units.specs.{Readings.{voice_in, low_in, link_in, sync_in, ldu_from, ldu1_in, ldu2_in, voice_reading_of}, Sendable.{IsSpeech, IsSendableVoice}}
 use Rattle.p25_voice_units.proofs.{CodesLaws.{link_code, sync_code}, CountedLaws.{ldu_fixes}, KindsLaws.{ldu_read, reading-ldu1, reading-ldu2}, ReadingLaws.{unit_read}}
 

@@ -6,11 +6,11 @@ use Rattle.std.proofs.lemmas.List.Elements.{All-nil, All-cons}
 use Rattle.p25_bits.specs.Bits.{bits_of, octet_bits, part}
 use Rattle.p25_bits.proofs.{BitsLaws.{length-bits_of}, NumbersLaws.{number_bits-octets, length-number_bits}, PartLaws.{length-part, part_joined}}
 use Rattle.p25_hamming.specs.Lsd16Laws.{lsd16_code}
-use Rattle.p25_coded_fields.specs.Written.{Encodes}
+use Rattle.p25_code.specs.Words.{Encodes}
 use Rattle.p25_coded_fields.proofs.FieldLaws.{length-field_bits}
 use Rattle.p25_voice_units.specs.{declared.layout.Piece.{Piece}, declared.layout.Piece.TheVariants.{Words, Frame, LowSpeed, Nulls}, Pieces.{piece_fits, piece_length}, Sendable.{IsVoiceFrame}}
-use Rattle.p25_voice_units.specs.Images.{Contents, frame_at, lsd16_word, piece_bits, rows_bits}
-use Rattle.p25_voice_units.proofs.CodesLaws.{lsd16_encodes}
+use Rattle.p25_hamming.specs.Lsd16.{lsd16_word}
+use Rattle.p25_voice_units.specs.Images.{Contents, frame_at, piece_bits, rows_bits}
 
 -- how many bits the rows have together
 abbrev pub rows_length : ℕ → List (ℕ × Piece) → ℕ
@@ -60,7 +60,7 @@ module _ {IsWord : List Bool → Type 0} {size k : ℕ} {carried : Contents} (ca
   length-piece_bits (Frame i) fits = length-frame (frame_at carried.voice i).0 (carries.frames i _ (ltb-true i (length carried.voice) fits)).long
   length-piece_bits (LowSpeed i) fits =
       let octet = get_or carried.low i 0 in
-      lsd16_code.is.laws.long (lsd16_word (bits_of 8 octet)) (lsd16_encodes (bits_of 8 octet) (length-bits_of 8 octet)).word_of_set
+      lsd16_code.is.laws.long (lsd16_word (bits_of 8 octet)) (lsd16_code.is.encodes (bits_of 8 octet) (length-bits_of 8 octet)).word_of_set
   length-piece_bits (Nulls count) fits = length-replicate count false
 
   pub length-rows_bits : (rows : List (ℕ × Piece)) → rows_supplied carried.each (length carried.symbols) (length carried.low) (length carried.voice) rows

@@ -2,7 +2,8 @@
 use Rattle.std.specs.{Prelude.{◌≡◌, ℕ, Bool, List, [], ◌++◌, map, slice_index}, List.{flat_map}}
 use Rattle.p25_bits.specs.{Bits.{bits_of, part}, Distance.{distance_of}}
 use Rattle.p25_voice_units.specs.{declared.unit.VoiceUnit.{VoiceUnit}, declared.unit.VoiceUnit.TheVariants.{Header, Link1, Link2, End, EndLink}}
-use Rattle.p25_voice_units.specs.{Layouts.{hdu_rows, ldu_rows, tdulc_rows}, FieldLayouts.{word_places}, Images.{lsd16_word, voice_image_of}}
+use Rattle.p25_hamming.specs.Lsd16.{lsd16_word}
+use Rattle.p25_voice_units.specs.{Layouts.{hdu_rows, ldu_rows, tdulc_rows}, FieldLayouts.{word_places}, Images.{voice_image_of}}
 use Rattle.p25_voice_units.specs.Readings.{low_places}
 
 -- places with so many bits each

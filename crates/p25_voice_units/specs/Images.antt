@@ -1,10 +1,9 @@
 -- The bits of voice units (HDU, LDU1, LDU2, TDU and TDULC) without status symbols, as one list.
 use Rattle.std.specs.{Prelude.{ℕ, ◌*◌, Bool, false, List, [], ◌++◌, replicate, slice_index, slice_index_or}, List.{flat_map}}
 use Rattle.p25_bits.specs.Bits.{bits_of, octet_bits, part}
-use Rattle.p25_code.specs.Binary.{systematic}
 use Rattle.p25_gf64.specs.declared.symbol.Sym.{Sym}
-use Rattle.p25_hamming.specs.{Hamming10.{check_rows as hamming10_rows}, Lsd16Laws.{check_rows as lsd16_rows}}
-use Rattle.p25_golay.specs.{Golay18Laws.{short_rows as golay18_rows}, Golay24Laws.{check_rows as golay24_rows}}
+use Rattle.p25_hamming.specs.{Hamming10.{hamming10_word}, Lsd16.{lsd16_word}}
+use Rattle.p25_golay.specs.{Golay18.{golay18_word}, Golay24.{golay24_word}}
 use Rattle.p25_reed_solomon.specs.Encoding.{rs_word}
 use Rattle.p25_link.specs.Words.{header_symbols, link_symbols, sync_symbols}
 use Rattle.p25_coded_fields.specs.Layouts.{field_bits}
@@ -13,19 +12,6 @@ use Rattle.p25_voice_units.specs.{declared.layout.Piece.{Piece}, declared.layout
 use Rattle.p25_voice_units.specs.{declared.voice.VoiceFrame.{VoiceFrame}, declared.unit.VoiceUnit.{VoiceUnit}}
 use Rattle.p25_voice_units.specs.{declared.unit.VoiceUnit.TheVariants.{Header, Link1, Link2, End, EndLink}, Layouts.{hdu_rows, ldu_rows, tdu_rows, tdulc_rows}}
 use Rattle.p25_voice_units.specs.Lengths.{voice_duid}
-
--- the words of the binary codes: the information and its check bits
-unfoldable pub golay18_word : List Bool → List Bool
-golay18_word info = systematic golay18_rows 12 info
-
-unfoldable pub golay24_word : List Bool → List Bool
-golay24_word info = systematic golay24_rows 12 info
-
-unfoldable pub hamming10_word : List Bool → List Bool
-hamming10_word info = systematic hamming10_rows 4 info
-
-unfoldable pub lsd16_word : List Bool → List Bool
-lsd16_word info = systematic lsd16_rows 8 info
 
 -- what a unit carries: the code of its inner words and how many symbols one of them has, the symbols of its outer word, two octets of
 -- low speed data (LSD), and nine voice frames

@@ -1,7 +1,6 @@
 //! Voice units (HDU, LDU1, LDU2, TDU and TDULC) as bits.
 
-ghost use Rattle.std.specs.{Prelude.{◌≡◌, ◌+◌, ◌/◌, ◌<◌, ◌≤◌, ◌++◌, Bool, List, Ok, Some, true, length, sum_by}, List.{list_all}};
-ghost use Rattle.p25_coded_fields.specs.Written.{Encodes};
+ghost use Rattle.std.specs.{Prelude.{◌≡◌, ◌+◌, ◌/◌, ◌<◌, ◌≤◌, ◌++◌, Ok, Some, true, length, sum_by}, List.{list_all}};
 ghost use Rattle.p25_bits.specs.Bits.{octet_bits};
 ghost use Rattle.p25_reed_solomon.specs.{Encoding.{rs_word}, Words.{IsCode}};
 ghost use Rattle.p25_voice_units.specs.{Images.{piece_bits, rows_bits, contents, voice_body, voice_image_of}, Lengths.{voice_duid, voice_length_of}};
@@ -45,8 +44,7 @@ fn put_piece<I: NumberCode>(
     requires inner { IsInnerCode I.HasCode I.N I.K }
     requires fits { piece_fits (I.K / 6) (length symbols.now) (length low.now) (length frames.now) piece ≡ true }
     requires room { length out.old + piece_length I.N piece ≤ 25928 }
-    ensures list { (encoding : List Bool → List Bool) → Encodes I.IsWord I.K encoding
-        → out.new ≡ out.old ++ piece_bits (contents encoding (I.K / 6) symbols.now low.now frames.now) piece }
+    ensures list { out.new ≡ out.old ++ piece_bits (contents I.encoding_is (I.K / 6) symbols.now low.now frames.now) piece }
     ensures len { length out.new ≡ length out.old + piece_length I.N piece }
 {
     let each = I::K / 6;
@@ -75,8 +73,7 @@ fn put_rows<I: NumberCode>(
     requires inner { IsInnerCode I.HasCode I.N I.K }
     requires fits { list_all (λ row. piece_fits (I.K / 6) (length symbols.now) (length low.now) (length frames.now) row.1) rows.now ≡ true }
     requires room { length out.old + sum_by (λ row. piece_length I.N row.1) rows.now ≤ 25928 }
-    ensures list { (encoding : List Bool → List Bool) → Encodes I.IsWord I.K encoding
-        → out.new ≡ out.old ++ rows_bits (contents encoding (I.K / 6) symbols.now low.now frames.now) rows.now }
+    ensures list { out.new ≡ out.old ++ rows_bits (contents I.encoding_is (I.K / 6) symbols.now low.now frames.now) rows.now }
     ensures len { length out.new ≡ length out.old + sum_by (λ row. piece_length I.N row.1) rows.now }
 {
     for row in rows {
@@ -97,8 +94,7 @@ fn put_coded_rows<I: NumberCode, const N: usize, const K: usize>(
     requires information { length information.now ≡ K }
     requires fits { list_all (λ row. piece_fits (I.K / 6) N (length low.now) (length frames.now) row.1) rows.now ≡ true }
     requires room { length out.old + sum_by (λ row. piece_length I.N row.1) rows.now ≤ 25928 }
-    ensures list { (encoding : List Bool → List Bool) → Encodes I.IsWord I.K encoding
-        → out.new ≡ out.old ++ rows_bits (contents encoding (I.K / 6) (rs_word N K information.now) low.now frames.now) rows.now }
+    ensures list { out.new ≡ out.old ++ rows_bits (contents I.encoding_is (I.K / 6) (rs_word N K information.now) low.now frames.now) rows.now }
     ensures len { length out.new ≡ length out.old + sum_by (λ row. piece_length I.N row.1) rows.now }
 {
     let mut symbols = [Sym::ZERO; N];

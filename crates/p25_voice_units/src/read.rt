@@ -1,12 +1,13 @@
 //! Voice units (HDU, LDU1, LDU2, TDU and TDULC) read from bits.
 
-ghost use Rattle.std.specs.Prelude.{◌≡◌, ◌⊎◌, ◌+◌, ◌*◌, ◌/◌, ◌<◌, ◌≤◌, ◌++◌, All, Bool, List, Some, IfErr, IfSome, length, option_map, slice_index, ℕ};
+ghost use Rattle.std.specs.Prelude.{◌≡◌, ◌⊎◌, ◌+◌, ◌*◌, ◌/◌, ◌<◌, ◌≤◌, ◌++◌, All, List, Some, IfErr, IfSome, length, option_map, slice_index, ℕ};
 ghost use Rattle.p25_gf64.specs.declared.symbol.Sym.{Sym as symbol};
 ghost use Rattle.p25_bch_nid.specs.Duids.{duid_ldu1, duid_ldu2};
 ghost use Rattle.p25_hamming.specs.Hamming10Laws.{hamming10_reading_of};
 ghost use Rattle.p25_reed_solomon.specs.{Encoding.{rs_word}, Words.{IsCode}, RsReadings.{rs_erased_reading_of}};
-ghost use Rattle.p25_coded_fields.specs.{Fixes.{field_fixes_of}, Layouts.{field_layout, field_reading_of}, Written.{Encodes}};
-ghost use Rattle.p25_voice_units.specs.{FieldLayouts.{tdulc_layout, word_places}, Fixes.{AreFixes, low_fixes_of}, Images.{hamming10_word}, Layouts.{ldu_rows}};
+ghost use Rattle.p25_coded_fields.specs.{Fixes.{field_fixes_of}, Layouts.{field_layout, field_reading_of}};
+ghost use Rattle.p25_hamming.specs.Hamming10.{hamming10_word};
+ghost use Rattle.p25_voice_units.specs.{FieldLayouts.{tdulc_layout, word_places}, Fixes.{AreFixes, low_fixes_of}, Layouts.{ldu_rows}};
 ghost use Rattle.p25_voice_units.specs.{Lengths.{voice_length_of}, Pieces.{IsInnerCode}};
 ghost use Rattle.p25_voice_units.specs.Readings.{voice_in, low_in, header_in, link_in, missing, failing, header_from, ldu_from, tdulc_from, voice_reading_of};
 ghost use Rattle.p25_voice_units.specs.declared.unit.VoiceUnit.{VoiceUnit as voice_unit};
@@ -42,8 +43,7 @@ fn read_symbols<I: NumberCode, const N: usize, const K: usize>(
     requires room { length symbols.old ≡ K }
     ensures value { option_map (λ wrong. symbols.new) result
         ≡ field_reading_of (field_layout places.now I.N (I.K / 6) I.reading_is (rs_erased_reading_of N K) K) bare.now }
-    ensures wrong { IfSome result (λ wrong. (encoding : List Bool → List Bool) → Encodes I.IsWord I.K encoding
-        → wrong ≡ field_fixes_of encoding I.N (I.K / 6) places.now (rs_word N K symbols.new) bare.now) }
+    ensures wrong { IfSome result (λ wrong. wrong ≡ field_fixes_of I.encoding_is I.N (I.K / 6) places.now (rs_word N K symbols.new) bare.now) }
     ensures most { IfSome result (λ wrong. wrong ≤ 24 * length places.now) }
 {
     let mut word = [Sym::ZERO; N];

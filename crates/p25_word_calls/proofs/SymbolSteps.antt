@@ -1,10 +1,9 @@
 -- Octets that name symbols.
-use Rattle.std.proofs.{Common.{◌≡◌, ℕ, ◌<◌, List, [], ◌∷◌, All, length, map, take, get_or, Option, ℤ, pos, negsuc, refl, ap, ap₂, sym, ◌∙◌, subst}, lemmas.List.Elements.{All-map}}
+use Rattle.std.proofs.{Common.{◌≡◌, ℕ, ◌<◌, List, [], ◌∷◌, All, map, take, get_or, Option, ℤ, pos, negsuc, refl, ap, ap₂, sym, ◌∙◌, subst}, lemmas.List.Elements.{All-map}}
 use Rattle.std.specs.Prelude.{unwrap_or}
-use Rattle.p25_code.specs.{declared.code.Reading.{Reading}, Readings.{word_read}, Words.{IsEncoding}}
+use Rattle.p25_code.specs.{declared.code.Reading.{Reading}, Readings.{word_read}}
 use Rattle.p25_gf64.specs.{declared.symbol.Sym.{Sym}, Symbol.{number, same_symbol}}
-use Rattle.p25_reed_solomon.specs.{Encoding.{rs_word}, Words.{IsCode, IsWord, same_symbols}}
-use Rattle.p25_reed_solomon.proofs.EncodingLaws.{rs_word-only}
+use Rattle.p25_reed_solomon.specs.{Encoding.{rs_word}, Words.{same_symbols}}
 use Rattle.p25_word_calls.specs.{Answers.{fixes_answer, reading_answer}, Symbols.{IsSymbolReading, IsSymbolWriting}}
 use Rattle.p25_word_calls.proofs.AnswerSteps.{IsChange, change_answer, change_word}
 
@@ -48,10 +47,10 @@ symbols_refused reading_is octets none = record {
 }
 
 -- what is written of information that octets name
-pub symbols_written : (n k : ℕ) (octets left : List ℕ) (info word : List Sym) → IsCode n k → length info ≡ k → map number info ≡ take k octets → IsEncoding (IsWord n k) k info word
+pub symbols_written : (n k : ℕ) (octets left : List ℕ) (info word : List Sym) → map number info ≡ take k octets → word ≡ rs_word n k info
     → left ≡ map number word → IsSymbolWriting n k octets left (pos 0)
-symbols_written n k octets left info word code long named encoding puts = record {
-  written = λ other called. (refl, puts ∙ ap (map number) (rs_word-only n k info word code long encoding) ∙ ap (λ ss. map number (rs_word n k ss)) (one other called));
+symbols_written n k octets left info word named is puts = record {
+  written = λ other called. (refl, rw (puts, is, one other called) refl);
   refused = λ other. absurd (other (below_from_named info (take k octets) named));
 }
   where

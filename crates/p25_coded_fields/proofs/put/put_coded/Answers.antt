@@ -1,23 +1,22 @@
-use Rattle.std.proofs.Common.{◌≡◌, ◌/◌, List, ap, subst, arith}
-use Rattle.p25_gf64.specs.declared.symbol.Sym.{Sym}
-use Rattle.p25_coded_fields.specs.Written.{IsPut, IsWritten}
-use Rattle.p25_coded_fields.proofs.{SymbolsLaws.{group_is, one_more}, WrittenLaws.{written_next, written_by}}
+use Rattle.std.proofs.{Common.{◌≡◌, ◌/◌, ap, refl, append_assoc, arith}, lemmas.List.{append-nil}}
+use Rattle.p25_bits.proofs.NumbersLaws.{joined_below-more, joined_below-zero}
+use Rattle.p25_coded_fields.specs.Layouts.{field_bits}
+use Rattle.p25_coded_fields.proofs.SymbolsLaws.{group_is, one_more}
 use Rattle.p25_coded_fields.proofs.put.put_coded.Goals as goal
 
+pub loop-i-init : goal.loop-i-init
+unfolding field_bits
+loop-i-init g c = record { list = rw (joined_below-zero, append-nil) refl; len = omega arith }
+
 pub loop-i-preserved : goal.loop-i-preserved
+unfolding field_bits
 loop-i-preserved g c =
     let b = g.I.BlockCode in
-    let before = c.loop-i.invariant.written in
-    let put = subst (λ (xs : List Sym). IsPut b.IsWord b.K xs c.loop-i.out c.put_inner.new.out)
-    (group_is (c.K-each.result / 6) (b.K / 6) c.loop-i.i c.args.symbols.now (ap (λ n. n / 6) c.K-each.ensures)) c.put_inner.ensures.put in
+    let group = group_is (c.K-each.result / 6) (b.K / 6) c.loop-i.i c.args.symbols.now (ap (λ n. n / 6) c.K-each.ensures) in
     record {
-      written = written_next b.N b.K (b.K / 6) c.loop-i.i c.args.symbols.now c.args.out.now c.loop-i.out c.put_inner.new.out before put c.put_inner.ensures.len;
+      list = rw (joined_below-more, ← append_assoc, ← c.loop-i.invariant.list, ← group) c.put_inner.ensures.list;
       len = omega (arith, one_more b.N c.loop-i.i);
     }
 
 pub returns-clause-list : goal.returns-clause-list
-returns-clause-list g c = λ encoding encodes.
-    let b = g.I.BlockCode in
-    let all : c.loop-i.i ≡ c.args.count = omega arith in
-    let is = subst (λ n. IsWritten b.IsWord b.N b.K (b.K / 6) n c.args.symbols.now c.args.out.now c.loop-i.out) all c.loop-i.invariant.written in
-    written_by b.N b.K (b.K / 6) c.args.count c.args.symbols.now c.args.out.now c.loop-i.out (g.met.I.BlockCode.one_word c.requires.code) is c.requires.sixes c.requires.symbols encoding encodes
+returns-clause-list g c = let all : c.loop-i.i ≡ c.args.count = omega arith in rw all at c.loop-i.invariant.list

@@ -1,13 +1,13 @@
-use Rattle.std.proofs.{Common.{◌≡◌, ◌+◌, ◌-◌, ◌*◌, ◌/◌, ◌<◌, ◌≤◌, List, length, take, drop, get_or, Bool, Option, [], IfSome, refl, sym, subst, ap, ◌∙◌, arith}, Math.Nat.{mul_comm}}
-use Rattle.std.proofs.{lemmas.Cmp.{on_equiv, nat_eq_equiv}, lemmas.List.{nil_from_length}, lemmas.Option.{IfSome_then}}
+use Rattle.std.proofs.{Common.{◌≡◌, ◌+◌, ◌-◌, ◌*◌, ◌/◌, ◌<◌, ◌≤◌, List, length, take, drop, get_or, Bool, Option, [], refl, sym, subst, ap, ◌∙◌, arith}, Math.Nat.{mul_comm}}
+use Rattle.std.proofs.{lemmas.Cmp.{on_equiv, nat_eq_equiv}, lemmas.List.{length-take-le, nil_from_length}, lemmas.Slice.{take-put_mid}, lemmas.Option.{IfSome_then}}
 use Rattle.p25_bits.specs.Bits.{part}
 use Rattle.p25_code.specs.{Erasures.{without_erased, IsErasedReading}, Readings.{word_read}, declared.code.Reading.{Reading}}
 use Rattle.p25_code.proofs.{ReadingLaws.{IsBlockCode}, ErasedLaws.{erased_word_read_as, length-without_erased, one_erased_reading}}
 use Rattle.p25_gf64.specs.{declared.symbol.Sym.{Sym}, Symbol.{number}}
 use Rattle.p25_gf64.proofs.SymbolLaws.{same_from_eq}
 use Rattle.p25_reed_solomon.specs.Words.{same_symbols}
-use Rattle.p25_coded_fields.specs.{Fixes.{AreCounted}, Layouts.{Layout, field_layout, outer_word_of, received_in, symbols_or_erasures}}
-use Rattle.p25_coded_fields.proofs.{SymbolsLaws.{length_group, room_at}, FixesLaws.{counted_all, counted_next, counted_none, all_groups, few_places}}
+use Rattle.p25_coded_fields.specs.{Layouts.{Layout, field_layout, outer_word_of, received_in, symbols_or_erasures}}
+use Rattle.p25_coded_fields.proofs.{SymbolsLaws.{length_group, one_more, room_at}, FixesLaws.{all_fixes, few_places, fixes_counted, fixes_most, fixes_next, fixes_none, there_before, word_most}}
 use Rattle.p25_coded_fields.proofs.{ReadLaws.{cut_long, erased_before, erased_next, outer_read, unchanged}, WithinLaws.{length-received_in}}
 use Rattle.p25_coded_fields.proofs.read.read_field.Goals as goal
 use Rattle.p25_coded_fields.proofs.read.read_field.Given as given
@@ -55,7 +55,7 @@ loop-i-init g c =
     let b = g.I.BlockCode in
     record {
       erasures = erased_before (c.K-each.result / 6) _ _;
-      counted = counted_none b.N b.K (c.K-each.result / 6) c.args.places.now _ c.args.bare.now;
+      counted = sym (fixes_none b.encoding_is b.N (c.K-each.result / 6) _ c.args.bare.now);
     }
 
 pub loop-i-preserved : goal.loop-i-preserved
@@ -81,18 +81,32 @@ loop-i-preserved g c =
       erasures = erased_next (λ at. symbols_or_erasures (b.K / 6) (b.reading_is (part at b.N bare))) places each i _ _ word symbols erased c.read_inner-more.new.erased
           inside refl there same long_x long_e c.loop-i.invariant.erasures
           (c.read_inner-more.ensures.erasures ∙ ap (λ n. symbols_or_erasures n (b.reading_is (part (get_or places i 0) b.N bare))) (long ∙ group));
-      counted = counted_next (g.met.I.BlockCode.length_of_word c.requires.inner) each i _ places word symbols bare c.loop-i.counted c.read_inner-more.result c.total_known-counted.result
-          (ap (λ n. 6 * n) group ∙ c.requires.sixes) inside c.requires.there there long_x c.loop-i.invariant.counted c.read_inner-more.ensures.count c.total_known-counted.ensures;
+      counted =
+          let next : each * (i + 1) ≡ each * i + length symbols = omega (arith, one_more each i, long_x) in
+          fixes_counted _ _ _ c.loop-i.counted c.read_inner-more.result c.total_known-counted.result c.loop-i.invariant.counted c.read_inner-more.ensures.count c.total_known-counted.ensures
+          (fixes_next b.encoding_is b.N each (g.met.I.BlockCode.length_of_word c.requires.inner) (g.met.I.NumberCode.encodes c.requires.inner) i places
+          word symbols _ bare (rw group c.requires.sixes) c.requires.there inside (omega arith) long_x (take-put_mid (each * i) _ word symbols (each * (i + 1)) next (omega arith)));
     }
 
 pub total_known-counted-requires-clause-first : goal.total_known-counted-requires-clause-first
-total_known-counted-requires-clause-first g c =
-    let some : 0 < g.I.BlockCode.K / 6 = omega (arith, c.K-each.ensures) in
-    let few : length c.args.places.now ≤ 36 = few_places (g.I.BlockCode.K / 6) (length c.args.places.now) some (omega arith) in
-    IfSome_then c.loop-i.counted c.loop-i.invariant.counted (λ n is. omega (arith, is.most))
+total_known-counted-requires-clause-first g c = IfSome_then c.loop-i.counted c.loop-i.invariant.counted (λ n is.
+    let b = g.I.BlockCode in
+    let places = c.args.places.now in
+    let i = c.loop-i.i in
+    let some : 0 < b.K / 6 = omega (arith, c.K-each.ensures) in
+    omega (
+      arith,
+      is,
+      few_places (b.K / 6) (length places) some (omega arith),
+      length-take-le i places (omega arith),
+      fixes_most b.encoding_is b.N (c.K-each.result / 6) 24 (take i places) (take (c.K-each.result / 6 * i) c.loop-i.word) c.args.bare.now c.requires.small (there_before b.N (length c.args.bare.now) i places c.requires.there),
+    ))
 
 pub total_known-counted-requires-clause-second : goal.total_known-counted-requires-clause-second
-total_known-counted-requires-clause-second g c = IfSome_then c.read_inner-more.result c.read_inner-more.ensures.count (λ n is. is.few)
+total_known-counted-requires-clause-second g c = IfSome_then c.read_inner-more.result c.read_inner-more.ensures.count (λ n is.
+    let b = g.I.BlockCode in
+    let at = get_or c.args.places.now c.loop-i.i 0 in
+    rw is (word_most b.N at 24 c.args.bare.now _ c.requires.small (c.requires.there c.loop-i.i 0 (omega arith))))
 
 pub field_fixes-requires-clause-few : goal.field_fixes-requires-clause-few
 field_fixes-requires-clause-few g c =
@@ -105,9 +119,8 @@ field_fixes-requires-clause-counted g c = λ none.
     let places = c.args.places.now in
     let word = c.read_erased-2.new.word in
     let same : c.loop-i.word ≡ word = unchanged _ _ _ _ c.loop-i.word word c.in-Found.fixes same_from_eq c.in-Found.ensures (omega arith) none in
-    subst (λ (xs : List Sym). IfSome c.loop-i.counted (AreCounted b.IsWord b.N b.K (b.K / 6) (length places) places xs c.args.bare.now)) same
-    (all_groups (λ each i xs. IfSome c.loop-i.counted (AreCounted b.IsWord b.N b.K each i places xs c.args.bare.now)) (c.K-each.result / 6) (b.K / 6) c.loop-i.i (length places) c.loop-i.word
-    (ap (λ n. n / 6) c.K-each.ensures) (omega arith) (omega arith) (c.requires.places ∙ omega arith) c.loop-i.invariant.counted)
+    IfSome_then c.loop-i.counted c.loop-i.invariant.counted (λ n is. rw (← same) (is ∙ all_fixes b.encoding_is b.N (c.K-each.result / 6) (b.K / 6) c.loop-i.i places c.loop-i.word c.args.bare.now
+    (ap (λ n. n / 6) c.K-each.ensures) (omega arith) (omega arith) (c.requires.places ∙ omega arith)))
 
 pub returns-in-Beyond-clause-value : goal.returns-in-Beyond-clause-value
 unfolding word_read
@@ -138,18 +151,18 @@ returns-in-Found-clause-value g c =
     c.loop-i.invariant.erasures read
 
 pub returns-in-Found-clause-fixes : goal.returns-in-Found-clause-fixes
-returns-in-Found-clause-fixes g c = λ some encoding encodes fixes found.
-    let b = g.I.BlockCode in
+returns-in-Found-clause-fixes g c = λ some fixes found.
     let same : c.field_fixes.result ≡ fixes = cc in
-    sym same ∙ counted_all (b.K / 6) c.args.places.now c.read_erased-2.new.word c.args.bare.now c.field_fixes.result c.field_fixes.ensures encoding encodes
+    sym same ∙ c.field_fixes.ensures
 
 pub returns-in-Found-clause-most : goal.returns-in-Found-clause-most
 returns-in-Found-clause-most g c = λ some fixes found.
+    let b = g.I.BlockCode in
     let same : c.field_fixes.result ≡ fixes = cc in
-    omega (arith, same, c.field_fixes.ensures.most)
+    rw (← same, c.field_fixes.ensures) (fixes_most b.encoding_is b.N (b.K / 6) 24 c.args.places.now c.read_erased-2.new.word c.args.bare.now c.requires.small c.requires.there)
 
 pub returns-in-Beyond-clause-fixes : goal.returns-in-Beyond-clause-fixes
-returns-in-Beyond-clause-fixes g c = λ some encoding encodes fixes found. absurd (cc)
+returns-in-Beyond-clause-fixes g c = λ some fixes found. absurd (cc)
 
 pub returns-in-Beyond-clause-most : goal.returns-in-Beyond-clause-most
 returns-in-Beyond-clause-most g c = λ some fixes found. absurd (cc)

@@ -1,8 +1,8 @@
 use Rattle.std.proofs.Common.{◌≡◌, ◌*◌, ◌-◌, ◌/◌, ◌^◌, ◌<◌, true, false, length, replicate, IfSome, refl, sym, subst, ap, ap₂, ◌∙◌, arith}
 use Rattle.std.specs.Bool.{beq}
 use Rattle.p25_bits.specs.Bits.{bits_of, part}
-use Rattle.p25_bits.proofs.DistanceLaws.{ones-xor-le}
 use Rattle.p25_link.specs.Symbols.{symbol_bits, symbols_in}
+use Rattle.p25_link.proofs.SymbolsLaws.{length-symbol_bits}
 use Rattle.p25_coded_fields.proofs.ReadLaws.{received_bits, received_reading, inner_found, inner_beyond, read_encoding, read_word_of_set, wrong_bits}
 use Rattle.p25_coded_fields.proofs.read.read_inner.Goals as goal
 
@@ -26,10 +26,8 @@ returns-in-Some g c =
     record {
       erasures = inner_found b.N b.K each value (b.reading_is bits) symbols c.fill.new.self c.requires.sixes
           (m.begins c.requires.code) read made (c.fill.ensures.after (λ y e. e) ∙ ap (λ n. replicate n false) c.requires.same);
-      count = record {
-        few = omega (arith, ones-xor-le b.N c.field-received.result value fits small, c.requires.small);
-        value = λ sent is. wrong_bits b.N b.K (m.one_word c.requires.code) c.field-received.result value (symbol_bits symbols) bits sent encoding is taken fits small;
-      };
+      count = wrong_bits b.N b.K (m.one_word c.requires.code) c.field-received.result value (symbol_bits symbols) bits (b.encoding_is (symbol_bits symbols))
+          encoding (g.met.I.NumberCode.encodes c.requires.code (symbol_bits symbols) (length-symbol_bits symbols ∙ omega arith)) taken fits small;
     }
 
 pub returns-in-None-clause-erasures : goal.returns-in-None-clause-erasures

@@ -3,7 +3,8 @@ use Rattle.p25_bits.specs.Bits.{bits_of, part}
 use Rattle.p25_bits.proofs.BitsLaws.{length-bits_of}
 use Rattle.p25_gf64.specs.declared.symbol.Sym.{Sym}
 use Rattle.p25_coded_fields.specs.Layouts.{field_bits}
-use Rattle.p25_voice_units.specs.Images.{lsd16_word, piece_bits}
+use Rattle.p25_hamming.specs.Lsd16.{lsd16_word}
+use Rattle.p25_voice_units.specs.Images.{piece_bits}
 use Rattle.p25_voice_units.proofs.{CodesLaws.{lsd16_only}, ImageSteps.{words_fit, bits_of-nulls}}
 use Rattle.p25_voice_units.proofs.image.put_piece.Goals as goal
 
@@ -16,7 +17,7 @@ slice_bounds-put_coded-end g c =
 
 pub returns-in-Words-clause-list : goal.returns-in-Words-clause-list
 unfolding piece_bits
-returns-in-Words-clause-list g c = λ encoding encodes.
+returns-in-Words-clause-list g c =
     let each = g.I.BlockCode.K / 6 in
     let symbols = c.args.symbols.now in
     let from = each * c.in-Words.first in
@@ -24,22 +25,17 @@ returns-in-Words-clause-list g c = λ encoding encodes.
     let cut : from + many - from ≡ many = omega arith in
     let given : ℕ → List Sym = λ k. take (k / 6 * c.in-Words.first + k / 6 * c.in-Words.count - k / 6 * c.in-Words.first) (drop (k / 6 * c.in-Words.first) symbols) in
     let group : given c.K-each.result ≡ part from many symbols = ap given c.K-each.ensures ∙ ap (λ n. take n (drop from symbols)) cut in
-    rw c.in-Words.is (c.put_coded.ensures.list encoding encodes ∙ ap (λ xs. c.args.out.now ++ field_bits encoding each c.in-Words.count xs) group)
+    rw (c.in-Words.is, ← group) c.put_coded.ensures.list
 
 pub returns-in-Frame-clause-list : goal.returns-in-Frame-clause-list
 unfolding piece_bits
-returns-in-Frame-clause-list g c = λ encoding encodes. rw c.in-Frame.is c.put_frame.ensures.list
+returns-in-Frame-clause-list g c = rw c.in-Frame.is c.put_frame.ensures.list
 
 pub returns-in-LowSpeed-clause-list : goal.returns-in-LowSpeed-clause-list
 unfolding piece_bits
-returns-in-LowSpeed-clause-list g c = λ encoding encodes.
-    let word = bits_of 16 c.encode_number-word.result in
-    rw c.in-LowSpeed.is
-    (c.put_field.ensures.list
-    ∙ ap (λ n. c.args.out.now ++ bits_of 16 n) c.from-in-LowSpeed.ensures
-    ∙ ap (λ xs. c.args.out.now ++ xs) (lsd16_only (bits_of 8 c.from.result) word (length-bits_of 8 c.from.result) c.encode_number-word.ensures.encoding
-    ∙ ap (λ n. lsd16_word (bits_of 8 n)) c.from.ensures))
+returns-in-LowSpeed-clause-list g c =
+    rw (c.in-LowSpeed.is, ← c.from.ensures, ← c.encode_number-word.ensures.encoding) (rw c.from-in-LowSpeed.ensures at c.put_field.ensures.list)
 
 pub returns-in-Nulls-clause-list : goal.returns-in-Nulls-clause-list
 unfolding piece_bits
-returns-in-Nulls-clause-list g c = λ encoding encodes. rw c.in-Nulls.is (c.put_field-in-Nulls.ensures.list ∙ ap (λ xs. c.args.out.now ++ xs) (bits_of-nulls c.in-Nulls.count))
+returns-in-Nulls-clause-list g c = rw c.in-Nulls.is (c.put_field-in-Nulls.ensures.list ∙ ap (λ xs. c.args.out.now ++ xs) (bits_of-nulls c.in-Nulls.count))

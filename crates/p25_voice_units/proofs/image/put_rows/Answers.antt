@@ -5,7 +5,7 @@ use Rattle.p25_voice_units.proofs.image.put_rows.Goals as goal
 
 pub loop-row-init : goal.loop-row-init
 loop-row-init g c = (
-  λ encoding encodes. rows_none (contents encoding (g.I.BlockCode.K / 6) c.args.symbols.now c.args.low.now c.args.frames.now) c.args.out.now,
+  rows_none (contents g.I.BlockCode.encoding_is (g.I.BlockCode.K / 6) c.args.symbols.now c.args.low.now c.args.frames.now) c.args.out.now,
   omega arith,
 )
 
@@ -20,9 +20,8 @@ loop-row-preserved g c =
     let rows = c.args.rows.now in
     let i = c.loop-row.row-index in
     let size : ℕ × Piece → ℕ = λ row. piece_length g.I.BlockCode.N row.1 in (
-      λ encoding encodes.
-          rows_more (contents encoding (g.I.BlockCode.K / 6) c.args.symbols.now c.args.low.now c.args.frames.now) rows i
+      rows_more (contents g.I.BlockCode.encoding_is (g.I.BlockCode.K / 6) c.args.symbols.now c.args.low.now c.args.frames.now) rows i
           (0, Words 0 0) c.args.out.now c.loop-row.out c.put_piece.new.out c.loop-row-test.true
-          (c.loop-row.invariant.0 encoding encodes) (c.put_piece.ensures.list encoding encodes),
+          c.loop-row.invariant.0 c.put_piece.ensures.list,
       omega (arith, c.put_piece.ensures.len, c.loop-row.invariant.1, sum_by_more size rows i (0, Words 0 0) c.loop-row-test.true),
     )

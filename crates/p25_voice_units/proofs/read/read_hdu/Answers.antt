@@ -4,9 +4,10 @@ use Rattle.p25_coded_fields.proofs.CodesLaws.{all_end}
 use Rattle.p25_link.specs.Words.{header_of_symbols, header_symbols}
 use Rattle.p25_reed_solomon.specs.Encoding.{rs_word}
 use Rattle.p25_status.specs.Outcomes.{read_or}
-use Rattle.p25_voice_units.specs.{FieldLayouts.{word_places, header_layout}, Fixes.{voice_looked}, Images.{golay18_word, voice_body, voice_image_of}, Layouts.{hdu_rows}}
+use Rattle.p25_golay.specs.Golay18.{golay18_word}
+use Rattle.p25_voice_units.specs.{FieldLayouts.{word_places, header_layout}, Fixes.{voice_looked}, Images.{voice_body, voice_image_of}, Layouts.{hdu_rows}}
 use Rattle.p25_voice_units.specs.Readings.{header_in, header_from}
-use Rattle.p25_voice_units.proofs.{CodesLaws.{golay18_encodes}, CountedLaws.{coded_fixes}, FormLaws.{words_in_unit}, ImagesLaws.{golay18_carried, header_suits}, ReadLaws.{part_counted}}
+use Rattle.p25_voice_units.proofs.{CountedLaws.{coded_fixes}, FormLaws.{words_in_unit}, ImagesLaws.{golay18_carried, header_suits}, ReadLaws.{part_counted}}
 use Rattle.p25_voice_units.proofs.read.read_hdu.Goals as goal
 
 pub read_symbols-requires-clause-there : goal.read_symbols-requires-clause-there
@@ -25,7 +26,7 @@ returns-in-Some-clause-wrong c =
     let places = word_places 18 hdu_rows in
     let symbols = rs_word 36 20 (header_symbols c.from_symbols.result) in
     coded_fixes _ golay18_word 18 1 places symbols c.args.bare.now c.in-Some.wrong refl (λ nac. words_in_unit (golay18_carried symbols) (header_suits c.from_symbols.result) nac 0 _ refl)
-    (c.in-Some.ensures.wrong golay18_word golay18_encodes ∙ ap
+    (c.in-Some.ensures.wrong ∙ ap
     (λ symbols. field_fixes_of golay18_word 18 1 (word_places 18 hdu_rows) (rs_word 36 20 symbols) c.args.bare.now) (sym c.from_symbols.ensures.back))
 
 pub returns-in-None-clause-value : goal.returns-in-None-clause-value

@@ -1,7 +1,8 @@
 use Rattle.std.proofs.Common.{option_map, Err, ap, ap₂, sym, ◌∙◌, arith}
 use Rattle.p25_coded_fields.specs.Layouts.{places_from}
-use Rattle.p25_voice_units.specs.{FieldLayouts.{word_places}, Images.{hamming10_word}, Readings.{ldu_from}}
-use Rattle.p25_voice_units.proofs.{CodesLaws.{hamming10_encodes}, KindsLaws.{ldu_whole, ldu_fails}, ReadLaws.{some_at}}
+use Rattle.p25_hamming.specs.Hamming10.{hamming10_word}
+use Rattle.p25_voice_units.specs.{FieldLayouts.{word_places}, Readings.{ldu_from}}
+use Rattle.p25_voice_units.proofs.{KindsLaws.{ldu_whole, ldu_fails}, ReadLaws.{some_at}}
 use Rattle.p25_voice_units.proofs.read.read_ldu.Goals.{in_default-via-in-Some+in-Some+in_default, in_default-via-in-Some+in_default, in_default-via-in_default}
 use Rattle.p25_voice_units.proofs.read.read_ldu.Goals as goal
 
@@ -21,7 +22,7 @@ pub returns-in-Some-Some-Some-clause-wrong : goal.returns-in-Some-Some-Some-clau
 unfolding word_places places_from
 returns-in-Some-Some-Some-clause-wrong g c =
     let w = c.in-Some-Some-Some in
-    let field = some_at _ c.read_symbols-word.result w.word c.read_symbols-word.ensures.wrong w.is-0 hamming10_word hamming10_encodes in
+    let field = some_at _ c.read_symbols-word.result w.word c.read_symbols-word.ensures.wrong w.is-0 in
     let low_first = some_at _ c.read_low-low1.result w.low1 c.read_low-low1.ensures.wrong w.is-1 in
     let low_second = some_at _ c.read_low-low2.result w.low2 c.read_low-low2.ensures.wrong w.is-2 in
     omega (arith, field, low_first, low_second)

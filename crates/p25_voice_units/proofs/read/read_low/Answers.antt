@@ -6,7 +6,7 @@ use Rattle.p25_code.specs.Words.{IsEncoding}
 use Rattle.p25_coded_fields.proofs.ReadLaws.{received_bits, received_reading, read_word_of_set, wrong_bits}
 use Rattle.p25_hamming.specs.{Lsd16.{IsLsd16}, Lsd16Laws.{lsd16_code, lsd16_reading_of}}
 use Rattle.p25_voice_units.specs.{Fixes.{low_fixes_of}, Layouts.{ldu_rows}, Readings.{low_in, low_places}}
-use Rattle.p25_voice_units.proofs.{CodesLaws.{lsd16_encodes}, ReadLaws.{low_octet, low_place-le, some_at}}
+use Rattle.p25_voice_units.proofs.{ReadLaws.{low_octet, low_place-le, some_at}}
 use Rattle.p25_voice_units.proofs.read.read_low.Goals as goal
 
 pub returns-in-Some : goal.returns-in-Some
@@ -25,7 +25,7 @@ returns-in-Some c =
     let made : IsEncoding IsLsd16 8 info (bits_of 16 sent) = record { word_of_set = is_word; begins = take-bits_of 8 16 sent (lit≤ tt) } in
     record {
       value = ap Some (low_octet sent small) ∙ ap (option_map (λ (w : List Bool). field_of (take 8 w))) read;
-      wrong = wrong_bits 16 8 lsd16_code.is.laws.one_word received sent info bits _ made (lsd16_encodes info (length-bits_of 8 (sent / 2 ^ 8))) taken c.field-received.ensures.fits small;
+      wrong = wrong_bits 16 8 lsd16_code.is.laws.one_word received sent info bits _ made (lsd16_code.is.encodes info (length-bits_of 8 (sent / 2 ^ 8))) taken c.field-received.ensures.fits small;
       most = ones-xor-le 16 received sent c.field-received.ensures.fits small;
     }
 

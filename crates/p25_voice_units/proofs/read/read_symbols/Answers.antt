@@ -12,7 +12,7 @@ returns-in-Found-clause-value g c =
     ap Some c.copy_from_slice.ensures.after ∙ sym (field_found layout c.args.bare.now c.read_field.result c.read_field.new.word c.in-Found.fixes c.in-Found.is c.read_field.ensures.value)
 
 pub returns-in-Found-clause-wrong : goal.returns-in-Found-clause-wrong
-returns-in-Found-clause-wrong g c = λ encoding encodes.
+returns-in-Found-clause-wrong g c =
     let b = g.I.BlockCode in
     let n = g.row.N in
     let k = g.row.K in
@@ -23,7 +23,7 @@ returns-in-Found-clause-wrong g c = λ encoding encodes.
     let fits : k ≤ length word = omega (arith, is_word.long, c.requires.outer.shorter) in
     let word_is : word ≡ rs_word n k _ = rs_word-only n k (take k word) word c.requires.outer
     (length-take-le k word fits) (record { word_of_set = is_word; begins = refl }) ∙ ap (rs_word n k) (sym c.copy_from_slice.ensures.after) in
-    c.read_field.ensures.fixes c.requires.some encoding encodes c.in-Found.fixes c.in-Found.is ∙ ap (λ w. field_fixes_of encoding b.N (b.K / 6) places w bare) word_is
+    rw (← word_is) (c.read_field.ensures.fixes c.requires.some c.in-Found.fixes c.in-Found.is)
 
 pub returns-in-Found-clause-most : goal.returns-in-Found-clause-most
 returns-in-Found-clause-most g c = c.read_field.ensures.most c.requires.some c.in-Found.fixes c.in-Found.is

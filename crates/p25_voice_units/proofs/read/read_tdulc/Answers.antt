@@ -3,9 +3,10 @@ use Rattle.p25_coded_fields.specs.{Fixes.{field_fixes_of}, Layouts.{field_readin
 use Rattle.p25_link.specs.Words.{link_of_symbols, link_symbols}
 use Rattle.p25_reed_solomon.specs.Encoding.{rs_word}
 use Rattle.p25_status.specs.Outcomes.{read_or}
-use Rattle.p25_voice_units.specs.{FieldLayouts.{word_places, tdulc_layout}, Fixes.{voice_looked}, Images.{golay24_word, voice_body, voice_image_of}, Layouts.{tdulc_rows}}
+use Rattle.p25_golay.specs.Golay24.{golay24_word}
+use Rattle.p25_voice_units.specs.{FieldLayouts.{word_places, tdulc_layout}, Fixes.{voice_looked}, Images.{voice_body, voice_image_of}, Layouts.{tdulc_rows}}
 use Rattle.p25_voice_units.specs.Readings.{link_in, tdulc_from}
-use Rattle.p25_voice_units.proofs.{CodesLaws.{golay24_encodes}, CountedLaws.{coded_fixes}, FormLaws.{words_in_unit}, ImagesLaws.{golay24_carried, tdulc_suits}, ReadLaws.{part_counted}}
+use Rattle.p25_voice_units.proofs.{CountedLaws.{coded_fixes}, FormLaws.{words_in_unit}, ImagesLaws.{golay24_carried, tdulc_suits}, ReadLaws.{part_counted}}
 use Rattle.p25_voice_units.proofs.read.read_tdulc.Goals as goal
 
 pub returns-in-Some-clause-value : goal.returns-in-Some-clause-value
@@ -20,7 +21,7 @@ returns-in-Some-clause-wrong c =
     let places = word_places 24 tdulc_rows in
     let symbols = rs_word 24 12 (link_symbols c.from_symbols.result) in
     coded_fixes _ golay24_word 24 2 places symbols c.args.bare.now c.in-Some.wrong refl (λ nac. words_in_unit (golay24_carried symbols) (tdulc_suits c.from_symbols.result) nac 15 _ refl)
-    (c.in-Some.ensures.wrong golay24_word golay24_encodes ∙ ap
+    (c.in-Some.ensures.wrong ∙ ap
     (λ symbols. field_fixes_of golay24_word 24 2 (word_places 24 tdulc_rows) (rs_word 24 12 symbols) c.args.bare.now) (sym c.from_symbols.ensures.back))
 
 pub returns-in-None-clause-value : goal.returns-in-None-clause-value

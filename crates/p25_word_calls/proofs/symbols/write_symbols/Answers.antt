@@ -1,4 +1,4 @@
-use Rattle.std.proofs.Common.{◌≡◌, true, map, take, arith}
+use Rattle.std.proofs.Common.{◌≡◌, true, map, take}
 use Rattle.p25_gf64.specs.Symbol.{number}
 use Rattle.p25_word_calls.proofs.SymbolSteps.{symbols_written, writing_refused}
 use Rattle.p25_word_calls.proofs.symbols.write_symbols.Goals as goal
@@ -12,4 +12,4 @@ pub returns : goal.returns
 returns g c =
     let info = c.name_symbols.new.symbols in
     let named : map number info ≡ take g.row.K c.args.octets.now = c.name_symbols.ensures.named c.if-not-name_symbols.false in
-    symbols_written g.row.N g.row.K c.args.octets.now c.put_numbers.new.octets info c.encode.new.word c.requires.code (omega arith) named c.encode.ensures c.put_numbers.ensures
+    symbols_written g.row.N g.row.K c.args.octets.now c.put_numbers.new.octets info c.encode.new.word named c.encode.ensures.value c.put_numbers.ensures

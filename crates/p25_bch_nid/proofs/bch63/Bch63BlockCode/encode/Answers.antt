@@ -2,12 +2,12 @@ use Rattle.std.proofs.Common.{◌≡◌, ℕ, ◌*◌, ◌%◌, ◌^◌, ◌<◌
 use Rattle.p25_bits.specs.{Bits.{bits_of, field_of}, Divisible.{IsRemainder}}
 use Rattle.p25_bits.proofs.BitsLaws.{field_of-lt}
 use Rattle.p25_code.specs.Words.{IsEncoding}
-use Rattle.p25_bch_nid.specs.{Nid.{generator}, Bch63.{IsBch63}, Bch63Laws.{encoded_by, IsEncoding-encoded_by}}
+use Rattle.p25_bch_nid.specs.{Nid.{generator}, Bch63.{IsBch63}, Bch63Laws.{encoded, encoded_by, IsEncoding-encoded, IsEncoding-encoded_by, one_word}}
 use Rattle.p25_bch_nid.proofs.bch63.Bch63BlockCode.encode.Goals as goal
 
-pub returns : goal.returns
+encoding_of : goal.returns-clause-encoding
 unfolding encoded_by
-returns c =
+encoding_of c =
     let info = c.args.info.now in
     let r = c.number_remainder-remainder.result in
     let small : field_of info < 2 ^ 16 = subst (λ n. field_of info < 2 ^ n) c.requires.info (field_of-lt info) in
@@ -17,3 +17,13 @@ returns c =
     let places : length c.split_at_mut-beginning.result.1.now ≡ 47 = omega (arith, c.requires.word) in
     let word = ap₂ ◌++◌ c.copy_from_slice.ensures.after (c.put_number.ensures ∙ ap (λ n. bits_of n r) places) in
     subst (IsEncoding IsBch63 16 info) (sym word) (IsEncoding-encoded_by info r c.requires.info is)
+
+pub returns-clause-encoding : goal.returns-clause-encoding
+returns-clause-encoding c = encoding_of c
+
+-- no other word begins with the information
+pub returns-clause-value : goal.returns-clause-value
+returns-clause-value c =
+    let is = encoding_of c in
+    let made = IsEncoding-encoded c.args.info.now c.requires.info in
+    one_word _ (encoded c.args.info.now) is.word_of_set made.word_of_set (is.begins ∙ sym made.begins)
