@@ -24,4 +24,4 @@ _p25_companion() {
     esac
     mapfile -t COMPREPLY < <(compgen -W "$words" -- "$word")
 }
-complete -o default -F _p25_companion p25-octets p25-guess p25-rate p25-talkers p25-calls p25-watch p25-page p25-json p25-damage p25-flip p25-split
+complete -o default -F _p25_companion p25-octets p25-guess p25-rate p25-talkers p25-calls p25-watch p25-page p25-json p25-damage p25-flip p25-split p25-record

@@ -1,4 +1,4 @@
-#compdef p25 p25-octets p25-guess p25-rate p25-talkers p25-calls p25-json p25-damage p25-flip p25-split p25-watch p25-page
+#compdef p25 p25-octets p25-guess p25-rate p25-talkers p25-calls p25-json p25-damage p25-flip p25-split p25-record p25-watch p25-page
 # Completion for zsh of the words of p25 and of its helper scripts: it stands as _p25 in a folder of $fpath.
 
 _p25() {

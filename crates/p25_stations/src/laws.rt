@@ -26,8 +26,8 @@ pub fn world_facts()
 {}
 
 /// **Theorem.** Its clauses say what every run keeps, clean or not. In each session what was acknowledged was sent, and
-/// one message at most was sent that was not acknowledged; and the sessions are the whole of the lists. A message or an opening packet is sent 16 times at most. And no
-/// step was a false pass exactly where none is counted.
+/// one message at most was sent that was not acknowledged; and the sessions are the whole of the lists. A message or an opening packet
+/// is sent 16 times at most. And no step was a false pass exactly where none is counted.
 pub fn runs_are_counted()
     ensures sessions { (events : List event_type) → AreCounted (sessions_of (world_run first_world events).delivery) }
     ensures whole { (events : List event_type) → AreWhole (world_run first_world events).delivery }
