@@ -37,32 +37,26 @@ parts-is information a b c d small first second third fourth =
     let n2 = information / 256 % 16 in
     let n1 = information / 16 % 16 in
     let n0 = information % 16 in
-    let low : n0 * 2 ^ 47 < 2 ^ 51 = omega arith in
-    let middle : n1 * 2 ^ 51 + n0 * 2 ^ 47 < 2 ^ 55 = omega arith in
-    let high : n2 * 2 ^ 55 + (n1 * 2 ^ 51 + n0 * 2 ^ 47) < 2 ^ 59 = omega arith in
-    let whole : n3 * 2 ^ 59 + (n2 * 2 ^ 55 + (n1 * 2 ^ 51 + n0 * 2 ^ 47)) ≡ information * 2 ^ 47 = omega arith in
-    let joined : bit_xor (n3 * 2 ^ 59) (bit_xor (n2 * 2 ^ 55) (bit_xor (n1 * 2 ^ 51) (n0 * 2 ^ 47))) ≡ information * 2 ^ 47
-    = ap (λ n. bit_xor (n3 * 2 ^ 59) (bit_xor (n2 * 2 ^ 55) n)) (xor_apart n1 51 (n0 * 2 ^ 47) low)
-    ∙ ap (bit_xor (n3 * 2 ^ 59)) (xor_apart n2 55 (n1 * 2 ^ 51 + n0 * 2 ^ 47) middle)
-    ∙ xor_apart n3 59 (n2 * 2 ^ 55 + (n1 * 2 ^ 51 + n0 * 2 ^ 47)) high
-    ∙ whole in
-    subst (λ (n : ℕ). IsRemainder generator 47 n (bit_xor a (bit_xor b (bit_xor c d)))) joined
-    (IsRemainder-sum generator 47 (n3 * 2 ^ 59) _ a _ first (IsRemainder-sum generator 47 (n2 * 2 ^ 55) _ b _ second (IsRemainder-sum generator 47 (n1 * 2 ^ 51) (n0 * 2 ^ 47) c d third fourth)))
+    let joined = ap (λ n. bit_xor (n3 * 2 ^ 59) (bit_xor (n2 * 2 ^ 55) n)) (xor_apart n1 51 (n0 * 2 ^ 47) (omega arith))
+    ∙ ap (bit_xor (n3 * 2 ^ 59)) (xor_apart n2 55 (n1 * 2 ^ 51 + n0 * 2 ^ 47) (omega arith))
+    ∙ xor_apart n3 59 (n2 * 2 ^ 55 + (n1 * 2 ^ 51 + n0 * 2 ^ 47)) (omega arith)
+    ∙ (omega arith) in
+    simp joined at (IsRemainder-sum generator 47 (n3 * 2 ^ 59) _ a _ first (IsRemainder-sum generator 47 (n2 * 2 ^ 55) _ b _ second (IsRemainder-sum generator 47 (n1 * 2 ^ 51)
+    (n0 * 2 ^ 47) c d third fourth)))
 
 -- a word with the check bits of its information has the remainder 0
 pub clean-is : (word checks : ℕ) → word < 2 ^ 63 → IsRemainder generator 47 (word / 2 ^ 47 * 2 ^ 47) checks → checks ≡ word % 2 ^ 47 → IsRemainder generator 47 word 0
 clean-is word checks small is same =
-    let whole : word / 2 ^ 47 * 2 ^ 47 + word % 2 ^ 47 ≡ word = omega arith in
-    let joined : bit_xor (word / 2 ^ 47 * 2 ^ 47) checks ≡ word
-    = xor_apart (word / 2 ^ 47) 47 checks is.lower ∙ ap (λ n. word / 2 ^ 47 * 2 ^ 47 + n) same ∙ whole in
-    remainder_from_divisible generator 47 word (subst (IsDivisible generator) joined is.divisible)
+    let joined = xor_apart (word / 2 ^ 47) 47 checks is.lower ∙ ap (λ n. word / 2 ^ 47 * 2 ^ 47 + n) same ∙ (omega arith) in
+    remainder_from_divisible generator 47 word (simp joined at is.divisible)
 
 -- and a word with the remainder 0 has them
 pub checks-are : (word checks : ℕ) → word < 2 ^ 63 → IsRemainder generator 47 (word / 2 ^ 47 * 2 ^ 47) checks → IsRemainder generator 47 word 0 → checks ≡ word % 2 ^ 47
 checks-are word checks small is clean =
     let low = word % 2 ^ 47 in
     let fits : low < 2 ^ 47 = omega arith in
-    let none : bit_xor word 0 ≡ word = xor_zero_r word in
-    let whole : word / 2 ^ 47 * 2 ^ 47 + low ≡ word = omega arith in
-    let joined : bit_xor (word / 2 ^ 47 * 2 ^ 47) low ≡ bit_xor word 0 = xor_apart (word / 2 ^ 47) 47 low fits ∙ whole ∙ sym none in
-    IsRemainder-unique generator 47 (word / 2 ^ 47 * 2 ^ 47) checks low generator_degree is (record { lower = fits; divisible = subst (IsDivisible generator) (sym joined) clean.divisible })
+    IsRemainder-unique generator 47 _ checks low generator_degree is (record {
+      lower = fits;
+      divisible = subst (IsDivisible generator) (sym (xor_apart (word / 2 ^ 47) 47 low fits ∙ (omega arith)
+          ∙ sym (xor_zero_r word))) clean.divisible;
+    })

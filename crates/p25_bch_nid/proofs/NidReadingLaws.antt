@@ -1,11 +1,11 @@
 -- The laws of the reading of identifiers. They follow from those of the code: at most one word lies within the radius, and one word
 -- begins with a NAC and a DUID.
-use Rattle.std.proofs.{Common.{◌≡◌, ℕ, ◌≤◌, Bool, List, length, take, Option, Some, None, option_map, ap, sym, ◌∙◌, refl, arith}, lemmas.List.{length-take-le}}
+use Rattle.std.proofs.{Common.{◌≡◌, ℕ, ◌≤◌, Bool, List, length, take, Option, Some, None, option_map, refl, arith}, lemmas.List.{length-take-le}}
 use Rattle.std.specs.Bool.{beq}
 use Rattle.p25_bits.specs.Distance.{distance_of}
 use Rattle.p25_code.specs.Readings.{IsReadAs}
 use Rattle.p25_code.proofs.ReadingLaws.{read_as_sent}
-use Rattle.p25_bch_nid.specs.{Bch63.{IsBch63}, Bch63Laws.{bch63_is_code}, Bch63Readings.{bch63_reading_of, bch63_reads_as}, NidReading.{identifier_of_word, nid_reading_of, IsNidReading}}
+use Rattle.p25_bch_nid.specs.{Bch63.{IsBch63}, Bch63Laws.{bch63_is_code}, Bch63Readings.{bch63_reads_as}, NidReading.{identifier_of_word, nid_reading_of, IsNidReading}}
 
 -- the reading of a word's bits is that of the identifier in it
 as_nid : (bits : List Bool) (answer : Option (List Bool)) → IsReadAs beq IsBch63 11 (take 63 bits) answer → IsNidReading bits (option_map identifier_of_word answer)
@@ -15,19 +15,18 @@ as_nid bits (Some word) is = record { word = word; word_of_set = is.word_of_set;
 
 pub IsNidReading-nid_reading_of : (bits : List Bool) → IsNidReading bits (nid_reading_of bits)
 unfolding nid_reading_of
-IsNidReading-nid_reading_of bits = as_nid bits (bch63_reading_of (take 63 bits)) (bch63_reads_as (take 63 bits))
+IsNidReading-nid_reading_of bits = as_nid bits _ (bch63_reads_as _)
 
 -- wherever a word lies within 11 bits of the first 63, the reading is what it begins with
 pub nid_reading_of-word : (bits word : List Bool) → 63 ≤ length bits → IsBch63 word → distance_of (take 63 bits) word ≤ 11 → nid_reading_of bits ≡ Some (identifier_of_word word)
 unfolding nid_reading_of
 nid_reading_of-word bits word long isw near =
-    ap (option_map identifier_of_word)
-    (read_as_sent bch63_is_code (take 63 bits) word (bch63_reading_of (take 63 bits)) (length-take-le 63 bits long) (bch63_reads_as (take 63 bits)) isw near)
+    cc (read_as_sent bch63_is_code _ word _ (length-take-le 63 bits long) (bch63_reads_as _) isw near)
 
 -- the last bit is not looked at
 pub nid_reading_of-first : (a b : List Bool) → take 63 a ≡ take 63 b → nid_reading_of a ≡ nid_reading_of b
 unfolding nid_reading_of
-nid_reading_of-first a b same = ap (λ received. option_map identifier_of_word (bch63_reading_of received)) same
+nid_reading_of-first a b same = simp same
 
 -- 63 received bits have one reading
 pub IsNidReading-unique : (bits : List Bool) (a : Option (ℕ × ℕ)) → 63 ≤ length bits → IsNidReading bits a → a ≡ nid_reading_of bits
@@ -38,4 +37,4 @@ IsNidReading-unique bits None long is = from_answer (nid_reading_of bits) (IsNid
     from_answer None other = refl
     from_answer (Some nid) other = absurd (omega (arith, is.farther other.word other.word_of_set, other.within))
 IsNidReading-unique bits (Some nid) long is =
-    ap Some is.begins ∙ sym (nid_reading_of-word bits is.word long is.word_of_set is.within)
+    cc (nid_reading_of-word bits is.word long is.word_of_set is.within)

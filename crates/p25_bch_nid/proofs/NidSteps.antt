@@ -1,6 +1,6 @@
 -- Identifiers as the bits that are sent.
-use Rattle.std.proofs.Common.{◌≡◌, ℕ, ◌+◌, ◌*◌, ◌/◌, ◌%◌, ◌^◌, ◌<◌, Bool, true, false, cond, eqb, ◌||◌, bit_xor, ap, sym, ◌∙◌, subst, arith, lit<}
-use Rattle.std.proofs.lemmas.Nat.{shr_high, shr_split, shr-shr, xor_shr, mod_below, pow_pos, div-mul-add, mod-mul-add, div-add-mod'}
+use Rattle.std.proofs.Common.{◌≡◌, ℕ, ◌+◌, ◌*◌, ◌/◌, ◌%◌, ◌^◌, ◌<◌, Bool, true, false, cond, bit_xor, ap, sym, ◌∙◌, subst, arith, lit<}
+use Rattle.std.proofs.lemmas.Nat.{shr_high, shr-shr, xor_shr, mod_below, pow_pos, div-mul-add, mod-mul-add}
 use Rattle.std.specs.Int.Bits.{xor_self}
 use Rattle.p25_bits.specs.Divisible.{IsDivisible}
 use Rattle.p25_bits.proofs.DivisibleLaws.{xor_apart, same_from_xor, IsDivisible-lower, IsDivisible-sum}
@@ -12,35 +12,31 @@ cond-lt_two false = lit< tt
 
 -- P is one bit
 pub parity_of-lt : (duid : ℕ) → parity_of duid < 2
-parity_of-lt duid = cond-lt_two (eqb duid 5 || eqb duid 10)
+parity_of-lt duid = cond-lt_two _
 
 -- a word with its information in front, and P
 pub IsSent-from_parts : (nac duid r parity : ℕ) → 16 * nac + duid < 2 ^ 16 → r < 2 ^ 47 → IsDivisible generator (bit_xor ((16 * nac + duid) * 2 ^ 47) r) → parity ≡ parity_of duid
     → IsSent nac duid (2 * ((16 * nac + duid) * 2 ^ 47 + r) + parity)
 IsSent-from_parts nac duid r parity small low word is =
     let information = 16 * nac + duid in
-    let bit : parity < 2 = omega (arith, parity_of-lt duid, is) in
-    let bits = 2 * (information * 2 ^ 47 + r) + parity in
-    let halves : bits ≡ (information * 2 ^ 47 + r) * 2 + parity = omega arith in
-    let beginning : bits ≡ information * 2 ^ 48 + (2 * r + parity) = omega arith in
-    let rest : 2 * r + parity < 2 ^ 48 = omega arith in
+    let bit : parity < 2 = omega (arith, parity_of-lt) in
+    let halves : (2 * (information * 2 ^ 47 + r) + parity) ≡ (information * 2 ^ 47 + r) * 2 + parity = omega arith in
     record {
-      word = subst (IsDivisible generator) (xor_apart information 47 r low ∙ sym (ap (λ n. n / 2) halves ∙ div-mul-add (information * 2 ^ 47 + r) 2 parity bit)) word;
-      information = ap (λ n. n / 2 ^ 48) beginning ∙ shr_high information 48 (2 * r + parity) rest;
-      parity = ap (λ n. n % 2) halves ∙ mod-mul-add (information * 2 ^ 47 + r) 2 parity bit ∙ is;
+      word = subst (IsDivisible generator) (simp (xor_apart, div-mul-add, halves)) word;
+      information = ap (λ n. n / 2 ^ 48) (omega arith) ∙ shr_high information 48 (2 * r + parity) (omega arith);
+      parity = ap (λ n. n % 2) halves ∙ mod-mul-add _ 2 parity bit ∙ is;
       fits = omega arith;
     }
 
 -- two numbers with the same high part differ by one of lower degree
 xor_same_high : (a b k : ℕ) → a / 2 ^ k ≡ b / 2 ^ k → bit_xor a b < 2 ^ k
 xor_same_high a b k same =
-    let none : bit_xor a b / 2 ^ k ≡ 0 = xor_shr a b k ∙ ap (bit_xor (a / 2 ^ k)) (sym same) ∙ xor_self (a / 2 ^ k) in
-    omega (arith, shr_split (bit_xor a b) k, mod_below (bit_xor a b) (2 ^ k) (pow_pos k), ap (λ q. q * 2 ^ k) none)
+    let none : bit_xor a b / 2 ^ k ≡ 0 = simp (xor_shr, same, xor_self) in
+    omega (arith, mod_below (bit_xor a b) _ (pow_pos k), ap (λ q. q * 2 ^ k) none)
 
 -- an identifier is sent as one number alone
 pub IsSent-unique : (nac duid a b : ℕ) → IsSent nac duid a → IsSent nac duid b → a ≡ b
 IsSent-unique nac duid a b x y =
-    let high : (a / 2) / 2 ^ 47 ≡ (b / 2) / 2 ^ 47 = shr-shr a 1 47 ∙ x.information ∙ sym y.information ∙ sym (shr-shr b 1 47) in
-    let none = IsDivisible-lower generator 47 (bit_xor (a / 2) (b / 2)) generator_degree (IsDivisible-sum generator (a / 2) (b / 2) x.word y.word) (xor_same_high (a / 2) (b / 2) 47 high) in
-    let halves : a / 2 ≡ b / 2 = same_from_xor (a / 2) (b / 2) none in
-    omega (arith, x.parity, y.parity, div-add-mod' a 2, div-add-mod' b 2, halves)
+    let none = IsDivisible-lower generator 47 _ generator_degree (IsDivisible-sum generator _ _ x.word y.word) (xor_same_high _ _ 47 (shr-shr a 1 47 ∙ x.information ∙ sym y.information
+    ∙ sym (shr-shr b 1 47))) in
+    omega (arith, same_from_xor _ (b / 2) none)

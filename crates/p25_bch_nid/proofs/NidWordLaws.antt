@@ -12,42 +12,43 @@ use Rattle.p25_bch_nid.proofs.NidReadingLaws.{IsNidReading-nid_reading_of, nid_r
 -- the first 63 bits are the word that begins with the NAC and the DUID
 pub encoded-nid : (nac duid : ℕ) → IsEncoding IsBch63 16 (bits_of 12 nac ++ bits_of 4 duid) (encoded (bits_of 12 nac ++ bits_of 4 duid))
 encoded-nid nac duid =
-    IsEncoding-encoded (bits_of 12 nac ++ bits_of 4 duid) (omega (arith, length-append (bits_of 12 nac) (bits_of 4 duid), length-bits_of 12 nac, length-bits_of 4 duid))
+    IsEncoding-encoded _ (omega (arith, length-append (bits_of 12 nac) (bits_of 4 duid), length-bits_of, length-bits_of))
 
 pub take-nid_word : (nac duid : ℕ) → take 63 (nid_word nac duid) ≡ encoded (bits_of 12 nac ++ bits_of 4 duid)
 unfolding nid_word
-take-nid_word nac duid = take_at (encoded (bits_of 12 nac ++ bits_of 4 duid)) (eqb (parity_of duid) 1 ∷ []) 63 (encoded-nid nac duid).word_of_set.long
+take-nid_word nac duid = take_at _ _ 63 (encoded-nid nac duid).word_of_set.long
 
 pub IsEncoding-nid_word : (nac duid : ℕ) → IsEncoding IsBch63 16 (bits_of 12 nac ++ bits_of 4 duid) (take 63 (nid_word nac duid))
-IsEncoding-nid_word nac duid = subst (IsEncoding IsBch63 16 (bits_of 12 nac ++ bits_of 4 duid)) (sym (take-nid_word nac duid)) (encoded-nid nac duid)
+IsEncoding-nid_word nac duid = simp take-nid_word (encoded-nid nac duid)
 
 -- then comes P
 pub drop-nid_word : (nac duid : ℕ) → drop 63 (nid_word nac duid) ≡ eqb (parity_of duid) 1 ∷ []
 unfolding nid_word
-drop-nid_word nac duid = drop_at (encoded (bits_of 12 nac ++ bits_of 4 duid)) (eqb (parity_of duid) 1 ∷ []) 63 (encoded-nid nac duid).word_of_set.long
+drop-nid_word nac duid = drop_at _ _ 63 (encoded-nid nac duid).word_of_set.long
 
 -- there are 64
 pub length-nid_word : (nac duid : ℕ) → length (nid_word nac duid) ≡ 64
 unfolding nid_word
 length-nid_word nac duid =
-    let long : length (encoded (bits_of 12 nac ++ bits_of 4 duid)) ≡ 63 = (encoded-nid nac duid).word_of_set.long in
-    length-append (encoded (bits_of 12 nac ++ bits_of 4 duid)) (eqb (parity_of duid) 1 ∷ []) ∙ omega (arith, long)
+    simp length-append (omega (arith, (encoded-nid nac duid).word_of_set.long))
 
 -- a word that begins with a NAC and a DUID has them as its identifier
 pub identifier_of_word-encoding : (nac duid : ℕ) (word : List Bool)
     → nac < 2 ^ 12 → duid < 2 ^ 4 → IsEncoding IsBch63 16 (bits_of 12 nac ++ bits_of 4 duid) word → identifier_of_word word ≡ (nac, duid)
 identifier_of_word-encoding nac duid word low small is =
-    let first : take 12 word ≡ bits_of 12 nac = sym (take-take 12 16 word (omega arith)) ∙ ap (take 12) is.begins ∙ take_at (bits_of 12 nac) (bits_of 4 duid) 12 (length-bits_of 12 nac) in
-    let next : part 12 4 word ≡ bits_of 4 duid = sym (drop-take 12 4 word) ∙ ap (drop 12) is.begins ∙ drop_at (bits_of 12 nac) (bits_of 4 duid) 12 (length-bits_of 12 nac) in
-    ap₂ (λ a b. (a, b)) (ap field_of first ∙ field_of-bits_of 12 nac ∙ mod-eq_of_lt low) (ap field_of next ∙ field_of-bits_of 4 duid ∙ mod-eq_of_lt small)
+    let first : take 12 word ≡ bits_of 12 nac = cc (take-take 12 16 word (omega arith), take_at _ (bits_of 4 duid) 12 (length-bits_of 12 nac)) in
+    let next : part 12 4 word ≡ bits_of 4 duid = cc (drop-take 12 4 word, drop_at _ (bits_of 4 duid) 12 (length-bits_of 12 nac)) in
+    simp (first, field_of-bits_of, mod-eq_of_lt, next)
 
 -- so what is sent for an identifier is read as that
 pub nid_reading_of-nid_word : (nac duid : ℕ) → nac < 2 ^ 12 → duid < 2 ^ 4 → nid_reading_of (nid_word nac duid) ≡ Some (nac, duid)
 nid_reading_of-nid_word nac duid low small =
-    let word = take 63 (nid_word nac duid) in
+    let word = take 63 _ in
     let encoding = IsEncoding-nid_word nac duid in
-    nid_reading_of-word (nid_word nac duid) word (omega (arith, length-nid_word nac duid)) encoding.word_of_set (omega (arith, distance_of-same word))
-    ∙ ap Some (identifier_of_word-encoding nac duid word low small encoding)
+    cc (
+      nid_reading_of-word (nid_word nac duid) word (omega (arith, length-nid_word)) encoding.word_of_set (omega (arith, distance_of-same)),
+      identifier_of_word-encoding nac duid word low small encoding,
+    )
 
 -- and a word is the one that is sent for the identifier in it
 pub identifier_of_word-sent : (word : List Bool) → IsBch63 word → take 63 (nid_word (field_of (take 12 word)) (field_of (part 12 4 word))) ≡ word
@@ -68,7 +69,7 @@ identifier_of_word-sent word is =
 -- so what was received lies within 11 bits of what is sent for the identifier that was read
 pub nid_reading_of-near : (bits : List Bool) (nid : ℕ × ℕ) → nid_reading_of bits ≡ Some nid → distance_of (take 63 bits) (take 63 (nid_word nid.0 nid.1)) ≤ 11
 unfolding IsNidReading
-nid_reading_of-near bits nid read = near (subst (IsNidReading bits) read (IsNidReading-nid_reading_of bits))
+nid_reading_of-near bits nid read = near (simp read at (IsNidReading-nid_reading_of bits))
   where
     near : IsNidFound (take 63 bits) nid → distance_of (take 63 bits) (take 63 (nid_word nid.0 nid.1)) ≤ 11
     near found =

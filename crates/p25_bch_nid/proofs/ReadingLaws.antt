@@ -1,8 +1,8 @@
 -- What each way through the reader of identifiers answers: the number of a word has its NAC and DUID in its highest bits, and a word
 -- is read as the code reads it.
-use Rattle.std.proofs.Common.{◌≡◌, ℕ, ◌/◌, ◌%◌, ◌^◌, ◌<◌, ◌≤◌, Bool, List, length, take, drop, bit_xor, Option, Some, option_map, ap, ap₂, sym, ◌∙◌, subst, arith, mod-eq_of_lt}
+use Rattle.std.proofs.Common.{◌≡◌, ℕ, ◌/◌, ◌%◌, ◌^◌, ◌<◌, ◌≤◌, Bool, List, take, bit_xor, Option, Some, option_map, ap, sym, ◌∙◌, arith, mod-eq_of_lt}
 use Rattle.std.proofs.lemmas.List.{take_at, drop_at, drop-take}
-use Rattle.std.specs.{Bool.{beq}, Int.RustNames.{count_ones}}
+use Rattle.std.specs.{Int.RustNames.{count_ones}}
 use Rattle.p25_bits.specs.{Bits.{bits_of, field_of, part}, Distance.{distance_of}}
 use Rattle.p25_bits.proofs.{BitsLaws.{bits_of-add, length-bits_of, field_of-bits_of}, DistanceLaws.{distance_of-bits_of}}
 use Rattle.p25_code.specs.Readings.{IsReadAs}
@@ -12,64 +12,59 @@ use Rattle.p25_bch_nid.proofs.{NidReadingLaws.{IsNidReading-nid_reading_of, nid_
 -- without the last of 64 bits
 pub first_bits : (bits : ℕ) → take 63 (bits_of 64 bits) ≡ bits_of 63 (bits / 2 ^ 1)
 first_bits bits =
-    ap (take 63) (bits_of-add 63 1 bits) ∙ take_at (bits_of 63 (bits / 2 ^ 1)) (bits_of 1 bits) 63 (length-bits_of 63 (bits / 2 ^ 1))
+    cc (bits_of-add 63 1 bits, take_at _ (bits_of 1 bits) 63 (length-bits_of 63 (bits / 2 ^ 1)))
 
 -- the number of the first 12 of 63 bits
 nac_in : (word : ℕ) → word < 2 ^ 63 → field_of (take 12 (bits_of 63 word)) ≡ word / 2 ^ 51
 nac_in word below =
     let high : word / 2 ^ 51 < 2 ^ 12 = omega arith in
-    ap (λ bits. field_of (take 12 bits)) (bits_of-add 12 51 word)
-    ∙ ap field_of (take_at (bits_of 12 (word / 2 ^ 51)) (bits_of 51 word) 12 (length-bits_of 12 (word / 2 ^ 51)))
-    ∙ field_of-bits_of 12 (word / 2 ^ 51)
-    ∙ mod-eq_of_lt high
+    cc (bits_of-add 12 51 word, take_at _ (bits_of 51 word) 12 (length-bits_of 12 (word / 2 ^ 51)), field_of-bits_of 12 (word / 2 ^ 51), mod-eq_of_lt high)
 
 -- and of the next 4
 duid_in : (word : ℕ) → field_of (part 12 4 (bits_of 63 word)) ≡ word / 2 ^ 47 % 16
 duid_in word =
-    let beginning : take 16 (bits_of 63 word) ≡ bits_of 16 (word / 2 ^ 47)
-    = ap (take 16) (bits_of-add 16 47 word) ∙ take_at (bits_of 16 (word / 2 ^ 47)) (bits_of 47 word) 16 (length-bits_of 16 (word / 2 ^ 47)) in
-    let back : drop 12 (bits_of 16 (word / 2 ^ 47)) ≡ bits_of 4 (word / 2 ^ 47)
-    = ap (drop 12) (bits_of-add 12 4 (word / 2 ^ 47)) ∙ drop_at (bits_of 12 (word / 2 ^ 47 / 2 ^ 4)) (bits_of 4 (word / 2 ^ 47)) 12 (length-bits_of 12 (word / 2 ^ 47 / 2 ^ 4)) in
-    ap field_of (sym (drop-take 12 4 (bits_of 63 word)) ∙ ap (drop 12) beginning ∙ back) ∙ field_of-bits_of 4 (word / 2 ^ 47)
+    cc (
+      drop-take 12 4 (bits_of 63 word),
+      bits_of-add 16 47 word,
+      take_at (bits_of 16 (word / 2 ^ 47)) (bits_of 47 word) 16 (length-bits_of 16 (word / 2 ^ 47)),
+      bits_of-add 12 4 (word / 2 ^ 47),
+      drop_at (bits_of 12 (word / 2 ^ 47 / 2 ^ 4)) (bits_of 4 (word / 2 ^ 47)) 12 (length-bits_of 12 (word / 2 ^ 47 / 2 ^ 4)),
+      field_of-bits_of 4 (word / 2 ^ 47),
+    )
 
 -- so the identifier that a word's number begins with is that of its bits
 pub identifier_made : (word : ℕ) → word < 2 ^ 63 → (word / 2 ^ 51, word / 2 ^ 47 % 16) ≡ identifier_of_word (bits_of 63 word)
-identifier_made word below = ap₂ (λ a b. (a, b)) (sym (nac_in word below)) (sym (duid_in word))
+identifier_made word below = simp (nac_in, duid_in)
 
 -- a word that was read is a word of the code within 11 bits, and what is sent for the identifier in it
 pub word_read : (bits sent : ℕ) (nid : ℕ × ℕ) → Some (bits_of 63 sent) ≡ bch63_reading_of (bits_of 63 (bits / 2 ^ 1)) → nid ≡ identifier_of_word (bits_of 63 sent)
     → (take 63 (nid_word nid.0 nid.1) ≡ bits_of 63 sent) × (distance_of (bits_of 63 (bits / 2 ^ 1)) (bits_of 63 sent) ≤ 11)
 unfolding IsReadAs
 word_read bits sent nid read begins =
-    let received = bits_of 63 (bits / 2 ^ 1) in
-    let found = subst (IsReadAs beq IsBch63 11 received) (sym read) (bch63_reads_as received) in
-    (ap (λ (n : ℕ × ℕ). take 63 (nid_word n.0 n.1)) begins ∙ identifier_of_word-sent (bits_of 63 sent) found.word_of_set, found.within)
+    let found = rw (← read) at (bch63_reads_as (bits_of 63 (bits / 2 ^ 1))) in
+    (ap (λ n. take 63 (nid_word n.0 n.1)) begins ∙ identifier_of_word-sent _ found.word_of_set, found.within)
 
 -- its wrong bits are those that the exclusive or counts
 pub wrong_in : (bits sent : ℕ) (nid : ℕ × ℕ) → bits < 2 ^ 64 → sent < 2 ^ 63 → Some (bits_of 63 sent) ≡ bch63_reading_of (bits_of 63 (bits / 2 ^ 1)) → nid ≡ identifier_of_word (bits_of 63 sent)
     → count_ones (bit_xor (bits / 2 ^ 1) sent) ≡ distance_of (take 63 (bits_of 64 bits)) (take 63 (nid_word nid.0 nid.1))
 wrong_in bits sent nid fits small read begins =
-    let half : bits / 2 ^ 1 < 2 ^ 63 = omega arith in
-    sym (distance_of-bits_of 63 (bits / 2 ^ 1) sent half small)
-    ∙ ap₂ (λ (xs ys : List Bool). distance_of xs ys) (sym (first_bits bits)) (sym (word_read bits sent nid read begins).0)
+    cc (distance_of-bits_of 63 (bits / 2 ^ 1) sent (omega arith) small, first_bits bits, sym (word_read bits sent nid read begins).0)
 
 pub wrong-le : (bits sent : ℕ) (nid : ℕ × ℕ) → bits < 2 ^ 64 → sent < 2 ^ 63 → Some (bits_of 63 sent) ≡ bch63_reading_of (bits_of 63 (bits / 2 ^ 1)) → nid ≡ identifier_of_word (bits_of 63 sent)
     → count_ones (bit_xor (bits / 2 ^ 1) sent) ≤ 11
 wrong-le bits sent nid fits small read begins =
-    let half : bits / 2 ^ 1 < 2 ^ 63 = omega arith in
-    omega (arith, distance_of-bits_of 63 (bits / 2 ^ 1) sent half small, (word_read bits sent nid read begins).1)
+    omega (arith, distance_of-bits_of, (word_read bits sent nid read begins).1)
 
 -- a word is read as the code reads it
 pub code_reading : (bits : ℕ) (answer : Option (List Bool)) → answer ≡ bch63_reading_of (bits_of 63 (bits / 2 ^ 1)) → nid_reading_of (bits_of 64 bits) ≡ option_map identifier_of_word answer
 unfolding nid_reading_of
-code_reading bits answer is = ap (λ received. option_map identifier_of_word (bch63_reading_of received)) (first_bits bits) ∙ ap (option_map identifier_of_word) (sym is)
+code_reading bits answer is = simp (first_bits, is)
 
 -- an answer that is the reading meets the two other clauses
 pub is_reading : (bits : ℕ) (answer : Option (ℕ × ℕ)) → answer ≡ nid_reading_of (bits_of 64 bits) → IsNidReading (bits_of 64 bits) answer
-is_reading bits answer value = subst (IsNidReading (bits_of 64 bits)) (sym value) (IsNidReading-nid_reading_of (bits_of 64 bits))
+is_reading bits answer value = simp value (IsNidReading-nid_reading_of _)
 
 pub is_sent : (bits : ℕ) (answer : Option (ℕ × ℕ)) → answer ≡ nid_reading_of (bits_of 64 bits)
     → (word : List Bool) → IsBch63 word → distance_of (take 63 (bits_of 64 bits)) word ≤ 11 → answer ≡ Some (identifier_of_word word)
 is_sent bits answer value word isw near =
-    let long : 63 ≤ length (bits_of 64 bits) = omega (arith, length-bits_of 64 bits) in
-    value ∙ nid_reading_of-word (bits_of 64 bits) word long isw near
+    value ∙ nid_reading_of-word _ word (omega (arith, length-bits_of)) isw near

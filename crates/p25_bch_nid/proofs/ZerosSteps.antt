@@ -1,6 +1,6 @@
 -- The table of planes is right at each place: the checker computes each bit. The value of a polynomial at a point is the sum over
 -- its coefficients, bit by bit, and each coefficient is the sum of its high and its low three bits.
-use Rattle.std.proofs.Common.{◌≡◌, ℕ, suc, ◌+◌, ◌-◌, ◌*◌, ◌/◌, ◌%◌, ◌^◌, ◌<◌, ◌==◌, ◌↔◌, Bool, IsTrue, eqb, List, [], ◌∷◌, true, bit_xor, w64, get_or, refl, ap, ap₂, sym, ◌∙◌, subst, arith}
+use Rattle.std.proofs.Common.{◌≡◌, ℕ, suc, ◌+◌, ◌-◌, ◌*◌, ◌/◌, ◌%◌, ◌^◌, ◌<◌, ◌==◌, ◌↔◌, Bool, IsTrue, eqb, List, [], ◌∷◌, true, bit_xor, w64, get_or, refl, ap, ap₂, sym, ◌∙◌, arith}
 use Rattle.std.proofs.{lemmas.Bool.{eqb-true, eq-eqb}, lemmas.Nat.{pow_pos}, lemmas.Nat.Bits.{bit_at_xor, bit_at_or, bit_at_not, bit_at-lt, bit_at-zero, bit_at_cat_low, same_from_bits_below}}
 use Rattle.std.specs.{Int.{bit_at, bit_not}, Int.Bits.{bit_or}}
 use Rattle.p25_bits.proofs.DivisibleLaws.{xor_apart}
@@ -36,17 +36,15 @@ powers_computed = refl
 point_power : (e k : ℕ) → e < 63 → number (power gf64 (point e) k) ≡ get_or powers ((63 - e) * k % 63) 0
 point_power e k low =
     let m = (63 - e) * k % 63 in
-    let inside : m < 63 = omega arith in
     let whole : e + (63 - e) ≡ 63 = omega arith in
-    let inverse : power gf64 alpha (63 - e) ≡ point e
-    = inverse_from_one gf64 (power gf64 alpha e) (power gf64 alpha (63 - e)) (sym (power-add gf64 alpha e (63 - e)) ∙ ap (power gf64 alpha) whole ∙ alpha_to_63) in
-    ap number
-    (ap (λ x. power gf64 x k) (sym inverse)
-    ∙ sym (power-mul gf64 alpha (63 - e) k)
-    ∙ power-mod gf64 alpha 63 ((63 - e) * k) alpha_to_63 (omega arith))
-    ∙ number-power alpha m
-    ∙ ap (λ a. product_power a m) number_alpha
-    ∙ sym (eqb-true _ _ (all_below_at 63 (λ e. get_or powers e 0 == product_power 2 e) powers_computed m inside))
+    cc (
+      inverse_from_one gf64 (power gf64 alpha e) (power gf64 alpha (63 - e)) (rw (← power-add, whole, alpha_to_63)),
+      power-mul gf64 alpha _ k,
+      power-mod gf64 alpha 63 _ alpha_to_63 (omega arith),
+      number-power alpha m,
+      number_alpha,
+      eqb-true _ _ (all_below_at 63 _ powers_computed m (omega arith)),
+    )
 
 -- ---- the table
 
@@ -64,20 +62,22 @@ entry-is : (k half v e p : ℕ) → k < 12 → half < 2 → v < 8 → e < 63 →
 unfolding bits_right values_right
 entry-is k half v e p k_low half_low v_low e_low p_low =
     let y = get_or powers ((63 - e) * k % 63) 0 in
-    eqb-true _ _
-    (all_below_at 6 (λ p. bit_at (entry (12 * k + 6 * half + p) v) e == bit_at (product y (v * 8 ^ half)) p)
-    (all_below_at 8 (λ v. bits_right k half v e (product y (v * 8 ^ half)))
-    (all_below_at 2 (λ half. all_below 8 (λ v. bits_right k half v e (product y (v * 8 ^ half))))
-    (all_below_at 63 (λ e. values_right k e (get_or powers ((63 - e) * k % 63) 0))
-    (all_below_at 12 (λ k. all_below 63 (λ e. values_right k e (get_or powers ((63 - e) * k % 63) 0))) planes_computed k k_low) e e_low) half half_low) v v_low) p p_low)
-    ∙ ap (λ n. bit_at (product n (v * 8 ^ half)) p) (sym (point_power e k e_low))
+    cc (
+      eqb-true _ _
+          (all_below_at 6 _
+          (all_below_at 8 _
+          (all_below_at 2 _
+          (all_below_at 63 _
+          (all_below_at 12 _ planes_computed k k_low) e e_low) half half_low) v v_low) p p_low),
+      point_power e k e_low,
+    )
 
 -- ---- a plane
 
 -- nothing yet
 pub plane_none : (polynomial : List Sym) (e p : ℕ) → bit_at 0 e ≡ bit_at (number (value_at gf64 0 (coefficient gf64 polynomial) (point e))) p
 plane_none polynomial e p =
-    bit_at-zero e ∙ sym (ap (λ n. bit_at n p) (ap number (sum-none gf64 _) ∙ number_zero) ∙ bit_at-zero p)
+    simp (bit_at-zero, number_zero, sum-none)
 
 -- one coefficient more
 plane_more_by : (polynomial : List Sym) (k p sum e : ℕ) (symbol : Sym) → k < 12 → p < 6 → e < 63 → symbol ≡ coefficient gf64 polynomial k
@@ -130,32 +130,29 @@ pub plane_more : (polynomial : List Sym) (k p sum e value : ℕ) (symbol : Sym) 
     → bit_at sum e ≡ bit_at (number (value_at gf64 k (coefficient gf64 polynomial) (point e))) p
     → bit_at (bit_xor sum (bit_xor (entry (12 * k + p) (value % 8)) (entry (12 * k + 6 + p) (value / 8)))) e ≡ bit_at (number (value_at gf64 (k + 1) (coefficient gf64 polynomial) (point e))) p
 plane_more polynomial k p sum e value symbol k_low p_low e_low is is_value so_far =
-    subst (λ m. bit_at (bit_xor sum (bit_xor (entry (12 * k + p) (m % 8)) (entry (12 * k + 6 + p) (m / 8)))) e ≡ bit_at (number (value_at gf64 (k + 1) (coefficient gf64 polynomial) (point e))) p)
-    (sym is_value) (plane_more_by polynomial k p sum e symbol k_low p_low e_low is so_far)
+    simp is_value (plane_more_by polynomial k p sum e symbol k_low p_low e_low is so_far)
 
 -- ---- the zeros
 
 -- the bits of a number without the highest of 64
 pub low_bit : (n e : ℕ) → e < 63 → bit_at (n % 2 ^ 63) e ≡ bit_at n e
 low_bit n e low =
-    let whole : n / 2 ^ 63 * 2 ^ 63 + n % 2 ^ 63 ≡ n = omega arith in
-    sym (bit_at_cat_low (n / 2 ^ 63) 63 (n % 2 ^ 63) e low) ∙ ap (λ m. bit_at m e) whole
+    sym (bit_at_cat_low (n / 2 ^ 63) 63 _ e low) ∙ ap (λ m. bit_at m e) (omega arith)
 
 -- a bit of neither
 pub or_none : (a b i : ℕ) → bit_at (bit_or a b) i ≡ 0 → (bit_at a i ≡ 0) × (bit_at b i ≡ 0)
-or_none a b i none = (omega (arith, bit_at_or a b i, none), omega (arith, bit_at_or a b i, none))
+or_none a b i none = (omega (arith, bit_at_or a b i), omega (arith, bit_at_or a b i))
 
 pub none_or : (a b i : ℕ) → bit_at a i ≡ 0 → bit_at b i ≡ 0 → bit_at (bit_or a b) i ≡ 0
-none_or a b i first second = omega (arith, bit_at_or a b i, first, second)
+none_or a b i first second = omega (arith, bit_at_or a b i)
 
 -- a symbol without a bit is zero
 pub zero_from_bits : (s : Sym) → ((p : ℕ) → p < 6 → bit_at (number s) p ≡ 0) → s ≡ gf64.zero
 zero_from_bits s none =
-    let small : number s < 2 ^ 6 = s.below in
-    zero_from_number s (same_from_bits_below 6 (number s) 0 small (pow_pos 6) (λ p low. none p low ∙ sym (bit_at-zero p)))
+    zero_from_number s (same_from_bits_below 6 (number s) 0 s.below (pow_pos 6) (λ p low. none p low ∙ sym (bit_at-zero p)))
 
 pub bits_of_zero : (s : Sym) (p : ℕ) → s ≡ gf64.zero → bit_at (number s) p ≡ 0
-bits_of_zero s p none = ap (λ x. bit_at (number x) p) none ∙ ap (λ n. bit_at n p) number_zero ∙ bit_at-zero p
+bits_of_zero s p none = simp (none, number_zero, bit_at-zero)
 
 -- a bit of what is not in any plane is 1 exactly where the value is zero
 pub vanishes_exactly : (some : ℕ) (value : Sym) (e : ℕ) → e < 63 → some < 2 ^ 64 → (bit_at some e ≡ 0 → (q : ℕ) → q < 6 → bit_at (number value) q ≡ 0)

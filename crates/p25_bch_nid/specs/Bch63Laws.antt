@@ -1,7 +1,7 @@
 -- The laws of the code (63,16): its words by their information, and how far they lie apart.
 use Rattle.std.specs.{Prelude.{◌≡◌, ◌≢◌, ℕ, ◌+◌, ◌*◌, ◌^◌, ◌<◌, ◌≤◌, Bool, List, ◌++◌, length, take, drop, bit_xor}, Int.Bits.{xor_self}, Bool.{beq}}
 use Rattle.std.specs.Cmp.{bool_eq_equiv}
-use Rattle.std.proofs.{Common.{ap, ap₂, sym, subst, ◌∙◌, arith, lit≤, lit<, take-append-drop, length-drop, length-append}, Math.Nat.{mod-eq_of_lt}}
+use Rattle.std.proofs.{Common.{ap, sym, subst, ◌∙◌, arith, lit≤, lit<, take-append-drop, length-drop, length-append}, Math.Nat.{mod-eq_of_lt}}
 use Rattle.std.proofs.{Math.Seq.{take-append_seam}, lemmas.Nat.{xor_lt, xor_block}}
 use Rattle.p25_bits.specs.{Bits.{bits_of, field_of}, Distance.{distance_of}, Divisible.{IsDivisible, IsRemainder}}
 use Rattle.p25_bits.proofs.BitsLaws.{length-bits_of, field_of-append, field_of-bits_of, field_of-lt, same_from_field_of}
@@ -25,13 +25,15 @@ pub IsEncoding-encoded_by : (info : List Bool) (remainder : ℕ) → length info
 unfolding encoded_by
 IsEncoding-encoded_by info remainder long is =
     let checks = bits_of 47 remainder in
-    let whole : length (info ++ checks) ≡ 63 = omega (arith, length-append info checks, length-bits_of 47 remainder) in
-    let number : field_of (info ++ checks) ≡ bit_xor (field_of info * 2 ^ 47) remainder
-    = field_of-append info checks
-    ∙ ap₂ (λ n r. field_of info * 2 ^ n + r) (length-bits_of 47 remainder) (field_of-bits_of 47 remainder ∙ mod-eq_of_lt is.lower)
-    ∙ sym (xor_apart (field_of info) 47 remainder is.lower) in
     record {
-      word_of_set = from_divisible (info ++ checks) whole (subst (IsDivisible generator) (sym number) is.divisible);
+      word_of_set = from_divisible _ (omega (arith, length-append info checks, length-bits_of))
+          (subst (IsDivisible generator) (simp (
+            xor_apart (field_of info) 47 remainder is.lower,
+            length-bits_of 47 remainder,
+            mod-eq_of_lt is.lower,
+            field_of-bits_of 47 remainder,
+            field_of-append info checks,
+          )) is.divisible);
       begins = ap (λ n. take n (info ++ checks)) (sym long) ∙ take-append_seam info checks;
     }
 
@@ -50,14 +52,12 @@ IsEncoding-encoded info long =
 split_number : (word : List Bool) → length word ≡ 63 → field_of word ≡ field_of (take 16 word) * 2 ^ 47 + field_of (drop 16 word)
 split_number word long =
     let rest : length (drop 16 word) ≡ 47 = omega (arith, length-drop 16 word) in
-    ap field_of (sym (take-append-drop 16 word))
-    ∙ field_of-append (take 16 word) (drop 16 word)
-    ∙ ap (λ n. field_of (take 16 word) * 2 ^ n + field_of (drop 16 word)) rest
+    cc (take-append-drop 16 word, field_of-append (take 16 word) (drop 16 word))
 
 low_part : (word : List Bool) → length word ≡ 63 → field_of (drop 16 word) < 2 ^ 47
 low_part word long =
     let rest : length (drop 16 word) ≡ 47 = omega (arith, length-drop 16 word) in
-    subst (λ n. field_of (drop 16 word) < 2 ^ n) rest (field_of-lt (drop 16 word))
+    simp rest at (field_of-lt (drop 16 word))
 
 -- no other word has the same information
 pub one_word : (v w : List Bool) → IsBch63 v → IsBch63 w → take 16 v ≡ take 16 w → v ≡ w
@@ -65,18 +65,19 @@ one_word v w isv isw same =
     let a = field_of (take 16 v) in
     let r = field_of (drop 16 v) in
     let s = field_of (drop 16 w) in
-    let left = split_number v isv.long in
-    let right : field_of w ≡ a * 2 ^ 47 + s = split_number w isw.long ∙ ap (λ info. field_of info * 2 ^ 47 + s) (sym same) in
     let sum : bit_xor (field_of v) (field_of w) ≡ bit_xor r s
-    = ap₂ bit_xor left right
-    ∙ xor_block 47 a a r s (low_part v isv.long) (low_part w isw.long)
-    ∙ ap (λ n. n * 2 ^ 47 + bit_xor r s) (xor_self a)
-    ∙ zero_high (bit_xor r s) in
-    let low : bit_xor (field_of v) (field_of w) < 2 ^ 47
-    = subst (λ (n : ℕ). n < 2 ^ 47) (sym sum) (xor_lt 47 r s (low_part v isv.long) (low_part w isw.long)) in
+    = cc (
+      split_number v isv.long,
+      split_number w isw.long,
+      same,
+      xor_block 47 a a r s (low_part v isv.long) (low_part w isw.long),
+      xor_self a,
+      zero_high (bit_xor r s),
+    ) in
     let none
     = IsDivisible-lower generator 47 (bit_xor (field_of v) (field_of w)) generator_degree
-    (IsDivisible-sum generator (field_of v) (field_of w) (to_divisible v isv) (to_divisible w isw)) low in
+    (IsDivisible-sum generator (field_of v) (field_of w) (to_divisible v isv) (to_divisible w isw))
+    (simp sum (xor_lt 47 r s (low_part v isv.long) (low_part w isw.long))) in
     same_from_field_of v w (isv.long ∙ sym isw.long) (same_from_xor (field_of v) (field_of w) none)
   where
     zero_high : (n : ℕ) → 0 * 2 ^ 47 + n ≡ n
@@ -87,9 +88,12 @@ one_word v w isv isw same =
 -- two different words differ in at least 23 bits, since their symbols are words of the Reed-Solomon code (63,41)
 pub far_apart : (v w : List Bool) → IsBch63 v → IsBch63 w → v ≢ w → 23 ≤ distance_of v w
 far_apart v w isv isw differ =
-    let other : symbols_of v ≢ symbols_of w = λ same. differ (sym (bits_in-symbols_of v) ∙ ap bits_in same ∙ bits_in-symbols_of w) in
-    omega
-    (arith, words_apart 63 41 IsCode-63_41 (symbols_of v) (symbols_of w) (IsWord-symbols_of v isv) (IsWord-symbols_of w isw) other, distance_of_symbols v w)
+    omega (
+      arith,
+      words_apart 63 41 IsCode-63_41 (symbols_of v) (symbols_of w) (IsWord-symbols_of v isv) (IsWord-symbols_of w isw)
+          (λ same. differ (simp bits_in-symbols_of at (ap bits_in same))),
+      distance_of_symbols,
+    )
 
 -- each word has 63 bits
 length_of_word : (word : List Bool) → IsBch63 word → length word ≡ 63

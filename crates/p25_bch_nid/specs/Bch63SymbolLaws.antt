@@ -1,6 +1,6 @@
 -- Symbols that are bits: words of bits as words of the Reed-Solomon code (63,41).
-use Rattle.std.specs.{Prelude.{◌≡◌, ◌+◌, ◌==◌, if◌then◌else◌, Bool, true, false, List, [], ◌∷◌, map, refl}, Bool.{beq}}
-use Rattle.std.proofs.{Common.{ap, ap₂, sym, ◌∙◌, lit≤, lit<}, lemmas.Bool.{false_from_ne_true}, lemmas.List.{length-map}}
+use Rattle.std.specs.{Prelude.{◌≡◌, ◌==◌, Bool, true, false, List, [], ◌∷◌, map, refl}, Bool.{beq}}
+use Rattle.std.proofs.{Common.{ap, sym, ◌∙◌, lit≤, lit<}, lemmas.Bool.{false_from_ne_true}, lemmas.List.{length-map}}
 use Rattle.p25_bits.specs.Distance.{distance_by, distance_of}
 use Rattle.p25_gf64.specs.{declared.symbol.Sym.{Sym}, Symbol.{number}, Gf64.{gf64}}
 use Rattle.p25_gf64.proofs.SymbolLaws.{number_zero, number_one, same_from_eq}
@@ -14,7 +14,7 @@ bits_in symbols = map (λ symbol. number symbol == 1) symbols
 -- the bit of a bit's symbol is that bit
 pub bits_in-symbols_of : (bits : List Bool) → bits_in (symbols_of bits) ≡ bits
 bits_in-symbols_of [] = refl
-bits_in-symbols_of (bit ∷ bits) = ap₂ ◌∷◌ (again bit) (bits_in-symbols_of bits)
+bits_in-symbols_of (bit ∷ bits) = cc (again bit, bits_in-symbols_of bits)
   where
     again : (bit : Bool) → (number (bit_coefficient gf64 bit) == 1) ≡ bit
     again true = ap (λ n. n == 1) number_one
@@ -30,7 +30,7 @@ compares false true = false_from_ne_true _ (λ test. gf64.laws.one_ne_zero (sym 
 -- so words of bits are as far apart as their symbols
 pub distance_of_symbols : (v w : List Bool) → distance_by same_symbols (symbols_of v) (symbols_of w) ≡ distance_of v w
 unfolding distance_by
-distance_of_symbols (x ∷ v) (y ∷ w) = ap₂ (λ b d. (if b then 0 else 1) + d) (compares x y) (distance_of_symbols v w)
+distance_of_symbols (x ∷ v) (y ∷ w) = cc (compares x y, distance_of_symbols v w)
 distance_of_symbols v w = refl
 
 -- 63 and 41 make a Reed-Solomon code

@@ -23,16 +23,17 @@ module _ {F : Type 0} (K : Field F) (x : F) where
   -- a coefficient that a number does not have changes no value
   pub number_value-suc : (width number : ℕ) → number < 2 ^ width → number_value (suc width) number ≡ number_value width number
   number_value-suc width number low =
-      ap (bit_value K x) (bits_of-suc width number)
-      ∙ bit_value-cons K x (bit_at number width == 1) (bits_of width number)
-      ∙ ap (λ bit. bit_coefficient K (bit == 1) ⊗ power K x (length (bits_of width number)) ⊕ number_value width number)
-      (bit_at_above number width width low (omega arith))
-      ∙ ap (λ w. w ⊕ number_value width number) (zero_mul K (power K x (length (bits_of width number))))
-      ∙ zero_add K (number_value width number)
+      cc (
+        bits_of-suc width number,
+        bit_value-cons K x _ (bits_of width number),
+        bit_at_above number width width low (omega arith),
+        zero_mul K _,
+        zero_add K (number_value width number),
+      )
 
   -- the value of 0 is zero
   pub number_value-zero : (width : ℕ) → number_value width 0 ≡ 𝟘
-  number_value-zero zero = ap (bit_value K x) (bits_of-zero 0) ∙ bit_value-nil K x
+  number_value-zero zero = simp (bits_of-zero, bit_value-nil)
   number_value-zero (suc width) = number_value-suc width 0 (pow_pos width) ∙ number_value-zero width
 
   -- one more coefficient below the others
@@ -76,52 +77,44 @@ module _ {F : Type 0} (K : Field F) (x : F) where
   number_value-one : (width : ℕ) → 1 < 2 ^ width → number_value width 1 ≡ 𝟙
   number_value-one zero some = absurd (omega arith)
   number_value-one (suc width) some =
-      number_value-more width 0 true
-      ∙ ap (λ v. x ⊗ v ⊕ 𝟙) (number_value-zero width)
-      ∙ ap (λ v. v ⊕ 𝟙) (mul_zero K x)
-      ∙ zero_add K 𝟙
+      cc (number_value-more width 0 true, number_value-zero width, mul_zero K x, zero_add K 𝟙)
 
   -- the value of a sum is the sum of the values
   pub number_value-xor : (width a b : ℕ) → number_value width (bit_xor a b) ≡ number_value width a ⊕ number_value width b
   number_value-xor width a b =
-      ap (bit_value K x) (bits_of-xor width a b)
-      ∙ bit_value-sum K x (bits_of width a) (bits_of width b) (length-bits_of width a ∙ sym (length-bits_of width b))
+      rw (bits_of-xor width a b, bit_value-sum K x (bits_of width a) (bits_of width b) (simp length-bits_of))
 
   module _ (generator degree : ℕ) (has : HasDegree generator degree) (some : 1 < 2 ^ degree) (root : number_value (suc degree) generator ≡ 𝟘) where
     -- the remainder of a power has the value of the power
     pub power_remainder_value : (n : ℕ) → number_value degree (power_remainder generator degree n) ≡ power K x n
     unfolding power_remainder
-    power_remainder_value zero = number_value-one degree some ∙ sym (power-zero K x)
+    power_remainder_value zero = simp (number_value-one, power-zero)
     power_remainder_value (suc n) =
         let r = power_remainder generator degree n in
         let whole : 2 * r ≡ 2 * r + 0 = omega arith in
         let twice : number_value (suc degree) (2 * r) ≡ power K x (suc n) =
-        ap (number_value (suc degree)) whole ∙ number_value-more degree r false ∙ ap (λ v. x ⊗ v ⊕ 𝟘) (power_remainder_value n) ∙ add_zero K (x ⊗ power K x n)
-        ∙ sym (power-suc K x n) in
+        cc (number_value-more degree r false, power_remainder_value n, add_zero K _, power-suc K x n) in
         elim (cases_lt (2 * r) (2 ^ degree)) [
           | inl low ↦
-              ap (number_value degree) (sym (cond_below (2 * r) (2 ^ degree) (2 * r) (bit_xor (2 * r) generator) low))
-              ∙ sym (number_value-suc degree (2 * r) low) ∙ twice
+              rw (← cond_below, ← number_value-suc, twice)
           | inr high ↦
-              let reduced : power_remainder generator degree (suc n) ≡ bit_xor (2 * r) generator
-              = sym (cond_above (2 * r) (2 ^ degree) (2 * r) (bit_xor (2 * r) generator) (bit_xor (2 * r) generator) high refl) in
-              let low : bit_xor (2 * r) generator < 2 ^ degree = subst (λ (m : ℕ). m < 2 ^ degree) reduced (IsRemainder-power has some (suc n)).lower in
-              ap (number_value degree) reduced
-              ∙ sym (number_value-suc degree (bit_xor (2 * r) generator) low)
-              ∙ number_value-xor (suc degree) (2 * r) generator
-              ∙ ap₂ ◌⊕◌ twice root
-              ∙ add_zero K (power K x (suc n))
+              let reduced = sym (cond_above _ _ _ _ _ high refl) in
+              let low : bit_xor (2 * r) generator < 2 ^ degree = subst (λ m. m < 2 ^ degree) reduced (IsRemainder-power has some (suc n)).lower in
+              rw (reduced, ← number_value-suc, number_value-xor, twice, root, add_zero)
         ]
 
     -- the remainder of a word's polynomial has the value of the word
     pub word_value : (word : List Bool) → number_value degree (syndrome_of (remainders generator degree (length word)) word) ≡ bit_value K x word
     unfolding syndrome_of remainders
-    word_value [] = number_value-zero degree ∙ sym (bit_value-nil K x)
+    word_value [] = simp (number_value-zero, bit_value-nil)
     word_value (bit ∷ word) =
-        number_value-xor degree (if bit then power_remainder generator degree (length word) else 0)
-        (syndrome_of (remainders generator degree (length word)) word)
-        ∙ ap₂ ◌⊕◌ (chosen bit) (word_value word)
-        ∙ sym (bit_value-cons K x bit word)
+        cc (
+          number_value-xor degree _
+              _,
+          chosen bit,
+          word_value word,
+          bit_value-cons K x bit word,
+        )
       where
         chosen : (bit : Bool)
             → number_value degree (if bit then power_remainder generator degree (length word) else 0) ≡ bit_coefficient K bit ⊗ power K x (length word)

@@ -1,3 +1,5 @@
+//! The network identifier (NID) of a data unit: its type and how it is built.
+
 ghost use Rattle.std.specs.Prelude.{◌≡◌, ◌≤◌, ◌↔◌, ◌+◌, ◌*◌, ◌/◌, ◌%◌, IsSome, IfSome};
 
 /// A network identifier (NID): whose traffic it is, and which kind of unit follows. TIA-102.BAAA, Network Identifier.
