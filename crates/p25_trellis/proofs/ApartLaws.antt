@@ -25,8 +25,7 @@ parted-le : (states : ℕ) (point parted : ℕ → ℕ → ℕ) → 0 < states �
     → (before a b : ℕ) (xs ys : List ℕ) → a < states → b < states → IsEnd states before xs → IsEnd states before ys
     → parted a b ≤ weighed nibble_distance (nibbles_from point a xs) (nibbles_from point b ys)
 parted-le states point parted some together stays zero a b xs ys ha hb ends_x ends_y =
-    let whole = ap₂ (λ (us vs : List ℕ). weighed nibble_distance (nibbles_from point a us) (nibbles_from point b vs)) ends_x ends_y in
-    omega (arith, whole, weighed-last point a b, stays a b 0 0 ha hb some some, together)
+    omega (arith, ap₂ (λ (us vs : List ℕ). weighed nibble_distance (nibbles_from point a us) (nibbles_from point b vs)) ends_x ends_y, weighed-last point a b, stays a b 0 0 ha hb some some, together)
 parted-le states point parted some together stays (suc before) a b [] ys ha hb ends_x ends_y = absurd ends_x
 parted-le states point parted some together stays (suc before) a b (x ∷ xs) [] ha hb ends_x ends_y = absurd ends_y
 parted-le states point parted some together stays (suc before) a b (x ∷ xs) (y ∷ ys) ha hb ends_x ends_y =
@@ -50,17 +49,19 @@ same_from_near states apart point parted some together stays parts (suc before) 
     elim (cases_Bool (eqb x y)) [
       | inl one ↦
           let same : x ≡ y = eqb-true x y one in
-          let rest : weighed nibble_distance (nibbles_from point x xs) (nibbles_from point x ys) < apart
-          = omega (arith, near, weighed-nibbles point state state x y xs ys, ap (λ s. weighed nibble_distance (nibbles_from point x xs) (nibbles_from point s ys)) same) in
-          ap₂ ◌∷◌ same (same_from_near states apart point parted some together stays parts before x xs ys ends_x.0 ends_x.1 ends_y.1 rest)
+          ap₂ ◌∷◌ same (same_from_near states apart point parted some together stays parts before x xs ys ends_x.0 ends_x.1 ends_y.1 (omega (
+            arith,
+            near,
+            weighed-nibbles point state state x y xs ys,
+            ap (λ s. weighed nibble_distance (nibbles_from point x xs) (nibbles_from point s ys)) same,
+          )))
       | inr two ↦
-          let differ : x ≢ y = λ same. differs same two in
           absurd (
           omega (
             arith,
             near,
             weighed-nibbles point state state x y xs ys,
-            parts state x y row ends_x.0 ends_y.0 differ,
+            parts state x y row ends_x.0 ends_y.0 (λ same. differs same two),
             parted-le states point parted some together stays before x y xs ys ends_x.0 ends_y.0 ends_x.1 ends_y.1,
           )
           )
@@ -74,8 +75,7 @@ pub length-sent_bits : (states : ℕ) (point : ℕ → ℕ → ℕ) (path : List
 unfolding sent_bits
 length-sent_bits states point path is =
     let nibbles = nibbles_from point 0 path in
-    let count : length (interleaved nibbles) ≡ 49 = length-interleaved nibbles ∙ length-nibbles_from point 0 path ∙ is.long in
-    length-number_bits 4 (interleaved nibbles) ∙ ap (λ n. 4 * n) count
+    length-number_bits 4 (interleaved nibbles) ∙ ap (λ n. 4 * n) (length-interleaved nibbles ∙ length-nibbles_from point 0 path ∙ is.long)
 
 -- paths whose sent bits differ in few places are one
 pub same_from_sent_bits : (states apart : ℕ) (point parted : ℕ → ℕ → ℕ) → 0 < states → parted 0 0 ≡ 0
@@ -84,10 +84,13 @@ pub same_from_sent_bits : (states apart : ℕ) (point parted : ℕ → ℕ → �
     → (path other : List ℕ) → IsPath states path → IsPath states other → distance_of (sent_bits point path) (sent_bits point other) < apart → path ≡ other
 unfolding sent_bits
 same_from_sent_bits states apart point parted some together stays parts path other is other_is near =
-    let count : length (nibbles_from point 0 path) ≡ length (nibbles_from point 0 other)
-    = length-nibbles_from point 0 path ∙ is.long ∙ sym other_is.long ∙ sym (length-nibbles_from point 0 other) in
     same_from_near states apart point parted some together stays parts 48 0 path other some (IsEnd-from_path states path is) (IsEnd-from_path states other other_is)
-    (omega (arith, near, distance_of-interleaved (nibbles_from point 0 path) (nibbles_from point 0 other) count))
+    (omega (
+      arith,
+      near,
+      distance_of-interleaved (nibbles_from point 0 path) (nibbles_from point 0 other) (length-nibbles_from point 0 path ∙ is.long ∙ sym other_is.long
+          ∙ sym (length-nibbles_from point 0 other)),
+    ))
 
 -- a block so near to received bits is that of the first nearest path
 pub IsNearReading-from : (states width apart : ℕ) (point : ℕ → ℕ → ℕ) (received : List Bool) (octets : List ℕ) (distance : ℕ)

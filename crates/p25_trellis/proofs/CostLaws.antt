@@ -62,9 +62,9 @@ symbols_cost-last point cost step state = omega arith
 
 -- the end of a path has one symbol more than stand before its 0
 pub length-end : (states before : ℕ) (symbols : List ℕ) → IsEnd states before symbols → length symbols ≡ suc before
-length-end states zero symbols is = ap length is
+length-end states zero symbols is = simp is
 length-end states (suc before) [] is = absurd is
-length-end states (suc before) (symbol ∷ symbols) is = ap suc (length-end states before symbols is.1)
+length-end states (suc before) (symbol ∷ symbols) is = cc (length-end states before symbols is.1)
 
 -- what a table has for a state after a write for another
 pub rest_in-other : (table : List ℕ) (step state other_step other value : ℕ) → state < 8 → other < 8 → 8 * other_step + other ≢ 8 * step + state
@@ -84,8 +84,7 @@ pub IsLeastEnd-step : (states : ℕ) (point cost : ℕ → ℕ → ℕ) (rests :
     → IsLeastEnd states (suc before) (symbols_cost point cost step state) least
 unfolding step_cost
 IsLeastEnd-step states point cost rests step before state symbol least after place choice =
-    let next : suc step + before ≡ 48 = omega arith in
-    let rest = after.at (suc step) before symbol (omega arith) next choice.below in record {
+    let rest = after.at (suc step) before symbol (omega arith) (omega arith) choice.below in record {
       end = symbol ∷ rest.end;
       is_end = (choice.below, rest.is_end);
       costs = symbols_cost-cons point cost step state symbol rest.end ∙ ap (λ n. cost step (point state symbol) + n) rest.costs ∙ choice.is;
@@ -104,8 +103,12 @@ pub least-le : (states before step state least : ℕ) (point cost : ℕ → ℕ 
     → ((i n : ℕ) → cost i n ≤ limit) → IsLeastEnd states before (symbols_cost point cost step state) least → least ≤ limit * suc before
 unfolding symbols_cost
 least-le states before step state least point cost limit low is =
-    let long : length (nibbles_from point state is.end) ≡ suc before = length-nibbles_from point state is.end ∙ length-end states before is.end is.is_end in
-    omega (arith, is.costs, total_cost-le cost limit step (nibbles_from point state is.end) low, ap (λ n. limit * n) long)
+    omega (
+      arith,
+      is.costs,
+      total_cost-le cost limit step (nibbles_from point state is.end) low,
+      ap (λ n. limit * n) (length-nibbles_from point state is.end ∙ length-end states before is.end is.is_end),
+    )
 
 pub rest-le : (states : ℕ) (point cost : ℕ → ℕ → ℕ) (rests : List ℕ) (limit step symbol : ℕ) → ((i n : ℕ) → cost i n ≤ limit)
     → HasLeastFrom states point cost rests (suc step) → step < 48 → symbol < states → rest_in rests (suc step) symbol ≤ limit * 48
@@ -128,7 +131,7 @@ pub step_cost-sum : (point : ℕ → ℕ → ℕ) (costs rests : List ℕ) (step
     → get_or costs (16 * step + nibble) 0 + get_or rests (8 * (step + 1) + column) 0 ≡ step_cost point (cost_in costs) rests step state symbol
 unfolding step_cost cost_in rest_in
 step_cost-sum point costs rests step state symbol nibble column is same =
-    ap₂ ◌+◌ (ap (λ n. get_or costs (16 * step + n) 0) is) (rw add-one (ap (λ n. get_or rests (8 * suc step + n) 0) same))
+    ap₂ ◌+◌ (simp is) (rw add-one (simp same))
 
 -- one more state of the last step is filled in
 pub last_more : (rests : List ℕ) (state column value : ℕ) (wanted : ℕ → ℕ) → state < 8 → length rests ≡ 392 → column ≡ state → value ≡ wanted state
@@ -138,12 +141,12 @@ last_more rests state column value wanted row long same is so_far =
     let inside : 384 + column < length rests = omega arith in
     below_more (λ s. get_or (set rests (384 + column) value) (384 + s) 0 ≡ wanted s) state
     (λ s below. let other : 384 + s ≢ 384 + column = omega arith in get_or-set_other rests (384 + column) (384 + s) value 0 other ∙ so_far s below)
-    (ap (λ n. get_or (set rests (384 + column) value) (384 + n) 0) (sym same) ∙ get_or-set_same rests (384 + column) value 0 inside ∙ is)
+    (cc (same, get_or-set_same rests (384 + column) value 0 inside, is))
 
 -- the cost of a nibble at the last step, as it is read
 pub cost_in-last : (costs : List ℕ) (nibble point : ℕ) → nibble ≡ point → get_or costs (768 + nibble) 0 ≡ cost_in costs 48 point
 unfolding cost_in
-cost_in-last costs nibble point is = ap (λ n. get_or costs (768 + n) 0) is
+cost_in-last costs nibble point is = simp is
 
 -- the least that can follow the last step is the cost of its symbol 0
 pub HasLeastFrom-last : (states : ℕ) (point cost : ℕ → ℕ → ℕ) (rests : List ℕ) → ((s : ℕ) → s < states → rest_in rests 48 s ≡ cost 48 (point s 0)) → HasLeastFrom states point cost rests 48

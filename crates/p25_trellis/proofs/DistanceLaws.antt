@@ -1,5 +1,5 @@
 -- The distance of sent bits as a sum over nibbles.
-use Rattle.std.proofs.{Common.{◌≡◌, ℕ, suc, ◌+◌, ◌<◌, ◌≤◌, Bool, List, [], ◌∷◌, length, drop, get_or, refl, ap, ap₂, sym, ◌∙◌, arith, All}, lemmas.List.{drop_more}}
+use Rattle.std.proofs.{Common.{◌≡◌, ℕ, suc, ◌+◌, ◌<◌, ◌≤◌, Bool, List, [], ◌∷◌, length, drop, get_or, refl, ap₂, sym, ◌∙◌, arith, All}, lemmas.List.{drop_more}}
 use Rattle.std.proofs.lemmas.List.Elements.{All-cons, All-nil, All-head, All-tail}
 use Rattle.std.specs.Bool.{beq}
 use Rattle.p25_bits.specs.{Bits.{bits_of}, Distance.{distance_of}, Numbers.{number_bits}}
@@ -18,24 +18,23 @@ distance_of-nibbles : (xs ys : List ℕ) → length xs ≡ length ys → distanc
 unfolding number_bits weighed nibble_distance
 distance_of-nibbles [] [] long = distance_by-nil beq []
 distance_of-nibbles (x ∷ xs) (y ∷ ys) long =
-    distance_by-append beq (bits_of 4 x) (number_bits 4 xs) (bits_of 4 y) (number_bits 4 ys) (length-bits_of 4 x ∙ sym (length-bits_of 4 y))
-    ∙ ap (λ n. distance_of (bits_of 4 x) (bits_of 4 y) + n) (distance_of-nibbles xs ys (omega arith))
+    cc (distance_by-append beq (bits_of 4 x) (number_bits 4 xs) (bits_of 4 y) (number_bits 4 ys) (length-bits_of 4 x ∙ sym (length-bits_of 4 y)), distance_of-nibbles xs ys (omega arith))
 distance_of-nibbles xs ys long = absurd (omega arith)
 
 -- and so do interleaved ones
 pub distance_of-interleaved : (xs ys : List ℕ) → length xs ≡ length ys → distance_of (number_bits 4 (interleaved xs)) (number_bits 4 (interleaved ys)) ≡ weighed nibble_distance xs ys
 distance_of-interleaved xs ys long =
-    distance_of-nibbles (interleaved xs) (interleaved ys) (length-interleaved xs ∙ long ∙ sym (length-interleaved ys)) ∙ weighed-interleaved nibble_distance xs ys long
+    distance_of-nibbles (interleaved xs) (interleaved ys) (simp (length-interleaved, long)) ∙ weighed-interleaved nibble_distance xs ys long
 
 -- the nibbles of small symbols are small
 pub All-nibbles_from : (states : ℕ) (point : ℕ → ℕ → ℕ) → ((state symbol : ℕ) → state < states → symbol < states → point state symbol < 16)
     → (state : ℕ) (path : List ℕ) → state < states → All (λ n. n < states) path → All (λ n. n < 16) (nibbles_from point state path)
 unfolding nibbles_from
-All-nibbles_from states point small state [] row all = All-nil (λ (n : ℕ). n < 16)
+All-nibbles_from states point small state [] row all = All-nil (λ n. n < 16)
 All-nibbles_from states point small state (symbol ∷ path) row all =
     let P : ℕ → Type 0 = λ n. n < states in
     let here : symbol < states = All-head P symbol path all in
-    All-cons (λ (n : ℕ). n < 16) (point state symbol) (nibbles_from point symbol path) (small state symbol row here) (All-nibbles_from states point small symbol path here (All-tail P symbol path all))
+    All-cons (λ n. n < 16) (point state symbol) (nibbles_from point symbol path) (small state symbol row here) (All-nibbles_from states point small symbol path here (All-tail P symbol path all))
 
 -- what stands first weighs against what was received at its step
 pub weighed-drop : {Y : Type 0} (weight : ℕ → Y → ℕ) (nibble : ℕ) (nibbles : List ℕ) (received : List Y) (step : ℕ) (d : Y) → step < length received
@@ -43,8 +42,7 @@ pub weighed-drop : {Y : Type 0} (weight : ℕ → Y → ℕ) (nibble : ℕ) (nib
 unfolding weighed
 weighed-drop weight nibble nibbles received step d inside =
     let more : step + 1 ≡ suc step = omega arith in
-    ap (weighed weight (nibble ∷ nibbles)) (drop_more received step d inside)
-    ∙ ap (λ i. weight nibble (get_or received step d) + weighed weight nibbles (drop i received)) more
+    cc (drop_more received step d inside, more)
 
 -- what nibbles cost in a table is what they weigh against what was received, where each cost in the table is a weight
 pub total_cost-weighed : {Y : Type 0} (weight : ℕ → Y → ℕ) (received : List Y) (d : Y) (cost : ℕ → ℕ → ℕ)
@@ -55,10 +53,9 @@ unfolding total_cost weighed
 total_cost-weighed weight received d cost table long step [] place small = refl
 total_cost-weighed weight received d cost table long step (nibble ∷ nibbles) place small =
     let P : ℕ → Type 0 = λ n. n < 16 in
-    let inside : step < length received = omega arith in
-    let next : suc step + length nibbles ≡ 49 = omega arith in
-    ap₂ ◌+◌ (table step nibble (omega arith) (All-head P nibble nibbles small)) (total_cost-weighed weight received d cost table long (suc step) nibbles next (All-tail P nibble nibbles small))
-    ∙ sym (weighed-drop weight nibble nibbles received step d inside)
+    ap₂ ◌+◌ (table step nibble (omega arith) (All-head P nibble nibbles small)) (total_cost-weighed weight received d cost table long (suc step) nibbles (omega arith)
+    (All-tail P nibble nibbles small))
+    ∙ sym (weighed-drop weight nibble nibbles received step d (omega arith))
 
 -- what a path costs against nibbles received is its distance from them
 pub path_cost-distance : (states : ℕ) (point : ℕ → ℕ → ℕ) (received : List ℕ) (bits : List Bool) → 0 < states
@@ -69,9 +66,11 @@ path_cost-distance states point received bits some small long are path is =
     let nibbles = nibbles_from point 0 path in
     let count : length nibbles ≡ 49 = length-nibbles_from point 0 path ∙ is.long in
     let whole : 0 + length nibbles ≡ 49 = omega arith in
-    total_cost-weighed nibble_distance received 0 (received_cost received) (λ step nibble early low. refl) long 0 nibbles whole (All-nibbles_from states point small 0 path some is.below)
-    ∙ sym (distance_of-interleaved nibbles received (count ∙ sym long))
-    ∙ ap (distance_of (number_bits 4 (interleaved nibbles))) (sym are)
+    cc (
+      total_cost-weighed nibble_distance received 0 (received_cost received) (λ step nibble early low. refl) long 0 nibbles whole (All-nibbles_from states point small 0 path some is.below),
+      distance_of-interleaved nibbles received (count ∙ sym long),
+      are,
+    )
 
 -- costs that are the same for every path have the same first least path
 pub IsFirstLeastReading-same : {states width : ℕ} {f g : List ℕ → ℕ} {octets : List ℕ} {total : ℕ} → ((path : List ℕ) → IsPath states path → f path ≡ g path)

@@ -1,6 +1,6 @@
 -- A path that sends exactly what was received is the first nearest: no distance is less than 0, and any other path at
 -- distance 0 sends the same bits, so it is this one.
-use Rattle.std.proofs.Common.{◌≡◌, ℕ, ◌+◌, ◌<◌, inr, Bool, List, [], ◌∷◌, ◌++◌, length, take, drop, set, get_or, refl, ap, ap₂, sym, subst, ◌∙◌, arith, append_assoc, ◌≤◌}
+use Rattle.std.proofs.Common.{◌≡◌, ℕ, ◌+◌, ◌<◌, inr, Bool, List, [], ◌∷◌, ◌++◌, length, take, drop, set, get_or, refl, ap, subst, ◌∙◌, arith, append_assoc, ◌≤◌}
 use Rattle.std.proofs.lemmas.List.{take_all, take_more, take_more_set, take-append-drop}
 use Rattle.p25_bits.specs.Distance.{distance_of}
 use Rattle.p25_bits.proofs.DistanceLaws.{distance_of-same, distance_of-sym}
@@ -12,7 +12,7 @@ not_after-same [] = tt
 not_after-same (symbol ∷ path) = inr (refl, not_after-same path)
 
 pub at_no_distance : (point : ℕ → ℕ → ℕ) (received : List Bool) (path : List ℕ) → sent_bits point path ≡ received → distance_from point received path ≡ 0
-at_no_distance point received path sends = ap (λ (bits : List Bool). distance_of bits received) sends ∙ distance_of-same received
+at_no_distance point received path sends = simp (sends, distance_of-same)
 
 pub IsFirstLeast-exact : (states apart : ℕ) (point : ℕ → ℕ → ℕ) (received : List Bool) (path : List ℕ) → 0 < apart → ArePathsApart states point apart
     → IsPath states path → sent_bits point path ≡ received → IsFirstLeast states (distance_from point received) path
@@ -21,9 +21,13 @@ IsFirstLeast-exact states apart point received path some far is sends =
       is_path = is;
       least = λ other other_is. omega (arith, zero);
       first = λ other other_is equal.
-          let apart_by : distance_of (sent_bits point path) (sent_bits point other) ≡ distance_from point received other
-          = ap (λ (bits : List Bool). distance_of bits (sent_bits point other)) sends ∙ distance_of-sym received (sent_bits point other) in
-          let same = far path other is other_is (omega (arith, apart_by, equal, zero, some)) in
+          let same = far path other is other_is (omega (
+            arith,
+            ap (λ (bits : List Bool). distance_of bits (sent_bits point other)) sends ∙ distance_of-sym received (sent_bits point other),
+            equal,
+            zero,
+            some,
+          )) in
           subst (IsNotAfter path) same (not_after-same path);
     }
 
@@ -32,22 +36,21 @@ pub sends_more : (point : ℕ → ℕ → ℕ) (nibbles path : List ℕ) (step s
     → ((rest : List ℕ) → nibbles_from point 0 (take step path ++ rest) ≡ take step nibbles ++ nibbles_from point state rest)
     → (rest : List ℕ) → nibbles_from point 0 (take (step + 1) (set path step symbol) ++ rest) ≡ take (step + 1) nibbles ++ nibbles_from point symbol rest
 sends_more point nibbles path step state symbol inside there sends so_far rest =
-    ap (λ (beginning : List ℕ). nibbles_from point 0 (beginning ++ rest)) (take_more_set path step symbol inside)
-    ∙ ap (nibbles_from point 0) (append_assoc (take step path) (symbol ∷ []) rest)
-    ∙ so_far (symbol ∷ rest)
-    ∙ ap (λ (xs : List ℕ). take step nibbles ++ xs) (nibbles_from-cons point state symbol rest ∙ ap (λ n. n ∷ nibbles_from point symbol rest) sends)
-    ∙ sym (append_assoc (take step nibbles) (get_or nibbles step 0 ∷ []) (nibbles_from point symbol rest))
-    ∙ ap (λ (xs : List ℕ). xs ++ nibbles_from point symbol rest) (sym (take_more nibbles step 0 there))
+    cc (
+      take_more_set path step symbol inside,
+      append_assoc (take step path) (symbol ∷ []) rest,
+      so_far (symbol ∷ rest),
+      nibbles_from-cons point state symbol rest,
+      sends,
+      append_assoc (take step nibbles) (get_or nibbles step 0 ∷ []) (nibbles_from point symbol rest),
+      take_more nibbles step 0 there,
+    )
 
 -- with the point of the last state it sends them all
 pub sends_all : (point : ℕ → ℕ → ℕ) (nibbles path : List ℕ) (step state : ℕ) → step ≡ 48 → length nibbles ≡ 49 → drop 48 path ≡ 0 ∷ [] → point state 0 ≡ get_or nibbles 48 0
     → ((rest : List ℕ) → nibbles_from point 0 (take step path ++ rest) ≡ take step nibbles ++ nibbles_from point state rest) → nibbles_from point 0 path ≡ nibbles
 sends_all point nibbles path step state done long last sends so_far =
-    let at_end = subst (λ (i : ℕ). (rest : List ℕ) → nibbles_from point 0 (take i path ++ rest) ≡ take i nibbles ++ nibbles_from point state rest) done so_far in
+    let at_end = simp done at so_far in
     let there : 48 < length nibbles = omega (arith, long) in
     let all : length nibbles ≤ 48 + 1 = omega (arith, long) in
-    ap (nibbles_from point 0) (sym (ap (λ (zs : List ℕ). take 48 path ++ zs) (sym last) ∙ take-append-drop 48 path))
-    ∙ at_end (0 ∷ [])
-    ∙ ap (λ (xs : List ℕ). take 48 nibbles ++ xs) (nibbles_from-cons point state 0 [] ∙ ap₂ ◌∷◌ sends (nibbles_from-nil point 0))
-    ∙ sym (take_more nibbles 48 0 there)
-    ∙ take_all (48 + 1) nibbles all
+    cc (take-append-drop 48 path, last, at_end (0 ∷ []), nibbles_from-cons point state 0 [], sends, nibbles_from-nil point 0, take_more nibbles 48 0 there, take_all (48 + 1) nibbles all)

@@ -1,7 +1,7 @@
 -- The first least path, from the first step to the last: the lowest of the symbols that cost least goes before the first least end after it.
 use Rattle.std.proofs.Common.{◌≡◌, ℕ, zero, suc, ◌+◌, ◌<◌, ◌≤◌, inl, inr, List, [], ◌∷◌, ◌++◌, length, take, drop, set, refl, ap, ap₂, sym, subst, ◌∙◌, arith, append_assoc, All}
 use Rattle.std.proofs.{lemmas.Bool.{cases_lt}, lemmas.List.{take_more_set}, lemmas.List.Elements.{All-cons, All-nil, All-head, All-tail, All-same}}
-use Rattle.p25_trellis.specs.{Trellis.{IsPath, IsNotAfter, IsFirstLeast, IsFirstLeastReading, Carries}, Costs.{symbols_cost}}
+use Rattle.p25_trellis.specs.{Trellis.{IsPath, IsNotAfter, IsFirstLeast, IsFirstLeastReading}, Costs.{symbols_cost}}
 use Rattle.p25_trellis.specs.Least.{rest_in, step_cost, IsEnd, IsLeastEnd, HasLeastFrom, IsLowestLeast}
 use Rattle.p25_trellis.proofs.{PathLaws.{same_octets}, CostLaws.{symbols_cost-cons, length-end, HasLeastFrom-later}}
 
@@ -93,7 +93,7 @@ drop-end states (suc before) (symbol ∷ path) is = drop-end states before path 
 All-end : (states before : ℕ) (path : List ℕ) → 0 < states → IsEnd states before path → All (λ n. n < states) path
 All-end states zero path some is = let P : ℕ → Type 0 = λ n. n < states in All-same P path (0 ∷ []) is (All-cons P 0 [] some (All-nil P))
 All-end states (suc before) [] some is = absurd is
-All-end states (suc before) (symbol ∷ path) some is = All-cons (λ (n : ℕ). n < states) symbol path is.0 (All-end states before path some is.1)
+All-end states (suc before) (symbol ∷ path) some is = All-cons (λ n. n < states) symbol path is.0 (All-end states before path some is.1)
 
 pub IsPath-from_end : (states : ℕ) (path : List ℕ) → 0 < states → IsEnd states 48 path → IsPath states path
 IsPath-from_end states path some is = record {
@@ -131,13 +131,11 @@ completes_more states point cost rests path step state symbol least has early lo
     let inside : step < length path = omega arith in
     let there : step + suc before ≡ 48 = omega arith in
     let more : step + 1 ≡ suc step = omega arith in
-    let after = HasLeastFrom-later states point cost rests 0 (suc step) (omega arith) has in
-    let next = subst (λ (i : ℕ). IsFirstLeastEnd states before (symbols_cost point cost i symbol) end) more rest in
-    let whole = so_far (suc before) (symbol ∷ end) there (IsFirstLeastEnd-cons states point cost rests step before state symbol least end after there choice next) in
-    subst
-    (λ (whole_path : List ℕ). IsFirstLeastEnd states 48 (symbols_cost point cost 0 0) whole_path)
-    (sym (ap (λ (beginning : List ℕ). beginning ++ end) (take_more_set path step symbol inside) ∙ append_assoc (take step path) (symbol ∷ []) end))
-    whole
+    let next = simp more at rest in
+    let whole = so_far (suc before)
+    (symbol ∷ end) there (IsFirstLeastEnd-cons states point cost rests step before state symbol least end (HasLeastFrom-later states point cost rests 0 (suc step)
+    (omega arith) has) there choice next) in
+    simp (append_assoc, take_more_set) whole
 
 -- two lists of which neither is after the other are one
 IsNotAfter-antisym : (xs ys : List ℕ) → IsNotAfter xs ys → IsNotAfter ys xs → xs ≡ ys
@@ -163,6 +161,6 @@ pub same_reading : (states width : ℕ) (cost : List ℕ → ℕ) (octets others
     → IsFirstLeastReading states width cost others other_total → (octets ≡ others) × (total ≡ other_total)
 same_reading states width cost octets others total other_total one two =
     let same = same_first_least states cost one.path two.path one.first_least two.first_least in (
-      same_octets width one.path octets others one.carries (subst (λ (path : List ℕ). Carries width path others) (sym same) two.carries),
+      same_octets width one.path octets others one.carries (simp same two.carries),
       one.total_is ∙ ap cost same ∙ sym two.total_is,
     )

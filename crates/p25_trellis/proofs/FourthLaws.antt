@@ -15,25 +15,25 @@ pub get_or-each_fourth : {X : Type 0} (wait : ℕ) (xs : List X) (k : ℕ) (d : 
 unfolding each_fourth
 get_or-each_fourth wait [] k d = refl
 get_or-each_fourth zero (x ∷ xs) zero d = refl
-get_or-each_fourth zero (x ∷ xs) (suc k) d = get_or-each_fourth 3 xs k d ∙ ap (λ (i : ℕ). get_or (x ∷ xs) i d) (sym (four_more k))
-get_or-each_fourth (suc wait) (x ∷ xs) k d = get_or-each_fourth wait xs k d ∙ ap (λ (i : ℕ). get_or (x ∷ xs) i d) (sym (one_more wait k))
+get_or-each_fourth zero (x ∷ xs) (suc k) d = cc (get_or-each_fourth 3 xs k d, four_more k)
+get_or-each_fourth (suc wait) (x ∷ xs) k d = cc (get_or-each_fourth wait xs k d, one_more wait k)
 
 -- where one of them is set, so it is among them
 pub each_fourth-set_same : {X : Type 0} (wait : ℕ) (xs : List X) (k : ℕ) (x : X) → each_fourth wait (set xs (wait + 4 * k) x) ≡ set (each_fourth wait xs) k x
 unfolding each_fourth
 each_fourth-set_same wait [] k x = refl
 each_fourth-set_same zero (y ∷ ys) zero x = refl
-each_fourth-set_same zero (y ∷ ys) (suc k) x = ap (λ (i : ℕ). each_fourth 0 (set (y ∷ ys) i x)) (four_more k) ∙ ap (λ (zs : List _). y ∷ zs) (each_fourth-set_same 3 ys k x)
-each_fourth-set_same (suc wait) (y ∷ ys) k x = ap (λ (i : ℕ). each_fourth (suc wait) (set (y ∷ ys) i x)) (one_more wait k) ∙ each_fourth-set_same wait ys k x
+each_fourth-set_same zero (y ∷ ys) (suc k) x = cc (four_more k, each_fourth-set_same 3 ys k x)
+each_fourth-set_same (suc wait) (y ∷ ys) k x = cc (one_more wait k, each_fourth-set_same wait ys k x)
 
 -- where another element is set, they stay
 pub each_fourth-set_other : {X : Type 0} (wait : ℕ) (xs : List X) (i : ℕ) (x : X) → ((k : ℕ) → i ≢ wait + 4 * k) → each_fourth wait (set xs i x) ≡ each_fourth wait xs
 unfolding each_fourth
 each_fourth-set_other wait [] i x apart = refl
 each_fourth-set_other zero (y ∷ ys) zero x apart = absurd (apart 0 refl)
-each_fourth-set_other zero (y ∷ ys) (suc i) x apart = ap (λ (zs : List _). y ∷ zs) (each_fourth-set_other 3 ys i x (λ k same. apart (suc k) (ap suc same ∙ sym (four_more k))))
+each_fourth-set_other zero (y ∷ ys) (suc i) x apart = cc (each_fourth-set_other 3 ys i x (λ k same. apart (suc k) (ap suc same ∙ sym (four_more k))))
 each_fourth-set_other (suc wait) (y ∷ ys) zero x apart = refl
-each_fourth-set_other (suc wait) (y ∷ ys) (suc i) x apart = each_fourth-set_other wait ys i x (λ k same. apart k (ap suc same ∙ sym (one_more wait k)))
+each_fourth-set_other (suc wait) (y ∷ ys) (suc i) x apart = each_fourth-set_other wait ys i x (λ k same. apart k (simp (same, one_more)))
 
 -- they reach to the end, and not past it
 length-fourths_reach : {X : Type 0} (wait : ℕ) (xs : List X) → length xs ≤ wait + 4 * length (each_fourth wait xs)

@@ -1,8 +1,8 @@
 -- Numbers of a few bits each, group by group: joined to one number, taken apart, and written as numbers of another width.
-use Rattle.std.proofs.Common.{◌≡◌, ℕ, ◌+◌, ◌-◌, ◌*◌, ◌/◌, ◌%◌, ◌^◌, ◌<◌, ◌≤◌, Bool, List, [], ◌∷◌, ◌++◌, length, take, drop, get_or, ap, ap₂, sym, ◌∙◌, arith, add-one, length-drop}
+use Rattle.std.proofs.Common.{◌≡◌, ℕ, ◌+◌, ◌-◌, ◌*◌, ◌/◌, ◌%◌, ◌^◌, ◌<◌, ◌≤◌, Bool, List, length, take, drop, get_or, ap, sym, ◌∙◌, arith, add-one, length-drop}
 use Rattle.std.proofs.{Math.Nat.{mul-suc, mul-le-mul_left, mul-le-mul_right}, Math.Pow.{pow_mono}, lemmas.List.{ext_get_or, take_more}, lemmas.Nat.{pow-add, shl_whole}, lemmas.Slice.{take-put_mid}}
 use borrow.Rule.Slice.PartMut.{put_mid}
-use Rattle.p25_bits.specs.{Bits.{bits_of, field_of, part}, Numbers.{number_bits, numbers_from}}
+use Rattle.p25_bits.specs.{Bits.{bits_of, part}, Numbers.{number_bits, numbers_from}}
 use Rattle.p25_bits.proofs.BitsLaws.{take-bits_of, drop-bits_of, field_of-bits_of, bits_of-joined}
 use Rattle.p25_bits.proofs.NumbersLaws.{number_bits-append, number_bits-one, length-number_bits, take-number_bits, drop-number_bits, length-numbers_from, get_or-numbers_from, numbers_from-add, numbers_from-take}
 
@@ -15,18 +15,12 @@ pub joined_more : (width i whole number : ℕ) (numbers : List ℕ) → i < leng
     → bits_of (width * i) whole ≡ number_bits width (take i numbers)
     → bits_of (width * (i + 1)) (whole * 2 ^ width + number) ≡ number_bits width (take (i + 1) numbers)
 joined_more width i whole number numbers inside is small so_far =
-    ap (λ n. bits_of n (whole * 2 ^ width + number)) (count_more width i)
-    ∙ bits_of-joined (width * i) width whole number small
-    ∙ ap₂ (λ (xs ys : List Bool). xs ++ ys) so_far (sym (number_bits-one width number))
-    ∙ sym (number_bits-append width (take i numbers) (number ∷ []))
-    ∙ ap (λ n. number_bits width (take i numbers ++ n ∷ [])) is
-    ∙ ap (number_bits width) (sym (take_more numbers i 0 inside))
+    rw (count_more, bits_of-joined, so_far, ← number_bits-one, ← number_bits-append, is, ← take_more)
 
 -- what they are joined to has so many bits
 pub joined_more-lt : (width i whole number : ℕ) → number < 2 ^ width → whole < 2 ^ (width * i) → whole * 2 ^ width + number < 2 ^ (width * (i + 1))
 joined_more-lt width i whole number small fits =
-    let power : 2 ^ (width * (i + 1)) ≡ 2 ^ (width * i + width) = ap (λ n. 2 ^ n) (count_more width i) in
-    omega (arith, power, pow-add 2 (width * i) width, mul-le-mul_right (2 ^ width) fits)
+    omega (arith, ap (λ n. 2 ^ n) (count_more width i), pow-add 2 (width * i) width, mul-le-mul_right (2 ^ width) fits)
 
 -- few numbers have few bits
 pub joined-lt : (width i count most whole : ℕ) → i ≤ count → width * count ≤ most → whole < 2 ^ (width * i) → whole < 2 ^ most
@@ -55,11 +49,7 @@ apart_at width count whole k early =
     let fits : width * k ≤ width * count = omega (arith, split) in
     let enough : width ≤ width * count - width * k = omega (arith, split) in
     let place : width * count - width * k - width ≡ width * (count - 1 - k) = omega (arith, split) in
-    get_or-numbers_from width count (bits_of (width * count) whole) k 0 early
-    ∙ ap (λ (bits : List Bool). field_of (take width bits)) (drop-bits_of (width * k) (width * count) whole fits)
-    ∙ ap field_of (take-bits_of width (width * count - width * k) whole enough)
-    ∙ field_of-bits_of width (whole / 2 ^ (width * count - width * k - width))
-    ∙ ap (λ n. whole / 2 ^ n % 2 ^ width) place
+    simp (get_or-numbers_from, drop-bits_of, take-bits_of, field_of-bits_of, place)
 
 -- numbers that are each what stands at its place are all that the low bits write
 pub apart_all : (width whole : ℕ) (numbers : List ℕ) (i : ℕ) → length numbers ≤ i
@@ -69,33 +59,24 @@ apart_all width whole numbers i all each =
     let count = length numbers in
     ext_get_or 0 numbers (numbers_from width count (bits_of (width * count) whole)) (sym (length-numbers_from width count (bits_of (width * count) whole)))
     (λ k inside.
-    let done : k < i = omega arith in
-    each k done ∙ sym (apart_at width count whole k inside))
+    each k (omega arith) ∙ sym (apart_at width count whole k inside))
 
 -- one group more of the numbers that bits write
 pub groups_more : (width count g : ℕ) (bits : List Bool) (numbers group : List ℕ) → count * g ≤ length numbers → group ≡ numbers_from width count (drop (width * (count * g)) bits)
     → take (count * g) numbers ≡ numbers_from width (count * g) bits
     → take (count * (g + 1)) (put_mid (count * g) (count * g + count - count * g) numbers group) ≡ numbers_from width (count * (g + 1)) bits
 groups_more width count g bits numbers group there read so_far =
-    let long : length group ≡ count = ap length read ∙ length-numbers_from width count (drop (width * (count * g)) bits) in
+    let long : length group ≡ count = simp (read, length-numbers_from) in
     let next : count * (g + 1) ≡ count * g + length group = omega (arith, count_more count g, long) in
-    take-put_mid (count * g) (count * g + count - count * g) numbers group (count * (g + 1)) next there
-    ∙ ap₂ (λ (xs ys : List ℕ). xs ++ ys) so_far read
-    ∙ sym (numbers_from-add width (count * g) count bits)
-    ∙ ap (λ n. numbers_from width n bits) (sym (count_more count g))
+    rw (take-put_mid, so_far, read, ← numbers_from-add, ← count_more)
 
 -- a group that is written as numbers of another width
 pub group_anew : (from to g whole : ℕ) (source group : List ℕ) → to * g + to ≤ length source → group ≡ numbers_from to from (bits_of (to * from) whole)
     → bits_of (from * to) whole ≡ number_bits from (part (to * g) to source) → group ≡ numbers_from to from (drop (to * (from * g)) (number_bits from source))
 group_anew from to g whole source group there is written =
     let rest = drop (to * g) source in
-    let inside : to * g ≤ length source = omega arith in
     let left : to ≤ length rest = omega (arith, length-drop (to * g) source) in
-    let turned : to * from ≡ from * to = omega arith in
-    let place : from * (to * g) ≡ to * (from * g) = omega arith in
-    let enough : to * from ≤ from * to = omega arith in
-    let long : to * from ≤ length (number_bits from rest) = omega (arith, length-number_bits from rest, mul-le-mul_left from left) in
     is
-    ∙ ap (numbers_from to from) (ap (λ n. bits_of n whole) turned ∙ written ∙ sym (take-number_bits from to rest left))
-    ∙ numbers_from-take to from (from * to) (number_bits from rest) enough long
-    ∙ ap (numbers_from to from) (sym (drop-number_bits from (to * g) source inside) ∙ ap (λ n. drop n (number_bits from source)) place)
+    ∙ ap (numbers_from to from) (ap (λ n. bits_of n whole) (omega arith) ∙ written ∙ sym (take-number_bits from to rest left))
+    ∙ numbers_from-take to from (from * to) (number_bits from rest) (omega arith) (omega (arith, length-number_bits from rest, mul-le-mul_left from left))
+    ∙ ap (numbers_from to from) (sym (drop-number_bits from (to * g) source (omega arith)) ∙ ap (λ n. drop n (number_bits from source)) (omega arith))

@@ -1,6 +1,6 @@
 -- Laws of the interleaver: what is summed over the places of lists is summed over their fourth elements, and its order is a table, which
 -- computed tests compare.
-use Rattle.std.proofs.Common.{◌≡◌, ◌≢◌, ℕ, zero, suc, ◌+◌, ◌<◌, ◌≤◌, ◌||◌, Bool, true, false, not, cond, eqb, ltb, List, [], ◌∷◌, ◌++◌, map, length, get_or, set, take, drop, refl, ap, sym, ◌∙◌, arith, length-append, below_more, get_or-set_same, get_or-set_other, All}
+use Rattle.std.proofs.Common.{◌≡◌, ◌≢◌, ℕ, zero, suc, ◌+◌, ◌<◌, ◌≤◌, ◌||◌, Bool, true, false, not, cond, eqb, ltb, List, [], ◌∷◌, ◌++◌, map, length, get_or, set, take, drop, refl, sym, ◌∙◌, arith, length-append, below_more, get_or-set_same, get_or-set_other, All}
 use Rattle.std.proofs.{lemmas.List.Elements.{All-cons, All-head, All-tail, All-append, All-same, All-take, All-drop}, lemmas.Bool.{eqb-true, ltb-true, eq-eqb}}
 use Rattle.std.proofs.{lemmas.List.{take_all, take_at, drop_at, map-append, get_or-map}, lemmas.List.FromFn.{fill_by_all}}
 use Rattle.std.specs.List.{range_with_len}
@@ -12,14 +12,14 @@ use Rattle.p25_trellis.specs.{declared.interleave.TheConstants.{SENT_ORDER}, Int
 length-each_fourth : {X Y : Type 0} (wait : ℕ) (xs : List X) (ys : List Y) → length xs ≡ length ys → length (each_fourth wait xs) ≡ length (each_fourth wait ys)
 unfolding each_fourth
 length-each_fourth wait [] [] long = refl
-length-each_fourth zero (x ∷ xs) (y ∷ ys) long = ap suc (length-each_fourth 3 xs ys (omega arith))
+length-each_fourth zero (x ∷ xs) (y ∷ ys) long = cc (length-each_fourth 3 xs ys (omega arith))
 length-each_fourth (suc wait) (x ∷ xs) (y ∷ ys) long = length-each_fourth wait xs ys (omega arith)
 length-each_fourth wait xs ys long = absurd (omega arith)
 
 each_fourth-map : {X Y : Type 0} (f : X → Y) (wait : ℕ) (xs : List X) → each_fourth wait (map f xs) ≡ map f (each_fourth wait xs)
 unfolding each_fourth
 each_fourth-map f wait [] = refl
-each_fourth-map f zero (x ∷ xs) = ap (λ zs. f x ∷ zs) (each_fourth-map f 3 xs)
+each_fourth-map f zero (x ∷ xs) = cc (each_fourth-map f 3 xs)
 each_fourth-map f (suc wait) (x ∷ xs) = each_fourth-map f wait xs
 
 -- to interleave and to change each element can be done in either order
@@ -67,26 +67,24 @@ weighed-interleaved weight xs ys long =
     let e0 = length-each_fourth 0 xs ys long in
     let e1 = length-each_fourth 1 xs ys long in
     let e2 = length-each_fourth 2 xs ys long in
-    weighed-append weight (each_fourth 0 xs ++ each_fourth 1 xs ++ each_fourth 2 xs)
-    (each_fourth 3 xs) (each_fourth 0 ys ++ each_fourth 1 ys ++ each_fourth 2 ys) (each_fourth 3 ys) (simp length-append (cc))
-    ∙ ap
-    (λ n. n + weighed weight (each_fourth 3 xs) (each_fourth 3 ys))
-    (
-    weighed-append weight (each_fourth 0 xs ++ each_fourth 1 xs) (each_fourth 2 xs) (each_fourth 0 ys ++ each_fourth 1 ys) (each_fourth 2 ys) (simp length-append (cc))
-    ∙ ap (λ n. n + weighed weight (each_fourth 2 xs) (each_fourth 2 ys)) (weighed-append weight (each_fourth 0 xs) (each_fourth 1 xs) (each_fourth 0 ys) (each_fourth 1 ys) e0)
+    cc (
+      weighed-append weight (each_fourth 0 xs ++ each_fourth 1 xs ++ each_fourth 2 xs)
+          (each_fourth 3 xs) (each_fourth 0 ys ++ each_fourth 1 ys ++ each_fourth 2 ys) (each_fourth 3 ys) (simp length-append (cc)),
+      weighed-append weight (each_fourth 0 xs ++ each_fourth 1 xs) (each_fourth 2 xs) (each_fourth 0 ys ++ each_fourth 1 ys) (each_fourth 2 ys) (simp length-append (cc)),
+      weighed-append weight (each_fourth 0 xs) (each_fourth 1 xs) (each_fourth 0 ys) (each_fourth 1 ys) e0,
+      weighed-fourths weight xs ys long,
     )
-    ∙ weighed-fourths weight xs ys long
 
 -- the distance of two lists is such a sum
 distance_by-weighed : {X : Type 0} (same : X → X → Bool) (xs ys : List X) → distance_by same xs ys ≡ weighed (λ x y. cond (same x y) 0 1) xs ys
 unfolding distance_by weighed
-distance_by-weighed same (x ∷ xs) (y ∷ ys) = ap (λ n. cond (same x y) 0 1 + n) (distance_by-weighed same xs ys)
+distance_by-weighed same (x ∷ xs) (y ∷ ys) = cc (distance_by-weighed same xs ys)
 distance_by-weighed same xs ys = refl
 
 -- two interleaved lists differ in as many places as the lists
 distance_by-interleaved : {X : Type 0} (same : X → X → Bool) (xs ys : List X) → length xs ≡ length ys → distance_by same (interleaved xs) (interleaved ys) ≡ distance_by same xs ys
 distance_by-interleaved same xs ys long =
-    distance_by-weighed same (interleaved xs) (interleaved ys) ∙ weighed-interleaved (λ x y. cond (same x y) 0 1) xs ys long ∙ sym (distance_by-weighed same xs ys)
+    simp (distance_by-weighed, weighed-interleaved)
 
 eqb-same : (n : ℕ) → eqb n n ≡ true
 eqb-same n = eq-eqb n n refl
@@ -94,9 +92,9 @@ eqb-same n = eq-eqb n n refl
 -- no other list is sent in the same way
 pub same_from_interleaved : (xs ys : List ℕ) → interleaved xs ≡ interleaved ys → xs ≡ ys
 same_from_interleaved xs ys same =
-    let long : length xs ≡ length ys = sym (length-interleaved xs) ∙ ap length same ∙ length-interleaved ys in
+    let long : length xs ≡ length ys = rw (← length-interleaved, same, length-interleaved) in
     same_from_distance_by eqb eqb-true xs ys long
-    (sym (distance_by-interleaved eqb xs ys long) ∙ ap (λ (zs : List ℕ). distance_by eqb zs (interleaved ys)) same ∙ distance_by-same eqb eqb-same (interleaved ys))
+    (cc (distance_by-interleaved eqb xs ys long, same, distance_by-same eqb eqb-same (interleaved ys)))
 
 -- the table of the order is the order
 order-interleaved : interleaved (range_with_len 0 49) ≡ SENT_ORDER
@@ -109,10 +107,7 @@ get_or-interleaved xs place long inside =
     let f : ℕ → ℕ = λ i. get_or xs i 0 in
     let counted : 49 ≡ length SENT_ORDER = refl in
     let there : place < length SENT_ORDER = omega arith in
-    ap (λ (zs : List ℕ). get_or (interleaved zs) place 0) (fill_by_all f xs 49 0 long (λ k h. refl))
-    ∙ ap (λ (zs : List ℕ). get_or zs place 0) (interleaved-map f (range_with_len 0 49))
-    ∙ ap (λ (zs : List ℕ). get_or (map f zs) place 0) order-interleaved
-    ∙ get_or-map f SENT_ORDER place 0 0 there
+    cc (fill_by_all f xs 49 0 long (λ k h. refl), interleaved-map f (range_with_len 0 49), order-interleaved, get_or-map f SENT_ORDER place 0 0 there)
 
 -- every place of the order is a place
 order_test : passed_below 49 (λ place. ltb (get_or SENT_ORDER place 0) 49) ≡ true

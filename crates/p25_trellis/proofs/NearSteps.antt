@@ -1,5 +1,5 @@
 -- The least distances of a step, from those of the step after it: each is the least over the symbols, which are taken in one after another.
-use Rattle.std.proofs.Common.{◌≡◌, ℕ, zero, suc, ◌≢◌, ◌+◌, ◌-◌, ◌*◌, ◌/◌, ◌%◌, ◌<◌, ◌≤◌, inl, inr, List, take, drop, length, get_or, set, refl, ap, ap₂, sym, subst, ◌∙◌, arith, min}
+use Rattle.std.proofs.Common.{◌≡◌, ℕ, zero, suc, ◌≢◌, ◌+◌, ◌-◌, ◌*◌, ◌/◌, ◌%◌, ◌<◌, ◌≤◌, inl, inr, List, length, get_or, set, refl, ap, ap₂, sym, subst, ◌∙◌, arith, min}
 use Rattle.std.proofs.lemmas.Bool.{cases_lt}
 use borrow.Rule.Slice.PartMut.{mid_of}
 use Rattle.p25_bits.proofs.PartLaws.{get_or-part}
@@ -28,7 +28,7 @@ unfolding rest_in
 next_rest rests step symbol below =
     let eight : 8 * step + 16 - (8 * step + 8) ≡ 8 = omega arith in
     let place : 8 * step + 8 + symbol ≡ 8 * suc step + symbol = omega arith in
-    ap (λ k. get_or (take k (drop (8 * step + 8) rests)) symbol 0) eight ∙ get_or-part (8 * step + 8) 8 symbol rests 0 below ∙ ap (λ k. get_or rests k 0) place
+    simp (eight, get_or-part, place)
 
 -- values that agree have one lowest least
 IsLowestLeast-same : (states : ℕ) (f g : ℕ → ℕ) (symbol least : ℕ) → ((other : ℕ) → other < states → f other ≡ g other) → IsLowestLeast states f symbol least → IsLowestLeast states g symbol least
@@ -49,13 +49,13 @@ unfolding step_cost received_cost
 IsLowestLeast-step states point received rests step state nibble symbol least few is was =
     IsLowestLeast-same states (λ other. nibble_distance (point state other) nibble + get_or
     (mid_of (8 * step + 8) (8 * step + 16 - (8 * step + 8)) rests) other 0) (step_cost point (received_cost received) rests step state) symbol least
-    (λ other below. ap₂ ◌+◌ (ap (nibble_distance (point state other)) is) (next_rest rests step other (omega arith)))
+    (λ other below. ap₂ ◌+◌ (simp is) (next_rest rests step other (omega arith)))
     was
 
 -- what a table has for a state at a step, as it is read
 pub rest_read : (rests : List ℕ) (step state column : ℕ) → column ≡ state → get_or rests (8 * step + column) 0 ≡ rest_in rests step state
 unfolding rest_in
-rest_read rests step state column same = ap (λ n. get_or rests (8 * step + n) 0) same
+rest_read rests step state column same = simp same
 
 -- so the least of a step fits an octet
 pub least-fits : (states : ℕ) (point : ℕ → ℕ → ℕ) (received rests : List ℕ) (step state symbol least : ℕ) → HasLeastFrom states point (received_cost received) rests (suc step) → step < 48
@@ -79,22 +79,17 @@ pub lowered_more : (value : ℕ → ℕ) (n least new here : ℕ) → n < 8 → 
     → here ≤ 65535 → new ≡ min least here → IsLowestLeast (n + 1) value (new % 8) (new / 8)
 lowered_more value zero least new here few first so_far is low lowered =
     let whole : new ≡ here = omega (arith, lowered, first refl, low) in
-    let symbol : 0 ≡ new % 8 = omega (arith, whole, is) in
-    let cost : value 0 ≡ new / 8 = omega (arith, whole, is) in
-    subst (λ (k : ℕ). IsLowestLeast 1 value k (new / 8)) symbol (IsLowestLeast-one value (new / 8) (sym cost))
+    subst (λ k. IsLowestLeast 1 value k (new / 8)) (omega (arith, whole, is)) (IsLowestLeast-one value (new / 8) (sym (omega (arith, whole, is))))
 lowered_more value (suc n) least new here few first so_far is low lowered =
     let was = so_far (omega arith) in
     elim (cases_lt here least) [
       | inl less ↦
           let whole : new ≡ here = omega (arith, lowered, less) in
-          let symbol : suc n ≡ new % 8 = omega (arith, whole, is, few) in
-          let cost : new / 8 ≡ value (suc n) = omega (arith, whole, is, few) in
-          subst (λ (k : ℕ). IsLowestLeast (suc n + 1) value k (new / 8)) symbol
-          (IsLowestLeast-less (suc n) value (least % 8) (least / 8) (new / 8) was cost (omega (arith, less, whole, was.below)))
+          subst (λ k. IsLowestLeast (suc n + 1) value k (new / 8)) (omega (arith, whole, is, few))
+          (IsLowestLeast-less (suc n) value (least % 8) (least / 8) (new / 8) was (omega (arith, whole, is, few)) (omega (arith, less, whole, was.below)))
       | inr not_less ↦
-          let whole : least ≡ new = omega (arith, lowered, not_less) in
-          let kept = IsLowestLeast-kept (suc n) value (least % 8) (least / 8) (value (suc n)) was refl (omega (arith, not_less, is, was.below)) in
-          subst (λ (k : ℕ). IsLowestLeast (suc n + 1) value (k % 8) (k / 8)) whole kept
+          subst (λ k. IsLowestLeast (suc n + 1) value (k % 8) (k / 8)) (omega (arith, lowered, not_less))
+          (IsLowestLeast-kept (suc n) value (least % 8) (least / 8) (value (suc n)) was refl (omega (arith, not_less, is, was.below)))
     ]
 
 -- a write at a step changes no cost of a later step, and none of its own
@@ -103,7 +98,7 @@ step_cost-write : (point cost : ℕ → ℕ → ℕ) (rests : List ℕ) (step co
 unfolding step_cost
 step_cost-write point cost rests step column value later state symbol few low late =
     let other : 8 * suc later + symbol ≢ 8 * step + column = omega arith in
-    ap (λ n. cost later (point state symbol) + n) (sym (rest_in-other rests step column (suc later) symbol value few low other))
+    simp rest_in-other
 
 -- what two writes at a step leave of the lowest least at another place
 pub lowest-kept : (states : ℕ) (point cost : ℕ → ℕ → ℕ) (rests symbols : List ℕ) (step column least symbol later state : ℕ) → states ≤ 8 → column < 8 → step ≤ later → state < 8
@@ -114,8 +109,7 @@ lowest-kept states point cost rests symbols step column least symbol later state
     let written = set rests (8 * step + column) least in
     let same_symbol = sym (rest_in-other symbols step column later state symbol row low other) in
     let same_least = sym (rest_in-other rests step column later state least row low other) in
-    subst (λ (n : ℕ). IsLowestLeast states (step_cost point cost written later state) n (rest_in written later state)) same_symbol
-    (subst (λ (n : ℕ). IsLowestLeast states (step_cost point cost written later state) (rest_in symbols later state) n) same_least
+    simp same_symbol at (subst (λ (n : ℕ). IsLowestLeast states (step_cost point cost written later state) (rest_in symbols later state) n) same_least
     (IsLowestLeast-same states (step_cost point cost rests later state) (step_cost point cost written later state) (rest_in symbols later state) (rest_in rests later state)
     (λ symbol below. step_cost-write point cost rests step column least later state symbol row (omega arith) late)
     was))
@@ -129,8 +123,7 @@ lowest-written states point cost rests symbols step state least symbol few row t
     let written = set rests (8 * step + state) least in
     let same_symbol = sym (rest_in-same symbols step state symbol inside) in
     let same_least = sym (rest_in-same rests step state least there) in
-    subst (λ (n : ℕ). IsLowestLeast states (step_cost point cost written step state) n (rest_in written step state)) same_symbol
-    (subst (λ (n : ℕ). IsLowestLeast states (step_cost point cost written step state) symbol n) same_least
+    rw same_symbol at (subst (λ (n : ℕ). IsLowestLeast states (step_cost point cost written step state) symbol n) same_least
     (IsLowestLeast-same states (step_cost point cost rests step state) (step_cost point cost written step state) symbol least
     (λ other below. step_cost-write point cost rests step state least step state other row (omega arith) (omega arith))
     was))

@@ -3,7 +3,7 @@ use Rattle.std.proofs.Common.{◌≡◌, ℕ, ◌*◌, ◌^◌, ◌<◌, ◌≤�
 use Rattle.std.specs.Bool.{beq}
 use Rattle.p25_bits.specs.Distance.{distance_of}
 use Rattle.p25_bits.proofs.{DistanceLaws.{distance_by-le}, NumbersLaws.{length-numbers_from}}
-use Rattle.p25_trellis.specs.{Trellis.{IsBlock, sent_bits}, Nearest.{nearest_octets, nearest_distance, block_from}}
+use Rattle.p25_trellis.specs.{Trellis.{sent_bits}, Nearest.{nearest_octets, nearest_distance, block_from}}
 use Rattle.p25_trellis.proofs.{ApartLaws.{length-sent_bits}, NearestLaws.{nearest_reading, same_block_from}}
 
 -- the octets that are read are octets
@@ -19,9 +19,9 @@ pub nearest_distance-block : (states width : ℕ) (point : ℕ → ℕ → ℕ) 
 nearest_distance-block states width point received some states_is =
     let reading = nearest_reading states width point received some in
     let octets = nearest_octets states width point received in
-    let block : IsBlock states width point octets (sent_bits point reading.path) = record { path = reading.path; is_path = reading.first_least.is_path; carries = reading.carries; sent = refl } in
-    reading.total_is ∙ ap (λ (bits : List Bool). distance_of bits received)
-    (same_block_from states width point octets (sent_bits point reading.path) states_is (length-nearest_octets states width point received) block)
+    reading.total_is ∙ ap (λ bits. distance_of bits received)
+    (same_block_from states width point octets (sent_bits point reading.path) states_is (length-nearest_octets states width point received)
+    (record { path = reading.path; is_path = reading.first_least.is_path; carries = reading.carries; sent = refl }))
 
 -- it is at most all bits of a block
 pub nearest_distance-le : (states width : ℕ) (point : ℕ → ℕ → ℕ) (received : List Bool) → 0 < states → nearest_distance states point received ≤ 196

@@ -16,11 +16,11 @@ IsLowestLeast-more states value symbol was =
     let P : ℕ → ℕ → Type 0 = λ bound next. IsLowestLeast bound value next (value next) in
     elim (cases_lt (value states) (value symbol)) [
       | inl less ↦
-          subst (λ (next : ℕ). P (suc states) next) (sym (cond-true (nat_lt (value states) (value symbol)) states symbol (lt-ltb (value states) (value symbol) less)))
-          (subst (λ (bound : ℕ). P bound states) (add-one states) (IsLowestLeast-less states value symbol (value symbol) (value states) was refl less))
+          subst (λ next. P (suc states) next) (sym (cond-true (nat_lt (value states) (value symbol)) states symbol (lt-ltb (value states) (value symbol) less)))
+          (simp add-one at (IsLowestLeast-less states value symbol (value symbol) (value states) was refl less))
       | inr more ↦
-          subst (λ (next : ℕ). P (suc states) next) (sym (cond-false (nat_lt (value states) (value symbol)) states symbol (le-ltb (value states) (value symbol) more)))
-          (subst (λ (bound : ℕ). P bound symbol) (add-one states) (IsLowestLeast-kept states value symbol (value symbol) (value states) was refl more))
+          subst (λ next. P (suc states) next) (sym (cond-false (nat_lt (value states) (value symbol)) states symbol (le-ltb (value states) (value symbol) more)))
+          (simp add-one at (IsLowestLeast-kept states value symbol (value symbol) (value states) was refl more))
     ]
 
 -- the function gives the lowest least
@@ -28,8 +28,7 @@ IsLowestLeast-lowest_least : (states : ℕ) (value : ℕ → ℕ) → 0 < states
 unfolding lowest_least
 IsLowestLeast-lowest_least zero value some = absurd (omega arith)
 IsLowestLeast-lowest_least (suc zero) value some =
-    let none : (if nat_lt (value 0) (value 0) then 0 else 0) ≡ 0 = cond-false (nat_lt (value 0) (value 0)) 0 0 (le-ltb (value 0) (value 0) (omega arith)) in
-    subst (λ (next : ℕ). IsLowestLeast 1 value next (value next)) (sym none) (IsLowestLeast-one value (value 0) refl)
+    subst (λ next. IsLowestLeast 1 value next (value next)) (sym (cond-false (nat_lt (value 0) (value 0)) 0 0 (le-ltb (value 0) (value 0) (omega arith)))) (IsLowestLeast-one value (value 0) refl)
 IsLowestLeast-lowest_least (suc (suc n)) value some = IsLowestLeast-more (suc n) value (lowest_least (suc n) value) (IsLowestLeast-lowest_least (suc n) value (omega arith))
 
 -- the lowest symbol with the cheapest best end goes before that end
@@ -79,12 +78,10 @@ IsFirstLeast-nearest_path states point received some = IsFirstLeast-first_least_
 pub Carries-octets_from : (states width : ℕ) (path : List ℕ) → IsPath states path → Carries width path (octets_from (6 * width) (number_bits width (take 48 path)))
 Carries-octets_from states width path is =
     let bits = number_bits width (take 48 path) in
-    let there : 48 ≤ length path = omega (arith, is.long) in
-    let long : length bits ≡ 48 * width = omega (arith, length-number_bits width (take 48 path), ap (λ n. width * n) (length-take-le 48 path there)) in
-    let fits : 8 * (6 * width) ≤ length bits = omega arith in
-    let all : length bits ≤ 8 * (6 * width) = omega arith in record {
+    let long : length bits ≡ 48 * width = omega (arith, length-number_bits width (take 48 path), ap (λ n. width * n) (length-take-le 48 path (omega (arith, is.long)))) in
+    record {
       are_octets = All-numbers_from 8 (6 * width) bits;
-      information = sym (take_all (8 * (6 * width)) bits all) ∙ sym (number_bits-numbers_from 8 (6 * width) bits fits) ∙ number_bits-octets (octets_from (6 * width) bits);
+      information = sym (take_all (8 * (6 * width)) bits (omega arith)) ∙ sym (number_bits-numbers_from 8 (6 * width) bits (omega arith)) ∙ number_bits-octets (octets_from (6 * width) bits);
     }
 
 -- the octets that the first least path carries, and what it costs, are its reading
@@ -114,7 +111,7 @@ IsPath-path_from states width octets states_is =
     let P : ℕ → Type 0 = λ symbol. symbol < states in
     let symbols = numbers_from width 48 (octet_bits octets) in
     let long : length symbols ≡ 48 = length-numbers_from width 48 (octet_bits octets) in
-    let small = subst (λ (n : ℕ). All (λ (symbol : ℕ). symbol < n) symbols) (sym states_is) (All-numbers_from width 48 (octet_bits octets)) in record {
+    let small = rw (← states_is) at (All-numbers_from width 48 (octet_bits octets)) in record {
       long = omega (arith, length-append symbols (0 ∷ []), long);
       below = All-append P symbols (0 ∷ []) small (All-cons P 0 [] (power-pos width states states_is) (All-nil P));
       last = drop_at symbols (0 ∷ []) 48 long;
@@ -125,11 +122,10 @@ pub Carries-path_from : (width : ℕ) (octets : List ℕ) → length octets ≡ 
 unfolding path_from
 Carries-path_from width octets long small =
     let bits = octet_bits octets in
-    let symbols = numbers_from width 48 bits in
-    let fits : width * 48 ≤ length bits = omega (arith, length-octet_bits octets) in
-    let all : length bits ≤ width * 48 = omega (arith, length-octet_bits octets) in record {
+    record {
       are_octets = small;
-      information = ap (number_bits width) (take_at symbols (0 ∷ []) 48 (length-numbers_from width 48 bits)) ∙ number_bits-numbers_from width 48 bits fits ∙ take_all (width * 48) bits all;
+      information = ap (number_bits width) (take_at (numbers_from width 48 bits) (0 ∷ []) 48 (length-numbers_from width 48 bits))
+          ∙ number_bits-numbers_from width 48 bits (omega (arith, length-octet_bits octets)) ∙ take_all (width * 48) bits (omega (arith, length-octet_bits octets));
     }
 
 -- the block that the function gives is the block of octets

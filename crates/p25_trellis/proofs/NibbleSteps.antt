@@ -1,5 +1,5 @@
 -- The nibbles of a block, a fourth of them at a time: those that a word writes, and the word that they write.
-use Rattle.std.proofs.Common.{◌≡◌, ◌≢◌, ℕ, ◌+◌, ◌*◌, ◌<◌, ◌≤◌, Bool, List, ◌++◌, length, drop, get_or, set, ap, sym, ◌∙◌, arith, below_more, length-drop, get_or-set_same, get_or-set_other}
+use Rattle.std.proofs.Common.{◌≡◌, ◌≢◌, ℕ, ◌+◌, ◌*◌, ◌<◌, ◌≤◌, Bool, List, ◌++◌, length, drop, get_or, set, ap, ◌∙◌, arith, below_more, length-drop, get_or-set_same, get_or-set_other}
 use Rattle.std.proofs.lemmas.List.{drop-drop}
 use Rattle.p25_bits.specs.{Bits.{bits_of, field_of, part}, Numbers.{number_bits, numbers_from}}
 use Rattle.p25_bits.proofs.NumbersLaws.{bits_of-field, number_bits-append, numbers_from-add, numbers_from-take}
@@ -35,21 +35,16 @@ pub fourths_read : (bits : List Bool) (at place count word : ℕ) (fourths : Lis
 fourths_read bits at place count word fourths inside there is written =
     let fits : at + place + 4 * count ≤ length bits = omega (arith, inside, there) in
     let enough : 4 * count ≤ length (drop (at + place) bits) = omega (arith, fits, length-drop (at + place) bits) in
-    written
-    ∙ ap (numbers_from 4 count) (ap (bits_of (4 * count)) is ∙ bits_of-field (4 * count) (at + place) bits fits)
-    ∙ numbers_from-take 4 count (4 * count) (drop (at + place) bits) (omega arith) enough
-    ∙ ap (numbers_from 4 count) (sym (drop-drop place at bits))
+    cc (written, is, bits_of-field (4 * count) (at + place) bits fits, numbers_from-take 4 count (4 * count) (drop (at + place) bits) (omega arith) enough, drop-drop place at bits)
 
 -- the four fourths that bits write, one after the other
 pub numbers_from-fourths : (bits : List Bool) → numbers_from 4 49 bits
     ≡ numbers_from 4 13 bits ++ numbers_from 4 12 (drop 52 bits) ++ numbers_from 4 12 (drop 100 bits) ++ numbers_from 4 12 (drop 148 bits)
 numbers_from-fourths bits =
-    numbers_from-add 4 37 12 bits
-    ∙ ap (λ (xs : List ℕ). xs ++ numbers_from 4 12 (drop 148 bits))
-    (numbers_from-add 4 25 12 bits ∙ ap (λ (xs : List ℕ). xs ++ numbers_from 4 12 (drop 100 bits)) (numbers_from-add 4 13 12 bits))
+    cc (numbers_from-add 4 37 12 bits, numbers_from-add 4 25 12 bits, numbers_from-add 4 13 12 bits)
 
 -- and the bits that interleaved nibbles write
 pub number_bits-interleaved : (nibbles : List ℕ) → number_bits 4 (interleaved nibbles)
     ≡ number_bits 4 (each_fourth 0 nibbles) ++ number_bits 4 (each_fourth 1 nibbles) ++ number_bits 4 (each_fourth 2 nibbles) ++ number_bits 4 (each_fourth 3 nibbles)
 unfolding interleaved
-number_bits-interleaved nibbles = simp (number_bits-append)
+number_bits-interleaved nibbles = simp number_bits-append

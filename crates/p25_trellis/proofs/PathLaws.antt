@@ -1,8 +1,8 @@
 -- Paths, their nibbles and what they carry.
-use Rattle.std.proofs.Common.{◌≡◌, ℕ, suc, ◌+◌, ◌^◌, ◌<◌, ◌≤◌, Bool, List, [], ◌∷◌, ◌++◌, length, take, drop, get_or, replicate, set, refl, ap, ap₂, sym, subst, ◌∙◌, arith, append_assoc, length-set, All}
+use Rattle.std.proofs.Common.{◌≡◌, ℕ, ◌+◌, ◌^◌, ◌<◌, ◌≤◌, Bool, List, [], ◌∷◌, ◌++◌, length, take, drop, get_or, replicate, set, refl, ap, sym, subst, ◌∙◌, arith, append_assoc, length-set, All}
 use Rattle.std.proofs.{lemmas.List.{drop-set-lt, take-append-drop, take_more_set, drop_more, length-take-le}, lemmas.List.Elements.{All-replicate, All-set, All-take}, lemmas.Nat.{pow_pos}}
 use Rattle.p25_bits.specs.Numbers.{number_bits}
-use Rattle.p25_trellis.specs.Trellis.{IsPath, IsBlock, Carries, nibbles_from, sent_bits}
+use Rattle.p25_trellis.specs.Trellis.{IsPath, IsBlock, Carries, nibbles_from}
 use Rattle.p25_bits.proofs.NumbersLaws.{length-number_bits, number_bits-octets, same_from_number_bits}
 
 -- a power of two is not 0
@@ -45,7 +45,7 @@ nibbles_from-nil point state = refl
 pub length-nibbles_from : (point : ℕ → ℕ → ℕ) (state : ℕ) (symbols : List ℕ) → length (nibbles_from point state symbols) ≡ length symbols
 unfolding nibbles_from
 length-nibbles_from point state [] = refl
-length-nibbles_from point state (symbol ∷ symbols) = ap suc (length-nibbles_from point symbol symbols)
+length-nibbles_from point state (symbol ∷ symbols) = cc (length-nibbles_from point symbol symbols)
 
 -- one more nibble is written, and one fewer is left
 pub nibbles_more : (point : ℕ → ℕ → ℕ) (state : ℕ) (nibbles path : List ℕ) (step nibble : ℕ) → step < length nibbles → step < length path
@@ -54,34 +54,32 @@ pub nibbles_more : (point : ℕ → ℕ → ℕ) (state : ℕ) (nibbles path : L
 nibbles_more point state nibbles path step nibble here there is =
     let symbol = get_or path step 0 in
     let left = nibbles_from point symbol (drop (step + 1) path) in
-    ap (λ (ns : List ℕ). ns ++ left) (take_more_set nibbles step nibble here)
-    ∙ append_assoc (take step nibbles) (nibble ∷ []) left
-    ∙ ap (λ (zs : List ℕ). take step nibbles ++ zs) (ap (λ n. n ∷ left) is
-    ∙ sym (nibbles_from-cons point state symbol (drop (step + 1) path)) ∙ ap (nibbles_from point state) (sym (drop_more path step 0 there)))
+    cc (take_more_set nibbles step nibble here, append_assoc (take step nibbles) (nibble ∷ []) left, is, nibbles_from-cons point state symbol (drop (step + 1) path), drop_more path step 0 there)
 
 -- a path carries no other octets
 pub same_octets : (width : ℕ) (path octets others : List ℕ) → Carries width path octets → Carries width path others → octets ≡ others
 same_octets width path octets others one two =
     let same : number_bits 8 octets ≡ number_bits 8 others
-    = number_bits-octets octets ∙ sym one.information ∙ two.information ∙ sym (number_bits-octets others) in
-    let long : length octets ≡ length others = omega (arith, length-number_bits 8 octets, length-number_bits 8 others, ap length same) in
-    same_from_number_bits 8 octets others one.are_octets two.are_octets long same
+    = rw (number_bits-octets, ← one.information, two.information, ← number_bits-octets) in
+    same_from_number_bits 8 octets others one.are_octets two.are_octets (omega (arith, length-number_bits 8 octets, length-number_bits 8 others, ap length same)) same
 
 -- octets are carried by no other path
 pub same_path : (states width : ℕ) (path other octets : List ℕ) → states ≡ 2 ^ width → IsPath states path → IsPath states other → Carries width path octets → Carries width other octets → path ≡ other
 same_path states width path other octets states_is is other_is one two =
-    let small = λ (p : List ℕ) (is_p : IsPath states p). subst (λ (n : ℕ). All (λ (s : ℕ). s < n) (take 48 p)) states_is (All-take (λ (s : ℕ). s < states) 48 p is_p.below) in
+    let small = λ (p : List ℕ) (is_p : IsPath states p). subst (λ n. All (λ s. s < n) (take 48 p)) states_is (All-take (λ s. s < states) 48 p is_p.below) in
     let fits : 48 ≤ length path = omega (arith, is.long) in
     let other_fits : 48 ≤ length other = omega (arith, other_is.long) in
-    sym (take-append-drop 48 path)
-    ∙ ap₂ (λ (xs ys : List ℕ). xs ++ ys)
-    (same_from_number_bits width (take 48 path) (take 48 other) (small path is)
-    (small other other_is) (length-take-le 48 path fits ∙ sym (length-take-le 48 other other_fits)) (one.information ∙ sym two.information))
-    (is.last ∙ sym other_is.last)
-    ∙ take-append-drop 48 other
+    cc (
+      take-append-drop 48 path,
+      same_from_number_bits width (take 48 path) (take 48 other) (small path is)
+          (small other other_is) (length-take-le 48 path fits ∙ sym (length-take-le 48 other other_fits)) (one.information ∙ sym two.information),
+      is.last,
+      other_is.last,
+      take-append-drop 48 other,
+    )
 
 -- octets have no other block
 pub same_block : (states width : ℕ) (point : ℕ → ℕ → ℕ) (octets : List ℕ) (block other : List Bool)
     → states ≡ 2 ^ width → IsBlock states width point octets block → IsBlock states width point octets other → block ≡ other
 same_block states width point octets block other states_is one two =
-    one.sent ∙ ap (sent_bits point) (same_path states width one.path two.path octets states_is one.is_path two.is_path one.carries two.carries) ∙ sym two.sent
+    cc (one.sent, same_path states width one.path two.path octets states_is one.is_path two.is_path one.carries two.carries, two.sent)

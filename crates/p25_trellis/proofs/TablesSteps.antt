@@ -1,5 +1,5 @@
 -- The tables of the two rates have what the points say: each entry is compared, and the comparison computes.
-use Rattle.std.proofs.Common.{◌≡◌, ◌≢◌, ℕ, ◌+◌, ◌*◌, ◌<◌, ◌≤◌, inl, inr, Bool, true, false, eqb, ltb, ◌||◌, ◌&&◌, not, List, length, get_or, refl, ap, sym, ◌∙◌, arith}
+use Rattle.std.proofs.Common.{◌≡◌, ◌≢◌, ℕ, ◌+◌, ◌*◌, ◌<◌, ◌≤◌, inl, inr, Bool, true, false, eqb, ltb, ◌||◌, ◌&&◌, not, List, length, get_or, refl, sym, ◌∙◌, arith}
 use Rattle.std.proofs.{lemmas.Bool.{eq-eqb, eqb-true, le-ltb, ltb-true, cases_lt, lt-ltb}, lemmas.List.{get_or_past}}
 use Rattle.std.specs.Cmp.{first_so, second_so}
 use Rattle.p25_bits.specs.{Bits.{bits_of}, Distance.{distance_by}}
@@ -52,8 +52,8 @@ none-from_test states point symbols passed state nibble row small past =
     let both = other (ltb entry states) _ (passed_below-at states _ (passed_below-at 16 _ passed nibble small) state row) (le-ltb entry states past) in (
       eqb-true entry 8 (first_so _ _ both),
       λ symbol inside same.
-          let differs = passed_below-at states (λ (s : ℕ). not (eqb (point state s) nibble)) (second_so _ _ both) symbol inside in
-          let two : false ≡ true = sym (ap not (eq-eqb (point state symbol) nibble same)) ∙ differs in absurd (cc two),
+          let differs = passed_below-at states (λ s. not (eqb (point state s) nibble)) (second_so _ _ both) symbol inside in
+          let two : false ≡ true = sym (simp eq-eqb) ∙ differs in absurd (cc),
     )
 
 -- every entry is the rank that its place asks for

@@ -1,3 +1,5 @@
+//! Tests of the trellis decoder on blocks.
+
 ghost use Rattle.std.specs.Prelude.{◌≡◌, length};
 
 use super::*;

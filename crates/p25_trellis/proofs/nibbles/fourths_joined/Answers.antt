@@ -19,7 +19,7 @@ loop-k-preserved c =
     let long = length-fourths_of_49 from c.args.count nibbles c.requires.from c.told-nibbles c.requires.there c.requires.all in
     let inside : k < length fourths = omega (arith, long, c.loop-k-test.true) in
     let few : 4 * c.args.count ≤ 64 = omega (arith, c.requires.there) in
-    let small : number < 2 ^ 4 = rw (c.from.ensures) (c.requires.small (from + 4 * k) 0 (omega (arith, c.told-nibbles, c.requires.there, c.loop-k-test.true))) in
+    let small : number < 2 ^ 4 = rw c.from.ensures (c.requires.small (from + 4 * k) 0 (omega (arith, c.told-nibbles, c.requires.there, c.loop-k-test.true))) in
     let moved : whole * 2 ^ 4 % 2 ^ 64 + number ≡ whole * 2 ^ 4 + number
     = ap (λ n. n + number) (moved_up 4 k c.args.count whole c.loop-k-test.true few c.loop-k.invariant.fits) in record {
       bits =
