@@ -22,7 +22,7 @@ module _ (columns : List ℕ) (radius received sum : ℕ) (fits : received < 2 ^
           long = length-bits_of n sent;
           passes = number_sum-xor columns received wrong ∙ ap₂ bit_xor sums are.sums ∙ xor_self sum;
         };
-        within = subst (λ m. m ≤ radius) (sym (distance_of-bits_of n received sent fits sent_fits ∙ ap count_ones (twice received wrong))) are.within;
+        within = rw (distance_of-bits_of n received sent fits sent_fits, twice received wrong) are.within;
       }
 
   -- where no wrong bits are few enough, no word that passes is within the radius
@@ -34,13 +34,13 @@ module _ (columns : List ℕ) (radius received sum : ℕ) (fits : received < 2 ^
       farther word is =
           let n = length columns in
           let number = field_of word in
-          let small : number < 2 ^ n = subst (λ m. number < 2 ^ m) is.long (field_of-lt word) in
-          let bits : bits_of n number ≡ word = ap (λ m. bits_of m number) (sym is.long) ∙ bits_of-field_of word in
+          let small : number < 2 ^ n = rw is.long at (field_of-lt word) in
+          let bits : bits_of n number ≡ word = rw is.long at (bits_of-field_of word) in
           let wrong = bit_xor received number in
           let made : number_sum columns wrong ≡ sum
           = number_sum-xor columns received number ∙ ap₂ bit_xor sums (ap (syndrome_of columns) bits ∙ is.passes) ∙ xor_zero_r sum in
           let far = none.farther wrong (xor_lt n received number fits small) made in
-          subst (λ w. radius < distance_of (bits_of n received) w) bits (subst (λ m. radius < m) (sym (distance_of-bits_of n received number fits small)) far)
+          rw (← bits, distance_of-bits_of n received number fits small) far
 
 -- a reading depends on the set alone, not on how it is written
 read_as_same_set : (A B : List Bool → Type 0) (radius : ℕ) (received : List Bool) (answer : Option (List Bool)) → ((w : List Bool) → A w → B w) → ((w : List Bool) → B w → A w)
@@ -58,7 +58,7 @@ pub one_place : (places checks : ℕ) → places ≡ checks → checks ≤ 16 �
 one_place places checks same few =
     let one : 1 < 2 ^ 1 = omega arith in
     let whole : 1 * 2 ^ checks ≡ 2 ^ checks = omega arith in
-    ap (λ m. 1 * 2 ^ m % 2 ^ 32) same ∙ shl_whole 1 1 checks 32 one (omega arith) ∙ whole
+    rw (same, shl_whole 1 1 checks 32 one (omega arith)) whole
 
 -- a word is its information and its check bits
 bits_are : {n k d : ℕ} → SystematicCode n k d → k + (n - k) ≡ n
@@ -67,11 +67,11 @@ bits_are code = omega (arith, code.is.table.begins)
 -- the information is what stands before the check bits
 pub information_fits : {n k d : ℕ} → SystematicCode n k d → (received places : ℕ) → places ≡ n - k → received < 2 ^ n → received / 2 ^ places < 2 ^ k
 information_fits {n} {k} {d} code received places shift fits =
-    subst (λ m. received / 2 ^ m < 2 ^ k) (sym shift) (shr_below received k (n - k) (subst (λ m. received < 2 ^ m) (sym (bits_are code)) fits))
+    rw shift (shr_below received k (n - k) (rw (bits_are code) fits))
 
 -- the columns are as many as a word has bits
 length-columns_of : {n k d : ℕ} (code : SystematicCode n k d) → length (columns_of code) ≡ n
-length-columns_of {n} {k} {d} code = length-columns code.rows (n - k) ∙ ap (λ m. m + (n - k)) code.is.table.rows_long ∙ bits_are code
+length-columns_of {n} {k} {d} code = rw (length-columns code.rows (n - k), code.is.table.rows_long) (bits_are code)
 
 -- the reading of a word of the columns is that of the code
 read_as : {n k d : ℕ} (code : SystematicCode n k d) (bits : List Bool) (answer : Option (List Bool)) → length bits ≡ n
@@ -89,20 +89,18 @@ module _ {n k d : ℕ} (code : SystematicCode n k d) (received check places : �
   whole_sum = bit_xor check (received % (1 * 2 ^ places % 2 ^ 32))
 
   whole_sum_is : whole_sum ≡ bit_xor (number_sum code.rows (received / 2 ^ (n - k))) (received % 2 ^ (n - k))
-  whole_sum_is =
-      ap₂ bit_xor (is ∙ ap (λ m. number_sum code.rows (received / 2 ^ m)) shift)
-      (ap (λ m. received % m) (one_place places (n - k) shift code.is.table.few_checks))
+  whole_sum_is = rw (is, shift, one_place (n - k) (n - k) refl code.is.table.few_checks) refl
 
   -- it is the sum of all
   sum_is : number_sum (columns_of code) received ≡ whole_sum
   sum_is = number_sum-parts code.rows (n - k) received ∙ sym whole_sum_is
 
   fits_columns : received < 2 ^ length (columns_of code)
-  fits_columns = subst (λ m. received < 2 ^ m) (sym (length-columns_of code)) fits
+  fits_columns = rw (length-columns_of code) fits
 
   pub sum_fits : whole_sum < 2 ^ (n - k)
   sum_fits =
-      subst (λ m. m < 2 ^ (n - k)) (sym whole_sum_is)
+      rw whole_sum_is
       (xor_lt (n - k) (number_sum code.rows (received / 2 ^ (n - k))) (received % 2 ^ (n - k))
       (number_sum-lt (n - k) code.rows (received / 2 ^ (n - k)) code.is.table.fit) (mod_below received (2 ^ (n - k)) (pow_pos (n - k))))
 
@@ -111,29 +109,28 @@ module _ {n k d : ℕ} (code : SystematicCode n k d) (received check places : �
       → answer ≡ code.is.reading (bits_of n received)
   read_number_as answer is_read =
       read_as code (bits_of n received) answer (length-bits_of n received)
-      (subst (λ m. IsReadAs beq (IsChecked (columns_of code)) (radius_of d) (bits_of m received) answer) (length-columns_of code) is_read)
+      (rw (length-columns_of code) at is_read)
 
   -- the word without the wrong bits
   pub read_without : (wrong : ℕ) → AreWrong (columns_of code) (radius_of d) whole_sum wrong
       → Some (bits_of n (bit_xor received wrong)) ≡ code.is.reading (bits_of n received)
   read_without wrong are =
-      ap (λ m. Some (bits_of m (bit_xor received wrong))) (sym (length-columns_of code))
-      ∙ read_number_as _ (without_wrong (columns_of code) (radius_of d) received whole_sum fits_columns sum_is wrong are)
+      let sent = bits_of (length (columns_of code)) (bit_xor received wrong) in
+      rw (length-columns_of code) at (read_number_as (Some sent) (without_wrong (columns_of code) (radius_of d) received whole_sum fits_columns sum_is wrong are))
 
   pub without_fits : (wrong : ℕ) → AreWrong (columns_of code) (radius_of d) whole_sum wrong → bit_xor received wrong < 2 ^ n
-  without_fits wrong are = xor_lt n received wrong fits (subst (λ m. wrong < 2 ^ m) (length-columns_of code) are.fits)
+  without_fits wrong are = xor_lt n received wrong fits (rw (length-columns_of code) at are.fits)
 
   -- a word whose check bits are those of its information is read as it is
   pub read_clean : whole_sum ≡ 0 → Some (bits_of n received) ≡ code.is.reading (bits_of n received)
   read_clean none =
-      ap (λ m. Some (bits_of n m)) (sym (xor_zero_r received))
-      ∙ read_without 0 (subst (λ s. AreWrong (columns_of code) (radius_of d) s 0) (sym none) (none_are_wrong (columns_of code) (radius_of d)))
+      rw (xor_zero_r received) at (read_without 0 (rw none (none_are_wrong (columns_of code) (radius_of d))))
 
   -- where none are few enough there is no reading
   pub read_none : NoneWrong (columns_of code) (radius_of d) whole_sum
       → (answer : Option ℕ) → answer ≡ None → option_map (bits_of n) answer ≡ code.is.reading (bits_of n received)
   read_none none answer e =
-      ap (option_map (bits_of n)) e ∙ read_number_as None (none_within (columns_of code) (radius_of d) received whole_sum fits_columns sum_is none)
+      rw e (read_number_as None (none_within (columns_of code) (radius_of d) received whole_sum fits_columns sum_is none))
 
 -- within the radius one list of wrong bits makes a syndrome
 pub one_wrong : {n k d : ℕ} (code : SystematicCode n k d) (syndrome a b : ℕ)
@@ -155,16 +152,17 @@ pub changed_bits : (received number : ℕ) (old new : List Bool) → received �
     → (new ≡ bits_of (length old) number) × (Found (count_ones (bit_xor received number)) ≡ Found (distance_of old new))
 changed_bits received number old new e small is =
     let n = length old in
-    let fits : received < 2 ^ n = subst (λ m. m < 2 ^ n) (sym e) (field_of-lt old) in
-    let bits : old ≡ bits_of n received = sym (bits_of-field_of old) ∙ ap (bits_of n) (sym e) in
-    (is, ap Found (sym (distance_of-bits_of n received number fits small) ∙ ap₂ distance_of (sym bits) (sym is)))
+    let fits : received < 2 ^ n = rw e (field_of-lt old) in
+    let bits : old ≡ bits_of n received = rw (e, bits_of-field_of old) refl in
+    let ones = distance_of-bits_of n received number fits small in
+    (is, cc)
 
 -- none do where the numbers are one
 pub unchanged_bits : (received number : ℕ) (old : List Bool) → received ≡ field_of old → number < 2 ^ length old → count_ones (bit_xor received number) ≡ 0
     → (old ≡ bits_of (length old) number) × (Found (count_ones (bit_xor received number)) ≡ Found (distance_of old old))
 unchanged_bits received number old e small none =
     let same = same_from_xor received number (zero_from_ones (bit_xor received number) none) in
-    let bits : old ≡ bits_of (length old) number = sym (bits_of-field_of old) ∙ ap (bits_of (length old)) (sym e ∙ same) in
+    let bits : old ≡ bits_of (length old) number = rw (← same, e, bits_of-field_of old) refl in
     changed_bits received number old old e small bits
 
 -- what was put into the bits that were received is the reading
@@ -172,37 +170,30 @@ pub reading_put : (IsWord : List Bool → Type 0) (radius n : ℕ) (old new : Li
     → MatchOption sent ((reading ≡ Beyond) × (new ≡ old)) (λ number. (new ≡ bits_of n number) × (reading ≡ Found (distance_of old new))) → IsReading beq IsWord radius old new reading
 unfolding IsReadAs IsReading
 reading_put IsWord radius n old new (Some number) reading is put =
-    subst (IsReading beq IsWord radius old new) (sym put.1) (record {
-      word_of_set = subst IsWord (sym put.0) is.word_of_set;
-      fixes_is = refl;
-      within = subst (λ w. distance_of old w ≤ radius) (sym put.0) is.within;
-    })
-reading_put IsWord radius n old new None reading is put = subst (IsReading beq IsWord radius old new) (sym put.0) (record { unchanged = put.1; none_within = is })
+    rw put.1 (record { word_of_set = rw put.0 is.word_of_set; fixes_is = refl; within = rw put.0 is.within })
+reading_put IsWord radius n old new None reading is put = rw put.0 (record { unchanged = put.1; none_within = is })
 
 -- the information and then its check bits, as a number
 module _ {n k d : ℕ} (code : SystematicCode n k d) (info check word places : ℕ) (small : info < 2 ^ k) (sums : check ≡ number_sum code.rows info)
     (shift : places ≡ n - k) (joined : word ≡ bit_or (info * 2 ^ places % 2 ^ 32) check) where
   check_fits : check < 2 ^ (n - k)
-  check_fits = subst (λ m. m < 2 ^ (n - k)) (sym sums) (number_sum-lt (n - k) code.rows info code.is.table.fit)
+  check_fits = rw sums (number_sum-lt (n - k) code.rows info code.is.table.fit)
 
   word_is : word ≡ info * 2 ^ (n - k) + check
   word_is =
       let few : k + (n - k) ≤ 32 = omega (arith, bits_are code, code.is.table.few) in
-      joined ∙ ap (λ m. bit_or (info * 2 ^ m % 2 ^ 32) check) shift
-      ∙ ap (λ m. bit_or m check) (shl_whole info k (n - k) 32 small few) ∙ or_shifted info (n - k) check check_fits
+      rw (joined, shift, shl_whole info k (n - k) 32 small few) (or_shifted info (n - k) check check_fits)
 
   pub word_fits : word < 2 ^ n
   word_fits =
-      let bound : 2 ^ (n - k) * 2 ^ k ≡ 2 ^ n = mul_comm (2 ^ (n - k)) (2 ^ k) ∙ sym (pow-add 2 k (n - k)) ∙ ap (λ m. 2 ^ m) (bits_are code) in
-      subst (λ m. m < 2 ^ n) (sym word_is) (subst (λ m. info * 2 ^ (n - k) + check < m) bound (mul-add-lt info (2 ^ (n - k)) check (2 ^ k) small check_fits))
+      let bound : 2 ^ (n - k) * 2 ^ k ≡ 2 ^ n = rw (bits_are code) at (mul_comm (2 ^ (n - k)) (2 ^ k) ∙ sym (pow-add 2 k (n - k))) in
+      rw (word_is, ← bound) (mul-add-lt info (2 ^ (n - k)) check (2 ^ k) small check_fits)
 
   -- its bits are the systematic word
   pub encodes_number : bits_of n word ≡ systematic code.rows (n - k) (bits_of k info)
   unfolding systematic number_sum
   encodes_number =
-      ap₂ bits_of (sym (bits_are code)) word_is
-      ∙ bits_of-joined k (n - k) info check check_fits
-      ∙ ap (λ m. bits_of k info ++ bits_of (n - k) m) (sums ∙ ap (λ m. syndrome_of code.rows (bits_of m info)) code.is.table.rows_long)
+      rw (word_is, rw (bits_are code) at (bits_of-joined k (n - k) info check check_fits), sums, code.is.table.rows_long) refl
 
 -- what a reader by numbers leaves and answers is the reading of the bits
 pub read_by_number : (IsWord : List Bool → Type 0) (radius n : ℕ) (reading_of : List Bool → Option (List Bool))
@@ -210,10 +201,8 @@ pub read_by_number : (IsWord : List Bool → Type 0) (radius n : ℕ) (reading_o
     (sent : Option ℕ) (reading : Reading) → length old ≡ n → received ≡ field_of old → option_map (bits_of n) sent ≡ reading_of (bits_of n received)
     → MatchOption sent ((reading ≡ Beyond) × (new ≡ old)) (λ number. (new ≡ bits_of (length old) number) × (reading ≡ Found (distance_of old new))) → IsReading beq IsWord radius old new reading
 read_by_number IsWord radius n reading_of reads old new received sent reading long e read put =
-    let bits : bits_of n received ≡ old = ap₂ bits_of (sym long) e ∙ bits_of-field_of old in
-    let is = subst (IsReadAs beq IsWord radius old) (sym (read ∙ ap reading_of bits)) (reads old) in
-    reading_put IsWord radius n old new sent reading is
-    (subst (λ m. MatchOption sent ((reading ≡ Beyond) × (new ≡ old)) (λ number. (new ≡ bits_of m number) × (reading ≡ Found (distance_of old new)))) long put)
+    let bits : bits_of n received ≡ old = rw (e, ← long) (bits_of-field_of old) in
+    reading_put IsWord radius n old new sent reading (rw (read, bits) (reads old)) (rw long at put)
 
 -- what an encoder by numbers writes is the encoding of the bits
 pub encode_by_number : (encoding : List Bool → List Bool) (k n : ℕ) (info word : List Bool) (number made : ℕ)

@@ -49,7 +49,7 @@ module _ {generator degree : ℕ} (has : HasDegree generator degree) (some : 1 <
   IsRemainder-power zero = IsRemainder-lower generator degree 1 some
   IsRemainder-power (suc n) =
       let doubled : 2 * 2 ^ n ≡ 2 ^ suc n = omega (arith, pow-suc 2 n) in
-      subst (λ m. IsRemainder generator degree m (power_remainder generator degree (suc n))) doubled
+      rw doubled at
       (next generator degree (2 ^ n) (power_remainder generator degree n) has (IsRemainder-power n))
 
   -- a coefficient times a power
@@ -60,11 +60,10 @@ module _ {generator degree : ℕ} (has : HasDegree generator degree) (some : 1 <
   -- the sum of the remainders at the places that are 1 is the remainder of the word's polynomial
   pub IsRemainder-word : (word : List Bool) → IsRemainder generator degree (field_of word) (syndrome_of (remainders generator degree (length word)) word)
   unfolding syndrome_of remainders
-  IsRemainder-word [] = subst (λ n. IsRemainder generator degree n 0) (sym field_of-nil) (IsRemainder-lower generator degree 0 (pow_pos degree))
+  IsRemainder-word [] = rw field_of-nil (IsRemainder-lower generator degree 0 (pow_pos degree))
   IsRemainder-word (bit ∷ word) =
       let n = length word in
-      subst (λ m. IsRemainder generator degree m (syndrome_of (remainders generator degree (length (bit ∷ word))) (bit ∷ word)))
-      (above bit n (field_of word) (field_of-lt word) ∙ sym (field_of-cons bit word))
+      rw (field_of-cons bit word, ← above bit n (field_of word) (field_of-lt word))
       (IsRemainder-sum generator degree (cond bit (2 ^ n) 0) (field_of word)
       (cond bit (power_remainder generator degree n) 0) (syndrome_of (remainders generator degree n) word) (chosen bit n) (IsRemainder-word word))
 

@@ -10,4 +10,4 @@ sums_of rows = each_below (2 ^ length rows) (number_sum rows)
 
 pub entry-is : (rows table : List ℕ) → table ≡ sums_of rows → (number : ℕ) → number < 2 ^ length rows → get_or table number 0 ≡ number_sum rows number
 entry-is rows table same number small =
-    ap (λ (t : List ℕ). get_or t number 0) same ∙ get_or-each_below (2 ^ length rows) (number_sum rows) number 0 small
+    rw same (get_or-each_below (2 ^ length rows) (number_sum rows) number 0 small)

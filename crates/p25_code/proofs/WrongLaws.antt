@@ -13,17 +13,14 @@ use Rattle.p25_code.proofs.{ParityLaws.{number_sum-xor, number_sum-zero, syndrom
 
 -- a column for each row and each check
 pub length-columns : (rows : List ℕ) (checks : ℕ) → length (rows ++ check_columns checks) ≡ length rows + checks
-length-columns rows checks = length-append rows (check_columns checks) ∙ ap (λ n. length rows + n) (length-check_columns checks)
+length-columns rows checks = rw (length-append rows (check_columns checks), length-check_columns checks) refl
 
 -- the sum of two lists of columns: each takes its part of the number
 pub number_sum-append : (first last : List ℕ) (number : ℕ) → number_sum (first ++ last) number ≡ bit_xor (number_sum first (number / 2 ^ length last)) (number_sum last number)
 unfolding number_sum
 number_sum-append first last number =
-    let high = bits_of (length first) (number / 2 ^ length last) in
-    let low = bits_of (length last) number in
-    ap (λ n. syndrome_of (first ++ last) (bits_of n number)) (length-append first last)
-    ∙ ap (syndrome_of (first ++ last)) (bits_of-add (length first) (length last) number)
-    ∙ syndrome_of-append first last high low (length-bits_of (length first) (number / 2 ^ length last))
+    rw (length-append first last, bits_of-add (length first) (length last) number)
+    (syndrome_of-append first last (bits_of (length first) (number / 2 ^ length last)) (bits_of (length last) number) (length-bits_of (length first) (number / 2 ^ length last)))
 
 -- what stands above the places of a number does not matter
 pub number_sum-mod : (columns : List ℕ) (number : ℕ) → number_sum columns (number % 2 ^ length columns) ≡ number_sum columns number
@@ -34,9 +31,12 @@ number_sum-mod columns number = ap (syndrome_of columns) (bits_of-mod (length co
 pub number_sum-parts : (rows : List ℕ) (checks number : ℕ) → number_sum (rows ++ check_columns checks) number ≡ bit_xor (number_sum rows (number / 2 ^ checks)) (number % 2 ^ checks)
 unfolding number_sum
 number_sum-parts rows checks number =
-    number_sum-append rows (check_columns checks) number
-    ∙ ap (λ n. bit_xor (number_sum rows (number / 2 ^ n)) (syndrome_of (check_columns checks) (bits_of n number))) (length-check_columns checks)
-    ∙ ap (bit_xor (number_sum rows (number / 2 ^ checks))) (syndrome_of-check_columns checks (bits_of checks number) (length-bits_of checks number) ∙ field_of-bits_of checks number)
+    rw (
+      number_sum-append rows (check_columns checks) number,
+      length-check_columns checks,
+      syndrome_of-check_columns checks (bits_of checks number) (length-bits_of checks number),
+      field_of-bits_of checks number,
+    ) refl
 
 -- the first column is in the sum where the highest bit is 1
 number_sum-cons : (column : ℕ) (columns : List ℕ) (number : ℕ) → number_sum (column ∷ columns) number ≡ bit_xor (cond (eqb (bit_at number (length columns)) 1) column 0) (number_sum columns number)
@@ -49,7 +49,7 @@ unfolding number_sum
 number_sum-above columns =
     let k = length columns in
     let alone : 2 ^ k ≡ 1 * 2 ^ k + 0 = omega arith in
-    ap (λ n. syndrome_of columns (bits_of k n)) alone ∙ ap (syndrome_of columns) (bits_of-above k k 1 0 (omega arith)) ∙ syndrome_of-zeros columns (bits_of k 0) (weight_of-bits_of k)
+    rw (alone, bits_of-above k k 1 0 (omega arith)) (syndrome_of-zeros columns (bits_of k 0) (weight_of-bits_of k))
 
 -- one place has the sum of its column
 pub number_sum-one : (columns : List ℕ) (i : ℕ) → i < length columns → number_sum columns (2 ^ (length columns - 1 - i)) ≡ get_or columns i 0
@@ -57,17 +57,11 @@ number_sum-one [] i inside = absurd (omega arith)
 number_sum-one (column ∷ columns) zero inside =
     let k = length columns in
     let place : suc k - 1 - 0 ≡ k = omega arith in
-    ap (λ n. number_sum (column ∷ columns) (2 ^ n)) place
-    ∙ number_sum-cons column columns (2 ^ k)
-    ∙ ap₂ (λ b n. bit_xor (cond (eqb b 1) column 0) n) (bit_at-pow_same k) (number_sum-above columns)
-    ∙ xor_zero_r column
+    rw (place, number_sum-cons column columns (2 ^ k), bit_at-pow_same k, number_sum-above columns) (xor_zero_r column)
 number_sum-one (column ∷ columns) (suc i) inside =
     let k = length columns in
     let place : suc k - 1 - suc i ≡ k - 1 - i = omega arith in
-    ap (λ n. number_sum (column ∷ columns) (2 ^ n)) place
-    ∙ number_sum-cons column columns (2 ^ (k - 1 - i))
-    ∙ ap₂ (λ b n. bit_xor (cond (eqb b 1) column 0) n) (bit_at-pow_other (k - 1 - i) k (omega arith)) (number_sum-one columns i (omega arith))
-    ∙ xor_zero_l (get_or columns i 0)
+    rw (place, number_sum-cons column columns (2 ^ (k - 1 - i)), bit_at-pow_other (k - 1 - i) k (omega arith), number_sum-one columns i (omega arith)) (xor_zero_l (get_or columns i 0))
 
 -- a number with at most one 1 is 0 or a power of two
 one_place : (k number : ℕ) → number < 2 ^ k → count_ones number ≤ 1 → (number ≡ 0) ⊎ ((i : ℕ) × (i < k) × (number ≡ 2 ^ (k - 1 - i)))
@@ -79,7 +73,7 @@ one_place (suc k) number small few =
         | inl none ↦ inl none
         | inr found ↦
             let place : k - 1 - found.0 ≡ suc k - 1 - suc found.0 = omega arith in
-            inr (suc found.0, omega (arith, found.1), found.2 ∙ ap (λ n. 2 ^ n) place)
+            inr (suc found.0, omega (arith, found.1), rw place at found.2)
       ]
       | inr high ↦
           let rest = number - 2 ^ k in
@@ -89,7 +83,7 @@ one_place (suc k) number small few =
           let none : rest ≡ 0 = zero_from_ones rest (omega arith) in
           let place : k ≡ suc k - 1 - 0 = omega arith in
           let whole : number ≡ 2 ^ k = omega arith in
-          inr (0, omega arith, whole ∙ ap (λ n. 2 ^ n) place)
+          inr (0, omega arith, rw place at whole)
     ]
 
 -- a power of two has one 1
@@ -104,20 +98,18 @@ ones-parts checks number = ap count_ones (sym (shr_split number checks)) ∙ one
 -- a number of two parts has a place for each column
 parts_fit : (rows : List ℕ) (checks high low : ℕ) → high < 2 ^ length rows → low < 2 ^ checks → high * 2 ^ checks + low < 2 ^ length (rows ++ check_columns checks)
 parts_fit rows checks high low above below =
-    let bound : 2 ^ checks * 2 ^ length rows ≡ 2 ^ length (rows ++ check_columns checks)
-    = mul_comm (2 ^ checks) (2 ^ length rows) ∙ sym (pow-add 2 (length rows) checks) ∙ ap (λ n. 2 ^ n) (sym (length-columns rows checks)) in
-    subst (λ n. high * 2 ^ checks + low < n) bound (mul-add-lt high (2 ^ checks) low (2 ^ length rows) above below)
+    rw (length-columns rows checks, pow-add 2 (length rows) checks, mul_comm (2 ^ length rows) (2 ^ checks)) (mul-add-lt high (2 ^ checks) low (2 ^ length rows) above below)
 
 -- and the parts of such a number
 pub high_fits : (rows : List ℕ) (checks number : ℕ) → number < 2 ^ length (rows ++ check_columns checks) → number / 2 ^ checks < 2 ^ length rows
-high_fits rows checks number fits = shr_below number (length rows) checks (subst (λ n. number < 2 ^ n) (length-columns rows checks) fits)
+high_fits rows checks number fits = shr_below number (length rows) checks (rw (length-columns rows checks) at fits)
 
 low_fits : (checks number : ℕ) → number % 2 ^ checks < 2 ^ checks
 low_fits checks number = mod_below number (2 ^ checks) (pow_pos checks)
 
 -- what is added twice is not there
 pub twice : (a b : ℕ) → bit_xor a (bit_xor a b) ≡ b
-twice a b = sym (xor_assoc a a b) ∙ ap (λ n. bit_xor n b) (xor_self a) ∙ xor_zero_l b
+twice a b = rw (← xor_assoc a a b, xor_self a) (xor_zero_l b)
 
 -- check bits alone are wrong
 pub checks_wrong : (rows : List ℕ) (checks radius sum : ℕ) → sum < 2 ^ checks → count_ones sum ≤ radius → AreWrong (rows ++ check_columns checks) radius sum sum
@@ -136,21 +128,18 @@ pub row_wrong : (rows : List ℕ) (checks radius sum i rest wrong : ℕ) → i <
 row_wrong rows checks radius sum i rest wrong inside small e few whole =
     let place = length rows - 1 - i in
     let lower : place < length rows = omega arith in
-    let high : wrong / 2 ^ checks ≡ 2 ^ place = ap (λ n. n / 2 ^ checks) whole ∙ shr_high (2 ^ place) checks rest small in
-    let low : wrong % 2 ^ checks ≡ rest = ap (λ n. n % 2 ^ checks) whole ∙ mod_low (2 ^ place) checks rest small in
+    let high : wrong / 2 ^ checks ≡ 2 ^ place = rw whole (shr_high (2 ^ place) checks rest small) in
+    let low : wrong % 2 ^ checks ≡ rest = rw whole (mod_low (2 ^ place) checks rest small) in
     record {
-      fits = subst (λ n. n < 2 ^ length (rows ++ check_columns checks)) (sym whole) (parts_fit rows checks (2 ^ place) rest (pow_below place (length rows) lower) small);
-      sums =
-          number_sum-parts rows checks wrong
-          ∙ ap₂ bit_xor (ap (number_sum rows) high ∙ number_sum-one rows i inside) (low ∙ e ∙ xor_comm sum (get_or rows i 0))
-          ∙ twice (get_or rows i 0) sum;
+      fits = rw whole (parts_fit rows checks (2 ^ place) rest (pow_below place (length rows) lower) small);
+      sums = rw (number_sum-parts rows checks wrong, high, number_sum-one rows i inside, low, e, xor_comm sum (get_or rows i 0)) (twice (get_or rows i 0) sum);
       within = omega (arith, ones-parts checks wrong, ap count_ones high, ap count_ones low, ones-pow place);
     }
 
 -- a row's bit shifted to its place, and check bits after it
 pub row_bits : (place checks rest : ℕ) → place + checks < 32 → rest < 2 ^ checks → bit_or (1 * 2 ^ (place + checks) % 2 ^ 32) rest ≡ 2 ^ place * 2 ^ checks + rest
 row_bits place checks rest fits small =
-    ap (λ n. bit_or n rest) (one_shl (place + checks) 32 fits ∙ pow-add 2 place checks) ∙ or_shifted (2 ^ place) checks rest small
+    rw (one_shl (place + checks) 32 fits, pow-add 2 place checks) (or_shifted (2 ^ place) checks rest small)
 
 -- neither are check bits alone few enough, nor those that each row leaves of the sum
 pub none_by_rows : (rows : List ℕ) (checks radius sum : ℕ) → radius < count_ones sum → ((i : ℕ) → i < length rows → radius ≤ count_ones (bit_xor sum (get_or rows i 0)))
@@ -163,12 +152,12 @@ none_by_rows rows checks radius sum many each = record { farther = farther }
         let parts = sym (number_sum-parts rows checks wrong) ∙ sums in
         elim (one_place (length rows) (wrong / 2 ^ checks) (high_fits rows checks wrong fits) few) [
           | inl none ↦
-              let whole : low ≡ sum = sym (xor_zero_l low) ∙ ap (λ n. bit_xor n low) (sym (ap (number_sum rows) none ∙ number_sum-zero rows)) ∙ parts in
+              let whole : low ≡ sum = rw (none, number_sum-zero rows, xor_zero_l low) at parts in
               omega (arith, ones-parts checks wrong, ap count_ones whole, many)
           | inr found ↦
               let row = get_or rows found.0 0 in
               let place = length rows - 1 - found.0 in
-              let joined : bit_xor row low ≡ sum = ap (λ n. bit_xor n low) (sym (ap (number_sum rows) found.2 ∙ number_sum-one rows found.0 found.1)) ∙ parts in
+              let joined : bit_xor row low ≡ sum = rw (found.2, number_sum-one rows found.0 found.1) at parts in
               let rest : low ≡ bit_xor sum row = sym (twice row low) ∙ ap (bit_xor row) joined ∙ xor_comm row sum in
               omega (arith, ones-parts checks wrong, ap count_ones rest, ap count_ones found.2, ones-pow place, each found.0 found.1)
         ]
@@ -185,9 +174,7 @@ shifted_halves half number fits high_small =
     let high = number / 2 ^ half in
     let below : half < 32 = omega arith in
     let both : half + half ≤ 32 = omega arith in
-    ap (λ n. bit_or (number % n * 2 ^ half % 2 ^ 32) high) (one_shl half 32 below)
-    ∙ ap (λ n. bit_or n high) (shl_whole low half half 32 (low_fits half number) both)
-    ∙ or_shifted low half high high_small
+    rw (one_shl half 32 below, shl_whole low half half 32 (low_fits half number) both) (or_shifted low half high high_small)
 
 -- then the sum is that by the other rows
 turned_wrong : (rows turned : List ℕ) (half radius sum wrong : ℕ) → length rows ≡ half → length turned ≡ half → ((number : ℕ) → number < 2 ^ half → number_sum turned (number_sum rows number) ≡ number)
@@ -197,11 +184,11 @@ turned_wrong rows turned half radius sum wrong long long' undone are =
     let high = wrong / 2 ^ half in
     let low = wrong % 2 ^ half in
     let number = low * 2 ^ half + high in
-    let high_small : high < 2 ^ half = subst (λ n. high < 2 ^ n) long (high_fits rows half wrong are.fits) in
+    let high_small : high < 2 ^ half = rw long at (high_fits rows half wrong are.fits) in
     let new_high : number / 2 ^ half ≡ low = shr_high low half high high_small in
     let new_low : number % 2 ^ half ≡ high = mod_low low half high high_small in
     record {
-      fits = parts_fit turned half low high (subst (λ n. low < 2 ^ n) (sym long') (low_fits half wrong)) high_small;
+      fits = parts_fit turned half low high (rw long' (low_fits half wrong)) high_small;
       sums =
           number_sum-parts turned half number
           ∙ ap₂ bit_xor (ap (number_sum turned) new_high) (new_low ∙ sym (undone high high_small))
@@ -216,8 +203,7 @@ module _ (rows turned : List ℕ) (inverse : AreInverse rows turned) (radius sum
   pub halves_wrong : (wrong : ℕ) → sum < 2 ^ length rows → AreWrong (turned ++ check_columns (length rows)) radius turned_sum wrong
       → AreWrong (rows ++ check_columns (length rows)) radius sum (halves_turned (length rows) wrong)
   halves_wrong wrong small are =
-      subst (λ n. AreWrong (rows ++ check_columns (length rows)) radius n (halves_turned (length rows) wrong)) (ap (number_sum rows) turns ∙ inverse.second sum small)
-      (turned_wrong turned rows (length rows) radius turned_sum wrong inverse.long refl inverse.second are)
+      rw (turns, inverse.second sum small) at (turned_wrong turned rows (length rows) radius turned_sum wrong inverse.long refl inverse.second are)
 
   -- of at most three bits at most one is in one of the halves
   pub none_by_halves : radius ≤ 3 → NoneByRows (rows ++ check_columns (length rows)) (length rows) radius sum → NoneByRows (turned ++ check_columns (length rows)) (length rows) radius turned_sum
@@ -275,16 +261,12 @@ unfolding number_sum
 undone rows turned single number small =
     let bits = bits_of (length rows) number in
     let places = length-bits_of (length rows) number in
-    sym (syndrome_of-mixed turned rows bits)
-    ∙ ap (λ columns. syndrome_of columns bits) single
-    ∙ syndrome_of-check_columns (length rows) bits places
-    ∙ field_of-bits_of (length rows) number
-    ∙ mod-eq_of_lt small
+    rw (← syndrome_of-mixed turned rows bits, single, syndrome_of-check_columns (length rows) bits places, field_of-bits_of (length rows) number) (mod-eq_of_lt small)
 
 pub are_inverse : (rows turned : List ℕ) → length turned ≡ length rows
     → map (number_sum turned) rows ≡ check_columns (length rows) → map (number_sum rows) turned ≡ check_columns (length rows) → AreInverse rows turned
 are_inverse rows turned long single back = record {
   long = long;
   first = undone rows turned single;
-  second = λ number small. undone turned rows (back ∙ ap check_columns (sym long)) number (subst (λ n. number < 2 ^ n) (sym long) small);
+  second = λ number small. undone turned rows (rw long back) number (rw long small);
 }

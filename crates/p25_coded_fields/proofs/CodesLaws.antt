@@ -30,7 +30,7 @@ within_cost : {L : Type 0} (same : L → L → Bool) (IsWord' : List L → Type 
     → IsErasedReadAs same IsWord' most list answer → answer ≡ Some word
     → IsWithinCost same IsWord' most list word
 unfolding IsErasedReadAs
-within_cost same IsWord' most list answer word is read = subst (IsErasedReadAs same IsWord' most list) read is
+within_cost same IsWord' most list answer word is read = rw read at is
 
 -- a layout of a binary code and a Reed-Solomon code
 pub layout_codes : {IsInnerWord : List Bool → Type 0} {size k radius apart : ℕ} (inner : IsBlockCode beq IsInnerWord size k radius apart) (inner_reading : List Bool → Option (List Bool))
@@ -47,12 +47,12 @@ layout_codes inner inner_reading reads_as places each n information code covers 
 pub field_found : (layout : Layout) (bare : List Bool) (answer : Reading) (word : List Sym) (fixes : ℕ) → answer ≡ Found fixes → word_read answer word ≡ outer_word_of layout bare
     → field_reading_of layout bare ≡ Some (take layout.information word)
 unfolding word_read
-field_found layout bare answer word fixes found is = field_reading_of-some layout bare word (sym is ∙ ap (λ a. word_read a word) found)
+field_found layout bare answer word fixes found is = field_reading_of-some layout bare word (sym (rw found at is))
 
 -- or it fails
 pub field_beyond : (layout : Layout) (bare : List Bool) (answer : Reading) (word : List Sym) → answer ≡ Beyond → word_read answer word ≡ outer_word_of layout bare → field_reading_of layout bare ≡ None
 unfolding word_read
-field_beyond layout bare answer word beyond is = field_reading_of-none layout bare (sym is ∙ ap (λ a. word_read a word) beyond)
+field_beyond layout bare answer word beyond is = field_reading_of-none layout bare (sym (rw beyond at is))
 
 -- the outer word of a field that was read is a word of the outer code
 pub outer_word_found : (places : List ℕ) (size each n information : ℕ)
@@ -62,7 +62,7 @@ unfolding word_read outer_word_of
 outer_word_found places size each n information inner_reading received answer word fixes found is =
     let list = received_in (field_layout places size each inner_reading (rs_erased_reading_of n information) information) received in
     (within_cost same_symbols (IsWord n information) (n - information) list
-    (rs_erased_reading_of n information list) word (rs_erased_reads_as n information list) (sym is ∙ ap (λ a. word_read a word) found)).word_of_set
+    (rs_erased_reading_of n information list) word (rs_erased_reads_as n information list) (sym (rw found at is))).word_of_set
 
 -- the words at places that a test finds before an end are there
 pub all_end : (size end len : ℕ) (places : List ℕ) → list_all (λ at. nat_le (at + size) end) places ≡ true → end ≤ len → All (λ at. at + size ≤ len) places
@@ -99,7 +99,7 @@ module _ (places : List ℕ) (size each n information : ℕ) (inner_reading : Li
   near_from_reading info sent received has read =
       let found = word_of_reading received info read in
       let same = one_word_of n information code (sent_in coded sent) found.0 has.outer found.1.word_of_set (has.begins ∙ sym found.2) in
-      record { near = subst (λ w. erased_cost same_symbols (received_in coded received) w ≤ n - information) (sym same) found.1.within }
+      record { near = rw same found.1.within }
 
   -- the information that was read has its length
   pub field_information : (received : List Bool) (symbols : List Sym) → field_reading_of coded received ≡ Some symbols → length symbols ≡ information

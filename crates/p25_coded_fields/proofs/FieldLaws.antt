@@ -29,16 +29,19 @@ flat_map_by_place : {X Y : Type 0} (f : X → List Y) (xs : List X) (d : X) (n :
 flat_map_by_place f xs d zero inside = sym (joined_below-zero (λ i. f (get_or xs i d)))
 flat_map_by_place f xs d (suc n) inside =
     let one : suc n ≡ n + 1 = omega arith in
-    ap (λ k. flat_map f (take k xs)) one
-    ∙ ap (flat_map f) (take_more xs n d (omega arith))
-    ∙ flat_map-append f (take n xs) (get_or xs n d ∷ [])
-    ∙ ap₂ (λ (us vs : List _). us ++ vs) (flat_map_by_place f xs d n (omega arith)) (append-nil (f (get_or xs n d)))
-    ∙ sym (joined_below-suc n (λ i. f (get_or xs i d)))
+    rw (
+      joined_below-suc n (λ i. f (get_or xs i d)),
+      one,
+      take_more xs n d (omega arith),
+      flat_map-append f (take n xs) (get_or xs n d ∷ []),
+      append-nil (f (get_or xs n d)),
+      flat_map_by_place f xs d n (omega arith),
+    ) refl
 
 -- of all elements
 pub flat_map_places : {X Y : Type 0} (f : X → List Y) (xs : List X) (d : X) → flat_map f xs ≡ joined_below (length xs) (λ i. f (get_or xs i d))
 flat_map_places f xs d =
-    let every : length xs ≤ length xs = omega arith in ap (flat_map f) (sym (take_all (length xs) xs every)) ∙ flat_map_by_place f xs d (length xs) every
+    let every : length xs ≤ length xs = omega arith in rw (take_all (length xs) xs every) at (flat_map_by_place f xs d (length xs) every)
 
 -- the symbols that a word begins with whose information are their bits
 encoding_symbols : {IsWord : List Bool → Type 0} (k each : ℕ) (symbols : List Sym) (word : List Bool)
@@ -46,7 +49,7 @@ encoding_symbols : {IsWord : List Bool → Type 0} (k each : ℕ) (symbols : Lis
 encoding_symbols k each symbols word sixes long fits is =
     let inside : 6 * each ≤ k = omega arith in
     let there : 6 * each ≤ length word = omega arith in
-    sym (symbols_in-take each k word inside there) ∙ ap (symbols_in each) is.begins ∙ symbols_in-symbol_bits each symbols long
+    rw (← symbols_in-take each k word inside there, is.begins) (symbols_in-symbol_bits each symbols long)
 
 module _ {IsInnerWord : List Bool → Type 0} {IsOuterWord : List Sym → Type 0} where
   -- a field is there where the words of its symbols stand at its places
@@ -78,7 +81,7 @@ module _ {IsInnerWord : List Bool → Type 0} {IsOuterWord : List Sym → Type 0
           let all : length symbols ≤ each * length places = omega arith in
           flat_map_places (λ at. symbols_in each (part at layout.size sent)) places 0
           ∙ joined_below-same (length places) (λ i. symbols_in each (part (get_or places i 0) layout.size sent)) (λ i. part (0 + each * i) each symbols)
-          (λ i inside. let same_place : each * i ≡ 0 + each * i = omega arith in group i inside ∙ ap (λ n. part n each symbols) same_place)
+          (λ i inside. let same_place : each * i ≡ 0 + each * i = omega arith in rw same_place at (group i inside))
           ∙ joined_below-parts 0 each (length places) symbols
           ∙ take_all (each * length places) symbols all
 
@@ -89,7 +92,7 @@ module _ {IsWord : List Bool → Type 0} {size k : ℕ} (long : (word : List Boo
       → IsEncoding IsWord k (symbol_bits (part (each * i) each symbols)) (encoding (symbol_bits (part (each * i) each symbols)))
   field_word each count symbols sixes covers i inside =
       let group = part (each * i) each symbols in
-      encodes (symbol_bits group) (length-symbol_bits group ∙ ap (λ n. 6 * n) (length-part (each * i) each symbols (room_at each i count (length symbols) inside covers)) ∙ sixes)
+      encodes (symbol_bits group) (rw (length-symbol_bits group, length-part (each * i) each symbols (room_at each i count (length symbols) inside covers)) sixes)
 
   -- each is as long as the others
   field_word-long : (each count : ℕ) (symbols : List Sym) → 6 * each ≡ k → each * count ≡ length symbols → (i : ℕ) → i < count → length (encoding (symbol_bits (part (each * i) each symbols))) ≡ size
@@ -111,8 +114,8 @@ field_group : (layout : Layout) (sent : List Bool) (i : ℕ) → i < length layo
 unfolding sent_in
 field_group layout sent i inside =
     let words : ℕ → List Sym = λ j. symbols_in layout.each (part (get_or layout.places j 0) layout.size sent) in
-    sym (ap (λ (xs : List Sym). part (layout.each * i) layout.each xs) (flat_map_places (λ at. symbols_in layout.each (part at layout.size sent)) layout.places 0)
-    ∙ part-joined_below layout.each (length layout.places) words i (λ j low. length-symbols_in layout.each (part (get_or layout.places j 0) layout.size sent)) inside)
+    rw (flat_map_places (λ at. symbols_in layout.each (part at layout.size sent)) layout.places 0)
+    (sym (part-joined_below layout.each (length layout.places) words i (λ j low. length-symbols_in layout.each (part (get_or layout.places j 0) layout.size sent)) inside))
 
 -- so a word begins with the bits of its group
 pub field_word_there : {IsInnerWord : List Bool → Type 0} {IsOuterWord : List Sym → Type 0} (layout : Layout) (k : ℕ) (info : List Sym) (sent : List Bool) → 6 * layout.each ≡ k → k ≤ layout.size
@@ -123,5 +126,5 @@ field_word_there layout k info sent sixes fits there has i inside =
     let long = length-part (get_or layout.places i 0) layout.size sent (there i 0 inside) in
     record {
       word_of_set = has.inner i 0 inside;
-      begins = sym (ap symbol_bits (sym (field_group layout sent i inside)) ∙ symbol_bits-symbols_in layout.each word (omega (arith, long, sixes, fits)) ∙ ap (λ n. take n word) sixes);
+      begins = rw (← field_group layout sent i inside, symbol_bits-symbols_in layout.each word (omega (arith, long, sixes, fits)), sixes) refl;
     }

@@ -49,16 +49,16 @@ cut_long n buffer xs same fits = same ∙ length-take-le n buffer fits
 
 -- the information of a word, by the number that it writes
 information_bits : (size k each value : ℕ) → 6 * each ≡ k → k ≤ size → bits_of (6 * each) (value / 2 ^ (size - k)) ≡ take k (bits_of size value)
-information_bits size k each value sixes fits = ap (λ n. bits_of n (value / 2 ^ (size - k))) sixes ∙ sym (take-bits_of k size value fits)
+information_bits size k each value sixes fits = rw sixes (sym (take-bits_of k size value fits))
 
 -- a number that was received at a place has the bits that stand there
 pub received_bits : {n : ℕ} (size at number : ℕ) (bare : List Bool) → number ≡ field_of (part at n bare) → n ≡ size → at + size ≤ length bare → bits_of size number ≡ part at size bare
-received_bits size at number bare is same there = ap (bits_of size) is ∙ ap (λ m. bits_of size (field_of (part at m bare))) same ∙ bits_of-field size at bare there
+received_bits size at number bare is same there = rw (is, same) (bits_of-field size at bare there)
 
 -- and what it is read as is what these bits are read as
 pub received_reading : {answer given : Option ℕ} (size number : ℕ) (bits : List Bool) (reading : List Bool → Option (List Bool)) → answer ≡ given
     → option_map (bits_of size) answer ≡ reading (bits_of size number) → bits_of size number ≡ bits → option_map (bits_of size) given ≡ reading bits
-received_reading size number bits reading is read taken = ap (option_map (bits_of size)) (sym is) ∙ read ∙ ap reading taken
+received_reading size number bits reading is read taken = rw (← is, read, taken) refl
 
 -- an inner word was read
 pub inner_found : (size k each value : ℕ) (reading : Option (List Bool)) (symbols : List Sym) (erased : List Bool) → 6 * each ≡ k → k ≤ size → Some (bits_of size value) ≡ reading
@@ -67,22 +67,20 @@ inner_found size k each value reading symbols erased sixes fits some made none =
     let word = bits_of size value in
     let inside : 6 * each ≤ k = omega arith in
     let there : 6 * each ≤ length word = omega (arith, length-bits_of size value) in
-    ap₂ without_erased (made ∙ ap (symbols_in each) (information_bits size k each value sixes fits) ∙ symbols_in-take each k word inside there) none
-    ∙ without_erased-none (symbols_in each word) (replicate each false) (All-replicate (λ gone. gone ≡ false) each false refl)
-    ∙ sym (symbols_or_erasures-some each word)
-    ∙ ap (symbols_or_erasures each) some
+    rw (made, information_bits size k each value sixes fits, symbols_in-take each k word inside there, none, ← some, symbols_or_erasures-some each word)
+    (without_erased-none (symbols_in each word) (replicate each false) (All-replicate (λ gone. gone ≡ false) each false refl))
 
 -- no inner word was read
 pub inner_beyond : (each : ℕ) (reading : Option (List Bool)) (symbols : List Sym) (erased : List Bool) → length symbols ≡ each → None ≡ reading → erased ≡ replicate each true
     → without_erased symbols erased ≡ symbols_or_erasures each reading
 inner_beyond each reading symbols erased long none gone =
-    ap (without_erased symbols) gone ∙ without_erased-list symbols each long ∙ sym (symbols_or_erasures-none each) ∙ ap (symbols_or_erasures each) none
+    rw (gone, ← none, symbols_or_erasures-none each) (without_erased-list symbols each long)
 
 -- a word that is read is one of the set
 pub read_word_of_set : {L : Type 0} (same : L → L → Bool) (IsWord : List L → Type 0) (radius : ℕ) (received word : List L) (answer : Option (List L))
     → IsReadAs same IsWord radius received answer → answer ≡ Some word → IsWord word
 unfolding IsReadAs
-read_word_of_set same IsWord radius received word answer is some = (subst (IsReadAs same IsWord radius received) some is).word_of_set
+read_word_of_set same IsWord radius received word answer is some = (rw some at is).word_of_set
 
 -- the wrong bits of an inner word: those that differ from the one word with its information
 pub wrong_bits : {IsWord : List Bool → Type 0} (size k : ℕ) → ((v w : List Bool) → IsWord v → IsWord w → take k v ≡ take k w → v ≡ w)
@@ -90,7 +88,7 @@ pub wrong_bits : {IsWord : List Bool → Type 0} (size k : ℕ) → ((v w : List
     → IsEncoding IsWord k info sent → bits_of size received ≡ bits → received < 2 ^ size → value < 2 ^ size → count_ones (bit_xor received value) ≡ distance_of bits sent
 wrong_bits size k one_word received value info bits sent made is taken small_received small =
     let same : bits_of size value ≡ sent = one_word (bits_of size value) sent made.word_of_set is.word_of_set (made.begins ∙ sym is.begins) in
-    sym (distance_of-bits_of size received value small_received small) ∙ ap₂ (λ (xs ys : List Bool). distance_of xs ys) taken same
+    rw (← taken, ← same) (sym (distance_of-bits_of size received value small_received small))
 
 -- a word that was read has the information that its symbols write
 pub read_encoding : {IsWord : List Bool → Type 0} (size k each value : ℕ) (symbols : List Sym)
@@ -100,14 +98,14 @@ read_encoding size k each value symbols sixes fits is_word made =
     let info = bits_of (6 * each) (value / 2 ^ (size - k)) in
     record {
       word_of_set = is_word;
-      begins = sym (ap symbol_bits made ∙ symbol_bits-all each info (length-bits_of (6 * each) (value / 2 ^ (size - k))) ∙ information_bits size k each value sixes fits);
+      begins = rw (made, symbol_bits-all each info (length-bits_of (6 * each) (value / 2 ^ (size - k))), information_bits size k each value sixes fits) refl;
     }
 
 -- before the first place
 pub erased_before : {L : Type 0} (each : ℕ) (word : List L) (erased : List Bool) → without_erased (take (each * 0) word) (take (each * 0) erased) ≡ []
 erased_before each word erased =
     let none : each * 0 ≡ 0 = omega arith in
-    ap₂ (λ m n. without_erased (take m word) (take n erased)) none none ∙ without_erased-nil []
+    rw none (without_erased-nil [])
 
 -- one more place
 pub erased_next : {L : Type 0} (f : ℕ → List (Option L)) (places : List ℕ) (each i k at : ℕ) (word xs : List L) (erased es : List Bool) → i < length places → at ≡ get_or places i 0
@@ -120,12 +118,17 @@ erased_next f places each i k at word xs erased es inside read there same long_x
     let fits_x : each * i ≤ length word = omega arith in
     let fits_e : each * i ≤ length erased = omega arith in
     let even : length (take (each * i) word) ≡ length (take (each * i) erased) = length-take-le (each * i) word fits_x ∙ sym (length-take-le (each * i) erased fits_e) in
-    let more : take (i + 1) places ≡ take i places ++ at ∷ [] = take_more places i 0 inside ∙ ap (λ x. take i places ++ x ∷ []) (sym read) in
-    ap₂ without_erased (take-put_mid (each * i) k word xs (each * (i + 1)) next_x fits_x) (take-put_mid (each * i) k erased es (each * (i + 1)) next_e fits_e)
-    ∙ without_erased-append (take (each * i) word) xs (take (each * i) erased) es even
-    ∙ ap₂ (λ (us vs : List (Option _)). us ++ vs) before (is ∙ sym (append-nil (f at)))
-    ∙ sym (flat_map-append f (take i places) (at ∷ []))
-    ∙ ap (flat_map f) (sym more)
+    rw (
+      take-put_mid (each * i) k word xs (each * (i + 1)) next_x fits_x,
+      take-put_mid (each * i) k erased es (each * (i + 1)) next_e fits_e,
+      without_erased-append (take (each * i) word) xs (take (each * i) erased) es even,
+      before,
+      is,
+      read,
+      take_more places i 0 inside,
+      flat_map-append f (take i places) (get_or places i 0 ∷ []),
+      append-nil (f (get_or places i 0)),
+    ) refl
 
 -- the outer word, from the symbols and erasures of all places
 pub outer_read : (layout : Layout) (bits : List Bool) (each i : ℕ) (word : List Sym) (erased : List Bool) (value : Option (List Sym))
@@ -138,8 +141,7 @@ outer_read layout bits each i word erased value group here covers same is read =
     let fits_x : length word ≤ each * i = omega arith in
     let fits_e : length erased ≤ each * i = omega arith in
     let fits : length layout.places ≤ i = omega arith in
-    let given = λ (at : ℕ). symbols_or_erasures layout.each (layout.inner_reading (part at layout.size bits)) in
-    read ∙ ap layout.outer_reading (ap₂ without_erased (sym (take_all (each * i) word fits_x)) (sym (take_all (each * i) erased fits_e)) ∙ is ∙ ap (flat_map given) (take_all i layout.places fits))
+    rw (read, rw (take_all (each * i) word fits_x, take_all (each * i) erased fits_e, take_all i layout.places fits) at is) refl
 
 -- a word of which no letter changed is what was received
 pub unchanged : (same : Sym → Sym → Bool) (IsWord : List Sym → Type 0) (most : ℕ) (list : List (Option Sym)) (received word : List Sym) (fixes : ℕ) → ((x y : Sym) → same x y ≡ true → x ≡ y)

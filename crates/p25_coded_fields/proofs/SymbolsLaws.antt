@@ -32,11 +32,11 @@ room_at each i count n inside covers =
 pub group_is : {X : Type 0} (each group i : ℕ) (xs : List X) → each ≡ group → take (each * i + each - each * i) (drop (each * i) xs) ≡ part (group * i) group xs
 group_is each group i xs same =
     let count : each * i + each - each * i ≡ each = omega arith in
-    ap (λ n. take n (drop (each * i) xs)) count ∙ ap (λ n. part (n * i) n xs) same
+    rw (count, same) refl
 
 -- its length
 pub length_group : {X : Type 0} (each i : ℕ) (xs : List X) → each * i + each ≤ length xs → length (take (each * i + each - each * i) (drop (each * i) xs)) ≡ each
 length_group each i xs there =
     let count : each * i + each - each * i ≡ each = omega arith in
     let left : each ≤ length (drop (each * i) xs) = omega (arith, length-drop (each * i) xs) in
-    ap (λ n. length (take n (drop (each * i) xs))) count ∙ length-take-le each (drop (each * i) xs) left
+    rw count (length-take-le each (drop (each * i) xs) left)

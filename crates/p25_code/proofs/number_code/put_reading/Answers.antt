@@ -9,16 +9,14 @@ pub returns-then-fixes-gt0 : goal.returns-then-fixes-gt0
 returns-then-fixes-gt0 c =
     let old = c.args.word.now in
     let new = c.put_number.new.bits in
-    let reading = Found (count_ones (bit_xor c.args.received c.in-Some.number)) in
-    let small : c.in-Some.number < 2 ^ length old = subst (λ sent. IfSome sent (λ number. number < 2 ^ length old)) c.in-Some.is c.requires.fits in
-    subst (λ sent. MatchOption sent ((reading ≡ Beyond) × (new ≡ old)) (λ number. (new ≡ bits_of (length old) number) × (reading ≡ Found (distance_of old new)))) (sym c.in-Some.is)
+    let small : c.in-Some.number < 2 ^ length old = rw c.in-Some.is at c.requires.fits in
+    rw c.in-Some.is
     (changed_bits c.args.received c.in-Some.number old new c.requires.received small (c.put_number.ensures ∙ ap (bits_of (length old)) c.from.ensures))
 
 pub returns-else-fixes-gt0 : goal.returns-else-fixes-gt0
 returns-else-fixes-gt0 c =
     let old = c.args.word.now in
-    let reading = Found (count_ones (bit_xor c.args.received c.in-Some.number)) in
-    let small : c.in-Some.number < 2 ^ length old = subst (λ sent. IfSome sent (λ number. number < 2 ^ length old)) c.in-Some.is c.requires.fits in
+    let small : c.in-Some.number < 2 ^ length old = rw c.in-Some.is at c.requires.fits in
     let none : count_ones (bit_xor c.args.received c.in-Some.number) ≡ 0 = omega arith in
-    subst (λ sent. MatchOption sent ((reading ≡ Beyond) × (old ≡ old)) (λ number. (old ≡ bits_of (length old) number) × (reading ≡ Found (distance_of old old)))) (sym c.in-Some.is)
+    rw c.in-Some.is
     (unchanged_bits c.args.received c.in-Some.number old c.requires.received small none)

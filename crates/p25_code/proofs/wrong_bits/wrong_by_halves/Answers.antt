@@ -6,13 +6,12 @@ use Rattle.p25_code.proofs.wrong_bits.wrong_by_halves.Goals as goal
 
 pub wrong_by_rows-requires-2-clause-sum : goal.wrong_by_rows-requires-2-clause-sum
 wrong_by_rows-requires-2-clause-sum c =
-    subst (λ n. n < 2 ^ length c.args.rows.now) (sym c.requires.turned_sum) (number_sum-lt (length c.args.rows.now) c.args.turned.now c.args.sum c.requires.turned_fits)
+    rw c.requires.turned_sum (number_sum-lt (length c.args.rows.now) c.args.turned.now c.args.sum c.requires.turned_fits)
 
 pub returns-in_err-wrong : goal.returns-in_err-wrong
 returns-in_err-wrong c =
     let rows = c.args.rows.now in
-    let columns = rows ++ check_columns (length rows) in
-    subst (λ answer. MatchOption answer (NoneWrong columns c.args.radius c.args.sum) (AreWrong columns c.args.radius c.args.sum)) (sym c.from_residual.ensures)
+    rw c.from_residual.ensures
     (none_by_halves rows c.args.turned.now c.requires.inverse c.args.radius c.args.sum c.args.turned_sum c.requires.turned_sum c.requires.radius c.in_default.ensures c.in_err-wrong.ensures)
 
 pub returns : goal.returns
@@ -21,6 +20,6 @@ returns c =
     let half = length rows in
     let wrong = c.in_ok-wrong.wrong in
     let are : AreWrong (c.args.turned.now ++ check_columns half) c.args.radius c.args.turned_sum wrong = c.in_ok-wrong.ensures in
-    let high : wrong / 2 ^ half < 2 ^ half = subst (λ n. wrong / 2 ^ half < 2 ^ n) c.requires.inverse.long (high_fits c.args.turned.now half wrong are.fits) in
-    subst (AreWrong (rows ++ check_columns half) c.args.radius c.args.sum) (sym (shifted_halves half wrong c.requires.rows high))
+    let high : wrong / 2 ^ half < 2 ^ half = rw c.requires.inverse.long at (high_fits c.args.turned.now half wrong are.fits) in
+    rw (shifted_halves half wrong c.requires.rows high)
     (halves_wrong rows c.args.turned.now c.requires.inverse c.args.radius c.args.sum c.args.turned_sum c.requires.turned_sum wrong c.requires.sum are)

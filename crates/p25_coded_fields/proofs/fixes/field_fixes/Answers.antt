@@ -14,7 +14,7 @@ loop-i-preserved g c =
     let word = c.args.word.now in
     let i = c.loop-i.i in
     let each = c.K-each.result / 6 in
-    let group : each ≡ b.K / 6 = ap (λ n. n / 6) c.K-each.ensures in
+    let group : each ≡ b.K / 6 = rw c.K-each.ensures refl in
     let covers : length places * each ≡ length word = rw group c.requires.word in
     let sixes : 6 * each ≡ b.K = rw group c.requires.sixes in
     let inside : i < length places = omega arith in
@@ -46,4 +46,4 @@ returns g c =
     let b = g.I.BlockCode in
     rw c.loop-i.invariant
     (all_fixes b.encoding_is b.N (c.K-each.result / 6) (b.K / 6) c.loop-i.i c.args.places.now c.args.word.now c.args.bare.now
-    (ap (λ n. n / 6) c.K-each.ensures) (omega arith) (omega arith) c.requires.word)
+    (rw c.K-each.ensures refl) (omega arith) (omega arith) c.requires.word)

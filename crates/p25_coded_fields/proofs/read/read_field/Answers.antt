@@ -37,7 +37,7 @@ outer_value g code received word erased reading full is =
 no_symbols : (layout : Layout) (bits : List Bool) (list : List (Option Sym)) → layout.each ≡ 0 → length list ≡ 0 → layout.outer_reading list ≡ outer_word_of layout bits
 unfolding outer_word_of
 no_symbols layout bits list none empty =
-    let nothing : length (received_in layout bits) ≡ 0 = length-received_in layout bits ∙ ap (λ n. n * length layout.places) none ∙ omega arith in
+    let nothing : length (received_in layout bits) ≡ 0 = rw (length-received_in layout bits, none) (omega arith) in
     ap layout.outer_reading (nil_from_length list empty ∙ sym (nil_from_length (received_in layout bits) nothing))
 
 pub returns-then-each-eq0-clause-value : goal.returns-then-each-eq0-clause-value
@@ -45,8 +45,8 @@ returns-then-each-eq0-clause-value g c =
     let b = g.I.BlockCode in
     let word = c.args.word.now in
     let layout = field_layout c.args.places.now b.N (b.K / 6) b.reading_is g.O.ErasedCode.erased_reading_is g.O.BlockCode.K in
-    let none : b.K / 6 ≡ 0 = ap (λ n. n / 6) (sym c.K-each.ensures) ∙ c.if-each-eq0.true in
-    let empty : length word ≡ 0 = c.requires.word ∙ sym c.requires.places ∙ ap (λ n. length c.args.places.now * n) none ∙ omega arith in
+    let none : b.K / 6 ≡ 0 = rw c.K-each.ensures at c.if-each-eq0.true in
+    let empty : length word ≡ 0 = rw (c.requires.word, ← c.requires.places, none) (omega arith) in
     outer_value g c.requires.outer word c.read_erased.new.word [] c.read_erased.result c.requires.word c.read_erased.ensures
     ∙ no_symbols layout c.args.bare.now (without_erased word []) none (length-without_erased word [] ∙ empty)
 
@@ -67,12 +67,12 @@ loop-i-preserved g c =
     let erased = c.loop-i.erased in
     let i = c.loop-i.i in
     let each = c.K-each.result / 6 in
-    let group : each ≡ b.K / 6 = ap (λ n. n / 6) c.K-each.ensures in
+    let group : each ≡ b.K / 6 = rw c.K-each.ensures refl in
     let same : length erased ≡ length word = cut_long (length c.args.word.now) _ erased c.loop-i.auto.erased (omega arith) ∙ sym c.loop-i.auto.word in
-    let covers : each * length places ≡ length word = ap (λ n. n * length places) group ∙ mul_comm (b.K / 6) (length places) ∙ omega arith in
+    let covers : each * length places ≡ length word = rw (group, mul_comm (b.K / 6) (length places)) (omega arith) in
     let inside : i < length places = omega arith in
     let there : each * i + each ≤ length word = room_at each i (length places) (length word) inside covers in
-    let there_e : each * i + each ≤ length erased = subst (λ n. each * i + each ≤ n) (sym same) there in
+    let there_e : each * i + each ≤ length erased = rw same there in
     let long : length (take (each * i + each - each * i) (drop (each * i) word)) ≡ each = length_group each i word there in
     let symbols = c.read_inner-more.new.symbols in
     let long_x : length symbols ≡ each = omega (arith, long) in
@@ -80,7 +80,7 @@ loop-i-preserved g c =
     record {
       erasures = erased_next (λ at. symbols_or_erasures (b.K / 6) (b.reading_is (part at b.N bare))) places each i _ _ word symbols erased c.read_inner-more.new.erased
           inside refl there same long_x long_e c.loop-i.invariant.erasures
-          (c.read_inner-more.ensures.erasures ∙ ap (λ n. symbols_or_erasures n (b.reading_is (part (get_or places i 0) b.N bare))) (long ∙ group));
+          (rw (long, group) at c.read_inner-more.ensures.erasures);
       counted =
           let next : each * (i + 1) ≡ each * i + length symbols = omega (arith, one_more each i, long_x) in
           fixes_counted _ _ _ c.loop-i.counted c.read_inner-more.result c.total_known-counted.result c.loop-i.invariant.counted c.read_inner-more.ensures.count c.total_known-counted.ensures
@@ -120,35 +120,28 @@ field_fixes-requires-clause-counted g c = λ none.
     let word = c.read_erased-2.new.word in
     let same : c.loop-i.word ≡ word = unchanged _ _ _ _ c.loop-i.word word c.in-Found.fixes same_from_eq c.in-Found.ensures (omega arith) none in
     IfSome_then c.loop-i.counted c.loop-i.invariant.counted (λ n is. rw (← same) (is ∙ all_fixes b.encoding_is b.N (c.K-each.result / 6) (b.K / 6) c.loop-i.i places c.loop-i.word c.args.bare.now
-    (ap (λ n. n / 6) c.K-each.ensures) (omega arith) (omega arith) (c.requires.places ∙ omega arith)))
+    (rw c.K-each.ensures refl) (omega arith) (omega arith) (c.requires.places ∙ omega arith)))
+
+-- the outer word that was read is that of all places
+word_is : (g : given.Over) (c : goal.After-read_erased-2 g)
+    → word_read c.read_erased-2.result c.read_erased-2.new.word
+    ≡ outer_word_of (field_layout c.args.places.now g.I.BlockCode.N (g.I.BlockCode.K / 6) g.I.BlockCode.reading_is g.O.ErasedCode.erased_reading_is g.O.BlockCode.K) c.args.bare.now
+word_is g c =
+    let b = g.I.BlockCode in
+    let places = c.args.places.now in
+    let layout = field_layout places b.N (b.K / 6) b.reading_is g.O.ErasedCode.erased_reading_is g.O.BlockCode.K in
+    outer_read layout c.args.bare.now (c.K-each.result / 6) c.loop-i.i c.loop-i.word c.loop-i.erased (word_read c.read_erased-2.result c.read_erased-2.new.word)
+    (rw c.K-each.ensures refl) (omega arith) (mul_comm (b.K / 6) (length places) ∙ c.requires.places ∙ omega arith)
+    (cut_long (length c.args.word.now) _ c.loop-i.erased c.loop-i.auto.erased (omega arith) ∙ sym c.loop-i.auto.word) c.loop-i.invariant.erasures
+    (outer_value g c.requires.outer c.loop-i.word c.read_erased-2.new.word c.loop-i.erased c.read_erased-2.result (c.loop-i.auto.word ∙ c.requires.word) c.read_erased-2.ensures)
 
 pub returns-in-Beyond-clause-value : goal.returns-in-Beyond-clause-value
 unfolding word_read
-returns-in-Beyond-clause-value g c =
-    let b = g.I.BlockCode in
-    let places = c.args.places.now in
-    let layout = field_layout places b.N (b.K / 6) b.reading_is g.O.ErasedCode.erased_reading_is g.O.BlockCode.K in
-    let full : length c.loop-i.word ≡ g.O.BlockCode.N = c.loop-i.auto.word ∙ c.requires.word in
-    let read = outer_value g c.requires.outer c.loop-i.word c.read_erased-2.new.word c.loop-i.erased c.read_erased-2.result full c.read_erased-2.ensures in
-    sym (ap (λ a. word_read a c.read_erased-2.new.word) c.in-Beyond.is)
-    ∙ outer_read layout c.args.bare.now (c.K-each.result / 6) c.loop-i.i c.loop-i.word c.loop-i.erased (word_read c.read_erased-2.result c.read_erased-2.new.word)
-    (ap (λ n. n / 6) c.K-each.ensures) (omega arith) (mul_comm (b.K / 6) (length places) ∙ c.requires.places ∙ omega arith)
-    (cut_long (length c.args.word.now) _ c.loop-i.erased c.loop-i.auto.erased (omega arith) ∙ sym c.loop-i.auto.word)
-    c.loop-i.invariant.erasures read
+returns-in-Beyond-clause-value g c = rw c.in-Beyond.is at (word_is g c)
 
 pub returns-in-Found-clause-value : goal.returns-in-Found-clause-value
 unfolding word_read
-returns-in-Found-clause-value g c =
-    let b = g.I.BlockCode in
-    let places = c.args.places.now in
-    let layout = field_layout places b.N (b.K / 6) b.reading_is g.O.ErasedCode.erased_reading_is g.O.BlockCode.K in
-    let full : length c.loop-i.word ≡ g.O.BlockCode.N = c.loop-i.auto.word ∙ c.requires.word in
-    let read = outer_value g c.requires.outer c.loop-i.word c.read_erased-2.new.word c.loop-i.erased c.read_erased-2.result full c.read_erased-2.ensures in
-    sym (ap (λ a. word_read a c.read_erased-2.new.word) c.in-Found.is)
-    ∙ outer_read layout c.args.bare.now (c.K-each.result / 6) c.loop-i.i c.loop-i.word c.loop-i.erased (word_read c.read_erased-2.result c.read_erased-2.new.word)
-    (ap (λ n. n / 6) c.K-each.ensures) (omega arith) (mul_comm (b.K / 6) (length places) ∙ c.requires.places ∙ omega arith)
-    (cut_long (length c.args.word.now) _ c.loop-i.erased c.loop-i.auto.erased (omega arith) ∙ sym c.loop-i.auto.word)
-    c.loop-i.invariant.erasures read
+returns-in-Found-clause-value g c = rw c.in-Found.is at (word_is g c)
 
 pub returns-in-Found-clause-fixes : goal.returns-in-Found-clause-fixes
 returns-in-Found-clause-fixes g c = λ some fixes found.
