@@ -1,9 +1,9 @@
 -- The readings of a layout whose outer code is a Reed-Solomon code are those of its codes: a word near to what was received is the
 -- one that is read, by the laws of block codes and of lists with erasures. And what a reader of a field leaves is the field's reading.
-use Rattle.std.proofs.Common.{◌≡◌, ℕ, ◌+◌, ◌-◌, ◌*◌, ◌≤◌, Bool, true, nat_le, List, [], ◌∷◌, length, take, Option, Some, None, All, option_map, refl, subst, ap, sym, ◌∙◌, arith}
+use Rattle.std.proofs.Common.{◌≡◌, ℕ, ◌+◌, ◌-◌, ◌*◌, ◌≤◌, Bool, true, nat_le, List, [], ◌∷◌, length, take, Option, Some, None, All, option_map, refl, ap, sym, ◌∙◌, arith}
 use Rattle.std.proofs.{lemmas.Bool.{leb-true, and_parts}, lemmas.Cmp.{on_equiv, nat_eq_equiv}, lemmas.List.{length-take-le}, lemmas.List.Elements.{All-nil, All-cons}}
 use Rattle.std.specs.{Bool.{beq}, List.{list_all}}
-use Rattle.p25_code.specs.{declared.code.Reading.{Reading}, declared.code.Reading.TheVariants.{Found, Beyond}, Readings.{IsReadAs, word_read}, Erasures.{erased_cost}}
+use Rattle.p25_code.specs.{declared.code.Reading.{Reading}, declared.code.Reading.TheVariants.{Found, Beyond}, Readings.{IsReadAs, word_read}}
 use Rattle.p25_code.specs.ErasedReadings.{IsErasedReadAs, IsWithinCost}
 use Rattle.p25_code.proofs.{ReadingLaws.{IsBlockCode, read_as_sent}, ErasedLaws.{erased_read_as_sent}}
 use Rattle.p25_gf64.specs.{declared.symbol.Sym.{Sym}, Symbol.{number}}

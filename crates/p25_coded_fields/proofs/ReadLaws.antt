@@ -1,5 +1,5 @@
 -- The reader of fields: what one inner word gives, by whether it is read, and one more inner word in the loop.
-use Rattle.std.proofs.Common.{◌≡◌, ℕ, zero, suc, ◌+◌, ◌-◌, ◌*◌, ◌/◌, ◌^◌, ◌<◌, ◌≤◌, Bool, true, false, cond, List, [], ◌∷◌, ◌++◌, length, take, map, replicate, get_or, bit_xor, Option, Some, None, option_map, refl, subst, ap, ap₂, sym, ◌∙◌, arith}
+use Rattle.std.proofs.Common.{◌≡◌, ℕ, zero, suc, ◌+◌, ◌-◌, ◌*◌, ◌/◌, ◌^◌, ◌<◌, ◌≤◌, Bool, true, false, cond, List, [], ◌∷◌, ◌++◌, length, take, map, replicate, get_or, bit_xor, Option, Some, None, option_map, refl, ap, ap₂, sym, ◌∙◌, arith}
 use Rattle.std.proofs.{lemmas.List.{append-nil, length-take-le, take_all, take_more}, lemmas.List.Concat.{flat_map-append}, lemmas.List.Elements.{All-replicate}, lemmas.Slice.{take-put_mid}}
 use Rattle.std.specs.{List.{flat_map}, Int.RustNames.{count_ones}}
 use borrow.Rule.Slice.PartMut.{put_mid}

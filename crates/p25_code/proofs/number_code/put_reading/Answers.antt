@@ -1,7 +1,6 @@
-use Rattle.std.proofs.Common.{◌≡◌, ◌^◌, ◌<◌, length, bit_xor, arith, sym, subst, ap, ◌∙◌}
-use Rattle.std.specs.{Int.RustNames.{count_ones}, Option.{MatchOption, IfSome}}
-use Rattle.p25_bits.specs.{Bits.{bits_of}, Distance.{distance_of}}
-use Rattle.p25_code.specs.declared.code.Reading.TheVariants.{Found, Beyond}
+use Rattle.std.proofs.Common.{◌≡◌, ◌^◌, ◌<◌, length, bit_xor, arith, ap, ◌∙◌}
+use Rattle.std.specs.{Int.RustNames.{count_ones}}
+use Rattle.p25_bits.specs.{Bits.{bits_of}}
 use Rattle.p25_code.proofs.NumberCodeLaws.{changed_bits, unchanged_bits}
 use Rattle.p25_code.proofs.number_code.put_reading.Goals as goal
 

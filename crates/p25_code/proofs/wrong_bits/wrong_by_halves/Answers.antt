@@ -1,6 +1,5 @@
-use Rattle.std.proofs.Common.{◌/◌, ◌^◌, ◌<◌, ◌++◌, length, sym, subst}
-use Rattle.std.specs.Option.{MatchOption}
-use Rattle.p25_code.specs.{Binary.{check_columns}, WrongBits.{AreWrong, NoneWrong}}
+use Rattle.std.proofs.Common.{◌/◌, ◌^◌, ◌<◌, ◌++◌, length}
+use Rattle.p25_code.specs.{Binary.{check_columns}, WrongBits.{AreWrong}}
 use Rattle.p25_code.proofs.WrongLaws.{high_fits, number_sum-lt, shifted_halves, halves_wrong, none_by_halves}
 use Rattle.p25_code.proofs.wrong_bits.wrong_by_halves.Goals as goal
 

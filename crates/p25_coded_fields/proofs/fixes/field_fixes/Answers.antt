@@ -1,4 +1,4 @@
-use Rattle.std.proofs.{Common.{◌≡◌, ◌+◌, ◌*◌, ◌/◌, ◌<◌, ◌≤◌, length, take, get_or, refl, ap, sym, ◌∙◌, arith}, Math.Nat.{mul_comm}, lemmas.List.{length-take-le}}
+use Rattle.std.proofs.{Common.{◌≡◌, ◌+◌, ◌*◌, ◌/◌, ◌<◌, ◌≤◌, length, take, get_or, refl, sym, ◌∙◌, arith}, Math.Nat.{mul_comm}, lemmas.List.{length-take-le}}
 use Rattle.p25_bits.specs.Bits.{part}
 use Rattle.p25_bits.proofs.PartLaws.{length-part}
 use Rattle.p25_coded_fields.proofs.{FixesLaws.{all_fixes, fixes_most, fixes_next, fixes_none, front_more, there_before, word_most}, SymbolsLaws.{group_is, room_at}}

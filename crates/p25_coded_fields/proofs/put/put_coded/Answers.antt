@@ -1,4 +1,4 @@
-use Rattle.std.proofs.{Common.{◌≡◌, ◌/◌, ap, refl, append_assoc, arith}, lemmas.List.{append-nil}}
+use Rattle.std.proofs.{Common.{◌≡◌, ◌/◌, refl, append_assoc, arith}, lemmas.List.{append-nil}}
 use Rattle.p25_bits.proofs.NumbersLaws.{joined_below-more, joined_below-zero}
 use Rattle.p25_coded_fields.specs.Layouts.{field_bits}
 use Rattle.p25_coded_fields.proofs.SymbolsLaws.{group_is, one_more}

@@ -1,4 +1,4 @@
-use Rattle.std.proofs.{Common.{◌≡◌, ◌+◌, ◌-◌, ◌*◌, ◌/◌, ◌<◌, ◌≤◌, List, length, take, drop, get_or, Bool, Option, [], refl, sym, subst, ap, ◌∙◌, arith}, Math.Nat.{mul_comm}}
+use Rattle.std.proofs.{Common.{◌≡◌, ◌+◌, ◌-◌, ◌*◌, ◌/◌, ◌<◌, ◌≤◌, List, length, take, drop, get_or, Bool, Option, [], refl, sym, ap, ◌∙◌, arith}, Math.Nat.{mul_comm}}
 use Rattle.std.proofs.{lemmas.Cmp.{on_equiv, nat_eq_equiv}, lemmas.List.{length-take-le, nil_from_length}, lemmas.Slice.{take-put_mid}, lemmas.Option.{IfSome_then}}
 use Rattle.p25_bits.specs.Bits.{part}
 use Rattle.p25_code.specs.{Erasures.{without_erased, IsErasedReading}, Readings.{word_read}, declared.code.Reading.{Reading}}
@@ -9,6 +9,7 @@ use Rattle.p25_reed_solomon.specs.Words.{same_symbols}
 use Rattle.p25_coded_fields.specs.{Layouts.{Layout, field_layout, outer_word_of, received_in, symbols_or_erasures}}
 use Rattle.p25_coded_fields.proofs.{SymbolsLaws.{length_group, one_more, room_at}, FixesLaws.{all_fixes, few_places, fixes_counted, fixes_most, fixes_next, fixes_none, there_before, word_most}}
 use Rattle.p25_coded_fields.proofs.{ReadLaws.{cut_long, erased_before, erased_next, outer_read, unchanged}, WithinLaws.{length-received_in}}
+use Rattle.p25_coded_fields.proofs.read.read_field.Goals.{After-read_erased-2}
 use Rattle.p25_coded_fields.proofs.read.read_field.Goals as goal
 use Rattle.p25_coded_fields.proofs.read.read_field.Given as given
 
@@ -123,7 +124,7 @@ field_fixes-requires-clause-counted g c = λ none.
     (rw c.K-each.ensures refl) (omega arith) (omega arith) (c.requires.places ∙ omega arith)))
 
 -- the outer word that was read is that of all places
-word_is : (g : given.Over) (c : goal.After-read_erased-2 g)
+word_is : (g : given.Over) (c : After-read_erased-2 g)
     → word_read c.read_erased-2.result c.read_erased-2.new.word
     ≡ outer_word_of (field_layout c.args.places.now g.I.BlockCode.N (g.I.BlockCode.K / 6) g.I.BlockCode.reading_is g.O.ErasedCode.erased_reading_is g.O.BlockCode.K) c.args.bare.now
 word_is g c =
@@ -137,11 +138,11 @@ word_is g c =
 
 pub returns-in-Beyond-clause-value : goal.returns-in-Beyond-clause-value
 unfolding word_read
-returns-in-Beyond-clause-value g c = rw c.in-Beyond.is at (word_is g c)
+returns-in-Beyond-clause-value g c = rw c.in-Beyond.is at (word_is g (goal.at.returns-in-Beyond-clause-value g c).After-read_erased-2)
 
 pub returns-in-Found-clause-value : goal.returns-in-Found-clause-value
 unfolding word_read
-returns-in-Found-clause-value g c = rw c.in-Found.is at (word_is g c)
+returns-in-Found-clause-value g c = rw c.in-Found.is at (word_is g (goal.at.returns-in-Found-clause-value g c).After-read_erased-2)
 
 pub returns-in-Found-clause-fixes : goal.returns-in-Found-clause-fixes
 returns-in-Found-clause-fixes g c = λ some fixes found.
