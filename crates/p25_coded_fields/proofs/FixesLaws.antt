@@ -1,5 +1,5 @@
 -- Fixes place by place: one inner word more is one run of bits more in both lists, and their distances add up.
-use Rattle.std.proofs.Common.{◌≡◌, ℕ, suc, ◌+◌, ◌*◌, ◌<◌, ◌≤◌, Bool, List, [], ◌∷◌, ◌++◌, length, take, get_or, Option, Some, None, IfSome, All, refl, ap, ap₂, sym, ◌∙◌, arith, zero-add, length-append}
+use Rattle.std.proofs.Common.{◌≡◌, ℕ, suc, ◌+◌, ◌*◌, ◌<◌, ◌≤◌, Bool, List, [], ◌∷◌, ◌++◌, length, take, get_or, All, refl, ap, ap₂, sym, ◌∙◌, arith, zero-add, length-append}
 use Rattle.std.proofs.{Math.Nat.{mul-le-mul_left, mul-le-mul_right, mul_comm}, lemmas.List.{append-nil, length-take-le, take_all, take_more}, lemmas.List.Concat.{flat_map-append}, lemmas.List.Elements.{All-take}}
 use Rattle.std.specs.{Bool.{beq}}
 use Rattle.p25_bits.specs.{Bits.{part}, Distance.{distance_of}}
@@ -92,21 +92,13 @@ module _ (encoding : List Bool → List Bool) (size each : ℕ) where
         append-nil (part at size bits),
       ) (distance_by-append beq received (part at size bits) sent (encoding (symbol_bits xs)) even)
 
-  -- one place more of a list: the symbols so far, and those of the next word
+  -- one place more of a list
   pub fixes_next : {IsWord : List Bool → Type 0} {k : ℕ} (long : (word : List Bool) → IsWord word → length word ≡ size) → Encodes IsWord k encoding
-      → (i : ℕ) (places : List ℕ) (word xs symbols : List Sym) (bits : List Bool)
-      → 6 * each ≡ k → All (λ at. at + size ≤ length bits) places → i < length places → each * i ≤ length word → length xs ≡ each → take (each * (i + 1)) symbols ≡ take (each * i) word ++ xs
+      → (i : ℕ) (places : List ℕ) (symbols : List Sym) (bits : List Bool) → 6 * each ≡ k → All (λ at. at + size ≤ length bits) places → i < length places → each * i + each ≤ length symbols
       → field_fixes_of encoding size each (take (i + 1) places) (take (each * (i + 1)) symbols) bits
-      ≡ field_fixes_of encoding size each (take i places) (take (each * i) word) bits + distance_of (part (get_or places i 0) size bits) (encoding (symbol_bits xs))
-  fixes_next long encodes i places word xs symbols bits sixes there inside fits long_xs next =
+      ≡ field_fixes_of encoding size each (take i places) (take (each * i) symbols) bits + distance_of (part (get_or places i 0) size bits) (encoding (symbol_bits (part (each * i) each symbols)))
+  fixes_next long encodes i places symbols bits sixes there inside fits =
       let before : length (take i places) ≡ i = length-take-le i places (omega arith) in
-      rw (take_more places i 0 inside, next)
-      (fixes_more long encodes (take i places) (get_or places i 0) (take (each * i) word) xs bits sixes
-      (there_before size (length bits) i places there) (rw before (length-take-le (each * i) word fits)) long_xs)
-
--- the sum of two counts, where both are known
-pub fixes_counted : (a b c : ℕ) (count more total : Option ℕ) → IfSome count (λ x. x ≡ a) → IfSome more (λ x. x ≡ b)
-    → IfSome total (λ sum. (x : ℕ) × (y : ℕ) × (count ≡ Some x) × (more ≡ Some y) × (sum ≡ x + y)) → c ≡ a + b → IfSome total (λ x. x ≡ c)
-fixes_counted a b c count more None first second is next = tt
-fixes_counted a b c count more (Some total) first second (x, y, is_x, is_y, sum) next =
-    let left = rw is_x at first in let right = rw is_y at second in rw (sum, left, right) (sym next)
+      rw (take_more places i 0 inside, ← front_more each i symbols)
+      (fixes_more long encodes (take i places) (get_or places i 0) (take (each * i) symbols) (part (each * i) each symbols) bits sixes
+      (there_before size (length bits) i places there) (rw before (length-take-le (each * i) symbols (omega arith))) (length-part (each * i) each symbols fits))

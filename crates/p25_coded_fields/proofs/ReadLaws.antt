@@ -4,12 +4,11 @@ use Rattle.std.proofs.{lemmas.List.{append-nil, length-take-le, take_all, take_m
 use Rattle.std.specs.{List.{flat_map}, Int.RustNames.{count_ones}}
 use borrow.Rule.Slice.PartMut.{put_mid}
 use Rattle.p25_bits.specs.{Bits.{bits_of, field_of, part}, Distance.{distance_of}}
-use Rattle.p25_bits.proofs.{BitsLaws.{length-bits_of, take-bits_of}, DistanceLaws.{distance_of-bits_of, same_from_distance_by}, NumbersLaws.{bits_of-field}}
-use Rattle.p25_code.specs.{Readings.{IsReadAs}, Words.{IsEncoding}, declared.code.Reading.TheVariants.{Found}, Erasures.{without_erased, IsErasedReading}}
+use Rattle.p25_bits.proofs.{BitsLaws.{length-bits_of, take-bits_of}, DistanceLaws.{distance_of-bits_of}, NumbersLaws.{bits_of-field}}
+use Rattle.p25_code.specs.{Readings.{IsReadAs}, Words.{IsEncoding}, Erasures.{without_erased}}
 use Rattle.p25_code.proofs.ErasedLaws.{without_erased-none}
 use Rattle.p25_gf64.specs.declared.symbol.Sym.{Sym}
-use Rattle.p25_link.specs.Symbols.{symbols_in, symbol_bits}
-use Rattle.p25_link.proofs.SymbolsLaws.{symbol_bits-all}
+use Rattle.p25_link.specs.Symbols.{symbols_in}
 use Rattle.p25_coded_fields.specs.Layouts.{Layout, symbols_or_erasures, received_in, outer_word_of}
 use Rattle.p25_coded_fields.proofs.SymbolsLaws.{one_more, symbols_in-take}
 
@@ -90,17 +89,6 @@ wrong_bits size k one_word received value info bits sent made is taken small_rec
     let same : bits_of size value ≡ sent = one_word (bits_of size value) sent made.word_of_set is.word_of_set (made.begins ∙ sym is.begins) in
     rw (← taken, ← same) (sym (distance_of-bits_of size received value small_received small))
 
--- a word that was read has the information that its symbols write
-pub read_encoding : {IsWord : List Bool → Type 0} (size k each value : ℕ) (symbols : List Sym)
-    → 6 * each ≡ k → k ≤ size → IsWord (bits_of size value) → symbols ≡ symbols_in each (bits_of (6 * each) (value / 2 ^ (size - k)))
-    → IsEncoding IsWord k (symbol_bits symbols) (bits_of size value)
-read_encoding size k each value symbols sixes fits is_word made =
-    let info = bits_of (6 * each) (value / 2 ^ (size - k)) in
-    record {
-      word_of_set = is_word;
-      begins = rw (made, symbol_bits-all each info (length-bits_of (6 * each) (value / 2 ^ (size - k))), information_bits size k each value sixes fits) refl;
-    }
-
 -- before the first place
 pub erased_before : {L : Type 0} (each : ℕ) (word : List L) (erased : List Bool) → without_erased (take (each * 0) word) (take (each * 0) erased) ≡ []
 erased_before each word erased =
@@ -142,9 +130,3 @@ outer_read layout bits each i word erased value group here covers same is read =
     let fits_e : length erased ≤ each * i = omega arith in
     let fits : length layout.places ≤ i = omega arith in
     rw (read, rw (take_all (each * i) word fits_x, take_all (each * i) erased fits_e, take_all i layout.places fits) at is) refl
-
--- a word of which no letter changed is what was received
-pub unchanged : (same : Sym → Sym → Bool) (IsWord : List Sym → Type 0) (most : ℕ) (list : List (Option Sym)) (received word : List Sym) (fixes : ℕ) → ((x y : Sym) → same x y ≡ true → x ≡ y)
-    → IsErasedReading same IsWord most list received word (Found fixes) → length received ≡ length word → fixes ≡ 0 → received ≡ word
-unfolding IsErasedReading
-unchanged same IsWord most list received word fixes alike is long none = same_from_distance_by same alike received word long (sym is.fixes_is ∙ none)

@@ -1,6 +1,6 @@
 //! In how many bits the inner words of a field were received otherwise than they are sent.
 
-ghost use Rattle.std.specs.Prelude.{◌≡◌, ◌+◌, ◌*◌, ◌/◌, ◌≤◌, ℕ, All, IfSome, Some, length};
+ghost use Rattle.std.specs.Prelude.{◌≡◌, ◌+◌, ◌*◌, ◌/◌, ◌≤◌, All, length};
 ghost use Rattle.p25_bits.specs.{Bits.{part}, Distance.{distance_of}};
 ghost use Rattle.p25_link.specs.Symbols.{symbol_bits};
 ghost use Rattle.p25_coded_fields.specs.Fixes.{field_fixes_of};
@@ -10,42 +10,17 @@ use p25_code::NumberCode;
 use p25_gf64::Sym;
 use p25_link::symbols_number;
 
-// The sum of the count of at most 35 inner words and of the next one's, where both are known.
-pub(crate) fn total_known(first: Option<u32>, second: Option<u32>) -> Option<u32>
-    requires first { IfSome first (λ a. a ≤ 840) }
-    requires second { IfSome second (λ b. b ≤ 24) }
-    ensures { IfSome result (λ sum. (a : ℕ) × (b : ℕ) × (first ≡ Some a) × (second ≡ Some b) × (sum ≡ a + b)) }
-{
-    match (first, second) {
-        (Some(first), Some(second)) => Some(first + second),
-        _ => None,
-    }
-}
-
 /// Counts the wrong bits of a field whose outer word was read: in how many bits its inner words were received otherwise than
-/// they are sent for the symbols of `word`. `counted` are the wrong bits of the inner words as these were read, where all were.
-/// They are the answer where the outer code changed no symbol; else each inner word is encoded.
-pub(crate) fn field_fixes<I: NumberCode>(
-    bare: &BitBuf,
-    places: &[usize],
-    word: &[Sym],
-    changed: u32,
-    counted: Option<u32>,
-) -> u32
+/// they are sent for the symbols of `word`.
+pub(crate) fn field_fixes<I: NumberCode>(bare: &BitBuf, places: &[usize], word: &[Sym]) -> u32
     requires code { I.HasCode }
     requires small { I.N ≤ 24 }
     requires sixes { 6 * (I.K / 6) ≡ I.K }
     requires few { length places.now ≤ 36 }
     requires word { length places.now * (I.K / 6) ≡ length word.now }
     requires there { All (λ at. at + I.N ≤ length bare.now) places.now }
-    requires counted { changed ≡ 0 → IfSome counted (λ wrong. wrong ≡ field_fixes_of I.encoding_is I.N (I.K / 6) places.now word.now bare.now) }
     ensures { result ≡ field_fixes_of I.encoding_is I.N (I.K / 6) places.now word.now bare.now }
 {
-    if changed == 0 {
-        if let Some(wrong) = counted {
-            return wrong;
-        }
-    }
     let each = I::K / 6;
     let mut wrong = 0;
     for (i, at) in places.iter().enumerate() {

@@ -1,44 +1,32 @@
 //! Fields read.
 
-ghost use Rattle.std.specs.Prelude.{◌≡◌, ℕ, ◌+◌, ◌*◌, ◌/◌, ◌<◌, ◌≤◌, All, IfSome, length};
-ghost use Rattle.p25_bits.specs.{Bits.{part}, Distance.{distance_of}};
+ghost use Rattle.std.specs.Prelude.{◌≡◌, ℕ, ◌+◌, ◌*◌, ◌/◌, ◌<◌, ◌≤◌, All, length};
+ghost use Rattle.p25_bits.specs.Bits.{part};
 ghost use Rattle.p25_code.specs.{Erasures.{without_erased}, Readings.{word_read}};
-ghost use Rattle.p25_link.specs.Symbols.{symbol_bits};
 ghost use Rattle.p25_coded_fields.specs.{Fixes.{field_fixes_of}, Layouts.{field_layout, symbols_or_erasures, outer_word_of}};
 
-use crate::fixes::{field_fixes, total_known};
+use crate::fixes::field_fixes;
 use p25_bits::BitBuf;
 use p25_code::{ErasedCode, NumberCode, Reading};
 use p25_gf64::Sym;
 use p25_link::put_symbols;
 
-// Reads the inner word at a place, and answers how many of its bits were wrong. The symbols become those of its information.
-// Where no word is read all are erased, and the answer is None.
-fn read_inner<I: NumberCode>(
-    bare: &BitBuf,
-    at: usize,
-    symbols: &mut [Sym],
-    erased: &mut [bool],
-) -> Option<u32>
+// Reads the inner word at a place. The symbols become those of its information. Where no word is read all are erased.
+fn read_inner<I: NumberCode>(bare: &BitBuf, at: usize, symbols: &mut [Sym], erased: &mut [bool])
     requires code { I.HasCode }
     requires small { I.N ≤ 24 }
     requires sixes { 6 * length symbols.old ≡ I.K }
     requires same { length erased.old ≡ length symbols.old }
     requires there { at + I.N ≤ length bare.now }
-    ensures erasures { without_erased symbols.new erased.new ≡ symbols_or_erasures (length symbols.old) (I.reading_is (part at I.N bare.now)) }
-    ensures count { IfSome result (λ wrong. wrong ≡ distance_of (part at I.N bare.now) (I.encoding_is (symbol_bits symbols.new))) }
+    ensures { without_erased symbols.new erased.new ≡ symbols_or_erasures (length symbols.old) (I.reading_is (part at I.N bare.now)) }
 {
     let received = bare.field(at, I::N as u32) as u32;
     match I::read_number(received) {
         Some(sent) => {
             put_symbols(u128::from(sent >> (I::N - I::K)), symbols);
             erased.fill(false);
-            Some((received ^ sent).count_ones())
         }
-        None => {
-            erased.fill(true);
-            None
-        }
+        None => erased.fill(true),
     }
 }
 
@@ -73,15 +61,13 @@ pub fn read_field<I: NumberCode, O: ErasedCode<Letter = Sym>>(
     }
     let mut gone = [false; 36];
     let erased = &mut gone[..word.len()];
-    let mut counted = Some(0);
     for (i, at) in places.iter().enumerate() {
         let (start, end) = (each * i, each * i + each);
-        let more = read_inner::<I>(bare, *at, &mut word[start..end], &mut erased[start..end]);
-        counted = total_known(counted, more);
+        read_inner::<I>(bare, *at, &mut word[start..end], &mut erased[start..end]);
     }
     match O::read_erased(word, erased) {
-        Reading::Found { fixes } => Reading::Found {
-            fixes: field_fixes::<I>(bare, places, word, fixes, counted),
+        Reading::Found { .. } => Reading::Found {
+            fixes: field_fixes::<I>(bare, places, word),
         },
         Reading::Beyond => Reading::Beyond,
     }

@@ -1,7 +1,5 @@
 use Rattle.std.proofs.{Common.{◌≡◌, ◌+◌, ◌*◌, ◌/◌, ◌<◌, ◌≤◌, length, take, get_or, refl, sym, ◌∙◌, arith}, Math.Nat.{mul_comm}, lemmas.List.{length-take-le}}
-use Rattle.p25_bits.specs.Bits.{part}
-use Rattle.p25_bits.proofs.PartLaws.{length-part}
-use Rattle.p25_coded_fields.proofs.{FixesLaws.{all_fixes, fixes_most, fixes_next, fixes_none, front_more, there_before, word_most}, SymbolsLaws.{group_is, room_at}}
+use Rattle.p25_coded_fields.proofs.{FixesLaws.{all_fixes, fixes_most, fixes_next, fixes_none, there_before, word_most}, SymbolsLaws.{group_is, room_at}}
 use Rattle.p25_coded_fields.proofs.fixes.field_fixes.Goals as goal
 
 pub loop-i-init : goal.loop-i-init
@@ -21,7 +19,7 @@ loop-i-preserved g c =
     let there : each * i + each ≤ length word = room_at each i (length places) (length word) inside (mul_comm each (length places) ∙ covers) in
     rw (c.loop-i.invariant, c.inner_fixes-more.ensures, group_is each each i word refl)
     (sym (fixes_next b.encoding_is b.N each (g.met.I.BlockCode.length_of_word c.requires.code) (g.met.I.NumberCode.encodes c.requires.code) i places
-    word (part (each * i) each word) word c.args.bare.now sixes c.requires.there inside (omega arith) (length-part (each * i) each word there) (sym (front_more each i word))))
+    word c.args.bare.now sixes c.requires.there inside there))
 
 pub overflow_add-wrong : goal.overflow_add-wrong
 overflow_add-wrong g c =

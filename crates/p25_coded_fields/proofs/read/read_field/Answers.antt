@@ -1,5 +1,5 @@
-use Rattle.std.proofs.{Common.{◌≡◌, ◌+◌, ◌-◌, ◌*◌, ◌/◌, ◌<◌, ◌≤◌, List, length, take, drop, get_or, Bool, Option, [], refl, sym, ap, ◌∙◌, arith}, Math.Nat.{mul_comm}}
-use Rattle.std.proofs.{lemmas.Cmp.{on_equiv, nat_eq_equiv}, lemmas.List.{length-take-le, nil_from_length}, lemmas.Slice.{take-put_mid}, lemmas.Option.{IfSome_then}}
+use Rattle.std.proofs.{Common.{◌≡◌, ◌+◌, ◌-◌, ◌*◌, ◌/◌, ◌<◌, ◌≤◌, List, length, take, drop, Bool, Option, [], refl, sym, ap, ◌∙◌, arith}, Math.Nat.{mul_comm}}
+use Rattle.std.proofs.{lemmas.Cmp.{on_equiv, nat_eq_equiv}, lemmas.List.{nil_from_length}}
 use Rattle.p25_bits.specs.Bits.{part}
 use Rattle.p25_code.specs.{Erasures.{without_erased, IsErasedReading}, Readings.{word_read}, declared.code.Reading.{Reading}}
 use Rattle.p25_code.proofs.{ReadingLaws.{IsBlockCode}, ErasedLaws.{erased_word_read_as, length-without_erased, one_erased_reading}}
@@ -7,8 +7,8 @@ use Rattle.p25_gf64.specs.{declared.symbol.Sym.{Sym}, Symbol.{number}}
 use Rattle.p25_gf64.proofs.SymbolLaws.{same_from_eq}
 use Rattle.p25_reed_solomon.specs.Words.{same_symbols}
 use Rattle.p25_coded_fields.specs.{Layouts.{Layout, field_layout, outer_word_of, received_in, symbols_or_erasures}}
-use Rattle.p25_coded_fields.proofs.{SymbolsLaws.{length_group, one_more, room_at}, FixesLaws.{all_fixes, few_places, fixes_counted, fixes_most, fixes_next, fixes_none, there_before, word_most}}
-use Rattle.p25_coded_fields.proofs.{ReadLaws.{cut_long, erased_before, erased_next, outer_read, unchanged}, WithinLaws.{length-received_in}}
+use Rattle.p25_coded_fields.proofs.{SymbolsLaws.{length_group, room_at}, FixesLaws.{few_places, fixes_most}}
+use Rattle.p25_coded_fields.proofs.{ReadLaws.{cut_long, erased_before, erased_next, outer_read}, WithinLaws.{length-received_in}}
 use Rattle.p25_coded_fields.proofs.read.read_field.Goals.{After-read_erased-2}
 use Rattle.p25_coded_fields.proofs.read.read_field.Goals as goal
 use Rattle.p25_coded_fields.proofs.read.read_field.Given as given
@@ -52,12 +52,7 @@ returns-then-each-eq0-clause-value g c =
     ∙ no_symbols layout c.args.bare.now (without_erased word []) none (length-without_erased word [] ∙ empty)
 
 pub loop-i-init : goal.loop-i-init
-loop-i-init g c =
-    let b = g.I.BlockCode in
-    record {
-      erasures = erased_before (c.K-each.result / 6) _ _;
-      counted = sym (fixes_none b.encoding_is b.N (c.K-each.result / 6) _ c.args.bare.now);
-    }
+loop-i-init g c = erased_before (c.K-each.result / 6) _ _
 
 pub loop-i-preserved : goal.loop-i-preserved
 loop-i-preserved g c =
@@ -75,53 +70,16 @@ loop-i-preserved g c =
     let there : each * i + each ≤ length word = room_at each i (length places) (length word) inside covers in
     let there_e : each * i + each ≤ length erased = rw same there in
     let long : length (take (each * i + each - each * i) (drop (each * i) word)) ≡ each = length_group each i word there in
-    let symbols = c.read_inner-more.new.symbols in
+    let symbols = c.read_inner.new.symbols in
     let long_x : length symbols ≡ each = omega (arith, long) in
-    let long_e : length c.read_inner-more.new.erased ≡ each = omega (arith, length_group each i erased there_e) in
-    record {
-      erasures = erased_next (λ at. symbols_or_erasures (b.K / 6) (b.reading_is (part at b.N bare))) places each i _ _ word symbols erased c.read_inner-more.new.erased
-          inside refl there same long_x long_e c.loop-i.invariant.erasures
-          (rw (long, group) at c.read_inner-more.ensures.erasures);
-      counted =
-          let next : each * (i + 1) ≡ each * i + length symbols = omega (arith, one_more each i, long_x) in
-          fixes_counted _ _ _ c.loop-i.counted c.read_inner-more.result c.total_known-counted.result c.loop-i.invariant.counted c.read_inner-more.ensures.count c.total_known-counted.ensures
-          (fixes_next b.encoding_is b.N each (g.met.I.BlockCode.length_of_word c.requires.inner) (g.met.I.NumberCode.encodes c.requires.inner) i places
-          word symbols _ bare (rw group c.requires.sixes) c.requires.there inside (omega arith) long_x (take-put_mid (each * i) _ word symbols (each * (i + 1)) next (omega arith)));
-    }
-
-pub total_known-counted-requires-clause-first : goal.total_known-counted-requires-clause-first
-total_known-counted-requires-clause-first g c = IfSome_then c.loop-i.counted c.loop-i.invariant.counted (λ n is.
-    let b = g.I.BlockCode in
-    let places = c.args.places.now in
-    let i = c.loop-i.i in
-    let some : 0 < b.K / 6 = omega (arith, c.K-each.ensures) in
-    omega (
-      arith,
-      is,
-      few_places (b.K / 6) (length places) some (omega arith),
-      length-take-le i places (omega arith),
-      fixes_most b.encoding_is b.N (c.K-each.result / 6) 24 (take i places) (take (c.K-each.result / 6 * i) c.loop-i.word) c.args.bare.now c.requires.small (there_before b.N (length c.args.bare.now) i places c.requires.there),
-    ))
-
-pub total_known-counted-requires-clause-second : goal.total_known-counted-requires-clause-second
-total_known-counted-requires-clause-second g c = IfSome_then c.read_inner-more.result c.read_inner-more.ensures.count (λ n is.
-    let b = g.I.BlockCode in
-    let at = get_or c.args.places.now c.loop-i.i 0 in
-    rw is (word_most b.N at 24 c.args.bare.now _ c.requires.small (c.requires.there c.loop-i.i 0 (omega arith))))
+    let long_e : length c.read_inner.new.erased ≡ each = omega (arith, length_group each i erased there_e) in
+    erased_next (λ at. symbols_or_erasures (b.K / 6) (b.reading_is (part at b.N bare))) places each i _ _ word symbols erased c.read_inner.new.erased
+    inside refl there same long_x long_e c.loop-i.invariant (rw (long, group) at c.read_inner.ensures)
 
 pub field_fixes-requires-clause-few : goal.field_fixes-requires-clause-few
 field_fixes-requires-clause-few g c =
     let some : 0 < g.I.BlockCode.K / 6 = omega (arith, c.K-each.ensures) in
     few_places (g.I.BlockCode.K / 6) (length c.args.places.now) some (omega arith)
-
-pub field_fixes-requires-clause-counted : goal.field_fixes-requires-clause-counted
-field_fixes-requires-clause-counted g c = λ none.
-    let b = g.I.BlockCode in
-    let places = c.args.places.now in
-    let word = c.read_erased-2.new.word in
-    let same : c.loop-i.word ≡ word = unchanged _ _ _ _ c.loop-i.word word c.in-Found.fixes same_from_eq c.in-Found.ensures (omega arith) none in
-    IfSome_then c.loop-i.counted c.loop-i.invariant.counted (λ n is. rw (← same) (is ∙ all_fixes b.encoding_is b.N (c.K-each.result / 6) (b.K / 6) c.loop-i.i places c.loop-i.word c.args.bare.now
-    (rw c.K-each.ensures refl) (omega arith) (omega arith) (c.requires.places ∙ omega arith)))
 
 -- the outer word that was read is that of all places
 word_is : (g : given.Over) (c : After-read_erased-2 g)
@@ -133,7 +91,7 @@ word_is g c =
     let layout = field_layout places b.N (b.K / 6) b.reading_is g.O.ErasedCode.erased_reading_is g.O.BlockCode.K in
     outer_read layout c.args.bare.now (c.K-each.result / 6) c.loop-i.i c.loop-i.word c.loop-i.erased (word_read c.read_erased-2.result c.read_erased-2.new.word)
     (rw c.K-each.ensures refl) (omega arith) (mul_comm (b.K / 6) (length places) ∙ c.requires.places ∙ omega arith)
-    (cut_long (length c.args.word.now) _ c.loop-i.erased c.loop-i.auto.erased (omega arith) ∙ sym c.loop-i.auto.word) c.loop-i.invariant.erasures
+    (cut_long (length c.args.word.now) _ c.loop-i.erased c.loop-i.auto.erased (omega arith) ∙ sym c.loop-i.auto.word) c.loop-i.invariant
     (outer_value g c.requires.outer c.loop-i.word c.read_erased-2.new.word c.loop-i.erased c.read_erased-2.result (c.loop-i.auto.word ∙ c.requires.word) c.read_erased-2.ensures)
 
 pub returns-in-Beyond-clause-value : goal.returns-in-Beyond-clause-value
