@@ -2,8 +2,9 @@
 use Rattle.std.proofs.Common.{◌≡◌, ℕ, ◌+◌, ◌*◌, ◌≤◌, Bool, true, ◌&&◌, nat_le, List, [], ◌∷◌, map, take, drop, Option, Result, Ok, Err, refl, ap, arith}
 use Rattle.std.proofs.lemmas.Bool.Decides.{nat_tests}
 use Rattle.std.specs.{Prelude.{option_map, slice_index}, List.{flat_map}}
-use Rattle.p25_bits.specs.{Bits.{part}}
+use Rattle.p25_bits.specs.Bits.{field_of, part}
 use Rattle.p25_bits.proofs.NumbersLaws.{each_below-same, joined_below-same}
+use Rattle.p25_hamming.specs.Lsd16Laws.{lsd16_reading_of}
 use Rattle.p25_coded_fields.specs.Layouts.{Layout, field_reading_of, outer_word_of, places_from, received_in, symbols_or_erasures}
 use Rattle.p25_status.specs.{declared.fields.Field.{Field}}
 use Rattle.p25_voice_units.specs.{FieldLayouts.{header_layout, link_layout, sync_layout, tdulc_layout, word_places}, Layouts.{ldu_rows}}
@@ -56,7 +57,8 @@ module _ (first second : List Bool) (alike : AreAlikeBehind first second) where
 
   low-alike : (i : ℕ) → 112 ≤ slice_index (low_places ldu_rows) i → low_in i first ≡ low_in i second
   unfolding low_in
-  low-alike i behind = rw (part-alike (slice_index (low_places ldu_rows) i) 16 behind)
+  low-alike i behind =
+      ap (λ (bits : List Bool). option_map (λ (word : List Bool). field_of (take 8 word)) (lsd16_reading_of bits)) (part-alike (slice_index (low_places ldu_rows) i) 16 behind)
 
   low-places : (112 ≤ slice_index (low_places ldu_rows) 0) × (112 ≤ slice_index (low_places ldu_rows) 1)
   unfolding low_places
