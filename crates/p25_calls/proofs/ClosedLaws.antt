@@ -1,5 +1,5 @@
 -- A closed run stays a run, whatever units come later. By induction on the units: a unit put before runs, and before those with more units after, makes the same runs up to the last.
-use Rattle.std.proofs.{Common.{◌≡◌, Bool, true, false, List, [], ◌∷◌, ◌++◌, refl, sym, ap, ap₂, subst, ◌∙◌}, lemmas.Bool.{cond-true, cond-false}}
+use Rattle.std.proofs.{Common.{◌≡◌, Bool, true, false, List, [], ◌∷◌, ◌++◌, refl, sym, ap, ◌∙◌}}
 use Rattle.p25_calls.specs.{declared.seen.UnitSeen.{UnitSeen}, Seen.{is_break, is_terminator}, Runs.{Run, closed_runs, last_of, last_unit, run_from, runs_of, units_in, with_unit}}
 use Rattle.p25_calls.specs.CallLaws.{ClosedStay}
 use Rattle.p25_calls.proofs.{RunsLaws.{runs_of-begins, runs_of-run, with_unit-break, with_unit-joins}, EndedLaws.{cut-terminator}}
@@ -14,20 +14,19 @@ cons-parts run first runs rest same = (cc, cc)
 
 closed-end : (run : Run) → is_terminator (last_unit run) ≡ true → closed_runs (run ∷ []) ≡ run ∷ []
 unfolding closed_runs
-closed-end run ends = cond-true (is_terminator (last_unit run)) (run ∷ []) [] ends
+closed-end run ends = rw ends
 
 -- the last run, with no unit after it or one that begins another
 open-stay : (run : Run) (all : List Run) → is_terminator (last_unit run) ≡ false → Stay (run ∷ []) all
 unfolding closed_runs
-open-stay run all going = record { rest = all; is = sym (ap (λ (runs : List Run). runs ++ all) (cond-false (is_terminator (last_unit run)) (run ∷ []) [] going)) }
+open-stay run all going = record { rest = all; is = rw going }
 
 one-stay : (unit : UnitSeen) (more : List UnitSeen) (b : Bool) → is_terminator (last_unit (run_from unit [])) ≡ b → Stay (runs_of (unit ∷ [])) (runs_of (unit ∷ more))
 unfolding runs_of with_unit
 one-stay unit more false going = open-stay (run_from unit []) (runs_of (unit ∷ more)) going
 one-stay unit more true ends = record {
   rest = runs_of more;
-  is = runs_of-run (run_from unit []) more tt (cut-terminator (last_unit (run_from unit [])) more ends)
-      ∙ sym (ap (λ (runs : List Run). runs ++ runs_of more) (closed-end (run_from unit []) ends));
+  is = rw (closed-end (run_from unit []) ends) (runs_of-run (run_from unit []) more tt (cut-terminator (last_unit (run_from unit [])) more ends));
 }
 
 -- a unit that joins the first run
@@ -40,11 +39,10 @@ longer-one : (unit : UnitSeen) (run first : Run) (runs rest : List Run) → firs
 longer-one unit run first runs rest before false going =
     open-stay (run_from unit (units_in run)) (run_from unit (units_in first) ∷ runs) (ap is_terminator (longer-last unit run) ∙ going)
 longer-one unit run first runs rest before true ends =
-    let parts = cons-parts first run runs rest (before ∙ ap (λ (closed : List Run). closed ++ rest) (closed-end run ends)) in
+    let parts = cons-parts first run runs rest (rw (closed-end run ends) at before) in
     record {
       rest = rest;
-      is = ap₂ (λ (r : Run) (rs : List Run). run_from unit (units_in r) ∷ rs) parts.0 parts.1
-          ∙ sym (ap (λ (closed : List Run). closed ++ rest) (closed-end (run_from unit (units_in run)) (ap is_terminator (longer-last unit run) ∙ ends)));
+      is = rw (parts.0, parts.1, closed-end (run_from unit (units_in run)) (ap is_terminator (longer-last unit run) ∙ ends));
     }
 
 longer-stay : (unit : UnitSeen) (run first : Run) (others runs rest : List Run) → first ∷ runs ≡ closed_runs (run ∷ others) ++ rest
@@ -53,15 +51,15 @@ unfolding closed_runs
 longer-stay unit run first [] runs rest before = longer-one unit run first runs rest before (is_terminator (last_unit run)) refl
 longer-stay unit run first (next ∷ others) runs rest before =
     let parts = cons-parts first run runs (closed_runs (next ∷ others) ++ rest) before in
-    record { rest = rest; is = ap₂ (λ (r : Run) (rs : List Run). run_from unit (units_in r) ∷ rs) parts.0 parts.1 }
+    record { rest = rest; is = rw (parts.0, parts.1) }
 
 -- a unit before the first run
 behind-break : (unit : UnitSeen) (run : Run) (others rest all : List Run) → all ≡ closed_runs (run ∷ others) ++ rest → Stay (run_from unit [] ∷ run ∷ others) (run_from unit [] ∷ all)
 unfolding closed_runs
-behind-break unit run others rest all before = record { rest = rest; is = ap (λ (runs : List Run). run_from unit [] ∷ runs) before }
+behind-break unit run others rest all before = record { rest = rest; is = rw before }
 
 stay-as : (runs all made longer : List Run) → made ≡ runs → longer ≡ all → Stay runs all → Stay made longer
-stay-as runs all made longer same_made same_longer stay = subst (λ (m : List Run). Stay m longer) (sym same_made) (subst (λ (l : List Run). Stay runs l) (sym same_longer) stay)
+stay-as runs all made longer same_made same_longer stay = rw (same_made, same_longer) stay
 
 with_unit-stay : (unit : UnitSeen) (run first : Run) (others runs rest : List Run)
     → first.first ≡ run.first → first ∷ runs ≡ closed_runs (run ∷ others) ++ rest → (b : Bool) → is_break unit run.first ≡ b

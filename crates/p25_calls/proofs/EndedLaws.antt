@@ -1,6 +1,6 @@
 -- What a unit ends and leaves: a run that a terminator closes, a packet that is a run by itself and no call, and a run that stays open. By whether there is a break after the unit.
-use Rattle.std.proofs.Common.{◌≡◌, ℕ, ◌+◌, Bool, true, false, cond, not, ◌&&◌, ◌||◌, List, [], ◌∷◌, ◌++◌, Option, Some, None, refl, sym, ap, ap₂, subst, ◌∙◌, inl, inr, ◌⊎◌, arith}
-use Rattle.std.proofs.lemmas.Bool.{cond-true, cond-false, eqb-true, or_cases, not-false}
+use Rattle.std.proofs.Common.{◌≡◌, ℕ, ◌+◌, Bool, true, false, not, ◌||◌, List, [], ◌∷◌, ◌++◌, Option, Some, None, refl, inl, inr, ◌⊎◌, arith}
+use Rattle.std.proofs.lemmas.Bool.{eqb-true, or_cases, not-false}
 use Rattle.std.specs.{Prelude.{nat_eq, nat_lt, option_to_list}, Option.{option_or}}
 use Rattle.p25_calls.specs.{declared.call.Call.{Call}, declared.seen.UnitSeen.{UnitSeen}, Seen.{is_break, is_header, is_link_unit, is_terminator, is_voice, unit_end}}
 use Rattle.p25_calls.specs.{Runs.{Run, closed_runs, last_unit, runs_by, runs_of, units_in}, Calls.{calls_among, is_call}, Taking.{broken_off, ended_call, if_linked, pending_run, run_with}}
@@ -16,16 +16,14 @@ pub record IsEndOnly (unit : UnitSeen) : Type 0 where
 end-only : (unit : UnitSeen) → is_terminator unit ≡ true → IsEndOnly unit
 end-only unit ends =
     elim (or_cases (nat_eq unit.duid 3) (nat_eq unit.duid 0xF) ends) [
-      | inl three ↦ let is = eqb-true unit.duid 3 three in
-          record { voice = ap (λ (d : ℕ). not (nat_eq d 0xC)) is; unlinked = ap (λ (d : ℕ). nat_eq d 5 || nat_eq d 0xA) is }
-      | inr fifteen ↦ let is = eqb-true unit.duid 0xF fifteen in
-          record { voice = ap (λ (d : ℕ). not (nat_eq d 0xC)) is; unlinked = ap (λ (d : ℕ). nat_eq d 5 || nat_eq d 0xA) is }
+      | inl three ↦ let is = eqb-true unit.duid 3 three in record { voice = rw is; unlinked = rw is }
+      | inr fifteen ↦ let is = eqb-true unit.duid 0xF fifteen in record { voice = rw is; unlinked = rw is }
     ]
 
 -- a packet is no terminator
 packet-open : (unit : UnitSeen) → is_voice unit ≡ false → is_terminator unit ≡ false
 packet-open unit packet =
-    let is = eqb-true unit.duid 0xC (not-false (nat_eq unit.duid 0xC) packet) in ap (λ (d : ℕ). nat_eq d 3 || nat_eq d 0xF) is
+    let is = eqb-true unit.duid 0xC (not-false (nat_eq unit.duid 0xC) packet) in rw is
 
 -- ---- what a unit ends and leaves
 
@@ -45,10 +43,10 @@ stepped-open pending before unit last voice going = record {
     is = last.is;
     unbroken = last.unbroken;
     voice = last.voice voice;
-    last_voice = ap is_voice last.ends ∙ voice;
-    going = ap is_terminator last.ends ∙ going;
-    nac = ap (λ (u : UnitSeen). u.nac) last.ends ∙ last.nac;
-    end = ap unit_end last.ends ∙ last.end;
+    last_voice = rw last.ends voice;
+    going = rw last.ends going;
+    nac = rw last.ends last.nac;
+    end = rw last.ends last.end;
     before = omega (arith, last.end);
   };
   calls = last.rest_is;
@@ -64,39 +62,35 @@ unfolding is_break
 cut-terminator unit [] ends = tt
 cut-terminator unit (next ∷ rest) ends =
     let before = not (is_voice unit) || not (is_voice next) || not (nat_eq unit.nac next.nac) in
-    ap (λ (b : Bool). before || b || is_header next || nat_lt (unit_end unit + 3456) next.place) ends ∙ after-terminator before (is_header next) (nat_lt (unit_end unit + 3456) next.place)
+    rw ends (after-terminator before (is_header next) (nat_lt (unit_end unit + 3456) next.place))
 
 cut-packet : (unit : UnitSeen) (rest : List UnitSeen) → is_voice unit ≡ false → IsCutBefore unit rest
 unfolding is_break
 cut-packet unit [] packet = tt
-cut-packet unit (next ∷ rest) packet =
-    ap (λ (b : Bool). not b || not (is_voice next) || not (nat_eq unit.nac next.nac) || is_terminator unit || is_header next || nat_lt (unit_end unit + 3456) next.place) packet
+cut-packet unit (next ∷ rest) packet = rw packet
 
 closed-terminated : (run : Run) (runs : List Run) → is_terminator (last_unit run) ≡ true → closed_runs (run ∷ runs) ≡ run ∷ closed_runs runs
 unfolding closed_runs
-closed-terminated run [] ends = cond-true (is_terminator (last_unit run)) (run ∷ []) [] ends
+closed-terminated run [] ends = rw ends
 closed-terminated run (next ∷ runs) ends = refl
 
 closed-none : (run : Run) (runs : List Run) → is_terminator (last_unit run) ≡ false → is_call run ≡ false → calls_among (closed_runs (run ∷ runs)) ≡ calls_among (closed_runs runs)
 unfolding closed_runs
-closed-none run [] going no' = ap calls_among (cond-false (is_terminator (last_unit run)) (run ∷ []) [] going)
+closed-none run [] going no' = rw going
 closed-none run (next ∷ runs) going no' = calls_among-none run (closed_runs (next ∷ runs)) no'
 
 runs_by-terminated : (ended : Bool) (run : Run) (rest : List UnitSeen) → IsUnbroken run.first run.others → is_terminator (last_unit run) ≡ true
     → runs_by ended (units_in run ++ rest) ≡ run ∷ runs_by ended rest
 unfolding runs_by
 runs_by-terminated true run rest unbroken ends = runs_of-run run rest unbroken (cut-terminator (last_unit run) rest ends)
-runs_by-terminated false run rest unbroken ends =
-    ap closed_runs (runs_of-run run rest unbroken (cut-terminator (last_unit run) rest ends)) ∙ closed-terminated run (runs_of rest) ends
+runs_by-terminated false run rest unbroken ends = rw (runs_of-run run rest unbroken (cut-terminator (last_unit run) rest ends)) (closed-terminated run (runs_of rest) ends)
 
 runs_by-packet : (ended : Bool) (run : Run) (rest : List UnitSeen) → IsUnbroken run.first run.others → is_voice (last_unit run) ≡ false → is_call run ≡ false
     → calls_among (runs_by ended (units_in run ++ rest)) ≡ calls_among (runs_by ended rest)
 unfolding runs_by
-runs_by-packet true run rest unbroken packet no' =
-    ap calls_among (runs_of-run run rest unbroken (cut-packet (last_unit run) rest packet)) ∙ calls_among-none run (runs_of rest) no'
+runs_by-packet true run rest unbroken packet no' = rw (runs_of-run run rest unbroken (cut-packet (last_unit run) rest packet)) (calls_among-none run (runs_of rest) no')
 runs_by-packet false run rest unbroken packet no' =
-    ap (λ (runs : List Run). calls_among (closed_runs runs)) (runs_of-run run rest unbroken (cut-packet (last_unit run) rest packet))
-    ∙ closed-none run (runs_of rest) (packet-open (last_unit run) packet) no'
+    rw (runs_of-run run rest unbroken (cut-packet (last_unit run) rest packet)) (closed-none run (runs_of rest) (packet-open (last_unit run) packet) no')
 
 -- two calls of which one is none at least, one after the other
 both-lists : (first second : Option Call) (rest : List Call) → (first ≡ None) ⊎ (second ≡ None)
@@ -116,12 +110,8 @@ stepped-terminator pending before unit last ends =
       behind = None;
       holds = none;
       calls = λ ended rest.
-          last.rest_is ended rest
-          ∙ ap (λ (calls : List Call). option_to_list (broken_off pending unit) ++ calls)
-          (ap calls_among (runs_by-terminated ended last.last rest last.unbroken (ap is_terminator last.ends ∙ ends))
-          ∙ calls_among-voice last.last (runs_by ended rest) (last.voice kind.voice)
-          ∙ ap (λ (call : Call). option_to_list (if_linked call) ++ calls_among (runs_by ended rest)) (sym last.is))
-          ∙ both-lists (broken_off pending unit) (if_linked (run_with pending unit)) (calls_among (runs_by ended rest)) one;
+          rw (last.rest_is ended rest, runs_by-terminated ended last.last rest last.unbroken (rw last.ends ends), calls_among-voice last.last (runs_by ended rest) (last.voice kind.voice), ← last.is)
+          (both-lists (broken_off pending unit) (if_linked (run_with pending unit)) (calls_among (runs_by ended rest)) one);
     }
 
 -- and a packet is a run by itself, which is no call
@@ -131,40 +121,18 @@ unfolding pending_units
 stepped-packet pending before unit last packet = record {
   behind = None;
   holds = none;
-  calls = λ ended rest.
-      last.rest_is ended rest
-      ∙ ap (λ (calls : List Call). option_to_list (broken_off pending unit) ++ calls)
-      (runs_by-packet ended last.last rest last.unbroken (ap is_voice last.ends ∙ packet) (last.packet packet));
+  calls = λ ended rest. rw (last.rest_is ended rest, runs_by-packet ended last.last rest last.unbroken (rw last.ends packet) (last.packet packet));
 }
 
 option_or-nothing : (o : Option Call) → option_or o None ≡ o
 option_or-nothing None = refl
 option_or-nothing (Some call) = refl
 
-stepped-as : (before : Option Run) (unit : UnitSeen) (answer pending asked left : Option Call) → asked ≡ answer → left ≡ pending → Stepped before unit answer pending → Stepped before unit asked left
-stepped-as before unit answer pending asked left same_answer same_pending stepped =
-    subst (λ (a : Option Call). Stepped before unit a left) (sym same_answer) (subst (λ (p : Option Call). Stepped before unit answer p) (sym same_pending) stepped)
-
 stepped-by : (pending : Option Call) (before : Option Run) (unit : UnitSeen) → LastRun pending before unit → (voice ends : Bool) → is_voice unit ≡ voice → is_terminator unit ≡ ends
     → Stepped before unit (ended_call pending unit) (pending_run (run_with pending unit) unit)
-stepped-by pending before unit last voice true is_voice' is_end =
-    let run = run_with pending unit in
-    stepped-as before unit (option_or (broken_off pending unit) (if_linked run)) None (ended_call pending unit) (pending_run run unit)
-    (ap (λ (b : Bool). option_or (broken_off pending unit) (cond b (if_linked run) None)) is_end)
-    (ap₂ (λ (v t : Bool). cond (v && not t) (Some run) None) (end-only unit is_end).voice is_end)
-    (stepped-terminator pending before unit last is_end)
-stepped-by pending before unit last true false is_voice' is_end =
-    let run = run_with pending unit in
-    stepped-as before unit (broken_off pending unit) (Some run) (ended_call pending unit) (pending_run run unit)
-    (ap (λ (b : Bool). option_or (broken_off pending unit) (cond b (if_linked run) None)) is_end ∙ option_or-nothing (broken_off pending unit))
-    (ap₂ (λ (v t : Bool). cond (v && not t) (Some run) None) is_voice' is_end)
-    (stepped-open pending before unit last is_voice' is_end)
-stepped-by pending before unit last false false is_voice' is_end =
-    let run = run_with pending unit in
-    stepped-as before unit (broken_off pending unit) None (ended_call pending unit) (pending_run run unit)
-    (ap (λ (b : Bool). option_or (broken_off pending unit) (cond b (if_linked run) None)) is_end ∙ option_or-nothing (broken_off pending unit))
-    (ap (λ (v : Bool). cond (v && not (is_terminator unit)) (Some run) None) is_voice')
-    (stepped-packet pending before unit last is_voice')
+stepped-by pending before unit last voice true is_voice' is_end = let kind = end-only unit is_end in rw (is_end, kind.voice) (stepped-terminator pending before unit last is_end)
+stepped-by pending before unit last true false is_voice' is_end = rw (is_end, is_voice', option_or-nothing) (stepped-open pending before unit last is_voice' is_end)
+stepped-by pending before unit last false false is_voice' is_end = rw (is_end, is_voice', option_or-nothing) (stepped-packet pending before unit last is_voice')
 
 pub stepped : (reached : ℕ) (pending : Option Call) (before : Option Run) → Holds reached pending before → (unit : UnitSeen) → unit.place ≡ reached
     → Stepped before unit (ended_call pending unit) (pending_run (run_with pending unit) unit)

@@ -1,8 +1,8 @@
 -- The run that a unit is the last of, in the three cases of a unit that joins, that begins after a break, and that begins where no run is open: with a break before it exactly where it
 -- does not join, the calls up to it are the one that it broke off and those of that run.
-use Rattle.std.proofs.Common.{◌≡◌, ℕ, ◌+◌, ◌-◌, ◌≤◌, Bool, true, false, cond, not, ◌&&◌, ◌||◌, List, [], ◌∷◌, ◌++◌, Option, Some, None, refl, sym, ap, ap₂, ◌∙◌, inl, inr, ◌⊎◌, arith, append_assoc}
-use Rattle.std.proofs.{lemmas.Bool.{and_from, and_parts, cond-true, cond-false, eqb-true, true≢false}, lemmas.Bool.Decides.{nat_tests}, lemmas.List.Folds.{list_all-append}}
-use Rattle.std.specs.{Prelude.{nat_eq, nat_le, nat_lt, option_to_list}, List.{list_all, list_any}}
+use Rattle.std.proofs.Common.{◌≡◌, ℕ, ◌+◌, ◌-◌, ◌≤◌, Bool, true, false, not, ◌&&◌, ◌||◌, List, [], ◌∷◌, ◌++◌, Option, Some, None, refl, sym, ap₂, ◌∙◌, inl, inr, ◌⊎◌, arith, append_assoc}
+use Rattle.std.proofs.{lemmas.Bool.{and_from, and_parts, eqb-true, true≢false}, lemmas.Bool.Decides.{nat_tests}, lemmas.List.Folds.{list_all-append}}
+use Rattle.std.specs.{Prelude.{nat_eq, nat_le, nat_lt, option_to_list}, List.{list_all}}
 use Rattle.p25_calls.specs.{declared.call.Call.{Call}, declared.seen.UnitSeen.{UnitSeen}, Seen.{is_break, is_header, is_link_unit, is_terminator, is_voice, unit_end}}
 use Rattle.p25_calls.specs.{Runs.{Run, closed_runs, last_of, last_unit, run_from, runs_by, units_in}, Calls.{call_of, calls_among, is_call}}
 use Rattle.p25_calls.specs.Taking.{broken_off, call_of_one, extended, goes_on, if_linked, run_with}
@@ -68,9 +68,7 @@ unfolding runs_by closed_runs
 runs_by-split true run unit rest unbroken breaks = runs_of-run run (unit ∷ rest) unbroken breaks
 runs_by-split false run unit rest unbroken breaks =
     let first = runs_of-begins unit rest in
-    ap closed_runs (runs_of-run run (unit ∷ rest) unbroken breaks)
-    ∙ ap (λ (runs : List Run). closed_runs (run ∷ runs)) first.is
-    ∙ ap (λ (runs : List Run). run ∷ closed_runs runs) (sym first.is)
+    rw (runs_of-run run (unit ∷ rest) unbroken breaks, first.is)
 
 -- a run of one unit
 one-place : (place bits : ℕ) → place + bits ≡ place + (place + bits - place)
@@ -90,7 +88,7 @@ alone-ends unit = refl
 
 alone-unlinked : (unit : UnitSeen) → is_link_unit unit ≡ false → if_linked (call_of_one unit) ≡ None
 unfolding call_of
-alone-unlinked unit unlinked = ap (λ (b : Bool). cond (nat_lt 0 (0 + cond b 1 0)) (Some (call_of_one unit)) None) unlinked
+alone-unlinked unit unlinked = rw unlinked
 
 -- where it begins after what a caller held, since nothing was, or since there is a break
 alone-run : (pending : Option Call) (before : Option Run) (unit : UnitSeen) → run_with pending unit ≡ call_of_one unit
@@ -103,10 +101,10 @@ alone-run pending before unit is rest_is = record {
   ends = alone-ends unit;
   unbroken = tt;
   voice = λ voice. and_from (is_voice unit) true voice refl;
-  packet = λ packet. ap (λ (b : Bool). (b && true) && list_any is_link_unit (unit ∷ [])) packet;
-  nac = alone-nac unit ∙ ap (λ (call : Call). call.nac) (sym is);
-  end = alone-end unit ∙ ap (λ (call : Call). call.place + call.bits) (sym is);
-  one = inr (λ unlinked. ap if_linked is ∙ alone-unlinked unit unlinked);
+  packet = λ packet. rw packet;
+  nac = rw is (alone-nac unit);
+  end = rw is (alone-end unit);
+  one = inr (λ unlinked. rw is (alone-unlinked unit unlinked));
   rest_is = rest_is;
 }
 
@@ -120,32 +118,25 @@ joins-run reached call run pends unit at goes =
     let near = and_parts (is_voice unit && nat_eq call.nac unit.nac && not (is_header unit)) (nat_le unit.place (call.place + call.bits + 3456)) goes in
     let plain = and_parts (is_voice unit && nat_eq call.nac unit.nac) (not (is_header unit)) near.0 in
     let same = and_parts (is_voice unit) (nat_eq call.nac unit.nac) plain.0 in
-    let grows = cond-true (goes_on call unit) (extended call unit) (call_of_one unit) goes in
     record {
       last = grown run unit;
-      is = grows ∙ ap (λ (c : Call). extended c unit) pends.is ∙ sym (call_of-grown run unit);
+      is = rw (goes, pends.is) (sym (call_of-grown run unit));
       ends = last_of-append run.first run.others unit;
-      unbroken = unbroken-append run.first run.others unit pends.unbroken (break-by reached call run pends unit ∙ ap not goes);
+      unbroken = unbroken-append run.first run.others unit pends.unbroken (rw (break-by reached call run pends unit, goes));
       voice = λ voice. list_all-append is_voice (units_in run) (unit ∷ []) ∙ ap₂ ◌&&◌ pends.voice (and_from (is_voice unit) true voice refl);
       packet = λ packet. absurd (true≢false (sym same.0 ∙ packet));
-      nac = sym (eqb-true call.nac unit.nac same.1) ∙ ap (λ (c : Call). c.nac) (sym grows);
-      end = extended-end call unit reached pends.before at ∙ ap (λ (c : Call). c.place + c.bits) (sym grows);
-      one = inl (cond-true (goes_on call unit) None (if_linked call) goes);
-      rest_is = λ ended rest.
-          ap (λ (units : List UnitSeen). calls_among (runs_by ended units)) (sym (append_assoc (units_in run) (unit ∷ []) rest))
-          ∙ ap (λ (o : Option Call). option_to_list o ++ calls_among (runs_by ended (units_in (grown run unit) ++ rest))) (sym (cond-true (goes_on call unit) None (if_linked call) goes));
+      nac = rw goes (sym (eqb-true call.nac unit.nac same.1));
+      end = rw goes (extended-end call unit reached pends.before at);
+      one = inl (rw goes);
+      rest_is = λ ended rest. rw (goes, append_assoc);
     }
 
 -- where there is a break before it
 breaks-run : (reached : ℕ) (call : Call) (run : Run) → Pends reached call run → (unit : UnitSeen) → goes_on call unit ≡ false → LastRun (Some call) (Some run) unit
 unfolding pending_units
 breaks-run reached call run pends unit breaks =
-    alone-run (Some call) (Some run) unit (cond-false (goes_on call unit) (extended call unit) (call_of_one unit) breaks)
-    (λ ended rest.
-    ap calls_among (runs_by-split ended run unit rest pends.unbroken (break-by reached call run pends unit ∙ ap not breaks))
-    ∙ calls_among-voice run (runs_by ended (unit ∷ rest)) pends.voice
-    ∙ ap (λ (o : Option Call). option_to_list o ++ calls_among (runs_by ended (unit ∷ rest)))
-    (ap if_linked (sym pends.is) ∙ sym (cond-false (goes_on call unit) None (if_linked call) breaks)))
+    alone-run (Some call) (Some run) unit (rw breaks)
+    (λ ended rest. rw (breaks, runs_by-split ended run unit rest pends.unbroken (rw (break-by reached call run pends unit, breaks)), calls_among-voice run (runs_by ended (unit ∷ rest)) pends.voice, pends.is))
 
 last-run-by : (reached : ℕ) (call : Call) (run : Run) → Pends reached call run → (unit : UnitSeen) → unit.place ≡ reached → (b : Bool) → goes_on call unit ≡ b → LastRun (Some call) (Some run) unit
 last-run-by reached call run pends unit at true goes = joins-run reached call run pends unit at goes

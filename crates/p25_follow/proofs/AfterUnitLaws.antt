@@ -1,19 +1,19 @@
 -- After a unit of fewer than 316 bits nothing is expected, since it is a TDU or a unit that is cut: so the 316 bits from where a unit begins come out as they are. By induction on the items.
-use Rattle.std.proofs.Common.{◌≡◌, ◌≢◌, ℕ, zero, suc, ◌+◌, ◌<◌, ◌≤◌, Bool, true, false, cond, ◌&&◌, inl, inr, List, [], ◌∷◌, ◌++◌, length, take, drop, Option, Some, None, Result, Ok, Err, refl, sym, ap, subst, ◌∙◌, arith, append_assoc, append-nil, length-append, length-drop}
-use Rattle.std.proofs.{lemmas.Bool.{cases_Bool, cases_eq, cases_lt, ne_eqb}, lemmas.List.{length-take-le, take-append-drop, take-append-le}}
+use Rattle.std.proofs.Common.{◌≡◌, ◌≢◌, ℕ, ◌+◌, ◌<◌, ◌≤◌, Bool, true, false, cond, ◌&&◌, inl, inr, List, [], ◌++◌, length, take, drop, Option, Some, None, Result, Ok, Err, refl, sym, ap, subst, ◌∙◌, arith, append_assoc, append-nil, length-append}
+use Rattle.std.proofs.{lemmas.Bool.{cases_eq, cases_lt, ne_eqb}, lemmas.List.{length-take-le, take-append-drop, take-append-le}}
 use Rattle.std.specs.{Prelude.{nat_eq, nat_lt}, Option.{option_or}}
 use Rattle.p25_status.specs.declared.fields.Field.{Field}
 use Rattle.p25_unit_front.proofs.FrontLaws.{identifier_of-fits, identifier_of-take}
 use Rattle.p25_voice_units.specs.Lengths.{voice_length_of}
 use Rattle.p25_packet_blocks.specs.{declared.head.PacketHead.{PacketHead}, Heads.{head_blocks}, Lengths.{packet_sent_length}, UnitReading.{sent_head_of}}
-use Rattle.p25_units.specs.{Items.{covered, unit_item_of}, Needs.{head_need, kind_need, length_need, voice_need}, Units.{sent_length}, declared.item.Item.{Item}}
+use Rattle.p25_units.specs.{Items.{covered, unit_item_of}, Needs.{head_need, kind_need, length_need, voice_need}, Units.{sent_length}}
 use Rattle.p25_units.specs.declared.needs.Need.TheVariants.{Length, More, NoLength}
 use Rattle.p25_units.proofs.ItemsLaws.{covered-unit_item_of}
 use Rattle.p25_units.proofs.NeedsLaws.{IsIdentified-from, head_need-bad, head_need-good, kind_need-packet, kind_need-unpacked, length_need-cases, need_of-there, packet_need-long, packet_need-short, voice_need-none, voice_need-some}
 use Rattle.p25_stream.specs.Items.{first_item, items_of}
-use Rattle.p25_stream.proofs.ItemsLaws.{covered-first_item, first_item-cases, items_by-more, items_by-nil}
+use Rattle.p25_stream.proofs.ItemsLaws.{covered-first_item, first_item-cases}
 use Rattle.p25_follow.specs.{Chains.{chain_by}, Expected.{expected_after, next_link}, Followed.{followed_by, is_rest, unit_name}, Steps.{fits_of, is_sure, step_of}, Told.{is_nothing, told_of}}
-use Rattle.p25_follow.proofs.{AlikeLaws.{Agree, agree-append, agree-less}, ChainLaws.{chain_by-none, chain_by-stop}, FollowingLaws.{followed-end, followed-rest, followed-unit}, FoundLaws.{found-unit}}
+use Rattle.p25_follow.proofs.{AlikeLaws.{Agree, agree-append, agree-less}, ChainLaws.{chain_by-none, chain_by-stop}, FollowingLaws.{along-items, followed-end, followed-rest, followed-unit}, FoundLaws.{found-unit}}
 use Rattle.p25_follow.proofs.{KindLaws.{Each}, StepLaws.{fits_of-kind}, ToldLaws.{told_of-expected}}
 
 -- ---- the units of fewer than 316 bits
@@ -170,38 +170,22 @@ agree-unit at bits later some unit quiet =
       | inr long ↦ take-append-le 316 raw rest (omega (arith, long, raw_long)) ∙ sym (take-append-le 316 raw later (omega (arith, long, raw_long)))
     ]
 
-agree-quiet : (n place : ℕ) (before : Option (ℕ × ℕ)) (stretch bits : List Bool) → length bits ≤ n → Quiet before
+agree-quiet : (place : ℕ) (before : Option (ℕ × ℕ)) (stretch bits : List Bool) → Quiet before
     → Agree (length stretch + 316) (stretch ++ bits) (followed_by true before stretch (items_of place bits) bits)
-agree-quiet n place before stretch [] few quiet =
-    ap (take (length stretch + 316))
-    (append-nil stretch
-    ∙ sym (ap (λ (items : List Item). followed_by true before stretch items []) (items_by-nil true place) ∙ followed-end true before stretch [] ∙ chain-quiet before stretch None quiet))
-agree-quiet zero place before stretch (bit ∷ rest) few quiet = absurd (omega arith)
-agree-quiet (suc n) place before stretch (bit ∷ rest) few quiet =
-    let bits = bit ∷ rest in
-    let item = first_item place bits in
-    let count = covered item in
-    let fits = covered-first_item place bits (omega arith) in
-    let raw = take count bits in
-    let left = drop count bits in
-    let items = items_of (place + count) left in
-    let later = followed_by true (unit_name item) [] items left in
-    let unfolds = ap (λ (all : List Item). followed_by true before stretch all bits) (items_by-more true place bits (omega arith) refl) in
-    elim (cases_Bool (is_rest item)) [
-      | inl none ↦
-          ap (λ (xs : List Bool). take (length stretch + 316) (stretch ++ xs)) (sym (take-append-drop count bits))
-          ∙ ap (take (length stretch + 316)) (sym (append_assoc stretch raw left))
-          ∙ agree-less (length stretch + 316) (length (stretch ++ raw) + 316) ((stretch ++ raw) ++ left) (followed_by true before (stretch ++ raw) items left)
-          (omega (arith, length-append stretch raw))
-          (agree-quiet n (place + count) before (stretch ++ raw) left (omega (arith, length-drop count bits, fits.0, fits.1)) quiet)
-          ∙ ap (take (length stretch + 316)) (sym (unfolds ∙ followed-rest true before stretch item items bits none))
-      | inr unit ↦
-          agree-append 316 stretch bits (raw ++ later)
-          (agree-unit place bits later (omega arith) unit
-          (λ next. agree-quiet n (place + count) (unit_name item) [] left (omega (arith, length-drop count bits, fits.0, fits.1)) next))
-          ∙ ap (take (length stretch + 316))
-          (sym (unfolds ∙ followed-unit true before stretch item items bits unit ∙ ap (λ (xs : List Bool). xs ++ (raw ++ later)) (chain-quiet before stretch (unit_name item) quiet)))
-    ]
+agree-quiet =
+    along-items (λ place before stretch items bits. Quiet before → Agree (length stretch + 316) (stretch ++ bits) (followed_by true before stretch items bits))
+    (λ place before stretch quiet. rw (followed-end, chain-quiet before stretch None quiet, append-nil))
+    (λ place before stretch item items bits starts rest later quiet.
+    let raw = take (covered item) bits in
+    let left = drop (covered item) bits in
+    rw (followed-rest true before stretch item items bits rest)
+    (rw (append_assoc stretch raw left, take-append-drop) at (agree-less (length stretch + 316) (length (stretch ++ raw) + 316) ((stretch ++ raw) ++ left)
+    (followed_by true before (stretch ++ raw) items left) (omega (arith, length-append stretch raw)) (later quiet))))
+    (λ place before stretch item items bits starts unit later quiet.
+    rw (followed-unit true before stretch item items bits unit, chain-quiet before stretch (unit_name item) quiet)
+    (agree-append 316 stretch bits (take (covered item) bits ++ followed_by true (unit_name item) [] items (drop (covered item) bits))
+    (rw starts.first at (agree-unit place bits (followed_by true (unit_name item) [] items (drop (covered item) bits)) (omega (arith, starts.some, starts.there)) (rw starts.first unit)
+    (rw starts.first later)))))
 
 -- the 316 bits from where a unit begins come out as they are, and what comes out of them begins alike
 pub agree-after : (at : ℕ) (bits : List Bool) → 0 < length bits → is_rest (first_item at bits) ≡ false
@@ -212,4 +196,4 @@ agree-after at bits some unit =
     let count = covered item in
     let left = drop count bits in
     agree-unit at bits (followed_by true (unit_name item) [] (items_of (at + count) left) left) some unit
-    (λ quiet. agree-quiet (length left) (at + count) (unit_name item) [] left (omega arith) quiet)
+    (λ quiet. agree-quiet (at + count) (unit_name item) [] left quiet)

@@ -1,15 +1,14 @@
 -- Bits that are as many, and the same in the first 316, need the same where they begin: so a unit that begins there is the same. By the readings of the sync, the identifier and the header.
-use Rattle.std.proofs.Common.{◌≡◌, ℕ, ◌+◌, ◌≤◌, Bool, true, false, inl, inr, List, ◌++◌, length, take, Option, Some, None, sym, ap, ap₂, ◌∙◌, arith}
+use Rattle.std.proofs.Common.{◌≡◌, ℕ, ◌+◌, ◌≤◌, Bool, true, false, inl, inr, List, ◌++◌, length, take, Option, Some, None, sym, ap, ◌∙◌, arith}
 use Rattle.std.proofs.{lemmas.Bool.{cases_Bool, cases_lt, eqb-false, eqb-true}, lemmas.List.{take-take, take_all}, Math.Seq.{take-append-add}}
 use Rattle.std.specs.Prelude.{nat_eq}
 use Rattle.p25_status.specs.Sync.{has_sync}
 use Rattle.p25_status.proofs.SyncLaws.{has_sync-take}
 use Rattle.p25_unit_front.specs.Front.{identifier_of}
 use Rattle.p25_unit_front.proofs.FrontLaws.{identifier_of-take}
-use Rattle.p25_voice_units.specs.Lengths.{voice_length_of}
 use Rattle.p25_packet_blocks.specs.UnitReading.{sent_head_of}
 use Rattle.p25_packet_blocks.proofs.UnitLaws.{sent_head_of-take}
-use Rattle.p25_units.specs.{Items.{covered, unit_item_of}, Needs.{head_need, identified_need, kind_need, need_of, voice_need}, declared.item.Item.TheVariants.{Cut}}
+use Rattle.p25_units.specs.{Items.{covered, unit_item_of}, Needs.{identified_need, kind_need, need_of}}
 use Rattle.p25_units.specs.declared.needs.Need.TheVariants.{Length, More}
 use Rattle.p25_units.proofs.ItemsLaws.{covered-unit_item_of}
 use Rattle.p25_units.proofs.NeedsLaws.{identified_need-none, identified_need-some, kind_need-packet, kind_need-unpacked, need_of-synced, packet_need-long, synced_need-long}
@@ -25,13 +24,13 @@ abbrev pub Agree : ℕ → List Bool → List Bool → Type 0
 Agree count bits others = take count bits ≡ take count others
 
 pub agree-less : (few count : ℕ) (bits others : List Bool) → few ≤ count → Agree count bits others → Agree few bits others
-agree-less few count bits others less same = sym (take-take few count bits less) ∙ ap (take few) same ∙ take-take few count others less
+agree-less few count bits others less same = rw (take-take few count bits less, take-take few count others less) at (ap (take few) same)
 
 pub agree-append : (count : ℕ) (first bits others : List Bool) → Agree count bits others → Agree (length first + count) (first ++ bits) (first ++ others)
-agree-append count first bits others same = take-append-add first bits count ∙ ap (λ (xs : List Bool). first ++ xs) same ∙ sym (take-append-add first others count)
+agree-append count first bits others same = rw (take-append-add first bits count, take-append-add first others count, same)
 
 pub agree-all : (count : ℕ) (bits others : List Bool) → length bits ≤ count → length bits ≡ length others → Agree count bits others → bits ≡ others
-agree-all count bits others few long same = sym (take_all count bits few) ∙ same ∙ take_all count others (omega (arith, few, long))
+agree-all count bits others few long same = rw (take_all count bits few, take_all count others (omega (arith, few, long))) at same
 
 pub record Alike (bits others : List Bool) : Type 0 where
   pub long : length bits ≡ length others
@@ -43,40 +42,27 @@ kind-same : (kind : ℕ) (bits others : List Bool) → 316 ≤ length bits → l
 kind-same kind bits others long as_long head =
     elim (cases_Bool (nat_eq kind 0xC)) [
       | inl packet ↦
-          let is = eqb-true kind 0xC packet in
-          ap (λ (k : ℕ). kind_need k bits) is
-          ∙ kind_need-packet bits
-          ∙ packet_need-long bits long
-          ∙ ap₂ head_need head as_long
-          ∙ sym (packet_need-long others (omega (arith, long, as_long)))
-          ∙ sym (kind_need-packet others)
-          ∙ ap (λ (k : ℕ). kind_need k others) (sym is)
+          rw (eqb-true kind 0xC packet, kind_need-packet bits, kind_need-packet others, packet_need-long bits long, packet_need-long others (omega (arith, long, as_long)), head, as_long)
       | inr other ↦
           let is_none = eqb-false kind 0xC other in
-          kind_need-unpacked kind bits is_none ∙ ap (voice_need (voice_length_of kind)) as_long ∙ sym (kind_need-unpacked kind others is_none)
+          rw (kind_need-unpacked kind bits is_none, kind_need-unpacked kind others is_none, as_long)
     ]
 
 identified-same : (read : Option (ℕ × ℕ)) (bits others : List Bool) → 316 ≤ length bits → length bits ≡ length others → sent_head_of bits ≡ sent_head_of others
     → identified_need read bits ≡ identified_need read others
-identified-same None bits others long as_long head = identified_need-none bits ∙ sym (identified_need-none others)
-identified-same (Some nid) bits others long as_long head = identified_need-some nid bits ∙ kind-same nid.1 bits others long as_long head ∙ sym (identified_need-some nid others)
+identified-same None bits others long as_long head = rw (identified_need-none bits, identified_need-none others)
+identified-same (Some nid) bits others long as_long head = rw (identified_need-some nid bits, identified_need-some nid others) (kind-same nid.1 bits others long as_long head)
 
 sync-same : (bits others : List Bool) → 316 ≤ length bits → Alike bits others → has_sync bits ≡ has_sync others
-sync-same bits others long alike =
-    sym (has_sync-take bits 316 (omega arith) long) ∙ ap has_sync alike.same ∙ has_sync-take others 316 (omega arith) (omega (arith, long, alike.long))
+sync-same bits others long alike = rw (has_sync-take bits 316 (omega arith) long, has_sync-take others 316 (omega arith) (omega (arith, long, alike.long))) at (ap has_sync alike.same)
 
 need-long : (bits others : List Bool) → 316 ≤ length bits → Alike bits others → has_sync bits ≡ true → need_of bits ≡ need_of others
 need-long bits others long alike yes' =
     let also : 316 ≤ length others = omega (arith, long, alike.long) in
-    let read : identifier_of bits ≡ identifier_of others
-    = sym (identifier_of-take 316 bits (omega arith)) ∙ ap identifier_of alike.same ∙ identifier_of-take 316 others (omega arith) in
-    let head : sent_head_of bits ≡ sent_head_of others
-    = sym (sent_head_of-take 316 bits (omega arith)) ∙ ap sent_head_of alike.same ∙ sent_head_of-take 316 others (omega arith) in
-    need_of-synced bits yes'
-    ∙ synced_need-long bits (omega (arith, long))
-    ∙ identified-same (identifier_of bits) bits others long alike.long head
-    ∙ ap (λ (r : Option (ℕ × ℕ)). identified_need r others) read
-    ∙ sym (need_of-synced others (sym (sync-same bits others long alike) ∙ yes') ∙ synced_need-long others (omega (arith, also)))
+    let read = rw (identifier_of-take 316 bits (omega arith), identifier_of-take 316 others (omega arith)) at (ap identifier_of alike.same) in
+    let head = rw (sent_head_of-take 316 bits (omega arith), sent_head_of-take 316 others (omega arith)) at (ap sent_head_of alike.same) in
+    rw (need_of-synced bits yes', need_of-synced others (sym (sync-same bits others long alike) ∙ yes'), synced_need-long bits (omega (arith, long)), synced_need-long others (omega (arith, also)), ← read)
+    (identified-same (identifier_of bits) bits others long alike.long head)
 
 -- what is there
 record SameThere (bits others : List Bool) : Type 0 where
@@ -99,7 +85,7 @@ rest-alike at other bits others long alike = place-few at other bits others long
 pub rest-begins : (at : ℕ) (bits others : List Bool) → Alike bits others → is_rest (first_item at bits) ≡ is_rest (first_item at others)
 rest-begins at bits others alike =
     elim (cases_lt (length bits) 316) [
-      | inl short ↦ ap (λ (xs : List Bool). is_rest (first_item at xs)) (agree-all 316 bits others (omega (arith, short)) alike.long alike.same)
+      | inl short ↦ rw (agree-all 316 bits others (omega (arith, short)) alike.long alike.same)
       | inr long ↦ rest-alike at at bits others long alike
     ]
 
@@ -112,11 +98,7 @@ unit-alike at bits others alike =
     let there = same-there bits others alike in
     first_item-cases (λ item. is_rest item ≡ false → Agree (covered item) bits others → first_item at others ≡ item) at bits
     (λ no' unit own. absurd (cc))
+    (λ count yes' need unit own. rw (first_item-synced at others (More count) (sym there.sync ∙ yes') (sym (there.need yes') ∙ need), alike.long))
     (λ count yes' need unit own.
-    first_item-synced at others (More count) (sym there.sync ∙ yes') (sym (there.need yes') ∙ need) ∙ ap (Cut at) (sym alike.long))
-    (λ count yes' need unit own.
-    first_item-synced at others (Length count) (sym there.sync ∙ yes') (sym (there.need yes') ∙ need)
-    ∙ ap (unit_item_of at)
-    (sym (let same : Agree count bits others
-    = ap (λ (n : ℕ). take n bits) (sym (covered-unit_item_of at bits count need)) ∙ own ∙ ap (λ (n : ℕ). take n others) (covered-unit_item_of at bits count need) in same)))
+    rw (first_item-synced at others (Length count) (sym there.sync ∙ yes') (sym (there.need yes') ∙ need)) (ap (unit_item_of at) (sym (rw (covered-unit_item_of at bits count need) at own))))
     (λ field yes' need unit own. absurd (cc))

@@ -1,22 +1,19 @@
 -- What is read of a unit behind its front is the same whatever front stands there: all that is looked at stands at place 112 or behind it.
-use Rattle.std.proofs.Common.{◌≡◌, ℕ, ◌+◌, ◌*◌, ◌≤◌, Bool, true, ◌&&◌, cond, nat_eq, nat_le, ◌||◌, List, [], ◌∷◌, ◌++◌, map, take, drop, Option, Result, Ok, Err, refl, ap, ap₂, ◌∙◌, arith}
+use Rattle.std.proofs.Common.{◌≡◌, ℕ, ◌+◌, ◌*◌, ◌≤◌, Bool, true, ◌&&◌, nat_le, List, [], ◌∷◌, map, take, drop, Option, Result, Ok, Err, refl, ap, arith}
 use Rattle.std.proofs.lemmas.Bool.Decides.{nat_tests}
 use Rattle.std.specs.{Prelude.{option_map, slice_index}, List.{flat_map}}
-use Rattle.p25_bits.specs.{Bits.{field_of, part}, Numbers.{octets_from}}
+use Rattle.p25_bits.specs.Bits.{field_of, part}
 use Rattle.p25_bits.proofs.NumbersLaws.{each_below-same, joined_below-same}
 use Rattle.p25_hamming.specs.Lsd16Laws.{lsd16_reading_of}
-use Rattle.p25_link.specs.{Words.{header_of_symbols, link_of_symbols, sync_of_symbols}, declared.link_control.LinkControl.{LinkControl}, declared.encryption.EncryptionSync.{EncryptionSync}}
 use Rattle.p25_coded_fields.specs.Layouts.{Layout, field_reading_of, outer_word_of, places_from, received_in, symbols_or_erasures}
-use Rattle.p25_status.specs.{declared.fields.Field.{Field}, declared.fields.Field.TheVariants.{LinkControl as LinkField, EncryptionSync as SyncField, Format}}
-use Rattle.p25_bch_nid.specs.Duids.{duid_hdu, duid_tdu, duid_ldu1, duid_ldu2, duid_tdulc}
-use Rattle.p25_voice_units.specs.{declared.unit.VoiceUnit.{VoiceUnit}, declared.unit.VoiceUnit.TheVariants.{End, Link1, Link2}, declared.voice.VoiceFrame.{VoiceFrame}}
+use Rattle.p25_status.specs.{declared.fields.Field.{Field}}
 use Rattle.p25_voice_units.specs.{FieldLayouts.{header_layout, link_layout, sync_layout, tdulc_layout, word_places}, Layouts.{ldu_rows}}
-use Rattle.p25_voice_units.specs.Readings.{frame_in, frame_places, header_from, header_in, ldu1_in, ldu2_in, ldu_from, link_in, low_in, low_places, sync_in, tdulc_from, voice_in, voice_reading_of}
-use Rattle.p25_packet_blocks.specs.{declared.head.PacketHead.{PacketHead}, declared.packet.Packet.{Packet}, declared.block.Slot.{Slot}}
-use Rattle.p25_packet_blocks.specs.Heads.{confirmed_format, head_blocks, head_format, plain_format, response_format}
-use Rattle.p25_packet_blocks.specs.Reading.{block_bits, confirmed_by_parts, head_from, head_reading_of, octets_read, packet_from, packet_of_head, packet_reading_of, plain_from, slot_from, slots_read}
+use Rattle.p25_voice_units.specs.Readings.{frame_in, frame_places, header_in, ldu1_in, ldu2_in, link_in, low_in, low_places, sync_in, voice_in, voice_reading_of}
+use Rattle.p25_packet_blocks.specs.{declared.head.PacketHead.{PacketHead}}
+use Rattle.p25_packet_blocks.specs.Heads.{head_blocks}
+use Rattle.p25_packet_blocks.specs.Reading.{block_bits, head_reading_of, octets_read, packet_from, packet_of_head, packet_reading_of, slot_from, slots_read}
 use Rattle.p25_trellis.specs.Nearest.{half_octets, three_quarter_octets}
-use Rattle.p25_units.specs.Readings.{body_from, body_reading_of, packet_body_from}
+use Rattle.p25_units.specs.Readings.{body_reading_of}
 use Rattle.p25_follow.proofs.StepLaws.{and_left-true, and_right-true}
 
 -- bits without status symbols are the same behind their front
@@ -42,9 +39,7 @@ module _ (first second : List Bool) (alike : AreAlikeBehind first second) where
   unfolding all_behind
   received-alike layout [] all = refl
   received-alike layout (at ∷ places) all =
-      ap₂ ◌++◌
-      (ap (λ (bits : List Bool). symbols_or_erasures layout.each (layout.inner_reading bits)) (part-alike at layout.size (first-behind at (and_left-true (nat_le 112 at) (all_behind places) all))))
-      (received-alike layout places (and_right-true (nat_le 112 at) (all_behind places) all))
+      rw (part-alike at layout.size (first-behind at (and_left-true (nat_le 112 at) (all_behind places) all)), received-alike layout places (and_right-true (nat_le 112 at) (all_behind places) all))
 
   field-alike : (layout : Layout) → all_behind layout.places ≡ true → field_reading_of layout first ≡ field_reading_of layout second
   unfolding field_reading_of outer_word_of received_in
@@ -54,12 +49,7 @@ module _ (first second : List Bool) (alike : AreAlikeBehind first second) where
   unfolding frame_in all_behind
   frames-alike [] all = refl
   frames-alike (at ∷ places) all =
-      ap₂ ◌∷◌
-      (ap (λ (bits : List Bool). frame_of bits) (alike.same at (first-behind at (and_left-true (nat_le 112 at) (all_behind places) all))))
-      (frames-alike places (and_right-true (nat_le 112 at) (all_behind places) all))
-    where
-      frame_of : List Bool → VoiceFrame
-      frame_of bits = record { 0 = octets_from 18 bits }
+      rw (alike.same at (first-behind at (and_left-true (nat_le 112 at) (all_behind places) all)), frames-alike places (and_right-true (nat_le 112 at) (all_behind places) all))
 
   voice-alike : voice_in first ≡ voice_in second
   unfolding voice_in frame_places all_behind
@@ -79,42 +69,31 @@ module _ (first second : List Bool) (alike : AreAlikeBehind first second) where
 
   header-alike : header_in first ≡ header_in second
   unfolding header_in word_places places_from all_behind
-  header-alike = ap (option_map header_of_symbols) (field-alike header_layout refl)
+  header-alike = rw (field-alike header_layout refl)
 
   link-alike : link_in link_layout first ≡ link_in link_layout second
   unfolding link_in word_places places_from all_behind
-  link-alike = ap (option_map link_of_symbols) (field-alike link_layout refl)
+  link-alike = rw (field-alike link_layout refl)
 
   tdulc-alike : link_in tdulc_layout first ≡ link_in tdulc_layout second
   unfolding link_in word_places places_from all_behind
-  tdulc-alike = ap (option_map link_of_symbols) (field-alike tdulc_layout refl)
+  tdulc-alike = rw (field-alike tdulc_layout refl)
 
   sync-alike : sync_in first ≡ sync_in second
   unfolding sync_in word_places places_from all_behind
-  sync-alike = ap (option_map sync_of_symbols) (field-alike sync_layout refl)
+  sync-alike = rw (field-alike sync_layout refl)
 
   ldu1-alike : ldu1_in first ≡ ldu1_in second
   unfolding ldu1_in
-  ldu1-alike =
-      ap (λ (voice : List VoiceFrame). ldu_from LinkField (λ (link : LinkControl) (low : List ℕ). Link1 link low voice) (link_in link_layout first) (low_in 0 first) (low_in 1 first)) voice-alike
-      ∙ ap (λ (link : Option LinkControl). ldu_from LinkField (λ (link : LinkControl) (low : List ℕ). Link1 link low (voice_in second)) link (low_in 0 first) (low_in 1 first)) link-alike
-      ∙ ap₂ (ldu_from LinkField (λ (link : LinkControl) (low : List ℕ). Link1 link low (voice_in second)) (link_in link_layout second)) (low-alike 0 low-places.0) (low-alike 1 low-places.1)
+  ldu1-alike = rw (voice-alike, link-alike, low-alike 0 low-places.0, low-alike 1 low-places.1)
 
   ldu2-alike : ldu2_in first ≡ ldu2_in second
   unfolding ldu2_in
-  ldu2-alike =
-      ap (λ (voice : List VoiceFrame). ldu_from SyncField (λ (sync : EncryptionSync) (low : List ℕ). Link2 sync low voice) (sync_in first) (low_in 0 first) (low_in 1 first)) voice-alike
-      ∙ ap (λ (sync : Option EncryptionSync). ldu_from SyncField (λ (sync : EncryptionSync) (low : List ℕ). Link2 sync low (voice_in second)) sync (low_in 0 first) (low_in 1 first)) sync-alike
-      ∙ ap₂ (ldu_from SyncField (λ (sync : EncryptionSync) (low : List ℕ). Link2 sync low (voice_in second)) (sync_in second)) (low-alike 0 low-places.0) (low-alike 1 low-places.1)
+  ldu2-alike = rw (voice-alike, sync-alike, low-alike 0 low-places.0, low-alike 1 low-places.1)
 
   voice_reading-alike : (duid : ℕ) → voice_reading_of duid first ≡ voice_reading_of duid second
   unfolding voice_reading_of
-  voice_reading-alike duid =
-      ap₂ (cond (nat_eq duid duid_hdu)) (ap header_from header-alike)
-      (ap (cond (nat_eq duid duid_tdu) (Ok End))
-      (ap₂ (cond (nat_eq duid duid_ldu1)) ldu1-alike
-      (ap₂ (cond (nat_eq duid duid_ldu2)) ldu2-alike
-      (ap (λ (unit : Result VoiceUnit (List Field)). cond (nat_eq duid duid_tdulc) unit (Err [])) (ap tdulc_from tdulc-alike)))))
+  voice_reading-alike duid = rw (header-alike, ldu1-alike, ldu2-alike, tdulc-alike)
 
   -- ---- packets
   block-alike : (j : ℕ) → block_bits first j ≡ block_bits second j
@@ -133,14 +112,11 @@ module _ (first second : List Bool) (alike : AreAlikeBehind first second) where
 
   pub head_reading-alike : head_reading_of first ≡ head_reading_of second
   unfolding head_reading_of
-  head_reading-alike = ap (λ (bits : List Bool). head_from (half_octets bits)) (part-alike 112 196 (omega arith))
+  head_reading-alike = rw (part-alike 112 196 (omega arith))
 
   of_head-alike : (head : PacketHead) → packet_of_head head first ≡ packet_of_head head second
   unfolding packet_of_head
-  of_head-alike head =
-      ap₂ (cond (nat_eq (head_format head) confirmed_format)) (ap (λ (slots : List Slot). Ok (confirmed_by_parts head slots)) (slots-alike (head_blocks head)))
-      (ap (λ (packet : Result Packet Field). cond (nat_eq (head_format head) plain_format || nat_eq (head_format head) response_format) packet (Err Format))
-      (ap (plain_from head) (octets-alike (head_blocks head))))
+  of_head-alike head = rw (slots-alike (head_blocks head), octets-alike (head_blocks head))
 
   from-alike : (head : Result PacketHead Field) → packet_from head first ≡ packet_from head second
   unfolding packet_from
@@ -149,9 +125,9 @@ module _ (first second : List Bool) (alike : AreAlikeBehind first second) where
 
   packet_reading-alike : packet_reading_of first ≡ packet_reading_of second
   unfolding packet_reading_of
-  packet_reading-alike = ap (λ (head : Result PacketHead Field). packet_from head first) head_reading-alike ∙ from-alike (head_reading_of second)
+  packet_reading-alike = rw (head_reading-alike, from-alike (head_reading_of second))
 
   -- what a unit carries, or the fields of it that fail
   pub body_reading-alike : (duid : ℕ) → body_reading_of duid first ≡ body_reading_of duid second
   unfolding body_reading_of
-  body_reading-alike duid = ap₂ (cond (nat_eq duid 0xC)) (ap packet_body_from packet_reading-alike) (ap body_from (voice_reading-alike duid))
+  body_reading-alike duid = rw (packet_reading-alike, voice_reading-alike duid)

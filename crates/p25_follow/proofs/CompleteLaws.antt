@@ -1,13 +1,14 @@
 -- In a stretch, directly after a unit that is found or whose front is written, a unit that may come and whose identifier is near comes out with its front. By the units that are written before it.
-use Rattle.std.proofs.Common.{◌≡◌, ℕ, ◌+◌, ◌-◌, ◌<◌, ◌≤◌, Bool, true, List, [], ◌∷◌, ◌++◌, length, take, drop, Option, Some, refl, sym, ap, subst, ◌∙◌, arith, length-drop}
+use Rattle.std.proofs.Common.{◌≡◌, ℕ, ◌+◌, ◌-◌, ◌<◌, ◌≤◌, Bool, true, List, [], ◌∷◌, ◌++◌, length, take, drop, Option, Some, refl, sym, ◌∙◌, arith, length-drop}
 use Rattle.std.proofs.lemmas.List.{drop-drop, length-take-le, take_at}
 use Rattle.p25_bits.specs.Bits.{part}
 use Rattle.p25_bits.proofs.PartLaws.{length-part, part-drop, part-part, part_right}
 use Rattle.p25_units.specs.Items.{covered}
+use Rattle.p25_stream.proofs.{ItemLaws.{item-among}, WrittenLaws.{items-there}}
 use Rattle.p25_follow.specs.{Chains.{chain_by, with_front}, Expected.{is_expected, kind_length}, Followed.{follow_of}, FollowedUnits.{IsWrittenUpTo, end_name}, RecordingLaws.{CompleteInStretches}}
 use Rattle.p25_follow.specs.{StretchLaws.{bits_in}, Told.{name_errors_of}}
 use Rattle.p25_follow.proofs.{ChainLaws.{chain_by-step}, KindLaws.{IsKind, expected-kinds, is_expected-all}, LengthLaws.{length-with_front}, StepLaws.{step_of-there}}
-use Rattle.p25_follow.proofs.{StretchesLaws.{bits_in-append, bits_in-fit, bits_in-more, by-stretches}, TellsLaws.{step-near}}
+use Rattle.p25_follow.proofs.{StretchesLaws.{by-stretches}, TellsLaws.{step-near}}
 
 -- a unit that may come after one with a network access code (NAC) and a kind
 module _ (nac last kind : ℕ) (nac_fits : nac < 4096) (may : is_expected last kind ≡ true) where
@@ -22,20 +23,14 @@ module _ (nac last kind : ℕ) (nac_fits : nac < 4096) (may : is_expected last k
       let raw_long : length raw ≡ count = length-take-le count bits there in
       let unit = with_front (nac, kind) raw in
       let unit_long : length unit ≡ count = length-with_front (nac, kind) raw (omega (arith, raw_long, known.few)) ∙ raw_long in
-      let next = chain_by true (Some (nac, kind)) (drop count bits) end in
-      let steps = step-near nac last kind bits end nac_fits (omega (arith, known.fits)) may (omega (arith, known.few)) there near in
-      ap (part 0 count) (chain_by-step true (nac, last) bits end kind refl steps) ∙ take_at unit next count unit_long
+      rw (chain_by-step true (nac, last) bits end kind refl (step-near nac last kind bits end nac_fits (omega (arith, known.fits)) may (omega (arith, known.few)) there near))
+      (take_at unit (chain_by true (Some (nac, kind)) (drop count bits) end) count unit_long)
 
   after-written : (kinds : List ℕ) (before : ℕ × ℕ) (bits : List Bool) (end : Option (ℕ × ℕ)) (place : ℕ) → IsWrittenUpTo kinds before bits end place (nac, last)
       → place + kind_length kind ≤ length bits → name_errors_of (nac, kind) (drop place bits) ≤ 11
       → part place (kind_length kind) (chain_by true (Some before) bits end) ≡ with_front (nac, kind) (part place (kind_length kind) bits)
   unfolding IsWrittenUpTo
-  after-written [] before bits end place is there near =
-      let count = kind_length kind in
-      let here : name_errors_of (nac, kind) (drop 0 bits) ≤ 11 = subst (λ (p : ℕ). name_errors_of (nac, kind) (drop p bits) ≤ 11) is.0 near in
-      let first = at_first bits end (omega (arith, there)) here in
-      subst (λ (p : ℕ). part p count (chain_by true (Some before) bits end) ≡ with_front (nac, kind) (part p count bits)) (sym is.0)
-      (subst (λ (name : ℕ × ℕ). part 0 count (chain_by true (Some name) bits end) ≡ with_front (nac, kind) (part 0 count bits)) (sym is.1) first)
+  after-written [] before bits end place is there near = rw (is.0, is.1) (at_first bits end (omega (arith, there)) (rw is.0 at near))
   after-written (other ∷ kinds) before bits end place is there near =
       let count = kind_length kind in
       let length_of = kind_length other in
@@ -49,13 +44,9 @@ module _ (nac last kind : ℕ) (nac_fits : nac < 4096) (may : is_expected last k
       let next = chain_by true (Some name) left end in
       let less = place - length_of in
       let split : length_of + less ≡ place = omega (arith, is.1) in
-      let later = after-written kinds name left end less is.2 (omega (arith, there, split, length-drop length_of bits))
-      (subst (λ (xs : List Bool). name_errors_of (nac, kind) xs ≤ 11) (sym (drop-drop less length_of bits ∙ ap (λ (p : ℕ). drop p bits) split)) near) in
-      ap (part place count) (chain_by-step true before bits end other refl is.0)
-      ∙ part_right place count unit next (omega (arith, unit_long, is.1))
-      ∙ ap (λ (p : ℕ). part p count next) (let same : place - length unit ≡ less = omega (arith, unit_long) in same)
-      ∙ later
-      ∙ ap (with_front (nac, kind)) (part-drop less count length_of bits ∙ ap (λ (p : ℕ). part p count bits) split)
+      let later = after-written kinds name left end less is.2 (omega (arith, there, split, length-drop length_of bits)) (rw (drop-drop, split) near) in
+      rw (chain_by-step true before bits end other refl is.0)
+      (part_right place count unit next (omega (arith, unit_long, is.1)) ∙ rw (unit_long, later, part-drop less count length_of bits, split))
 
 pub complete-in : CompleteInStretches
 complete-in bits first unit stretch after is is_unit all no' kinds name place nac last kind named written nac_fits may there near =
@@ -63,11 +54,19 @@ complete-in bits first unit stretch after is is_unit all no' kinds name place na
     let n = bits_in stretch in
     let count = kind_length kind in
     let s = part start n bits in
-    let fits = bits_in-fit 0 bits (first ++ (unit ∷ (stretch ++ after))) is in
+    let there_in = item-among true 0 bits first unit (stretch ++ after) is in
     let enough : start + n ≤ length bits
-    = omega (arith, fits, bits_in-append first (unit ∷ (stretch ++ after)), bits_in-more unit (stretch ++ after), bits_in-append stretch after) in
+    = omega (
+      arith,
+      items-there stretch after true (0 + bits_in first + covered unit) (drop (covered unit) (drop (bits_in first) bits)) (sym there_in.2),
+      length-drop (covered unit) (drop (bits_in first) bits),
+      length-drop (bits_in first) bits,
+    ) in
     let s_long : length s ≡ n = length-part start n bits enough in
-    sym (part-part start n place count (follow_of bits) there)
-    ∙ ap (part place count) ((by-stretches bits first unit stretch after is is_unit all no').1 ∙ ap (λ (o : Option (ℕ × ℕ)). chain_by true o s (end_name after)) named)
-    ∙ after-written nac last kind nac_fits may kinds name s (end_name after) place written (omega (arith, there, s_long)) near
-    ∙ ap (with_front (nac, kind)) (part-part start n place count bits there)
+    rw (
+      ← part-part start n place count (follow_of bits) there,
+      (by-stretches bits first unit stretch after is is_unit all no').1,
+      named,
+      after-written nac last kind nac_fits may kinds name s (end_name after) place written (omega (arith, there, s_long)) near,
+      part-part start n place count bits there,
+    )

@@ -1,9 +1,9 @@
 -- Where a front is written a unit begins for the scan, of this name and this length: the bits of its sync and of its identifier stand where the scan reads them.
-use Rattle.std.proofs.Common.{◌≡◌, ℕ, ◌<◌, ◌≤◌, Bool, true, false, List, ◌++◌, length, take, drop, Option, Some, None, Result, Ok, Err, refl, sym, ap, ap₂, subst, ◌∙◌, arith, append_assoc, length-append, length-drop}
-use Rattle.std.proofs.lemmas.List.{drop-drop, drop_at, length-take-le, take-append-drop, take-append-le, take-take, take_at}
+use Rattle.std.proofs.Common.{◌≡◌, ℕ, ◌<◌, ◌≤◌, Bool, true, false, List, ◌++◌, length, take, drop, Option, Some, None, Result, Ok, Err, refl, ap, ◌∙◌, arith, append_assoc, length-append, length-drop}
+use Rattle.std.proofs.lemmas.List.{drop-drop, length-take-le, take-append-drop, take-append-le, take-take, take_at}
 use Rattle.std.specs.Option.{unwrap_or}
 use Rattle.p25_bits.specs.{Bits.{part}, Distance.{distance_of}}
-use Rattle.p25_bits.proofs.{DistanceLaws.{distance_of-same}, PartLaws.{part-take}}
+use Rattle.p25_bits.proofs.{DistanceLaws.{distance_of-same}, PartLaws.{part-take, part_joined}}
 use Rattle.p25_bch_nid.specs.NidWord.{nid_word}
 use Rattle.p25_status.specs.{Sync.{has_sync, sync_bits}, Woven.{bare_of, statuses_of}, declared.fields.Field.{Field}}
 use Rattle.p25_status.proofs.SyncLaws.{has_sync-append, has_sync-yes}
@@ -32,48 +32,38 @@ module _ (nac kind : ℕ) (bits : List Bool) (long : 114 ≤ length bits) where
   unfolding with_front
   written-sync =
       let front = unit_front nac kind in
-      take-append-le 48 (take 70 front) (part 70 2 bits ++ (drop 70 front ++ drop 114 bits)) (omega (arith, front_first))
-      ∙ take-take 48 70 front (omega arith)
-      ∙ take-unit_front nac kind
+      rw (take-append-le 48 (take 70 front) (part 70 2 bits ++ (drop 70 front ++ drop 114 bits)) (omega (arith, front_first)), take-take 48 70 front (omega arith)) (take-unit_front nac kind)
 
   before-symbol : part 48 22 (with_front (nac, kind) bits) ≡ take 22 (nid_word nac kind)
   unfolding with_front
   before-symbol =
       let front = unit_front nac kind in
       let rest = part 70 2 bits ++ (drop 70 front ++ drop 114 bits) in
-      sym (part-take 48 22 70 (take 70 front ++ rest) (omega arith))
-      ∙ ap (part 48 22) (take_at (take 70 front) rest 70 front_first)
-      ∙ part-take 48 22 70 front (omega arith)
-      ∙ ap (take 22) (drop-unit_front nac kind)
+      rw (← part-take 48 22 70 (take 70 front ++ rest) (omega arith), take_at (take 70 front) rest 70 front_first, part-take 48 22 70 front (omega arith), drop-unit_front nac kind)
 
   behind-symbol : part 72 42 (with_front (nac, kind) bits) ≡ drop 22 (nid_word nac kind)
   unfolding with_front
   behind-symbol =
       let front = unit_front nac kind in
       let first = take 70 front ++ part 70 2 bits in
-      let second = drop 70 front ++ drop 114 bits in
       let place : length first ≡ 72 = omega (arith, length-append (take 70 front) (part 70 2 bits), front_first, front_symbol) in
       let last : length (drop 70 front) ≡ 42 = omega (arith, length-drop 70 front, length-unit_front nac kind) in
-      ap (part 72 42) (sym (append_assoc (take 70 front) (part 70 2 bits) second))
-      ∙ ap (take 42) (drop_at first second 72 place)
-      ∙ take_at (drop 70 front) (drop 114 bits) 42 last
-      ∙ sym (drop-drop 22 48 front)
-      ∙ ap (drop 22) (drop-unit_front nac kind)
+      rw (← append_assoc (take 70 front), part_joined 72 42 first (drop 70 front) (drop 114 bits) place last, ← drop-unit_front nac kind, drop-drop)
 
   written-identifier : identifier_bits (with_front (nac, kind) bits) ≡ nid_word nac kind
   unfolding identifier_bits
-  written-identifier = ap₂ (λ (xs ys : List Bool). xs ++ ys) before-symbol behind-symbol ∙ take-append-drop 22 (nid_word nac kind)
+  written-identifier = rw (before-symbol, behind-symbol, take-append-drop)
 
   pub written-synced : has_sync (with_front (nac, kind) bits) ≡ true
   written-synced =
-      let none : distance_of (take 48 (with_front (nac, kind) bits)) sync_bits ≡ 0 = ap (λ (xs : List Bool). distance_of xs sync_bits) written-sync ∙ distance_of-same sync_bits in
+      let none : distance_of (take 48 (with_front (nac, kind) bits)) sync_bits ≡ 0 = rw (written-sync, distance_of-same) in
       has_sync-yes (with_front (nac, kind) bits) (omega (arith, length-with_front (nac, kind) bits long)) (omega (arith, none))
 
   pub written-reads : nac < 4096 → kind < 16 → identifier_of (with_front (nac, kind) bits) ≡ Some (nac, kind)
   written-reads nac_fits kind_fits =
       let word = take 63 (nid_word nac kind) in
       let none : distance_of (take 63 (identifier_bits (with_front (nac, kind) bits))) word ≡ 0
-      = ap (λ (xs : List Bool). distance_of (take 63 xs) word) written-identifier ∙ distance_of-same word in
+      = rw (written-identifier, distance_of-same) in
       identifier_of-near nac kind (with_front (nac, kind) bits) nac_fits kind_fits (omega (arith, length-with_front (nac, kind) bits long)) (omega (arith, none))
 
 -- ---- the kind of a voice unit
@@ -89,7 +79,7 @@ voice-by kind (Some bare) is long few = record { bare = bare; is = is; long = lo
 
 kind_length-found : (kind : ℕ) (found : Option ℕ) → voice_length_of kind ≡ found → kind_length kind ≡ sent_length (unwrap_or found 0)
 unfolding kind_length
-kind_length-found kind found is = ap (λ (o : Option ℕ). sent_length (unwrap_or o 0)) is
+kind_length-found kind found is = rw is
 
 IsVoice-kind : (kind : ℕ) → 144 ≤ kind_length kind → IsVoice kind
 IsVoice-kind kind few = voice-by kind (voice_length_of kind) refl (kind_length-found kind (voice_length_of kind) refl) few
@@ -110,7 +100,7 @@ found-by place nid sent (Err fields) is = record { name_is = refl; unit = refl }
 
 pub found-unit : (place : ℕ) (nid : ℕ × ℕ) (sent : List Bool) → identifier_of sent ≡ Some nid → IsFoundAs nid (length sent) (unit_item_of place sent)
 found-unit place nid sent reads =
-    subst (IsFoundAs nid (length sent)) (sym (unit_item_of-some place sent nid (frame_from nid.0 (statuses_of sent) (body_reading_of nid.1 (bare_of sent))) reads (reading_from-some nid sent)))
+    rw (unit_item_of-some place sent nid (frame_from nid.0 (statuses_of sent) (body_reading_of nid.1 (bare_of sent))) reads (reading_from-some nid sent))
     (found-by place nid sent (body_reading_of nid.1 (bare_of sent)) refl)
 
 pub record IsWrittenUnit (place nac kind : ℕ) (unit all : List Bool) : Type 0 where
@@ -132,12 +122,14 @@ written-found place nac kind bits more nac_fits few kind_fits long =
     let synced : has_sync all ≡ true = has_sync-append unit more (omega (arith, unit_long, few)) ∙ written-synced nac kind bits enough in
     let voice = IsVoice-kind kind few in
     let need : need_of all ≡ Length count
-    = need_of-synced all synced
-    ∙ synced_need-read all (Some (nac, kind)) (omega (arith, length-append unit more, unit_long, few)) (identifier_of-append unit more (omega (arith, unit_long, few)) ∙ reads)
-    ∙ identified_need-some (nac, kind) all
-    ∙ kind_need-voice kind voice.bare all voice.is
-    ∙ length_need-there (sent_length voice.bare) (length all) (omega (arith, length-append unit more, unit_long, voice.long))
-    ∙ ap Length (sym voice.long) in
+    = rw (
+      need_of-synced all synced,
+      synced_need-read all (Some (nac, kind)) (omega (arith, length-append unit more, unit_long, few)) (identifier_of-append unit more (omega (arith, unit_long, few)) ∙ reads),
+      identified_need-some (nac, kind) all,
+      kind_need-voice kind voice.bare all voice.is,
+      length_need-there (sent_length voice.bare) (length all) (omega (arith, length-append unit more, unit_long, voice.long)),
+      voice.long,
+    ) in
     let item = first_item-synced place all (Length count) synced need in
     let own : take count all ≡ unit = take_at unit more count unit_long in
     let found = found-unit place (nac, kind) unit reads in

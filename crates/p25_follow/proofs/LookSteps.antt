@@ -1,7 +1,7 @@
 -- A step, and what is sure, by a look: where a unit fits the look the identifier tells, and where nothing is told the links do.
-use Rattle.std.proofs.Common.{◌≡◌, ℕ, zero, suc, ◌-◌, ◌<◌, ◌≤◌, Bool, true, false, cond, ◌&&◌, ◌||◌, List, [], length, drop, Option, Some, None, refl, sym, ap, ap₂, ◌∙◌, arith}
+use Rattle.std.proofs.Common.{◌≡◌, ℕ, zero, suc, ◌-◌, ◌<◌, ◌≤◌, Bool, true, false, cond, ◌&&◌, ◌||◌, List, [], length, drop, Option, Some, None, refl, ◌∙◌, arith}
 use Rattle.std.proofs.lemmas.Bool.{le-leb, lt-leb, lt-ltb}
-use Rattle.std.specs.{Prelude.{nat_le, nat_lt}, Option.{is_some, option_or}}
+use Rattle.std.specs.{Prelude.{nat_le}, Option.{is_some, option_or}}
 use Rattle.p25_follow.specs.{declared.told.Look.{Look}, declared.told.Told.{Told}, declared.told.Told.TheVariants.{Expected, Other, Nothing}, Expected.{next_link}, Looks.{is_read, told_by_look}}
 use Rattle.p25_follow.specs.{Steps.{fits_by, fits_of, is_end, is_sure, step_of, true_of}, Told.{is_nothing, told_of}}
 use Rattle.p25_follow.proofs.StepLaws.{and_left-true, is_sure-suc, is_sure-zero}
@@ -61,10 +61,10 @@ sure-end (suc links) before end = refl
 module _ (before : ℕ × ℕ) (bits : List Bool) (end : Option (ℕ × ℕ)) (look : Look) (some : 0 < length bits) (is : told_of before bits ≡ told_by_look look (is_read bits)) where
   fits-by : fits_of before bits ≡ fits_by bits (told_by_look look (is_read bits))
   unfolding fits_of
-  fits-by = ap (fits_by bits) is
+  fits-by = rw is
 
   something : is_nothing look.told ≡ false → is_nothing (told_of before bits) ≡ false
-  something told = ap is_nothing is ∙ look-something look (is_read bits) told
+  something told = rw is (look-something look (is_read bits) told)
 
   unfit : fits_by bits look.told ≡ None → fits_of before bits ≡ None
   unfit none = fits-by ∙ look-unfit bits look (is_read bits) none
@@ -72,38 +72,30 @@ module _ (before : ℕ × ℕ) (bits : List Bool) (end : Option (ℕ × ℕ)) (l
   -- where something is told the links do not matter
   step-something : is_nothing look.told ≡ false → step_of before bits end ≡ fits_of before bits
   unfolding step_of
-  step-something told =
-      ap (λ (b : Bool). option_or (fits_of before bits) (cond (nat_lt 0 (length bits) && b && is_sure 3 before bits end) (next_link before.1) None)) (something told)
-      ∙ ap (λ (b : Bool). option_or (fits_of before bits) (cond (b && is_sure 3 before bits end) (next_link before.1) None)) (and-false (nat_lt 0 (length bits)))
-      ∙ or-none (fits_of before bits)
+  step-something told = rw (something told, and-false, or-none)
 
   sure-something : (links : ℕ) → is_nothing look.told ≡ false → is_sure links before bits end ≡ is_some (fits_of before bits)
   sure-something zero told = is_sure-zero before bits end some
-  sure-something (suc links) told =
-      is_sure-suc links before bits end some
-      ∙ ap
-      (λ (b : Bool). is_some (fits_of before bits) || (b && nat_le 1728 (length bits) && true_of (λ kind. is_sure links (before.0, kind) (drop 1728 bits) end) (next_link before.1)))
-      (something told)
-      ∙ or-false (is_some (fits_of before bits))
+  sure-something (suc links) told = rw (is_sure-suc links before bits end some, something told, or-false)
 
   -- a unit that fits, unless its identifier reads as another
   pub step-fit : (told : Told) (answer : Option ℕ) → is_some (fits_by bits look.told) ≡ true → told ≡ told_by_look look (is_read bits) → answer ≡ fits_by bits told → answer ≡ step_of before bits end
   step-fit told answer test is_told is_answer =
       let fit = some-from_test (fits_by bits look.told) test in
-      is_answer ∙ ap (fits_by bits) is_told ∙ sym fits-by ∙ sym (step-something (fit-something bits look.told fit.0 fit.1))
+      rw (is_answer, is_told, step-something (fit-something bits look.told fit.0 fit.1), fits-by)
 
   pub sure-fit : (links : ℕ) (told : Told) (answer : Option ℕ) → is_some (fits_by bits look.told) ≡ true → told ≡ told_by_look look (is_read bits) → answer ≡ fits_by bits told
       → is_some answer ≡ is_sure links before bits end
   sure-fit links told answer test is_told is_answer =
       let fit = some-from_test (fits_by bits look.told) test in
-      ap is_some (is_answer ∙ ap (fits_by bits) is_told ∙ sym fits-by) ∙ sym (sure-something links (fit-something bits look.told fit.0 fit.1))
+      rw (is_answer, is_told, sure-something links (fit-something bits look.told fit.0 fit.1), fits-by)
 
   -- a unit that does not fit
   pub step-unfit : is_some (fits_by bits look.told) ≡ false → is_nothing look.told ≡ false → None ≡ step_of before bits end
-  step-unfit test told = sym (step-something told ∙ unfit (none-from_test (fits_by bits look.told) test))
+  step-unfit test told = rw (step-something told, unfit (none-from_test (fits_by bits look.told) test))
 
   pub sure-unfit : (links : ℕ) → is_some (fits_by bits look.told) ≡ false → is_nothing look.told ≡ false → false ≡ is_sure links before bits end
-  sure-unfit links test told = sym (sure-something links told ∙ ap is_some (unfit (none-from_test (fits_by bits look.told) test)))
+  sure-unfit links test told = rw (sure-something links told, unfit (none-from_test (fits_by bits look.told) test))
 
   -- ---- where nothing is told
 
@@ -111,35 +103,24 @@ module _ (before : ℕ × ℕ) (bits : List Bool) (end : Option (ℕ × ℕ)) (l
   after links = true_of (λ kind. is_sure links (before.0, kind) (drop 1728 bits) end) (next_link before.1)
 
   sure-by : (links : ℕ) → fits_of before bits ≡ None → is_sure (suc links) before bits end ≡ (is_nothing (told_of before bits) && nat_le 1728 (length bits) && after links)
-  sure-by links none =
-      is_sure-suc links before bits end some
-      ∙ ap (λ (fits : Option ℕ). is_some fits || (is_nothing (told_of before bits) && nat_le 1728 (length bits) && after links)) none
+  sure-by links none = rw (is_sure-suc links before bits end some, none)
 
   pub sure-no_links : is_some (fits_by bits look.told) ≡ false → false ≡ is_sure 0 before bits end
-  sure-no_links test = sym (is_sure-zero before bits end some ∙ ap is_some (unfit (none-from_test (fits_by bits look.told) test)))
+  sure-no_links test = rw (is_sure-zero before bits end some, unfit (none-from_test (fits_by bits look.told) test))
 
   sure-not : (links : ℕ) → fits_of before bits ≡ None → after links ≡ false → false ≡ is_sure (suc links) before bits end
-  sure-not links none ends =
-      sym (sure-by links none ∙ ap (λ (b : Bool). is_nothing (told_of before bits) && nat_le 1728 (length bits) && b) ends ∙ and-false (is_nothing (told_of before bits) && nat_le 1728 (length bits)))
+  sure-not links none ends = rw (sure-by links none, ends, and-false)
 
   pub sure-short : (links : ℕ) → is_some (fits_by bits look.told) ≡ false → length bits < 1728 → false ≡ is_sure links before bits end
   sure-short zero test short = sure-no_links test
-  sure-short (suc links) test short =
-      sym
-      (sure-by links (unfit (none-from_test (fits_by bits look.told) test))
-      ∙ ap (λ (b : Bool). is_nothing (told_of before bits) && b && after links) (lt-leb 1728 (length bits) short)
-      ∙ ap (λ (b : Bool). b && after links) (and-false (is_nothing (told_of before bits))))
+  sure-short (suc links) test short = rw (sure-by links (unfit (none-from_test (fits_by bits look.told) test)), lt-leb 1728 (length bits) short, and-false)
 
   pub sure-unlinked : (links : ℕ) → is_some (fits_by bits look.told) ≡ false → next_link before.1 ≡ None → false ≡ is_sure links before bits end
   sure-unlinked zero test none = sure-no_links test
-  sure-unlinked (suc links) test none =
-      sure-not links (unfit (none-from_test (fits_by bits look.told) test)) (ap (true_of (λ kind. is_sure links (before.0, kind) (drop 1728 bits) end)) none)
+  sure-unlinked (suc links) test none = sure-not links (unfit (none-from_test (fits_by bits look.told) test)) (rw none)
 
   after-is : (links kind : ℕ) (next : ℕ × ℕ) (later : Bool) → next_link before.1 ≡ Some kind → next ≡ (before.0, kind) → later ≡ is_sure links next (drop 1728 bits) end → after links ≡ later
-  after-is links kind next later link same is_later =
-      ap (true_of (λ k. is_sure links (before.0, k) (drop 1728 bits) end)) link
-      ∙ ap (λ (name : ℕ × ℕ). is_sure links name (drop 1728 bits) end) (sym same)
-      ∙ sym is_later
+  after-is links kind next later link same is_later = rw (link, is_later, same)
 
   pub sure-not_after : (links kind : ℕ) (next : ℕ × ℕ) (later : Bool) → 0 < links → is_some (fits_by bits look.told) ≡ false → next_link before.1 ≡ Some kind → next ≡ (before.0, kind)
       → later ≡ is_sure (links - 1) next (drop 1728 bits) end → later ≡ false → false ≡ is_sure links before bits end
@@ -147,7 +128,7 @@ module _ (before : ℕ × ℕ) (bits : List Bool) (end : Option (ℕ × ℕ)) (l
   sure-not_after (suc links) kind next later more test link same is_later ends =
       let less : suc links - 1 ≡ links = omega arith in
       sure-not links (unfit (none-from_test (fits_by bits look.told) test))
-      (after-is links kind next later link same (is_later ∙ ap (λ (n : ℕ). is_sure n next (drop 1728 bits) end) less) ∙ ends)
+      (after-is links kind next later link same (rw less at is_later) ∙ ends)
 
   pub sure-after : (links kind : ℕ) (next : ℕ × ℕ) (later : Bool) (told : Told) (answer : Bool) → 0 < links → is_some (fits_by bits look.told) ≡ false → 1728 ≤ length bits
       → next_link before.1 ≡ Some kind → next ≡ (before.0, kind) → later ≡ is_sure (links - 1) next (drop 1728 bits) end → later ≡ true → told ≡ told_by_look look (is_read bits)
@@ -156,15 +137,17 @@ module _ (before : ℕ × ℕ) (bits : List Bool) (end : Option (ℕ × ℕ)) (l
   sure-after zero kind next later told answer more test long link same is_later goes is_told is_answer = absurd (omega arith)
   sure-after (suc links) kind next later told answer more test long link same is_later goes is_told is_answer =
       let less : suc links - 1 ≡ links = omega arith in
-      let nothing = is_nothing (told_of before bits) in
-      is_answer
-      ∙ ap is_nothing (is_told ∙ sym is)
-      ∙ sym
-      (sure-by links (unfit (none-from_test (fits_by bits look.told) test))
-      ∙ ap₂ (λ (a b : Bool). nothing && a && b) (le-leb 1728 (length bits) long)
-      (after-is links kind next later link same (is_later ∙ ap (λ (n : ℕ). is_sure n next (drop 1728 bits) end) less) ∙ goes)
-      ∙ and-true (nothing && true)
-      ∙ and-true nothing)
+      rw (
+        is_answer,
+        is_told,
+        ← is,
+        sure-by links (unfit (none-from_test (fits_by bits look.told) test)),
+        le-leb 1728 (length bits) long,
+        after-is links kind next later link same (rw less at is_later),
+        goes,
+        and-true,
+        and-true,
+      )
 
   -- a step over a link is one that is sure
   pub step-sure : (answer : Option ℕ) → is_some (fits_by bits look.told) ≡ false → is_sure 3 before bits end ≡ true → answer ≡ next_link before.1 → answer ≡ step_of before bits end
@@ -172,19 +155,12 @@ module _ (before : ℕ × ℕ) (bits : List Bool) (end : Option (ℕ × ℕ)) (l
   step-sure answer test sure link =
       let none = unfit (none-from_test (fits_by bits look.told) test) in
       let nothing = is_nothing (told_of before bits) in
-      let all : (nothing && nat_le 1728 (length bits) && after 2) ≡ true = sym (sure-by 2 none) ∙ sure in
+      let all = rw (sure-by 2 none) at sure in
       let told : nothing ≡ true = and_left-true nothing (nat_le 1728 (length bits)) (and_left-true (nothing && nat_le 1728 (length bits)) (after 2) all) in
-      link
-      ∙ sym
-      (ap (λ (fits : Option ℕ). option_or fits (cond (nat_lt 0 (length bits) && nothing && is_sure 3 before bits end) (next_link before.1) None)) none
-      ∙ ap₂ (λ (a b : Bool). cond (a && b) (next_link before.1) None) (ap₂ (λ (a b : Bool). a && b) (lt-ltb 0 (length bits) some) told) sure)
+      rw (link, none, lt-ltb 0 (length bits) some, told, sure)
 
   pub step-unsure : is_some (fits_by bits look.told) ≡ false → is_sure 3 before bits end ≡ false → None ≡ step_of before bits end
   unfolding step_of
   step-unsure test unsure =
       let none = unfit (none-from_test (fits_by bits look.told) test) in
-      let first = nat_lt 0 (length bits) && is_nothing (told_of before bits) in
-      sym
-      (ap (λ (fits : Option ℕ). option_or fits (cond (first && is_sure 3 before bits end) (next_link before.1) None)) none
-      ∙ ap (λ (b : Bool). cond (first && b) (next_link before.1) None) unsure
-      ∙ ap (λ (b : Bool). cond b (next_link before.1) None) (and-false first))
+      rw (none, unsure, and-false)

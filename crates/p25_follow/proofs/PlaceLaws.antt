@@ -1,6 +1,6 @@
 -- Whether a unit begins at a place hangs on 316 bits alone: on the sync, the identifier and the header of a packet. By the cases of what is needed there.
-use Rattle.std.proofs.Common.{◌≡◌, ℕ, ◌≤◌, Bool, true, false, cond, inl, inr, List, length, take, Option, Some, None, Result, Ok, Err, refl, sym, ap, ap₂, ◌∙◌, arith}
-use Rattle.std.proofs.lemmas.Bool.{cases_Bool, cond-false, cond-true, eqb-false, eqb-true}
+use Rattle.std.proofs.Common.{◌≡◌, ℕ, ◌≤◌, Bool, true, false, cond, inl, inr, List, length, take, Option, Some, None, Result, Ok, Err, refl, ap, arith}
+use Rattle.std.proofs.lemmas.Bool.{cases_Bool, eqb-false, eqb-true}
 use Rattle.std.specs.Prelude.{nat_eq}
 use Rattle.p25_status.specs.{Sync.{has_sync}, declared.fields.Field.{Field}}
 use Rattle.p25_status.proofs.SyncLaws.{has_sync-take}
@@ -42,57 +42,43 @@ synced-rest at bits (Length count) is = unit-there at count bits is
 synced-rest at bits (NoLength field) is = refl
 
 head-rest : (reading : Result PacketHead Field) (have : ℕ) → need_rest (head_need reading have) ≡ head_rest reading
-head-rest (Err field) have = ap need_rest (head_need-bad field have)
+head-rest (Err field) have = rw head_need-bad
 head-rest (Ok head) have =
-    ap need_rest (head_need-good head have)
-    ∙ length_need-cases (λ need. need_rest need ≡ false) (packet_sent_length (head_blocks head)) have (λ short. refl) (λ long. refl)
+    rw (head_need-good head have) (length_need-cases (λ need. need_rest need ≡ false) (packet_sent_length (head_blocks head)) have (λ short. refl) (λ long. refl))
 
 voice-rest : (found : Option ℕ) (have : ℕ) → need_rest (voice_need found have) ≡ voice_rest found
-voice-rest None have = ap need_rest (voice_need-none have)
-voice-rest (Some bare) have = ap need_rest (voice_need-some bare have) ∙ length_need-cases (λ need. need_rest need ≡ false) (sent_length bare) have (λ short. refl) (λ long. refl)
+voice-rest None have = rw voice_need-none
+voice-rest (Some bare) have = rw (voice_need-some bare have) (length_need-cases (λ need. need_rest need ≡ false) (sent_length bare) have (λ short. refl) (λ long. refl))
 
 kind-rest : (kind : ℕ) (bits : List Bool) → 316 ≤ length bits → need_rest (kind_need kind bits) ≡ cond (nat_eq kind 0xC) (head_rest (sent_head_of bits)) (voice_rest (voice_length_of kind))
 kind-rest kind bits long =
     elim (cases_Bool (nat_eq kind 0xC)) [
       | inl packet ↦
-          ap (λ (k : ℕ). need_rest (kind_need k bits)) (eqb-true kind 0xC packet)
-          ∙ ap need_rest (kind_need-packet bits ∙ packet_need-long bits long)
-          ∙ head-rest (sent_head_of bits) (length bits)
-          ∙ sym (cond-true (nat_eq kind 0xC) (head_rest (sent_head_of bits)) (voice_rest (voice_length_of kind)) packet)
-      | inr other ↦
-          ap need_rest (kind_need-unpacked kind bits (eqb-false kind 0xC other))
-          ∙ voice-rest (voice_length_of kind) (length bits)
-          ∙ sym (cond-false (nat_eq kind 0xC) (head_rest (sent_head_of bits)) (voice_rest (voice_length_of kind)) other)
+          rw (eqb-true kind 0xC packet, kind_need-packet, packet_need-long bits long) (head-rest (sent_head_of bits) (length bits))
+      | inr other ↦ rw (other, kind_need-unpacked kind bits (eqb-false kind 0xC other)) (voice-rest (voice_length_of kind) (length bits))
     ]
 
 identified-rest : (read : Option (ℕ × ℕ)) (bits : List Bool) → 316 ≤ length bits → need_rest (identified_need read bits) ≡ kind_rest read (sent_head_of bits)
-identified-rest None bits long = ap need_rest (identified_need-none bits)
-identified-rest (Some nid) bits long = ap need_rest (identified_need-some nid bits) ∙ kind-rest nid.1 bits long
+identified-rest None bits long = rw identified_need-none
+identified-rest (Some nid) bits long = rw (identified_need-some nid bits) (kind-rest nid.1 bits long)
 
 -- what a place is, by the three readings of the bits there
 place-rest : (at : ℕ) (bits : List Bool) → 316 ≤ length bits → is_rest (first_item at bits) ≡ cond (has_sync bits) (kind_rest (identifier_of bits) (sent_head_of bits)) true
 place-rest at bits long =
     elim (cases_Bool (has_sync bits)) [
       | inl yes' ↦
-          ap is_rest (first_item-synced at bits (need_of bits) yes' refl)
-          ∙ synced-rest at bits (need_of bits) refl
-          ∙ ap need_rest (need_of-synced bits yes' ∙ synced_need-long bits (omega arith))
-          ∙ identified-rest (identifier_of bits) bits long
-          ∙ sym (cond-true (has_sync bits) (kind_rest (identifier_of bits) (sent_head_of bits)) true yes')
-      | inr no' ↦ no_sync-rest at bits no' ∙ sym (cond-false (has_sync bits) (kind_rest (identifier_of bits) (sent_head_of bits)) true no')
+          rw (yes', first_item-synced at bits (need_of bits) yes' refl, synced-rest at bits (need_of bits) refl, need_of-synced bits yes', synced_need-long bits (omega arith))
+          (identified-rest (identifier_of bits) bits long)
+      | inr no' ↦ rw no' (no_sync-rest at bits no')
     ]
 
 readings-same : (bits others : List Bool) → 316 ≤ length bits → 316 ≤ length others → take 316 bits ≡ take 316 others
     → cond (has_sync bits) (kind_rest (identifier_of bits) (sent_head_of bits)) true ≡ cond (has_sync others) (kind_rest (identifier_of others) (sent_head_of others)) true
 readings-same bits others long also same =
-    let sync : has_sync bits ≡ has_sync others
-    = sym (has_sync-take bits 316 (omega arith) long) ∙ ap has_sync same ∙ has_sync-take others 316 (omega arith) also in
-    let read : identifier_of bits ≡ identifier_of others
-    = sym (identifier_of-take 316 bits (omega arith)) ∙ ap identifier_of same ∙ identifier_of-take 316 others (omega arith) in
-    let head : sent_head_of bits ≡ sent_head_of others
-    = sym (sent_head_of-take 316 bits (omega arith)) ∙ ap sent_head_of same ∙ sent_head_of-take 316 others (omega arith) in
-    ap (λ (b : Bool). cond b (kind_rest (identifier_of bits) (sent_head_of bits)) true) sync
-    ∙ ap₂ (λ (r : Option (ℕ × ℕ)) (h : Result PacketHead Field). cond (has_sync others) (kind_rest r h) true) read head
+    let sync = rw (has_sync-take bits 316 (omega arith) long, has_sync-take others 316 (omega arith) also) at (ap has_sync same) in
+    let read = rw (identifier_of-take 316 bits (omega arith), identifier_of-take 316 others (omega arith)) at (ap identifier_of same) in
+    let head = rw (sent_head_of-take 316 bits (omega arith), sent_head_of-take 316 others (omega arith)) at (ap sent_head_of same) in
+    rw (sync, read, head)
 
 pub place-few : (at other : ℕ) (bits others : List Bool) → 316 ≤ length bits → 316 ≤ length others → take 316 bits ≡ take 316 others → is_rest (first_item at bits) ≡ is_rest (first_item other others)
-place-few at other bits others long also same = place-rest at bits long ∙ readings-same bits others long also same ∙ sym (place-rest other others also)
+place-few at other bits others long also same = rw (place-rest at bits long, place-rest other others also) (readings-same bits others long also same)

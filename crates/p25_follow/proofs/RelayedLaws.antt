@@ -1,5 +1,5 @@
 -- What is forwarded of an item has as many bits as it covers, and the scan finds it again: by the cases of a first item.
-use Rattle.std.proofs.Common.{◌≡◌, ℕ, ◌+◌, ◌-◌, ◌*◌, ◌<◌, ◌≤◌, ◌⊎◌, inl, inr, Bool, true, List, ◌++◌, length, take, drop, replicate, Some, Result, Ok, Err, refl, sym, ap, ap₂, subst, ◌∙◌, arith, length-append, length-drop}
+use Rattle.std.proofs.Common.{◌≡◌, ℕ, ◌+◌, ◌-◌, ◌*◌, ◌<◌, ◌≤◌, ◌⊎◌, inl, inr, Bool, true, List, ◌++◌, length, take, drop, replicate, Some, Result, Ok, Err, refl, sym, ap, ap₂, ◌∙◌, arith, length-append, length-drop}
 use Rattle.std.proofs.{lemmas.List.{drop-drop, length-replicate, length-take-le, take_at}, Math.Seq.{drop-append-add}}
 use Rattle.p25_bits.specs.Distance.{distance_of}
 use Rattle.p25_bits.proofs.DistanceLaws.{distance_of-same}
@@ -8,10 +8,9 @@ use Rattle.p25_status.specs.{Sync.{has_sync, sync_bits}, Woven.{bare_of, statuse
 use Rattle.p25_status.proofs.{SyncLaws.{has_sync-append, has_sync-yes}, WovenLaws.{bare_of-woven, length-bare_of, length-statuses_of, length-woven}}
 use Rattle.p25_unit_front.specs.Front.{front_of, identifier_bits, identifier_of, unit_front}
 use Rattle.p25_unit_front.proofs.FrontLaws.{front_of-bare_of, front_of-identifier, front_of-sync, identifier_of-append, identifier_of-fits, identifier_of-near, identifier_of-take, length-unit_front}
-use Rattle.p25_packet_blocks.specs.{Heads.{head_blocks}, Lengths.{packet_sent_length}, Reading.{head_from}, UnitReading.{sent_head_of}}
-use Rattle.p25_trellis.specs.Nearest.{half_octets}
+use Rattle.p25_packet_blocks.specs.{Heads.{head_blocks}, Lengths.{packet_sent_length}, UnitReading.{sent_head_of}}
 use Rattle.p25_packet_blocks.proofs.{ReadingLaws.{head_reading_of-is}, SentLaws.{sent_header_bits-bare_of}, UnitLaws.{sent_head_of-append, sent_head_of-is}}
-use Rattle.p25_units.specs.{Items.{covered, item_from, place_of, unit_item_of}, Needs.{head_need, kind_need, need_of}, Readings.{body_reading_of, frame_from, reading_from}}
+use Rattle.p25_units.specs.{Items.{covered, item_from, place_of, unit_item_of}, Needs.{kind_need, need_of}, Readings.{body_reading_of, frame_from, reading_from}}
 use Rattle.p25_units.specs.{Units.{IsSendableUnit, IsSoundFrame, frame_length_of, image_of, sent_length}, declared.frame.Frame.{Frame}, declared.item.Item.{Item}}
 use Rattle.p25_units.specs.{declared.item.Item.TheVariants.{Whole, Broken, NoUnit, Gap, Cut}, declared.needs.Need.TheVariants.{Length}, declared.unit.Body.{Body}}
 use Rattle.p25_units.proofs.{ItemsLaws.{unit_item_of-some}, KindsLaws.{IsPacketKind, IsUnitOf, IsUnitOf-need, IsVoiceKind}}
@@ -54,10 +53,7 @@ module _ (nac duid : ℕ) (status : Status) (raw : List Bool) (blocks : ℕ) (lo
       let rest = bare_of raw in
       let split : at ≡ length front + (at - 112) = omega (arith, length-unit_front nac duid, behind) in
       let whole : 112 + (at - 112) ≡ at = omega (arith, behind) in
-      ap (λ (n : ℕ). drop n (front ++ drop 112 rest)) split
-      ∙ drop-append-add front (drop 112 rest) (at - 112)
-      ∙ drop-drop (at - 112) 112 rest
-      ∙ ap (λ (n : ℕ). drop n rest) whole
+      rw (drop-drop, whole, ← split) at (drop-append-add front (drop 112 rest) (at - 112))
 
   broken-alike : AreAlikeBehind (bare_of (relayed_broken nac duid status raw)) (bare_of raw)
   broken-alike = record { same = λ at behind. ap (drop at) broken-bare ∙ bare-behind at behind }
@@ -65,15 +61,14 @@ module _ (nac duid : ℕ) (status : Status) (raw : List Bool) (blocks : ℕ) (lo
   broken-front : front_of (relayed_broken nac duid status raw) ≡ unit_front nac duid
   unfolding bare
   broken-front =
-      sym (front_of-bare_of blocks (relayed_broken nac duid status raw) some broken-long)
-      ∙ ap (take 112) broken-bare
-      ∙ take_at (unit_front nac duid) (drop 112 (bare_of raw)) 112 (length-unit_front nac duid)
+      rw (← front_of-bare_of blocks (relayed_broken nac duid status raw) some broken-long, broken-bare)
+      (take_at (unit_front nac duid) (drop 112 (bare_of raw)) 112 (length-unit_front nac duid))
 
   pub broken-synced : has_sync (relayed_broken nac duid status raw) ≡ true
   broken-synced =
       let out = relayed_broken nac duid status raw in
       let none : distance_of (take 48 out) sync_bits ≡ 0
-      = ap (λ (xs : List Bool). distance_of xs sync_bits) (front_of-sync nac duid out (omega (arith, broken-long, some)) broken-front) ∙ distance_of-same sync_bits in
+      = rw (front_of-sync nac duid out (omega (arith, broken-long, some)) broken-front, distance_of-same) in
       has_sync-yes out (omega (arith, broken-long, some)) (omega (arith, none))
 
   pub broken-reads : nac < 4096 → duid < 16 → identifier_of (relayed_broken nac duid status raw) ≡ Some (nac, duid)
@@ -81,35 +76,42 @@ module _ (nac duid : ℕ) (status : Status) (raw : List Bool) (blocks : ℕ) (lo
       let out = relayed_broken nac duid status raw in
       let word = take 63 (nid_word nac duid) in
       let none : distance_of (take 63 (identifier_bits out)) word ≡ 0
-      = ap (λ (xs : List Bool). distance_of (take 63 xs) word) (front_of-identifier nac duid out (omega (arith, broken-long, some)) broken-front) ∙ distance_of-same word in
+      = rw (front_of-identifier nac duid out (omega (arith, broken-long, some)) broken-front, distance_of-same) in
       identifier_of-near nac duid out nac_fits duid_fits (omega (arith, broken-long, some)) (omega (arith, none))
 
   -- as many bits are needed as before
   broken-kind : (more : List Bool) → IsVoiceKind duid raw ⊎ IsPacketKind duid raw → kind_need duid (relayed_broken nac duid status raw ++ more) ≡ Length (72 * blocks)
   broken-kind more (inl voice) =
       let all = relayed_broken nac duid status raw ++ more in
-      kind_need-voice duid voice.bare all voice.kind
-      ∙ length_need-there (sent_length voice.bare) (length all) (omega (arith, length-append (relayed_broken nac duid status raw) more, broken-long, voice.is, long))
-      ∙ ap Length (sym voice.is ∙ long)
+      rw (
+        kind_need-voice duid voice.bare all voice.kind,
+        length_need-there (sent_length voice.bare) (length all) (omega (arith, length-append (relayed_broken nac duid status raw) more, broken-long, voice.is, long)),
+        ← voice.is,
+        long,
+      )
   broken-kind more (inr packet) =
       let out = relayed_broken nac duid status raw in
       let all = out ++ more in
       let count = packet_sent_length (head_blocks packet.head) in
       let enough : 5 ≤ blocks = omega (arith, packet.is, long) in
       let read : sent_head_of all ≡ Ok packet.head
-      = sent_head_of-append out more (omega (arith, broken-long, enough))
-      ∙ sent_head_of-is out
-      ∙ ap (λ (bits : List Bool). head_from (half_octets bits)) (sent_header_bits-bare_of blocks out enough broken-long)
-      ∙ sym (head_reading_of-is (bare_of out))
-      ∙ head_reading-alike (bare_of out) (bare_of raw) broken-alike
-      ∙ packet.read in
+      = rw (
+        sent_head_of-append out more (omega (arith, broken-long, enough)),
+        sent_head_of-is out,
+        sent_header_bits-bare_of blocks out enough broken-long,
+        ← head_reading_of-is (bare_of out),
+        head_reading-alike (bare_of out) (bare_of raw) broken-alike,
+      ) packet.read in
       ap (λ (d : ℕ). kind_need d all) packet.packet
-      ∙ kind_need-packet all
-      ∙ packet_need-long all (omega (arith, length-append out more, broken-long, enough))
-      ∙ ap (λ (head : Result _ Field). head_need head (length all)) read
-      ∙ head_need-good packet.head (length all)
-      ∙ length_need-there count (length all) (omega (arith, length-append out more, broken-long, packet.is, long))
-      ∙ ap Length (sym packet.is ∙ long)
+      ∙ rw (
+        kind_need-packet all,
+        packet_need-long all (omega (arith, length-append out more, broken-long, enough)),
+        read,
+        head_need-good packet.head (length all),
+        length_need-there count (length all) (omega (arith, length-append out more, broken-long, packet.is, long)),
+        ← packet.is,
+        long,
+      )
 
   -- so the scan finds it, with the fields failing that did
   pub broken-found : (place : ℕ) (more : List Bool) (fields : List Field) → nac < 4096 → duid < 16 → IsVoiceKind duid raw ⊎ IsPacketKind duid raw
@@ -121,18 +123,15 @@ module _ (nac duid : ℕ) (status : Status) (raw : List Bool) (blocks : ℕ) (lo
       let synced : has_sync all ≡ true = has_sync-append out more (omega (arith, broken-long, some)) ∙ broken-synced in
       let reads = broken-reads nac_fits duid_fits in
       let need : need_of all ≡ Length count
-      = need_of-synced all synced
-      ∙ synced_need-read all (Some (nac, duid)) (omega (arith, length-append out more, broken-long, some)) (identifier_of-append out more (omega (arith, broken-long, some)) ∙ reads)
-      ∙ identified_need-some (nac, duid) all
-      ∙ broken-kind more kind in
+      = rw (
+        need_of-synced all synced,
+        synced_need-read all (Some (nac, duid)) (omega (arith, length-append out more, broken-long, some)) (identifier_of-append out more (omega (arith, broken-long, some)) ∙ reads),
+        identified_need-some (nac, duid) all,
+      ) (broken-kind more kind) in
       let reading : reading_from (Some (nac, duid)) out ≡ Err fields
-      = reading_from-some (nac, duid) out
-      ∙ ap (frame_from nac (statuses_of out)) (body_reading-alike (bare_of out) (bare_of raw) broken-alike duid ∙ fails) in
+      = rw (reading_from-some (nac, duid) out, body_reading-alike (bare_of out) (bare_of raw) broken-alike duid, fails) in
       let same : length out ≡ length raw = broken-long ∙ sym long in
-      first_item-synced place all (Length count) synced need
-      ∙ ap (unit_item_of place) (take_at out more count broken-long)
-      ∙ unit_item_of-some place out (nac, duid) (Err fields) reads reading
-      ∙ ap (λ (n : ℕ). Broken place n nac duid fields) same
+      rw (first_item-synced place all (Length count) synced need, take_at out more count broken-long) (unit_item_of-some place out (nac, duid) (Err fields) reads reading ∙ rw same)
 
 -- ---- what is known of a first item that is broken
 record IsBrokenOf (at : ℕ) (bits : List Bool) (place count duid : ℕ) (fields : List Field) : Type 0 where
@@ -155,9 +154,7 @@ broken-by at bits n nid place count ours duid fields (Err failing) fits full uni
     let kind : nid.1 ≡ duid = cc is in
     let fails : failing ≡ fields = cc is in
     let size : n ≡ count = sym full ∙ long in
-    subst (λ (c : ℕ). IsBrokenOf at bits place c duid fields) size
-    (subst (λ (d : ℕ). IsBrokenOf at bits place n d fields) kind
-    (record { here = sym here; blocks = unit.blocks; long = unit.long; some = unit.least; duid_fits = fits; kind = unit.kind; fails = reads ∙ ap Err fails; all = full }))
+    rw (← size, ← kind) (record { here = sym here; blocks = unit.blocks; long = unit.long; some = unit.least; duid_fits = fits; kind = unit.kind; fails = reads ∙ ap Err fails; all = full })
 
 broken-unit : (at n : ℕ) (bits : List Bool) (place count ours duid : ℕ) (fields : List Field) → need_of bits ≡ Length n → unit_item_of at (take n bits) ≡ Broken place count ours duid fields
     → IsBrokenOf at bits place count duid fields
@@ -215,7 +212,7 @@ module _ (nac : ℕ) (status : Status) (nac_fits : nac < 4096) where
   item-found at bits more name (Whole place frame fixes) is unit =
       let sound = forwarded-sound nac status nac_fits at bits place frame fixes is in
       let here : place ≡ at = sym (ap place_of is) ∙ place_of-first_item at bits in
-      image-whole at (bridged_frame nac status frame) more sound.0 sound.1 ∙ ap (λ (p : ℕ). Whole p (bridged_frame nac status frame) 0) (sym here)
+      rw here (image-whole at (bridged_frame nac status frame) more sound.0 sound.1)
   item-found at bits more name (Broken place count ours duid fields) is unit =
       let known = broken-of at bits place count ours duid fields is in
       broken-found nac duid status (take count bits) known.blocks known.long known.some at more fields nac_fits known.duid_fits known.kind known.fails

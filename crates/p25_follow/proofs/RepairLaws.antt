@@ -1,15 +1,15 @@
--- Where a repair leaves the items, it changes nothing of what comes after it: the stretches are the same, and so is what is written of them. By induction on the items of both recordings.
-use Rattle.std.proofs.Common.{◌≡◌, ℕ, zero, suc, ◌+◌, ◌<◌, ◌≤◌, Bool, true, false, inl, inr, List, [], ◌∷◌, ◌++◌, length, take, drop, Option, Some, None, refl, sym, ap, ap₂, subst, ◌∙◌, arith, append_assoc, length-append, length-drop}
-use Rattle.std.proofs.{lemmas.Bool.{cases_Bool}, lemmas.List.{drop_at, length-take-le, take_at}, Math.Seq.{drop-append_seam, take-append_seam}}
-use Rattle.p25_units.specs.{Items.{covered, unit_item_of}, Units.{image_of}, declared.item.Item.{Item}, declared.item.Item.TheVariants.{Whole}}
-use Rattle.p25_stream.specs.{Items.{first_item, items_of}, Repeats.{repaired}}
-use Rattle.p25_stream.proofs.ItemsLaws.{covered-first_item, items_by-more, items_by-nil}
+-- Where a repair leaves the items, it changes nothing of what comes after it: the stretches are the same, and so is what is written of them. Along the units of a chain, and along the items.
+use Rattle.std.proofs.Common.{◌≡◌, ℕ, ◌+◌, ◌<◌, Bool, true, false, List, [], ◌∷◌, ◌++◌, length, take, drop, Option, Some, None, refl, ap, ◌∙◌, arith, append_assoc, length-append, length-drop}
+use Rattle.std.proofs.{lemmas.List.{drop_at, length-take-le, take_at}, Math.Seq.{drop-append_seam, take-append_seam}}
+use Rattle.p25_units.specs.{Items.{covered, unit_item_of}, declared.item.Item.{Item}, declared.item.Item.TheVariants.{Whole}}
+use Rattle.p25_stream.specs.{Items.{items_of}, Repeats.{repaired}, Written.{written}}
+use Rattle.p25_stream.proofs.{ItemsLaws.{items_by-nil}, WrittenLaws.{repaired-keeps, written-cons, written-nil}}
 use Rattle.p25_follow.specs.{Chains.{chain_by, with_front}, Expected.{kind_length}, Followed.{follow_of, followed_by, is_rest, unit_name}, RecordingLaws.{RepairBefore}}
 use Rattle.p25_follow.specs.{Repaired.{AreFoundAgain, IsFoundAgain, repair_of, repaired_from}, Steps.{step_of}}
-use Rattle.p25_follow.proofs.{AfterUnitLaws.{Sound, none-sound, sound-some, unit-sound}, ChainLaws.{chain_by-nil, chain_by-none, chain_by-step, chain_by-stop}}
-use Rattle.p25_follow.proofs.{FollowingLaws.{followed-rest, followed-unit}, FoundLaws.{written-found}, LengthLaws.{length-with_front}}
-use Rattle.p25_follow.proofs.{NeverWorseLaws.{Begins, ends-at, next_of, rests-later, rests-more, unit-tail}, SameUnitsLaws.{RestPlaces}, StepLaws.{step_of-there}}
-use Rattle.p25_follow.proofs.RepairedLaws.{from-first, from-more, repaired-items, repaired-long, repaired-nil, rest-plain, stretch-repair}
+use Rattle.p25_follow.proofs.{AfterUnitLaws.{Sound, none-sound, some-sound, sound-some, unit-sound}, ChainLaws.{along-chain, chain-stop, chain_by-step}}
+use Rattle.p25_follow.proofs.{FollowingLaws.{Starts, along-items, followed-rest, followed-unit, starts-of}, FoundLaws.{written-found}, LengthLaws.{length-with_front}}
+use Rattle.p25_follow.proofs.{NeverWorseLaws.{Begins, ends-at, rests-later, rests-more, unit-tail}, SameUnitsLaws.{RestPlaces}, StepLaws.{step_of-there}}
+use Rattle.p25_follow.proofs.RepairedLaws.{from-first, from-more, rest-plain, stretch-repair}
 
 -- ---- what it writes of a chain, whatever comes after it
 
@@ -17,93 +17,50 @@ record IsAfter (stretch more : List Bool) : Type 0 where
   rests : RestPlaces (length stretch) (stretch ++ more)
   begins : Begins more
 
+stretch-comes : (at place : ℕ) (stretch more : List Bool) → at + length stretch ≡ place → IsAfter stretch more → repaired_from at (stretch ++ more) ≡ stretch ++ repaired_from place more
+stretch-comes at place stretch more is_place after =
+    rw (stretch-repair at (length stretch) (stretch ++ more) (omega (arith, length-append stretch more)) after.rests (ends-at stretch more after.begins), take-append_seam, drop-append_seam, is_place)
+
+unit-comes : (at : ℕ) (before : ℕ × ℕ) (stretch next : List Bool) (end : Option (ℕ × ℕ)) (kind : ℕ) → before.0 < 4096 → step_of before stretch end ≡ Some kind
+    → repaired_from at (with_front (before.0, kind) (take (kind_length kind) stretch) ++ next)
+    ≡ repaired (unit_item_of at (with_front (before.0, kind) (take (kind_length kind) stretch))) (with_front (before.0, kind) (take (kind_length kind) stretch)) ++ repaired_from (at + kind_length kind) next
+unit-comes at before stretch next end kind nac_fits is =
+    let there = step_of-there before stretch end kind is in
+    let count = kind_length kind in
+    let raw = take count stretch in
+    let raw_long : length raw ≡ count = length-take-le count stretch there.there in
+    let unit = with_front (before.0, kind) raw in
+    let unit_long : length unit ≡ count = length-with_front (before.0, kind) raw (omega (arith, raw_long, there.few)) ∙ raw_long in
+    let found = written-found at before.0 kind raw next nac_fits there.few (omega (arith, there.fits)) raw_long in
+    rw (from-first at (unit ++ next) (omega (arith, length-append unit next, unit_long, there.few)), found.covers, take_at unit next count unit_long, drop_at unit next count unit_long, found.item_is)
+
 record Both (at place : ℕ) (before : Option (ℕ × ℕ)) (stretch first second : List Bool) (end : Option (ℕ × ℕ)) : Type 0 where
   part : List Bool
   one : repaired_from at (chain_by true before stretch end ++ first) ≡ part ++ repaired_from place first
   other : repaired_from at (chain_by true before stretch end ++ second) ≡ part ++ repaired_from place second
 
-chain-stops : (at place : ℕ) (before : Option (ℕ × ℕ)) (stretch more : List Bool) (end : Option (ℕ × ℕ)) → at + length stretch ≡ place → IsAfter stretch more
-    → chain_by true before stretch end ≡ stretch
-    → repaired_from at (chain_by true before stretch end ++ more) ≡ stretch ++ repaired_from place more
-chain-stops at place before stretch more end is_place after stays =
-    let count = length stretch in
-    let all = stretch ++ more in
-    ap (λ (xs : List Bool). repaired_from at (xs ++ more)) stays
-    ∙ stretch-repair at count all (omega (arith, length-append stretch more)) after.rests (ends-at stretch more after.begins)
-    ∙ ap₂ (λ (xs ys : List Bool). xs ++ repaired_from (at + count) ys) (take-append_seam stretch more) (drop-append_seam stretch more)
-    ∙ ap (λ (p : ℕ). stretch ++ repaired_from p more) is_place
-
-chain-steps : (at : ℕ) (before : ℕ × ℕ) (stretch more : List Bool) (end : Option (ℕ × ℕ)) (kind : ℕ) → before.0 < 4096 → step_of before stretch end ≡ Some kind
-    → repaired_from at (chain_by true (Some before) stretch end ++ more)
-    ≡ repaired (unit_item_of at (with_front (before.0, kind) (take (kind_length kind) stretch))) (with_front (before.0, kind) (take (kind_length kind) stretch))
-    ++ repaired_from (at + kind_length kind) (chain_by true (Some (before.0, kind)) (drop (kind_length kind) stretch) end ++ more)
-chain-steps at before stretch more end kind nac_fits is =
+both : (place : ℕ) (first second : List Bool) (end : Option (ℕ × ℕ)) (at : ℕ) (before : Option (ℕ × ℕ)) (stretch : List Bool) → at + length stretch ≡ place → Sound before
+    → IsAfter stretch first → IsAfter stretch second → Both at place before stretch first second end
+both place first second end =
+    along-chain end
+    (λ at before stretch. at + length stretch ≡ place → Sound before → IsAfter stretch first → IsAfter stretch second → Both at place before stretch first second end)
+    (λ at before stretch stops is_place sound a b.
+    let stays = chain-stop before stretch end stops in
+    record { part = stretch; one = rw stays (stretch-comes at place stretch first is_place a); other = rw stays (stretch-comes at place stretch second is_place b) })
+    (λ at before stretch kind is later is_place sound a b.
     let there = step_of-there before stretch end kind is in
     let count = kind_length kind in
-    let name : ℕ × ℕ = (before.0, kind) in
-    let raw = take count stretch in
-    let left = drop count stretch in
-    let raw_long : length raw ≡ count = length-take-le count stretch there.there in
-    let unit = with_front name raw in
-    let unit_long : length unit ≡ count = length-with_front name raw (omega (arith, raw_long, there.few)) ∙ raw_long in
-    let chain = chain_by true (Some name) left end in
-    let next = chain ++ more in
-    let all = unit ++ next in
-    let found = written-found at before.0 kind raw next nac_fits there.few (omega (arith, there.fits)) raw_long in
-    let item = first_item at all in
-    let own : take (covered item) all ≡ unit = ap (λ (n : ℕ). take n all) found.covers ∙ take_at unit next count unit_long in
-    let behind : drop (covered item) all ≡ next = ap (λ (n : ℕ). drop n all) found.covers ∙ drop_at unit next count unit_long in
-    ap (λ (xs : List Bool). repaired_from at (xs ++ more)) (chain_by-step true before stretch end kind refl is)
-    ∙ ap (repaired_from at) (append_assoc unit chain more)
-    ∙ from-first at all (omega (arith, length-append unit next, unit_long, there.few))
-    ∙ ap₂ (λ (xs ys : List Bool). repaired item xs ++ repaired_from (at + covered item) ys) own behind
-    ∙ ap₂ (λ (i : Item) (n : ℕ). repaired i unit ++ repaired_from (at + n) next) found.item_is found.covers
-
-after-later : (count : ℕ) (stretch more : List Bool) → count ≤ length stretch → IsAfter stretch more → IsAfter (drop count stretch) more
-after-later count stretch more fits after = record { rests = rests-later count stretch more fits after.rests; begins = after.begins }
-
-abbrev BothIn : ℕ → ℕ → List Bool → List Bool → Option (ℕ × ℕ) → Type 0
-BothIn n place first second end =
-    (at : ℕ) (before : ℕ × ℕ) (stretch : List Bool) → length stretch ≤ n → at + length stretch ≡ place → before.0 < 4096 → IsAfter stretch first → IsAfter stretch second
-    → Both at place (Some before) stretch first second end
-
-both-stepped : (n at place : ℕ) (before : ℕ × ℕ) (stretch first second : List Bool) (end : Option (ℕ × ℕ)) → length stretch ≤ suc n → at + length stretch ≡ place → before.0 < 4096
-    → IsAfter stretch first → IsAfter stretch second → (kind : Option ℕ) → step_of before stretch end ≡ kind → BothIn n place first second end → Both at place (Some before) stretch first second end
-both-stepped n at place before stretch first second end few is_place sound a b None is later =
-    let stays = chain_by-stop true before stretch end refl is in
-    record { part = stretch; one = chain-stops at place (Some before) stretch first end is_place a stays; other = chain-stops at place (Some before) stretch second end is_place b stays }
-both-stepped n at place before stretch first second end few is_place sound a b (Some kind) is later =
-    let there = step_of-there before stretch end kind is in
-    let count = kind_length kind in
-    let name : ℕ × ℕ = (before.0, kind) in
-    let left = drop count stretch in
-    let long = length-drop count stretch in
-    let unit = with_front name (take count stretch) in
-    let written = repaired (unit_item_of at unit) unit in
-    let rest = later (at + count) name left (omega (arith, long, there.few, there.there, few)) (omega (arith, long, there.there, is_place)) sound
-    (after-later count stretch first there.there a) (after-later count stretch second there.there b) in
+    let nac_fits = sound-some before sound in
+    let unit = with_front (before.0, kind) (take count stretch) in
+    let steps = chain_by-step true before stretch end kind refl is in
+    let behind = λ (more : List Bool) (after : IsAfter stretch more).
+    let moved : IsAfter (drop count stretch) more = record { rests = rests-later count stretch more there.there after.rests; begins = after.begins } in moved in
+    let rest = later (omega (arith, length-drop count stretch, there.there)) (some-sound (before.0, kind) nac_fits) (behind first a) (behind second b) in
     record {
-      part = written ++ rest.part;
-      one = chain-steps at before stretch first end kind sound is ∙ ap (λ (xs : List Bool). written ++ xs) rest.one ∙ sym (append_assoc written rest.part (repaired_from place first));
-      other = chain-steps at before stretch second end kind sound is ∙ ap (λ (xs : List Bool). written ++ xs) rest.other ∙ sym (append_assoc written rest.part (repaired_from place second));
-    }
-
-both-in : (n place : ℕ) (first second : List Bool) (end : Option (ℕ × ℕ)) → BothIn n place first second end
-both-in zero place first second end at before [] few is_place sound a b =
-    let stays = chain_by-nil true (Some before) end in
-    record { part = []; one = chain-stops at place (Some before) [] first end is_place a stays; other = chain-stops at place (Some before) [] second end is_place b stays }
-both-in zero place first second end at before (bit ∷ stretch) few is_place sound a b = absurd (omega arith)
-both-in (suc n) place first second end at before stretch few is_place sound a b =
-    both-stepped n at place before stretch first second end few is_place sound a b (step_of before stretch end) refl (both-in n place first second end)
-
-both-any : (at place : ℕ) (before : Option (ℕ × ℕ)) (stretch first second : List Bool) (end : Option (ℕ × ℕ)) → at + length stretch ≡ place → Sound before
-    → IsAfter stretch first → IsAfter stretch second
-    → Both at place before stretch first second end
-both-any at place None stretch first second end is_place sound a b =
-    let stays = chain_by-none true stretch end in
-    record { part = stretch; one = chain-stops at place None stretch first end is_place a stays; other = chain-stops at place None stretch second end is_place b stays }
-both-any at place (Some before) stretch first second end is_place sound a b =
-    both-in (length stretch) place first second end at before stretch (omega arith) is_place (sound-some before sound) a b
+      part = repaired (unit_item_of at unit) unit ++ rest.part;
+      one = rw (steps, append_assoc, unit-comes at before stretch _ end kind nac_fits is, rest.one, ← append_assoc);
+      other = rw (steps, append_assoc, unit-comes at before stretch _ end kind nac_fits is, rest.other, ← append_assoc);
+    })
 
 -- ---- an item that is found again
 
@@ -115,163 +72,105 @@ record SameItem (item other : Item) (raw : List Bool) : Type 0 where
 
 same-item : (item other : Item) (raw : List Bool) → IsFoundAgain item other → SameItem item other raw
 unfolding IsFoundAgain
-same-item (Whole place frame fixes) other raw is = record {
-  rest = ap is_rest is.1;
-  covers = ap covered is.1;
-  name = ap unit_name is.1;
-  again = ap (λ (o : Item). repaired o (image_of frame)) is.1;
-}
-same-item item other raw is = record { rest = ap is_rest is; covers = ap covered is; name = ap unit_name is; again = ap (λ (o : Item). repaired o raw) is }
+same-item (Whole place frame fixes) other raw is = rw is.1 (record { rest = refl; covers = refl; name = refl; again = refl })
+same-item item other raw is = rw is (record { rest = refl; covers = refl; name = refl; again = refl })
 
-again-parts : (item other : Item) (items others : List Item) → AreFoundAgain (item ∷ items) (other ∷ others) → IsFoundAgain item other × AreFoundAgain items others
-unfolding AreFoundAgain
-again-parts item other items others is = is
+record Again (item : Item) (items found : List Item) : Type 0 where
+  other : Item
+  others : List Item
+  all : found ≡ other ∷ others
+  first : IsFoundAgain item other
+  later : AreFoundAgain items others
 
-again-none : (item : Item) (items : List Item) → AreFoundAgain (item ∷ items) [] → ⊥
+again-first : (item : Item) (items found : List Item) → AreFoundAgain (item ∷ items) found → Again item items found
 unfolding AreFoundAgain
-again-none item items is = is
+again-first item items [] is = absurd is
+again-first item items (other ∷ others) is = record { other = other; others = others; all = refl; first = is.0; later = is.1 }
 
 -- ---- both recordings
 
-abbrev followed_at : Option (ℕ × ℕ) → List Bool → ℕ → List Bool → List Bool
-followed_at before stretch place bits = followed_by true before stretch (items_of place bits) bits
+-- the first items of both, and what is after them
+record Twin (place : ℕ) (item : Item) (items : List Item) (bits others : List Bool) : Type 0 where
+  other : Item
+  rest : List Item
+  starts : Starts place others other rest
+  parts : SameItem item other (take (covered item) bits)
+  own : take (covered item) others ≡ repaired item (take (covered item) bits)
+  behind : drop (covered item) others ≡ written repaired items (drop (covered item) bits)
+  left : items_of (place + covered item) (drop (covered item) others) ≡ rest
+  again : AreFoundAgain items (items_of (place + covered item) (drop (covered item) others))
 
-abbrev SameAfter : ℕ → Option (ℕ × ℕ) → List Bool → ℕ → List Bool → List Bool → Type 0
-SameAfter at before stretch place bits others = repaired_from at (followed_at before stretch place others) ≡ repaired_from at (followed_at before stretch place bits)
-
-abbrev Later : ℕ → Type 0
-Later n =
-    (at place : ℕ) (before : Option (ℕ × ℕ)) (stretch bits others : List Bool) → length bits ≤ n → at + length stretch ≡ place → Sound before → RestPlaces (length stretch) (stretch ++ bits)
-    → RestPlaces (length stretch) (stretch ++ others) → AreFoundAgain (items_of place bits) (items_of place others) → others ≡ repaired_from place bits → SameAfter at before stretch place bits others
-
--- what the first items of both are, and what is after them
-record Twin (place : ℕ) (bits others : List Bool) : Type 0 where
-  parts : SameItem (first_item place bits) (first_item place others) (take (covered (first_item place bits)) bits)
-  own : take (covered (first_item place others)) others ≡ repaired (first_item place bits) (take (covered (first_item place bits)) bits)
-  behind : drop (covered (first_item place others)) others ≡ repaired_from (place + covered (first_item place bits)) (drop (covered (first_item place bits)) bits)
-  again : AreFoundAgain (items_of (place + covered (first_item place bits)) (drop (covered (first_item place bits)) bits))
-      (items_of (place + covered (first_item place bits)) (drop (covered (first_item place others)) others))
-
-twin : (place : ℕ) (bits others : List Bool) → 0 < length bits → 0 < length others → AreFoundAgain (items_of place bits) (items_of place others) → others ≡ repaired_from place bits
-    → Twin place bits others
-twin place bits others some also same is =
-    let item = first_item place bits in
-    let other = first_item place others in
-    let c = covered item in
-    let co = covered other in
-    let raw = take c bits in
-    let left = drop c bits in
-    let items = items_of (place + c) left in
-    let rest = items_of (place + co) (drop co others) in
-    let both = again-parts item other items rest
-    (subst (λ (found : List Item). AreFoundAgain found (other ∷ rest)) (items_by-more true place bits some refl)
-    (subst (AreFoundAgain (items_of place bits)) (items_by-more true place others also refl) same)) in
-    let parts = same-item item other raw both.0 in
-    let fits = covered-first_item place bits some in
-    let written = repaired item raw in
-    let long : length written ≡ co = repaired-long place bits raw (length-take-le c bits fits.1) ∙ sym parts.covers in
-    let whole : others ≡ written ++ repaired_from (place + c) left = is ∙ from-first place bits some in
+twin : (place : ℕ) (item : Item) (items : List Item) (bits others : List Bool) → Starts place bits item items → AreFoundAgain (item ∷ items) (items_of place others)
+    → others ≡ written repaired (item ∷ items) bits → Twin place item items bits others
+twin place item items bits others starts same is =
+    let found = again-first item items (items_of place others) same in
+    let also = starts-of place others found.other found.others found.all in
+    let parts = same-item item found.other (take (covered item) bits) found.first in
+    let own = repaired item (take (covered item) bits) in
+    let next = written repaired items (drop (covered item) bits) in
+    let long : length own ≡ covered item = repaired-keeps place bits item starts.first starts.there in
+    let whole : others ≡ own ++ next = is ∙ written-cons repaired item items bits in
+    let left : items_of (place + covered item) (drop (covered item) others) ≡ found.others = rw parts.covers at also.behind in
     record {
+      other = found.other;
+      rest = found.others;
+      starts = also;
       parts = parts;
-      own = ap (take co) whole ∙ take_at written (repaired_from (place + c) left) co long;
-      behind = ap (drop co) whole ∙ drop_at written (repaired_from (place + c) left) co long;
-      again = subst (λ (n : ℕ). AreFoundAgain items (items_of (place + n) (drop co others))) parts.covers both.1;
+      own = ap (take (covered item)) whole ∙ take_at own next (covered item) long;
+      behind = ap (drop (covered item)) whole ∙ drop_at own next (covered item) long;
+      left = left;
+      again = rw left found.later;
     }
 
-twice-rest : (n at place : ℕ) (before : Option (ℕ × ℕ)) (stretch bits others : List Bool) → length bits ≤ suc n → 0 < length bits → 0 < length others → at + length stretch ≡ place → Sound before
-    → RestPlaces (length stretch) (stretch ++ bits) → RestPlaces (length stretch) (stretch ++ others) → Twin place bits others → is_rest (first_item place bits) ≡ true → Later n
-    → SameAfter at before stretch place bits others
-twice-rest n at place before stretch bits others few some also is_place sound rests rests_other two rest later =
-    let item = first_item place bits in
-    let other = first_item place others in
-    let c = covered item in
-    let co = covered other in
-    let raw = take c bits in
-    let left = drop c bits in
-    let left_other = drop co others in
-    let fits = covered-first_item place bits some in
-    let rest_other : is_rest other ≡ true = two.parts.rest ∙ rest in
-    let raw_same : take co others ≡ raw = two.own ∙ rest-plain item raw rest in
-    let one : followed_at before stretch place bits ≡ followed_at before (stretch ++ raw) (place + c) left
-    = ap (λ (items : List Item). followed_by true before stretch items bits) (items_by-more true place bits some refl)
-    ∙ followed-rest true before stretch item (items_of (place + c) left) bits rest in
-    let second : followed_at before stretch place others ≡ followed_at before (stretch ++ raw) (place + c) left_other
-    = ap (λ (items : List Item). followed_by true before stretch items others) (items_by-more true place others also refl)
-    ∙ followed-rest true before stretch other (items_of (place + co) left_other) others rest_other
-    ∙ ap₂ (λ (xs : List Bool) (k : ℕ). followed_at before (stretch ++ xs) (place + k) left_other) raw_same two.parts.covers in
-    let rests_behind : RestPlaces (length (stretch ++ raw)) ((stretch ++ raw) ++ left_other)
-    = subst (λ (xs : List Bool). RestPlaces (length (stretch ++ xs)) ((stretch ++ xs) ++ left_other)) raw_same (rests-more place stretch others also rests_other rest_other) in
-    ap (repaired_from at) second
-    ∙ later at (place + c) before (stretch ++ raw) left left_other (omega (arith, few, length-drop c bits, fits.0, fits.1))
-    (omega (arith, is_place, length-append stretch raw, length-take-le c bits fits.1)) sound (rests-more place stretch bits some rests rest) rests_behind two.again two.behind
-    ∙ sym (ap (repaired_from at) one)
+abbrev Same : ℕ → Option (ℕ × ℕ) → List Bool → List Item → List Bool → Type 0
+Same place before stretch items bits =
+    (at : ℕ) (others : List Bool) → at + length stretch ≡ place → Sound before → RestPlaces (length stretch) (stretch ++ bits) → RestPlaces (length stretch) (stretch ++ others)
+    → AreFoundAgain items (items_of place others) → others ≡ written repaired items bits
+    → repaired_from at (followed_by true before stretch (items_of place others) others) ≡ repaired_from at (followed_by true before stretch items bits)
 
-twice-unit : (n at place : ℕ) (before : Option (ℕ × ℕ)) (stretch bits others : List Bool) → length bits ≤ suc n → 0 < length bits → 0 < length others → at + length stretch ≡ place → Sound before
-    → RestPlaces (length stretch) (stretch ++ bits) → RestPlaces (length stretch) (stretch ++ others) → Twin place bits others → is_rest (first_item place bits) ≡ false → Later n
-    → SameAfter at before stretch place bits others
-twice-unit n at place before stretch bits others few some also is_place sound rests rests_other two unit later =
-    let item = first_item place bits in
-    let other = first_item place others in
-    let name = unit_name item in
-    let c = covered item in
-    let co = covered other in
-    let raw = take c bits in
-    let left = drop c bits in
-    let left_other = drop co others in
-    let fits = covered-first_item place bits some in
-    let unit_other : is_rest other ≡ false = two.parts.rest ∙ unit in
-    let next = next_of place bits in
-    let next_other = next_of place others in
-    let more = raw ++ next in
-    let more_other = take co others ++ next_other in
-    let tail = unit-tail place stretch bits some rests unit in
-    let tail_other = unit-tail place stretch others also rests_other unit_other in
-    let both = both-any at place before stretch more more_other name is_place sound
+same-rest : (place : ℕ) (before : Option (ℕ × ℕ)) (stretch : List Bool) (item : Item) (items : List Item) (bits : List Bool) → Starts place bits item items → is_rest item ≡ true
+    → Same (place + covered item) before (stretch ++ take (covered item) bits) items (drop (covered item) bits) → Same place before stretch (item ∷ items) bits
+same-rest place before stretch item items bits starts rest later at others is_place sound rests rests_other same is =
+    let two = twin place item items bits others starts same is in
+    let raw = take (covered item) bits in
+    let rest_other : is_rest two.other ≡ true = two.parts.rest ∙ rest in
+    let own : take (covered item) others ≡ raw = two.own ∙ rest-plain item raw rest in
+    let behind = later at (drop (covered item) others) (omega (arith, is_place, length-append stretch raw, length-take-le (covered item) bits starts.there)) sound
+    (rests-more place stretch bits item items starts rests rest) (rw (two.parts.covers, own) at (rests-more place stretch others two.other two.rest two.starts rests_other rest_other)) two.again two.behind in
+    rw (two.starts.all, followed-rest true before stretch two.other two.rest others rest_other, two.parts.covers, own, followed-rest true before stretch item items bits rest) (rw two.left at behind)
+
+same-unit : (place : ℕ) (before : Option (ℕ × ℕ)) (stretch : List Bool) (item : Item) (items : List Item) (bits : List Bool) → Starts place bits item items → is_rest item ≡ false
+    → Same (place + covered item) (unit_name item) [] items (drop (covered item) bits) → Same place before stretch (item ∷ items) bits
+same-unit place before stretch item items bits starts unit later at others is_place sound rests rests_other same is =
+    let two = twin place item items bits others starts same is in
+    let unit_other : is_rest two.other ≡ false = two.parts.rest ∙ unit in
+    let raw = take (covered item) bits in
+    let raw_other = take (covered two.other) others in
+    let next = followed_by true (unit_name item) [] items (drop (covered item) bits) in
+    let next_other = followed_by true (unit_name two.other) [] two.rest (drop (covered two.other) others) in
+    let tail = unit-tail place stretch bits item items starts rests unit in
+    let tail_other = unit-tail place stretch others two.other two.rest two.starts rests_other unit_other in
+    let parts = both place (raw ++ next) (raw_other ++ next_other) (unit_name item) at before stretch is_place sound
     record { rests = tail.rests; begins = tail.begins } record { rests = tail_other.rests; begins = tail_other.begins } in
-    let one : followed_at before stretch place bits ≡ chain_by true before stretch name ++ more
-    = ap (λ (items : List Item). followed_by true before stretch items bits) (items_by-more true place bits some refl)
-    ∙ followed-unit true before stretch item (items_of (place + c) left) bits unit in
-    let second : followed_at before stretch place others ≡ chain_by true before stretch name ++ more_other
-    = ap (λ (items : List Item). followed_by true before stretch items others) (items_by-more true place others also refl)
-    ∙ followed-unit true before stretch other (items_of (place + co) left_other) others unit_other
-    ∙ ap (λ (end : Option (ℕ × ℕ)). chain_by true before stretch end ++ more_other) two.parts.name in
-    let moved : next_other ≡ followed_at name [] (place + c) left_other
-    = ap₂ (λ (end : Option (ℕ × ℕ)) (k : ℕ). followed_at end [] (place + k) left_other) two.parts.name two.parts.covers in
-    let rest : repaired_from (place + c) (followed_at name [] (place + c) left_other) ≡ repaired_from (place + c) next
-    = later (place + c) (place + c) name [] left left_other (omega (arith, few, length-drop c bits, fits.0, fits.1)) (omega arith) (unit-sound place bits)
-    (λ p none. absurd (omega (arith, none))) (λ p none. absurd (omega (arith, none))) two.again two.behind in
-    let written = repaired item raw in
-    let first_is : repaired_from place more ≡ written ++ repaired_from (place + c) next = from-more place more item raw next tail.items_are tail.own tail.behind in
-    let second_is : repaired_from place more_other ≡ written ++ repaired_from (place + c) next
-    = from-more place more_other other (take co others) next_other tail_other.items_are tail_other.own tail_other.behind
-    ∙ ap₂ (λ (xs : List Bool) (k : ℕ). xs ++ repaired_from (place + k) next_other) (ap (repaired other) two.own ∙ two.parts.again) two.parts.covers
-    ∙ ap (λ (xs : List Bool). written ++ xs) (ap (repaired_from (place + c)) moved ∙ rest) in
-    ap (repaired_from at) second
-    ∙ both.other
-    ∙ ap (λ (xs : List Bool). both.part ++ xs) (second_is ∙ sym first_is)
-    ∙ sym both.one
-    ∙ sym (ap (repaired_from at) one)
-
-twice-in : (n : ℕ) → Later n
-twice-in n at place before stretch [] others few is_place sound rests rests_other same is =
-    ap (λ (xs : List Bool). repaired_from at (followed_at before stretch place xs)) (is ∙ repaired-items place [] [] (items_by-nil true place) ∙ repaired-nil [])
-twice-in zero at place before stretch (bit ∷ bits) others few is_place sound rests rests_other same is = absurd (omega arith)
-twice-in (suc n) at place before stretch (bit ∷ bits) [] few is_place sound rests rests_other same is =
-    let all = bit ∷ bits in
-    absurd (again-none (first_item place all) (items_of (place + covered (first_item place all)) (drop (covered (first_item place all)) all))
-    (subst (λ (found : List Item). AreFoundAgain found []) (items_by-more true place all (omega arith) refl) (subst (AreFoundAgain (items_of place all)) (items_by-nil true place) same)))
-twice-in (suc n) at place before stretch (bit ∷ bits) (first ∷ others) few is_place sound rests rests_other same is =
-    let all = bit ∷ bits in
-    let all_others = first ∷ others in
-    let some : 0 < length all = omega arith in
-    let also : 0 < length all_others = omega arith in
-    let two = twin place all all_others some also same is in
-    elim (cases_Bool (is_rest (first_item place all))) [
-      | inl rest ↦ twice-rest n at place before stretch all all_others few some also is_place sound rests rests_other two rest (twice-in n)
-      | inr unit ↦ twice-unit n at place before stretch all all_others few some also is_place sound rests rests_other two unit (twice-in n)
-    ]
+    let second : followed_by true before stretch (items_of place others) others ≡ chain_by true before stretch (unit_name item) ++ (raw_other ++ next_other)
+    = rw (two.starts.all, followed-unit true before stretch two.other two.rest others unit_other, ← two.parts.name) in
+    let behind = later (place + covered item) (drop (covered item) others) (omega arith) (rw starts.first at (unit-sound place bits)) (λ p none. absurd (omega (arith, none)))
+    (λ p none. absurd (omega (arith, none))) two.again two.behind in
+    let moved : repaired_from place (raw_other ++ next_other) ≡ repaired_from place (raw ++ next)
+    = rw (
+      from-more place (raw ++ next) item raw next tail.items_are tail.own tail.behind,
+      from-more place (raw_other ++ next_other) two.other raw_other next_other tail_other.items_are tail_other.own tail_other.behind,
+      two.parts.covers,
+      two.own,
+      two.parts.again,
+      two.parts.name,
+      rw two.left at behind,
+    ) in
+    rw (second, parts.other, followed-unit true before stretch item items bits unit, parts.one, moved)
 
 pub repair-before : RepairBefore
-unfolding follow_of
+unfolding follow_of repaired_from
 repair-before bits again =
-    twice-in (length bits) 0 0 None [] bits (repair_of bits) (omega arith) (omega arith) none-sound (λ p none. absurd (omega (arith, none))) (λ p none. absurd (omega (arith, none))) again refl
+    along-items Same
+    (λ place before stretch at others is_place sound rests rests_other same is. rw (is, written-nil, items_by-nil)) same-rest same-unit
+    0 None [] bits 0 (repair_of bits) (omega arith) none-sound (λ p none. absurd (omega (arith, none))) (λ p none. absurd (omega (arith, none))) again refl

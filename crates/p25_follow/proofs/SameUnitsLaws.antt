@@ -1,12 +1,13 @@
 -- Wherever in a stretch the scan begins, it comes to the same units after it: at none of the stretch's places does a unit begin, and no gap reaches past a sync. By induction on the
 -- places that are left, and on the items of the stretch.
-use Rattle.std.proofs.Common.{◌≡◌, ℕ, zero, suc, ◌+◌, ◌-◌, ◌<◌, ◌≤◌, Bool, true, false, inl, inr, ◌⊎◌, List, [], ◌∷◌, ◌++◌, length, take, drop, refl, sym, ap, ap₂, subst, ◌∙◌, add_assoc, append_assoc, append-nil, arith, length-drop}
-use Rattle.std.proofs.{lemmas.Bool.{cases_Bool, cases_lt, cond-true}, Math.Nat.{add-zero}, lemmas.List.{drop-drop}, Math.Seq.{take-add}}
+use Rattle.std.proofs.Common.{◌≡◌, ℕ, zero, suc, ◌+◌, ◌-◌, ◌<◌, ◌≤◌, Bool, true, false, inl, inr, ◌⊎◌, List, [], ◌∷◌, ◌++◌, length, take, drop, refl, sym, ap, ◌∙◌, add_assoc, append_assoc, append-nil, arith, length-drop}
+use Rattle.std.proofs.{lemmas.Bool.{cases_Bool, cases_lt}, Math.Nat.{add-zero}, lemmas.List.{drop-drop}, lemmas.List.Sums.{sum_by-cons}, Math.Seq.{take-add}}
 use Rattle.p25_status.specs.Sync.{has_sync}
 use Rattle.p25_unit_front.proofs.FrontLaws.{identifier_of-take}
 use Rattle.p25_units.specs.{Items.{covered, unit_item_of}, Needs.{need_of}, declared.item.Item.{Item}, declared.needs.Need.TheVariants.{Length, More, NoLength}}
 use Rattle.p25_units.proofs.NeedsLaws.{IsIdentified-from, need_of-there}
 use Rattle.p25_stream.specs.Items.{first_item, items_of, sync_place}
+use Rattle.p25_stream.proofs.{ItemLaws.{items_by-among}, WrittenLaws.{items-there}}
 use Rattle.p25_stream.proofs.{ItemsLaws.{covered-first_item, first_item-cases, first_item-gap, first_item-synced, items_by-first, items_by-more}, SyncPlaceLaws.{has_sync-before, sync_place-le}}
 use Rattle.p25_follow.specs.{Followed.{is_rest}, StretchLaws.{all_rest, begins_rest, bits_in, units_among}}
 use Rattle.p25_follow.proofs.{FoundLaws.{found-unit}, StepLaws.{and_left-true, and_right-true}}
@@ -27,6 +28,13 @@ true-false false yes' no' = absurd (cc)
 
 pub no_sync-rest : (at : ℕ) (bits : List Bool) → has_sync bits ≡ false → is_rest (first_item at bits) ≡ true
 no_sync-rest at bits no' = ap is_rest (first_item-gap at bits no')
+
+pub unit-synced : (at : ℕ) (bits : List Bool) → is_rest (first_item at bits) ≡ false → has_sync bits ≡ true
+unit-synced at bits unit =
+    elim (cases_Bool (has_sync bits)) [
+      | inl yes' ↦ yes'
+      | inr no' ↦ absurd (true-false (is_rest (first_item at bits)) (no_sync-rest at bits no') unit)
+    ]
 
 -- whether a unit begins is the same wherever the stream begins
 pub rest-at : (at other : ℕ) (bits : List Bool) → is_rest (first_item at bits) ≡ true → is_rest (first_item other bits) ≡ true
@@ -53,7 +61,7 @@ Ends count bits = (count ≡ length bits) ⊎ (is_rest (first_item 0 (drop count
 synced-end : (count : ℕ) (bits : List Bool) → is_rest (first_item 0 (drop count bits)) ≡ false → sync_place bits ≤ count
 synced-end count bits unit =
     elim (cases_lt count (sync_place bits)) [
-      | inl before ↦ absurd (true-false (is_rest (first_item 0 (drop count bits))) (no_sync-rest 0 (drop count bits) (has_sync-before bits count before)) unit)
+      | inl before ↦ absurd (true-false (has_sync (drop count bits)) (unit-synced 0 (drop count bits) unit) (has_sync-before bits count before))
       | inr behind ↦ behind
     ]
 
@@ -72,7 +80,7 @@ covers-within at count bits some ends =
 -- the end is the same, seen from a later place
 ends-later : (count c : ℕ) (bits left : List Bool) (less : ℕ) → less + length bits ≡ count + length left → drop less left ≡ drop count bits → Ends count bits → Ends less left
 ends-later count c bits left less long same (inl all) = inl (omega (arith, all, long))
-ends-later count c bits left less long same (inr unit) = inr (ap (λ (xs : List Bool). is_rest (first_item 0 xs)) same ∙ unit)
+ends-later count c bits left less long same (inr unit) = inr (rw same unit)
 
 -- ---- along a stretch
 
@@ -82,8 +90,7 @@ pub along-stretch : (P : ℕ → List Bool → List Bool → Type 0)
     → P (at + covered item) (before ++ take (covered item) bits) (drop (covered item) bits) → P at before bits)
     → (n at count : ℕ) (before bits : List Bool) → count ≤ n → count ≤ length bits → RestPlaces count bits → Ends count bits
     → P (at + count) (before ++ take count bits) (drop count bits) → P at before bits
-along-stretch P back n at zero before bits few there rests ends end =
-    subst (λ (xs : List Bool). P at xs bits) (append-nil before) (subst (λ (p : ℕ). P p (before ++ []) bits) (add-zero at) end)
+along-stretch P back n at zero before bits few there rests ends end = rw (add-zero, append-nil) at end
 along-stretch P back zero at (suc count) before bits few there rests ends end = absurd (omega arith)
 along-stretch P back (suc n) at (suc more) before bits few there rests ends end =
     let count = suc more in
@@ -95,30 +102,24 @@ along-stretch P back (suc n) at (suc more) before bits few there rests ends end 
     let within : c ≤ count = covers-within at count bits (omega arith) ends rest in
     let left = drop c bits in
     let less = count - c in
-    let place : at + count ≡ at + c + less = omega arith in
+    let place : at + c + less ≡ at + count = omega arith in
     let all : c + less ≡ count = omega arith in
-    let moved : (p : ℕ) → drop p left ≡ drop (c + p) bits = λ p. drop-drop p c bits in
-    let to_end : drop less left ≡ drop count bits = moved less ∙ ap (λ (k : ℕ). drop k bits) all in
-    let taken : (before ++ take c bits) ++ take less left ≡ before ++ take count bits
-    = append_assoc before (take c bits) (take less left) ∙ ap (λ (xs : List Bool). before ++ xs) (sym (take-add c less bits) ∙ ap (λ (k : ℕ). take k bits) all) in
+    let to_end : drop less left ≡ drop count bits = rw (drop-drop, all) in
     back at before bits item (items_by-more true at bits some refl) rest
-    (along-stretch P back n (at + c) less (before ++ take c bits) left (omega (arith, fits.0)) (omega (arith, length-drop c bits))
-    (λ p first. ap (λ (xs : List Bool). is_rest (first_item 0 xs)) (moved p) ∙ rests (c + p) (omega arith))
-    (ends-later count c bits left less (omega (arith, length-drop c bits)) to_end ends)
-    (subst (λ (p : ℕ). P p ((before ++ take c bits) ++ take less left) (drop less left)) place
-    (subst (λ (xs : List Bool). P (at + count) xs (drop less left)) (sym taken) (subst (λ (xs : List Bool). P (at + count) (before ++ take count bits) xs) (sym to_end) end))))
+    (along-stretch P back n (at + c) less (before ++ take c bits) left (omega (arith, fits.0)) (omega (arith, length-drop c bits)) (λ p first. rw drop-drop (rests (c + p) (omega arith)))
+    (ends-later count c bits left less (omega (arith, length-drop c bits)) to_end ends) (rw (place, to_end, append_assoc, ← take-add, all) end))
 
 -- ---- the units after it
 
 pub among-rest : (item : Item) (items : List Item) → is_rest item ≡ true → units_among (item ∷ items) ≡ units_among items
 unfolding units_among
-among-rest item items rest = cond-true (is_rest item) (units_among items) (item ∷ units_among items) rest
+among-rest item items rest = rw rest
 
 pub same_units-in : (at count : ℕ) (bits : List Bool) → count ≤ length bits → RestPlaces count bits → Ends count bits
     → units_among (items_of at bits) ≡ units_among (items_of (at + count) (drop count bits))
 same_units-in at count bits there rests ends =
     along-stretch (λ place taken left. units_among (items_of place left) ≡ units_among (items_of (at + count) (drop count bits)))
-    (λ place taken left item is rest same. ap units_among is ∙ among-rest item (items_of (place + covered item) (drop (covered item) left)) rest ∙ same)
+    (λ place taken left item is rest same. rw (is, among-rest item (items_of (place + covered item) (drop (covered item) left)) rest) same)
     count at count [] bits (omega arith) there rests ends refl
 
 -- ---- from the items of a stretch
@@ -137,36 +138,28 @@ places-of at bits =
     (λ n yes' need rest. absurd (true-false (is_rest (unit_item_of at (take n bits))) rest (unit-there at n bits need)))
     (λ field yes' need rest place before.
     let first : place ≡ 0 = omega arith in
-    ap (λ (p : ℕ). is_rest (first_item 0 (drop p bits))) first ∙ ap is_rest (first_item-synced 0 bits (NoLength field) yes' need))
+    rw (first, first_item-synced 0 bits (NoLength field) yes' need))
+
+rests-from : (at : ℕ) (bits : List Bool) (stretch after : List Item) → items_of at bits ≡ stretch ++ after → all_rest stretch ≡ true → RestPlaces (bits_in stretch) bits
+unfolding all_rest
+rests-from at bits [] after is all place before = absurd (omega arith)
+rests-from at bits (item ∷ stretch) after is all place before =
+    let parts = items_by-first true at bits item (stretch ++ after) is in
+    let c = covered item in
+    let rest : is_rest (first_item at bits) ≡ true = rw parts.1 at (and_left-true (is_rest item) (all_rest stretch) all) in
+    elim (cases_lt place c) [
+      | inl first ↦ places-of at bits rest place (rw parts.1 at first)
+      | inr behind ↦
+          let split : c + (place - c) ≡ place = omega arith in
+          rw (drop-drop, split) at (rests-from (at + c) (drop c bits) stretch after (sym parts.2) (and_right-true (is_rest item) (all_rest stretch) all) (place - c) (omega (arith, sum_by-cons covered item stretch)))
+    ]
 
 pub stretch-from : (at : ℕ) (bits : List Bool) (stretch after : List Item) → items_of at bits ≡ stretch ++ after → all_rest stretch ≡ true → IsStretch at bits (bits_in stretch) after
-unfolding bits_in all_rest
-stretch-from at bits [] after is all = record {
-  there = omega arith;
-  rests = λ place before. absurd (omega arith);
-  left = ap (λ (p : ℕ). items_of p bits) (add-zero at) ∙ is;
+stretch-from at bits stretch after is all = record {
+  there = items-there stretch after true at bits is;
+  rests = rests-from at bits stretch after is all;
+  left = items_by-among stretch after true at bits is;
 }
-stretch-from at bits (item ∷ stretch) after is all =
-    let parts = items_by-first true at bits item (stretch ++ after) is in
-    let rest : is_rest item ≡ true = and_left-true (is_rest item) (all_rest stretch) all in
-    let c = covered item in
-    let left = drop c bits in
-    let later = stretch-from (at + c) left stretch after (sym parts.2) (and_right-true (is_rest item) (all_rest stretch) all) in
-    let fits : c ≤ length bits = subst (λ (i : Item). covered i ≤ length bits) (sym parts.1) (covered-first_item at bits parts.0).1 in
-    let here : RestPlaces c bits = subst (λ (i : Item). RestPlaces (covered i) bits) (sym parts.1) (places-of at bits (ap is_rest (sym parts.1) ∙ rest)) in
-    let count = bits_in stretch in
-    record {
-      there = omega (arith, later.there, length-drop c bits, fits);
-      rests = λ place before.
-          elim (cases_lt place c) [
-            | inl first ↦ here place first
-            | inr behind ↦
-                let split : c + (place - c) ≡ place = omega arith in
-                ap (λ (xs : List Bool). is_rest (first_item 0 xs)) (ap (λ (k : ℕ). drop k bits) (sym split) ∙ sym (drop-drop (place - c) c bits)) ∙ later.rests (place - c) (omega arith)
-          ];
-      left =
-          ap₂ (λ (p : ℕ) (xs : List Bool). items_of p xs) (sym (add_assoc at c count)) (sym (drop-drop count c bits)) ∙ later.left;
-    }
 
 -- no item is there only where no bit is
 none-left : (count at : ℕ) (bits : List Bool) → count ≤ length bits → items_of at (drop count bits) ≡ [] → count ≡ length bits
@@ -174,8 +167,7 @@ none-left count at bits there none =
     elim (cases_lt count (length bits)) [
       | inl before ↦
           let some : 0 < length (drop count bits) = omega (arith, length-drop count bits) in
-          absurd (let wrong : first_item at (drop count bits) ∷ items_of (at + covered (first_item at (drop count bits))) (drop (covered (first_item at (drop count bits))) (drop count bits)) ≡ []
-          = sym (items_by-more true at (drop count bits) some refl) ∙ none in cc)
+          absurd (let wrong = sym (items_by-more true at (drop count bits) some refl) ∙ none in cc)
       | inr behind ↦ omega arith
     ]
 
@@ -198,14 +190,9 @@ pub same-units : (at place : ℕ) (bits : List Bool) (stretch after : List Item)
 same-units at place bits stretch after is all no' within =
     let whole = stretch-from at bits stretch after is all in
     let count = bits_in stretch in
-    let ends = ends-before at count bits after whole.there whole.left no' in
-    let left = drop place bits in
     let less = count - place in
-    let moved : (p : ℕ) → drop p left ≡ drop (place + p) bits = λ p. drop-drop p place bits in
-    let to_end : drop less left ≡ drop count bits = moved less ∙ ap (λ (k : ℕ). drop k bits) (let same : place + less ≡ count = omega arith in same) in
-    let at_end : at + place + less ≡ at + count = omega arith in
-    same_units-in (at + place) less left (omega (arith, length-drop place bits, whole.there))
-    (λ p before. ap (λ (xs : List Bool). is_rest (first_item 0 xs)) (moved p) ∙ whole.rests (place + p) (omega arith))
-    (ends-later count place bits left less (omega (arith, length-drop place bits, whole.there)) to_end ends)
-    ∙ ap₂ (λ (p : ℕ) (xs : List Bool). units_among (items_of p xs)) at_end to_end
-    ∙ ap units_among whole.left
+    let all : place + less ≡ count = omega arith in
+    let to_end : drop less (drop place bits) ≡ drop count bits = rw (drop-drop, all) in
+    same_units-in (at + place) less (drop place bits) (omega (arith, length-drop place bits, whole.there)) (λ p before. rw drop-drop (whole.rests (place + p) (omega arith)))
+    (ends-later count place bits (drop place bits) less (omega (arith, length-drop place bits, whole.there)) to_end (ends-before at count bits after whole.there whole.left no'))
+    ∙ rw (to_end, add_assoc, all, whole.left)

@@ -1,16 +1,16 @@
 -- A step looks at no more bits than its reach: what comes after them changes nothing, nor does the end. By the links, with what is told of the first 114 bits.
-use Rattle.std.proofs.Common.{◌≡◌, ℕ, zero, suc, ◌+◌, ◌-◌, ◌*◌, ◌<◌, ◌≤◌, Bool, true, false, cond, ◌&&◌, ◌||◌, inl, inr, List, [], ◌++◌, length, drop, Option, Some, None, refl, sym, ap, ap₂, subst, ◌∙◌, arith, append-nil, length-append, length-drop}
-use Rattle.std.proofs.{lemmas.Bool.{cases_lt, cond-false, cond-true, le-leb, leb-true, lt-leb, lt-ltb, ltb-true}, lemmas.List.{drop-append-le, drop-drop}}
+use Rattle.std.proofs.Common.{◌≡◌, ℕ, zero, suc, ◌+◌, ◌-◌, ◌*◌, ◌<◌, ◌≤◌, Bool, true, false, cond, ◌&&◌, ◌||◌, inl, inr, List, [], ◌++◌, length, drop, Option, Some, None, refl, subst, arith, append-nil, length-append, length-drop}
+use Rattle.std.proofs.{lemmas.Bool.{cases_lt, le-leb, leb-true, lt-leb, lt-ltb, ltb-true}, lemmas.List.{drop-append-le, drop-drop}}
 use Rattle.std.specs.{Prelude.{nat_le, nat_lt}, Option.{is_some, option_or}}
 use Rattle.p25_follow.specs.{declared.told.Told.{Told}, declared.told.Told.TheVariants.{Expected, Other, Nothing}, Expected.{kind_length, next_link}}
-use Rattle.p25_follow.specs.{Steps.{fits_by, fits_of, is_end, is_sure, step_of, true_of}, Told.{is_nothing, told_of}}
+use Rattle.p25_follow.specs.{Steps.{fits_by, fits_of, is_sure, step_of, true_of}, Told.{is_nothing, told_of}}
 use Rattle.p25_follow.proofs.{KindLaws.{IsKind, expected-kinds, link-kinds}, ToldLaws.{told_of-append, told_of-expected, told_of-short}}
 
 -- ---- what fits
 
 pub fits_kind : (bits : List Bool) (kind : ℕ) → kind_length kind ≤ length bits → fits_by bits (Expected kind) ≡ Some kind
 unfolding fits_by
-fits_kind bits kind long = cond-true (nat_le (kind_length kind) (length bits)) (Some kind) None (le-leb (kind_length kind) (length bits) long)
+fits_kind bits kind long = rw (le-leb (kind_length kind) (length bits) long)
 
 -- a kind that fits is a kind that is told, and its bits are there
 pub record FitsThere (before : ℕ × ℕ) (bits : List Bool) (kind : ℕ) : Type 0 where
@@ -22,9 +22,9 @@ by-fits : (before : ℕ × ℕ) (bits : List Bool) (told : Told) (kind : ℕ) �
 unfolding fits_by
 by-fits before bits (Expected other) kind is fits =
     elim (cases_lt (length bits) (kind_length other)) [
-      | inl short ↦ absurd (let none : None ≡ Some kind = sym (cond-false (nat_le (kind_length other) (length bits)) (Some other) None (lt-leb (kind_length other) (length bits) short)) ∙ fits in cc)
+      | inl short ↦ absurd (let none = rw (lt-leb (kind_length other) (length bits) short) at fits in cc)
       | inr long ↦
-          let some : Some other ≡ Some kind = sym (cond-true (nat_le (kind_length other) (length bits)) (Some other) None (le-leb (kind_length other) (length bits) long)) ∙ fits in
+          let some = rw (le-leb (kind_length other) (length bits) long) at fits in
           let same : other ≡ kind = cc in
           subst (FitsThere before bits) same record { told = is; there = long; is_kind = (told_of-expected IsKind before bits other (expected-kinds before.1) is).1 }
     ]
@@ -40,14 +40,13 @@ by-long : (before : ℕ × ℕ) (bits more : List Bool) (told : Told) → 1728 �
 unfolding fits_by
 by-long before bits more (Expected kind) long is =
     let most = (told_of-expected IsKind before bits kind (expected-kinds before.1) is).1.most in
-    fits_kind (bits ++ more) kind (omega (arith, length-append bits more)) ∙ sym (fits_kind bits kind (omega arith))
+    rw (fits_kind (bits ++ more) kind (omega (arith, length-append bits more)), fits_kind bits kind (omega arith))
 by-long before bits more Other long is = refl
 by-long before bits more Nothing long is = refl
 
 pub fits_of-append : (before : ℕ × ℕ) (bits more : List Bool) → 1728 ≤ length bits → fits_of before (bits ++ more) ≡ fits_of before bits
 unfolding fits_of
-fits_of-append before bits more long =
-    ap (fits_by (bits ++ more)) (told_of-append before bits more (omega arith)) ∙ by-long before bits more (told_of before bits) long refl
+fits_of-append before bits more long = rw (told_of-append before bits more (omega arith)) (by-long before bits more (told_of before bits) long refl)
 
 -- ---- what is sure
 
@@ -64,37 +63,34 @@ link_on links before bits end =
 
 pub is_sure-zero : (before : ℕ × ℕ) (bits : List Bool) (end : Option (ℕ × ℕ)) → 0 < length bits → is_sure 0 before bits end ≡ is_some (fits_of before bits)
 unfolding is_sure
-is_sure-zero before bits end some = cond-true (nat_lt 0 (length bits)) (is_some (fits_of before bits)) (is_end before end) (some_bits bits some)
+is_sure-zero before bits end some = rw (some_bits bits some)
 
 pub is_sure-suc : (links : ℕ) (before : ℕ × ℕ) (bits : List Bool) (end : Option (ℕ × ℕ)) → 0 < length bits
     → is_sure (suc links) before bits end ≡ (is_some (fits_of before bits) || link_on links before bits end)
 unfolding is_sure
-is_sure-suc links before bits end some =
-    cond-true (nat_lt 0 (length bits)) (is_some (fits_of before bits) || link_on links before bits end) (is_end before end) (some_bits bits some)
+is_sure-suc links before bits end some = rw (some_bits bits some)
 
 pub is_sure-append : (links : ℕ) (before : ℕ × ℕ) (bits more : List Bool) (end other : Option (ℕ × ℕ)) → 1728 * (links + 1) ≤ length bits
     → is_sure links before (bits ++ more) end ≡ is_sure links before bits other
 is_sure-append zero before bits more end other long =
-    is_sure-zero before (bits ++ more) end (omega (arith, length-append bits more))
-    ∙ ap is_some (fits_of-append before bits more (omega arith))
-    ∙ sym (is_sure-zero before bits other (omega arith))
+    rw (is_sure-zero before (bits ++ more) end (omega (arith, length-append bits more)), is_sure-zero before bits other (omega arith), fits_of-append before bits more (omega arith))
 is_sure-append (suc links) before bits more end other long =
     let enough : 1728 ≤ length bits = omega arith in
     let rest : (kind : ℕ) → is_sure links (before.0, kind) (drop 1728 (bits ++ more)) end ≡ is_sure links (before.0, kind) (drop 1728 bits) other
-    = λ kind. ap (λ (xs : List Bool). is_sure links (before.0, kind) xs end) (drop-append-le 1728 bits more enough)
-    ∙ is_sure-append links (before.0, kind) (drop 1728 bits) more end other (omega (arith, length-drop 1728 bits)) in
-    is_sure-suc links before (bits ++ more) end (omega (arith, length-append bits more))
-    ∙ ap₂ (λ (a b : Bool). a || b)
-    (ap is_some (fits_of-append before bits more enough))
-    (ap₂ (λ (a b : Bool). a && b)
-    (ap₂ (λ (a b : Bool). a && b) (ap is_nothing (told_of-append before bits more (omega arith)))
-    (le-leb 1728 (length (bits ++ more)) (omega (arith, length-append bits more)) ∙ sym (le-leb 1728 (length bits) enough)))
-    (true_of-same (λ kind. is_sure links (before.0, kind) (drop 1728 (bits ++ more)) end) (λ kind. is_sure links (before.0, kind) (drop 1728 bits) other) (next_link before.1) rest))
-    ∙ sym (is_sure-suc links before bits other (omega arith))
+    = λ kind. rw (drop-append-le 1728 bits more enough) (is_sure-append links (before.0, kind) (drop 1728 bits) more end other (omega (arith, length-drop 1728 bits))) in
+    rw (
+      is_sure-suc links before (bits ++ more) end (omega (arith, length-append bits more)),
+      is_sure-suc links before bits other (omega arith),
+      fits_of-append before bits more enough,
+      told_of-append before bits more (omega arith),
+      le-leb 1728 (length (bits ++ more)) (omega (arith, length-append bits more)),
+      le-leb 1728 (length bits) enough,
+      true_of-same (λ kind. is_sure links (before.0, kind) (drop 1728 (bits ++ more)) end) (λ kind. is_sure links (before.0, kind) (drop 1728 bits) other) (next_link before.1) rest,
+    )
 
 fits_of-nothing : (before : ℕ × ℕ) (bits : List Bool) → told_of before bits ≡ Nothing → fits_of before bits ≡ None
 unfolding fits_of fits_by
-fits_of-nothing before bits told = ap (fits_by bits) told
+fits_of-nothing before bits told = rw told
 
 -- over a logical link unit of which nothing is told it is as sure as after it
 pub sure-linked : (links kind at : ℕ) (before next : ℕ × ℕ) (bits : List Bool) (end : Option (ℕ × ℕ)) (answer : Bool) → 0 < links → at + 1728 ≤ length bits
@@ -104,38 +100,30 @@ sure-linked zero kind at before next bits end answer some there told link same i
 sure-linked (suc links) kind at before next bits end answer some there told link same is =
     let rest = drop at bits in
     let less : suc links - 1 ≡ links = omega arith in
-    let moved : drop (at + 1728) bits ≡ drop 1728 rest = sym (drop-drop 1728 at bits) in
     let long : 1728 ≤ length rest = omega (arith, length-drop at bits) in
-    is
-    ∙ ap₂ (λ (n : ℕ) (xs : List Bool). is_sure n next xs end) less moved
-    ∙ ap (λ (name : ℕ × ℕ). is_sure links name (drop 1728 rest) end) same
-    ∙ sym
-    (is_sure-suc links before rest end (omega arith)
-    ∙ ap₂ (λ (fits : Option ℕ) (b : Bool). is_some fits || b) (fits_of-nothing before rest told)
-    (ap₂ (λ (a : Told) (b : Bool). is_nothing a && b && true_of (λ k. is_sure links (before.0, k) (drop 1728 rest) end) (next_link before.1)) told (le-leb 1728 (length rest) long)
-    ∙ ap (true_of (λ k. is_sure links (before.0, k) (drop 1728 rest) end)) link))
+    rw (is, less, ← drop-drop 1728 at bits, same, is_sure-suc links before rest end (omega arith), fits_of-nothing before rest told, told, le-leb 1728 (length rest) long, link)
 
 -- ---- a step
 
 pub step_of-append : (before : ℕ × ℕ) (bits more : List Bool) (end other : Option (ℕ × ℕ)) → 6912 ≤ length bits → step_of before (bits ++ more) end ≡ step_of before bits other
 unfolding step_of
 step_of-append before bits more end other long =
-    ap₂ option_or (fits_of-append before bits more (omega arith))
-    (ap (λ (b : Bool). cond b (next_link before.1) None)
-    (ap₂ (λ (a b : Bool). a && b)
-    (ap₂ (λ (a b : Bool). a && b)
-    (some_bits (bits ++ more) (omega (arith, length-append bits more)) ∙ sym (some_bits bits (omega arith)))
-    (ap is_nothing (told_of-append before bits more (omega arith))))
-    (is_sure-append 3 before bits more end other (omega arith))))
+    rw (
+      fits_of-append before bits more (omega arith),
+      some_bits (bits ++ more) (omega (arith, length-append bits more)),
+      some_bits bits (omega arith),
+      told_of-append before bits more (omega arith),
+      is_sure-append 3 before bits more end other (omega arith),
+    )
 
 -- the end is as good as none where all that a step looks at is there
 pub step_of-end : (before : ℕ × ℕ) (bits : List Bool) (end : Option (ℕ × ℕ)) → 6912 ≤ length bits → step_of before bits end ≡ step_of before bits None
-step_of-end before bits end long = ap (λ (xs : List Bool). step_of before xs end) (sym (append-nil bits)) ∙ step_of-append before bits [] end None long
+step_of-end before bits end long = rw append-nil at (step_of-append before bits [] end None long)
 
 -- no step begins where no bits are
 pub step_of-nil : (before : ℕ × ℕ) (end : Option (ℕ × ℕ)) → step_of before [] end ≡ None
 unfolding step_of fits_of fits_by
-step_of-nil before end = ap (λ (told : Told). option_or (fits_by [] told) None) (told_of-short before [] (omega arith))
+step_of-nil before end = rw (told_of-short before [] (omega arith))
 
 -- ---- the bits of the unit of a step are there
 
@@ -155,9 +143,9 @@ and_right-true false b is = absurd (cc)
 
 pub sure-long : (links : ℕ) (before : ℕ × ℕ) (bits : List Bool) (end : Option (ℕ × ℕ)) → 0 < length bits → fits_of before bits ≡ None → is_sure links before bits end ≡ true → 1728 ≤ length bits
 sure-long zero before bits end some none sure =
-    absurd (let no' : false ≡ true = sym (ap is_some none) ∙ sym (is_sure-zero before bits end some) ∙ sure in cc)
+    absurd (let no' = rw (is_sure-zero before bits end some, none) at sure in cc)
 sure-long (suc links) before bits end some none sure =
-    let on : link_on links before bits end ≡ true = sym (ap (λ (fits : Option ℕ). is_some fits || link_on links before bits end) none) ∙ sym (is_sure-suc links before bits end some) ∙ sure in
+    let on = rw (is_sure-suc links before bits end some, none) at sure in
     leb-true 1728 (length bits) (and_right-true (is_nothing (told_of before bits)) (nat_le 1728 (length bits)) (and_left-true _ _ on))
 
 linked : (before : ℕ × ℕ) (bits : List Bool) (end : Option (ℕ × ℕ)) (kind : ℕ) (ready : Bool) → (ready ≡ true → 1728 ≤ length bits)

@@ -1,119 +1,71 @@
 -- What comes out of a recording, stretch by stretch: the bits of a unit as they are, and those of a stretch after it as its chain. By induction on the items before them.
-use Rattle.std.proofs.Common.{◌≡◌, ℕ, ◌+◌, ◌≤◌, Bool, true, false, inl, inr, List, [], ◌∷◌, ◌++◌, length, take, drop, Option, None, refl, sym, ap, ap₂, subst, ◌∙◌, arith, append_assoc, append-nil, length-append, length-drop}
-use Rattle.std.proofs.{lemmas.Bool.{cases_Bool}, lemmas.List.{drop-drop, drop_at, length-take-le, take_at}, Math.Seq.{take-add}}
+use Rattle.std.proofs.Common.{◌≡◌, ℕ, ◌+◌, ◌≤◌, Bool, true, false, inl, inr, List, [], ◌∷◌, ◌++◌, length, take, drop, Option, None, sym, ◌∙◌, add_assoc, arith, append_assoc, append-nil, length-append, length-drop}
+use Rattle.std.proofs.{lemmas.Bool.{cases_Bool}, lemmas.List.{drop-drop, length-take-le}, lemmas.List.Sums.{sum_by-cons}, Math.Nat.{zero-add}, Math.Seq.{take-add}}
+use Rattle.p25_bits.proofs.PartLaws.{part_joined}
 use Rattle.p25_units.specs.{Items.{covered}, declared.item.Item.{Item}}
 use Rattle.p25_stream.specs.Items.{items_of}
-use Rattle.p25_stream.proofs.ItemsLaws.{covered-first_item, items_by-first}
+use Rattle.p25_stream.proofs.{ItemLaws.{item-among}, WrittenLaws.{items-there}}
 use Rattle.p25_follow.specs.{Chains.{chain_by}, Followed.{follow_of, followed_by, is_rest, unit_name}, FollowedUnits.{end_name}, RecordingLaws.{StretchByStretch}}
 use Rattle.p25_follow.specs.StretchLaws.{all_rest, begins_rest, bits_in}
 use Rattle.p25_follow.proofs.{FollowingLaws.{followed-end, followed-rest, followed-unit}, LengthLaws.{length-chain_of}, StepLaws.{and_left-true, and_right-true}}
 
--- ---- how many bits items cover
+-- what comes out before a unit is as long as the bits before it, and then come those of the unit
+record IsFrom (before : Option (ℕ × ℕ)) (stretch : List Bool) (first : List Item) (unit : Item) (items : List Item) (bits : List Bool) : Type 0 where
+  front : List Bool
+  long : length front ≡ length stretch + bits_in first
+  joined : followed_by true before stretch (first ++ (unit ∷ items)) bits
+      ≡ front ++ (take (covered unit) (drop (bits_in first) bits) ++ followed_by true (unit_name unit) [] items (drop (bits_in first + covered unit) bits))
 
-pub bits_in-more : (item : Item) (items : List Item) → bits_in (item ∷ items) ≡ covered item + bits_in items
-unfolding bits_in
-bits_in-more item items = refl
-
-bits_in-nil : bits_in [] ≡ 0
-unfolding bits_in
-bits_in-nil = refl
-
-pub bits_in-append : (items others : List Item) → bits_in (items ++ others) ≡ bits_in items + bits_in others
-bits_in-append [] others = omega (arith, bits_in-nil)
-bits_in-append (item ∷ items) others = omega (arith, bits_in-more item (items ++ others), bits_in-more item items, bits_in-append items others)
-
-pub bits_in-fit : (at : ℕ) (bits : List Bool) (items : List Item) → items_of at bits ≡ items → bits_in items ≤ length bits
-bits_in-fit at bits [] is = omega (arith, bits_in-nil)
-bits_in-fit at bits (item ∷ items) is =
-    let parts = items_by-first true at bits item items is in
-    let fits : covered item ≤ length bits = subst (λ (i : Item). covered i ≤ length bits) (sym parts.1) (covered-first_item at bits parts.0).1 in
-    omega (arith, bits_in-more item items, bits_in-fit (at + covered item) (drop (covered item) bits) items (sym parts.2), fits, length-drop (covered item) bits)
-
--- ---- what comes out from a unit on
-
-from-unit : (before : Option (ℕ × ℕ)) (stretch : List Bool) (first : List Item) (unit : Item) (items : List Item) (bits : List Bool) → is_rest unit ≡ false → bits_in first + covered unit ≤ length bits
-    → drop (length stretch + bits_in first) (followed_by true before stretch (first ++ (unit ∷ items)) bits)
-    ≡ take (covered unit) (drop (bits_in first) bits) ++ followed_by true (unit_name unit) [] items (drop (bits_in first + covered unit) bits)
-from-unit before stretch [] unit items bits is fits =
-    let count = covered unit in
-    let chain = chain_by true before stretch (unit_name unit) in
-    let next = followed_by true (unit_name unit) [] items in
-    let none : bits_in [] ≡ 0 = bits_in-nil in
-    ap₂ (λ (n : ℕ) (xs : List Bool). drop n xs) (let same : length stretch + bits_in [] ≡ length stretch = omega (arith, none) in same) (followed-unit true before stretch unit items bits is)
-    ∙ drop_at chain (take count bits ++ next (drop count bits)) (length stretch) (length-chain_of before stretch (unit_name unit))
-    ∙ ap₂ (λ (n m : ℕ). take count (drop n bits) ++ next (drop m bits)) (sym none) (let same : count ≡ bits_in [] + count = omega (arith, none) in same)
+from-unit : (before : Option (ℕ × ℕ)) (stretch : List Bool) (first : List Item) (unit : Item) (items : List Item) (bits : List Bool) → is_rest unit ≡ false → bits_in first ≤ length bits
+    → IsFrom before stretch first unit items bits
+from-unit before stretch [] unit items bits is fits = record {
+  front = chain_by true before stretch (unit_name unit);
+  long = omega (arith, length-chain_of before stretch (unit_name unit));
+  joined = rw (followed-unit true before stretch unit items bits is, zero-add);
+}
 from-unit before stretch (item ∷ first) unit items bits is fits =
     let c = covered item in
-    let count = covered unit in
-    let tail = first ++ (unit ∷ items) in
     let raw = take c bits in
-    let left = drop c bits in
-    let next = followed_by true (unit_name unit) [] items in
-    let more = bits_in-more item first in
-    let here : c ≤ length bits = omega (arith, fits, more) in
-    let raw_long : length raw ≡ c = length-take-le c bits here in
-    let later_fits : bits_in first + count ≤ length left = omega (arith, fits, more, length-drop c bits) in
-    let place : c + bits_in first ≡ bits_in (item ∷ first) = sym more in
-    let end : c + (bits_in first + count) ≡ bits_in (item ∷ first) + count = omega (arith, more) in
-    let moved : take count (drop (bits_in first) left) ++ next (drop (bits_in first + count) left)
-    ≡ take count (drop (bits_in (item ∷ first)) bits) ++ next (drop (bits_in (item ∷ first) + count) bits)
-    = ap₂ (λ (xs ys : List Bool). take count xs ++ next ys)
-    (drop-drop (bits_in first) c bits ∙ ap (λ (k : ℕ). drop k bits) place)
-    (drop-drop (bits_in first + count) c bits ∙ ap (λ (k : ℕ). drop k bits) end) in
+    let more = sum_by-cons covered item first in
+    let raw_long : length raw ≡ c = length-take-le c bits (omega arith) in
+    let later = λ (name : Option (ℕ × ℕ)) (begun : List Bool). from-unit name begun first unit items (drop c bits) is (omega (arith, length-drop c bits)) in
     elim (cases_Bool (is_rest item)) [
       | inl rest ↦
-          ap₂ (λ (n : ℕ) (xs : List Bool). drop n xs)
-          (let same : length stretch + bits_in (item ∷ first) ≡ length (stretch ++ raw) + bits_in first = omega (arith, more, length-append stretch raw, raw_long) in same)
-          (followed-rest true before stretch item tail bits rest)
-          ∙ from-unit before (stretch ++ raw) first unit items left is later_fits
-          ∙ moved
+          let behind = later before (stretch ++ raw) in
+          record {
+            front = behind.front;
+            long = omega (arith, behind.long, length-append stretch raw);
+            joined = rw (followed-rest true before stretch item (first ++ (unit ∷ items)) bits rest) (simp (more, add_assoc) (rw (drop-drop, drop-drop) at behind.joined));
+          }
       | inr no' ↦
           let chain = chain_by true before stretch (unit_name item) in
-          let chain_long = length-chain_of before stretch (unit_name item) in
-          let behind = followed_by true (unit_name item) [] tail left in
-          let place_long : length (chain ++ raw) ≡ length stretch + c = omega (arith, length-append chain raw, chain_long, raw_long) in
-          ap₂ (λ (n : ℕ) (xs : List Bool). drop n xs) (let same : length stretch + bits_in (item ∷ first) ≡ length stretch + c + bits_in first = omega (arith, more) in same)
-          (followed-unit true before stretch item tail bits no' ∙ sym (append_assoc chain raw behind))
-          ∙ sym (drop-drop (bits_in first) (length stretch + c) ((chain ++ raw) ++ behind))
-          ∙ ap (drop (bits_in first)) (drop_at (chain ++ raw) behind (length stretch + c) place_long)
-          ∙ ap (λ (n : ℕ). drop n behind) (let same : bits_in first ≡ 0 + bits_in first = omega arith in same)
-          ∙ from-unit (unit_name item) [] first unit items left is later_fits
-          ∙ moved
+          let behind = later (unit_name item) [] in
+          record {
+            front = chain ++ (raw ++ behind.front);
+            long = omega (arith, behind.long, length-append chain (raw ++ behind.front), length-append raw behind.front, length-chain_of before stretch (unit_name item));
+            joined = rw (followed-unit true before stretch item (first ++ (unit ∷ items)) bits no', behind.joined, append_assoc, append_assoc) (simp (more, add_assoc, drop-drop));
+          }
     ]
 
--- ---- what comes out of a stretch
+-- what comes out of a stretch that has begun, and then more
+record IsOf (before : Option (ℕ × ℕ)) (begun : List Bool) (stretch after : List Item) (bits : List Bool) : Type 0 where
+  more : List Bool
+  joined : followed_by true before begun (stretch ++ after) bits ≡ chain_by true before (begun ++ take (bits_in stretch) bits) (end_name after) ++ more
 
-of-stretch : (before : Option (ℕ × ℕ)) (begun : List Bool) (stretch after : List Item) (bits : List Bool) → all_rest stretch ≡ true → begins_rest after ≡ false → bits_in stretch ≤ length bits
-    → take (length begun + bits_in stretch) (followed_by true before begun (stretch ++ after) bits) ≡ chain_by true before (begun ++ take (bits_in stretch) bits) (end_name after)
+of-stretch : (before : Option (ℕ × ℕ)) (begun : List Bool) (stretch after : List Item) (bits : List Bool) → all_rest stretch ≡ true → begins_rest after ≡ false → IsOf before begun stretch after bits
 unfolding all_rest
-of-stretch before begun [] [] bits all no' fits =
-    let none : bits_in [] ≡ 0 = bits_in-nil in
-    let chain = chain_by true before begun None in
-    ap₂ (λ (n : ℕ) (xs : List Bool). take n xs) (let same : length begun + bits_in [] ≡ length begun = omega (arith, none) in same) (followed-end true before begun bits ∙ sym (append-nil chain))
-    ∙ take_at chain [] (length begun) (length-chain_of before begun None)
-    ∙ ap (λ (xs : List Bool). chain_by true before xs None) (sym (ap (λ (n : ℕ). begun ++ take n bits) none ∙ append-nil begun))
-of-stretch before begun [] (item ∷ items) bits all no' fits =
-    let none : bits_in [] ≡ 0 = bits_in-nil in
-    let chain = chain_by true before begun (unit_name item) in
-    let count = covered item in
-    ap₂ (λ (n : ℕ) (xs : List Bool). take n xs) (let same : length begun + bits_in [] ≡ length begun = omega (arith, none) in same) (followed-unit true before begun item items bits no')
-    ∙ take_at chain (take count bits ++ followed_by true (unit_name item) [] items (drop count bits)) (length begun) (length-chain_of before begun (unit_name item))
-    ∙ ap (λ (xs : List Bool). chain_by true before xs (unit_name item)) (sym (ap (λ (n : ℕ). begun ++ take n bits) none ∙ append-nil begun))
-of-stretch before begun (item ∷ stretch) after bits all no' fits =
-    let c = covered item in
-    let raw = take c bits in
-    let left = drop c bits in
-    let more = bits_in-more item stretch in
-    let here : c ≤ length bits = omega (arith, fits, more) in
+of-stretch before begun [] [] bits all no' = record { more = []; joined = rw (followed-end, append-nil, append-nil) }
+of-stretch before begun [] (item ∷ items) bits all no' = record {
+  more = take (covered item) bits ++ followed_by true (unit_name item) [] items (drop (covered item) bits);
+  joined = rw (append-nil, followed-unit true before begun item items bits no');
+}
+of-stretch before begun (item ∷ stretch) after bits all no' =
     let rest : is_rest item ≡ true = and_left-true (is_rest item) (all_rest stretch) all in
-    ap₂ (λ (n : ℕ) (xs : List Bool). take n xs)
-    (let same : length begun + bits_in (item ∷ stretch) ≡ length (begun ++ raw) + bits_in stretch = omega (arith, more, length-append begun raw, length-take-le c bits here) in same)
-    (followed-rest true before begun item (stretch ++ after) bits rest)
-    ∙ of-stretch before (begun ++ raw) stretch after left (and_right-true (is_rest item) (all_rest stretch) all) no' (omega (arith, fits, more, length-drop c bits))
-    ∙ ap (λ (xs : List Bool). chain_by true before xs (end_name after))
-    (append_assoc begun raw (take (bits_in stretch) left) ∙ ap (λ (xs : List Bool). begun ++ xs) (sym (take-add c (bits_in stretch) bits) ∙ ap (λ (n : ℕ). take n bits) (sym more)))
-
--- ---- over a recording
+    let later = of-stretch before (begun ++ take (covered item) bits) stretch after (drop (covered item) bits) (and_right-true (is_rest item) (all_rest stretch) all) no' in
+    record {
+      more = later.more;
+      joined = rw (followed-rest true before begun item (stretch ++ after) bits rest, sum_by-cons covered item stretch, take-add, ← append_assoc begun) later.joined;
+    }
 
 pub by-stretches : StretchByStretch
 unfolding follow_of
@@ -121,21 +73,16 @@ by-stretches bits first unit stretch after is is_unit all no' =
     let count = covered unit in
     let at = bits_in first in
     let n = bits_in stretch in
-    let fits = bits_in-fit 0 bits (first ++ (unit ∷ (stretch ++ after))) is in
-    let parts : bits_in (first ++ (unit ∷ (stretch ++ after))) ≡ at + (count + (n + bits_in after))
-    = omega (arith, bits_in-append first (unit ∷ (stretch ++ after)), bits_in-more unit (stretch ++ after), bits_in-append stretch after) in
-    let there : at + count ≤ length bits = omega (arith, fits, parts) in
-    let out = followed_by true None [] (items_of 0 bits) bits in
+    let there = item-among true 0 bits first unit (stretch ++ after) is in
+    let from = from-unit None [] first unit (stretch ++ after) bits is_unit (items-there first (unit ∷ (stretch ++ after)) true 0 bits is) in
     let left = drop (at + count) bits in
+    let of = of-stretch (unit_name unit) [] stretch after left all no' in
     let raw = take count (drop at bits) in
-    let next = followed_by true (unit_name unit) [] (stretch ++ after) left in
-    let raw_long : length raw ≡ count = length-take-le count (drop at bits) (omega (arith, there, length-drop at bits)) in
-    let from : drop at out ≡ raw ++ next
-    = ap₂ (λ (k : ℕ) (items : List Item). drop k (followed_by true None [] items bits)) (let same : at ≡ 0 + at = omega arith in same) is
-    ∙ from-unit None [] first unit (stretch ++ after) bits is_unit there in
-    let behind : drop (at + count) out ≡ next = sym (drop-drop count at out) ∙ ap (drop count) from ∙ drop_at raw next count raw_long in (
-      ap (take count) from ∙ take_at raw next count raw_long,
-      ap (take n) behind
-          ∙ ap (λ (k : ℕ). take k next) (let same : n ≡ 0 + n = omega arith in same)
-          ∙ of-stretch (unit_name unit) [] stretch after left all no' (omega (arith, fits, parts, length-drop (at + count) bits)),
+    let chain = chain_by true (unit_name unit) (take n left) (end_name after) in
+    let raw_long : length raw ≡ count = length-take-le count (drop at bits) there.4 in
+    let fits : n ≤ length left = rw drop-drop at (items-there stretch after true (0 + at + count) (drop count (drop at bits)) (sym there.2)) in
+    let out : followed_by true None [] (items_of 0 bits) bits ≡ (from.front ++ raw) ++ (chain ++ of.more) = rw (is, from.joined, of.joined, append_assoc) in (
+      rw (out, append_assoc) (part_joined at count from.front raw (chain ++ of.more) (omega (arith, from.long)) raw_long),
+      rw out (part_joined (at + count) n (from.front ++ raw) chain of.more (omega (arith, from.long, length-append from.front raw, raw_long))
+          (length-chain_of (unit_name unit) (take n left) (end_name after) ∙ length-take-le n left fits)),
     )

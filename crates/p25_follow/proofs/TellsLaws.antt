@@ -1,10 +1,10 @@
 -- What a front has to tell where it is written: an identifier that reads is the one that is written, and a unit that may come and whose identifier reads as its own is written.
-use Rattle.std.proofs.Common.{◌≡◌, ℕ, ◌<◌, ◌≤◌, Bool, true, false, cond, ◌&&◌, inl, inr, List, length, Option, Some, None, refl, sym, ap, subst, ◌∙◌, arith}
-use Rattle.std.proofs.lemmas.Bool.{and_from, cases_Bool, cond-false, cond-true, eq-eqb, ltb-true}
+use Rattle.std.proofs.Common.{◌≡◌, ℕ, ◌<◌, ◌≤◌, Bool, true, false, cond, ◌&&◌, inl, inr, List, length, Option, Some, None, refl, sym, subst, ◌∙◌, arith}
+use Rattle.std.proofs.lemmas.Bool.{and_from, cases_Bool, eq-eqb, ltb-true}
 use Rattle.std.specs.{Prelude.{nat_eq, nat_lt}, Option.{option_or}}
 use Rattle.p25_unit_front.specs.Front.{identifier_of}
 use Rattle.p25_unit_front.proofs.FrontLaws.{identifier_of-near}
-use Rattle.p25_follow.specs.{declared.told.Told.TheVariants.{Expected, Other}, Expected.{is_expected, kind_length, next_link}, Steps.{fits_by, fits_of, is_sure, step_of}}
+use Rattle.p25_follow.specs.{declared.told.Told.TheVariants.{Expected, Other}, Expected.{is_expected, kind_length, next_link}, Steps.{fits_of, is_sure, step_of}}
 use Rattle.p25_follow.specs.Told.{is_nothing, name_errors_of, told_name, told_of}
 use Rattle.p25_follow.proofs.{StepLaws.{and_left-true, and_right-true, fits_kind, fits_of-kind, sure-long}, ToldLaws.{name-told, read-told}}
 
@@ -26,11 +26,11 @@ reads-by before bits end kind name None reads fits is =
     let nothing = is_nothing (told_of before bits) in
     let sure = is_sure 3 before bits end in
     elim (cases_Bool (some && nothing && sure)) [
-      | inr no' ↦ absurd (let none : None ≡ Some kind = sym (cond-false (some && nothing && sure) (next_link before.1) None no') ∙ is in cc)
+      | inr no' ↦ absurd (let none = rw no' at is in cc)
       | inl yes' ↦
           let first = and_left-true (some && nothing) sure yes' in
           let long = sure-long 3 before bits end (ltb-true 0 (length bits) (and_left-true some nothing first)) fits (and_right-true (some && nothing) sure yes') in
-          absurd (let wrong : true ≡ false = sym (and_right-true some nothing first) ∙ ap is_nothing (read-told before bits name (omega arith) reads) ∙ name-something before name in cc)
+          absurd (let wrong = rw (read-told before bits name (omega arith) reads, name-something before name) at (and_right-true some nothing first) in cc)
     ]
 
 pub step-reads : (before : ℕ × ℕ) (bits : List Bool) (end : Option (ℕ × ℕ)) (kind : ℕ) (name : ℕ × ℕ) → step_of before bits end ≡ Some kind → identifier_of bits ≡ Some name → name ≡ (before.0, kind)
@@ -44,7 +44,8 @@ unfolding step_of fits_of told_name name_errors_of
 step-near nac before kind bits end nac_fits kind_fits may long there near =
     let enough : 114 ≤ length bits = omega arith in
     let told : told_of (nac, before) bits ≡ Expected kind
-    = read-told (nac, before) bits (nac, kind) enough (identifier_of-near nac kind bits nac_fits kind_fits enough near)
-    ∙ cond-true (nat_eq nac nac && is_expected before kind) (Expected kind) Other (and_from (nat_eq nac nac) (is_expected before kind) (eq-eqb nac nac refl) may) in
-    ap (λ (fits : Option ℕ). option_or fits (cond (nat_lt 0 (length bits) && is_nothing (told_of (nac, before) bits) && is_sure 3 (nac, before) bits end) (next_link before) None))
-    (ap (fits_by bits) told ∙ fits_kind bits kind there)
+    = rw (
+      read-told (nac, before) bits (nac, kind) enough (identifier_of-near nac kind bits nac_fits kind_fits enough near),
+      and_from (nat_eq nac nac) (is_expected before kind) (eq-eqb nac nac refl) may,
+    ) in
+    rw (told, fits_kind bits kind there)

@@ -1,54 +1,43 @@
 -- What is told hangs on the first 114 bits alone, and a kind that is told is one that is expected. By the cases of the identifier.
-use Rattle.std.proofs.Common.{◌≡◌, ℕ, ◌+◌, ◌<◌, ◌≤◌, Bool, true, false, cond, ◌&&◌, inl, inr, List, [], ◌∷◌, ◌++◌, length, take, Option, Some, None, refl, sym, ap, ap₂, subst, ◌∙◌, arith, length-append}
-use Rattle.std.proofs.{lemmas.Bool.{cases_Bool, cases_lt, cond-false, cond-true, eqb-true, le-ltb, lt-ltb}, lemmas.List.{take-append-le, take-take}}
+use Rattle.std.proofs.Common.{◌≡◌, ℕ, ◌+◌, ◌<◌, ◌≤◌, Bool, true, false, cond, ◌&&◌, inl, inr, List, [], ◌∷◌, ◌++◌, length, take, Option, Some, None, refl, sym, subst, ◌∙◌, arith, length-append}
+use Rattle.std.proofs.{lemmas.Bool.{cases_Bool, cases_lt, eqb-true, le-ltb, lt-ltb}, lemmas.List.{take-append-le, take-take}}
 use Rattle.std.specs.Prelude.{nat_eq, nat_le, nat_lt}
-use Rattle.p25_bits.specs.Distance.{distance_of}
-use Rattle.p25_bch_nid.specs.NidWord.{nid_word}
-use Rattle.p25_status.specs.Sync.{sync_bits}
 use Rattle.p25_unit_front.specs.Front.{front_fixes_of, identifier_of}
 use Rattle.p25_unit_front.proofs.FrontLaws.{front_fixes_of-parts, identifier_bits-take, identifier_of-take}
-use Rattle.p25_follow.specs.{declared.told.Told.TheVariants.{Expected, Other, Nothing}, Expected.{expected_after, is_expected}}
+use Rattle.p25_follow.specs.{declared.told.Told.TheVariants.{Expected, Nothing}, Expected.{expected_after, is_expected}}
 use Rattle.p25_follow.specs.Told.{name_errors_of, nearer_kind, nearest_kind, sync_errors_of, told_by, told_name, told_near, told_nearest, told_of}
 use Rattle.p25_follow.proofs.KindLaws.{Each, is_expected-all}
 
 -- with fewer than 114 bits nothing is told
 pub told_of-short : (before : ℕ × ℕ) (bits : List Bool) → length bits < 114 → told_of before bits ≡ Nothing
 unfolding told_of
-told_of-short before bits short = cond-true (nat_lt (length bits) 114) Nothing (told_by before (take 114 bits) (identifier_of (take 114 bits))) (lt-ltb (length bits) 114 short)
+told_of-short before bits short = rw (lt-ltb (length bits) 114 short)
 
 pub told_of-long : (before : ℕ × ℕ) (bits : List Bool) → 114 ≤ length bits → told_of before bits ≡ told_by before (take 114 bits) (identifier_of (take 114 bits))
 unfolding told_of
-told_of-long before bits long = cond-false (nat_lt (length bits) 114) Nothing (told_by before (take 114 bits) (identifier_of (take 114 bits))) (le-ltb (length bits) 114 long)
+told_of-long before bits long = rw (le-ltb (length bits) 114 long)
 
 -- an identifier that reads tells the kind, or that no such unit is there
 pub read-told : (before : ℕ × ℕ) (bits : List Bool) (name : ℕ × ℕ) → 114 ≤ length bits → identifier_of bits ≡ Some name → told_of before bits ≡ told_name before name
 unfolding told_by
-read-told before bits name long reads = told_of-long before bits long ∙ ap (told_by before (take 114 bits)) (identifier_of-take 114 bits (omega arith) ∙ reads)
+read-told before bits name long reads = rw (told_of-long before bits long, identifier_of-take 114 bits (omega arith), reads)
 
 pub unread-told : (before : ℕ × ℕ) (bits : List Bool) → 114 ≤ length bits → identifier_of bits ≡ None → told_of before bits ≡ told_nearest before.0 (take 114 bits) (expected_after before.1)
 unfolding told_by
-unread-told before bits long none = told_of-long before bits long ∙ ap (told_by before (take 114 bits)) (identifier_of-take 114 bits (omega arith) ∙ none)
+unread-told before bits long none = rw (told_of-long before bits long, identifier_of-take 114 bits (omega arith), none)
 
 -- bits that come later change nothing
 pub told_of-append : (before : ℕ × ℕ) (bits more : List Bool) → 114 ≤ length bits → told_of before (bits ++ more) ≡ told_of before bits
 told_of-append before bits more long =
-    told_of-long before (bits ++ more) (omega (arith, length-append bits more))
-    ∙ ap (λ (front : List Bool). told_by before front (identifier_of front)) (take-append-le 114 bits more long)
-    ∙ sym (told_of-long before bits long)
+    rw (told_of-long before (bits ++ more) (omega (arith, length-append bits more)), told_of-long before bits long, take-append-le 114 bits more long)
 
 -- the wrong bits of a front are those of its sync and those of its identifier
 pub errors-parts : (name : ℕ × ℕ) (bits : List Bool) → 114 ≤ length bits → front_fixes_of name bits ≡ sync_errors_of (take 114 bits) + name_errors_of name (take 114 bits)
 unfolding sync_errors_of name_errors_of
 errors-parts name bits long =
-    front_fixes_of-parts name bits (omega arith)
-    ∙ ap₂ (λ (a b : ℕ). a + b)
-    (ap (λ (xs : List Bool). distance_of xs sync_bits) (sym (take-take 48 114 bits (omega arith))))
-    (ap (λ (xs : List Bool). distance_of (take 63 xs) (take 63 (nid_word name.0 name.1))) (sym (identifier_bits-take 114 bits (omega arith))))
+    rw (front_fixes_of-parts name bits (omega arith), take-take 48 114 bits (omega arith), identifier_bits-take 114 bits (omega arith))
 
 -- ---- a kind that is told is expected
-
-abbrev pair : ℕ → ℕ → ℕ × ℕ
-pair n k = (n, k)
 
 pub and_both : (a b : Bool) → (a && b) ≡ true → (a ≡ true) × (b ≡ true)
 and_both true b is = (refl, is)
@@ -81,12 +70,12 @@ pub name-told : (before name : ℕ × ℕ) (told : ℕ) → told_name before nam
 unfolding told_name
 name-told before name told =
     elim (cases_Bool (nat_eq before.0 name.0 && is_expected before.1 name.1)) [
-      | inr no' ↦ λ is. absurd (let none : Other ≡ Expected told = sym (cond-false (nat_eq before.0 name.0 && is_expected before.1 name.1) (Expected name.1) Other no') ∙ is in cc)
+      | inr no' ↦ λ is. absurd (let none = rw no' at is in cc)
       | inl yes' ↦ λ is.
-          let some : Expected name.1 ≡ Expected told = sym (cond-true (nat_eq before.0 name.0 && is_expected before.1 name.1) (Expected name.1) Other yes') ∙ is in
+          let some = rw yes' at is in
           let same : name.1 ≡ told = cc in
           let both = and_both (nat_eq before.0 name.0) (is_expected before.1 name.1) yes' in
-          (subst (λ (k : ℕ). is_expected before.1 k ≡ true) same both.1, ap₂ (λ (n k : ℕ). pair n k) (sym (eqb-true before.0 name.0 both.0)) same)
+          (rw same at both.1, rw (eqb-true before.0 name.0 both.0, ← same))
     ]
 
 pub by-told : (P : ℕ → Type 0) (before : ℕ × ℕ) (bits : List Bool) (read : Option (ℕ × ℕ)) (told : ℕ) → Each P (expected_after before.1) → told_by before bits read ≡ Expected told → P told

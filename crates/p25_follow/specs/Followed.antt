@@ -1,6 +1,6 @@
 -- A recording with the fronts of the units written that lie end to end after others.
 use Rattle.std.specs.{Prelude.{ℕ, Bool, true, false, ◌&&◌, if◌then◌else◌, List, [], ◌∷◌, ◌++◌, take, drop, Option, Some, None}, Option.{is_none}}
-use Rattle.p25_units.specs.{Items.{covered}, Units.{body_duid}, declared.item.Item.{Item}, declared.item.Item.TheVariants.{Whole, Broken, NoUnit, Gap, Cut}}
+use Rattle.p25_units.specs.{Items.{covered}, Units.{body_duid}, declared.item.Item.{Item}, declared.item.Item.TheVariants.{Whole, Broken, NoUnit, Gap}}
 use Rattle.p25_stream.specs.Items.{items_of}
 use Rattle.p25_follow.specs.Chains.{chain_by}
 

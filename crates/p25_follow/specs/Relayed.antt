@@ -1,9 +1,9 @@
 -- A recording forwarded in place, under another network access code (NAC) and with one status symbol everywhere.
-use Rattle.std.specs.Prelude.{◌≡◌, ℕ, ◌%◌, ◌≤◌, Bool, List, [], ◌∷◌, ◌++◌, length, take, drop, replicate}
+use Rattle.std.specs.Prelude.{◌≡◌, ℕ, ◌%◌, ◌≤◌, Bool, List, ◌∷◌, ◌++◌, length, drop, replicate}
 use Rattle.p25_status.specs.{Woven.{bare_of, statuses_of, woven}, declared.symbols.Status.{Status}}
 use Rattle.p25_unit_front.specs.Front.{unit_front}
-use Rattle.p25_units.specs.{Items.{covered}, Units.{image_of}, declared.item.Item.{Item}, declared.item.Item.TheVariants.{Whole, Broken, NoUnit, Gap, Cut}}
-use Rattle.p25_stream.specs.{Items.{items_of}, Repeats.{bridged_frame}}
+use Rattle.p25_units.specs.{Units.{image_of}, declared.item.Item.{Item}, declared.item.Item.TheVariants.{Whole, Broken, Gap}}
+use Rattle.p25_stream.specs.{Items.{items_of}, Repeats.{bridged_frame}, Written.{written}}
 
 -- the bits of a unit that is broken, with the front of a NAC and a kind in place of its own and one status symbol everywhere
 unfoldable pub relayed_broken : ℕ → ℕ → Status → List Bool → List Bool
@@ -16,14 +16,9 @@ relayed nac status (Whole place frame fixes) raw = image_of (bridged_frame nac s
 relayed nac status (Broken place count ours duid fields) raw = relayed_broken nac duid status raw
 relayed nac status item raw = raw
 
--- what is forwarded of items that lie end to end over some bits
-unfoldable pub relayed_by : ℕ → Status → List Item → List Bool → List Bool
-relayed_by nac status [] bits = []
-relayed_by nac status (item ∷ items) bits = relayed nac status item (take (covered item) bits) ++ relayed_by nac status items (drop (covered item) bits)
-
 -- what is forwarded of a recording
 abbrev pub relay_of : ℕ → Status → List Bool → List Bool
-relay_of nac status bits = relayed_by nac status (items_of 0 bits) bits
+relay_of nac status bits = written (relayed nac status) (items_of 0 bits) bits
 
 -- an item has as many bits as a scan gives it: a broken unit whole blocks of 72, at least two and at most those of the longest unit, and
 -- a gap at most 4,096

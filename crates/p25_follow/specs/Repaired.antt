@@ -1,16 +1,11 @@
 -- A recording that is repaired, and the items of it before and after.
-use Rattle.std.specs.Prelude.{◌≡◌, ℕ, Bool, List, [], ◌∷◌, ◌++◌, take, drop}
-use Rattle.p25_units.specs.{Items.{covered}, declared.item.Item.{Item}, declared.item.Item.TheVariants.{Whole, Broken, NoUnit, Gap, Cut}}
-use Rattle.p25_stream.specs.{Items.{items_of}, Repeats.{repaired}}
-
--- what a repair writes of items that lie end to end over some bits
-unfoldable pub repaired_by : List Item → List Bool → List Bool
-repaired_by [] bits = []
-repaired_by (item ∷ items) bits = repaired item (take (covered item) bits) ++ repaired_by items (drop (covered item) bits)
+use Rattle.std.specs.Prelude.{◌≡◌, ℕ, Bool, List, [], ◌∷◌}
+use Rattle.p25_units.specs.{declared.item.Item.{Item}, declared.item.Item.TheVariants.{Whole}}
+use Rattle.p25_stream.specs.{Items.{items_of}, Repeats.{repaired}, Written.{written}}
 
 -- what a repair writes of bits that begin at a place of a recording
 unfoldable pub repaired_from : ℕ → List Bool → List Bool
-repaired_from at bits = repaired_by (items_of at bits) bits
+repaired_from at bits = written repaired (items_of at bits) bits
 
 -- what a repair writes of a recording
 abbrev pub repair_of : List Bool → List Bool

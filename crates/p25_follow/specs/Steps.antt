@@ -1,7 +1,7 @@
 -- Which unit lies where bits begin, after a unit with a name. The bits reach to an end: the name of the unit after them, or none.
 use Rattle.std.specs.Prelude.{ℕ, zero, suc, Bool, false, ◌&&◌, ◌||◌, if◌then◌else◌, ◌==◌, nat_le, nat_lt, List, length, drop, Option, Some, None}
 use Rattle.std.specs.Option.{is_some, option_or}
-use Rattle.p25_follow.specs.{declared.told.Told.{Told}, declared.told.Told.TheVariants.{Expected, Other, Nothing}}
+use Rattle.p25_follow.specs.{declared.told.Told.{Told}, declared.told.Told.TheVariants.{Expected}}
 use Rattle.p25_follow.specs.{Expected.{is_expected, kind_length, next_link}, Told.{is_nothing, told_of}}
 
 -- how many bits are sent for a logical link unit (LDU1 or LDU2)

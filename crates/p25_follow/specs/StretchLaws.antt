@@ -1,5 +1,5 @@
 -- The units after a stretch, wherever in it the scan begins.
-use Rattle.std.specs.Prelude.{◌≡◌, ℕ, ◌+◌, ◌≤◌, Bool, true, false, ◌&&◌, if◌then◌else◌, List, [], ◌∷◌, ◌++◌, length, take, drop}
+use Rattle.std.specs.{Prelude.{◌≡◌, ℕ, ◌+◌, ◌≤◌, Bool, true, false, ◌&&◌, if◌then◌else◌, List, [], ◌∷◌, ◌++◌, length, take, drop}, List.{sum_by}}
 use Rattle.p25_units.specs.{Items.{covered}, declared.item.Item.{Item}}
 use Rattle.p25_stream.specs.Items.{first_item, items_of}
 use Rattle.p25_follow.specs.Followed.{is_rest}
@@ -20,9 +20,8 @@ begins_rest [] = false
 begins_rest (item ∷ items) = is_rest item
 
 -- how many bits some items cover
-unfoldable pub bits_in : List Item → ℕ
-bits_in [] = 0
-bits_in (item ∷ items) = covered item + bits_in items
+abbrev pub bits_in : List Item → ℕ
+bits_in = sum_by covered
 
 -- wherever in a stretch the scan begins, the units that it finds are those after the stretch
 abbrev pub SameUnitsAfter : Type 0

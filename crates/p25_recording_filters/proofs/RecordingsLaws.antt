@@ -1,6 +1,6 @@
 -- How a recording's work goes on: octets come, an item is given, the input ends. Each is one unfolding of what is reported.
-use Rattle.std.proofs.Common.{◌≡◌, ◌≢◌, ℕ, ◌+◌, Bool, true, false, cond, List, [], ◌∷◌, ◌++◌, take, drop, Some, None, Ok, refl, ap, ap₂, sym, subst, ◌∙◌, arith, append_assoc, append-nil}
-use Rattle.std.proofs.lemmas.List.{take-append-le, drop-append-le}
+use Rattle.std.proofs.Common.{◌≡◌, ◌≢◌, ℕ, Bool, true, false, List, [], ◌∷◌, ◌++◌, take, drop, Some, Ok, refl, ap, sym, ◌∙◌, append_assoc, append-nil}
+use Rattle.std.proofs.{Math.Nat.{add-zero}, lemmas.List.{take-append-le, drop-append-le}}
 use Rattle.p25_bits.specs.Bits.{octet_bits}
 use Rattle.p25_bits.proofs.BitsLaws.{octet_bits-append, octet_bits-nil}
 use Rattle.p25_units.specs.{declared.item.Item.{Item}, Items.{covered, place_of}}
@@ -12,14 +12,13 @@ use Rattle.p25_filter.specs.Futures.{IsClosed, IsIdle, NextPiece, Progress}
 use Rattle.p25_filter.proofs.LinesLaws.{Contains-none}
 use Rattle.p25_recording_filters.specs.{declared.recording.Phase.{Phase}, declared.recording.Phase.TheVariants.{Reading, Ended, Closed}}
 use Rattle.p25_recording_filters.specs.Recordings.{HasClosed, IsClosing, IsClosingBy, RecordingParts, bits_ending, bits_written, fresh, has_ended, phase_future, recording_future}
-use Rattle.p25_recording_filters.specs.Reports.{IgnoresBits, Reporting, report_behind, reported}
+use Rattle.p25_recording_filters.specs.Reports.{IgnoresBits, Reporting}
 use Rattle.p25_recording_filters.proofs.ReportsLaws.{behind-cons, behind-nil, reported-cons, reported-nil}
 
 -- an item that was given begins at the place where it was held
 pub gave-place : (before now : Scan) (item : Item) (raw : List Bool) → Gave before item raw now → place_of item ≡ before.place
 gave-place before now item raw gave =
-    let none : before.place + 0 ≡ before.place = omega arith in
-    (item-covers before.finished before.place before.held [] item (given now) gave.items).1 ∙ none
+    rw add-zero at (item-covers before.finished before.place before.held [] item (given now) gave.items).1
 
 -- an item that was given has as many bits as a scan gives it
 pub gave-fits : (before now : Scan) (item : Item) (raw : List Bool) → Gave before item raw now → IsFitItem item
@@ -31,24 +30,22 @@ module _ {R : Type 0} (reporting : Reporting R) where
   pub put-alike : (looks : Bool) → (looks ≡ false → IgnoresBits reporting) → (report : R) (item : Item) (raw bits : List Bool) → (looks ≡ true → raw ≡ bits)
       → (reporting.piece report item raw ≡ reporting.piece report item bits) × (reporting.behind report item raw ≡ reporting.behind report item bits)
   put-alike true ignores report item raw bits same =
-      (ap (λ (xs : List Bool). reporting.piece report item xs) (same refl), ap (λ (xs : List Bool). reporting.behind report item xs) (same refl))
+      (rw (same refl), rw (same refl))
   put-alike false ignores report item raw bits same = ((ignores refl).piece report item raw bits, (ignores refl).behind report item raw bits)
 
   -- what is held with octets that come
   held-octets : (held : List Bool) (octets more : List ℕ) → held ++ octet_bits (octets ++ more) ≡ (held ++ octet_bits octets) ++ octet_bits more
-  held-octets held octets more = ap (λ (zs : List Bool). held ++ zs) (octet_bits-append octets more) ∙ sym (append_assoc held (octet_bits octets) (octet_bits more))
+  held-octets held octets more = rw (octet_bits-append, append_assoc)
 
   held-none : (held : List Bool) → held ++ octet_bits [] ≡ held
-  held-none held = ap (λ (zs : List Bool). held ++ zs) octet_bits-nil ∙ append-nil held
+  held-none held = rw (octet_bits-nil, append-nil)
 
   -- octets come
   pub future-push : (report : R) (scan next : Scan) (octets : List ℕ) → next.place ≡ scan.place → next.held ≡ scan.held ++ octet_bits octets
       → Progress (phase_future reporting report scan Reading) octets [] (phase_future reporting report next Reading)
   future-push report scan next octets place held = record {
-    writes = λ ended more. ap₂ (λ (p : ℕ) (bits : List Bool). bits_written reporting ended report p bits)
-        (sym place) (held-octets scan.held octets more ∙ ap (λ (zs : List Bool). zs ++ octet_bits more) (sym held));
-    ends = λ ended more. ap₂ (λ (p : ℕ) (bits : List Bool). bits_ending reporting ended report p bits)
-        (sym place) (held-octets scan.held octets more ∙ ap (λ (zs : List Bool). zs ++ octet_bits more) (sym held));
+    writes = λ ended more. rw (place, held, held-octets);
+    ends = λ ended more. rw (place, held, held-octets);
     pauses = λ ended more pause is. absurd (Contains-none pause is);
   }
 
@@ -56,8 +53,8 @@ module _ {R : Type 0} (reporting : Reporting R) where
   pub future-finish : (report : R) (scan next : Scan) → next.place ≡ scan.place → next.held ≡ scan.held
       → IsClosed (phase_future reporting report scan Reading) (phase_future reporting report next Ended)
   future-finish report scan next place held = record {
-    writes = λ ended more. ap₂ (λ (p : ℕ) (bits : List Bool). bits_written reporting true report p bits) place (held ∙ sym (held-none scan.held));
-    ends = λ ended more. ap₂ (λ (p : ℕ) (bits : List Bool). bits_ending reporting true report p bits) place (held ∙ sym (held-none scan.held));
+    writes = λ ended more. rw (place, held, held-none);
+    ends = λ ended more. rw (place, held, held-none);
     pauses = λ ended more. refl;
   }
 
@@ -67,37 +64,29 @@ module _ {R : Type 0} (reporting : Reporting R) where
       → bits_written reporting ended report place bits
       ≡ reporting.piece report item (take (covered item) bits) ++ bits_written reporting ended (reporting.behind report item (take (covered item) bits)) next_place left
   written-item ended report place next_place bits left item first rest =
-      ap (λ (items : List Item). reported reporting ended report items bits) first
-      ∙ reported-cons reporting ended report item (items_by ended next_place left) bits
-      ∙ ap (λ (zs : List Bool). reporting.piece report item (take (covered item) bits)
-      ++ reported reporting ended (reporting.behind report item (take (covered item) bits)) (items_by ended next_place left) zs) rest
+      rw (first, reported-cons, rest)
 
   ending-item : (ended : Bool) (report : R) (place next_place : ℕ) (bits left : List Bool) (item : Item)
       → items_by true place bits ≡ item ∷ items_by true next_place left → drop (covered item) bits ≡ left
       → bits_ending reporting ended report place bits ≡ bits_ending reporting ended (reporting.behind report item (take (covered item) bits)) next_place left
   ending-item ended report place next_place bits left item first rest =
-      ap (λ (r : R). cond ended (Some (reporting.ending r)) None)
-      (ap (λ (items : List Item). report_behind reporting report items bits) first
-      ∙ behind-cons reporting report item (items_by true next_place left) bits
-      ∙ ap (λ (zs : List Bool). report_behind reporting (reporting.behind report item (take (covered item) bits)) (items_by true next_place left) zs) rest)
+      rw (first, behind-cons, rest)
 
   -- an item is given, while more octets may come
   given-reading : GaveItems → (report : R) (scan next : Scan) (item : Item) (raw : List Bool) → scan.finished ≡ false → Gave scan item raw next
       → Progress (phase_future reporting report scan Reading) [] (reporting.piece report item raw) (phase_future reporting (reporting.behind report item raw) next Reading)
   given-reading gave_items report scan next item raw going gave =
       let left : (more : List ℕ) → drop (covered item) (scan.held ++ octet_bits more) ≡ next.held ++ octet_bits more =
-      λ more. drop-append-le (covered item) scan.held (octet_bits more) gave.there ∙ ap (λ (zs : List Bool). zs ++ octet_bits more) (sym gave.left) in
+      λ more. rw (drop-append-le (covered item) scan.held (octet_bits more) gave.there, gave.left) in
       let front : (more : List ℕ) → take (covered item) (scan.held ++ octet_bits more) ≡ raw =
       λ more. take-append-le (covered item) scan.held (octet_bits more) gave.there ∙ sym gave.raw_bits in
       let first : (ended : Bool) (more : List ℕ) → items_by ended scan.place (scan.held ++ octet_bits more) ≡ item ∷ items_by ended next.place (next.held ++ octet_bits more) =
       λ ended more. gave_items scan next item raw ended (octet_bits more) gave (λ done. cc) in
       record {
         writes = λ ended more.
-            written-item ended report scan.place next.place (scan.held ++ octet_bits more) (next.held ++ octet_bits more) item (first ended more) (left more)
-            ∙ ap (λ (zs : List Bool). reporting.piece report item zs ++ bits_written reporting ended (reporting.behind report item zs) next.place (next.held ++ octet_bits more)) (front more);
+            rw (written-item ended report scan.place next.place (scan.held ++ octet_bits more) (next.held ++ octet_bits more) item (first ended more) (left more), front more);
         ends = λ ended more.
-            ending-item ended report scan.place next.place (scan.held ++ octet_bits more) (next.held ++ octet_bits more) item (first true more) (left more)
-            ∙ ap (λ (zs : List Bool). bits_ending reporting ended (reporting.behind report item zs) next.place (next.held ++ octet_bits more)) (front more);
+            rw (ending-item ended report scan.place next.place (scan.held ++ octet_bits more) (next.held ++ octet_bits more) item (first true more) (left more), front more);
         pauses = λ ended more pause is. absurd (Contains-none pause is);
       }
 
@@ -106,15 +95,10 @@ module _ {R : Type 0} (reporting : Reporting R) where
       → Progress (phase_future reporting report scan Ended) [] (reporting.piece report item raw) (phase_future reporting (reporting.behind report item raw) next Ended)
   given-ended report scan next item raw done gave =
       let next_done : next.finished ≡ true = gave.same ∙ done in
-      let first : items_by true scan.place scan.held ≡ item ∷ items_by true next.place next.held =
-      ap (λ (b : Bool). items_by b scan.place scan.held) (sym done) ∙ gave.items ∙ ap (λ (b : Bool). item ∷ items_by b next.place next.held) next_done in
+      let first = rw (done, next_done) at gave.items in
       record {
-        writes = λ ended more.
-            written-item true report scan.place next.place scan.held next.held item first (sym gave.left)
-            ∙ ap (λ (zs : List Bool). reporting.piece report item zs ++ bits_written reporting true (reporting.behind report item zs) next.place next.held) (sym gave.raw_bits);
-        ends = λ ended more.
-            ending-item true report scan.place next.place scan.held next.held item first (sym gave.left)
-            ∙ ap (λ (zs : List Bool). bits_ending reporting true (reporting.behind report item zs) next.place next.held) (sym gave.raw_bits);
+        writes = λ ended more. rw (written-item true report scan.place next.place scan.held next.held item first (sym gave.left), gave.raw_bits);
+        ends = λ ended more. rw (ending-item true report scan.place next.place scan.held next.held item first (sym gave.left), gave.raw_bits);
         pauses = λ ended more pause is. absurd (Contains-none pause is);
       }
 
@@ -129,11 +113,10 @@ module _ {R : Type 0} (reporting : Reporting R) where
   pub future-close : (report : R) (scan : Scan) → scan.finished ≡ true
       → given scan ≡ [] → Progress (phase_future reporting report scan Ended) [] (reporting.closing report) (phase_future reporting report scan Closed)
   future-close report scan done none =
-      let no_items : items_by true scan.place scan.held ≡ [] = ap (λ (b : Bool). items_by b scan.place scan.held) (sym done) ∙ none in
+      let no_items = rw done at none in
       record {
-        writes = λ ended more. ap (λ (items : List Item). reported reporting true report items scan.held) no_items
-            ∙ reported-nil reporting true report scan.held ∙ sym (append-nil (reporting.closing report));
-        ends = λ ended more. ap (λ (r : R). Some (reporting.ending r)) (ap (λ (items : List Item). report_behind reporting report items scan.held) no_items ∙ behind-nil reporting report scan.held);
+        writes = λ ended more. rw (no_items, reported-nil, append-nil);
+        ends = λ ended more. rw (no_items, behind-nil);
         pauses = λ ended more pause is. absurd (Contains-none pause is);
       }
 
@@ -141,11 +124,8 @@ module _ {R : Type 0} (reporting : Reporting R) where
   pub future-idle : (phase : Phase) (report : R) (scan : Scan) → scan.finished ≡ has_ended phase → phase ≢ Ended → given scan ≡ [] → IsIdle (has_ended phase) (phase_future reporting report scan phase)
   unfolding IsIdle
   future-idle Reading report scan same unclosed none =
-      let no_items : items_by false scan.place scan.held ≡ [] = ap (λ (b : Bool). items_by b scan.place scan.held) (sym same) ∙ none in (
-        ap (λ (bits : List Bool). bits_written reporting false report scan.place bits) (held-none scan.held)
-            ∙ ap (λ (items : List Item). reported reporting false report items scan.held) no_items ∙ reported-nil reporting false report scan.held,
-        refl,
-      )
+      let no_items = rw same at none in
+      (rw (held-none, no_items, reported-nil), refl)
   future-idle Ended report scan same unclosed none = absurd (unclosed refl)
   future-idle Closed report scan same unclosed none = λ ended more. refl
 
@@ -165,15 +145,13 @@ module _ {R : Type 0} (reporting : Reporting R) where
       → Progress (recording_future reporting (record { report = report; scan = scan; phase = phase })) octets [] (recording_future reporting (record { report = report; scan = next; phase = phase }))
   unfolding recording_future
   step-push report scan next phase octets going same =
-      subst (λ (p : Phase). Progress (phase_future reporting report scan p) octets [] (phase_future reporting report next p)) (sym (is-reading phase going))
-      (future-push report scan next octets (ap (λ (s : Scan). s.place) same) (ap (λ (s : Scan). s.held) same))
+      rw (is-reading phase going) (future-push report scan next octets (rw same) (rw same))
 
   pub step-finish : (report : R) (scan next : Scan) (phase : Phase) → has_ended phase ≡ false → next ≡ record { place = scan.place; held = scan.held; finished = true }
       → IsClosed (recording_future reporting (record { report = report; scan = scan; phase = phase })) (recording_future reporting (record { report = report; scan = next; phase = Ended }))
   unfolding recording_future
   step-finish report scan next phase going same =
-      subst (λ (p : Phase). IsClosed (phase_future reporting report scan p) (phase_future reporting report next Ended)) (sym (is-reading phase going))
-      (future-finish report scan next (ap (λ (s : Scan). s.place) same) (ap (λ (s : Scan). s.held) same))
+      rw (is-reading phase going) (future-finish report scan next (rw same) (rw same))
 
   pub step-item : GaveItems → (report behind : R) (scan next : Scan) (phase : Phase) (item : Item) (raw : List Bool) (out : List ℕ)
       → scan.finished ≡ has_ended phase → HasClosed phase scan → Gave scan item raw next → out ≡ reporting.piece report item raw → behind ≡ reporting.behind report item raw
@@ -182,9 +160,7 @@ module _ {R : Type 0} (reporting : Reporting R) where
   unfolding recording_future NextPiece
   step-item gave_items report behind scan next phase item raw out same closed gave piece kept =
       let unclosed : phase ≢ Closed = λ is. no_items (given next) (sym (closed is) ∙ gave.items) in
-      subst (λ (o : List ℕ). Progress (phase_future reporting report scan phase) [] o (phase_future reporting behind next phase)) (sym piece)
-      (subst (λ (r : R). Progress (phase_future reporting report scan phase) [] (reporting.piece report item raw) (phase_future reporting r next phase)) (sym kept)
-      (future-item gave_items phase report scan next item raw same unclosed gave))
+      rw (piece, kept) (future-item gave_items phase report scan next item raw same unclosed gave)
     where
       no_items : (items : List Item) → [] ≡ item ∷ items → ⊥
       no_items items e = cc
@@ -193,18 +169,14 @@ module _ {R : Type 0} (reporting : Reporting R) where
   close-none : (before now : RecordingParts R) (answer : Bool) (out : List ℕ)
       → answer ≡ false → now ≡ before → NextPiece (recording_future reporting before) (Ok answer) out (recording_future reporting now)
   unfolding NextPiece
-  close-none before now answer out none same = subst (λ (b : Bool). NextPiece (recording_future reporting before) (Ok b) out (recording_future reporting now))
-      (sym none) (ap (recording_future reporting) same)
+  close-none before now answer out none same = rw none (ap (recording_future reporting) same)
 
   close-end : (report : R) (scan : Scan) (now : RecordingParts R) (answer : Bool) (out : List ℕ) → scan.finished ≡ true → given scan ≡ [] → answer ≡ true → out ≡ reporting.closing report
       → now ≡ record { report = report; scan = scan; phase = Closed }
       → NextPiece (recording_future reporting (record { report = report; scan = scan; phase = Ended })) (Ok answer) out (recording_future reporting now)
   unfolding NextPiece recording_future
   close-end report scan now answer out done none yes_is piece same =
-      subst (λ (b : Bool). NextPiece (phase_future reporting report scan Ended) (Ok b) out (recording_future reporting now)) (sym yes_is)
-      (subst (λ (o : List ℕ). Progress (phase_future reporting report scan Ended) [] o (recording_future reporting now)) (sym piece)
-      (subst (λ (r : RecordingParts R). Progress (phase_future reporting report scan Ended) [] (reporting.closing report) (recording_future reporting r))
-      (sym same) (future-close report scan done none)))
+      rw (yes_is, piece, same) (future-close report scan done none)
 
   close-by : (phase : Phase) (report : R) (scan : Scan) (now : RecordingParts R) (answer : Bool) (out : List ℕ) → scan.finished ≡ has_ended phase → given scan ≡ []
       → IsClosingBy reporting phase (record { report = report; scan = scan; phase = phase }) answer out now
@@ -223,8 +195,7 @@ module _ {R : Type 0} (reporting : Reporting R) where
   unfolding recording_future
   idle-by Ended report scan now answer out same none no_piece closing = cc
   idle-by other report scan now answer out same none no_piece closing =
-      subst (λ (r : RecordingParts R). (r.phase ≡ Ended → ⊥) × (given r.scan ≡ []) × IsIdle (has_ended r.phase) (recording_future reporting r)) (sym closing.1)
-      ((λ is. cc), none, future-idle other report scan same (λ is. cc) none)
+      rw closing.1 ((λ is. cc), none, future-idle other report scan same (λ is. cc) none)
 
   pub step-idle : (before now : RecordingParts R) (answer : Bool) (out : List ℕ)
       → before.scan.finished ≡ has_ended before.phase → given before.scan ≡ [] → answer ≡ false → IsClosing reporting before answer out now
@@ -234,7 +205,7 @@ module _ {R : Type 0} (reporting : Reporting R) where
   pub step-ending : (work : RecordingParts R) → has_ended work.phase ≡ true
       → (work.phase ≡ Ended → ⊥) → (ended : Bool) (more : List ℕ) → (recording_future reporting work).ends ended more ≡ Some (reporting.ending work.report)
   unfolding recording_future
-  step-ending work is other ended more = ap (λ (p : Phase). (phase_future reporting work.report work.scan p).ends ended more) (is-closed work.phase is other)
+  step-ending work is other ended more = rw (is-closed work.phase is other)
 
   -- before the first octet nothing is decided
   pub fresh-none : (report : R) → given (fresh report).scan ≡ []

@@ -1,12 +1,13 @@
 -- What the reports of the commands write of items, by induction on the items: the outputs that the commands are defined by.
-use Rattle.std.proofs.Common.{◌≡◌, ℕ, ◌+◌, ◌*◌, ◌/◌, ◌<◌, Bool, true, false, cond, List, [], ◌∷◌, ◌++◌, length, take, drop, refl, ap, ap₂, sym, ◌∙◌, arith, append_assoc, append-nil, length-drop, None}
+use Rattle.std.proofs.Common.{◌≡◌, ℕ, ◌+◌, ◌*◌, ◌/◌, ◌<◌, Bool, true, false, cond, List, [], ◌∷◌, ◌++◌, length, take, drop, refl, ap, ◌∙◌, arith, append_assoc, append-nil, length-drop, None}
 use Rattle.std.specs.List.{flat_map}
 use Rattle.p25_units.specs.{declared.item.Item.{Item}, Items.{covered}, Units.{whole_octets}}
 use Rattle.p25_stream.specs.Repeats.{is_whole_item}
+use Rattle.p25_stream.proofs.WrittenLaws.{written-cons, written-nil}
 use Rattle.p25_recording_filters.specs.{declared.reports.show.Show.{Show}, declared.reports.check.Check.{Check}, ItemOutputs.{changed_bits, check_line, faults_in, faulty, shown, units_in}}
 use Rattle.p25_recording_filters.specs.Commands.{ChangedParts, FollowedParts, change_of, changed_reporting, check_reporting, followed_item, followed_reporting, show_reporting, unfilled}
 use Rattle.p25_recording_filters.specs.Reports.{Reporting, report_behind, reported}
-use Rattle.p25_follow.specs.{Followed.{followed_by}, Following.{Follow, IsFollow, behind_item, fresh_follow, written_before, written_by, written_end, written_item}}
+use Rattle.p25_follow.specs.{Followed.{followed_by}, Following.{Follow, IsFollow, behind_item, fresh_follow, written_by, written_end}}
 use Rattle.p25_follow.proofs.FollowingLaws.{written-follows}
 use Rattle.p25_recording_filters.proofs.OctetsLaws.{whole_octets-append, whole_octets-few}
 
@@ -40,7 +41,7 @@ pub reported-show : (ended : Bool) (report : Show) (items : List Item) (bits : L
 reported-show ended report [] bits = reported-nil show_reporting ended report bits ∙ no_closing ended []
 reported-show ended report (item ∷ items) bits =
     reported-cons show_reporting ended report item items bits
-    ∙ ap (λ (zs : List ℕ). shown item ++ zs) (reported-show ended report items (drop (covered item) bits))
+    ∙ rw (reported-show ended report items (drop (covered item) bits))
 
 -- the texts of items that are not whole, and the counts
 pub reported-check : (ended : Bool) (report : Check) (items : List Item) (bits : List Bool)
@@ -49,80 +50,63 @@ unfolding units_in faults_in
 reported-check ended report [] bits =
     let units : report.units ≡ report.units + 0 = omega arith in
     let faults : report.faults ≡ report.faults + 0 = omega arith in
-    reported-nil check_reporting ended report bits ∙ ap₂ (λ (u f : ℕ). cond ended (check_line u f) []) units faults
+    rw (reported-nil check_reporting ended report bits, ← units, ← faults)
 reported-check ended report (item ∷ items) bits =
     let next : Check = record { units = report.units + cond (is_whole_item item) 1 0; faults = report.faults + cond (is_whole_item item) 0 1 } in
     let units : next.units + units_in items ≡ report.units + (cond (is_whole_item item) 1 0 + units_in items) = omega arith in
     let faults : next.faults + faults_in items ≡ report.faults + (cond (is_whole_item item) 0 1 + faults_in items) = omega arith in
-    reported-cons check_reporting ended report item items bits
-    ∙ ap (λ (zs : List ℕ). faulty item ++ zs) (reported-check ended next items (drop (covered item) bits) ∙ ap₂ (λ (u f : ℕ). flat_map faulty items ++ cond ended (check_line u f) []) units faults)
-    ∙ sym (append_assoc (faulty item) (flat_map faulty items) (cond ended (check_line (report.units + (cond (is_whole_item item) 1 0 + units_in items))
-    (report.faults + (cond (is_whole_item item) 0 1 + faults_in items))) []))
+    rw (reported-cons check_reporting ended report item items bits, reported-check ended next items (drop (covered item) bits), units, faults, append_assoc)
 
 pub behind-check : (report : Check) (items : List Item) (bits : List Bool) → (report_behind check_reporting report items bits).faults ≡ report.faults + faults_in items
 unfolding faults_in
 behind-check report [] bits =
     let faults : report.faults ≡ report.faults + 0 = omega arith in
-    ap (λ (r : Check). r.faults) (behind-nil check_reporting report bits) ∙ faults
+    rw behind-nil faults
 behind-check report (item ∷ items) bits =
     let next : Check = record { units = report.units + cond (is_whole_item item) 1 0; faults = report.faults + cond (is_whole_item item) 0 1 } in
     let faults : next.faults + faults_in items ≡ report.faults + (cond (is_whole_item item) 0 1 + faults_in items) = omega arith in
-    ap (λ (r : Check). r.faults) (behind-cons check_reporting report item items bits) ∙ behind-check next items (drop (covered item) bits) ∙ faults
+    rw behind-cons (behind-check next items (drop (covered item) bits) ∙ faults)
 
 -- the octets that the changed bits fill
 pub reported-changed : (ended : Bool) (report : ChangedParts) (items : List Item) (bits : List Bool) → length report.kept < 8
     → reported changed_reporting ended report items bits ≡ whole_octets (report.kept ++ changed_bits (change_of report.change) items bits)
-unfolding changed_bits
-reported-changed ended report [] bits few =
-    reported-nil changed_reporting ended report bits ∙ no_closing ended [] ∙ sym (whole_octets-few report.kept few) ∙ ap whole_octets (sym (append-nil report.kept))
+reported-changed ended report [] bits few = rw (reported-nil, no_closing, written-nil, append-nil, whole_octets-few report.kept few)
 reported-changed ended report (item ∷ items) bits few =
     let raw = take (covered item) bits in
     let rest = drop (covered item) bits in
     let all = report.kept ++ change_of report.change item raw in
     let next : ChangedParts = record { change = report.change; kept = unfilled all } in
     let few_left : length next.kept < 8 = omega (arith, length-drop (8 * (length all / 8)) all) in
-    reported-cons changed_reporting ended report item items bits
-    ∙ ap (λ (zs : List ℕ). whole_octets all ++ zs) (reported-changed ended next items rest few_left)
-    ∙ whole_octets-append all (changed_bits (change_of report.change) items rest)
-    ∙ ap whole_octets (append_assoc report.kept (change_of report.change item raw) (changed_bits (change_of report.change) items rest))
+    rw (reported-cons, reported-changed ended next items rest few_left, whole_octets-append all (changed_bits (change_of report.change) items rest), written-cons, append_assoc)
 
 -- what a follower writes of items, one after the other
-written-nil : (ended : Bool) (kept : Follow) (bits : List Bool) → written_by ended kept [] bits ≡ cond ended (written_end kept) []
+follows-nil : (ended : Bool) (kept : Follow) (bits : List Bool) → written_by ended kept [] bits ≡ cond ended (written_end kept) []
 unfolding written_by
-written-nil ended kept bits = refl
+follows-nil ended kept bits = refl
 
-written-cons : (ended : Bool) (kept : Follow) (item : Item) (items : List Item) (bits : List Bool)
+follows-cons : (ended : Bool) (kept : Follow) (item : Item) (items : List Item) (bits : List Bool)
     → written_by ended kept (item ∷ items) bits
     ≡ followed_item kept item (take (covered item) bits) ++ written_by ended (behind_item kept item (take (covered item) bits)) items (drop (covered item) bits)
 unfolding written_by
-written-cons ended kept item items bits =
-    let raw = take (covered item) bits in
-    sym (append_assoc (written_before kept item raw) (written_item item raw) (written_by ended (behind_item kept item raw) items (drop (covered item) bits)))
+follows-cons ended kept item items bits = rw append_assoc
 
 -- the octets that what is left at the end fills
 closing-followed : (ended : Bool) (kept left : List Bool) → length kept < 8 → cond ended (whole_octets (kept ++ left)) [] ≡ whole_octets (kept ++ cond ended left [])
 closing-followed true kept left few = refl
-closing-followed false kept left few = sym (whole_octets-few kept few) ∙ ap whole_octets (sym (append-nil kept))
+closing-followed false kept left few = rw (append-nil, whole_octets-few kept few)
 
 -- the octets that the bits with the fronts written fill
 reported-written : (ended : Bool) (report : FollowedParts) (items : List Item) (bits : List Bool) → length report.kept < 8
     → reported followed_reporting ended report items bits ≡ whole_octets (report.kept ++ written_by ended report.follower items bits)
 reported-written ended report [] bits few =
-    reported-nil followed_reporting ended report bits
-    ∙ closing-followed ended report.kept (written_end report.follower) few
-    ∙ ap (λ (zs : List Bool). whole_octets (report.kept ++ zs)) (sym (written-nil ended report.follower bits))
+    rw (reported-nil, closing-followed ended report.kept (written_end report.follower) few, follows-nil)
 reported-written ended report (item ∷ items) bits few =
     let raw = take (covered item) bits in
     let rest = drop (covered item) bits in
     let all = report.kept ++ followed_item report.follower item raw in
     let next : FollowedParts = record { follower = behind_item report.follower item raw; kept = unfilled all } in
     let few_left : length next.kept < 8 = omega (arith, length-drop (8 * (length all / 8)) all) in
-    reported-cons followed_reporting ended report item items bits
-    ∙ ap (λ (zs : List ℕ). whole_octets all ++ zs) (reported-written ended next items rest few_left)
-    ∙ whole_octets-append all (written_by ended next.follower items rest)
-    ∙ ap whole_octets
-    (append_assoc report.kept (followed_item report.follower item raw) (written_by ended next.follower items rest)
-    ∙ ap (λ (zs : List Bool). report.kept ++ zs) (sym (written-cons ended report.follower item items bits)))
+    rw (reported-cons, reported-written ended next items rest few_left, whole_octets-append all (written_by ended next.follower items rest), follows-cons, append_assoc)
 
 fresh-follows : IsFollow fresh_follow
 fresh-follows = record { few = omega arith; none = λ is. refl }

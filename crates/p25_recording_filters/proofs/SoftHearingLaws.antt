@@ -1,7 +1,7 @@
 -- What a scanner holds after one more level: the bits of the last group after those that it held, where the level fills one.
-use Rattle.std.proofs.Common.{◌≡◌, ◌≢◌, ℕ, ◌+◌, ◌-◌, ◌*◌, ◌%◌, ◌^◌, ◌<◌, ◌≤◌, Bool, true, false, List, [], ◌∷◌, ◌++◌, length, drop, map, get_or, refl, ap, ap₂, sym, ◌∙◌, arith, length-append, ℤ, pos}
+use Rattle.std.proofs.Common.{◌≡◌, ◌≢◌, ℕ, ◌+◌, ◌-◌, ◌*◌, ◌%◌, ◌^◌, ◌<◌, ◌≤◌, true, false, List, [], ◌∷◌, ◌++◌, length, drop, get_or, refl, ap, sym, ◌∙◌, arith, length-append, ℤ, pos}
 use Rattle.std.proofs.lemmas.List.{drop-append-le}
-use Rattle.p25_bits.specs.{Bits.{bits_of, part}, Numbers.{number_bits}}
+use Rattle.p25_bits.specs.{Bits.{bits_of, part}}
 use Rattle.p25_bits.proofs.{BitsLaws.{bits_of-joined}, NumbersLaws.{number_bits-cons, number_bits-one}}
 use Rattle.p25_stream.specs.Scan.{Scan}
 use Rattle.p25_soft.specs.Levels.{hard_bits, hard_dibit}
@@ -13,7 +13,7 @@ use Rattle.p25_recording_filters.proofs.SoftLevelsLaws.{grouped-last, grouped-mo
 pub holding-open : (scan : Scan) (levels : List ℤ) (level : ℤ) → IsHolding scan levels → scan.finished ≡ false → length (levels ++ level ∷ []) % 4 ≢ 0 → IsHolding scan (levels ++ level ∷ [])
 holding-open scan levels level holding going open_group =
     let same = grouped-more levels level open_group in record {
-      held = holding.held ∙ ap (λ (ls : List ℤ). drop (scan.place % 8) (hard_bits ls)) (sym same);
+      held = rw same holding.held;
       placed = omega (arith, holding.placed, ap length same);
       full = λ done. let two : false ≡ true = sym going ∙ done in absurd (cc);
     }
@@ -28,11 +28,8 @@ holding-group scan next levels level octet holding going whole bits is =
     let place : next.place ≡ scan.place = ap (λ (s : Scan). s.place) is in
     let there : scan.place % 8 ≤ length (hard_bits (grouped levels)) = omega (arith, holding.placed, length-hard_bits (grouped levels)) in
     let held : next.held ≡ drop (scan.place % 8) (hard_bits (grouped all))
-    = ap (λ (s : Scan). s.held) is
-    ∙ ap₂ (λ (xs ys : List Bool). xs ++ ys) holding.held bits
-    ∙ sym (drop-append-le (scan.place % 8) (hard_bits (grouped levels)) (hard_bits last) there)
-    ∙ ap (drop (scan.place % 8)) (sym (hard_bits-append (grouped levels) last) ∙ ap hard_bits (sym (grouped-last levels level whole))) in record {
-      held = held ∙ ap (λ p. drop (p % 8) (hard_bits (grouped all))) (sym place);
+    = rw (is, holding.held, bits, ← drop-append-le (scan.place % 8) (hard_bits (grouped levels)) (hard_bits last) there, ← hard_bits-append, grouped-last levels level whole) in record {
+      held = rw place held;
       placed = omega (arith, ap (λ p. p % 8) place, holding.placed, length-grouped levels, length-grouped all, length-append levels (level ∷ []));
       full = λ done. let two : false ≡ true = sym going ∙ sym (ap (λ (s : Scan). s.finished) is) ∙ done in absurd (cc);
     }
@@ -45,14 +42,7 @@ octet-dibits a b c d hb hc hd =
     let first : 64 * a + 16 * b + 4 * c + d ≡ a * 2 ^ 6 + (16 * b + 4 * c + d) = omega arith in
     let second : 16 * b + 4 * c + d ≡ b * 2 ^ 4 + (4 * c + d) = omega arith in
     let third : 4 * c + d ≡ c * 2 ^ 2 + d = omega arith in
-    ap (bits_of 8) first
-    ∙ bits_of-joined 2 6 a (16 * b + 4 * c + d) low
-    ∙ ap (λ (bits : List Bool). bits_of 2 a ++ bits)
-    (
-    ap (bits_of 6) second
-    ∙ bits_of-joined 2 4 b (4 * c + d) middle
-    ∙ ap (λ (bits : List Bool). bits_of 2 b ++ bits) (ap (bits_of 4) third ∙ bits_of-joined 2 2 c d hd)
-    )
+    rw (first, bits_of-joined 2 6 a (16 * b + 4 * c + d) low, second, bits_of-joined 2 4 b (4 * c + d) middle, third, bits_of-joined 2 2 c d hd)
 
 pub four-levels : (levels : List ℤ) → length levels ≡ 4 → levels ≡ get_or levels 0 (pos 0) ∷ get_or levels 1 (pos 0) ∷ get_or levels 2 (pos 0) ∷ get_or levels 3 (pos 0) ∷ []
 four-levels (a ∷ b ∷ c ∷ d ∷ []) long = refl
@@ -64,11 +54,16 @@ pub group-bits : (levels : List ℤ) (a b c d octet : ℕ) → length levels ≡
     → b < 4 → c < 4 → d < 4 → octet ≡ 64 * a + 16 * b + 4 * c + d → bits_of 8 octet ≡ hard_bits levels
 unfolding hard_bits
 group-bits levels a b c d octet long ha hb hc hd fb fc fd is =
-    ap (bits_of 8) is
-    ∙ octet-dibits a b c d fb fc fd
-    ∙ ap (λ (bits : List Bool). bits_of 2 a ++ (bits_of 2 b ++ (bits_of 2 c ++ bits))) (sym (number_bits-one 2 d))
-    ∙ ap (λ (bits : List Bool). bits_of 2 a ++ (bits_of 2 b ++ bits)) (sym (number_bits-cons 2 c (d ∷ [])))
-    ∙ ap (λ (bits : List Bool). bits_of 2 a ++ bits) (sym (number_bits-cons 2 b (c ∷ d ∷ [])))
-    ∙ sym (number_bits-cons 2 a (b ∷ c ∷ d ∷ []))
-    ∙ ap (number_bits 2) (ap₂ (λ x y. x ∷ y ∷ c ∷ d ∷ []) ha hb ∙ ap₂ (λ x y.
-    hard_dibit (get_or levels 0 (pos 0)) ∷ hard_dibit (get_or levels 1 (pos 0)) ∷ x ∷ y ∷ []) hc hd ∙ ap (map hard_dibit) (sym (four-levels levels long)))
+    rw (
+      is,
+      octet-dibits a b c d fb fc fd,
+      ← number_bits-one 2 d,
+      ← number_bits-cons 2 c (d ∷ []),
+      ← number_bits-cons 2 b (c ∷ d ∷ []),
+      ← number_bits-cons 2 a (b ∷ c ∷ d ∷ []),
+      four-levels levels long,
+      ha,
+      hb,
+      hc,
+      hd,
+    )

@@ -1,7 +1,7 @@
 -- The bits of an item of a soft recording, softened by the levels of its place. What is written of an item does not look at levels before the group of
 -- its place, so these can be let go.
 use Rattle.std.proofs.Common.{◌≡◌, ℕ, ◌+◌, ◌-◌, ◌*◌, ◌/◌, ◌%◌, ◌<◌, ◌≤◌, ◌&&◌, inl, inr, Bool, true, false, cond, List, [], ◌∷◌, ◌++◌, length, take, drop, refl, ap, ap₂, sym, subst, ◌∙◌, arith, append_assoc, append-nil, length-append, length-drop, eq-eqb, ℤ}
-use Rattle.std.proofs.lemmas.Bool.{cases_Bool, cond-true, cond-false, eqb-true, and_parts, both_ways}
+use Rattle.std.proofs.lemmas.Bool.{cases_Bool, eqb-true, and_parts, both_ways}
 use Rattle.std.proofs.lemmas.List.{take-append-drop, take-append-le, drop-append-le, drop-drop, length-take-le, drop_at}
 use Rattle.std.specs.Prelude.{nat_eq}
 use Rattle.p25_bits.specs.Bits.{part}
@@ -11,7 +11,7 @@ use Rattle.p25_units.specs.Units.{whole_octets}
 use Rattle.p25_status.specs.{Sync.{has_sync}, declared.fields.Field.{Field}}
 use Rattle.p25_units.proofs.{NeedsLaws.{need_of-there}, ItemsLaws.{covered-unit_item_of}}
 use Rattle.p25_stream.specs.{Items.{first_item, items_by}, ItemLaws.{GaveItems}, Scan.{Scan, Gave, given}}
-use Rattle.p25_stream.proofs.ItemsLaws.{first_item-cases, items_by-first, place_of-first_item}
+use Rattle.p25_stream.proofs.{ItemsLaws.{first_item-cases, items_by-first, place_of-first_item}, WrittenLaws.{written-cons, written-nil}}
 use Rattle.p25_soft.specs.{Levels.{hard_bits}, Softened.{IsHeard, softened}}
 use Rattle.p25_soft.proofs.{HardBitsLaws.{hard_bits-append, hard_bits-drop, hard_bits-none, hard_bits-part, length-hard_bits}, HeardLaws.{IsHeard-front, softened-other, softened-unpacked}}
 use Rattle.p25_recording_filters.specs.{Commands.{unfilled}, ItemOutputs.{changed_bits}, SoftLevels.{grouped, item_softened, scanned}}
@@ -20,17 +20,15 @@ use Rattle.p25_recording_filters.proofs.{OctetsLaws.{whole_octets-append}, SoftL
 
 -- the levels of an item from a group on
 part_from_group : (place covers : ℕ) (levels : List ℤ) → part (place / 2 - first_level place) covers levels ≡ part (place % 8 / 2) covers levels
-part_from_group place covers levels = let at : place / 2 - first_level place ≡ place % 8 / 2 = omega arith in ap (λ n. part n covers levels) at
+part_from_group place covers levels = let at : place / 2 - first_level place ≡ place % 8 / 2 = omega arith in rw at
 
 -- a broken packet at an even place is softened
 pub softened-even : (item : Item) (levels : List ℤ) (raw : List Bool)
     → is_even_packet item ≡ true → item_softened (first_level (place_of item)) levels item raw ≡ softened item (item_levels item levels) raw
 unfolding item_softened
 softened-even (Broken place count nac duid fields) levels raw yes' =
-    let item = Broken place count nac duid fields in
     let even : nat_eq (place % 2) 0 ≡ true = (and_parts (nat_eq duid 0xC) (nat_eq (place % 2) 0) yes').1 in
-    cond-true (nat_eq (place % 2) 0) (softened item (part (place / 2 - first_level place) (count / 2) levels) raw) raw even
-    ∙ ap (λ (ls : List ℤ). softened item ls raw) (part_from_group place (count / 2) levels)
+    rw (even, part_from_group)
 softened-even item levels raw yes' = absurd (cc)
 
 same_both : {X : Type 0} (b : Bool) (x : X) → cond b x x ≡ x
@@ -40,9 +38,7 @@ same_both false x = refl
 -- and no other item
 not_packet : (item : Item) (first : ℕ) (levels : List ℤ) (raw : List Bool) → ((ls : List ℤ) → softened item ls raw ≡ raw) → item_softened first levels item raw ≡ raw
 unfolding item_softened
-not_packet item first levels raw same =
-    ap (λ (bits : List Bool). cond (nat_eq (place_of item % 2) 0) bits raw) (same (part (place_of item / 2 - first) (covered item / 2) levels))
-    ∙ same_both (nat_eq (place_of item % 2) 0) raw
+not_packet item first levels raw same = rw (same (part (place_of item / 2 - first) (covered item / 2) levels), same_both)
 
 pub softened-uneven : (item : Item) (first : ℕ) (levels : List ℤ) (raw : List Bool) → is_even_packet item ≡ false → item_softened first levels item raw ≡ raw
 unfolding item_softened
@@ -51,7 +47,7 @@ softened-uneven (Broken place count nac duid fields) first levels raw no' =
     elim (cases_Bool (nat_eq duid 0xC)) [
       | inl packet ↦
           let odd : nat_eq (place % 2) 0 ≡ false = second (nat_eq duid 0xC) (nat_eq (place % 2) 0) packet no' in
-          cond-false (nat_eq (place % 2) 0) (softened item (part (place / 2 - first) (count / 2) levels) raw) raw odd
+          rw odd
       | inr other ↦ unfold item_softened in
           not_packet item first levels raw (λ ls. softened-unpacked item ls raw place count nac duid fields refl (λ is. both_ways _ other (eq-eqb duid 0xC is)))
     ]
@@ -66,8 +62,7 @@ softened-same : (item : Item) (first other : ℕ) (levels others : List ℤ) (ra
     → part (place_of item / 2 - first) (covered item / 2) levels ≡ part (place_of item / 2 - other) (covered item / 2) others
     → item_softened first levels item raw ≡ item_softened other others item raw
 unfolding item_softened
-softened-same item first other levels others raw same =
-    ap (λ (ls : List ℤ). cond (nat_eq (place_of item % 2) 0) (softened item ls raw) raw) same
+softened-same item first other levels others raw same = rw same
 
 -- levels before the group of a place are not looked at from there on
 softened-later : (item : Item) (first gone : ℕ) (levels : List ℤ) (raw : List Bool) → first + gone ≤ place_of item / 2
@@ -75,28 +70,22 @@ softened-later : (item : Item) (first gone : ℕ) (levels : List ℤ) (raw : Lis
 softened-later item first gone levels raw later =
     let at : gone + (place_of item / 2 - (first + gone)) ≡ place_of item / 2 - first = omega arith in
     softened-same item first (first + gone) levels (drop gone levels) raw
-    (ap (λ n. part n (covered item / 2) levels) (sym at) ∙ sym (part-drop (place_of item / 2 - (first + gone)) (covered item / 2) gone levels))
+    (rw (part-drop (place_of item / 2 - (first + gone)) (covered item / 2) gone levels, at))
 
 -- changes that are alike from a place on make the same of the items there
 changed-alike : (f g : Item → List Bool → List Bool) (from : ℕ) → ((item : Item) (raw : List Bool) → from ≤ place_of item → f item raw ≡ g item raw)
     → (items : List Item) (ended : Bool) (place : ℕ) (bits others : List Bool) → from ≤ place → items_by ended place bits ≡ items → changed_bits f items others ≡ changed_bits g items others
-unfolding changed_bits
-changed-alike f g from alike [] ended place bits others late are = refl
+changed-alike f g from alike [] ended place bits others late are = rw (written-nil, written-nil)
 changed-alike f g from alike (item ∷ items) ended place bits others late are =
     let parts = items_by-first ended place bits item items are in
     let there : from ≤ place_of item = omega (arith, ap place_of parts.1, place_of-first_item place bits) in
     let behind : from ≤ place + covered item = omega arith in
-    ap₂ (λ (xs ys : List Bool). xs ++ ys) (alike item (take (covered item) others) there)
-    (changed-alike f g from alike items ended (place + covered item) (drop (covered item) bits) (drop (covered item) others) behind (sym parts.2))
-
-changed-cons : (f : Item → List Bool → List Bool) (item : Item) (items : List Item) (bits : List Bool)
-    → changed_bits f (item ∷ items) bits ≡ f item (take (covered item) bits) ++ changed_bits f items (drop (covered item) bits)
-unfolding changed_bits
-changed-cons f item items bits = refl
-
-pub changed-none : (f : Item → List Bool → List Bool) (bits : List Bool) → changed_bits f [] bits ≡ []
-unfolding changed_bits
-changed-none f bits = refl
+    rw (
+      written-cons f,
+      written-cons g,
+      alike item (take (covered item) others) there,
+      changed-alike f g from alike items ended (place + covered item) (drop (covered item) bits) (drop (covered item) others) behind (sym parts.2),
+    )
 
 -- an item that was given begins at the place of the scanner
 pub place-given : (scan next : Scan) (item : Item) (raw : List Bool) → Gave scan item raw next → (place_of item ≡ scan.place) × (item ≡ first_item scan.place scan.held)
@@ -110,10 +99,7 @@ held-bits : (ended : Bool) (scan : Scan) (levels new : List ℤ) → IsHolding s
 held-bits ended scan levels new holding =
     let rest = scanned ended (ungrouped levels ++ new) in
     let there : scan.place % 8 ≤ length (hard_bits (grouped levels)) = omega (arith, holding.placed, length-hard_bits (grouped levels)) in
-    ap (λ (ls : List ℤ). drop (scan.place % 8) (hard_bits ls)) (scanned-split ended levels new)
-    ∙ ap (drop (scan.place % 8)) (hard_bits-append (grouped levels) rest)
-    ∙ drop-append-le (scan.place % 8) (hard_bits (grouped levels)) (hard_bits rest) there
-    ∙ ap (λ (bits : List Bool). bits ++ hard_bits rest) (sym holding.held)
+    rw (scanned-split ended levels new, hard_bits-append (grouped levels) rest, drop-append-le (scan.place % 8) (hard_bits (grouped levels)) (hard_bits rest) there, holding.held)
 
 -- how many bits are held
 pub length-held : (scan : Scan) (levels : List ℤ) → IsHolding scan levels → scan.place % 8 + length scan.held ≡ 2 * length (grouped levels)
@@ -144,11 +130,8 @@ module _ (scan next : Scan) (levels : List ℤ) (item : Item) (raw : List Bool) 
       let front = take gone levels in
       let long : length front ≡ gone = length-take-le gone levels gone-there in
       let whole : length front % 4 ≡ 0 = omega (arith, long, gone-is.2) in
-      let split : levels ++ new ≡ front ++ (drop gone levels ++ new) =
-      ap (λ (ls : List ℤ). ls ++ new) (sym (take-append-drop gone levels)) ∙ append_assoc front (drop gone levels) new in
-      ap (λ (ls : List ℤ). drop gone (scanned ended ls)) split
-      ∙ ap (drop gone) (scanned-append ended front (drop gone levels ++ new) whole)
-      ∙ drop_at front (scanned ended (drop gone levels ++ new)) gone long
+      let split : levels ++ new ≡ front ++ (drop gone levels ++ new) = rw (← append_assoc front, take-append-drop) in
+      rw (split, scanned-append ended front (drop gone levels ++ new) whole, drop_at front (scanned ended (drop gone levels ++ new)) gone long)
 
   -- and its bits after the item
   bits-gone : (ended : Bool) (new : List ℤ)
@@ -157,23 +140,14 @@ module _ (scan next : Scan) (levels : List ℤ) (item : Item) (raw : List Bool) 
       let all = scanned ended (levels ++ new) in
       let inside : gone ≤ length all
       = omega (arith, gone-le, ap length (scanned-split ended levels new), length-append (grouped levels) (scanned ended (ungrouped levels ++ new))) in
-      ap (λ (ls : List ℤ). drop (next.place % 8) (hard_bits ls)) (sym (scanned-gone ended new))
-      ∙ ap (drop (next.place % 8)) (sym (hard_bits-drop gone all inside))
-      ∙ drop-drop (next.place % 8) (2 * gone) (hard_bits all)
-      ∙ ap (λ n. drop n (hard_bits all)) gone-is.1
-      ∙ sym (drop-drop (covered item) (scan.place % 8) (hard_bits all))
+      rw (← scanned-gone ended new, ← hard_bits-drop gone all inside, drop-drop, drop-drop, gone-is.1)
 
   -- the scanner holds the bits of the levels that are left
   pub holding-next : IsHolding next (drop gone levels)
   holding-next =
       let count = length-drop gone levels in
-      let left : drop gone levels ++ [] ≡ drop gone levels = append-nil (drop gone levels) in
       record {
-        held =
-            gave.left
-            ∙ ap (drop (covered item)) (holding.held ∙ ap (λ (ls : List ℤ). drop (scan.place % 8) (hard_bits (grouped ls))) (sym (append-nil levels)))
-            ∙ sym (bits-gone false [])
-            ∙ ap (λ (ls : List ℤ). drop (next.place % 8) (hard_bits (grouped ls))) left;
+        held = rw (gave.left, holding.held) (rw (append-nil, append-nil) at (sym (bits-gone false [])));
         placed = omega (arith, gone-is.1, gone-is.2, gave.there, length-held scan levels holding, length-grouped levels, length-grouped (drop gone levels), count, gone-there);
         full = λ done. omega (arith, holding.full (sym gave.same ∙ done), gone-is.2, count, gone-there);
       }
@@ -183,26 +157,18 @@ module _ (scan next : Scan) (levels : List ℤ) (item : Item) (raw : List Bool) 
     none-behind : scan.finished ≡ true → hard_bits (scanned ended (ungrouped levels ++ new)) ≡ []
     none-behind done =
         let e = all_there done in
-        ap (λ (ls : List ℤ). hard_bits (scanned ended ls)) (ap₂ (λ (xs ys : List ℤ). xs ++ ys) (ungrouped-none levels (holding.full done)) e.1)
-        ∙ ap (λ (b : Bool). hard_bits (scanned b [])) e.0
-        ∙ ap hard_bits (filled-whole [] refl)
-        ∙ hard_bits-none
+        rw (ungrouped-none levels (holding.full done), e.1, e.0, filled-whole [] refl, hard_bits-none)
 
     first-given : items_by ended scan.place (drop (scan.place % 8) (hard_bits (scanned ended (levels ++ new))))
         ≡ item ∷ items_by ended next.place (drop (covered item) (drop (scan.place % 8) (hard_bits (scanned ended (levels ++ new)))))
     first-given =
         let more = hard_bits (scanned ended (ungrouped levels ++ new)) in
         let bits = held-bits ended scan levels new holding in
-        let left : drop (covered item) (scan.held ++ more) ≡ next.held ++ more
-        = drop-append-le (covered item) scan.held more gave.there ∙ ap (λ (zs : List Bool). zs ++ more) (sym gave.left) in
-        ap (items_by ended scan.place) bits
-        ∙ gave_items scan next item raw ended more gave (λ done. ((all_there done).0, none-behind done))
-        ∙ ap (λ (zs : List Bool). item ∷ items_by ended next.place zs) (sym left ∙ ap (drop (covered item)) (sym bits))
+        rw (bits, drop-append-le (covered item) scan.held more gave.there, ← gave.left) (gave_items scan next item raw ended more gave (λ done. ((all_there done).0, none-behind done)))
 
     raw-given : take (covered item) (drop (scan.place % 8) (hard_bits (scanned ended (levels ++ new)))) ≡ raw
     raw-given =
-        let more = hard_bits (scanned ended (ungrouped levels ++ new)) in
-        ap (take (covered item)) (held-bits ended scan levels new holding) ∙ take-append-le (covered item) scan.held more gave.there ∙ sym gave.raw_bits
+        rw (held-bits ended scan levels new holding, take-append-le (covered item) scan.held (hard_bits (scanned ended (ungrouped levels ++ new))) gave.there, gave.raw_bits)
 
     -- its levels are among those of whole groups
     softened-given : item_softened (first_level scan.place) (scanned ended (levels ++ new)) item raw ≡ item_softened (first_level scan.place) levels item raw
@@ -211,9 +177,8 @@ module _ (scan next : Scan) (levels : List ℤ) (item : Item) (raw : List Bool) 
         let count = covered item / 2 in
         let inside : at + count ≤ length (grouped levels) = omega (arith, (place-given scan next item raw gave).0, gave.there, length-held scan levels holding) in
         let one : part at count (scanned ended (levels ++ new)) ≡ part at count (grouped levels)
-        = ap (part at count) (scanned-split ended levels new) ∙ part_left at count (grouped levels) (scanned ended (ungrouped levels ++ new)) inside in
-        let two : part at count levels ≡ part at count (grouped levels)
-        = ap (part at count) (sym (grouped-ungrouped levels)) ∙ part_left at count (grouped levels) (ungrouped levels) inside in
+        = rw (scanned-split ended levels new, part_left at count (grouped levels) (scanned ended (ungrouped levels ++ new)) inside) in
+        let two = rw grouped-ungrouped at (part_left at count (grouped levels) (ungrouped levels) inside) in
         softened-same item (first_level scan.place) (first_level scan.place) (scanned ended (levels ++ new)) levels raw (one ∙ sym two)
 
     behind-given : changed_bits (item_softened (first_level scan.place) (scanned ended (levels ++ new)))
@@ -228,11 +193,10 @@ module _ (scan next : Scan) (levels : List ℤ) (item : Item) (raw : List Bool) 
         changed-alike (item_softened (first_level scan.place) all) (item_softened (first_level next.place) (scanned ended (drop gone levels ++ new))) next.place
         (λ later bits late.
         let there : first_level scan.place + gone ≤ place_of later / 2 = omega (arith, gone-is.0, late) in
-        softened-later later (first_level scan.place) gone all bits there
-        ∙ ap₂ (λ n (ls : List ℤ). item_softened n ls later bits) gone-is.0 (scanned-gone ended new))
+        rw (softened-later later (first_level scan.place) gone all bits there, gone-is.0, scanned-gone ended new))
         (items_by ended next.place rest)
         ended next.place rest rest (omega arith) refl
-        ∙ ap (λ (bits : List Bool). changed_bits (item_softened (first_level next.place) (scanned ended (drop gone levels ++ new))) (items_by ended next.place bits) bits) (sym (bits-gone ended new))
+        ∙ rw (bits-gone ended new)
 
     pub written-given : soft_written ended scan.place (levels ++ new) kept
         ≡ whole_octets (kept ++ item_softened (first_level scan.place) levels item raw)
@@ -245,13 +209,7 @@ module _ (scan next : Scan) (levels : List ℤ) (item : Item) (raw : List Bool) 
         let left = drop gone levels ++ new in
         let rest = changed_bits (item_softened (first_level next.place) (scanned ended left))
         (items_by ended next.place (drop (next.place % 8) (hard_bits (scanned ended left)))) (drop (next.place % 8) (hard_bits (scanned ended left))) in
-        let changed : changed_bits change (items_by ended scan.place bits) bits ≡ own ++ rest
-        = ap (λ (items : List Item). changed_bits change items bits) first-given
-        ∙ changed-cons change item (items_by ended next.place (drop (covered item) bits)) bits
-        ∙ ap₂ (λ (xs ys : List Bool). xs ++ ys) (ap (change item) raw-given ∙ softened-given) behind-given in
-        ap (λ (zs : List Bool). whole_octets (kept ++ zs)) changed
-        ∙ ap whole_octets (sym (append_assoc kept own rest))
-        ∙ sym (whole_octets-append (kept ++ own) rest)
+        rw (first-given, written-cons change, raw-given, softened-given, behind-given, whole_octets-append (kept ++ own) rest, append_assoc)
 
 -- a unit at the front of bits
 record IsUnitItem (place : ℕ) (bits : List Bool) (item : Item) : Type 0 where
@@ -290,7 +248,7 @@ pub heard-given : (scan next : Scan) (levels : List ℤ) (item : Item) (raw : Li
 heard-given scan next levels item raw holding gave yes' =
     let given_item = place-given scan next item raw gave in
     let parts = even-parts item yes' in
-    let unit = subst (λ (i : Item). IsUnitItem scan.place scan.held i) (sym given_item.1) (unit-even scan.place scan.held (ap is_even_packet (sym given_item.1) ∙ yes')) in
+    let unit = rw (← given_item.1) at (unit-even scan.place scan.held (rw (← given_item.1) yes')) in
     let count = unit.count in
     let there = need_of-there scan.held count unit.needs in
     let covers : covered item ≡ count = ap covered unit.is ∙ covered-unit_item_of scan.place scan.held count unit.needs in
@@ -298,19 +256,19 @@ heard-given scan next levels item raw holding gave yes' =
     let half = count / 2 in
     let some : 72 < count = there.0 in
     let whole : count % 72 ≡ 0 = there.2 in
-    let even : scan.place % 2 ≡ 0 = ap (λ n. n % 2) (sym given_item.0) ∙ parts.even in
+    let even : scan.place % 2 ≡ 0 = rw given_item.0 at parts.even in
     let place : scan.place % 8 ≡ 2 * at = omega arith in
     let twice : count ≡ 2 * half = omega arith in
     let inside : at + half ≤ length (grouped levels) = omega (arith, there.3, length-held scan levels holding, place, twice) in
-    let levels_of_item : item_levels item levels ≡ part at half levels = ap₂ (λ p c. part (p % 8 / 2) (c / 2) levels) given_item.0 covers in
+    let levels_of_item : item_levels item levels ≡ part at half levels = rw (given_item.0, covers) in
     let bits : take count scan.held ≡ hard_bits (part at half levels)
     = ap (take count) holding.held
     ∙ ap₂ (λ n k. part n k (hard_bits (grouped levels))) place twice
     ∙ hard_bits-part at half (grouped levels) inside
-    ∙ ap hard_bits (sym (ap (part at half) (sym (grouped-ungrouped levels)) ∙ part_left at half (grouped levels) (ungrouped levels) inside)) in
+    ∙ rw (← part_left at half (grouped levels) (ungrouped levels) inside, grouped-ungrouped) in
     let heard = IsHeard-front (part at half levels) scan.held scan.place count parts.at parts.size parts.nac parts.duid parts.fields unit.synced unit.needs
     (sym unit.is ∙ parts.is) parts.packet bits in
-    let raw_is : raw ≡ take count scan.held = gave.raw_bits ∙ ap (λ n. take n scan.held) covers in
+    let raw_is : raw ≡ take count scan.held = rw covers at gave.raw_bits in
     record {
       there = omega (arith, inside, length-grouped levels, ap (λ p. p % 8 / 2) given_item.0, ap (λ c. c / 2) covers);
       heard =

@@ -1,79 +1,56 @@
 -- How the work on a soft recording goes on: levels come, an item is given, the input ends.
-use Rattle.std.proofs.Common.{◌≡◌, ℕ, ◌+◌, ◌-◌, ◌%◌, ◌<◌, Bool, true, false, List, [], ◌++◌, length, drop, map, Some, Ok, refl, ap, ap₂, sym, subst, ◌∙◌, arith, append_assoc, append-nil, length-drop, ℤ}
+use Rattle.std.proofs.Common.{◌≡◌, ℕ, ◌+◌, ◌-◌, ◌%◌, ◌<◌, Bool, true, false, List, [], ◌++◌, length, drop, map, Some, Ok, refl, ap, sym, subst, arith, append_assoc, append-nil, length-drop, ℤ}
 use Rattle.std.proofs.lemmas.List.{map-append}
 use Rattle.p25_units.specs.{declared.item.Item.{Item}, Items.{covered, place_of}, Units.{whole_octets}}
 use Rattle.p25_stream.specs.{Items.{items_by}, ItemLaws.{GaveItems}, Scan.{Scan, Gave, given}}
-use Rattle.p25_stream.proofs.ItemsLaws.{items_by-nil}
+use Rattle.p25_stream.proofs.{ItemsLaws.{items_by-nil}, WrittenLaws.{written-nil}}
 use Rattle.p25_soft.specs.Levels.{hard_bits}
 use Rattle.p25_soft.proofs.HardBitsLaws.{hard_bits-none}
 use Rattle.p25_filter.specs.{declared.ending.Ending.TheVariants.{Done}, Futures.{IsClosed, IsIdle, NextPiece, Progress}}
 use Rattle.p25_filter.proofs.LinesLaws.{Contains-none}
 use Rattle.p25_recording_filters.specs.{Commands.{unfilled}, ItemOutputs.{changed_bits}, SoftLevels.{filled, grouped, item_softened, octet_level}}
-use Rattle.p25_recording_filters.specs.Softs.{IsHolding, PutSoftItem, SoftParts, first_level, soft_future, soft_future_by, soft_written}
+use Rattle.p25_recording_filters.specs.Softs.{IsHolding, PutSoftItem, SoftParts, first_level, soft_future, soft_future_by}
 use Rattle.p25_recording_filters.proofs.{OctetsLaws.{whole_octets-few}, SoftLevelsLaws.{filled-whole, grouped-whole, length-filled}}
-use Rattle.p25_recording_filters.proofs.SoftItemLaws.{changed-none, gone-there, place-given, written-given}
+use Rattle.p25_recording_filters.proofs.SoftItemLaws.{gone-there, place-given, written-given}
 
 -- levels come
 pub step-push : (before now : SoftParts) (octets : List ℕ) → before.scan.finished ≡ false → now.scan.finished ≡ false → now.scan.place ≡ before.scan.place
     → now.levels ≡ before.levels ++ map octet_level octets → now.kept ≡ before.kept → Progress (soft_future before) octets [] (soft_future now)
 unfolding soft_future
 step-push before now octets going still place levels kept =
-    subst (λ (b : Bool). Progress (soft_future_by b before) octets [] (soft_future_by now.scan.finished now)) (sym going)
-    (subst (λ (b : Bool). Progress (soft_future_by false before) octets [] (soft_future_by b now)) (sym still)
-    (record {
-      writes = λ ended more.
-          let lists : before.levels ++ map octet_level (octets ++ more) ≡ now.levels ++ map octet_level more
-          = ap (λ (ls : List ℤ). before.levels ++ ls) (map-append octet_level octets more)
-          ∙ sym (append_assoc before.levels (map octet_level octets) (map octet_level more))
-          ∙ ap (λ (ls : List ℤ). ls ++ map octet_level more) (sym levels) in
-          ap (λ (ls : List ℤ). soft_written ended before.scan.place ls before.kept) lists
-          ∙ ap₂ (λ p (k : List Bool). soft_written ended p (now.levels ++ map octet_level more) k) (sym place) (sym kept);
+    rw (going, still) (record {
+      writes = λ ended more. rw (place, kept, levels, map-append, append_assoc);
       ends = λ ended more. refl;
       pauses = λ ended more pause is. absurd (Contains-none pause is);
-    }))
+    })
 
 -- the input ends
 pub step-finish : (before now : SoftParts) → before.scan.finished ≡ false → now.scan.finished ≡ true → now.scan.place ≡ before.scan.place → now.levels ≡ filled before.levels
     → now.kept ≡ before.kept → IsClosed (soft_future before) (soft_future now)
 unfolding soft_future
 step-finish before now going done place levels kept =
-    subst (λ (b : Bool). IsClosed (soft_future_by b before) (soft_future_by now.scan.finished now)) (sym going)
-    (subst (λ (b : Bool). IsClosed (soft_future_by false before) (soft_future_by b now)) (sym done)
-    (record {
-      writes = λ ended more.
-          let all : filled now.levels ≡ filled (before.levels ++ [])
-          = ap filled levels ∙ filled-whole (filled before.levels) (length-filled before.levels).0 ∙ ap filled (sym (append-nil before.levels)) in
-          ap (λ (ls : List ℤ). whole_octets (now.kept ++ changed_bits (item_softened (first_level now.scan.place) ls)
-          (items_by true now.scan.place (drop (now.scan.place % 8) (hard_bits ls))) (drop (now.scan.place % 8) (hard_bits ls)))) all
-          ∙ ap₂ (λ p (k : List Bool). soft_written true p (before.levels ++ []) k) place kept;
+    rw (going, done) (record {
+      writes = λ ended more. rw (place, kept, levels, filled-whole (filled before.levels) (length-filled before.levels).0, append-nil);
       ends = λ ended more. refl;
       pauses = λ ended more. refl;
-    }))
+    })
 
 -- an item is given
 item_by : GaveItems → (finished : Bool) (before now : SoftParts) (out : List ℕ) → before.scan.finished ≡ finished → IsHolding before.scan before.levels → PutSoftItem before out now
     → Progress (soft_future_by finished before) [] out (soft_future_by finished now)
 item_by gave_items false before now out going holding put =
-    let next = now.scan in
-    let own = item_softened (first_level before.scan.place) before.levels put.item put.raw in
     record {
       writes = λ ended more.
-          written-given before.scan next before.levels put.item put.raw holding put.gave gave_items ended
-          (map octet_level more) before.kept (λ done. let two : false ≡ true = sym going ∙ done in absurd (cc))
-          ∙ ap₂ (λ (xs ys : List ℕ). xs ++ ys) (sym put.piece)
-          (ap₂ (λ (ls : List ℤ) (k : List Bool). soft_written ended next.place (ls ++ map octet_level more) k) (sym put.left) (sym put.behind));
+          rw (put.piece, put.left, put.behind)
+          (written-given before.scan now.scan before.levels put.item put.raw holding put.gave gave_items ended (map octet_level more) before.kept (λ done. let two = rw going at done in absurd (cc)));
       ends = λ ended more. refl;
       pauses = λ ended more pause is. absurd (Contains-none pause is);
     }
 item_by gave_items true before now out done holding put =
-    let next = now.scan in
     record {
       writes = λ ended more.
-          ap (λ (ls : List ℤ). soft_written true before.scan.place ls before.kept) (sym (append-nil before.levels))
-          ∙ written-given before.scan next before.levels put.item put.raw holding put.gave gave_items true [] before.kept (λ is. (refl, refl))
-          ∙ ap₂ (λ (xs ys : List ℕ). xs ++ ys) (sym put.piece)
-          (ap₂ (λ (ls : List ℤ) (k : List Bool). soft_written true next.place ls k)
-          (append-nil (drop (first_level next.place - first_level before.scan.place) before.levels) ∙ sym put.left) (sym put.behind));
+          rw (put.piece, put.left, put.behind)
+          (rw (append-nil, append-nil) at (written-given before.scan now.scan before.levels put.item put.raw holding put.gave gave_items true [] before.kept (λ is. (refl, refl))));
       ends = λ ended more. refl;
       pauses = λ ended more pause is. absurd (Contains-none pause is);
     }
@@ -88,29 +65,18 @@ step-item gave_items before now out holding put =
 written-none : (ended : Bool) (place : ℕ) (all : List ℤ) (kept : List Bool) → items_by ended place (drop (place % 8) (hard_bits all)) ≡ [] → length kept < 8
     → whole_octets (kept ++ changed_bits (item_softened (first_level place) all) (items_by ended place (drop (place % 8) (hard_bits all))) (drop (place % 8) (hard_bits all))) ≡ []
 written-none ended place all kept none few =
-    let bits = drop (place % 8) (hard_bits all) in
-    ap (λ (items : List Item). whole_octets (kept ++ changed_bits (item_softened (first_level place) all) items bits)) none
-    ∙ ap (λ (zs : List Bool). whole_octets (kept ++ zs)) (changed-none (item_softened (first_level place) all) bits)
-    ∙ ap whole_octets (append-nil kept)
-    ∙ whole_octets-few kept few
+    rw (none, written-nil, append-nil, whole_octets-few kept few)
 
 idle_by : (finished : Bool) (work : SoftParts) → work.scan.finished ≡ finished
     → IsHolding work.scan work.levels → length work.kept < 8 → given work.scan ≡ [] → IsIdle finished (soft_future_by finished work)
 unfolding IsIdle
 idle_by false work going holding few none =
-    let items : items_by false work.scan.place (drop (work.scan.place % 8) (hard_bits (grouped (work.levels ++ [])))) ≡ []
-    = ap (λ (ls : List ℤ). items_by false work.scan.place (drop (work.scan.place % 8) (hard_bits (grouped ls)))) (append-nil work.levels)
-    ∙ ap (items_by false work.scan.place) (sym holding.held)
-    ∙ ap (λ (b : Bool). items_by b work.scan.place work.scan.held) (sym going)
-    ∙ none in
+    let items : items_by false work.scan.place (drop (work.scan.place % 8) (hard_bits (grouped (work.levels ++ [])))) ≡ [] = rw (append-nil, ← holding.held) (rw going at none) in
     (written-none false work.scan.place (grouped (work.levels ++ [])) work.kept items few, refl)
 idle_by true work done holding few none =
     let whole = holding.full done in
     let items : items_by true work.scan.place (drop (work.scan.place % 8) (hard_bits (filled work.levels))) ≡ []
-    = ap (λ (ls : List ℤ). items_by true work.scan.place (drop (work.scan.place % 8) (hard_bits ls))) (filled-whole work.levels whole ∙ sym (grouped-whole work.levels whole))
-    ∙ ap (items_by true work.scan.place) (sym holding.held)
-    ∙ ap (λ (b : Bool). items_by b work.scan.place work.scan.held) (sym done)
-    ∙ none in
+    = rw (filled-whole work.levels whole) (rw (holding.held, grouped-whole work.levels whole, done) at none) in
     λ ended more. written-none true work.scan.place (filled work.levels) work.kept items few
 
 pub step-idle : (work : SoftParts) → IsHolding work.scan work.levels → length work.kept < 8 → given work.scan ≡ [] → IsIdle work.scan.finished (soft_future work)
@@ -120,14 +86,12 @@ step-idle work holding few none = idle_by work.scan.finished work refl holding f
 -- the call ends well
 pub step-ending : (work : SoftParts) → work.scan.finished ≡ true → (ended : Bool) (more : List ℕ) → (soft_future work).ends ended more ≡ Some Done
 unfolding soft_future
-step-ending work done ended more = ap (λ (b : Bool). (soft_future_by b work).ends ended more) done
+step-ending work done ended more = rw done
 
 -- before the first octet
 pub holding-fresh : (scan : Scan) (levels : List ℤ) → scan ≡ record { place = 0; held = []; finished = false } → levels ≡ [] → IsHolding scan levels
 holding-fresh scan levels empty none = record {
-  held =
-      ap (λ (s : Scan). s.held) empty
-      ∙ sym (ap₂ (λ p (ls : List ℤ). drop (p % 8) (hard_bits (grouped ls))) (ap (λ (s : Scan). s.place) empty) none ∙ ap hard_bits (grouped-whole [] refl) ∙ hard_bits-none);
+  held = rw (empty, none, grouped-whole [] refl, hard_bits-none);
   placed = omega (arith, ap (λ (s : Scan). s.place % 8) empty);
   full = λ done. omega (arith, ap length none);
 }
@@ -140,7 +104,7 @@ pub holding-finish : (scan next : Scan) (levels : List ℤ) → IsHolding scan l
 holding-finish scan next levels holding whole is =
     let place : next.place ≡ scan.place = ap (λ (s : Scan). s.place) is in
     record {
-      held = ap (λ (s : Scan). s.held) is ∙ holding.held ∙ ap (λ p. drop (p % 8) (hard_bits (grouped levels))) (sym place);
+      held = rw is holding.held;
       placed = omega (arith, ap (λ p. p % 8) place, holding.placed);
       full = λ done. whole;
     }
@@ -165,7 +129,7 @@ PutSoftItem-from before now out item raw holding gave piece behind left =
       item = item;
       raw = raw;
       gave = gave;
-      piece = piece ∙ ap (λ p. whole_octets (before.kept ++ item_softened (first_level p) before.levels item raw)) place;
-      behind = behind ∙ ap (λ p. unfilled (before.kept ++ item_softened (first_level p) before.levels item raw)) place;
-      left = left ∙ ap₂ (λ n p. drop (first_level n - first_level p) before.levels) next place;
+      piece = rw place at piece;
+      behind = rw place at behind;
+      left = rw (next, place) at left;
     }

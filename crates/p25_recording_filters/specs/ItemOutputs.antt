@@ -1,7 +1,7 @@
 -- What is written of the items of a recording.
-use Rattle.std.specs.Prelude.{ℕ, ◌+◌, Bool, if◌then◌else◌, ◌==◌, List, [], ◌∷◌, ◌++◌, map, take, drop, codes, decimal}
-use Rattle.p25_units.specs.{Items.{covered}, Units.{whole_octets}, declared.item.Item.{Item}}
-use Rattle.p25_stream.specs.{Items.{items_by}, Repeats.{is_whole_item}}
+use Rattle.std.specs.Prelude.{ℕ, ◌+◌, Bool, if◌then◌else◌, ◌==◌, List, [], ◌∷◌, ◌++◌, map, codes, decimal}
+use Rattle.p25_units.specs.{Units.{whole_octets}, declared.item.Item.{Item}}
+use Rattle.p25_stream.specs.{Items.{items_by}, Repeats.{is_whole_item}, Written.{written}}
 use Rattle.p25_soft.specs.Levels.{hard_bits}
 use Rattle.p25_text.specs.ItemTexts.{item_text_of}
 use Rattle.p25_calls.specs.{CallTexts.{call_text_of}, declared.call.Call.{Call}}
@@ -34,9 +34,8 @@ abbrev pub check_ending : ℕ → Ending
 check_ending faults = if faults == 0 then Done else Found faults
 
 -- the bits of items that lie end to end over some bits, each by a change of the bits that it covers
-unfoldable pub changed_bits : (Item → List Bool → List Bool) → List Item → List Bool → List Bool
-changed_bits change [] bits = []
-changed_bits change (item ∷ items) bits = change item (take (covered item) bits) ++ changed_bits change items (drop (covered item) bits)
+abbrev pub changed_bits : (Item → List Bool → List Bool) → List Item → List Bool → List Bool
+changed_bits = written
 
 -- the text of a call and the end of its line
 abbrev pub call_line : Call → List ℕ

@@ -1,11 +1,10 @@
 -- What is known of a broken packet that its bits are divided into: its header was read, and it has the length that it tells. And what is made of each item.
-use Rattle.std.proofs.Common.{◌≡◌, ◌≢◌, ℕ, ◌≤◌, inl, inr, Bool, true, List, length, take, refl, ap, sym, subst, ◌∙◌, arith, ℤ, Some, Result, Ok, Err, eq-eqb}
-use Rattle.std.proofs.{lemmas.Bool.{cases_lt, cond-true, cond-false, ne_eqb}, lemmas.List.{length-take-le, take_all}}
-use Rattle.std.specs.Prelude.{nat_eq}
+use Rattle.std.proofs.Common.{◌≡◌, ◌≢◌, ℕ, ◌≤◌, inl, inr, Bool, true, List, length, take, refl, ap, sym, ◌∙◌, arith, ℤ, Some, Result, Ok, Err, eq-eqb}
+use Rattle.std.proofs.{lemmas.Bool.{cases_lt, ne_eqb}, lemmas.List.{length-take-le, take_all}}
 use Rattle.p25_status.specs.{Sync.{has_sync}, declared.fields.Field.{Field}}
 use Rattle.p25_packet_blocks.specs.{declared.head.PacketHead.{PacketHead}, Heads.{head_blocks}, Lengths.{packet_sent_length}, UnitReading.{sent_head_of}}
-use Rattle.p25_units.specs.{declared.frame.Frame.{Frame}, declared.item.Item.{Item}, declared.item.Item.TheVariants.{Broken}, declared.needs.Need.TheVariants.{More, Length, NoLength}}
-use Rattle.p25_units.specs.{Items.{covered, item_from, place_of, unit_item_of}, Needs.{head_need, kind_need, need_of, packet_need}, Readings.{reading_from}}
+use Rattle.p25_units.specs.{declared.frame.Frame.{Frame}, declared.item.Item.{Item}, declared.item.Item.TheVariants.{Broken}, declared.needs.Need.TheVariants.{Length}}
+use Rattle.p25_units.specs.{Items.{covered, item_from, place_of, unit_item_of}, Needs.{head_need, need_of, packet_need}, Readings.{reading_from}}
 use Rattle.p25_units.proofs.ItemsLaws.{covered-unit_item_of, place_of-unit_item_of, unit_item_of-some}
 use Rattle.p25_units.proofs.{NeedsLaws.{IsIdentified-from, head_need-bad, head_need-good, kind_need-packet, packet_need-short, packet_need-long}, PacketNeedLaws.{length_need-is, need_of-packet_alone}}
 use Rattle.p25_units.proofs.UnitPlaceLaws.{IsUnitAt-from}
@@ -14,13 +13,13 @@ use Rattle.p25_soft.specs.{Levels.{hard_bits}, Softened.{IsHeard, IsReadFrom, bl
 -- the length of a packet that is known is the one that its header tells
 head_told : (head : Result PacketHead Field) (have : ℕ) → head_need head have ≡ Length have → have ≡ packet_sent_length (told_blocks head)
 unfolding told_blocks
-head_told (Err field) have e = let two : NoLength field ≡ Length have = sym (head_need-bad field have) ∙ e in absurd (cc)
+head_told (Err field) have e = absurd (let two = rw (head_need-bad field have) at e in cc)
 head_told (Ok head) have e = sym (length_need-is (packet_sent_length (head_blocks head)) have have (sym (head_need-good head have) ∙ e))
 
 pub packet_told : (sent : List Bool) → packet_need sent ≡ Length (length sent) → length sent ≡ packet_sent_length (blocks_to_follow sent)
 unfolding blocks_to_follow
 packet_told sent e = elim (cases_lt (length sent) 316) [
-  | inl few ↦ let two : More 316 ≡ Length (length sent) = sym (packet_need-short sent few) ∙ e in absurd (cc)
+  | inl few ↦ absurd (let two = rw (packet_need-short sent few) at e in cc)
   | inr enough ↦ head_told (sent_head_of sent) (length sent) (sym (packet_need-long sent (omega arith)) ∙ e)
 ]
 
@@ -35,37 +34,37 @@ pub broken_told : (item : Item) (sent : List Bool) (place count nac duid : ℕ) 
     → length sent ≡ packet_sent_length (blocks_to_follow sent)
 unfolding IsReadFrom
 broken_told item sent place count nac duid fields read is packet =
-    let known = subst (λ (i : Item). IsReadFrom i sent) is read in
+    let known = rw is at read in
     let found = IsIdentified-from sent (length sent) known.0 in
     let same : found.nid.1 ≡ duid
     = same_duid place found.nid sent (reading_from (Some found.nid) sent) place count nac duid fields
     (sym (unit_item_of-some place sent found.nid (reading_from (Some found.nid) sent) found.read refl) ∙ known.1) in
-    packet_told sent (sym (kind_need-packet sent) ∙ ap (λ d. kind_need d sent) (sym (same ∙ packet)) ∙ found.kind)
+    packet_told sent (rw (same, packet, kind_need-packet) at found.kind)
 
 -- what is made of a broken packet
 pub softened-packet : (item : Item) (levels : List ℤ) (sent : List Bool) (place count nac duid : ℕ) (fields : List Field) → item ≡ Broken place count nac duid fields → duid ≡ 0xC
     → softened item levels sent ≡ softened_packet fields levels sent
 unfolding softened
 softened-packet item levels sent place count nac duid fields is packet =
-    ap (λ (i : Item). softened i levels sent) is ∙ cond-true (nat_eq duid 0xC) (softened_packet fields levels sent) sent (eq-eqb duid 0xC packet)
+    rw (is, eq-eqb duid 0xC packet)
 
 pub softened_count-packet : (item : Item) (sent : List Bool) (place count nac duid : ℕ) (fields : List Field) → item ≡ Broken place count nac duid fields → duid ≡ 0xC
     → softened_count item sent ≡ blocks_replaced fields (blocks_to_follow sent)
 unfolding softened_count
 softened_count-packet item sent place count nac duid fields is packet =
-    ap (λ (i : Item). softened_count i sent) is ∙ cond-true (nat_eq duid 0xC) (blocks_replaced fields (blocks_to_follow sent)) 0 (eq-eqb duid 0xC packet)
+    rw (is, eq-eqb duid 0xC packet)
 
 -- of another broken unit
 pub softened-unpacked : (item : Item) (levels : List ℤ) (sent : List Bool) (place count nac duid : ℕ) (fields : List Field) → item ≡ Broken place count nac duid fields → duid ≢ 0xC
     → softened item levels sent ≡ sent
 unfolding softened
 softened-unpacked item levels sent place count nac duid fields is other =
-    ap (λ (i : Item). softened i levels sent) is ∙ cond-false (nat_eq duid 0xC) (softened_packet fields levels sent) sent (ne_eqb duid 0xC other)
+    rw (is, ne_eqb duid 0xC other)
 
 pub softened_count-unpacked : (item : Item) (sent : List Bool) (place count nac duid : ℕ) (fields : List Field) → item ≡ Broken place count nac duid fields → duid ≢ 0xC → softened_count item sent ≡ 0
 unfolding softened_count
 softened_count-unpacked item sent place count nac duid fields is other =
-    ap (λ (i : Item). softened_count i sent) is ∙ cond-false (nat_eq duid 0xC) (blocks_replaced fields (blocks_to_follow sent)) 0 (ne_eqb duid 0xC other)
+    rw (is, ne_eqb duid 0xC other)
 
 -- and of every other item
 pub softened-other : (item : Item) (levels : List ℤ) (sent : List Bool)

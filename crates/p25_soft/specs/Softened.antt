@@ -7,7 +7,7 @@ use Rattle.p25_bch_nid.specs.Duids.{duid_pdu}
 use Rattle.p25_trellis.specs.Tables.{half_point, three_quarter_point}
 use Rattle.p25_packet_blocks.specs.{declared.head.PacketHead.{PacketHead}, Heads.{head_blocks}, Reading.{block_bits}, UnitReading.{sent_head_of}}
 use Rattle.p25_units.specs.{Items.{covered, unit_item_of}, Needs.{need_of}, declared.needs.Need.TheVariants.{Length}, declared.item.Item.{Item}}
-use Rattle.p25_units.specs.declared.item.Item.TheVariants.{Whole, Broken, NoUnit, Gap, Cut}
+use Rattle.p25_units.specs.declared.item.Item.TheVariants.{Broken}
 use Rattle.p25_soft.specs.{Levels.{hard_bits}, SoftPaths.{soft_block}}
 
 -- where dibit d of a unit without status symbols is sent: one dibit is a status symbol after every 35

@@ -10,7 +10,7 @@ use Rattle.p25_status.specs.declared.symbols.Status.{Status}
 use Rattle.p25_units.specs.{Items.{covered}, Units.{IsSendableUnit, IsSoundFrame, image_of, whole_octets}, declared.frame.Frame.{Frame}, declared.item.Item.{Item}}
 use Rattle.p25_units.specs.declared.item.Item.TheVariants.{Whole}
 use Rattle.p25_units.proofs.{UnitsLaws.{IsSoundFrame-frame_as, length-image_of-blocks}, WithinRadiusLaws.{IsWithinRadius-image_of, received-image_of}}
-use Rattle.p25_stream.specs.{Arrivals.{Arrival, IsNearArrival, bits_arrived, frame_arrived, whole_of, wholes_of}, Items.{items_by}, Repeats.{bridged, bridged_frame, repaired}}
+use Rattle.p25_stream.specs.{Arrivals.{Arrival, IsNearArrival, bits_arrived, frame_arrived, whole_of, wholes_of}, Items.{items_by}, Repeats.{bridged, bridged_frame, repaired}, Written.{written}}
 use Rattle.p25_stream.proofs.{ArrivalLaws.{covered-whole_of, frame_arrived-sound, units-whole, wholes_of-cons, wholes_of-nil}, ItemsLaws.{items_by-nil}}
 use Rattle.p25_follow.specs.{Followed.{followed_by, unit_name}, Relayed.{relayed}}
 use Rattle.p25_follow.proofs.{ChainLaws.{chain_by-nil}, FollowingLaws.{followed-end, followed-unit}}
@@ -109,7 +109,7 @@ module _ (change : Item → List Bool → List Bool) (of_frame : Frame → List 
     (by_frame : (place : ℕ) (frame : Frame) (fixes : ℕ) (raw : List Bool) → change (Whole place frame fixes) raw ≡ of_frame frame) where
   changed-wholes : (place : ℕ) (arrivals : List Arrival) → All IsNearArrival arrivals
       → changed_bits change (wholes_of place arrivals) (bits_arrived arrivals) ≡ flat_map (λ (arrival : Arrival). of_frame (frame_arrived arrival)) arrivals
-  unfolding changed_bits
+  unfolding written
   changed-wholes place [] near = ap (λ (items : List Item). changed_bits change items []) (wholes_of-nil place)
   changed-wholes place (arrival ∷ arrivals) near =
       let bits = arrival.bits in

@@ -1,13 +1,11 @@
 -- What `follow` and `relay` write of any recording: their definitions over bits, which keep the number of bits, so that they fill the octets.
-use Rattle.std.proofs.Common.{◌≡◌, ℕ, ◌/◌, Bool, true, List, [], ◌∷◌, ◌++◌, length, take, drop, None, refl, ap, ◌∙◌, arith}
+use Rattle.std.proofs.Common.{◌≡◌, ℕ, ◌/◌, Bool, true, List, [], length, None, refl, ◌∙◌, arith}
 use Rattle.p25_bits.specs.Bits.{octet_bits}
 use Rattle.p25_bits.proofs.{BitsLaws.{length-octet_bits}, NumbersLaws.{length-numbers_from}}
-use Rattle.p25_status.specs.declared.symbols.Status.{Status}
-use Rattle.p25_units.specs.{Items.{covered}, Units.{whole_octets}, declared.item.Item.{Item}}
+use Rattle.p25_units.specs.Units.{whole_octets}
 use Rattle.p25_stream.specs.Items.{items_of}
-use Rattle.p25_follow.specs.{Followed.{follow_of, followed_by}, Relayed.{relay_of, relayed, relayed_by}}
+use Rattle.p25_follow.specs.{Followed.{follow_of, followed_by}, Relayed.{relay_of}}
 use Rattle.p25_follow.proofs.{LengthLaws.{length-follow_of}, RelayedPlacesLaws.{relay-long}}
-use Rattle.p25_recording_filters.specs.ItemOutputs.{changed_bits}
 use Rattle.p25_tool.specs.Recorded.{AreOctetsOf, FollowsRecording, RelaysRecording}
 use Rattle.p25_tool.proofs.RecordedLaws.{octet_bits-whole}
 
@@ -22,16 +20,5 @@ pub follows-recording : FollowsRecording
 unfolding follow_of
 follows-recording octets = as-many octets (followed_by true None [] (items_of 0 (octet_bits octets)) (octet_bits octets)) (length-follow_of (octet_bits octets))
 
-changed-relayed : (nac : ℕ) (status : Status) (items : List Item) (bits : List Bool) → changed_bits (relayed nac status) items bits ≡ relayed_by nac status items bits
-unfolding changed_bits relayed_by
-changed-relayed nac status [] bits = refl
-changed-relayed nac status (item ∷ items) bits =
-    ap (λ (zs : List Bool). relayed nac status item (take (covered item) bits) ++ zs) (changed-relayed nac status items (drop (covered item) bits))
-
 pub relays-recording : RelaysRecording
-relays-recording nac status octets fits =
-    let bits = octet_bits octets in
-    let same : whole_octets (changed_bits (relayed nac status) (items_of 0 bits) bits) ≡ whole_octets (relay_of nac status bits)
-    = ap whole_octets (changed-relayed nac status (items_of 0 bits) bits) in
-    let all = as-many octets (relay_of nac status bits) (relay-long nac status bits fits) in
-    (record { octets_are = same; bits_are = ap octet_bits same ∙ all.0.bits_are }, ap length same ∙ all.1)
+relays-recording nac status octets fits = let bits = octet_bits octets in as-many octets (relay_of nac status bits) (relay-long nac status bits fits)

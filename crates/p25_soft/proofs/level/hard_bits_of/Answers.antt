@@ -1,4 +1,4 @@
-use Rattle.std.proofs.{Common.{rules, ◌≡◌, ◌++◌, ◌+◌, ◌*◌, ◌<◌, ◌≤◌, List, Bool, ℕ, length, take, get_or, ap, ap₂, sym, ◌∙◌, arith, ℤ, pos, FitsSigned, w8}, lemmas.Int.{to_z-of_z}}
+use Rattle.std.proofs.{Common.{rules, ◌++◌, ◌<◌, ◌≤◌, List, Bool, length, take, get_or, ap, ap₂, sym, ◌∙◌, arith, pos, FitsSigned, w8}, lemmas.Int.{to_z-of_z}}
 use Rattle.std.proofs.lemmas.List.{take_all, take_more}
 use Rattle.p25_bits.specs.Bits.{bits_of}
 use Rattle.p25_soft.specs.Levels.{hard_bits, hard_dibit}

@@ -1,4 +1,4 @@
-use Rattle.std.proofs.Common.{◌≡◌, ℕ, ◌+◌, ◌-◌, ◌*◌, ◌/◌, List, [], ◌∷◌, ◌++◌, length, drop, ap, sym, ◌∙◌, arith}
+use Rattle.std.proofs.Common.{◌≡◌, ℕ, ◌-◌, ◌*◌, ◌/◌, List, [], ◌∷◌, ◌++◌, drop, ap, sym, ◌∙◌, arith}
 use Rattle.p25_bits.specs.{Bits.{field_of}, Numbers.{octets_from}}
 use Rattle.p25_bits.proofs.{NumbersLaws.{numbers_from-more}, PartLaws.{part-drop}}
 use Rattle.p25_recording_filters.proofs.OctetsLaws.{octets-more, octets-none, octets-on}
