@@ -1,5 +1,5 @@
 -- What the answers of a writer come to, in one step and then in another.
-use Rattle.std.proofs.Common.{◌≡◌, ℕ, ◌+◌, ◌-◌, ◌<◌, ◌≤◌, zero, suc, List, [], ◌∷◌, ◌++◌, Option, Result, Ok, Err, length, take, drop, arith, ap, sym, subst, ◌∙◌, append_assoc, append-nil, length-take}
+use Rattle.std.proofs.Common.{◌≡◌, ℕ, ◌+◌, ◌-◌, ◌<◌, List, [], ◌∷◌, ◌++◌, Option, length, take, drop, arith, ap, sym, subst, ◌∙◌, append_assoc, append-nil}
 use Rattle.std.proofs.{lemmas.List.{take_rest}, Math.Seq.{take-add}, KnownBytes.{Appends-trans}, lemmas.Grind.{flat_map-append}}
 use Rattle.p25_io.specs.{Asked.{Answered, Took, refusals_in}, declared.asked.AskedWriter.{AskedWriter}, StreamsLaws.{write_faults_in-append, writes_in-append}}
 use Rattle.p25_io.specs.Events.{Event, Read, ReadFailed, Wrote, WriteFailed, octets_written, write_faults_in, writes_in, written_by}

@@ -1,5 +1,5 @@
 -- What a writer answered, and what its answers come to.
-use Rattle.std.specs.{Prelude.{◌≡◌, ℕ, ◌+◌, List, [], ◌∷◌, ◌++◌, Option, Some, None}, Io.KnownBytes.{Appends}}
+use Rattle.std.specs.{Prelude.{◌≡◌, ℕ, ◌+◌, List, [], ◌∷◌, ◌++◌, Option}, Io.KnownBytes.{Appends}}
 use Rattle.p25_io.specs.{declared.asked.AskedWriter.{AskedWriter}, Events.{Event, Read, ReadFailed, Wrote, WriteFailed, octets_written, write_faults_in, writes_in}}
 
 -- a writer took these octets, with these answers to writes, and these to flushes
@@ -23,7 +23,8 @@ abbrev pub faults_of : {W : Type 0} → AskedWriter W → ℕ
 faults_of writer = refusals_in writer.writes.events + write_faults_in writer.flushes.events
 
 -- a writer took these octets, and was flushed so many times and failed so many times
-pub record Took {W : Type 0} (contents : W → Option (List ℕ)) (before : AskedWriter W) (octets : List ℕ) (flushes faults : ℕ) (now : AskedWriter W) : Type 0 where
+pub record Took {W : Type 0} (contents : W → Option (List ℕ)) (before : AskedWriter W) (octets : List ℕ) (flushes faults : ℕ) (now : AskedWriter W)
+    : Type 0 where
   pub wrote : Appends (contents before.inner) (contents now.inner) octets
   pub taken : octets_written now.writes.events ≡ octets_written before.writes.events ++ octets
   pub flushed : writes_in now.flushes.events ≡ writes_in before.flushes.events + flushes

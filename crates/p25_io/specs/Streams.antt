@@ -1,5 +1,5 @@
 -- What a reader and a writer of std went through in some events.
-use Rattle.std.specs.{Prelude.{◌≡◌, ℕ, ◌+◌, List, [], ◌++◌, Option, Contains, IfSome}, Io.KnownBytes.{Appends, Consumes, IsAtEnd}}
+use Rattle.std.specs.{Prelude.{◌≡◌, ℕ, ◌+◌, List, [], ◌++◌, Option, Some, None, Contains, IfSome}, Io.KnownBytes.{Appends, Consumes, IsAtEnd}}
 use Rattle.p25_io.specs.{Asked.{faults_of}, declared.streams.Streams.{Streams}}
 use Rattle.p25_io.specs.Events.{Event, Read, octets_read, octets_written, reads_in, write_faults_in, writes_in}
 
@@ -30,6 +30,11 @@ flushed_on streams = writes_in streams.writer.flushes.events
 
 abbrev pub faults_on : {R W : Type 0} → Streams R W → ℕ
 faults_on streams = faults_of streams.writer
+
+-- what is known of what is told last, by what was told first: what tells at first tells to the end, and of another nothing is known
+abbrev pub known : Option (List ℕ) → Option (List ℕ) → Option (List ℕ)
+known None last = None
+known (Some octets) last = last
 
 -- these events were made on the streams, after those before. As far as the reader and the writer tell what they hold, the octets read
 -- stood first in the reader, which has none left where a read gave none, and those written stand last in the writer. The reader answered

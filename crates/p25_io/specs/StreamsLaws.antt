@@ -1,6 +1,6 @@
 -- No event leads from streams to themselves, and events after events join.
 use Rattle.std.specs.{Prelude.{◌≡◌, ℕ, ◌+◌, List, [], ◌∷◌, ◌++◌, Option, Some, None, length, Contains, IfSome}, Io.KnownBytes.{Appends, Consumes, IsAtEnd}}
-use Rattle.std.proofs.Common.{sym, ap, subst, ◌∙◌, arith, append_assoc, append-nil, length-append, ◌⊎◌, inl, inr, ◌<◌}
+use Rattle.std.proofs.Common.{sym, ap, subst, ◌∙◌, arith, append_assoc, append-nil, ◌⊎◌, inl, inr, ◌<◌}
 use Rattle.std.proofs.{KnownBytes.{Appends-nil, Appends-trans, Consumes-nil, Consumes-trans}, lemmas.Grind.{flat_map-append}}
 use Rattle.std.proofs.lemmas.List.Elements.{Contains-append_cases}
 use Rattle.p25_io.specs.{Chains.{Chain}, declared.streams.Streams.{Streams}, Streams.{StreamsGo, answers_on, events_on, reader_in, taken_on, writer_in}}

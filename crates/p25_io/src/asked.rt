@@ -53,6 +53,16 @@ impl<R: Read> AskedReader<R> {
     }
 }
 
+#[cfg(test)]
+impl<R> AskedReader<R> {
+    // The reader, for the tests.
+    pub(crate) fn inner(&self) -> &R
+        ensures { result.now ≡ self.now.inner }
+    {
+        &self.inner
+    }
+}
+
 // The buffers so far, and this one.
 fn with_buffer(buffers: &History, buf: &[u8]) -> History
     ensures { result.events ≡ buffers.now.events ++ Wrote buf.now ∷ [] }

@@ -55,7 +55,8 @@ impl<R: Read, W: Write> Port for Streams<R, W> {
     /// Asks the reader once, to fill the whole buffer.
     fn read(&mut self, buf: &mut [u8]) -> Result<usize, Failed>
         requires { 0 < length buf.old }
-        ensures given { IfOk result (λ count. (count ≤ length buf.new) × StreamsGo R.remaining W.contents self.old (ReadEvent (take count buf.new) ∷ []) self.new) }
+        ensures given { IfOk result (λ count. (count ≤ length buf.new)
+            × StreamsGo R.remaining W.contents self.old (ReadEvent (take count buf.new) ∷ []) self.new) }
         ensures failed { OnErr result (StreamsGo R.remaining W.contents self.old (ReadFailed ∷ []) self.new) }
         ensures room { length buf.new ≡ length buf.old }
 

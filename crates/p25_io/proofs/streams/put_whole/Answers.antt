@@ -1,4 +1,4 @@
-use Rattle.std.proofs.{Common.{◌≡◌, ℕ, ◌<◌, ◌≤◌, List, [], ◌∷◌, length, take, drop, ◌-◌, arith, ap, refl, subst, length-drop, length-take}, lemmas.List.{take_all, take_rest}}
+use Rattle.std.proofs.{Common.{ℕ, ◌<◌, List, [], ◌∷◌, length, take, drop, ◌-◌, arith, ap, refl, subst, length-drop, length-take}, lemmas.List.{take_all, take_rest}}
 use Rattle.p25_io.specs.{Asked.{Took}, Events.{Wrote, WriteFailed}}
 use Rattle.p25_io.proofs.StreamsSteps.{Took-answered, Took-next, Took-nothing, Took-some, Took-then}
 use Rattle.p25_io.proofs.streams.put_whole.Goals as goal
