@@ -1,10 +1,14 @@
 -- What contracts see of the adapters over std's readers and writers.
 use Rattle.std.specs.{Prelude.{ℕ, List, Option, take}, Io.KnownBytes.{Appends}}
-use Rattle.p25_io.specs.{declared.read_source.ReadSource.{ReadSource}, declared.write_sink.WriteSink.{WriteSink}}
+use Rattle.p25_io.specs.{Events.{Event}, declared.read_source.ReadSource.{ReadSource}, declared.write_sink.WriteSink.{WriteSink}}
 
 -- the reader inside
 abbrev pub reader_of : {R : Type 0} → ReadSource R → R
-reader_of source = source.inner
+reader_of source = source.inner.inner
+
+-- each of its answers
+abbrev pub answers_of : {R : Type 0} → ReadSource R → List Event
+answers_of source = source.inner.answers.events
 
 -- how often a read of it failed
 abbrev pub read_faults : {R : Type 0} → ReadSource R → ℕ

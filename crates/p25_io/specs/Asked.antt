@@ -1,9 +1,31 @@
--- What a writer took.
-use Rattle.std.specs.{Prelude.{◌≡◌, ℕ, ◌+◌, List, Option, length}, Io.KnownBytes.{Appends}}
-use Rattle.p25_io.specs.{Events.{octets_written}, declared.asked.AskedWriter.{AskedWriter}}
+-- What a writer answered, and what its answers come to.
+use Rattle.std.specs.{Prelude.{◌≡◌, ℕ, ◌+◌, List, [], ◌∷◌, ◌++◌, Option}, Io.KnownBytes.{Appends}}
+use Rattle.p25_io.specs.{declared.asked.AskedWriter.{AskedWriter}, Events.{Event, Read, ReadFailed, Wrote, WriteFailed, octets_written, write_faults_in, writes_in}}
 
--- a writer took these octets, and was flushed so many times
-pub record Took {W : Type 0} (contents : W → Option (List ℕ)) (before : AskedWriter W) (octets : List ℕ) (flushes : ℕ) (now : AskedWriter W) : Type 0 where
+-- a writer took these octets, with these answers to writes, and these to flushes
+pub record Answered {W : Type 0} (contents : W → Option (List ℕ)) (before : AskedWriter W) (octets : List ℕ) (to_writes to_flushes : List Event)
+    (now : AskedWriter W) : Type 0 where
   pub wrote : Appends (contents before.inner) (contents now.inner) octets
-  pub taken : length (octets_written now.octets.events) ≡ length (octets_written before.octets.events) + length octets
-  pub flushed : length now.flushes.events ≡ length before.flushes.events + flushes
+  pub writes : now.writes.events ≡ before.writes.events ++ to_writes
+  pub flushes : now.flushes.events ≡ before.flushes.events ++ to_flushes
+
+-- how many answers to writes are faults: a write that failed, and one that took nothing, since a writer is asked only with octets
+abbrev pub refusals_in : List Event → ℕ
+refusals_in [] = 0
+refusals_in (Wrote [] ∷ events) = 1 + refusals_in events
+refusals_in (Wrote (octet ∷ octets) ∷ events) = refusals_in events
+refusals_in (WriteFailed piece count ∷ events) = 1 + refusals_in events
+refusals_in (Read octets ∷ events) = refusals_in events
+refusals_in (ReadFailed ∷ events) = refusals_in events
+
+-- how many answers of a writer are faults: of a write, or of a flush
+abbrev pub faults_of : {W : Type 0} → AskedWriter W → ℕ
+faults_of writer = refusals_in writer.writes.events + write_faults_in writer.flushes.events
+
+-- a writer took these octets, and was flushed so many times and failed so many times
+pub record Took {W : Type 0} (contents : W → Option (List ℕ)) (before : AskedWriter W) (octets : List ℕ) (flushes faults : ℕ) (now : AskedWriter W)
+    : Type 0 where
+  pub wrote : Appends (contents before.inner) (contents now.inner) octets
+  pub taken : octets_written now.writes.events ≡ octets_written before.writes.events ++ octets
+  pub flushed : writes_in now.flushes.events ≡ writes_in before.flushes.events + flushes
+  pub failed : faults_of now ≡ faults_of before + faults

@@ -29,17 +29,27 @@ octets_read events = flat_map read_by events
 abbrev pub octets_written : List Event → List ℕ
 octets_written events = flat_map written_by events
 
--- how many of some events are reads, failed or not, and how many are writes that did not fail
-abbrev pub reads_in : List Event → ℕ
-reads_in [] = 0
-reads_in (Read octets ∷ events) = 1 + reads_in events
-reads_in (ReadFailed ∷ events) = 1 + reads_in events
-reads_in (Wrote piece ∷ events) = reads_in events
-reads_in (WriteFailed piece count ∷ events) = reads_in events
+-- the reads among some events, failed or not
+abbrev pub read_alone : Event → List Event
+read_alone (Read octets) = Read octets ∷ []
+read_alone ReadFailed = ReadFailed ∷ []
+read_alone (Wrote piece) = []
+read_alone (WriteFailed piece count) = []
 
+abbrev pub reads_in : List Event → List Event
+reads_in events = flat_map read_alone events
+
+-- how many of some events are writes that did not fail, and how many are writes that failed
 abbrev pub writes_in : List Event → ℕ
 writes_in [] = 0
 writes_in (Read octets ∷ events) = writes_in events
 writes_in (ReadFailed ∷ events) = writes_in events
 writes_in (Wrote piece ∷ events) = 1 + writes_in events
 writes_in (WriteFailed piece count ∷ events) = writes_in events
+
+abbrev pub write_faults_in : List Event → ℕ
+write_faults_in [] = 0
+write_faults_in (Read octets ∷ events) = write_faults_in events
+write_faults_in (ReadFailed ∷ events) = write_faults_in events
+write_faults_in (Wrote piece ∷ events) = write_faults_in events
+write_faults_in (WriteFailed piece count ∷ events) = 1 + write_faults_in events

@@ -1,24 +1,24 @@
 -- No event leads from streams to themselves, and events after events join.
 use Rattle.std.specs.{Prelude.{◌≡◌, ℕ, ◌+◌, List, [], ◌∷◌, ◌++◌, Option, Some, None, length, Contains, IfSome}, Io.KnownBytes.{Appends, Consumes, IsAtEnd}}
-use Rattle.std.proofs.Common.{sym, ap, subst, ◌∙◌, arith, append_assoc, append-nil, length-append, ◌⊎◌, inl, inr, ◌<◌}
+use Rattle.std.proofs.Common.{sym, ap, subst, ◌∙◌, arith, append_assoc, append-nil, ◌⊎◌, inl, inr, ◌<◌}
 use Rattle.std.proofs.{KnownBytes.{Appends-nil, Appends-trans, Consumes-nil, Consumes-trans}, lemmas.Grind.{flat_map-append}}
 use Rattle.std.proofs.lemmas.List.Elements.{Contains-append_cases}
-use Rattle.p25_io.specs.{Chains.{Chain}, declared.streams.Streams.{Streams}, Streams.{StreamsGo, events_on, reader_in, writer_in}}
-use Rattle.p25_io.specs.Events.{Event, Read, ReadFailed, Wrote, WriteFailed, octets_read, octets_written, read_by, reads_in, writes_in, written_by}
+use Rattle.p25_io.specs.{Chains.{Chain}, declared.streams.Streams.{Streams}, Streams.{StreamsGo, answers_on, events_on, reader_in, taken_on, writer_in}}
+use Rattle.p25_io.specs.Events.{Event, Read, ReadFailed, Wrote, WriteFailed, octets_read, octets_written, read_alone, read_by, reads_in, write_faults_in, writes_in, written_by}
 
-reads_in-append : (xs ys : List Event) → reads_in (xs ++ ys) ≡ reads_in xs + reads_in ys
-reads_in-append [] ys = omega arith
-reads_in-append (Read octets ∷ xs) ys = omega (arith, reads_in-append xs ys)
-reads_in-append (ReadFailed ∷ xs) ys = omega (arith, reads_in-append xs ys)
-reads_in-append (Wrote piece ∷ xs) ys = reads_in-append xs ys
-reads_in-append (WriteFailed piece count ∷ xs) ys = reads_in-append xs ys
-
-writes_in-append : (xs ys : List Event) → writes_in (xs ++ ys) ≡ writes_in xs + writes_in ys
+pub writes_in-append : (xs ys : List Event) → writes_in (xs ++ ys) ≡ writes_in xs + writes_in ys
 writes_in-append [] ys = omega arith
 writes_in-append (Read octets ∷ xs) ys = writes_in-append xs ys
 writes_in-append (ReadFailed ∷ xs) ys = writes_in-append xs ys
 writes_in-append (Wrote piece ∷ xs) ys = omega (arith, writes_in-append xs ys)
 writes_in-append (WriteFailed piece count ∷ xs) ys = writes_in-append xs ys
+
+pub write_faults_in-append : (xs ys : List Event) → write_faults_in (xs ++ ys) ≡ write_faults_in xs + write_faults_in ys
+write_faults_in-append [] ys = omega arith
+write_faults_in-append (Read octets ∷ xs) ys = write_faults_in-append xs ys
+write_faults_in-append (ReadFailed ∷ xs) ys = write_faults_in-append xs ys
+write_faults_in-append (Wrote piece ∷ xs) ys = write_faults_in-append xs ys
+write_faults_in-append (WriteFailed piece count ∷ xs) ys = omega (arith, write_faults_in-append xs ys)
 
 -- no more than what is left is read: nothing where nothing is left
 nothing-left : (now last : Option (List ℕ)) (octets : List ℕ) → Consumes now last octets → IsAtEnd now → IfSome now (λ left. IsAtEnd last)
@@ -43,6 +43,10 @@ ended-later None now last before read end = tt
 ended-later (Some left) None last before read end = absurd read
 ended-later (Some left) (Some rest) last before read end = end
 
+-- what came after something, and what came after both
+after : {X : Type 0} {next last all : List X} (first xs ys : List X) → next ≡ first ++ xs → last ≡ next ++ ys → all ≡ xs ++ ys → last ≡ first ++ all
+after first xs ys one two both = two ∙ ap (λ zs. zs ++ ys) one ∙ append_assoc first xs ys ∙ ap (λ zs. first ++ zs) (sym both)
+
 none-in : (event : Event) → Contains [] event → ⊥
 none-in event none = let below : none.0 < 0 = none.1 in absurd (omega (arith, below))
 
@@ -53,9 +57,10 @@ module _ {R W : Type 0} (remaining : R → Option (List ℕ)) (contents : W → 
     read = Consumes-nil (remaining (reader_in streams));
     ending = λ none. absurd (none-in (Read []) none);
     wrote = Appends-nil (contents (writer_in streams));
-    asked = omega arith;
-    taken = omega arith;
+    answered = sym (append-nil (answers_on streams));
+    taken = sym (append-nil (taken_on streams));
     flushed = omega arith;
+    failed = omega arith;
   }
 
   StreamsGo-joins : (first next last : Streams R W) (xs ys : List Event) → StreamsGo remaining contents first xs next
@@ -72,9 +77,10 @@ module _ {R W : Type 0} (remaining : R → Option (List ℕ)) (contents : W → 
         wrote =
             subst (λ (octets : List ℕ). Appends (contents (writer_in first)) (contents (writer_in last)) octets) (sym all_written)
             (Appends-trans (contents (writer_in first)) (contents (writer_in next)) (contents (writer_in last)) _ _ went.wrote goes.wrote);
-        asked = omega (arith, went.asked, goes.asked, reads_in-append xs ys);
-        taken = omega (arith, went.taken, goes.taken, ap length all_written, length-append (octets_written xs) (octets_written ys));
+        answered = after (answers_on first) (reads_in xs) (reads_in ys) went.answered goes.answered (flat_map-append read_alone xs ys);
+        taken = after (taken_on first) (octets_written xs) (octets_written ys) went.taken goes.taken all_written;
         flushed = omega (arith, went.flushed, goes.flushed, writes_in-append xs ys);
+        failed = omega (arith, went.failed, goes.failed, write_faults_in-append xs ys);
       }
     where
       by_place : Contains xs (Read []) ⊎ Contains ys (Read []) → IfSome (remaining (reader_in first)) (λ left. IsAtEnd (remaining (reader_in last)))

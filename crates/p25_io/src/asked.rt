@@ -1,25 +1,32 @@
-// One of std's readers and one of its writers, with what they were asked for, which exists only in proofs.
-ghost use Rattle.std.specs.{Prelude.{◌≡◌, ◌≤◌, ◌+◌, [], length, take, OnErr, OnOk, IfOk}, Io.{ReadsAtMost}, Io.KnownBytes.{ReadConsumes}};
+// One of std's readers and one of its writers, with each of their answers, which exist only in proofs.
+//
+// No contract can say what a call of a terminal, a pipe or a file does. So the three functions `AskedReader::read`,
+// `AskedWriter::write` and `AskedWriter::flush` are to be read: each asks once, and notes the answer. All fields are private to this
+// file, so what stands above can neither ask without a note nor change one.
+ghost use Rattle.std.specs.{Prelude.{◌≡◌, ◌≤◌, [], ◌∷◌, ◌++◌, length, take, OnErr, OnOk, IfOk}, Io.{ReadsAtMost}, Io.KnownBytes.{ReadConsumes}};
+ghost use Rattle.p25_io.specs.Events.{Read as ReadEvent, ReadFailed, Wrote, WriteFailed};
 
 use super::history::{History, Note};
 use crate::Failed;
 use std::io::{Read, Write};
 
-// A reader, and a history with a read of nothing for each time it was asked.
+// A reader, a history of its answers, and one with a write of the whole buffer for each time that it was asked.
 #[derive(Debug, Drop)]
 pub(crate) struct AskedReader<R> {
-    pub inner: R,
-    pub calls: History,
+    inner: R,
+    answers: History,
+    buffers: History,
 }
 
 impl<R: Read> AskedReader<R> {
     pub(crate) fn new(inner: R) -> AskedReader<R>
         ensures inner { result.inner ≡ inner }
-        ensures calls { result.calls.events ≡ [] }
+        ensures answers { result.answers.events ≡ [] }
     {
         AskedReader {
             inner,
-            calls: History::new(),
+            answers: History::new(),
+            buffers: History::new(),
         }
     }
 
@@ -27,54 +34,97 @@ impl<R: Read> AskedReader<R> {
     pub(crate) fn read(&mut self, buf: &mut [u8]) -> Result<usize, Failed>
         ensures bound { ReadsAtMost result buf.new }
         ensures bytes { ReadConsumes (R.remaining self.old.inner) (R.remaining self.new.inner) result buf.new }
-        ensures once { length self.new.calls.events ≡ length self.old.calls.events + 1 }
+        ensures given { IfOk result (λ count. self.new.answers.events ≡ self.old.answers.events ++ ReadEvent (take count buf.new) ∷ []) }
+        ensures failed { OnErr result (self.new.answers.events ≡ self.old.answers.events ++ ReadFailed ∷ []) }
+        ensures asked { self.new.buffers.events ≡ self.old.buffers.events ++ Wrote buf.old ∷ [] }
         ensures room { length buf.new ≡ length buf.old }
     {
-        self.calls = self.calls.then(&Note::Read(&[]));
-        self.inner.read(buf).map_err(|_| Failed)
+        self.buffers = with_buffer(&self.buffers, buf);
+        match self.inner.read(buf) {
+            Ok(count) => {
+                self.answers = self.answers.then(&Note::Read(&buf[..count]));
+                Ok(count)
+            }
+            Err(_) => {
+                self.answers = self.answers.then(&Note::ReadFailed);
+                Err(Failed)
+            }
+        }
     }
 }
 
-// A writer, a history with the octets that it took, and one with a write of nothing for each time it was flushed.
+#[cfg(test)]
+impl<R> AskedReader<R> {
+    // The reader, for the tests.
+    pub(crate) fn inner(&self) -> &R
+        ensures { result.now ≡ self.now.inner }
+    {
+        &self.inner
+    }
+}
+
+// The buffers so far, and this one.
+fn with_buffer(buffers: &History, buf: &[u8]) -> History
+    ensures { result.events ≡ buffers.now.events ++ Wrote buf.now ∷ [] }
+{
+    buffers.then(&Note::Wrote(buf))
+}
+
+// A writer, a history of its answers to writes, and one of its answers to flushes, each as a write of nothing.
 #[derive(Debug, Drop)]
 pub(crate) struct AskedWriter<W> {
-    pub inner: W,
-    pub octets: History,
-    pub flushes: History,
+    inner: W,
+    writes: History,
+    flushes: History,
 }
 
 impl<W: Write> AskedWriter<W> {
-    ghost use Rattle.p25_io.specs.Asked.{Took};
+    ghost use Rattle.p25_io.specs.Asked.{Answered};
 
     pub(crate) fn new(inner: W) -> AskedWriter<W>
         ensures inner { result.inner ≡ inner }
-        ensures octets { result.octets.events ≡ [] }
+        ensures writes { result.writes.events ≡ [] }
         ensures flushes { result.flushes.events ≡ [] }
     {
         AskedWriter {
             inner,
-            octets: History::new(),
+            writes: History::new(),
             flushes: History::new(),
         }
     }
 
     // One write of the writer, of which some octets at the beginning were taken.
     pub(crate) fn write(&mut self, piece: &[u8]) -> Result<usize, Failed>
-        ensures ok { IfOk result (λ count. (count ≤ length piece.now) × Took W.contents self.old (take count piece.now) 0 self.new) }
-        ensures err { OnErr result (Took W.contents self.old [] 0 self.new) }
+        ensures fits { IfOk result (λ count. count ≤ length piece.now) }
+        ensures ok { IfOk result (λ count. Answered W.contents self.old (take count piece.now) (Wrote (take count piece.now) ∷ []) [] self.new) }
+        ensures err { OnErr result (Answered W.contents self.old [] (WriteFailed piece.now 0 ∷ []) [] self.new) }
     {
-        let count = self.inner.write(piece).map_err(|_| Failed)?;
-        self.octets = self.octets.then(&Note::Wrote(&piece[..count]));
-        Ok(count)
+        match self.inner.write(piece) {
+            Ok(count) => {
+                self.writes = self.writes.then(&Note::Wrote(&piece[..count]));
+                Ok(count)
+            }
+            Err(_) => {
+                self.writes = self.writes.then(&Note::WriteFailed(piece, 0));
+                Err(Failed)
+            }
+        }
     }
 
     // One flush of the writer.
     pub(crate) fn flush(&mut self) -> Result<(), Failed>
-        ensures ok { OnOk result (Took W.contents self.old [] 1 self.new) }
-        ensures err { OnErr result (Took W.contents self.old [] 0 self.new) }
+        ensures ok { OnOk result (Answered W.contents self.old [] [] (Wrote [] ∷ []) self.new) }
+        ensures err { OnErr result (Answered W.contents self.old [] [] (WriteFailed [] 0 ∷ []) self.new) }
     {
-        self.inner.flush().map_err(|_| Failed)?;
-        self.flushes = self.flushes.then(&Note::Wrote(&[]));
-        Ok(())
+        match self.inner.flush() {
+            Ok(()) => {
+                self.flushes = self.flushes.then(&Note::Wrote(&[]));
+                Ok(())
+            }
+            Err(_) => {
+                self.flushes = self.flushes.then(&Note::WriteFailed(&[], 0));
+                Err(Failed)
+            }
+        }
     }
 }

@@ -14,8 +14,9 @@
 //! - A source may tell the octets that it has left, and a sink those that were written to it. Those in memory do. The
 //!   adapters over std's readers and writers, [`ReadSource`] and [`WriteSink`], tell nothing, since no contract can
 //!   say what a terminal, a pipe or a file holds; [`CountSink`] keeps a number alone.
-//! - Each fault raises a count, which never falls and stands still at 2^64 - 1. A call fails only where its count
-//!   rose, so that no answer `Failed` comes without a fault.
+//! - Each fault of a source or a sink raises a count, which never falls and stands still at 2^64 - 1. A call fails only where its count
+//!   rose. [`ReadSource`] and [`Streams`] keep each answer of their reader, so that `Failed` comes exactly where the reader failed; the
+//!   answers of a writer are kept by [`Streams`] alone.
 //! - A [`Port`] is both, and tells the order of its calls. [`Pair`] is the port of a source and a sink, and [`Tape`] one in
 //!   memory that keeps every call. [`Streams`] is that of a reader and a writer of std.
 //! - No call takes memory, but for those of [`Tape`].

@@ -1,7 +1,9 @@
 //! A source over one of std's readers.
-ghost use Rattle.std.specs.{Prelude.{◌≡◌, ◌<◌, length, None, IfOk, OnErr}, Io.KnownBytes.{ReadConsumes}};
-ghost use Rattle.p25_io.specs.{Faults.{faults_after, HasCause}, Octets.{Gives, Kept}, Adapters.{reader_of, read_faults}};
+ghost use Rattle.std.specs.{Prelude.{◌≡◌, ◌<◌, [], ◌∷◌, ◌++◌, length, take, None, IfOk, OnErr}, Io.KnownBytes.{ReadConsumes}};
+ghost use Rattle.p25_io.specs.{Adapters.{answers_of, reader_of, read_faults}, Events.{Read as ReadEvent, ReadFailed}};
+ghost use Rattle.p25_io.specs.{Faults.{faults_after, HasCause}, Octets.{Gives, Kept}};
 
+use super::asked::AskedReader;
 use crate::{Failed, Source};
 use std::io::Read;
 
@@ -10,7 +12,7 @@ use std::io::Read;
 /// Each Err of the reader is a fault, whatever its kind, and raises a count that stands still at 2^64 - 1.
 #[derive(Debug, Drop)]
 pub struct ReadSource<R> {
-    inner: R,
+    inner: AskedReader<R>,
     faults: u64,
 }
 
@@ -20,7 +22,10 @@ impl<R: Read> ReadSource<R> {
         ensures reader { reader_of result ≡ inner }
         ensures faults { read_faults result ≡ 0 }
     {
-        ReadSource { inner, faults: 0 }
+        ReadSource {
+            inner: AskedReader::new(inner),
+            faults: 0,
+        }
     }
 }
 
@@ -40,6 +45,10 @@ impl<R: Read> Source for ReadSource<R> {
         // The octets come from the reader, as far as it tells them, and each fault counts.
         ensures known { ReadConsumes (R.remaining (reader_of self.old)) (R.remaining (reader_of self.new)) result buf.new }
         ensures faults { read_faults self.new ≡ faults_after result (read_faults self.old) }
+
+        // The reader is asked once, and fails exactly where this does.
+        ensures answered { IfOk result (λ count. answers_of self.new ≡ answers_of self.old ++ ReadEvent (take count buf.new) ∷ []) }
+        ensures failed { OnErr result (answers_of self.new ≡ answers_of self.old ++ ReadFailed ∷ []) }
     {
         match self.inner.read(buf) {
             Ok(count) => Ok(count),
@@ -94,7 +103,7 @@ mod tests {
         for (want, faults, calls) in wants {
             assert_eq!(rt; source.read(&mut buf), want);
             assert_eq!(rt; source.faults, faults);
-            assert_eq!(rt; source.inner.calls, calls);
+            assert_eq!(rt; source.inner.inner().calls, calls);
         }
         assert_eq!(rt; &buf[..2], b"cb".as_slice());
     }
@@ -105,7 +114,7 @@ mod tests {
         let mut source = ReadSource::new(Stuttering { calls: 2 });
         let mut buf = [0; 4];
         assert_eq!(rt; gather(&mut source, &mut buf), Ok(1));
-        assert_eq!(rt; source.inner.calls, 4);
+        assert_eq!(rt; source.inner.inner().calls, 4);
         assert_eq!(rt; buf[0], b'c');
     }
 }

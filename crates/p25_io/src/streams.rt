@@ -1,6 +1,6 @@
 //! The port of one of std's readers and one of its writers.
 
-ghost use Rattle.std.specs.Prelude.{◌≡◌, ◌≤◌, [], length, take, IfErr, OnOk};
+ghost use Rattle.std.specs.Prelude.{◌≡◌, ◌<◌, ◌≤◌, [], ◌∷◌, ◌++◌, length, take, IfErr, IfOk, OnErr, OnOk};
 ghost use Rattle.p25_io.specs.Asked.{Took};
 
 use super::asked::{AskedReader, AskedWriter};
@@ -13,7 +13,8 @@ use std::io::{Read, Write};
 /// Contracts see the events that were made on it, in their order: each read is one call of the reader, and each write takes what the writer
 /// takes of its piece, in as many calls as the writer wants, and then flushes it. Where the reader tells what is left, and the writer
 /// what it holds, as a slice and a `Vec` do, the octets of the events are those. An Err of either, whatever its kind, is a call that
-/// failed, and so is a write of the writer that takes nothing of octets that are left.
+/// failed, and so is a write of the writer that takes nothing of octets that are left. Each answer of the reader and of the writer is
+/// kept, in proofs alone: a read fails exactly where the reader did, and a write exactly where a write or the flush of the writer did.
 ///
 /// ```
 /// let mut written = Vec::new(rt.alloc());
@@ -27,7 +28,7 @@ pub struct Streams<R, W> {
 }
 
 impl<R: Read, W: Write> Streams<R, W> {
-    ghost use Rattle.p25_io.specs.Streams.{reader_in, writer_in, events_on};
+    ghost use Rattle.p25_io.specs.Streams.{answers_on, events_on, faults_on, flushed_on, reader_in, taken_on, writer_in};
 
     /// Answers the port of a reader and a writer, on which no event was made.
     pub fn new(reader: R, writer: W) -> Streams<R, W>
@@ -44,13 +45,24 @@ impl<R: Read, W: Write> Streams<R, W> {
 }
 
 impl<R: Read, W: Write> Port for Streams<R, W> {
-    ghost use Rattle.p25_io.specs.{Streams.{StreamsGo}, StreamsLaws.{StreamsGo-chain}};
+    ghost use Rattle.p25_io.specs.{Streams.{StreamsGo, buffers_on}, StreamsLaws.{StreamsGo-chain}};
+    ghost use Rattle.p25_io.specs.Events.{Read as ReadEvent, ReadFailed, Wrote};
 
     ghost moves = { StreamsGo R.remaining W.contents };
 
     ghost chain = { StreamsGo-chain R.remaining W.contents };
 
-    fn read(&mut self, buf: &mut [u8]) -> Result<usize, Failed> {
+    /// Asks the reader once, to fill the whole buffer.
+    fn read(&mut self, buf: &mut [u8]) -> Result<usize, Failed>
+        requires { 0 < length buf.old }
+        ensures given { IfOk result (λ count. (count ≤ length buf.new)
+            × StreamsGo R.remaining W.contents self.old (ReadEvent (take count buf.new) ∷ []) self.new) }
+        ensures failed { OnErr result (StreamsGo R.remaining W.contents self.old (ReadFailed ∷ []) self.new) }
+        ensures room { length buf.new ≡ length buf.old }
+
+        // The reader is asked with all of the buffer.
+        ensures asked { buffers_on self.new ≡ buffers_on self.old ++ Wrote buf.old ∷ [] }
+    {
         let result = self.reader.read(buf);
         self.history = match result {
             Ok(count) => self.history.then(&Note::Read(&buf[..count])),
@@ -75,15 +87,21 @@ impl<R: Read, W: Write> Port for Streams<R, W> {
 
 // Writes the whole piece and flushes. Where that fails, so many of its first octets were written.
 fn put_whole<W: Write>(writer: &mut AskedWriter<W>, piece: &[u8]) -> Result<(), usize>
-    ensures ok { OnOk result (Took W.contents writer.old piece.now 1 writer.new) }
-    ensures err { IfErr result (λ count. (count ≤ length piece.now) × Took W.contents writer.old (take count piece.now) 0 writer.new) }
+    ensures ok { OnOk result (Took W.contents writer.old piece.now 1 0 writer.new) }
+    ensures err { IfErr result (λ count. (count ≤ length piece.now) × Took W.contents writer.old (take count piece.now) 0 1 writer.new) }
 {
     let mut done = 0;
     while done < piece.len() {
-        match writer.write(&piece[done..]) {
-            Ok(0) | Err(_) => return Err(done),
-            Ok(count) => done += count,
+        let Ok(count) = writer.write(&piece[done..]) else {
+            return Err(done);
+        };
+        if count == 0 {
+            return Err(done);
         }
+        done += count;
     }
-    writer.flush().map_err(|_| done)
+    match writer.flush() {
+        Ok(()) => Ok(()),
+        Err(_) => Err(done),
+    }
 }
