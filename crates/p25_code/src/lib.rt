@@ -27,11 +27,13 @@
 mod callers;
 mod checked_code;
 mod code;
+mod least_cost;
 mod number_code;
 mod wrong_bits;
 
 pub use callers::{read_received, read_with_erasures};
 pub use checked_code::{CheckedCode, Parameters};
 pub use code::{BlockCode, ErasedCode, Reading};
+pub use least_cost::{Margin, cheapest, cost_margin};
 pub use number_code::{NumberCode, put_reading};
 pub use wrong_bits::{wrong_by_halves, wrong_by_rows};
