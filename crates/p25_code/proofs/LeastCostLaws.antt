@@ -153,8 +153,15 @@ table_cost n pairs word costs sums few even long fits table =
     = λ g v small. table.at (64 * g + v % 64) (omega arith) ∙ group_at g v all in
     let first : get_or sums (word / 262144) 0 ≡ pairs_cost all (bits_of 6 (word / 2 ^ 18))
     = ap (λ i. get_or sums i 0) high ∙ entry 0 (word / 262144) (omega arith) in
-    omega (arith, first, entry 1 (word / 4096) (omega arith), entry 2 (word / 64) (omega arith), entry 3 word (omega arith),
-    pairs_cost-groups word all, pairs_cost-padded n pairs word costs few even long)
+    omega (
+      arith,
+      first,
+      entry 1 (word / 4096) (omega arith),
+      entry 2 (word / 64) (omega arith),
+      entry 3 word (omega arith),
+      pairs_cost-groups word all,
+      pairs_cost-padded n pairs word costs few even long,
+    )
 
 -- two lists of bits are one or they differ
 pub same_or_other : (xs ys : List Bool) → length xs ≡ length ys → (xs ≡ ys) ⊎ (xs ≢ ys)
@@ -331,6 +338,11 @@ module _ (IsWord : List Bool → Type 0) (n k : ℕ) (encoding : List Bool → L
       elim (same_or_other word sent (long_w ∙ sym long_s)) [
         | inl same ↦ same
         | inr differ ↦
-            absurd (omega (arith, spread-words margin pairs costs word sent long_w long_s spread, mul-le-mul_left margin (far word sent is.word_of_set sent_is differ),
-            is.none_less sent sent_is, near))
+            absurd (omega (
+              arith,
+              spread-words margin pairs costs word sent long_w long_s spread,
+              mul-le-mul_left margin (far word sent is.word_of_set sent_is differ),
+              is.none_less sent sent_is,
+              near,
+            ))
       ]

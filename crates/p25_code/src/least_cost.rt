@@ -100,7 +100,10 @@ fn cost_by<C: NumberCode>(sums: &[u32; SUMS], info: u32) -> u32
     ensures low { result ≤ 2 ^ 20 }
 {
     let word = C::encode_number(info) as usize;
-    sums[word >> 18] + sums[64 + (word >> 12) % 64] + sums[128 + (word >> 6) % 64] + sums[192 + word % 64]
+    sums[word >> 18]
+        + sums[64 + (word >> 12) % 64]
+        + sums[128 + (word >> 6) % 64]
+        + sums[192 + word % 64]
 }
 
 // The information of the word whose bits cost less than any others, if the code has that word.

@@ -19,11 +19,13 @@
 //! layout and the unit's bits. Both codes are any that meet the traits of p25_code; no call takes memory or fails.
 #![tactic(auto)]
 
+mod decide;
 mod fixes;
 mod put;
 mod read;
 #[cfg(test)]
 mod tests;
 
+pub use decide::decide_field;
 pub use put::put_coded;
 pub use read::read_field;

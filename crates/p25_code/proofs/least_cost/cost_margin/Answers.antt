@@ -66,10 +66,10 @@ loop-other-preserved g c =
                 }
           ]
       | else-other-info w ↦ record {
-          some = (some.0, some.1, some.2, some.3 ∙ sym w.second-is);
-          none_less = below_more P other (λ j l ne. omega (arith, old.none_less j l ne, w.second-is)) (λ ne. absurd (ne w.if-other-info.false));
-          low = omega (arith, old.low, w.second-is);
-        }
+        some = (some.0, some.1, some.2, some.3 ∙ sym w.second-is);
+        none_less = below_more P other (λ j l ne. omega (arith, old.none_less j l ne, w.second-is)) (λ ne. absurd (ne w.if-other-info.false));
+        low = omega (arith, old.low, w.second-is);
+      }
     ]
 
 pub returns-clause-second : goal.returns-clause-second

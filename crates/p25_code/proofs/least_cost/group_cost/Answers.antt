@@ -10,6 +10,12 @@ returns-clause-value c =
     let first = 12 * (at / 64) in
     let second : first + 4 + at / 4 % 4 ≡ first + (4 + at / 4 % 4) = omega arith in
     let third : first + 8 + at % 4 ≡ first + (8 + at % 4) = omega arith in
-    omega (arith, pairs_cost-six at (drop first costs), get_or-drop first costs (at / 16 % 4) 0,
-    get_or-drop first costs (4 + at / 4 % 4) 0, get_or-drop first costs (8 + at % 4) 0,
-    ap (λ i. get_or costs i 0) second, ap (λ i. get_or costs i 0) third)
+    omega (
+      arith,
+      pairs_cost-six at (drop first costs),
+      get_or-drop first costs (at / 16 % 4) 0,
+      get_or-drop first costs (4 + at / 4 % 4) 0,
+      get_or-drop first costs (8 + at % 4) 0,
+      ap (λ i. get_or costs i 0) second,
+      ap (λ i. get_or costs i 0) third,
+    )

@@ -24,7 +24,8 @@ returns-then-encode_number-word g c =
     let joined : b.N ≡ b.K + (c.N.result - c.K.result) = omega (arith, c.N.ensures, c.K.ensures) in
     let fits : word < 2 ^ b.N = subst (λ k. word < 2 ^ k) width c.in_ok-word.ensures.0 in
     let small = shr_below word b.K (c.N.result - c.K.result) (subst (λ k. word < 2 ^ k) joined fits) in
-    let alone : IsAlone costs (bits_of b.N word) = subst (λ k. IsAlone costs (bits_of k word)) width c.in_ok-word.ensures.1 in
-    (small,
-    alone_is_cheapest b.IsWord b.N b.K b.encoding_is (g.met.C.NumberCode.encodes c.requires.code) (m.one_word c.requires.code) (m.length_of_word c.requires.code)
-    begins costs _ word small alone (sym c.encode_number.ensures.encoding ∙ ap (bits_of b.N) c.if-encode_number-word.true))
+    let alone : IsAlone costs (bits_of b.N word) = subst (λ k. IsAlone costs (bits_of k word)) width c.in_ok-word.ensures.1 in (
+      small,
+      alone_is_cheapest b.IsWord b.N b.K b.encoding_is (g.met.C.NumberCode.encodes c.requires.code) (m.one_word c.requires.code) (m.length_of_word c.requires.code)
+          begins costs _ word small alone (sym c.encode_number.ensures.encoding ∙ ap (bits_of b.N) c.if-encode_number-word.true),
+    )
