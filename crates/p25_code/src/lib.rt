@@ -17,6 +17,7 @@
 //!
 //! `read_received` says what this comes to for any code, proved from the trait alone. An `ErasedCode` also reads words of
 //! which some letters are not known; `read_with_erasures` says what that comes to.
+//! `cheapest` reads a codeword of a `NumberCode` from what its bits cost (soft decisions), and `cost_margin` says how sure it is.
 //! The words of a `NumberCode` are bits and numbers too. A small binary code says its check bits and which bits are wrong by the
 //! syndrome, and is both by `CheckedCode`; `wrong_by_rows` and `wrong_by_halves` find those bits without a search.
 //!
