@@ -8,3 +8,4 @@ pub mod DivisibleLaws
 pub mod DivisionLaws
 pub mod WordsLaws
 pub mod BitBufSteps
+pub mod LeastLaws

@@ -2,3 +2,4 @@ pub mod Bits
 pub mod Distance
 pub mod Divisible
 pub mod Numbers
+pub mod Least

@@ -7,5 +7,6 @@ pub mod SystematicLaws
 pub mod RemainderLaws
 pub mod ParityLaws
 pub mod WrongLaws
+pub mod LeastCostLaws
 pub mod SumTablesLaws
 pub mod NumberCodeLaws

@@ -5,5 +5,6 @@ pub mod Readings
 pub mod Erasures
 pub mod ErasedReadings
 pub mod WrongBits
+pub mod LeastCost
 -- laws of impls: nothing to believe
 pub mod CodeLaws

@@ -17,6 +17,7 @@
 //!
 //! `read_received` says what this comes to for any code, proved from the trait alone. An `ErasedCode` also reads words of
 //! which some letters are not known; `read_with_erasures` says what that comes to.
+//! `cheapest` reads a codeword of a `NumberCode` from what its bits cost (soft decisions), and `cost_margin` says how sure it is.
 //! The words of a `NumberCode` are bits and numbers too. A small binary code says its check bits and which bits are wrong by the
 //! syndrome, and is both by `CheckedCode`; `wrong_by_rows` and `wrong_by_halves` find those bits without a search.
 //!
@@ -27,11 +28,13 @@
 mod callers;
 mod checked_code;
 mod code;
+mod least_cost;
 mod number_code;
 mod wrong_bits;
 
 pub use callers::{read_received, read_with_erasures};
 pub use checked_code::{CheckedCode, Parameters};
 pub use code::{BlockCode, ErasedCode, Reading};
+pub use least_cost::{Margin, cheapest, cost_margin};
 pub use number_code::{NumberCode, put_reading};
 pub use wrong_bits::{wrong_by_halves, wrong_by_rows};

@@ -15,15 +15,19 @@
 //! assert!(rt; word == [Sym::ZERO; 4] && reading == Reading::Found { fixes: 1 });
 //! ```
 //!
+//! `decide_field` reads a field from what its bits cost (soft decisions), with as few erasures of the least sure symbols as find a word.
+//!
 //! Contracts see a field as a `Layout`, its places and the readings of its codes, and what is read as `outer_word_of` the
 //! layout and the unit's bits. Both codes are any that meet the traits of p25_code; no call takes memory or fails.
 #![tactic(auto)]
 
+mod decide;
 mod fixes;
 mod put;
 mod read;
 #[cfg(test)]
 mod tests;
 
+pub use decide::decide_field;
 pub use put::put_coded;
 pub use read::read_field;

@@ -18,6 +18,8 @@
 //! tables of 64 entries and, where bits are wrong, two more and at most 26 counts of ones, whether it lies within the radius or not.
 #![tactic(auto)]
 
+#[cfg(test)]
+mod cost_tests;
 mod golay18;
 mod golay24;
 #[cfg(test)]

@@ -18,6 +18,8 @@
 //! table; where bits are wrong a word of `Lsd16` takes one more, and there are at most 7 counts of ones, or 18.
 #![tactic(auto)]
 
+#[cfg(test)]
+mod cost_tests;
 mod hamming10;
 mod lsd16;
 #[cfg(test)]
