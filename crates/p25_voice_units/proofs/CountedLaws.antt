@@ -1,6 +1,6 @@
 -- The fixes of a unit by its parts: in the image the inner words are those of the unit's symbols, and the low speed words those of its
 -- octets, so the looked-at bits differ in so many places from them.
-use Rattle.std.proofs.{Common.{◌≡◌, ℕ, ◌+◌, ◌≤◌, Bool, List, [], ◌++◌, length, slice_index, All, refl, ap, ap₂, sym, ◌∙◌, arith, lit<}, lemmas.List.{append-nil}, lemmas.List.Folds.{flat_map-map}}
+use Rattle.std.proofs.{Common.{◌≡◌, ℕ, ◌+◌, ◌≤◌, Bool, List, [], ◌++◌, length, slice_index, All, refl, ap, sym, ◌∙◌, arith, lit<}, lemmas.List.{append-nil}, lemmas.List.Folds.{flat_map-map}}
 use Rattle.std.specs.Bool.{beq}
 use Rattle.p25_bits.specs.{Bits.{bits_of, part}, Distance.{distance_of}}
 use Rattle.p25_bits.proofs.{DistanceLaws.{distance_by-append, distance_of-same}, PartLaws.{length-part}}
@@ -29,12 +29,12 @@ field_distance : (encoding : List Bool → List Bool) (width each : ℕ) (places
     → distance_of (bits_at (wide width places) received) (bits_at (wide width places) image) ≡ field_fixes_of encoding width each places symbols received
 unfolding field_fixes_of
 field_distance encoding width each places symbols received image is =
-    ap₂ (λ (xs ys : List Bool). distance_of xs ys) (bits_at-inner width places received) (bits_at-inner width places image ∙ is)
+    rw (bits_at-inner width places received, bits_at-inner width places image, is) refl
 
 -- the two low speed words
 low_bits : (bits : List Bool) → bits_at (wide 16 (low_places ldu_rows)) bits ≡ part 1504 16 bits ++ part 1520 16 bits
 unfolding bits_at wide low_places
-low_bits bits = ap (λ (xs : List Bool). part 1504 16 bits ++ xs) (append-nil (part 1520 16 bits))
+low_bits bits = rw (append-nil (part 1520 16 bits)) refl
 
 low_distance : (first second : ℕ) (received image : List Bool)
     → 1680 ≤ length received → 1680 ≤ length image → part 1504 16 image ≡ lsd16_word (bits_of 8 first) → part 1520 16 image ≡ lsd16_word (bits_of 8 second)
@@ -43,10 +43,9 @@ unfolding low_fixes_of low_places
 low_distance first second received image there there_image is_first is_second =
     let inside : 1504 + 16 ≤ length received = omega arith in
     let inside_image : 1504 + 16 ≤ length image = omega arith in
-    ap₂ (λ (xs ys : List Bool). distance_of xs ys) (low_bits received) (low_bits image)
-    ∙ distance_by-append beq (part 1504 16 received) (part 1520 16 received)
-    (part 1504 16 image) (part 1520 16 image) (length-part 1504 16 received inside ∙ sym (length-part 1504 16 image inside_image))
-    ∙ ap₂ (λ (xs ys : List Bool). distance_of (part 1504 16 received) xs + distance_of (part 1520 16 received) ys) is_first is_second
+    rw (low_bits received, low_bits image, ← is_first, ← is_second)
+    (distance_by-append beq (part 1504 16 received) (part 1520 16 received)
+    (part 1504 16 image) (part 1520 16 image) (length-part 1504 16 received inside ∙ sym (length-part 1504 16 image inside_image)))
 
 -- the inner words of a unit with voice stand within it
 link_words_there : (bits : List Bool) → 1680 ≤ length bits → All (λ at. at + 10 ≤ length bits) (word_places 10 ldu_rows)
@@ -62,8 +61,11 @@ link_distance : (symbols : List Sym) (first second : ℕ) (received image : List
 unfolding link_looked
 link_distance symbols first second received image there there_image is is_first is_second =
     let places = word_places 10 ldu_rows in
-    fixes-append 10 16 places (low_places ldu_rows) received image (link_words_there received there) (link_words_there image there_image)
-    ∙ ap₂ (λ m n. m + n) (field_distance hamming10_word 10 1 places symbols received image is) (low_distance first second received image there there_image is_first is_second)
+    rw (
+      fixes-append 10 16 places (low_places ldu_rows) received image (link_words_there received there) (link_words_there image there_image),
+      field_distance hamming10_word 10 1 places symbols received image is,
+      low_distance first second received image there there_image is_first is_second,
+    ) refl
 
 -- the fixes of a unit by its coded field alone, as its looked-at places and its image have it
 pub coded_fixes : (unit : VoiceUnit) (encoding : List Bool → List Bool)
@@ -74,8 +76,7 @@ unfolding voice_fixes_of
 coded_fixes unit encoding width each places symbols received fixes looked carried count = record {
   value = λ nac.
       let image = voice_image_of nac unit in
-      count
-      ∙ sym (ap (λ found. distance_of (bits_at found received) (bits_at found image)) looked ∙ field_distance encoding width each places symbols received image (carried nac));
+      rw (count, looked) (sym (field_distance encoding width each places symbols received image (carried nac)));
 }
 
 -- of a unit with voice by the information of its coded field, as its image and its looked-at places have it
@@ -93,10 +94,9 @@ ldu_fixes unit duid k info low voice received fixes code is speech there looked 
       let suits = ldu_suits k info low voice code is speech in
       let parts = unit_parts carries suits nac duid image (made nac) in
       let long : length image ≡ 1680 = ap length (made nac) ∙ length-unit carries suits nac duid in
-      count
-      ∙ sym (ap (λ places. distance_of (bits_at places received) (bits_at places image)) looked
-      ∙ link_distance symbols (slice_index low 0) (slice_index low 1) received image there
-      (omega arith) (words_in_unit carries suits nac duid image (made nac)) (parts 14 (0, Nulls 0) (lit< tt)) (parts 15 (0, Nulls 0) (lit< tt)));
+      rw (count, looked)
+      (sym (link_distance symbols (slice_index low 0) (slice_index low 1) received image there
+      (omega arith) (words_in_unit carries suits nac duid image (made nac)) (parts 14 (0, Nulls 0) (lit< tt)) (parts 15 (0, Nulls 0) (lit< tt))));
 }
 
 pub end_fixes : (received : List Bool) → AreFixes End received 0

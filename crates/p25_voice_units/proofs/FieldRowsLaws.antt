@@ -1,12 +1,11 @@
 -- The inner words of a coded field, by recursion on the rows of its layout: where each row has its piece, the words at all places carry
 -- the groups of symbols in order; and where they do, each row has its piece.
-use Rattle.std.proofs.Common.{◌≡◌, ℕ, suc, ◌+◌, ◌-◌, ◌*◌, ◌<◌, ◌≤◌, Bool, true, eqb, ◌&&◌, List, [], ◌∷◌, ◌++◌, length, get_or, All, refl, ap, sym, subst, ◌∙◌, inl, inr, arith, length-append}
+use Rattle.std.proofs.Common.{◌≡◌, ℕ, suc, ◌+◌, ◌-◌, ◌*◌, ◌<◌, ◌≤◌, Bool, true, eqb, ◌&&◌, List, [], ◌∷◌, ◌++◌, length, get_or, All, refl, ap, sym, ◌∙◌, inl, inr, arith, length-append}
 use Rattle.std.proofs.{Math.Nat.{mul-add}, lemmas.Bool.{and_parts, eqb-true, leb-true, cases_lt}, lemmas.List.{get_or_append_left}, Math.Seq.{get_or-append_right}, lemmas.List.Concat.{flat_map-cons}}
 use Rattle.std.proofs.lemmas.List.Elements.{All-nil, All-cons}
 use Rattle.p25_bits.specs.Bits.{bits_of, part}
 use Rattle.p25_bits.proofs.{BitsLaws.{length-bits_of}, PartLaws.{length-part, part-part}, NumbersLaws.{joined_below-parts, joined_below-same}}
-use Rattle.p25_code.specs.Words.{IsEncoding}
-use Rattle.p25_hamming.specs.{Lsd16.{IsLsd16}, Lsd16Laws.{lsd16_code}}
+use Rattle.p25_hamming.specs.{Lsd16Laws.{lsd16_code}}
 use Rattle.p25_gf64.specs.declared.symbol.Sym.{Sym}
 use Rattle.p25_link.specs.Symbols.{symbol_bits}
 use Rattle.p25_coded_fields.specs.Layouts.{field_bits}
@@ -56,8 +55,8 @@ piece-words carried first count = refl
 -- a group of some symbols of all
 group_of_part : (each first count n i : ℕ) (symbols : List Sym) → first ≡ n → i < count → part (each * i) each (part (each * first) (each * count) symbols) ≡ part (each * (n + i)) each symbols
 group_of_part each first count n i symbols here inside =
-    let place : each * first + each * i ≡ each * (n + i) = sym (mul-add each first i) ∙ ap (λ m. each * (m + i)) here in
-    part-part (each * first) (each * count) (each * i) each symbols (room_at each i count (each * count) inside refl) ∙ ap (λ m. part m each symbols) place
+    let place : each * first + each * i ≡ each * (n + i) = rw here (sym (mul-add each n i)) in
+    rw place at (part-part (each * first) (each * count) (each * i) each symbols (room_at each i count (each * count) inside refl))
 
 module _ {IsWord : List Bool → Type 0} {size k : ℕ} {carried : Contents} (carries : IsCarried IsWord size k carried) where
   -- the inner word that carries the group of a number
@@ -71,13 +70,16 @@ module _ {IsWord : List Bool → Type 0} {size k : ℕ} {carried : Contents} (ca
   row_words at (Words first count) n bare begins fits is i inside =
       let each = carried.each in
       let group = part (each * first) (each * count) carried.symbols in
-      let low : i < count = subst (λ m. i < m) (length-places_from at size count) inside in
+      let low : i < count = rw (length-places_from at size count) at inside in
       let covers : each * count ≡ length group = sym (length-part (each * first) (each * count) carried.symbols (leb-true (each * first + each * count) (length carried.symbols) fits)) in
-      ap (λ m. part m size bare) (get_or-places_from at size count i 0 low)
-      ∙ sym (part-part at (size * count) (size * i) size bare (room_at size i count (size * count) low refl))
-      ∙ ap (λ (xs : List Bool). part (size * i) size xs) (is ∙ piece-words carried first count)
-      ∙ part-field_bits carries.long carried.encoding carries.encodes each count group carries.sixes covers i low
-      ∙ ap (λ xs. carried.encoding (symbol_bits xs)) (group_of_part each first count n i carried.symbols (eqb-true first n begins) low)
+      rw (
+        get_or-places_from at size count i 0 low,
+        ← part-part at (size * count) (size * i) size bare (room_at size i count (size * count) low refl),
+        is,
+        piece-words carried first count,
+        part-field_bits carries.long carried.encoding carries.encodes each count group carries.sixes covers i low,
+        group_of_part each first count n i carried.symbols (eqb-true first n begins) low,
+      ) refl
   row_words at (Frame j) n bare begins fits is i inside = absurd (omega (arith, inside))
   row_words at (LowSpeed j) n bare begins fits is i inside = absurd (omega (arith, inside))
   row_words at (Nulls count) n bare begins fits is i inside = absurd (omega (arith, inside))
@@ -97,16 +99,12 @@ module _ {IsWord : List Bool → Type 0} {size k : ℕ} {carried : Contents} (ca
       let many = length-words_at size row.0 row.1 in
       elim (cases_lt i (length here)) [
         | inl below ↦
-            ap (λ places. part (get_or places i 0) size bare) split
-            ∙ ap (λ m. part m size bare) (get_or_append_left here others 0 i below)
-            ∙ row_words row.0 row.1 n bare counts.0 fits.0 (there 0 row (omega arith)) i below
+            rw (split, get_or_append_left here others 0 i below) (row_words row.0 row.1 n bare counts.0 fits.0 (there 0 row (omega arith)) i below)
         | inr above ↦
             let behind : i - length here < length others = omega (arith, inside, above, ap length split, length-append here others) in
             let number : n + word_count row.1 + (i - length here) ≡ n + i = omega (arith, above, many) in
-            ap (λ places. part (get_or places i 0) size bare) split
-            ∙ ap (λ m. part m size bare) (get_or-append_right here others i 0 above)
-            ∙ words_from_rows rows (n + word_count row.1) bare counts.1 fits.1 (λ j d low. there (suc j) d (omega arith)) (i - length here) behind
-            ∙ ap group_word number
+            rw (split, get_or-append_right here others i 0 above, ← number)
+            (words_from_rows rows (n + word_count row.1) bare counts.1 fits.1 (λ j d low. there (suc j) d (omega arith)) (i - length here) behind)
       ]
 
   -- a piece is there where its words are, and what else it may be
@@ -119,9 +117,8 @@ module _ {IsWord : List Bool → Type 0} {size k : ℕ} {carried : Contents} (ca
       sym (joined_below-parts at size count bare)
       ∙ joined_below-same count (λ i. part (at + size * i) size bare) (λ i. carried.encoding (symbol_bits (part (each * i) each (part (each * first) (each * count) carried.symbols))))
       (λ i low.
-      ap (λ m. part m size bare) (sym (get_or-places_from at size count i 0 low))
-      ∙ words i (subst (λ m. i < m) (sym (length-places_from at size count)) low)
-      ∙ ap (λ xs. carried.encoding (symbol_bits xs)) (sym (group_of_part each first count n i carried.symbols (eqb-true first n begins) low)))
+      rw (← get_or-places_from at size count i 0 low, group_of_part each first count n i carried.symbols (eqb-true first n begins) low)
+      (words i (rw (length-places_from at size count) low)))
   piece_there at (Frame i) n bare begins words has = has
   piece_there at (LowSpeed i) n bare begins words has = lsd16_only (bits_of 8 (get_or carried.low i 0)) (part at 16 bare) (length-bits_of 8 (get_or carried.low i 0)) has
   piece_there at (Nulls count) n bare begins words has = has
@@ -139,18 +136,14 @@ module _ {IsWord : List Bool → Type 0} {size k : ℕ} {carried : Contents} (ca
       let many = length-words_at size row.0 row.1 in
       let first
       = piece_there row.0 row.1 n bare counts.0
-      (λ i below.
-      ap (λ m. part m size bare) (sym (ap (λ places. get_or places i 0) split ∙ get_or_append_left here others 0 i below))
-      ∙ words i (omega (arith, below, ap length split, length-append here others)))
+      (λ i below. rw (split, get_or_append_left here others 0 i below) at (words i (omega (arith, below, ap length split, length-append here others))))
       (has 0 row (omega arith)) in
       let next : (i : ℕ) → i < length others → part (get_or others i 0) size bare ≡ group_word (n + word_count row.1 + i)
       = λ i below.
       let above : length here ≤ length here + i = omega arith in
       let back : length here + i - length here ≡ i = omega arith in
       let number : n + (length here + i) ≡ n + word_count row.1 + i = omega (arith, many) in
-      ap (λ m. part m size bare) (sym (ap (λ places. get_or places (length here + i) 0) split ∙ get_or-append_right here others (length here + i) 0 above ∙ ap (λ m. get_or others m 0) back))
-      ∙ words (length here + i) (omega (arith, below, ap length split, length-append here others))
-      ∙ ap group_word number in
+      rw (split, get_or-append_right here others (length here + i) 0 above, back, number) at (words (length here + i) (omega (arith, below, ap length split, length-append here others))) in
       All-cons (λ other. part other.0 (piece_length size other.1) bare ≡ piece_bits carried other.1) row rows first
       (rows_from_words rows (n + word_count row.1) bare counts.1 next (λ j d low. has (suc j) d (omega arith)))
 
@@ -160,8 +153,7 @@ unfolding piece_bits
 piece_has carried size at (Words first count) bare is = tt
 piece_has carried size at (Frame i) bare is = is
 piece_has carried size at (LowSpeed i) bare is =
-    let octet = get_or carried.low i 0 in
-    subst (λ w. IsEncoding IsLsd16 8 (bits_of 8 octet) w) (sym is) (lsd16_code.is.encodes (bits_of 8 octet) (length-bits_of 8 octet))
+    let octet = get_or carried.low i 0 in rw is (lsd16_code.is.encodes (bits_of 8 octet) (length-bits_of 8 octet))
 piece_has carried size at (Nulls count) bare is = is
 
 pub rows_have : (carried : Contents) (size : ℕ) (rows : List (ℕ × Piece)) (bare : List Bool) → All (λ row. part row.0 (piece_length size row.1) bare ≡ piece_bits carried row.1) rows

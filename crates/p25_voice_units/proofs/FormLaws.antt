@@ -69,19 +69,18 @@ module _ {IsWord : List Bool → Type 0} {size k : ℕ} {carried : Contents}
       let word : ℕ → List Bool = λ i. carried.encoding (symbol_bits (part (carried.each * i) carried.each carried.symbols)) in
       flat_map_places run places 0
       ∙ joined_below-same (length places) (λ i. run (get_or places i 0)) word
-      (λ i inside. let none : 0 + i ≡ i = omega arith in words_from_rows carries table 0 bare are.counted are.fit (unit_parts nac duid bare is) i inside ∙ ap word none)
+      (λ i inside. let none : 0 + i ≡ i = omega arith in rw none at (words_from_rows carries table 0 bare are.counted are.fit (unit_parts nac duid bare is) i inside))
 
   within : (bare : List Bool) → length bare ≡ count → All (λ at. at + size ≤ length bare) (word_places size table)
   within bare long i d inside =
-      subst (λ m. get_or (word_places size table) i d + size ≤ m) (sym long) (leb-true _ count (AllPass-from_list_all (λ at. nat_le (at + size) count) (word_places size table) are.inside i d inside))
+      rw long (leb-true _ count (AllPass-from_list_all (λ at. nat_le (at + size) count) (word_places size table) are.inside i d inside))
 
   -- the inner word of a group carries it
   group_encoded : (i : ℕ) → i < length (word_places size table) → IsEncoding IsWord k (symbol_bits (part (carried.each * i) carried.each carried.symbols)) (group_word carries (0 + i))
   unfolding group_word
   group_encoded i inside =
       let none : 0 + i ≡ i = omega arith in
-      let group = part (carried.each * i) carried.each carried.symbols in
-      subst (λ m. IsEncoding IsWord k (symbol_bits group) (carried.encoding (symbol_bits (part (carried.each * m) carried.each carried.symbols)))) (sym none)
+      rw none
       (field_word carries.long carried.encoding carries.encodes carried.each (length (word_places size table)) carried.symbols carries.sixes are.cover i inside)
 
   -- where the symbols are the outer word of some information
@@ -93,14 +92,11 @@ module _ {IsWord : List Bool → Type 0} {size k : ℕ} {carried : Contents}
     -- the unit carries its field
     field_carried : (nac duid : ℕ) (bare : List Bool) → bare ≡ unit_front nac duid ++ rows_bits carried table → HasField IsWord (IsOuterWord n information) coded info bare
     field_carried nac duid bare is =
-        let outer = subst (IsEncoding (IsOuterWord n information) information info) (sym made) (IsEncoding-rs_word n information info code long) in
+        let outer : IsEncoding (IsOuterWord n information) information info carried.symbols = rw made (IsEncoding-rs_word n information info code long) in
         let words = words_from_rows carries table 0 bare are.counted are.fit (unit_parts nac duid bare is) in
-        subst (λ xs. HasField IsWord (IsOuterWord n information) coded xs bare) outer.begins
-        (field_there coded k carried.symbols bare carries.sixes carries.begins are.cover (within bare (ap length is ∙ length-unit nac duid)) outer.word_of_set
-        (λ i d inside.
-        subst (λ w. IsEncoding IsWord k (symbol_bits (part (carried.each * i) carried.each carried.symbols)) w)
-        (sym (ap (λ m. part m size bare) (get_or_default (word_places size table) i d 0 inside) ∙ words i inside))
-        (group_encoded i inside)))
+        rw outer.begins at
+        (field_there {IsInnerWord = IsWord} {IsOuterWord = IsOuterWord n information} coded k carried.symbols bare carries.sixes carries.begins are.cover (within bare (ap length is ∙ length-unit nac duid)) outer.word_of_set
+        (λ i d inside. rw (get_or_default (word_places size table) i d 0 inside, words i inside) (group_encoded i inside)))
 
     -- what carries the field has its words
     words_carried : (bare : List Bool) → length bare ≡ count → HasField IsWord (IsOuterWord n information) coded info bare
@@ -110,7 +106,7 @@ module _ {IsWord : List Bool → Type 0} {size k : ℕ} {carried : Contents}
         let there = field_word_there coded k info bare carries.sixes carries.begins (within bare filled) has i inside in
         let encoded = group_encoded i inside in
         carries.one_word (part (get_or (word_places size table) i 0) size bare) (group_word carries (0 + i)) there.word_of_set encoded.word_of_set
-        (there.begins ∙ ap (λ (xs : List Sym). symbol_bits (part (carried.each * i) carried.each xs)) sent ∙ sym encoded.begins)
+        (rw (there.begins, sent) (sym encoded.begins))
 
     -- so bits are laid out and carry the field exactly where they are the unit's
     pub unit_form : (nac duid : ℕ) (bare : List Bool) → voice_length_of duid ≡ Some count

@@ -1,5 +1,5 @@
 -- The reader of voice units: each part that was read is the part that the definition names, by what the reader of the part answers.
-use Rattle.std.proofs.Common.{◌≡◌, ℕ, zero, suc, ◌+◌, ◌/◌, ◌%◌, ◌^◌, ◌<◌, ◌≤◌, Bool, true, false, List, [], ◌∷◌, ◌++◌, length, take, map, set, slice_index, Option, Some, None, IfSome, option_map, refl, subst, ap, ap₂, sym, ◌∙◌, arith, lit≤}
+use Rattle.std.proofs.Common.{◌≡◌, ℕ, zero, suc, ◌+◌, ◌/◌, ◌%◌, ◌^◌, ◌<◌, ◌≤◌, Bool, true, false, List, [], ◌∷◌, ◌++◌, length, take, map, set, slice_index, Option, Some, None, IfSome, option_map, refl, sym, arith, lit≤}
 use Rattle.std.proofs.lemmas.List.{append-nil, map_more, take_all, take_more_set}
 use Rattle.std.specs.Option.{is_some}
 use Rattle.p25_bits.specs.Bits.{bits_of, field_of}
@@ -10,12 +10,12 @@ use Rattle.p25_voice_units.specs.{declared.voice.VoiceFrame.{VoiceFrame}, Layout
 -- a part that was read is a function of its symbols, also where only how many bits of it were put right is answered beside them
 pub part_counted : {S W : Type 0} (f : S → W) (answer : Option ℕ) (value : Option S) (symbols : S) (word : W)
     → option_map (λ n. symbols) answer ≡ value → word ≡ f symbols → option_map (λ n. word) answer ≡ option_map f value
-part_counted f None value symbols word is made = ap (option_map f) is
-part_counted f (Some n) value symbols word is made = ap Some made ∙ ap (option_map f) is
+part_counted f None value symbols word is made = rw (← is) refl
+part_counted f (Some n) value symbols word is made = rw (← is, made) refl
 
 -- what is said of a part, where it was read
 pub some_at : {X : Type 0} (P : X → Type 0) (answer : Option X) (x : X) → IfSome answer P → answer ≡ Some x → P x
-some_at P answer x is some = subst (λ a. IfSome a P) some is
+some_at P answer x is some = rw some at is
 
 -- a field that was not read is noted
 pub noted : {X : Type 0} (fields new : List Field) (field : Field) (part : Option X) → is_some part ≡ false → new ≡ fields ++ field ∷ [] → new ≡ fields ++ missing field part
@@ -40,7 +40,7 @@ low_place-le (suc (suc i)) inside = absurd (omega arith)
 pub low_octet : (value : ℕ) → value < 2 ^ 16 → value / 2 ^ 8 ≡ field_of (take 8 (bits_of 16 value))
 low_octet value small =
     let below : value / 256 % 256 ≡ value / 256 = omega arith in
-    sym (ap field_of (take-bits_of 8 16 value (lit≤ tt)) ∙ field_of-bits_of 8 (value / 2 ^ 8) ∙ below)
+    rw (take-bits_of 8 16 value (lit≤ tt), field_of-bits_of 8 (value / 2 ^ 8)) (sym below)
 
 -- there are nine voice frames
 pub nine_frames : length (frame_places ldu_rows) ≡ 9
@@ -53,9 +53,7 @@ pub frames_next : (i : ℕ) (bare : List Bool) (frames : List VoiceFrame) (frame
 frames_next i bare frames frame inside nine before is =
     let there : i < length frames = omega arith in
     let within : i < length (frame_places ldu_rows) = omega (arith, nine_frames) in
-    take_more_set frames i frame there
-    ∙ ap₂ (λ (xs : List VoiceFrame) (x : VoiceFrame). xs ++ x ∷ []) before is
-    ∙ sym (map_more (λ at. frame_in at bare) (frame_places ldu_rows) i 0 within)
+    rw (take_more_set frames i frame there, before, is) (sym (map_more (λ at. frame_in at bare) (frame_places ldu_rows) i 0 within))
 
 -- all of them
 pub frames_all : (i : ℕ) (bare : List Bool) (frames : List VoiceFrame)
@@ -64,4 +62,4 @@ unfolding voice_in
 frames_all i bare frames all nine is =
     let fits : length frames ≤ i = omega arith in
     let every : length (frame_places ldu_rows) ≤ i = omega (arith, nine_frames) in
-    sym (take_all i frames fits) ∙ is ∙ ap (map (λ at. frame_in at bare)) (take_all i (frame_places ldu_rows) every)
+    rw (take_all i frames fits, take_all i (frame_places ldu_rows) every) at is

@@ -1,7 +1,4 @@
 use Rattle.std.proofs.Common.{◌≡◌, ◌+◌, length, Some, ap, sym, ◌∙◌}
-use Rattle.p25_golay.specs.Golay18.{golay18_word}
-use Rattle.p25_golay.specs.Golay24.{golay24_word}
-use Rattle.p25_hamming.specs.Hamming10.{hamming10_word}
 use Rattle.p25_voice_units.specs.{Images.{voice_body}, Sendable.{IsSendableVoice}}
 use Rattle.p25_voice_units.proofs.{LengthsLaws.{length-header, length-ldu1, length-ldu2, length-end, length-tdulc}}
 use Rattle.p25_voice_units.proofs.image.put_body.Goals as goal

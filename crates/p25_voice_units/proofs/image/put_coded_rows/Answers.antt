@@ -1,6 +1,6 @@
-use Rattle.std.proofs.Common.{◌≡◌, ◌/◌, ◌++◌, true, length, ap, sym, subst, ◌∙◌}
+use Rattle.std.proofs.Common.{◌≡◌, ◌/◌, true, length, sym, subst}
 use Rattle.std.specs.List.{list_all}
-use Rattle.p25_voice_units.specs.{Images.{contents, rows_bits}, Pieces.{piece_fits}}
+use Rattle.p25_voice_units.specs.{Pieces.{piece_fits}}
 use Rattle.p25_voice_units.proofs.image.put_coded_rows.Goals as goal
 
 pub put_rows-requires-clause-fits : goal.put_rows-requires-clause-fits

@@ -1,5 +1,4 @@
-use Rattle.std.proofs.{Common.{Bool, List, ◌++◌, ◌<◌, take, drop, ap, ◌∙◌}, lemmas.List.Elements.{All-drop, All-take}}
-use Rattle.p25_bits.specs.{Bits.{octet_bits}, Numbers.{number_bits}}
+use Rattle.std.proofs.{Common.{◌<◌, drop}, lemmas.List.Elements.{All-drop, All-take}}
 use Rattle.p25_voice_units.proofs.ImageSteps.{frame_in_three}
 use Rattle.p25_voice_units.proofs.image.put_frame.Goals as goal
 
@@ -11,7 +10,4 @@ put_numbers-requires-clause-fits c =
 pub returns-clause-list : goal.returns-clause-list
 returns-clause-list c =
     let octets = c.args.octets.now in
-    c.put_numbers.ensures.list
-    ∙ ap (λ (bits : List Bool). bits ++ number_bits 8 (take 2 (drop 16 octets)))
-    (c.put_eight-2.ensures.list ∙ ap (λ (bits : List Bool). bits ++ octet_bits (take 8 (take 10 (drop 8 octets)))) c.put_eight.ensures.list)
-    ∙ frame_in_three c.args.out.now octets c.told-octets
+    rw (c.put_numbers.ensures.list, c.put_eight-2.ensures.list, c.put_eight.ensures.list) (frame_in_three c.args.out.now octets c.told-octets)

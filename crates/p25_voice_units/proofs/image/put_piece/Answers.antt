@@ -1,11 +1,8 @@
 use Rattle.std.proofs.Common.{◌≡◌, ℕ, ◌+◌, ◌*◌, ◌/◌, ◌≤◌, ◌++◌, ◌-◌, List, length, take, drop, ap, sym, subst, ◌∙◌, arith}
-use Rattle.p25_bits.specs.Bits.{bits_of, part}
-use Rattle.p25_bits.proofs.BitsLaws.{length-bits_of}
+use Rattle.p25_bits.specs.Bits.{part}
 use Rattle.p25_gf64.specs.declared.symbol.Sym.{Sym}
-use Rattle.p25_coded_fields.specs.Layouts.{field_bits}
-use Rattle.p25_hamming.specs.Lsd16.{lsd16_word}
 use Rattle.p25_voice_units.specs.Images.{piece_bits}
-use Rattle.p25_voice_units.proofs.{CodesLaws.{lsd16_only}, ImageSteps.{words_fit, bits_of-nulls}}
+use Rattle.p25_voice_units.proofs.{ImageSteps.{words_fit, bits_of-nulls}}
 use Rattle.p25_voice_units.proofs.image.put_piece.Goals as goal
 
 pub slice_bounds-put_coded-end : goal.slice_bounds-put_coded-end

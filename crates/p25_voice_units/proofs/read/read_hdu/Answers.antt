@@ -1,5 +1,5 @@
-use Rattle.std.proofs.Common.{Some, option_map, length, refl, ap, sym, ◌∙◌}
-use Rattle.p25_coded_fields.specs.{Fixes.{field_fixes_of}, Layouts.{field_reading_of, places_from}}
+use Rattle.std.proofs.Common.{Some, option_map, length, refl, ap, ◌∙◌}
+use Rattle.p25_coded_fields.specs.{Layouts.{field_reading_of, places_from}}
 use Rattle.p25_coded_fields.proofs.CodesLaws.{all_end}
 use Rattle.p25_link.specs.Words.{header_of_symbols, header_symbols}
 use Rattle.p25_reed_solomon.specs.Encoding.{rs_word}
@@ -26,8 +26,7 @@ returns-in-Some-clause-wrong c =
     let places = word_places 18 hdu_rows in
     let symbols = rs_word 36 20 (header_symbols c.from_symbols.result) in
     coded_fixes _ golay18_word 18 1 places symbols c.args.bare.now c.in-Some.wrong refl (λ nac. words_in_unit (golay18_carried symbols) (header_suits c.from_symbols.result) nac 0 _ refl)
-    (c.in-Some.ensures.wrong ∙ ap
-    (λ symbols. field_fixes_of golay18_word 18 1 (word_places 18 hdu_rows) (rs_word 36 20 symbols) c.args.bare.now) (sym c.from_symbols.ensures.back))
+    (rw (← c.from_symbols.ensures.back) at c.in-Some.ensures.wrong)
 
 pub returns-in-None-clause-value : goal.returns-in-None-clause-value
 unfolding header_in header_from word_places places_from

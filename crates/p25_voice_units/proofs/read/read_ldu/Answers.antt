@@ -1,6 +1,5 @@
 use Rattle.std.proofs.Common.{option_map, Err, ap, ap₂, sym, ◌∙◌, arith}
 use Rattle.p25_coded_fields.specs.Layouts.{places_from}
-use Rattle.p25_hamming.specs.Hamming10.{hamming10_word}
 use Rattle.p25_voice_units.specs.{FieldLayouts.{word_places}, Readings.{ldu_from}}
 use Rattle.p25_voice_units.proofs.{KindsLaws.{ldu_whole, ldu_fails}, ReadLaws.{some_at}}
 use Rattle.p25_voice_units.proofs.read.read_ldu.Goals.{in_default-via-in-Some+in-Some+in_default, in_default-via-in-Some+in_default, in_default-via-in_default}

@@ -1,7 +1,7 @@
 use Rattle.std.proofs.{Common.{◌≡◌, ◌/◌, ◌≤◌, length, take, Some, refl, sym, ap, ◌∙◌, arith}, lemmas.List.{length-take-le}}
 use Rattle.p25_reed_solomon.specs.{Encoding.{rs_word}, RsReadings.{rs_erased_reading_of}}
 use Rattle.p25_reed_solomon.proofs.EncodingLaws.{rs_word-only}
-use Rattle.p25_coded_fields.specs.{Fixes.{field_fixes_of}, Layouts.{field_layout}}
+use Rattle.p25_coded_fields.specs.{Layouts.{field_layout}}
 use Rattle.p25_coded_fields.proofs.CodesLaws.{field_found, field_beyond, outer_word_found}
 use Rattle.p25_voice_units.proofs.read.read_symbols.Goals as goal
 

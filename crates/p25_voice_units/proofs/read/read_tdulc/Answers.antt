@@ -1,5 +1,5 @@
-use Rattle.std.proofs.Common.{Some, option_map, refl, ap, sym, ◌∙◌}
-use Rattle.p25_coded_fields.specs.{Fixes.{field_fixes_of}, Layouts.{field_reading_of, places_from}}
+use Rattle.std.proofs.Common.{Some, option_map, refl, ap, ◌∙◌}
+use Rattle.p25_coded_fields.specs.{Layouts.{field_reading_of, places_from}}
 use Rattle.p25_link.specs.Words.{link_of_symbols, link_symbols}
 use Rattle.p25_reed_solomon.specs.Encoding.{rs_word}
 use Rattle.p25_status.specs.Outcomes.{read_or}
@@ -21,8 +21,7 @@ returns-in-Some-clause-wrong c =
     let places = word_places 24 tdulc_rows in
     let symbols = rs_word 24 12 (link_symbols c.from_symbols.result) in
     coded_fixes _ golay24_word 24 2 places symbols c.args.bare.now c.in-Some.wrong refl (λ nac. words_in_unit (golay24_carried symbols) (tdulc_suits c.from_symbols.result) nac 15 _ refl)
-    (c.in-Some.ensures.wrong ∙ ap
-    (λ symbols. field_fixes_of golay24_word 24 2 (word_places 24 tdulc_rows) (rs_word 24 12 symbols) c.args.bare.now) (sym c.from_symbols.ensures.back))
+    (rw (← c.from_symbols.ensures.back) at c.in-Some.ensures.wrong)
 
 pub returns-in-None-clause-value : goal.returns-in-None-clause-value
 unfolding link_in tdulc_from word_places places_from
