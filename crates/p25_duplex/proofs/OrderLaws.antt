@@ -8,7 +8,8 @@ use Rattle.p25_delivery.proofs.{WholeLaws.{IsInOrder, first-in-order, happens-in
 use Rattle.p25_stations.specs.Steps.{delivery_of}
 use Rattle.p25_duplex.specs.{declared.side.Side.{Side}, declared.side.Side.TheVariants.{A, B}, declared.event.DuplexEvent.{DuplexEvent}}
 use Rattle.p25_duplex.specs.declared.event.DuplexEvent.TheVariants.{Send, Timeout, Reopen, Deliver}
-use Rattle.p25_duplex.specs.{DuplexSteps.{DuplexState, StationState, after_step, delivered_at, delivery_between, duplex_step, heard_as, is_answer, other_side, station_at, station_step}, DuplexRuns.{delivery_at, duplex_run, first_duplex}}
+use Rattle.p25_duplex.specs.DuplexSteps.{DuplexState, StationState, after_step, delivered_at, delivery_between, duplex_step, heard_as, is_answer, other_side, station_at, station_step}
+use Rattle.p25_duplex.specs.DuplexRuns.{delivery_at, duplex_run, first_duplex}
 
 -- the deliveries of both stations' messages
 record AreInOrder (mine its : StationState) : Type 0 where

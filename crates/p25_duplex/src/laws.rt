@@ -2,7 +2,8 @@
 //! function here makes a call: its contract is the theorem.
 
 ghost use Rattle.std.specs.Prelude.{◌≡◌, List, Some, IfSome};
-ghost use Rattle.p25_delivery.specs.{Delivery.{Happening, first_delivery, delivery_run, sessions_of}, Orderly.{IsCleanRun, AreOrderly, AreWhole}, Facts.{DeliveryFacts}};
+ghost use Rattle.p25_delivery.specs.{Delivery.{Happening, first_delivery, delivery_run, sessions_of}, Orderly.{IsCleanRun, AreOrderly, AreWhole}};
+ghost use Rattle.p25_delivery.specs.Facts.{DeliveryFacts};
 ghost use Rattle.p25_duplex.specs.DuplexRuns.{AreDuplexEvents, IsCleanDuplex, duplex_run, duplex_steps, data_in, answer_in, delivery_after, Side as side_type, first_duplex, delivery_at, DuplexEvent as event_type, other_side, side_acknowledged_in, side_heard_in, side_sent_in};
 
 /// **Theorem.** Its clause says that after every list of events without a false pass each session of each side's messages is

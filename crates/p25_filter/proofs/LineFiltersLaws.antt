@@ -1,15 +1,25 @@
 -- How the work on lines goes on: octets come, a line is taken, a piece is given, the input ends. A line that is too long is
 -- refused whatever its octets are, so what is kept of it serves as well as all of it: by induction on the octets that come.
-use Rattle.std.proofs.Common.{◌≡◌, ℕ, ◌+◌, ◌<◌, ◌≤◌, ◌-◌, min, Bool, true, false, cond, nat_eq, nat_lt, List, [], ◌∷◌, ◌++◌, length, take, Some, Result, Ok, Err, refl, ap, ap₂, sym, subst, ◌∙◌, arith, append_assoc, append-nil, length-append, length-take}
-use Rattle.std.proofs.{lemmas.List.{take_all, take_min}, Math.Seq.{take-append-add}, lemmas.Bool.Decides.{nat_tests}, lemmas.Bool.{cond-true, lt-ltb}}
+use Rattle.std.proofs.Common.{◌≡◌, ℕ, ◌+◌, ◌<◌, ◌≤◌, ◌-◌, min, Bool, true, false, cond, nat_eq, nat_lt, List, [], ◌∷◌, ◌++◌, length, take, drop, Some, Result, Ok, Err, refl, ap, ap₂, sym, subst, ◌∙◌, arith, append_assoc, append-nil, length-append, length-take}
+use Rattle.std.proofs.{lemmas.List.{take-append-drop, take_all, take_min}, Math.Seq.{take-append-add}, lemmas.Bool.Decides.{nat_tests}, lemmas.Bool.{cond-true, lt-ltb}}
 use Rattle.std.specs.{Prelude.{Contains, is_ok}, List.{concat}}
 use Rattle.p25_line.specs.declared.{fault.LineFault.{LineFault}, fault.LineFault.TheVariants.{Long}}
 use Rattle.p25_filter.specs.{declared.ending.Ending.{Ending}, declared.ending.Ending.TheVariants.{BadLine, Done}, declared.ending.Refusal.{Refusal}}
 use Rattle.p25_filter.specs.{declared.ending.Refusal.TheVariants.{Ended, Memory}, declared.line_filter.LinePhase.{LinePhase}}
 use Rattle.p25_filter.specs.{declared.line_filter.LinePhase.TheVariants.{Reading, Ready, ReadyLast, Closing, Closed}, Futures.{IsClosed, IsIdle, IsPausing, IsRefusedBy, NextPiece, Progress}}
-use Rattle.p25_filter.specs.{Lines.{closing_by, each_behind, lines_ending, lines_in, texts_before}, LineRules.{LineRules, LinesTaken, first_taken, lines_taken, with_second, written_for}}
-use Rattle.p25_filter.specs.LineFilters.{IsLineGiven, IsTextGiven, LineFiltering, closes_with, ends_with, is_ended_phase, line_future, line_filtering, lines_left, pieces_of, taken_from}
-use Rattle.p25_filter.proofs.LinesLaws.{Contains-here, Contains-later, Contains-none, each_behind-from, each_behind-in, lines_in-end, lines_in-part, octets_before}
+use Rattle.p25_filter.specs.{Lines.{closing_by, each_behind, lines_ending, lines_in, texts_before}, LineRules.{LineRules, LinesTaken, first_taken, lines_taken, written_for}}
+use Rattle.p25_filter.specs.LineFilters.{IsLineReady, IsTextReady, LineFiltering, closes_with, ends_with, is_ended_phase, line_future, line_filtering, lines_left, texts_of, taken_from}
+use Rattle.p25_filter.proofs.LinesLaws.{Contains-here, Contains-later, Contains-none, each_behind-from, each_behind-in, each_behind-none, lines_in-end, lines_in-part, octets_before}
+
+-- a piece of at most so many octets, and what is left
+pub piece-is : (xs : List ℕ) (most count : ℕ) → count ≡ min (length xs) most → take count xs ≡ take most xs
+piece-is xs most count same = let other : count ≡ min most (length xs) = omega (arith, same) in rw other (take_min most xs)
+
+pub piece-left : (xs out : List ℕ) (most : ℕ) → out ≡ take most xs → xs ≡ out ++ drop (length out) xs
+piece-left xs out most same =
+    let few : length out ≡ min most (length xs) = ap length same ∙ length-take most xs in
+    let front : out ≡ take (length out) xs = same ∙ sym (take_min most xs) ∙ ap (λ (n : ℕ). take n xs) (sym few) in
+    sym (ap (λ (zs : List ℕ). zs ++ drop (length out) xs) front ∙ take-append-drop (length out) xs)
 
 -- where memory may be wanting, and where it may not
 wanting : (wants : Bool) (texts : List (List ℕ)) (pause : List ℕ) → wants ≡ true → Contains texts pause → Contains (cond wants texts []) pause
@@ -21,12 +31,12 @@ when_wanting true texts pause is = (refl, is)
 when_wanting false texts pause is = absurd (Contains-none pause is)
 
 -- before an octet no line is there and the input has not ended, so a line is being read; and at the end all was given
-is_reading : (phase : LinePhase) → pieces_of phase ≡ 0 → is_ended_phase phase ≡ false → phase ≡ Reading
+is_reading : (phase : LinePhase) → texts_of phase ≡ 0 → is_ended_phase phase ≡ false → phase ≡ Reading
 is_reading Reading none going = refl
 is_reading Ready none going = absurd (omega arith)
 is_reading phase none going = cc
 
-is_closed : (phase : LinePhase) → pieces_of phase ≡ 0 → is_ended_phase phase ≡ true → phase ≡ Closed
+is_closed : (phase : LinePhase) → texts_of phase ≡ 0 → is_ended_phase phase ≡ true → phase ≡ Closed
 is_closed ReadyLast none ended = absurd (omega arith)
 is_closed Closing none ended = absurd (omega arith)
 is_closed Closed none ended = refl
@@ -70,11 +80,6 @@ module _ {X : Type 0} (f : List (List ℕ) → X) (x : X) (first : (line : List 
   kept-first line lines = either (λ l. f (l ∷ lines)) line (λ also long. first line lines long ∙ sym (first (take 8193 line) lines also))
 
 module _ {M : Type 0} (rules : LineRules M) where
-  -- a text in one piece or two, and what follows it
-  with_second-append : (machine : M) (more : Bool) (out rest : List ℕ) → with_second rules machine more out ++ rest ≡ out ++ (with_second rules machine more [] ++ rest)
-  with_second-append machine false out rest = refl
-  with_second-append machine true out rest = append_assoc out (rules.second machine) rest
-
   -- what comes of lines, by what comes of the first
   taken-first : (number : ℕ) (machine : M) (line : List ℕ) (lines : List (List ℕ)) (is : Result (M × List ℕ) LineFault) → rules.take machine line ≡ is
       → lines_taken rules.take number machine (line ∷ lines) ≡ first_taken number machine (λ next. lines_taken rules.take (number + 1) next lines) is
@@ -82,24 +87,24 @@ module _ {M : Type 0} (rules : LineRules M) where
   taken-first number machine line lines is same = ap (first_taken number machine (λ next. lines_taken rules.take (number + 1) next lines)) same
 
   -- the texts after which memory may be wanting
-  abbrev pub pauses_of : M → Bool → LinesTaken M → List (List ℕ)
-  pauses_of machine behind taken = cond rules.wants (each_behind (with_second rules machine behind []) (texts_before taken.texts)) []
+  abbrev pub pauses_of : List ℕ → LinesTaken M → List (List ℕ)
+  pauses_of left taken = cond rules.wants (each_behind left (texts_before taken.texts)) []
 
   -- octets come, and of the lines that are left comes what came of those that were
-  comes : (machine : M) (lines : ℕ) (behind : Bool) (octets line then : List ℕ) (next : LinePhase)
+  comes : (machine : M) (lines : ℕ) (rest : List ℕ) (octets line then : List ℕ) (next : LinePhase)
       → ((ended : Bool) (more : List ℕ) → lines_taken rules.take (lines + 1) machine (lines_in ended line (octets ++ more))
       ≡ lines_taken rules.take (lines + 1) machine (lines_left next then ended more))
       → ((ended : Bool) → ended ≡ closes_with next ended) → ((ended : Bool) → ended ≡ ends_with next ended)
-      → Progress (line_future rules (line_filtering machine line lines behind Reading)) octets [] (line_future rules (line_filtering machine then lines behind next))
+      → Progress (line_future rules (line_filtering machine line lines rest Reading)) octets [] (line_future rules (line_filtering machine then lines rest next))
   unfolding line_future
-  comes machine lines behind octets line then next left closes ends = record {
-    writes = λ ended more. ap₂ (λ (b : Bool) (t : LinesTaken M). with_second rules machine behind [] ++ written_for rules b t) (closes ended) (left ended more);
+  comes machine lines rest octets line then next left closes ends = record {
+    writes = λ ended more. ap₂ (λ (b : Bool) (t : LinesTaken M). rest ++ written_for rules b t) (closes ended) (left ended more);
     ends = λ ended more. ap₂ (λ (b : Bool) (t : LinesTaken M). lines_ending b t.refusal) (ends ended) (left ended more);
-    pauses = λ ended more pause is. subst (λ (t : LinesTaken M). Contains (pauses_of machine behind t) pause) (sym (left ended more)) is;
+    pauses = λ ended more pause is. rw (left ended more) is;
   }
 
   -- what holds while a line is read holds of work before an octet
-  reading : (P : LinePhase → Type 0) (phase : LinePhase) → pieces_of phase ≡ 0 → is_ended_phase phase ≡ false → P Reading → P phase
+  reading : (P : LinePhase → Type 0) (phase : LinePhase) → texts_of phase ≡ 0 → is_ended_phase phase ≡ false → P Reading → P phase
   reading P phase none going holds = subst P (sym (is_reading phase none going)) holds
 
   -- the octets that are kept of a line
@@ -116,7 +121,7 @@ module _ {M : Type 0} (rules : LineRules M) where
 
   -- the steps of `push_some`: of a line that has begun some octets are kept, and the line goes on or ends
   module _ (too_long : (machine : M) (line : List ℕ) → 8192 < length line → rules.take machine line ≡ Err Long) (work now : LineFiltering M) (octets : List ℕ) (count : ℕ)
-      (before : count ≡ octets_before octets) (none : pieces_of work.phase ≡ 0) (going : is_ended_phase work.phase ≡ false) where
+      (before : count ≡ octets_before octets) (none : texts_of work.phase ≡ 0) (going : is_ended_phase work.phase ≡ false) where
     abbrev pub whole : List ℕ
     whole = work.line ++ take count octets
 
@@ -128,91 +133,99 @@ module _ {M : Type 0} (rules : LineRules M) where
     first-long : (line : List ℕ) (lines : List (List ℕ)) → 8192 < length line → came (line ∷ lines) ≡ record { texts = []; machine = work.machine; refusal = Some (BadLine (work.lines + 1) Long) }
     first-long line lines long = taken-first (work.lines + 1) work.machine line lines (Err Long) (too_long work.machine line long)
 
-    goes-on : (then : List ℕ) (next : LinePhase) → now ≡ line_filtering work.machine then work.lines work.behind next → (taken : List ℕ)
-        → Progress (line_future rules (line_filtering work.machine work.line work.lines work.behind Reading)) taken
-        [] (line_future rules (line_filtering work.machine then work.lines work.behind next))
+    goes-on : (then : List ℕ) (next : LinePhase) → now ≡ line_filtering work.machine then work.lines work.left next → (taken : List ℕ)
+        → Progress (line_future rules (line_filtering work.machine work.line work.lines work.left Reading)) taken
+        [] (line_future rules (line_filtering work.machine then work.lines work.left next))
         → Progress (line_future rules work) taken [] (line_future rules now)
     goes-on then next is taken progress =
         subst (λ (w : LineFiltering M). Progress (line_future rules work) taken [] (line_future rules w)) (sym is)
-        (reading (λ p. Progress (line_future rules (line_filtering work.machine work.line work.lines work.behind p)) taken []
-        (line_future rules (line_filtering work.machine then work.lines work.behind next))) work.phase none going progress)
+        (reading (λ p. Progress (line_future rules (line_filtering work.machine work.line work.lines work.left p)) taken []
+        (line_future rules (line_filtering work.machine then work.lines work.left next))) work.phase none going progress)
 
     -- the line goes on
-    pub step-part : now ≡ line_filtering work.machine (take 8193 whole) work.lines work.behind Reading → Progress (line_future rules work) (take count octets) [] (line_future rules now)
+    pub step-part : now ≡ line_filtering work.machine (take 8193 whole) work.lines work.left Reading → Progress (line_future rules work) (take count octets) [] (line_future rules now)
     unfolding lines_in
     step-part is =
         goes-on (take 8193 whole) Reading is (take count octets)
-        (comes work.machine work.lines work.behind (take count octets) work.line (take 8193 whole) Reading
+        (comes work.machine work.lines work.left (take count octets) work.line (take 8193 whole) Reading
         (λ ended more. ap came (subst (λ (n : ℕ). lines_in ended work.line (take n octets ++ more) ≡ lines_in ended (work.line ++ take n octets) more) (sym before)
         (lines_in-part ended work.line octets more)) ∙ kept-same came _ first-long ended whole more)
         (λ ended. refl) (λ ended. refl))
 
     -- the line ends
-    pub step-end : count < length octets → now ≡ line_filtering work.machine (take 8193 whole) work.lines work.behind Ready
+    pub step-end : count < length octets → now ≡ line_filtering work.machine (take 8193 whole) work.lines work.left Ready
         → Progress (line_future rules work) (take (count + 1) octets) [] (line_future rules now)
     step-end there is =
         goes-on (take 8193 whole) Ready is (take (count + 1) octets)
-        (comes work.machine work.lines work.behind (take (count + 1) octets) work.line (take 8193 whole) Ready
+        (comes work.machine work.lines work.left (take (count + 1) octets) work.line (take 8193 whole) Ready
         (λ ended more. ap came (subst (λ (n : ℕ). n < length octets → lines_in ended work.line (take (n + 1) octets ++ more) ≡ (work.line ++ take n octets) ∷ lines_in ended [] more) (sym before)
         (lines_in-end ended work.line octets more) there) ∙ kept-first came _ first-long whole (lines_in ended [] more))
         (λ ended. refl) (λ ended. refl))
 
   -- the steps of `finish`: the input ends after a line that has begun, or none
-  working-finish : (machine : M) (line : List ℕ) (lines : ℕ) (behind : Bool) → 0 < length line
-      → IsClosed (line_future rules (line_filtering machine line lines behind Reading)) (line_future rules (line_filtering machine line lines behind ReadyLast))
+  working-finish : (machine : M) (line : List ℕ) (lines : ℕ) (rest : List ℕ) → 0 < length line
+      → IsClosed (line_future rules (line_filtering machine line lines rest Reading)) (line_future rules (line_filtering machine line lines rest ReadyLast))
   unfolding line_future lines_in
-  working-finish machine line lines behind some =
+  working-finish machine line lines rest some =
       let last : cond (nat_lt 0 (length line)) (line ∷ []) [] ≡ line ∷ [] = cond-true (nat_lt 0 (length line)) (line ∷ []) [] (lt-ltb 0 (length line) some) in
       let same = ap (lines_taken rules.take (lines + 1) machine) (sym last) in
       record {
-        writes = λ ended more. ap (λ (t : LinesTaken M). with_second rules machine behind [] ++ written_for rules true t) same;
+        writes = λ ended more. ap (λ (t : LinesTaken M). rest ++ written_for rules true t) same;
         ends = λ ended more. ap (λ (t : LinesTaken M). lines_ending true t.refusal) same;
-        pauses = λ ended more. ap (pauses_of machine behind) same;
+        pauses = λ ended more. ap (pauses_of rest) same;
       }
 
-  working-finish_none : (machine : M) (line : List ℕ) (lines : ℕ) (behind : Bool) → length line ≡ 0
-      → IsClosed (line_future rules (line_filtering machine line lines behind Reading)) (line_future rules (line_filtering machine line lines behind Closing))
+  working-finish_none : (machine : M) (line : List ℕ) (lines : ℕ) (rest : List ℕ) → length line ≡ 0
+      → IsClosed (line_future rules (line_filtering machine line lines rest Reading)) (line_future rules (line_filtering machine line lines rest Closing))
   unfolding line_future lines_in
-  working-finish_none machine [] lines behind none = record { writes = λ ended more. refl; ends = λ ended more. refl; pauses = λ ended more. refl }
-  working-finish_none machine (octet ∷ line) lines behind none = absurd (omega arith)
+  working-finish_none machine [] lines rest none = record { writes = λ ended more. refl; ends = λ ended more. refl; pauses = λ ended more. refl }
+  working-finish_none machine (octet ∷ line) lines rest none = absurd (omega arith)
 
-  module _ (machine : M) (line : List ℕ) (lines : ℕ) (behind : Bool) (phase : LinePhase) (none : pieces_of phase ≡ 0) (going : is_ended_phase phase ≡ false) where
+  module _ (machine : M) (line : List ℕ) (lines : ℕ) (rest : List ℕ) (phase : LinePhase) (none : texts_of phase ≡ 0) (going : is_ended_phase phase ≡ false) where
     abbrev pub closes-as : LinePhase → Type 0
-    closes-as next = IsClosed (line_future rules (line_filtering machine line lines behind phase)) (line_future rules (line_filtering machine line lines behind next))
+    closes-as next = IsClosed (line_future rules (line_filtering machine line lines rest phase)) (line_future rules (line_filtering machine line lines rest next))
 
     pub step-finish : 0 < length line → closes-as ReadyLast
     step-finish some =
-        reading (λ p. IsClosed (line_future rules (line_filtering machine line lines behind p)) (line_future rules (line_filtering machine line lines behind ReadyLast)))
-        phase none going (working-finish machine line lines behind some)
+        reading (λ p. IsClosed (line_future rules (line_filtering machine line lines rest p)) (line_future rules (line_filtering machine line lines rest ReadyLast)))
+        phase none going (working-finish machine line lines rest some)
 
     pub step-finish_none : length line ≡ 0 → closes-as Closing
     step-finish_none empty =
-        reading (λ p. IsClosed (line_future rules (line_filtering machine line lines behind p)) (line_future rules (line_filtering machine line lines behind Closing)))
-        phase none going (working-finish_none machine line lines behind empty)
+        reading (λ p. IsClosed (line_future rules (line_filtering machine line lines rest p)) (line_future rules (line_filtering machine line lines rest Closing)))
+        phase none going (working-finish_none machine line lines rest empty)
 
-  -- the steps of `next`: a second piece is given
-  pub step-behind : (before now : LineFiltering M) (out : List ℕ) → before.behind ≡ true → out ≡ rules.second before.machine
-      → now ≡ record before { behind = false } → NextPiece (line_future rules before) (Ok true) out (line_future rules now)
-  unfolding NextPiece line_future
-  step-behind before now out there same is =
-      let second = rules.second before.machine in
-      subst (λ (n : LineFiltering M). Progress (line_future rules before) [] out (line_future rules n)) (sym is)
-      (subst (λ (o : List ℕ). Progress (line_future rules before) [] o (line_future rules (record before { behind = false }))) (sym same)
-      (subst (λ (b : Bool). Progress (line_future rules (record before { behind = b })) [] second (line_future rules (record before { behind = false }))) (sym there)
-      (record {
-        writes = λ ended more. refl;
-        ends = λ ended more. refl;
-        pauses = λ ended more pause there.
-            let texts = texts_before (taken_from rules before ended more).texts in
-            let now_there = when_wanting rules.wants _ pause there in
-            let part = each_behind-from [] texts pause now_there.1 in
-            wanting rules.wants _ (second ++ pause) now_there.0
-            (each_behind-in second texts pause (subst (λ (zs : List ℕ). Contains texts zs) part.2 part.1));
-      })))
+  -- the steps of `give`: a piece of the text is given
+  pub step-give : (before now : LineFiltering M) (out rest : List ℕ) → before.left ≡ out ++ rest → now ≡ record before { left = rest }
+      → Progress (line_future rules before) [] out (line_future rules now)
+  unfolding line_future
+  step-give before now out rest whole is = rw is (record {
+    writes = λ ended more.
+        let after = written_for rules (closes_with before.phase ended) (taken_from rules before ended more) in
+        rw whole (append_assoc out rest after);
+    ends = λ ended more. refl;
+    pauses = λ ended more pause there.
+        let texts = texts_before (taken_from rules before ended more).texts in
+        let now_there = when_wanting rules.wants _ pause there in
+        let part = each_behind-from rest texts pause now_there.1 in
+        wanting rules.wants _ (out ++ pause) now_there.0 (rw (whole, ← part.2, ← append_assoc out rest part.0) (each_behind-in (out ++ rest) texts part.0 part.1));
+  })
 
-  -- what is written at the end is given
+  -- and so after a text was got ready
+  pub step-after : (before mid now : LineFiltering M) (out rest : List ℕ) → NextPiece (line_future rules before) (Ok true) [] (line_future rules mid)
+      → mid.left ≡ out ++ rest → now ≡ record mid { left = rest } → NextPiece (line_future rules before) (Ok true) out (line_future rules now)
+  unfolding NextPiece
+  step-after before mid now out rest first whole is =
+      let then = step-give mid now out rest whole is in
+      record {
+        writes = λ ended more. first.writes ended more ∙ then.writes ended more;
+        ends = λ ended more. first.ends ended more ∙ then.ends ended more;
+        pauses = λ ended more pause there. first.pauses ended more (out ++ pause) (then.pauses ended more pause there);
+      }
+
+  -- the steps of `ready`: what is written at the end is to be given
   working-close : (machine : M) (line : List ℕ) (lines : ℕ)
-      → NextPiece (line_future rules (line_filtering machine line lines false Closing)) (Ok true) (rules.closing machine) (line_future rules (line_filtering machine line lines false Closed))
+      → NextPiece (line_future rules (line_filtering machine line lines [] Closing)) (Ok true) [] (line_future rules (line_filtering machine line lines (rules.closing machine) Closed))
   unfolding NextPiece line_future written_for texts_before each_behind lines_taken
   working-close machine line lines = record {
     writes = λ ended more. sym (append-nil (rules.closing machine));
@@ -239,56 +252,45 @@ module _ {M : Type 0} (rules : LineRules M) where
     unfolding texts_before
     before-left ended more then text is = ap (λ (t : LinesTaken M). texts_before t.texts) (left-first ended more (Ok (then, text)) is)
 
-    -- a line that is there was taken, and the first piece of its text is given
-    text-given : (then : M) (out : List ℕ) (behind : Bool) → rules.take machine line ≡ Ok (then, with_second rules then behind out)
-        → Progress (line_future rules (line_filtering machine line lines false phase)) [] out (line_future rules (line_filtering then [] (lines + 1) behind next))
+    -- a line that is there was taken, and its text is to be given
+    text-ready : (then : M) (text : List ℕ) → rules.take machine line ≡ Ok (then, text)
+        → Progress (line_future rules (line_filtering machine line lines [] phase)) [] [] (line_future rules (line_filtering then [] (lines + 1) text next))
     unfolding line_future written_for
-    text-given then out behind is = record {
+    text-ready then text is = record {
       writes = λ ended more.
           let after = rest-left ended more then in
-          ap (written_for rules (closes_with phase ended)) (left-first ended more (Ok (then, with_second rules then behind out)) is)
-          ∙ append_assoc (with_second rules then behind out) (concat after.texts) (closing_by (closes_with phase ended) after.refusal (rules.closing after.machine))
-          ∙ with_second-append then behind out (written_for rules (closes_with phase ended) after)
-          ∙ ap (λ (b : Bool). out ++ (with_second rules then behind [] ++ written_for rules b after)) (sym (closes ended));
+          ap (written_for rules (closes_with phase ended)) (left-first ended more (Ok (then, text)) is)
+          ∙ append_assoc text (concat after.texts) (closing_by (closes_with phase ended) after.refusal (rules.closing after.machine))
+          ∙ ap (λ (b : Bool). text ++ written_for rules b after) (sym (closes ended));
       ends = λ ended more.
-          ap (λ (t : LinesTaken M). lines_ending (ends_with phase ended) t.refusal) (left-first ended more (Ok (then, with_second rules then behind out)) is)
+          ap (λ (t : LinesTaken M). lines_ending (ends_with phase ended) t.refusal) (left-first ended more (Ok (then, text)) is)
           ∙ ap (λ (b : Bool). lines_ending b (rest-left ended more then).refusal) (sym (ends ended));
       pauses = λ ended more pause there.
-          let texts = texts_before (rest-left ended more then).texts in
           let now = when_wanting rules.wants _ pause there in
-          let part = each_behind-from (with_second rules then behind []) texts pause now.1 in
-          let after = each_behind (with_second rules then behind out) texts in
-          let whole = with_second-append then behind out part.0 ∙ ap (λ (zs : List ℕ). out ++ zs) part.2 in
-          let later = Contains-later [] after (with_second rules then behind out ++ part.0) (each_behind-in (with_second rules then behind out) texts part.0 part.1) in
-          wanting rules.wants _ (out ++ pause) now.0
-          (each_behind-in [] (texts_before (comes-left ended more).texts) (out ++ pause)
-          (subst (λ (ts : List (List ℕ)). Contains ts (out ++ pause)) (sym (before-left ended more then (with_second rules then behind out) is))
-          (subst (λ (zs : List ℕ). Contains ([] ∷ after) zs) whole later)));
+          wanting rules.wants _ pause now.0
+          (rw (each_behind-none (texts_before (comes-left ended more).texts), before-left ended more then text is) (Contains-later [] _ pause now.1));
     }
 
     -- memory was wanting for a line that is there
     wanting-given : (is : Result (M × List ℕ) LineFault) → rules.take machine line ≡ is → is_ok is ≡ true → rules.wants ≡ true
-        → IsPausing (line_future rules (line_filtering machine line lines false phase))
+        → IsPausing (line_future rules (line_filtering machine line lines [] phase))
     unfolding line_future
     wanting-given (Ok next) is ok wants =
         λ ended more.
         wanting rules.wants _ [] wants
-        (each_behind-in [] (texts_before (comes-left ended more).texts) []
-        (subst (λ (ts : List (List ℕ)). Contains ts []) (sym (before-left ended more next.0 next.1 is))
-        (Contains-here [] (each_behind next.1 (texts_before (rest-left ended more next.0).texts)))))
+        (rw (each_behind-none (texts_before (comes-left ended more).texts), before-left ended more next.0 next.1 is) (Contains-here [] _))
     wanting-given (Err fault) is ok wants = cc ok
 
     -- a line that is there was taken or refused, or memory was wanting for it
-    line-given : (now : LineFiltering M) (answer : Result Bool Refusal) (out : List ℕ)
-        → IsLineGiven rules next (line_filtering machine line lines false phase) answer out now
-        → NextPiece (line_future rules (line_filtering machine line lines false phase)) answer out (line_future rules now)
+    line-ready : (now : LineFiltering M) (answer : Result Bool Refusal) → IsLineReady rules next (line_filtering machine line lines [] phase) answer now
+        → NextPiece (line_future rules (line_filtering machine line lines [] phase)) answer [] (line_future rules now)
     unfolding NextPiece IsRefusedBy line_future written_for
-    line-given now (Ok true) out (same, given) =
-        subst (λ (n : LineFiltering M). Progress (line_future rules (line_filtering machine line lines false phase)) [] out (line_future rules n)) (sym given.now_is)
-        (text-given given.machine out given.behind given.taken)
-    line-given now (Ok false) out (same, given) = cc same
-    line-given now (Err Memory) out (same, (wants, ok)) = wanting-given (rules.take machine line) refl ok wants
-    line-given now (Err (Ended ending)) out (same, (fault, is, refused)) =
+    line-ready now (Ok true) (same, ready) =
+        subst (λ (n : LineFiltering M). Progress (line_future rules (line_filtering machine line lines [] phase)) [] [] (line_future rules n)) (sym ready.now_is)
+        (text-ready ready.machine ready.text ready.taken)
+    line-ready now (Ok false) (same, ready) = cc same
+    line-ready now (Err Memory) (same, (wants, ok)) = wanting-given (rules.take machine line) refl ok wants
+    line-ready now (Err (Ended ending)) (same, (fault, is, refused)) =
         record {
           writes = λ ended more. ap (written_for rules (closes_with phase ended)) (left-first ended more (Err fault) refused);
           ends = λ ended more.
@@ -298,68 +300,61 @@ module _ {M : Type 0} (rules : LineRules M) where
 
   -- with no line to take and no piece to give, what the octets so far decide is written, and nothing refuses them; at the end
   -- all is done
-  working-idle : (machine : M) (line : List ℕ) (lines : ℕ) (phase : LinePhase) → pieces_of phase ≡ 0
-      → IsIdle (is_ended_phase phase) (line_future rules (line_filtering machine line lines false phase))
+  working-idle : (machine : M) (line : List ℕ) (lines : ℕ) (phase : LinePhase) → texts_of phase ≡ 0
+      → IsIdle (is_ended_phase phase) (line_future rules (line_filtering machine line lines [] phase))
   unfolding IsIdle line_future lines_in written_for lines_taken
   working-idle machine line lines Reading none = (refl, refl)
   working-idle machine line lines Closed none = λ ended more. refl
   working-idle machine line lines phase none = absurd (omega arith)
 
-  working-done : (machine : M) (line : List ℕ) (lines : ℕ) (behind : Bool) (ended : Bool) (more : List ℕ)
-      → (line_future rules (line_filtering machine line lines behind Closed)).ends ended more ≡ Some Done
+  working-done : (machine : M) (line : List ℕ) (lines : ℕ) (rest : List ℕ) (ended : Bool) (more : List ℕ)
+      → (line_future rules (line_filtering machine line lines rest Closed)).ends ended more ≡ Some Done
   unfolding line_future lines_taken
-  working-done machine line lines behind ended more = refl
+  working-done machine line lines rest ended more = refl
 
-  -- the steps of `take_line`: the text of the line that is there was given
-  pub text-taken : (before : LineFiltering M) (machine then : M) (line items after : List ℕ) (lines : ℕ) (old behind : Bool) (out : List ℕ) (was phase : LinePhase)
-      → line_filtering machine items lines old was ≡ before → line ≡ items → after ≡ []
-      → rules.take machine line ≡ Ok (then, with_second rules then behind out) → IsTextGiven rules phase before out (line_filtering then after (lines + 1) behind phase)
-  text-taken before machine then line items after lines old behind out was phase view slice none taken =
-      subst (λ (w : LineFiltering M). IsTextGiven rules phase w out (line_filtering then after (lines + 1) behind phase)) view
-      (record {
-        machine = then;
-        behind = behind;
-        taken = ap (rules.take machine) (sym slice) ∙ taken;
-        now_is = ap (λ (zs : List ℕ). line_filtering then zs (lines + 1) behind phase) none;
-      })
+  -- the steps of `take_line`: the text for the line that is there is to be given
+  pub text-taken : (before : LineFiltering M) (machine then : M) (line items after text : List ℕ) (lines : ℕ) (left : List ℕ) (was phase : LinePhase)
+      → line_filtering machine items lines left was ≡ before → line ≡ items → after ≡ []
+      → rules.take machine line ≡ Ok (then, text) → IsTextReady rules phase before (line_filtering then after (lines + 1) text phase)
+  text-taken before machine then line items after text lines left was phase view slice none taken =
+      rw (← view) (record { machine = then; text = text; taken = rw slice at taken; now_is = rw none })
 
-  -- what holds at a phase with no second piece holds of work that is there
-  at_phase : (P : LineFiltering M → Type 0) (work : LineFiltering M) (phase : LinePhase) → work.phase ≡ phase → work.behind ≡ false
-      → P (line_filtering work.machine work.line work.lines false phase) → P work
+  -- what holds at a phase with nothing left to be given holds of work that is there
+  at_phase : (P : LineFiltering M → Type 0) (work : LineFiltering M) (phase : LinePhase) → work.phase ≡ phase → work.left ≡ []
+      → P (line_filtering work.machine work.line work.lines [] phase) → P work
   at_phase P work phase is none holds =
-      subst (λ (p : LinePhase). P (line_filtering work.machine work.line work.lines work.behind p)) (sym is)
-      (subst (λ (b : Bool). P (line_filtering work.machine work.line work.lines b phase)) (sym none) holds)
+      subst (λ (p : LinePhase). P (line_filtering work.machine work.line work.lines work.left p)) (sym is)
+      (subst (λ (l : List ℕ). P (line_filtering work.machine work.line work.lines l phase)) (sym none) holds)
 
-  module _ (before now : LineFiltering M) (answer : Result Bool Refusal) (out : List ℕ) (none : before.behind ≡ false) where
-    pub step-line : before.phase ≡ Ready → IsLineGiven rules Reading before answer out now → NextPiece (line_future rules before) answer out (line_future rules now)
+  module _ (before now : LineFiltering M) (answer : Result Bool Refusal) (none : before.left ≡ []) where
+    pub step-line : before.phase ≡ Ready → IsLineReady rules Reading before answer now → NextPiece (line_future rules before) answer [] (line_future rules now)
     step-line is =
-        at_phase (λ w. IsLineGiven rules Reading w answer out now → NextPiece (line_future rules w) answer out (line_future rules now)) before Ready is none
-        (line-given before.machine before.line before.lines Ready Reading (λ ended more. refl) (λ ended. refl) (λ ended. refl) now answer out)
+        at_phase (λ w. IsLineReady rules Reading w answer now → NextPiece (line_future rules w) answer [] (line_future rules now)) before Ready is none
+        (line-ready before.machine before.line before.lines Ready Reading (λ ended more. refl) (λ ended. refl) (λ ended. refl) now answer)
 
-    pub step-last : before.phase ≡ ReadyLast → IsLineGiven rules Closing before answer out now → NextPiece (line_future rules before) answer out (line_future rules now)
+    pub step-last : before.phase ≡ ReadyLast → IsLineReady rules Closing before answer now → NextPiece (line_future rules before) answer [] (line_future rules now)
     step-last is =
-        at_phase (λ w. IsLineGiven rules Closing w answer out now → NextPiece (line_future rules w) answer out (line_future rules now)) before ReadyLast is none
-        (line-given before.machine before.line before.lines ReadyLast Closing (λ ended more. refl) (λ ended. refl) (λ ended. refl) now answer out)
+        at_phase (λ w. IsLineReady rules Closing w answer now → NextPiece (line_future rules w) answer [] (line_future rules now)) before ReadyLast is none
+        (line-ready before.machine before.line before.lines ReadyLast Closing (λ ended more. refl) (λ ended. refl) (λ ended. refl) now answer)
 
-  pub step-close : (before now : LineFiltering M) (out : List ℕ) → before.phase ≡ Closing → before.behind ≡ false → out ≡ rules.closing before.machine → now ≡ record before { phase = Closed }
-      → NextPiece (line_future rules before) (Ok true) out (line_future rules now)
-  step-close before now out is none same then =
-      subst (λ (n : LineFiltering M). NextPiece (line_future rules before) (Ok true) out (line_future rules n)) (sym then)
-      (subst (λ (o : List ℕ). NextPiece (line_future rules before) (Ok true) o (line_future rules (record before { phase = Closed }))) (sym same)
-      (at_phase (λ w. NextPiece (line_future rules w) (Ok true) (rules.closing before.machine) (line_future rules (record w { phase = Closed }))) before Closing is none
-      (working-close before.machine before.line before.lines)))
+  pub step-close : (before now : LineFiltering M) → before.phase ≡ Closing → before.left ≡ [] → now ≡ record before { left = rules.closing before.machine; phase = Closed }
+      → NextPiece (line_future rules before) (Ok true) [] (line_future rules now)
+  step-close before now is none then =
+      rw then
+      (at_phase (λ w. NextPiece (line_future rules w) (Ok true) [] (line_future rules (record w { left = rules.closing before.machine; phase = Closed }))) before Closing is none
+      (working-close before.machine before.line before.lines))
 
   pub step-none : (before now : LineFiltering M) (out : List ℕ) → now ≡ before → NextPiece (line_future rules before) (Ok false) out (line_future rules now)
   unfolding NextPiece
   step-none before now out same = ap (line_future rules) same
 
-  pub step-idle : (work : LineFiltering M) → pieces_of work.phase ≡ 0 → work.behind ≡ false → IsIdle (is_ended_phase work.phase) (line_future rules work)
+  pub step-idle : (work : LineFiltering M) → texts_of work.phase ≡ 0 → work.left ≡ [] → IsIdle (is_ended_phase work.phase) (line_future rules work)
   step-idle work none empty =
-      subst (λ (b : Bool). IsIdle (is_ended_phase work.phase) (line_future rules (line_filtering work.machine work.line work.lines b work.phase))) (sym empty)
+      subst (λ (l : List ℕ). IsIdle (is_ended_phase work.phase) (line_future rules (line_filtering work.machine work.line work.lines l work.phase))) (sym empty)
       (working-idle work.machine work.line work.lines work.phase none)
 
-  pub step-done : (work : LineFiltering M) → is_ended_phase work.phase ≡ true → pieces_of work.phase ≡ 0 → (ended : Bool) (more : List ℕ)
+  pub step-done : (work : LineFiltering M) → is_ended_phase work.phase ≡ true → texts_of work.phase ≡ 0 → (ended : Bool) (more : List ℕ)
       → (line_future rules work).ends ended more ≡ Some Done
   step-done work is none ended more =
-      subst (λ (p : LinePhase). (line_future rules (line_filtering work.machine work.line work.lines work.behind p)).ends ended more ≡ Some Done) (sym (is_closed work.phase none is))
-      (working-done work.machine work.line work.lines work.behind ended more)
+      subst (λ (p : LinePhase). (line_future rules (line_filtering work.machine work.line work.lines work.left p)).ends ended more ≡ Some Done) (sym (is_closed work.phase none is))
+      (working-done work.machine work.line work.lines work.left ended more)

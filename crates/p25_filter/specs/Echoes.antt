@@ -8,9 +8,9 @@ use Rattle.p25_filter.specs.LineRules.{LineRules}
 abbrev pub echo_of : {M : Type 0} → M → List ℕ → Result (M × List ℕ) LineFault
 echo_of machine line = if nat_lt 8192 (length line) then Err Long else (if nat_lt 0 (length line) then Ok (machine, line) else Err Form)
 
--- each line is given back in one piece, nothing closes them, and no memory is wanted
+-- each line is given back, nothing closes them, and no memory is wanted
 abbrev pub echo_rules : {M : Type 0} → LineRules M
-echo_rules = record { take = echo_of; second = λ machine. []; closing = λ machine. []; wants = false }
+echo_rules = record { take = echo_of; closing = λ machine. []; wants = false }
 
 pub echo_long : {M : Type 0} → (machine : M) (line : List ℕ) → 8192 < length line → echo_of machine line ≡ Err Long
 echo_long machine line long =

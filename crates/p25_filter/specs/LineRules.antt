@@ -4,28 +4,22 @@ use Rattle.p25_line.specs.declared.fault.LineFault.{LineFault}
 use Rattle.p25_filter.specs.{declared.ending.Ending.{Ending}, declared.ending.Ending.TheVariants.{BadLine}, Lines.{closing_by}}
 use Rattle.p25_filter.specs.{declared.line_machine.LineRefusal.{LineRefusal}, declared.line_machine.LineRefusal.TheVariants.{Fault, Memory}}
 
--- a machine over lines: the machine after a line and the text for it, or the line's fault; the second piece of the text for its last
--- line, where that has two; what is written at the end of the input; and whether memory may be wanting for a line
+-- a machine over lines: the machine after a line and the text for it, or the line's fault; what is written at the end of the input;
+-- and whether memory may be wanting for a line
 pub record LineRules (M : Type 0) : Type 0 where
   pub take : M → List ℕ → Result (M × List ℕ) LineFault
-  pub second : M → List ℕ
   pub closing : M → List ℕ
   pub wants : Bool
-
--- a text in one piece, or in this and the second one of a machine
-abbrev pub with_second : {M : Type 0} → LineRules M → M → Bool → List ℕ → List ℕ
-with_second rules machine false first = first
-with_second rules machine true first = first ++ rules.second machine
 
 -- a line has no fault, and memory may be wanting for it
 abbrev pub IsWanting : {M : Type 0} → LineRules M → M → List ℕ → Type 0
 IsWanting rules machine line = (rules.wants ≡ true) × IsOk (rules.take machine line)
 
--- a line was taken, and the text for it is what was given out, or that and a second piece; or it was not, and the machine is as it was
-abbrev pub IsLineTaken : {M : Type 0} → LineRules M → M → List ℕ → Result Bool LineRefusal → List ℕ → M → Type 0
-IsLineTaken rules machine line (Ok more) out now = rules.take machine line ≡ Ok (now, with_second rules now more out)
-IsLineTaken rules machine line (Err Memory) out now = (now ≡ machine) × IsWanting rules machine line
-IsLineTaken rules machine line (Err (Fault fault)) out now = (now ≡ machine) × (rules.take machine line ≡ Err fault)
+-- a line was taken, with this text for it; or it was not, there is no text and the machine is as it was
+abbrev pub IsLineTaken : {M : Type 0} → LineRules M → M → List ℕ → Result Unit LineRefusal → List ℕ → M → Type 0
+IsLineTaken rules machine line (Ok done) text now = rules.take machine line ≡ Ok (now, text)
+IsLineTaken rules machine line (Err Memory) text now = (now ≡ machine) × (text ≡ []) × IsWanting rules machine line
+IsLineTaken rules machine line (Err (Fault fault)) text now = (now ≡ machine) × (text ≡ []) × (rules.take machine line ≡ Err fault)
 
 -- what came of lines, up to the first that is refused: the texts for them, the machine after them, and the refusal with its number
 pub record LinesTaken (M : Type 0) : Type 0 where

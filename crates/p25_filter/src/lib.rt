@@ -31,12 +31,14 @@ pub mod laws;
 mod line_filter;
 mod line_machine;
 mod page;
+mod text;
 
 pub use ending::{Ending, FilterEnd, Refusal};
 pub use filter::Filter;
 pub use input::run_on;
 pub use line_filter::LineFilter;
 pub use line_machine::{LineMachine, LineRefusal};
+pub use text::Text;
 
 #[cfg(test)]
 mod tests;

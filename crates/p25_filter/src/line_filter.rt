@@ -1,13 +1,14 @@
 //! The work of a command on the lines of its input.
 
-ghost use Rattle.std.specs.Prelude.{◌≡◌, ◌+◌, ◌^◌, ◌≤◌, ◌++◌, false, take};
-ghost use Rattle.p25_filter.specs.LineFilters.{first_line, lines_ready, IsLineGiven};
+ghost use Rattle.std.specs.Prelude.{◌≡◌, ◌+◌, ◌^◌, ◌<◌, ◌≤◌, ◌++◌, [], Ok, drop, false, length, take, true};
+ghost use Rattle.p25_filter.specs.{Futures.{NextPiece}, LineFilters.{first_line, is_ended_phase, line_future, lines_ready, texts_of, IsLineReady}};
 
 use super::ending::{Ending, Refusal};
 use super::filter::Filter;
 use super::line_machine::{LineMachine, LineRefusal};
+use super::text::Text;
 use arrayvec::ArrayVec;
-use p25_line::Line;
+use p25_line::{LINE_MOST, Line};
 use std::marker::Model;
 
 // The most octets that are kept of a line. A longer one is refused by them.
@@ -35,20 +36,21 @@ pub struct LineFilter<M: LineMachine> {
     machine: M,
     line: ArrayVec<u8, 8_193>,
     lines: u64,
-    // Whether the second piece of the text for the last line is still to be given.
-    behind: bool,
+    // The text for the last line, and how many of its octets were given.
+    text: Text,
+    given: usize,
     phase: LinePhase,
 }
 
 impl<M: LineMachine> Model for LineFilter<M> {
-    ghost use Rattle.std.specs.Prelude.{◌+◌, ◌^◌, ◌≤◌};
+    ghost use Rattle.std.specs.Prelude.{◌+◌, ◌^◌, ◌≤◌, drop, length};
     ghost use Rattle.p25_filter.specs.LineFilters.{LineFiltering, lines_ready};
 
     ghost Value = { LineFiltering M };
 
-    ghost view = { λ s. record { machine = s.machine; line = s.line.items; lines = s.lines; behind = s.behind; phase = s.phase } };
+    ghost view = { λ s. record { machine = s.machine; line = s.line.items; lines = s.lines; left = drop s.given s.text; phase = s.phase } };
 
-    ghost invariant = { λ s. s.lines + lines_ready s.phase ≤ 2 ^ 28 };
+    ghost invariant = { λ s. (s.lines + lines_ready s.phase ≤ 2 ^ 28) × (s.given ≤ length s.text) };
 }
 
 impl<M: LineMachine> LineFilter<M> {
@@ -60,7 +62,8 @@ impl<M: LineMachine> LineFilter<M> {
             machine,
             line: ArrayVec::new(),
             lines: 0,
-            behind: false,
+            text: Text::new(),
+            given: 0,
             phase: LinePhase::Reading,
         }
     }
@@ -75,17 +78,17 @@ impl<M: LineMachine> LineFilter<M> {
         self.phase = phase;
     }
 
-    // Has the machine take the line that is there. Sets `out` to the first piece of its text and goes on to a phase, or
-    // answers why the line was not taken.
-    fn take_line(&mut self, phase: LinePhase, out: &mut Line) -> Result<bool, Refusal>
+    // Has the machine take the line that is there, keeps the text for it and goes on to a phase, or answers why the line was not taken.
+    fn take_line(&mut self, phase: LinePhase) -> Result<bool, Refusal>
         requires ready { lines_ready self.old.phase ≡ 1 }
         requires taken { lines_ready phase ≡ 0 }
-        requires none { self.old.behind ≡ false }
-        ensures { IsLineGiven M.rules phase self.old result out.new self.new }
+        requires none { self.old.left ≡ [] }
+        ensures { IsLineReady M.rules phase self.old result self.new }
     {
-        match self.machine.take(self.line.as_slice(), out) {
-            Ok(more) => {
-                self.behind = more;
+        self.text.clear();
+        self.given = 0;
+        match self.machine.take(self.line.as_slice(), &mut self.text) {
+            Ok(()) => {
                 self.line.clear();
                 self.lines += 1;
                 self.phase = phase;
@@ -98,19 +101,66 @@ impl<M: LineMachine> LineFilter<M> {
             Err(LineRefusal::Memory) => Err(Refusal::Memory),
         }
     }
+
+    // Gets the next text ready to be given, and answers whether there is one.
+    fn ready(&mut self) -> Result<bool, Refusal>
+        requires none { self.old.left ≡ [] }
+        ensures piece { NextPiece (line_future M.rules self.old) result [] (line_future M.rules self.new) }
+        ensures none { result ≡ Ok false → (self.new ≡ self.old) × (self.new.left ≡ []) × (texts_of self.new.phase ≡ 0) }
+        ensures smaller { result ≡ Ok true → texts_of self.new.phase < texts_of self.old.phase }
+        ensures same { is_ended_phase self.new.phase ≡ is_ended_phase self.old.phase }
+        ensures size { self.new.lines + lines_ready self.new.phase ≤ self.old.lines + lines_ready self.old.phase }
+    {
+        match self.phase {
+            LinePhase::Reading | LinePhase::Closed => Ok(false),
+            LinePhase::Ready => self.take_line(LinePhase::Reading),
+            LinePhase::ReadyLast => self.take_line(LinePhase::Closing),
+            LinePhase::Closing => {
+                self.text.clear();
+                self.given = 0;
+                self.machine.close(&mut self.text);
+                self.phase = LinePhase::Closed;
+                Ok(true)
+            }
+        }
+    }
+
+    // Answers what is still to be given of the text.
+    fn rest(&self) -> &[u8]
+        ensures list { result.now ≡ self.now.left }
+        ensures most { length result.now ≤ 24576 }
+    {
+        &self.text.octets()[self.given..]
+    }
+
+    // Sets `out` to what is still to be given of the text, or to as much of it as a line has room for.
+    fn give(&mut self, out: &mut Line)
+        ensures out { out.new ≡ take 8192 self.old.left }
+        ensures left { self.new ≡ record self.old { left = drop (length out.new) self.old.left } }
+        ensures most { length self.old.left ≤ 24576 }
+    {
+        // For the prover: a text has at most 24,576 octets.
+        let _ = self.text.octets();
+        let rest = self.rest();
+        let count = rest.len().min(LINE_MOST);
+        out.clear();
+        out.put(&rest[..count]);
+        self.given += count;
+    }
 }
 
 impl<M: LineMachine> Filter for LineFilter<M> {
-    ghost use Rattle.std.specs.Prelude.{◌≡◌, ◌+◌, false};
-    ghost use Rattle.p25_filter.specs.LineFilters.{line_future, is_ended_phase, lines_ready, pieces_of, piece_behind};
+    ghost use Rattle.std.specs.Prelude.{◌≡◌, ◌+◌, ◌*◌, [], length};
+    ghost use Rattle.p25_filter.specs.LineFilters.{line_future, is_ended_phase, lines_ready, texts_of};
 
     ghost future = { line_future M.rules };
 
     ghost is_finished = { λ s. is_ended_phase s.phase };
 
-    ghost IsDrained = { λ s. (pieces_of s.phase ≡ 0) × (s.behind ≡ false) };
+    ghost IsDrained = { λ s. (texts_of s.phase ≡ 0) × (s.left ≡ []) };
 
-    ghost pieces_left = { λ s. pieces_of s.phase + piece_behind s.behind };
+    // A text that is given in pieces of at least one octet has as many pieces as octets, at most; and one may be empty.
+    ghost pieces_left = { λ s. 24577 * texts_of s.phase + length s.left };
 
     ghost size = { λ s. s.lines + lines_ready s.phase };
 
@@ -137,20 +187,17 @@ impl<M: LineMachine> Filter for LineFilter<M> {
     }
 
     fn next(&mut self, out: &mut Line) -> Result<bool, Refusal> {
-        if self.behind {
-            self.machine.second(out);
-            self.behind = false;
+        if self.given < self.text.octets().len() {
+            self.give(out);
             return Ok(true);
         }
-        match self.phase {
-            LinePhase::Reading | LinePhase::Closed => Ok(false),
-            LinePhase::Ready => self.take_line(LinePhase::Reading, out),
-            LinePhase::ReadyLast => self.take_line(LinePhase::Closing, out),
-            LinePhase::Closing => {
-                self.machine.close(out);
-                self.phase = LinePhase::Closed;
+        match self.ready() {
+            Ok(true) => {
+                self.give(out);
                 Ok(true)
             }
+            Ok(false) => Ok(false),
+            Err(refusal) => Err(refusal),
         }
     }
 

@@ -1,10 +1,11 @@
 //! What a command makes of the lines of its input, one after the other.
 
-ghost use Rattle.std.specs.Prelude.{◌≡◌, ℕ, ◌<◌, List, length, Err};
+ghost use Rattle.std.specs.Prelude.{◌≡◌, ℕ, ◌<◌, List, [], length, Err};
 ghost use Rattle.p25_line.specs.declared.fault.LineFault.TheVariants.{Long};
 ghost use Rattle.p25_filter.specs.LineRules.{IsLineTaken, LineRules};
 
-use p25_line::{Line, LineFault};
+use super::text::Text;
+use p25_line::LineFault;
 use thiserror::Error;
 
 /// Why a line was not taken. It is shown as the word of the fault, or as the program tells of memory; no clause says so.
@@ -25,19 +26,17 @@ pub trait LineMachine {
     // What the machine answers to a line, what it writes at the end of the input, and whether memory may be wanting for a line.
     ghost rules: { LineRules Self };
 
-    /// Takes a line, without the LF that ends it. Sets `out` to the text for it, or to the first of two pieces of the text, and
-    /// answers whether there is a second one. Or answers why the line is not taken, and the machine is as before; memory is wanting
-    /// only where it may be, and for a line without a fault.
-    fn take(&mut self, line: &[u8], out: &mut Line) -> Result<bool, LineRefusal>
-        ensures { IsLineTaken rules self.old line.now result out.new self.new };
+    /// Takes a line, without the LF that ends it, and puts the text for it into `text`, which is empty before. Or returns why the line
+    /// is not taken, and the machine is as before and `text` empty; memory is wanting only where it may be, and for a line without a
+    /// fault.
+    fn take(&mut self, line: &[u8], text: &mut Text) -> Result<(), LineRefusal>
+        requires empty { text.old ≡ [] }
+        ensures { IsLineTaken rules self.old line.now result text.new self.new };
 
-    /// Sets `out` to the second piece of the text for the last line, where `take` answered that there is one.
-    fn second(&self, out: &mut Line)
-        ensures { out.new ≡ rules.second self.now };
-
-    /// Sets `out` to what is written at the end of the input.
-    fn close(&self, out: &mut Line)
-        ensures { out.new ≡ rules.closing self.now };
+    /// Puts what is written at the end of the input into `text`, which is empty before.
+    fn close(&self, text: &mut Text)
+        requires empty { text.old ≡ [] }
+        ensures { text.new ≡ rules.closing self.now };
 
     // A line of more than 8,192 octets is refused as too long.
     ghost long: { (machine : Self) (line : List ℕ) → 8192 < length line → rules.take machine line ≡ Err Long };

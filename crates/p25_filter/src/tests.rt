@@ -15,25 +15,18 @@ impl LineMachine for Echo {
 
     ghost rules = { echo_rules };
 
-    fn take(&mut self, line: &[u8], out: &mut Line) -> Result<bool, LineRefusal> {
+    fn take(&mut self, line: &[u8], text: &mut Text) -> Result<(), LineRefusal> {
         if line.len() > 8_192 {
             return Err(LineRefusal::Fault(LineFault::Long));
         }
         if line.len() == 0 {
             return Err(LineRefusal::Fault(LineFault::Form));
         }
-        out.clear();
-        out.put(line);
-        Ok(false)
+        text.put(line);
+        Ok(())
     }
 
-    fn second(&self, out: &mut Line) {
-        out.clear();
-    }
-
-    fn close(&self, out: &mut Line) {
-        out.clear();
-    }
+    fn close(&self, _text: &mut Text) {}
 
     ghost long = { echo_long };
 }

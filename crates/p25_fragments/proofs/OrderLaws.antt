@@ -5,8 +5,8 @@ use Rattle.p25_messages.specs.{LongMessages.{part_count, part_of}, declared.step
 use Rattle.p25_delivery.specs.{Delivery.{first_mark, present_mark}, Orderly.{AreWhole}}
 use Rattle.p25_delivery.proofs.{WholeLaws.{IsInOrder, first-in-order, in-order-grown, in-order-marked, sessions-whole}, RunLaws.{run-keeps_all}}
 use Rattle.p25_stations.specs.{declared.step.Event.TheVariants.{Send}, declared.step.Step.{Step}, WorldState.{WorldState}, Steps.{world_step}}
-use Rattle.p25_fragments.specs.{declared.long_step.LongEvent.{LongEvent}, declared.long_step.LongEvent.TheVariants.{Long, Inner}}
-use Rattle.p25_fragments.specs.{Joining.{Joining, Joined, Whole as JoinedWhole, message_taken}, LongState.{LongState, OutstandingPart, first_long, long_delivery}, LongRuns.{long_run}}
+use Rattle.p25_fragments.specs.{declared.long_step.LongEvent.{LongEvent}, declared.long_step.LongEvent.TheVariants.{Long, Inner}, Joining.{Joining, Joined, Whole as JoinedWhole, message_taken}}
+use Rattle.p25_fragments.specs.{LongState.{LongState, OutstandingPart, first_long, long_delivery}, LongRuns.{long_run}}
 use Rattle.p25_fragments.specs.LongSteps.{Then, Finished, after_acknowledged, after_delivered, after_kind, inner_happened, long_offered, long_step, next_offered, session_ended, started}
 use Rattle.p25_fragments.proofs.OfferLaws.{OfferedAs, told_down, told_busy, told_taken, offered-as}
 

@@ -1,6 +1,7 @@
 ghost use Rattle.std.specs.Prelude.{◌≡◌, ◌+◌, ◌<◌, ◌≤◌, ◌||◌, false, OnOk, OnErr, IfOk};
 ghost use Rattle.p25_delivery.specs.Orderly.{AreOrderly, AreWhole};
-ghost use Rattle.p25_fragments.specs.{LongRuns.{HasLongHistory, IsEventOf, long_sessions_of, offers_beside}, LongState.{first_long, long_delivery}, LongSteps.{long_step}};
+ghost use Rattle.p25_fragments.specs.{LongRuns.{HasLongHistory, IsEventOf, long_sessions_of, offers_beside}, LongState.{first_long, long_delivery}};
+ghost use Rattle.p25_fragments.specs.LongSteps.{long_step};
 
 use crate::long_stations::LongStations;
 use crate::long_step::{LongEvent, LongStep};

@@ -33,11 +33,6 @@ line_behind Refused = ended_line (codes "part refused")
 line_behind (Next step) = ended_line (step_text_of step)
 line_behind Finished = ended_line (codes "long acknowledged")
 
--- the second of the two pieces of a text: the line of the step of the inner world where another is before it, else the line after it
-unfoldable pub second_piece : Then → Option Step → List ℕ
-second_piece (Started parts) first = first_line_of first
-second_piece then first = line_behind then
-
 -- the text of a step: its lines, each with its end
 unfoldable pub long_step_text_of : LongStep → List ℕ
 long_step_text_of step = line_before step.then ++ first_line_of step.first ++ line_behind step.then

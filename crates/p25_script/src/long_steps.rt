@@ -1,7 +1,7 @@
 //! The texts of the steps of long messages.
 
 ghost use Rattle.std.specs.Prelude.{◌≡◌, ◌+◌, ◌≤◌, ◌++◌, decimal, length};
-ghost use Rattle.p25_script.specs.{StepTexts.{step_text_of}, LongTexts.{ended_line, first_line_of, line_before, line_behind, long_step_text_of, second_piece}};
+ghost use Rattle.p25_script.specs.{StepTexts.{step_text_of}, LongTexts.{ended_line, first_line_of, line_before, line_behind, long_step_text_of}};
 
 use super::shown::ScriptStep;
 use super::steps::step_text;
@@ -11,10 +11,9 @@ use p25_stations::Step;
 
 /// Sets `out` and `behind` to the two pieces of the text of a step, one after the other: its lines, each with its end. A long
 /// message that is taken is told before the step of its part 0; all else is told after the step of the inner world.
-#[tactic(auto, unfolding(crate::specs::LongTexts::long_step_text_of, crate::specs::LongTexts::line_before, crate::specs::LongTexts::line_behind, crate::specs::LongTexts::second_piece))]
+#[tactic(auto, unfolding(crate::specs::LongTexts::long_step_text_of, crate::specs::LongTexts::line_before, crate::specs::LongTexts::line_behind))]
 pub fn long_step_text(step: &LongStep, out: &mut Line, behind: &mut Line)
-    ensures pieces { out.new ++ behind.new ≡ long_step_text_of step.now }
-    ensures second { behind.new ≡ second_piece step.now.then step.now.first }
+    ensures { out.new ++ behind.new ≡ long_step_text_of step.now }
 {
     match &step.then {
         Then::Started { parts } => {

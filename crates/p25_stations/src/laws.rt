@@ -3,7 +3,8 @@
 
 ghost use Rattle.std.specs.Prelude.{◌≡◌, ℕ, ◌≤◌, true, false, List, [], ◌∷◌, length, ◌<◌, ◌↔◌};
 ghost use Rattle.p25_delivery.specs.{MessageBlocks.{block_count}, SenderRules.{opening_number}, declared.sender.Outstanding.TheVariants.{Nothing}};
-ghost use Rattle.p25_delivery.specs.{Orderly.{AreOrderly, AreCounted, AreWhole, IsTrueTo}, Delivery.{sessions_of}, Facts.{DeliveryFacts}, SoundHalves.{IsMessage}};
+ghost use Rattle.p25_delivery.specs.{Orderly.{AreOrderly, AreCounted, AreWhole, IsTrueTo}, Delivery.{sessions_of}, Facts.{DeliveryFacts}};
+ghost use Rattle.p25_delivery.specs.SoundHalves.{IsMessage};
 ghost use Rattle.p25_messages.specs.declared.step_kind.StepKind.TheVariants.{Taken, Reopened, Delivered, SynHeard, Acknowledged, LinkOpened};
 ghost use Rattle.p25_stations.specs.Steps.{world_step, Packet as packet_type, Event as event_type, Send, Reopen, ToReceiver, ToSender, first_world};
 ghost use Rattle.p25_stations.specs.Runs.{AreEvents, world_run, steps_of, IsCleanRun, IsWithin, AreWithin, IsTwiceDamaged, true_step, tries_in, delivered_in, sent_in, acknowledged_in};

@@ -15,7 +15,7 @@ use Rattle.p25_filter.specs.{declared.ending.Ending.{Ending}, declared.ending.En
 use Rattle.p25_filter.specs.{LineRules.{LineRules, LinesTaken, first_taken, lines_taken, written_for}, LineFilters.{first_line, line_future}}
 use Rattle.p25_filter.proofs.{LinesLaws.{each_behind-none}, SameLaws.{same-future}}
 use Rattle.p25_tool.specs.{declared.build.Build.{Build}, declared.command.Command.TheVariants.{Build as BuildIt, Stations, Fragments, Duplex}}
-use Rattle.p25_tool.specs.{Machines.{DuplexAt, LongAt, StationsAt, build_rules, kept_step, script_rules, taken_by}, Outputs.{command_future, duplex_step_line, long_closing_line, step_line}}
+use Rattle.p25_tool.specs.{Machines.{DuplexAt, LongAt, StationsAt, build_rules, script_rules, taken_by}, Outputs.{command_future, duplex_step_line, long_closing_line, step_line}}
 
 concat_texts : {S : Type 0} (text : S → List ℕ) (steps : List S) → concat (map text steps) ≡ flat_map text steps
 concat_texts text [] = refl
@@ -64,21 +64,8 @@ module _ {M W E S : Type 0} (rules : LineRules M) (wrap : W → M) (read : List 
 pub stations-alike : (made : WorldState) → made ≡ first_world → line_future script_rules (first_line (StationsAt made)) ≡ command_future Stations
 stations-alike made = alike script_rules StationsAt event_of world_step step_line (λ w line. refl) first_world made _ _ (λ events. refl) (λ events. refl)
 
--- the steps of long messages, with the second pieces of their texts kept or not
-kept-steps : (kept : LongState × List ℕ) (events : List LongEvent) → steps_by kept_step kept events ≡ steps_by long_step kept.0 events
-unfolding steps_by
-kept-steps kept [] = refl
-kept-steps kept (event ∷ events) = ap (λ (ss : List LongStep). (long_step kept.0 event).1 ∷ ss) (kept-steps (kept_step kept event).0 events)
-
-kept-run : (kept : LongState × List ℕ) (events : List LongEvent) → (run_by kept_step kept events).0 ≡ run_by long_step kept.0 events
-unfolding run_by
-kept-run kept [] = refl
-kept-run kept (event ∷ events) = kept-run (kept_step kept event).0 events
-
-pub fragments-alike : (made : LongState) (second : List ℕ) → made ≡ first_long → second ≡ [] → line_future script_rules (first_line (LongAt made second)) ≡ command_future Fragments
-fragments-alike made second same none =
-    alike script_rules (λ kept. LongAt kept.0 kept.1) long_event_of kept_step long_step_text_of (λ kept line. refl) (first_long, []) (made, second) _ _
-    (kept-steps (first_long, [])) (λ events. ap long_closing_line (kept-run (first_long, []) events)) (ap₂ (λ (w : LongState) (zs : List ℕ). (w, zs)) same none)
+pub fragments-alike : (made : LongState) → made ≡ first_long → line_future script_rules (first_line (LongAt made)) ≡ command_future Fragments
+fragments-alike made = alike script_rules LongAt long_event_of long_step long_step_text_of (λ w line. refl) first_long made _ _ (λ events. refl) (λ events. refl)
 
 pub duplex-alike : (made : DuplexState) → made ≡ first_duplex → line_future script_rules (first_line (DuplexAt made)) ≡ command_future Duplex
 duplex-alike made = alike script_rules DuplexAt duplex_event_of duplex_step duplex_step_line (λ w line. refl) first_duplex made _ _ (λ events. refl) (λ events. refl)

@@ -9,16 +9,17 @@ use Rattle.p25_io.proofs.OctetsLaws.{Appended-same}
 use Rattle.p25_line.specs.declared.fault.LineFault.{LineFault}
 use Rattle.p25_line.proofs.LineReadLaws.{words-line_read}
 use Rattle.p25_stations.specs.{Runs.{IsCleanRun, IsEvent, steps_of, world_run}, WorldState.{first_world}, declared.step.Event.{Event}}
-use Rattle.p25_stations.proofs.{CleanLaws.{run-orderly}, FalsePassLaws.{clean-from_none}, StepListsLaws.{run-acknowledged, run-delivered, run-sent}}
+use Rattle.p25_stations.proofs.{CleanLaws.{run-orderly, run-whole as sessions-whole}, FalsePassLaws.{clean-from_none}, StepListsLaws.{run-acknowledged, run-delivered, run-sent}}
 use Rattle.p25_script.specs.{Script.{event_of}, LongScript.{IsLongScripted, long_event_of}, LongTexts.{long_step_text_of}, DuplexLines.{duplex_event_of}}
 use Rattle.p25_script.proofs.{ScriptLaws.{IsEvent-IsScripted, event_laws}, LongScriptLaws.{long_event_laws}, DuplexLineLaws.{duplex_laws, is-event}}
 use Rattle.p25_fragments.specs.{LongState.{first_long}, LongRuns.{IsCleanLongRun, IsLongEvent, long_run, long_steps_of}, declared.long_step.LongEvent.{LongEvent}}
 use Rattle.p25_fragments.specs.declared.long_step.LongEvent.TheVariants.{Long, Inner}
 use Rattle.p25_fragments.proofs.{LongHistoryLaws.{long-clean}, LongListsLaws.{run-finished, run-taken, run-whole}, LongRunLaws.{long-orderly, long-unrefused}}
+use Rattle.p25_fragments.proofs.OrderLaws.{run-whole as long_sessions-whole}
 use Rattle.p25_duplex.specs.{declared.event.DuplexEvent.{DuplexEvent}, declared.side.Side.{Side}, declared.side.Side.TheVariants.{A, B}, DuplexSteps.{first_duplex}}
 use Rattle.p25_duplex.specs.DuplexRuns.{IsCleanDuplex, IsDuplexEvent, duplex_run, duplex_steps}
 use Rattle.p25_duplex.proofs.{CountLaws.{clean-from_none as duplex-clean}, DuplexListsLaws.{run-acknowledged as duplex-acknowledged, run-heard, run-sent as duplex-sent}}
-use Rattle.p25_duplex.proofs.RunLaws.{run-orderly as duplex-orderly}
+use Rattle.p25_duplex.proofs.{RunLaws.{run-orderly as duplex-orderly}, OrderLaws.{run-whole as duplex_sessions-whole}}
 use Rattle.p25_filter.specs.{declared.ending.Ending.{Ending}, declared.ending.Ending.TheVariants.{Done as EndDone}, declared.ending.FilterEnd.{FilterEnd}}
 use Rattle.p25_filter.specs.{declared.ending.FilterEnd.TheVariants.{Ended}, Futures.{Future}, Lines.{closing_by, lines_ending, lines_future, lines_in, read_of, refusal_in}}
 use Rattle.p25_filter.specs.Runs.{IsFinal, Filtered, input_most}
@@ -157,6 +158,7 @@ tells-lists events = record {
   delivered = run-delivered events first_world;
   sent = run-sent events first_world;
   acknowledged = omega (arith, run-acknowledged events first_world);
+  sessions = sessions-whole events;
 }
 
 pub script-run : RunsAs Stations IsScriptOf HasRun
@@ -181,6 +183,7 @@ tells-long_lists events = record {
   whole = run-whole events first_long;
   taken = run-taken events first_long;
   acknowledged = omega (arith, run-finished events first_long);
+  sessions = long_sessions-whole events;
 }
 
 pub long-script-run : RunsAs Fragments IsLongScriptOf HasLongRun
@@ -200,11 +203,13 @@ tells-lists_of events A = record {
   delivered = run-heard B events first_duplex;
   sent = duplex-sent A events first_duplex;
   acknowledged = omega (arith, duplex-acknowledged A events first_duplex);
+  sessions = duplex_sessions-whole events A;
 }
 tells-lists_of events B = record {
   delivered = run-heard A events first_duplex;
   sent = duplex-sent B events first_duplex;
   acknowledged = omega (arith, duplex-acknowledged B events first_duplex);
+  sessions = duplex_sessions-whole events B;
 }
 
 pub duplex-script-run : RunsAs Duplex IsDuplexScriptOf HasDuplexRun

@@ -13,5 +13,5 @@ build_long build line long = ap (result_map_both _ _) (line_read-long read_words
 
 pub script_long : (script : ScriptState) (line : List ℕ) → 8192 < length line → script_rules.take script line ≡ Err Long
 script_long (StationsAt world) line long = ap (result_map_both _ _) (line_read-long event_by_words line long)
-script_long (LongAt world second) line long = ap (result_map_both _ _) (line_read-long long_event_by_words line long)
+script_long (LongAt world) line long = ap (result_map_both _ _) (line_read-long long_event_by_words line long)
 script_long (DuplexAt world) line long = ap (result_map_both _ _) (line_read-long duplex_by_words line long)

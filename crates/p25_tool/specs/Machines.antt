@@ -4,32 +4,31 @@ use Rattle.p25_line.specs.declared.fault.LineFault.{LineFault}
 use Rattle.p25_text.specs.Grammar.{read_line_of}
 use Rattle.p25_units.specs.Units.{image_octets}
 use Rattle.p25_stations.specs.{Steps.{world_step}, WorldState.{WorldState}}
-use Rattle.p25_script.specs.{Script.{event_of}, LongScript.{long_event_of}, LongTexts.{long_step_text_of, second_piece}, DuplexLines.{duplex_event_of}}
-use Rattle.p25_fragments.specs.{LongState.{LongState}, LongSteps.{long_step}, declared.long_step.{LongEvent.{LongEvent}, LongStep.{LongStep}}}
+use Rattle.p25_script.specs.{Script.{event_of}, LongScript.{long_event_of}, LongTexts.{long_step_text_of}, DuplexLines.{duplex_event_of}}
+use Rattle.p25_fragments.specs.{LongState.{LongState}, LongSteps.{long_step}}
 use Rattle.p25_duplex.specs.DuplexSteps.{DuplexState, duplex_step}
 use Rattle.p25_filter.specs.LineRules.{LineRules}
 use Rattle.p25_tool.specs.{declared.build.Build.{Build}, declared.scripts.ScriptWorld.{ScriptWorld}}
 use Rattle.p25_tool.specs.declared.scripts.ScriptWorld.TheVariants.{Stations, Long, Duplex}
 use Rattle.p25_tool.specs.Outputs.{closing_line, duplex_closing_lines, duplex_step_line, long_closing_line, step_line}
 
--- `build`: the octets of the unit that a line describes, in one piece; nothing closes them, and no memory is wanted
+-- `build`: the octets of the unit that a line describes; nothing closes them, and no memory is wanted
 abbrev pub build_rules : LineRules Build
 build_rules = record {
   take = λ build line. result_map_both (λ unit. (build, image_octets build.status unit)) (λ fault. fault) (read_line_of line);
-  second = λ build. [];
   closing = λ build. [];
   wants = false;
 }
 
--- the state of the world in which the events of a script happen; of long messages with the second piece of the text of the last step
+-- the state of the world in which the events of a script happen
 pub data ScriptState : Type 0 where
   StationsAt : WorldState → ScriptState
-  LongAt : LongState → List ℕ → ScriptState
+  LongAt : LongState → ScriptState
   DuplexAt : DuplexState → ScriptState
 
 abbrev pub state_of : ScriptWorld → ScriptState
 state_of (Stations world) = StationsAt world.state
-state_of (Long world second) = LongAt world.state second
+state_of (Long world) = LongAt world.state
 state_of (Duplex world) = DuplexAt world.state
 
 -- what comes of a line of a script: the world after the step of the event that it tells of, and the text of the step
@@ -38,25 +37,17 @@ abbrev pub taken_by : {M W E S : Type 0} → (W → M) → (List ℕ → Result 
 taken_by wrap read step text world line =
     result_map_both (λ event. (wrap (step world event).0, text (step world event).1)) (λ fault. fault) (read line)
 
--- a step of long messages, and the second piece of its text beside the world
-abbrev pub kept_step : LongState × List ℕ → LongEvent → (LongState × List ℕ) × LongStep
-kept_step kept event = let stepped = long_step kept.0 event in ((stepped.0, second_piece stepped.1.then stepped.1.first), stepped.1)
-
--- what comes of a line of `stations`, `fragments` and `duplex`, the second piece of its text, and what closes a run
+-- what comes of a line of `stations`, `fragments` and `duplex`, and what closes a run
 abbrev pub script_take : ScriptState → List ℕ → Result (ScriptState × List ℕ) LineFault
 script_take (StationsAt world) = taken_by StationsAt event_of world_step step_line world
-script_take (LongAt world second) = taken_by (λ kept. LongAt kept.0 kept.1) long_event_of kept_step long_step_text_of (world, second)
+script_take (LongAt world) = taken_by LongAt long_event_of long_step long_step_text_of world
 script_take (DuplexAt world) = taken_by DuplexAt duplex_event_of duplex_step duplex_step_line world
-
-abbrev pub script_second : ScriptState → List ℕ
-script_second (LongAt world second) = second
-script_second other = []
 
 abbrev pub script_closing : ScriptState → List ℕ
 script_closing (StationsAt world) = closing_line world
-script_closing (LongAt world second) = long_closing_line world
+script_closing (LongAt world) = long_closing_line world
 script_closing (DuplexAt world) = duplex_closing_lines world
 
 -- the machine of the three scripts: what closes the run comes at the end, and a step may want memory
 abbrev pub script_rules : LineRules ScriptState
-script_rules = record { take = script_take; second = script_second; closing = script_closing; wants = true }
+script_rules = record { take = script_take; closing = script_closing; wants = true }

@@ -1,10 +1,10 @@
 //! The work of `build`: each line of the input as the unit that it describes.
 
-ghost use Rattle.std.specs.Prelude.{◌≡◌};
+ghost use Rattle.std.specs.Prelude.{◌≡◌, []};
 ghost use Rattle.p25_units.specs.Units.{IsSendableBody, image_octets};
 
 use p25_bits::BitBuf;
-use p25_filter::{LineMachine, LineRefusal};
+use p25_filter::{LineMachine, LineRefusal, Text};
 use p25_line::Line;
 use p25_recording_filters::parts::put_octets;
 use p25_status::Status;
@@ -24,28 +24,24 @@ impl LineMachine for Build {
 
     ghost long = { build_long };
 
-    fn take(&mut self, line: &[u8], out: &mut Line) -> Result<bool, LineRefusal> {
+    fn take(&mut self, line: &[u8], text: &mut Text) -> Result<(), LineRefusal> {
         let unit = read_line(line).map_err(LineRefusal::Fault)?;
-        put_image(unit, self.status, out);
-        Ok(false)
+        put_image(unit, self.status, text);
+        Ok(())
     }
 
-    fn second(&self, out: &mut Line) {
-        out.clear();
-    }
-
-    fn close(&self, out: &mut Line) {
-        out.clear();
-    }
+    fn close(&self, _text: &mut Text) {}
 }
 
-// Sets `out` to the octets of a unit's image with one status symbol everywhere. No slot of a packet (PDU) is Bad.
-fn put_image(unit: Unit, status: Status, out: &mut Line)
-    requires { IsSendableBody unit.body }
-    ensures { out.new ≡ image_octets status unit }
+// Puts the octets of a unit's image with one status symbol everywhere into an empty text. No slot of a packet (PDU) is Bad.
+fn put_image(unit: Unit, status: Status, text: &mut Text)
+    requires sendable { IsSendableBody unit.body }
+    requires empty { text.old ≡ [] }
+    ensures { text.new ≡ image_octets status unit }
 {
     let mut bits = BitBuf::new();
     image(&Frame::filled(unit, status), &mut bits);
-    out.clear();
-    put_octets(&bits, 0, out);
+    let mut octets = Line::new();
+    put_octets(&bits, 0, &mut octets);
+    text.put(octets.octets());
 }

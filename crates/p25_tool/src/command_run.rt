@@ -17,7 +17,6 @@ use p25_duplex::DuplexWorld;
 use p25_filter::{FilterEnd, LineFilter, LineMachine};
 use p25_fragments::LongWorld;
 use p25_io::{Pair, Port, Sink, Source, Tape};
-use p25_line::Line;
 use p25_recording_filters::{
     Calls, Change, Changed, Check, Followed, Recording, Report, Show, Soft,
 };
@@ -129,7 +128,7 @@ fn run_lines<M: LineMachine + Drop, P: Port>(machine: M, port: &mut P) -> Filter
 fn run_stations<P: Port>(alloc: Global, port: &mut P) -> FilterEnd
     ensures { (events : List Event) × P.moves port.old events port.new × IsRun (command_future Stations) events result }
 {
-    run_lines(Script(ScriptWorld::Stations(World::new(alloc))), port)
+    run_lines(Script::new(ScriptWorld::Stations(World::new(alloc))), port)
 }
 
 // The work of `duplex`.
@@ -137,7 +136,7 @@ fn run_stations<P: Port>(alloc: Global, port: &mut P) -> FilterEnd
 fn run_duplex<P: Port>(alloc: Global, port: &mut P) -> FilterEnd
     ensures { (events : List Event) × P.moves port.old events port.new × IsRun (command_future Duplex) events result }
 {
-    run_lines(Script(ScriptWorld::Duplex(DuplexWorld::new(alloc))), port)
+    run_lines(Script::new(ScriptWorld::Duplex(DuplexWorld::new(alloc))), port)
 }
 
 // The work of `fragments`.
@@ -145,10 +144,7 @@ fn run_duplex<P: Port>(alloc: Global, port: &mut P) -> FilterEnd
 fn run_fragments<P: Port>(alloc: Global, port: &mut P) -> FilterEnd
     ensures { (events : List Event) × P.moves port.old events port.new × IsRun (command_future Fragments) events result }
 {
-    run_lines(
-        Script(ScriptWorld::Long(LongWorld::new(alloc), Line::new())),
-        port,
-    )
+    run_lines(Script::new(ScriptWorld::Long(LongWorld::new(alloc))), port)
 }
 
 // The work of `soft`.

@@ -1,11 +1,11 @@
 //! The work of `stations`, `fragments` and `duplex`: each line of the input as the event of a world of stations that it tells of.
 
-ghost use Rattle.std.specs.Prelude.{◌≡◌};
+ghost use Rattle.std.specs.Prelude.{◌≡◌, ◌++◌, []};
 ghost use Rattle.p25_filter.specs.LineRules.{IsLineTaken};
-ghost use Rattle.p25_tool.specs.{Machines.{DuplexAt, LongAt, StationsAt, script_rules}, Outputs.{duplex_closing_lines}};
+ghost use Rattle.p25_tool.specs.{Machines.{DuplexAt, LongAt, StationsAt, script_rules, state_of}, Outputs.{duplex_closing_lines}};
 
 use p25_duplex::{DuplexEvent, DuplexWorld, Side};
-use p25_filter::{LineMachine, LineRefusal};
+use p25_filter::{LineMachine, LineRefusal, Text};
 use p25_fragments::{LongEvent, LongWorld};
 use p25_line::{Line, LineWords};
 use p25_script::{
@@ -19,21 +19,37 @@ use std::marker::Model;
 #[derive(Drop)]
 pub(crate) enum ScriptWorld {
     Stations(World),
-    // With the second piece of the text of the last step.
-    Long(LongWorld, Line),
+    Long(LongWorld),
     Duplex(DuplexWorld),
 }
 
-// The machine over the lines of a script.
+// The machine over the lines of a script, with room for the two parts of the text of a step.
 #[derive(Drop)]
-pub(crate) struct Script(pub(crate) ScriptWorld);
+pub(crate) struct Script {
+    world: ScriptWorld,
+    out: Line,
+    behind: Line,
+}
 
 impl Model for Script {
     ghost use Rattle.p25_tool.specs.Machines.{ScriptState, state_of};
 
     ghost Value = { ScriptState };
 
-    ghost view = { λ s. state_of s.0 };
+    ghost view = { λ s. state_of s.world };
+}
+
+impl Script {
+    // Answers the machine over the lines of a script whose events happen in this world.
+    pub(crate) fn new(world: ScriptWorld) -> Script
+        ensures { result ≡ state_of world }
+    {
+        Script {
+            world,
+            out: Line::new(),
+            behind: Line::new(),
+        }
+    }
 }
 
 impl LineMachine for Script {
@@ -43,57 +59,82 @@ impl LineMachine for Script {
 
     ghost long = { script_long };
 
-    fn take(&mut self, line: &[u8], out: &mut Line) -> Result<bool, LineRefusal> {
-        match &mut self.0 {
-            ScriptWorld::Stations(world) => take_event(world, line, out),
-            ScriptWorld::Long(world, second) => take_long(world, line, out, second),
-            ScriptWorld::Duplex(world) => take_duplex(world, line, out),
-        }
-    }
-
-    fn second(&self, out: &mut Line) {
-        out.clear();
-        if let ScriptWorld::Long(_, second) = &self.0 {
-            // For the prover: a line has at most 8,192 octets.
-            let _ = second.len();
-            out.put(second.octets());
+    fn take(&mut self, line: &[u8], text: &mut Text) -> Result<(), LineRefusal> {
+        match &mut self.world {
+            ScriptWorld::Stations(world) => take_event(world, line, &mut self.out, text),
+            ScriptWorld::Long(world) => {
+                take_long(world, line, &mut self.out, &mut self.behind, text)
+            }
+            ScriptWorld::Duplex(world) => take_duplex(world, line, &mut self.out, text),
         }
     }
 
     #[inline(never)]
-    fn close(&self, out: &mut Line) {
-        match &self.0 {
-            ScriptWorld::Stations(world) => closing_text(world, out),
-            ScriptWorld::Long(world, _) => long_closing_text(world, out),
-            ScriptWorld::Duplex(world) => return put_closing_lines(world, out),
+    fn close(&self, text: &mut Text) {
+        let mut out = Line::new();
+        match &self.world {
+            ScriptWorld::Stations(world) => closing_text(world, &mut out),
+            ScriptWorld::Long(world) => long_closing_text(world, &mut out),
+            ScriptWorld::Duplex(world) => return put_closing_lines(world, text),
         }
         out.put(b"\n");
+        put_line(&out, text);
     }
+}
+
+// Puts a line into an empty text.
+fn put_line(line: &Line, text: &mut Text)
+    requires { text.old ≡ [] }
+    ensures { text.new ≡ line.now }
+{
+    // For the prover: a line has at most 8,192 octets.
+    let _ = line.len();
+    text.put(line.octets());
+}
+
+// Puts two lines into an empty text, one after the other.
+fn put_parts(out: &Line, behind: &Line, text: &mut Text)
+    requires { text.old ≡ [] }
+    ensures { text.new ≡ out.now ++ behind.now }
+{
+    // For the prover: a line has at most 8,192 octets.
+    let _ = (out.len(), behind.len());
+    text.put(out.octets());
+    text.put(behind.octets());
 }
 
 // Takes a line of `stations`. Events and steps are large: so those of a script are apart from those of the others.
 #[inline(never)]
 #[tactic(auto, unfolding(p25_line::specs::LineReadings::line_read))]
-fn take_event(world: &mut World, line: &[u8], out: &mut Line) -> Result<bool, LineRefusal>
-    ensures { IsLineTaken script_rules (StationsAt world.old.state) line.now result out.new (StationsAt world.new.state) }
+fn take_event(
+    world: &mut World,
+    line: &[u8],
+    out: &mut Line,
+    text: &mut Text,
+) -> Result<(), LineRefusal>
+    requires { text.old ≡ [] }
+    ensures { IsLineTaken script_rules (StationsAt world.old.state) line.now result text.new (StationsAt world.new.state) }
 {
     let words = LineWords::read(line).map_err(LineRefusal::Fault)?;
     let event = Event::read_words(&words).map_err(LineRefusal::Fault)?;
     step_text(&world.step(&event).map_err(|_| LineRefusal::Memory)?, out);
     out.put(b"\n");
-    Ok(false)
+    put_line(out, text);
+    Ok(())
 }
 
-// Takes a line of `fragments`. Its text has two pieces.
+// Takes a line of `fragments`.
 #[inline(never)]
 #[tactic(auto, unfolding(p25_line::specs::LineReadings::line_read))]
 fn take_long(
     world: &mut LongWorld,
     line: &[u8],
     out: &mut Line,
-    second: &mut Line,
-) -> Result<bool, LineRefusal>
-    ensures { IsLineTaken script_rules (LongAt world.old.state second.old) line.now result out.new (LongAt world.new.state second.new) }
+    behind: &mut Line,
+    text: &mut Text,
+) -> Result<(), LineRefusal>
+    requires { text.old ≡ [] }
+    ensures { IsLineTaken script_rules (LongAt world.old.state) line.now result text.new (LongAt world.new.state) }
 {
     let words = LineWords::read(line).map_err(LineRefusal::Fault)?;
     match &LongEvent::read_words(&words) {
@@ -102,8 +143,9 @@ fn take_long(
             let Ok(step) = &world.step(event) else {
                 return Err(LineRefusal::Memory);
             };
-            long_step_text(step, out, second);
-            Ok(true)
+            long_step_text(step, out, behind);
+            put_parts(out, behind, text);
+            Ok(())
         }
     }
 }
@@ -111,8 +153,14 @@ fn take_long(
 // Takes a line of `duplex`.
 #[inline(never)]
 #[tactic(auto, unfolding(p25_line::specs::LineReadings::line_read))]
-fn take_duplex(world: &mut DuplexWorld, line: &[u8], out: &mut Line) -> Result<bool, LineRefusal>
-    ensures { IsLineTaken script_rules (DuplexAt world.old.state) line.now result out.new (DuplexAt world.new.state) }
+fn take_duplex(
+    world: &mut DuplexWorld,
+    line: &[u8],
+    out: &mut Line,
+    text: &mut Text,
+) -> Result<(), LineRefusal>
+    requires { text.old ≡ [] }
+    ensures { IsLineTaken script_rules (DuplexAt world.old.state) line.now result text.new (DuplexAt world.new.state) }
 {
     let words = LineWords::read(line).map_err(LineRefusal::Fault)?;
     match &DuplexEvent::read_words(&words) {
@@ -122,22 +170,26 @@ fn take_duplex(world: &mut DuplexWorld, line: &[u8], out: &mut Line) -> Result<b
             Ok(step) => {
                 duplex_step_text(step, out);
                 out.put(b"\n");
-                Ok(false)
+                put_line(out, text);
+                Ok(())
             }
         },
     }
 }
 
-// Sets `out` to the lines that close a run: one of each side, and one with the number of false passes.
+// Puts the lines that close a run into an empty text: one of each side, and one with the number of false passes.
 #[tactic(auto, unfolding(crate::specs::Outputs::duplex_closing_lines))]
-fn put_closing_lines(world: &DuplexWorld, out: &mut Line)
-    ensures { out.new ≡ duplex_closing_lines world.now.state }
+fn put_closing_lines(world: &DuplexWorld, text: &mut Text)
+    requires { text.old ≡ [] }
+    ensures { text.new ≡ duplex_closing_lines world.now.state }
 {
+    let mut out = Line::new();
     let mut other = Line::new();
     duplex_closing(world, Side::B, &mut other);
-    duplex_closing(world, Side::A, out);
+    duplex_closing(world, Side::A, &mut out);
     out.put(b"\n");
     out.put(other.octets());
     out.put_labelled(b"\nfalse=", world.false_passes());
     out.put(b"\n");
+    put_line(&out, text);
 }

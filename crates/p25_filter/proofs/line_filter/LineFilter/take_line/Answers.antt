@@ -6,6 +6,6 @@ pub returns-in-Ok : goal.returns-in-Ok
 returns-in-Ok g c =
     let s = c.self.inside in (
       refl,
-      text-taken g.M.LineMachine.rules c.args.self.now s.machine c.take.new.self _ s.line.items _ s.lines s.behind _ c.take.new.out s.phase c.args.phase
-          c.self.view_is c.as_slice.ensures.value c.clear.ensures c.in-Ok.ensures,
+      text-taken g.M.LineMachine.rules c.args.self.now s.machine c.take.new.self _ s.line.items _ c.take.new.text s.lines _ s.phase c.args.phase
+          c.self.view_is c.as_slice.ensures.value c.clear-in-Ok.ensures c.in-Ok.ensures,
     )
