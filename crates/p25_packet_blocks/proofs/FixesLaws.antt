@@ -1,5 +1,5 @@
 -- Blocks against what they read as: the block of the octets that were read differs from the received bits as the nearest path does.
-use Rattle.std.proofs.Common.{◌≡◌, ℕ, zero, suc, ◌+◌, ◌*◌, ◌<◌, ◌≤◌, inl, inr, Bool, eqb, List, [], ◌++◌, length, refl, ap, ap₂, sym, ◌∙◌, arith, add-one, append_assoc, length-append}
+use Rattle.std.proofs.Common.{◌≡◌, ℕ, zero, suc, ◌+◌, ◌*◌, ◌<◌, ◌≤◌, inl, inr, Bool, eqb, List, ◌++◌, length, refl, ap, sym, ◌∙◌, arith, add-one, append_assoc, length-append}
 use Rattle.std.proofs.lemmas.Bool.{cond-true, eq-eqb}
 use Rattle.std.specs.Bool.{beq}
 use Rattle.p25_bits.specs.{Bits.{part}, Distance.{distance_of}, Numbers.{joined_below}}
@@ -54,13 +54,18 @@ blocks_fixes : (states : ℕ) (point : ℕ → ℕ → ℕ) (n : ℕ) (bare : Li
     → ((j : ℕ) → j < n → distance_of (block_bits bare j) (sent j) ≡ nearest_distance states point (block_bits bare j))
     → distance_of (joined_below n (block_bits bare)) (joined_below n sent) ≡ blocks_distance states point n bare
 unfolding blocks_distance
-blocks_fixes states point zero bare sent there long each = ap₂ distance_of (joined_below-zero (block_bits bare)) (joined_below-zero sent) ∙ distance_by-nil beq []
+blocks_fixes states point zero bare sent there long each = simp (joined_below-zero, distance_by-nil)
 blocks_fixes states point (suc n) bare sent there long each =
     let before = length-joined_below 196 n (block_bits bare) (λ j inside. length-part (308 + 196 * j) 196 bare (omega arith)) in
     let after = length-joined_below 196 n sent (λ j inside. long j (omega arith)) in
-    ap₂ distance_of (joined_below-suc n (block_bits bare)) (joined_below-suc n sent)
-    ∙ distance_by-append beq (joined_below n (block_bits bare)) (block_bits bare n) (joined_below n sent) (sent n) (before ∙ sym after)
-    ∙ ap₂ ◌+◌ (blocks_fixes states point n bare sent (omega arith) (λ j inside. long j (omega arith)) (λ j inside. each j (omega arith))) (each n (omega arith))
+    cc (
+      joined_below-suc n (block_bits bare),
+      joined_below-suc n sent,
+      distance_by-append beq (joined_below n (block_bits bare)) (block_bits bare n) (joined_below n sent) (sent n) (before
+          ∙ sym after),
+      blocks_fixes states point n bare sent (omega arith) (λ j inside. long j (omega arith)) (λ j inside. each j (omega arith)),
+      each n (omega arith),
+    )
 
 -- the header block and the blocks to follow against what is sent for them
 pub all_fixes : (states : ℕ) (point : ℕ → ℕ → ℕ) (n : ℕ) (bare front nulls header : List Bool) (sent : ℕ → List Bool) → 308 + 196 * n ≤ length bare → length front ≡ 112
@@ -72,18 +77,20 @@ all_fixes states point n bare front nulls header sent there long_front is long e
     let body = joined_below n sent in
     let received = part 112 196 bare in
     let long_header : length header ≡ 196 = ap length is ∙ length-half received in
-    let long_body : length body ≡ 196 * n = length-joined_below 196 n sent long in
-    let whole : length (header ++ body) ≡ 196 * (1 + n) = length-append header body ∙ omega (arith, long_header, long_body) in
-    let grouped : front ++ header ++ body ++ nulls ≡ front ++ ((header ++ body) ++ nulls)
-    = ap (λ (xs : List Bool). xs ++ nulls) (append_assoc front header body) ∙ append_assoc front (header ++ body) nulls in
-    let image : part 112 (196 * (1 + n)) (front ++ header ++ body ++ nulls) ≡ header ++ body = ap (part 112 (196 * (1 + n))) grouped
+    let whole : length (header ++ body) ≡ 196 * (1 + n) = length-append header body ∙ omega (arith, long_header, length-joined_below 196 n sent long) in
+    let image : part 112 (196 * (1 + n)) (front ++ header ++ body ++ nulls) ≡ header ++ body = ap (part 112 (196 * (1 + n))) (ap (λ (xs : List Bool). xs ++ nulls) (append_assoc front header body)
+    ∙ append_assoc front (header ++ body) nulls)
     ∙ part_joined 112 (196 * (1 + n)) front (header ++ body) nulls long_front whole in
-    let count : 196 + 196 * n ≡ 196 * (1 + n) = omega arith in
     let bits : part 112 (196 * (1 + n)) bare ≡ received ++ joined_below n (block_bits bare)
-    = sym (part_add 112 196 (196 * n) bare ∙ ap (λ k. part 112 k bare) count) ∙ ap (λ (xs : List Bool). received ++ xs) (sym (joined_below-parts 308 196 n bare)) in
-    ap₂ distance_of bits image
-    ∙ distance_by-append beq received (joined_below n (block_bits bare)) header body (length-part 112 196 bare (omega arith) ∙ sym long_header)
-    ∙ ap₂ ◌+◌ (ap (distance_of received) is ∙ half_fixes received) (blocks_fixes states point n bare sent there long each)
+    = sym (part_add 112 196 (196 * n) bare ∙ ap (λ k. part 112 k bare) (omega arith)) ∙ ap (λ xs. received ++ xs) (sym (joined_below-parts 308 196 n bare)) in
+    cc (
+      bits,
+      image,
+      distance_by-append beq received (joined_below n (block_bits bare)) header body (length-part 112 196 bare (omega arith) ∙ sym long_header),
+      is,
+      half_fixes received,
+      blocks_fixes states point n bare sent there long each,
+    )
 
 -- The wrong bits of the blocks, by the format.
 

@@ -40,13 +40,9 @@ octet_bits-octets_from n flags long =
 -- the flags of the octets of flags are those flags
 pub flags_of_octets-flag_octets : (flags : List Bool) → (length flags ≡ 64) ⊎ (length flags ≡ 128) → flags_of_octets (flag_octets flags) ≡ Some flags
 flags_of_octets-flag_octets flags (inl long) =
-    ap flags_of_octets (flag_octets-64 flags long)
-    ∙ flags_of_octets-8 (octets_from 8 flags) (length-numbers_from 8 8 flags)
-    ∙ ap Some (octet_bits-octets_from 8 flags long)
+    cc (flag_octets-64 flags long, flags_of_octets-8 (octets_from 8 flags) (length-numbers_from 8 8 flags), octet_bits-octets_from 8 flags long)
 flags_of_octets-flag_octets flags (inr long) =
     let octets = octets_from 16 flags in
     let zeros : List ℕ = 0 ∷ 0 ∷ 0 ∷ 0 ∷ [] in
     let sixteen = length-numbers_from 8 16 flags in
-    ap flags_of_octets (flag_octets-128 flags long)
-    ∙ flags_of_octets-20 (octets ++ zeros) (length-append octets zeros ∙ ap (λ n. n + 4) sixteen)
-    ∙ ap Some (ap octet_bits (take_at octets zeros 16 sixteen) ∙ octet_bits-octets_from 16 flags long)
+    cc (flag_octets-128 flags long, flags_of_octets-20 (octets ++ zeros) (length-append octets zeros ∙ ap (λ n. n + 4) sixteen), take_at octets zeros 16 sixteen, octet_bits-octets_from 16 flags long)

@@ -1,5 +1,5 @@
 -- The octets of blocks, their lengths and that they are octets, and the cases of a packet's blocks.
-use Rattle.std.proofs.{Common.{◌≡◌, ℕ, ◌+◌, ◌*◌, ◌/◌, ◌%◌, ◌^◌, ◌<◌, List, [], ◌∷◌, ◌++◌, length, get_or, refl, ap, ◌∙◌, arith, length-append}, lemmas.List.Elements.{All-nil, All-cons, All-append}}
+use Rattle.std.proofs.{Common.{◌≡◌, ℕ, ◌+◌, ◌*◌, ◌/◌, ◌%◌, ◌^◌, ◌<◌, List, [], ◌∷◌, ◌++◌, length, get_or, refl, arith, length-append}, lemmas.List.Elements.{All-nil, All-cons, All-append}}
 use Rattle.p25_bits.specs.Bits.{part}
 use Rattle.p25_crc.specs.Values.{crc9_of, crc16_of, crc32_of}
 use Rattle.p25_crc.proofs.ChecksLaws.{crc9_of-lt, crc16_of-lt, crc32_of-lt}
@@ -16,7 +16,7 @@ header_octets-is head = refl
 
 pub length-header_octets : (head : PacketHead) → IsHead head → length (header_octets head) ≡ 12
 unfolding header_octets
-length-header_octets head is = length-append head.0 (two_octets (crc16_of head.0)) ∙ ap (λ n. n + 2) is.long
+length-header_octets head is = simp (length-append, is.long)
 
 are_two : (number : ℕ) → number < 2 ^ 16 → AreOctets (two_octets number)
 are_two number small = All-cons (λ n. n < 256) (number / 256) (number % 256 ∷ []) (omega arith) (All-cons (λ n. n < 256) (number % 256) [] (omega arith) (All-nil (λ n. n < 256)))
@@ -33,7 +33,7 @@ confirmed_octets-is block = refl
 
 pub length-confirmed_octets : (block : Block) → IsDataBlock block → length (confirmed_octets block) ≡ 18
 unfolding confirmed_octets
-length-confirmed_octets block is = length-append (two_octets (512 * block.serial + crc9_of block.serial block.octets)) block.octets ∙ ap (λ n. 2 + n) is.long
+length-confirmed_octets block is = simp (length-append, is.long)
 
 pub AreOctets-confirmed_octets : (block : Block) → IsDataBlock block → AreOctets (confirmed_octets block)
 unfolding confirmed_octets

@@ -1,5 +1,5 @@
 -- The steps of the writers: the octets of a number as they are put, and one more block of a loop.
-use Rattle.std.proofs.Common.{◌≡◌, ℕ, ◌+◌, ◌/◌, ◌%◌, ◌^◌, ◌<◌, Bool, List, [], ◌∷◌, ◌++◌, get_or, slice_get, Some, ap, ap₂, sym, subst, ◌∙◌, arith, inl, inr, append_assoc, append-nil}
+use Rattle.std.proofs.Common.{◌≡◌, ℕ, ◌+◌, ◌/◌, ◌%◌, ◌^◌, ◌<◌, Bool, List, [], ◌∷◌, ◌++◌, get_or, slice_get, Some, subst, arith, inl, inr, append_assoc, append-nil}
 use Rattle.std.proofs.{Math.Nat.{mod-eq_of_lt}, lemmas.Bool.{cases_lt}, lemmas.Option.{get_or_from_slice_get}}
 use Rattle.p25_bits.specs.Numbers.{joined_below}
 use Rattle.p25_bits.proofs.NumbersLaws.{joined_below-zero, joined_below-more}
@@ -8,22 +8,20 @@ use Rattle.p25_packet_blocks.specs.Sendable.{IsDataBlock, AreDataBlocks}
 
 -- the octets of a number of 16 bits
 pub put_two : (number : ℕ) → number < 2 ^ 16 → number / 256 % 256 ∷ number % 256 ∷ [] ≡ two_octets number
-put_two number small = let high : number / 256 < 256 = omega arith in ap (λ n. n ∷ number % 256 ∷ []) (mod-eq_of_lt high)
+put_two number small = let high : number / 256 < 256 = omega arith in simp mod-eq_of_lt
 
 -- the octets of a number of 32 bits
 pub put_four : (number : ℕ) → number < 2 ^ 32 → number / 16777216 % 256 ∷ number / 65536 % 256 ∷ number / 256 % 256 ∷ number % 256 ∷ [] ≡ four_octets number
-put_four number small = let high : number / 16777216 < 256 = omega arith in ap (λ n. n ∷ number / 65536 % 256 ∷ number / 256 % 256 ∷ number % 256 ∷ []) (mod-eq_of_lt high)
+put_four number small = let high : number / 16777216 < 256 = omega arith in simp mod-eq_of_lt
 
 -- no block is written yet
 pub put_none : (bits : List Bool) (f : ℕ → List Bool) → bits ≡ bits ++ joined_below 0 f
-put_none bits f = sym (ap (λ (xs : List Bool). bits ++ xs) (joined_below-zero f) ∙ append-nil bits)
+put_none bits f = simp (append-nil, joined_below-zero)
 
 -- one more block
 pub put_more : (before bits block : List Bool) (f : ℕ → List Bool) (j : ℕ) → bits ≡ before ++ joined_below j f → block ≡ f j → bits ++ block ≡ before ++ joined_below (j + 1) f
 put_more before bits block f j so_far is =
-    ap₂ (λ (xs ys : List Bool). xs ++ ys) so_far is
-    ∙ append_assoc before (joined_below j f) (f j)
-    ∙ ap (λ (xs : List Bool). before ++ xs) (sym (joined_below-more j f))
+    simp (so_far, is, append_assoc, joined_below-more)
 
 -- no slot is looked at yet
 pub good_none : (slots : List Slot) → AreDataBlocks slots 0

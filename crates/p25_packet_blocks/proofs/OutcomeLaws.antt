@@ -1,6 +1,6 @@
 -- What the reading of a packet answers: the blocks that fail are those whose slots are Bad, and where none fails the number of wrong bits
 -- is that of the packet's fixes. By cases of the packet and of the format.
-use Rattle.std.proofs.Common.{◌≡◌, ◌≢◌, ℕ, zero, suc, ◌+◌, ◌*◌, ◌<◌, ◌≤◌, inl, inr, Bool, List, [], ◌∷◌, ◌++◌, length, get_or, Result, Ok, Err, refl, ap, ap₂, sym, ◌∙◌, subst, arith, add-one}
+use Rattle.std.proofs.Common.{◌≡◌, ◌≢◌, ℕ, zero, suc, ◌+◌, ◌*◌, ◌<◌, ◌≤◌, inl, inr, Bool, List, [], ◌∷◌, ◌++◌, length, get_or, Result, Ok, Err, refl, ap, sym, ◌∙◌, arith, add-one}
 use Rattle.std.proofs.lemmas.Bool.{cases_eq}
 use Rattle.std.specs.Prelude.{IfOk}
 use Rattle.p25_bits.proofs.NumbersLaws.{joined_below-zero, joined_below-suc}
@@ -26,9 +26,8 @@ counted-read : (block : List Bool) (wrong : ℕ) (reading : Result PacketHead Fi
 unfolding counted_head
 counted-read block wrong (Err field) read near is e = absurd (cc)
 counted-read block wrong (Ok head) read near is e =
-    let made : ReadHead = record { head = head; wrong = wrong } in
-    let same : made ≡ read = cc in
-    subst (IsReadHead block) same (record { head = is; wrong = near })
+    let same : (record { head = head; wrong = wrong }) ≡ read = cc in
+    rw (← same) (record { head = is; wrong = near })
 
 pub IsReadHead-of : (block : List Bool) (read : ReadHead) → read_head_of block ≡ Ok read → IsReadHead block read
 unfolding read_head_of
@@ -78,7 +77,7 @@ unfolding failing_slots_of
 failing_slots_of-suc n slots = joined_below-suc n (λ j. failing_slot j (get_or slots j Bad))
 
 pub failing_slots_of-more : (n : ℕ) (slots : List Slot) → failing_slots_of (n + 1) slots ≡ failing_slots_of n slots ++ failing_slot n (get_or slots n Bad)
-failing_slots_of-more n slots = ap (λ k. failing_slots_of k slots) (add-one n) ∙ failing_slots_of-suc n slots
+failing_slots_of-more n slots = simp (add-one, failing_slots_of-suc)
 
 no_fields : (xs ys : List Field) → xs ++ ys ≡ [] → (xs ≡ []) × (ys ≡ [])
 no_fields [] ys none = (refl, none)
@@ -96,9 +95,9 @@ good_fails_not j Bad good = absurd (good refl)
 none_bad : (n : ℕ) (slots : List Slot) → failing_slots_of n slots ≡ [] → (j : ℕ) → j < n → get_or slots j Bad ≢ Bad
 none_bad zero slots none j inside = absurd (omega arith)
 none_bad (suc n) slots none j inside =
-    let two = no_fields (failing_slots_of n slots) (failing_slot n (get_or slots n Bad)) (sym (failing_slots_of-suc n slots) ∙ none) in
+    let two = no_fields (failing_slots_of n slots) (failing_slot n (get_or slots n Bad)) (rw (← failing_slots_of-suc, none)) in
     elim (cases_eq j n) [
-      | inl last ↦ subst (λ (i : ℕ). get_or slots i Bad ≢ Bad) (sym last) (bad_fails n (get_or slots n Bad) two.1)
+      | inl last ↦ simp last (bad_fails n (get_or slots n Bad) two.1)
       | inr other ↦ none_bad n slots two.0 j (omega (arith, inside, other))
     ]
 
@@ -106,8 +105,7 @@ none_bad (suc n) slots none j inside =
 none_fails : (n : ℕ) (slots : List Slot) → ((j : ℕ) → j < n → get_or slots j Bad ≢ Bad) → failing_slots_of n slots ≡ []
 none_fails zero slots good = failing_slots_of-zero slots
 none_fails (suc n) slots good =
-    failing_slots_of-suc n slots
-    ∙ ap₂ (λ (xs ys : List Field). xs ++ ys) (none_fails n slots (λ j inside. good j (omega arith))) (good_fails_not n (get_or slots n Bad) (good n (omega arith)))
+    cc (failing_slots_of-suc n slots, none_fails n slots (λ j inside. good j (omega arith)), good_fails_not n (get_or slots n Bad) (good n (omega arith)))
 
 pub IsWholePacket-none : (packet : Packet) → failing_blocks_of packet ≡ [] → IsWholePacket packet
 unfolding failing_blocks_of IsWholePacket
@@ -124,17 +122,17 @@ failing_blocks_of-none (Plain packet) whole = refl
 pub confirmed-set : (head : PacketHead) (bare : List Bool) (slots : List Slot) (n : ℕ) → head_format head ≡ confirmed_format → n ≡ head_blocks head → slots ≡ slots_read n bare
     → Ok (confirmed_by_parts head slots) ≡ packet_of_head head bare
 confirmed-set head bare slots n format counted read =
-    ap (λ (list : List Slot). Ok (confirmed_by_parts head list)) (read ∙ ap (λ k. slots_read k bare) counted) ∙ sym (packet_of_head-confirmed head bare format)
+    simp (read, counted, packet_of_head-confirmed)
 
 pub confirmed-wrong : (head : PacketHead) (bare : List Bool) (first wrong n : ℕ) → head_format head ≡ confirmed_format → n ≡ head_blocks head → wrong ≡ three_quarter_distance n bare
     → first + wrong ≡ first + body_distance head bare
 confirmed-wrong head bare first wrong n format counted is =
-    ap (λ k. first + k) (is ∙ ap (λ k. three_quarter_distance k bare) counted ∙ sym (body_distance-confirmed head bare format))
+    simp (is, counted, body_distance-confirmed)
 
 pub IfOk-plain : (read : ReadHead) (bare : List Bool) → IsPlainFormat (head_format read.head) → (reading : Result ℕ Field)
     → IfOk reading (λ wrong. wrong ≡ read.wrong + half_distance (head_blocks read.head) bare)
     → IfOk reading (λ wrong. wrong ≡ read.wrong + body_distance read.head bare)
-IfOk-plain read bare format (Ok wrong) counted = counted ∙ ap (λ n. read.wrong + n) (sym (body_distance-plain read.head bare format))
+IfOk-plain read bare format (Ok wrong) counted = simp (counted, body_distance-plain)
 IfOk-plain read bare format (Err field) counted = tt
 
 -- What is answered.
@@ -143,7 +141,7 @@ IfOk-plain read bare format (Err field) counted = tt
 pub packet_outcome-is : (read : ReadHead) (bare : List Bool) (reading : Result Packet Field) (wrong : ℕ) → reading ≡ packet_of_head read.head bare → wrong ≡ read.wrong + body_distance read.head bare
     → outcome_of (packet_failing reading) wrong ≡ packet_outcome_of read bare
 unfolding packet_outcome_of
-packet_outcome-is read bare reading wrong is counted = ap₂ (λ r w. outcome_of (packet_failing r) w) is counted
+packet_outcome-is read bare reading wrong is counted = simp (is, counted)
 
 pub packet_outcome-bad : (read : ReadHead) (bare : List Bool) (field : Field) → Err field ≡ packet_of_head read.head bare → Failing (field ∷ []) ≡ packet_outcome_of read bare
 unfolding packet_outcome_of packet_failing outcome_of

@@ -14,11 +14,11 @@ use Rattle.p25_packet_blocks.proofs.FixesLaws.{all_fixes, body_distance-confirme
 
 confirmed_sent : (packet : ConfirmedParts) (j : ℕ) (bits : List Bool) → IsBlockRead (Confirmed packet) j bits → body_block (Confirmed packet) j ≡ three_quarter_block (three_quarter_octets bits)
 unfolding IsBlockRead
-confirmed_sent packet j bits read = body_block-confirmed packet j read.0 read.1 ∙ ap three_quarter_block (sym read.2)
+confirmed_sent packet j bits read = cc (body_block-confirmed packet j read.0 read.1, read.2)
 
 plain_sent : (packet : PlainParts) (j : ℕ) (bits : List Bool) → IsBlockRead (Plain packet) j bits → body_block (Plain packet) j ≡ half_block (half_octets bits)
 unfolding IsBlockRead
-plain_sent packet j bits read = body_block-plain packet j ∙ ap half_block (sym read)
+plain_sent packet j bits read = simp (body_block-plain, read)
 
 packet_fixes : (nac : ℕ) (packet : Packet) (bare : List Bool) → IsPacketRead packet bare → IsSendable packet → 308 + 196 * head_blocks (packet_head packet) ≤ length bare
     → packet_fixes_of nac packet bare ≡ nearest_distance 4 half_point (header_bits bare) + body_distance (packet_head packet) bare
@@ -27,26 +27,27 @@ packet_fixes nac (Confirmed packet) bare read sendable there =
     let n = head_blocks packet.head in
     let sent : (j : ℕ) → j < n → body_block (Confirmed packet) j ≡ three_quarter_block (three_quarter_octets (block_bits bare j))
     = λ j inside. confirmed_sent packet j (block_bits bare j) (read.blocks j inside) in
-    all_fixes 8 three_quarter_point n bare (unit_front nac 12) (packet_nulls n) (half_block (header_octets packet.head)) (body_block (Confirmed packet)) there (length-unit_front nac 12)
-    (ap half_block (sym read.header))
-    (λ j inside. ap length (sent j inside) ∙ length-three_quarter (block_bits bare j))
-    (λ j inside. ap (distance_of (block_bits bare j)) (sent j inside) ∙ three_quarter_fixes (block_bits bare j))
-    ∙ ap (λ k. nearest_distance 4 half_point (header_bits bare) + k) (sym (body_distance-confirmed packet.head bare sendable.kind.format))
+    cc (
+      all_fixes 8 three_quarter_point n bare (unit_front nac 12) (packet_nulls n) (half_block (header_octets packet.head)) (body_block (Confirmed packet)) there (length-unit_front nac 12)
+          (ap half_block (sym read.header))
+          (λ j inside. ap length (sent j inside) ∙ length-three_quarter (block_bits bare j))
+          (λ j inside. ap (distance_of (block_bits bare j)) (sent j inside) ∙ three_quarter_fixes (block_bits bare j)),
+      body_distance-confirmed packet.head bare sendable.kind.format,
+    )
 packet_fixes nac (Plain packet) bare read sendable there =
     let n = head_blocks packet.head in
     let sent : (j : ℕ) → j < n → body_block (Plain packet) j ≡ half_block (half_octets (block_bits bare j)) = λ j inside. plain_sent packet j (block_bits bare j) (read.blocks j inside) in
-    all_fixes 4 half_point n bare (unit_front nac 12) (packet_nulls n) (half_block (header_octets packet.head)) (body_block (Plain packet)) there (length-unit_front nac 12)
-    (ap half_block (sym read.header))
-    (λ j inside. ap length (sent j inside) ∙ length-half (block_bits bare j))
-    (λ j inside. ap (distance_of (block_bits bare j)) (sent j inside) ∙ half_fixes (block_bits bare j))
-    ∙ ap (λ k. nearest_distance 4 half_point (header_bits bare) + k) (sym (body_distance-plain packet.head bare sendable.kind.format))
+    cc (
+      all_fixes 4 half_point n bare (unit_front nac 12) (packet_nulls n) (half_block (header_octets packet.head)) (body_block (Plain packet)) there (length-unit_front nac 12)
+          (ap half_block (sym read.header))
+          (λ j inside. ap length (sent j inside) ∙ length-half (block_bits bare j))
+          (λ j inside. ap (distance_of (block_bits bare j)) (sent j inside) ∙ half_fixes (block_bits bare j)),
+      body_distance-plain packet.head bare sendable.kind.format,
+    )
 
 pub packet_fixes-is : (nac : ℕ) (head : PacketHead) (packet : Packet) (bare : List Bool) → head_reading_of bare ≡ Ok head → 308 + 196 * head_blocks head ≤ length bare
     → packet_of_head head bare ≡ Ok packet → IsWholePacket packet → nearest_distance 4 half_point (header_bits bare) + body_distance head bare ≡ packet_fixes_of nac packet bare
 packet_fixes-is nac head packet bare read there is whole =
     let of = IsWholeRead-reading bare packet (packet_reading_of-good bare head read ∙ is) whole in
-    let two : Ok (packet_head packet) ≡ Ok head = sym of.head ∙ read in
     let same : packet_head packet ≡ head = cc in
-    sym
-    (packet_fixes nac packet bare of.read of.sendable (subst (λ (h : PacketHead). 308 + 196 * head_blocks h ≤ length bare) (sym same) there)
-    ∙ ap (λ (h : PacketHead). nearest_distance 4 half_point (header_bits bare) + body_distance h bare) same)
+    cc (same, packet_fixes nac packet bare of.read of.sendable (subst (λ (h : PacketHead). 308 + 196 * head_blocks h ≤ length bare) (sym same) there))

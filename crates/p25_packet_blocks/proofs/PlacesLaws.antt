@@ -1,6 +1,6 @@
 -- The image by its places: the list has what the standard says at each place, and nothing else has. Each place of the list
 -- is found by the lengths of what stands before it; a list is put together again from its parts that touch.
-use Rattle.std.proofs.Common.{◌≡◌, ℕ, ◌+◌, ◌-◌, ◌*◌, ◌<◌, ◌≤◌, Bool, false, List, ◌++◌, length, take, drop, get_or, replicate, slice_get, Some, refl, ap, ap₂, sym, subst, ◌∙◌, arith, length-append, length-drop, All, append_assoc, take-append-drop}
+use Rattle.std.proofs.Common.{◌≡◌, ℕ, ◌+◌, ◌-◌, ◌*◌, ◌<◌, ◌≤◌, Bool, false, List, ◌++◌, length, take, drop, get_or, replicate, slice_get, Some, refl, sym, subst, ◌∙◌, arith, length-append, length-drop, All, append_assoc, take-append-drop}
 use Rattle.std.proofs.{lemmas.List.{take_at, get_or-append_right, get_or-replicate, get_or-drop, same_lists, length-replicate}, lemmas.Option.{slice_get-get_or, get_or_from_slice_get}}
 use Rattle.p25_bits.specs.{Bits.{part}, Numbers.{joined_below}}
 use Rattle.p25_bits.proofs.{PartLaws.{part_add, part_left, part_behind, part_joined}, NumbersLaws.{length-joined_below, part-joined_below, joined_below-same, joined_below-parts}}
@@ -41,16 +41,14 @@ IsBodyBlock-body_block (Confirmed packet) sendable j inside =
     )
 IsBodyBlock-body_block (Plain packet) sendable j inside =
     let octets = octets_of_block packet sendable j inside in
-    subst (IsBlock 4 2 half_point (part (12 * j) 12 (checked_octets packet.octets))) (sym (body_block-plain packet j))
-    (IsBlock-half (part (12 * j) 12 (checked_octets packet.octets)) octets.0 octets.1)
+    simp body_block-plain (IsBlock-half (part (12 * j) 12 (checked_octets packet.octets)) octets.0 octets.1)
 
 -- and no other bits
 pub body_block-only : (packet : Packet) → IsSendable packet → (j : ℕ) → j < head_blocks (packet_head packet) → (bits : List Bool) → IsBodyBlock packet j bits → bits ≡ body_block packet j
 unfolding IsSendable IsBodyBlock
 body_block-only (Confirmed packet) sendable j inside bits is =
     let keeps = sendable.good.at j inside in
-    let same : is.0 ≡ keeps.0 = cc (is.1, keeps.1) in
-    let keeping : IsDataBlock is.0 = subst IsDataBlock (sym same) keeps.2 in
+    let keeping : IsDataBlock is.0 = subst IsDataBlock (sym (cc (is.1, keeps.1))) keeps.2 in
     same_block_from 8 3 three_quarter_point (confirmed_octets is.0) bits refl (length-confirmed_octets is.0 keeping) is.2 ∙ sym (body_block-confirmed packet j is.0 is.1)
 body_block-only (Plain packet) sendable j inside bits is =
     let octets = octets_of_block packet sendable j inside in
@@ -72,7 +70,7 @@ same_element bits i d inside = get_or_from_slice_get bits i (get_or bits i false
 -- a list of bits that are all 0
 all_false : (bits : List Bool) (n : ℕ) → length bits ≡ n → ((i : ℕ) → i < length bits → get_or bits i false ≡ false) → bits ≡ replicate n false
 all_false bits n long each =
-    same_lists bits (replicate n false) (long ∙ sym (length-replicate n false)) (λ i d inside. same_element bits i d inside ∙ each i inside ∙ sym (get_or-replicate n i false d (omega arith)))
+    same_lists bits (replicate n false) (simp (long, length-replicate)) (λ i d inside. same_element bits i d inside ∙ each i inside ∙ sym (get_or-replicate n i false d (omega arith)))
 
 -- The parts of the image.
 
@@ -100,7 +98,7 @@ module _ (nac : ℕ) (packet : Packet) (sendable : IsSendable packet) where
   long_start = length-append front header ∙ omega (arith, long_header, length-unit_front nac 12)
 
   long_bits : length (front ++ header ++ body) ≡ packet_bits count
-  long_bits = length-append (front ++ header) body ∙ omega (arith, long_start, long_body)
+  long_bits = rw length-append (omega (arith, long_start, long_body))
 
   filled : packet_bits count ≤ packet_bare_length count
   filled = omega arith
@@ -110,38 +108,45 @@ module _ (nac : ℕ) (packet : Packet) (sendable : IsSendable packet) where
   grouped = refl
 
   split : packet_image_of nac packet ≡ front ++ (header ++ (body ++ packet_nulls count))
-  split = grouped ∙ append_assoc (front ++ header) body (packet_nulls count) ∙ append_assoc front header (body ++ packet_nulls count)
+  split = simp (grouped, append_assoc)
 
   pub image_long : length (packet_image_of nac packet) ≡ packet_bare_length count
   unfolding packet_nulls
   image_long =
-      ap length grouped ∙ length-append (front ++ header ++ body) (packet_nulls count) ∙ omega (arith, long_bits, filled, length-replicate (packet_bare_length count - packet_bits count) false)
+      rw (grouped, length-append) (omega (arith, long_bits, filled, length-replicate (packet_bare_length count - packet_bits count) false))
 
   -- the front
   pub image_front : take 112 (packet_image_of nac packet) ≡ front
-  image_front = ap (λ (xs : List Bool). take 112 xs) split ∙ take_at front (header ++ (body ++ packet_nulls count)) 112 (length-unit_front nac 12)
+  image_front = cc (split, take_at front (header ++ (body ++ packet_nulls count)) 112 (length-unit_front nac 12))
 
   -- the header block
   pub image_header : header_bits (packet_image_of nac packet) ≡ header
-  image_header = ap (λ (xs : List Bool). part 112 196 xs) split ∙ part_joined 112 196 front header (body ++ packet_nulls count) (length-unit_front nac 12) long_header
+  image_header = cc (split, part_joined 112 196 front header (body ++ packet_nulls count) (length-unit_front nac 12) long_header)
 
   -- a block to follow
   pub image_block : (j : ℕ) → j < count → block_bits (packet_image_of nac packet) j ≡ body_block packet j
   image_block j inside =
       let there : 196 * j + 196 ≤ length body = omega (arith, long_body) in
-      ap₂ (λ at (xs : List Bool). part (at + 196 * j) 196 xs) (sym long_start) (grouped ∙ append_assoc (front ++ header) body (packet_nulls count))
-      ∙ part_behind (196 * j) 196 (front ++ header) (body ++ packet_nulls count)
-      ∙ part_left (196 * j) 196 body (packet_nulls count) there
-      ∙ part-joined_below 196 count (body_block packet) j (length-body_block packet sendable) inside
+      cc (
+        long_start,
+        grouped,
+        append_assoc (front ++ header) body (packet_nulls count),
+        part_behind (196 * j) 196 (front ++ header) (body ++ packet_nulls count),
+        part_left (196 * j) 196 body (packet_nulls count) there,
+        part-joined_below 196 count (body_block packet) j (length-body_block packet sendable) inside,
+      )
 
   -- the nulls
   pub image_nulls : (place : ℕ) → packet_bits count ≤ place → place < length (packet_image_of nac packet) → slice_get (packet_image_of nac packet) place ≡ Some false
   unfolding packet_nulls
   image_nulls place behind inside =
       let left : place - packet_bits count < packet_bare_length count - packet_bits count = omega (arith, image_long) in
-      slice_get-get_or (packet_image_of nac packet) place false inside
-      ∙ ap Some (ap (λ (xs : List Bool). get_or xs place false) grouped ∙ get_or-append_right (front ++ header ++ body) (packet_nulls count) (packet_bits count) place false long_bits behind
-      ∙ get_or-replicate (packet_bare_length count - packet_bits count) (place - packet_bits count) false false left)
+      cc (
+        slice_get-get_or (packet_image_of nac packet) place false inside,
+        grouped,
+        get_or-append_right (front ++ header ++ body) (packet_nulls count) (packet_bits count) place false long_bits behind,
+        get_or-replicate (packet_bare_length count - packet_bits count) (place - packet_bits count) false false left,
+      )
 
   -- the image is as the standard says
   pub IsPacketImage-image : IsPacketImage nac packet (packet_image_of nac packet)
@@ -158,21 +163,14 @@ module _ (nac : ℕ) (packet : Packet) (sendable : IsSendable packet) where
   unfolding packet_nulls
   IsPacketImage-only bits is =
       let head = packet_head packet in
-      let keeps = IsSendable-head packet sendable in
       let first = unit_front-only nac 12 (take 112 bits) is.front in
-      let second : part 112 196 bits ≡ header = same_block_from 4 2 half_point (header_octets head) (header_bits bits) refl (length-header_octets head keeps) is.header in
+      let second : part 112 196 bits ≡ header = same_block_from 4 2 half_point (header_octets head) (header_bits bits) refl (length-header_octets head (IsSendable-head packet sendable)) is.header in
       let third : part 308 (196 * count) bits ≡ body
       = sym (joined_below-parts 308 196 count bits) ∙ joined_below-same count (λ j. part (308 + 196 * j) 196 bits) (body_block packet)
       (λ j inside. body_block-only packet sendable j inside (block_bits bits j) (is.blocks j inside)) in
       let rest : drop (packet_bits count) bits ≡ replicate (packet_bare_length count - packet_bits count) false
-      = all_false (drop (packet_bits count) bits) (packet_bare_length count - packet_bits count) (length-drop (packet_bits count) bits ∙ ap (λ k. k - packet_bits count) is.long)
+      = all_false (drop (packet_bits count) bits) (packet_bare_length count - packet_bits count) (simp (length-drop, is.long))
       (λ i inside. get_or-drop (packet_bits count) bits i false ∙ get_or_from_slice_get bits (packet_bits count + i) false false
       (is.nulls (packet_bits count + i) (omega arith) (omega (arith, length-drop (packet_bits count) bits)))) in
       let place : 308 + 196 * count ≡ packet_bits count = omega arith in
-      sym (take-append-drop (packet_bits count) bits)
-      ∙ ap₂ (λ (xs ys : List Bool). xs ++ ys)
-      (ap (λ k. take k bits) (sym place)
-      ∙ sym (part_add 0 308 (196 * count) bits)
-      ∙ ap₂ (λ (xs ys : List Bool). xs ++ ys) (sym (part_add 0 112 196 bits) ∙ ap₂ (λ (xs ys : List Bool). xs ++ ys) first second) third)
-      rest
-      ∙ sym grouped
+      cc (take-append-drop (packet_bits count) bits, place, part_add 0 308 (196 * count) bits, part_add 0 112 196 bits, first, second, third, rest, grouped)

@@ -1,10 +1,9 @@
 -- Received bits within radius of a packet read as that packet: each block reads as the octets that were sent, their checks
 -- agree, and so every step of the reading gives what the packet has.
-use Rattle.std.proofs.Common.{◌≡◌, ℕ, ◌+◌, ◌-◌, ◌*◌, ◌/◌, ◌%◌, ◌<◌, ◌≤◌, inl, inr, Bool, List, ◌∷◌, length, take, drop, get_or, Result, Ok, refl, ap, sym, subst, ◌∙◌, arith}
+use Rattle.std.proofs.Common.{◌≡◌, ℕ, ◌+◌, ◌-◌, ◌*◌, ◌/◌, ◌%◌, ◌<◌, ◌≤◌, inl, inr, Bool, List, ◌∷◌, length, take, drop, get_or, Ok, ap, sym, ◌∙◌, arith}
 use Rattle.std.proofs.{lemmas.Bool.{cases_eq, eq-eqb}, lemmas.List.{take_at, drop_at, take_all, take-take}}
 use Rattle.p25_bits.specs.{Bits.{part}, Distance.{distance_of}, Numbers.{octets_number, number_after}}
 use Rattle.p25_bits.proofs.{PartLaws.{length-part}, NumbersLaws.{each_below-same, each_below-list, joined_below-same, joined_below-parts}}
-use Rattle.p25_status.specs.declared.fields.Field.{Field}
 use Rattle.p25_trellis.specs.Nearest.{half_octets, three_quarter_octets, half_block, three_quarter_block}
 use Rattle.p25_crc.specs.Values.{crc9_of, crc16_of, crc32_of}
 use Rattle.p25_crc.proofs.ChecksLaws.{crc9_of-lt}
@@ -33,10 +32,10 @@ pub head_again : (head : PacketHead) → IsHead head → head_from (header_octet
 head_again head is =
     let check = crc16_of head.0 in
     let octets = header_octets head in
-    let first : take 10 octets ≡ head.0 = ap (λ (xs : List ℕ). take 10 xs) (header_octets-is head) ∙ take_at head.0 (two_octets check) 10 is.long in
-    let last : drop 10 octets ≡ two_octets check = ap (λ (xs : List ℕ). drop 10 xs) (header_octets-is head) ∙ drop_at head.0 (two_octets check) 10 is.long in
+    let first : take 10 octets ≡ head.0 = cc (header_octets-is head, take_at head.0 (two_octets check) 10 is.long) in
+    let last : drop 10 octets ≡ two_octets check = cc (header_octets-is head, drop_at head.0 (two_octets check) 10 is.long) in
     let make : List ℕ → PacketHead = λ xs. record { 0 = xs } in
-    head_from-good octets check (sym (number_of_two_octets check) ∙ sym (ap octets_number last)) (ap crc16_of (sym first)) ∙ ap (λ xs. Ok (make xs)) first
+    head_from-good octets check (simp (number_of_two_octets, last)) (simp first) ∙ ap (λ xs. Ok (make xs)) first
 
 -- a confirmed block
 pub slot_again : (block : Block) → IsDataBlock block → slot_from (confirmed_octets block) ≡ Good block
@@ -47,18 +46,17 @@ slot_again block is =
     let nine : 256 * (first / 256 % 2) + first % 256 ≡ check = omega (arith, crc9_of-lt block.serial block.octets) in
     let make : ℕ → BlockParts = λ n. record { serial = n; octets = block.octets } in
     ap slot_from (confirmed_octets-is block)
-    ∙ slot_from-good (first / 256 ∷ first % 256 ∷ block.octets) (nine ∙ ap (λ n. crc9_of n block.octets) (sym serial))
+    ∙ slot_from-good (first / 256 ∷ first % 256 ∷ block.octets) (simp (nine, serial))
     ∙ ap (λ n. Good (make n)) serial
 
 -- octets with their check
 module _ (octets : List ℕ) where
   pub checked_front : take (length octets) (checked_octets octets) ≡ octets
-  checked_front = ap (λ (xs : List ℕ). take (length octets) xs) (checked_octets-is octets) ∙ take_at octets (four_octets (crc32_of octets)) (length octets) refl
+  checked_front = simp (checked_octets-is, take_at)
 
   pub checked_number : octets_number (drop (length octets) (checked_octets octets)) ≡ crc32_of octets
   checked_number =
-      ap octets_number (ap (λ (xs : List ℕ). drop (length octets) xs) (checked_octets-is octets) ∙ drop_at octets (four_octets (crc32_of octets)) (length octets) refl)
-      ∙ number_of_four_octets (crc32_of octets)
+      simp (checked_octets-is, drop_at, number_of_four_octets)
 
 -- Blocks with few wrong bits.
 
@@ -85,7 +83,7 @@ module _ (half : HalfNear) (three_quarter : ThreeQuarterNear) (nac : ℕ) where
       let head = IsSendable-head packet sendable in
       let long : length received ≡ packet_bare_length (head_blocks (packet_head packet)) = within.long ∙ image_long nac packet sendable in
       half (header_octets (packet_head packet)) (header_bits received) (length-header_octets (packet_head packet) head) (AreOctets-header_octets (packet_head packet) head)
-      (length-part 112 196 received (omega arith)) (subst (λ xs. distance_of xs (header_bits received) ≤ 2) (image_header nac packet sendable) within.header)
+      (length-part 112 196 received (omega arith)) (simp image_header at within.header)
 
   -- a slot
   slot_within : (packet : ConfirmedParts) (received : List Bool) (sendable : IsSendable (Confirmed packet)) → AreBlocksWithin (Confirmed packet) (packet_image_of nac (Confirmed packet)) received
@@ -95,9 +93,9 @@ module _ (half : HalfNear) (three_quarter : ThreeQuarterNear) (nac : ℕ) where
       let good = sendable.good.at j inside in
       let block = good.0 in
       let sent = image_block nac (Confirmed packet) sendable j inside ∙ body_block-confirmed packet j block good.1 in
-      let long = long_block (Confirmed packet) received (within.long ∙ image_long nac (Confirmed packet) sendable) j inside in
+      let long = long_block (Confirmed packet) received (simp (within.long, image_long)) j inside in
       ap slot_from (three_quarter (confirmed_octets block) (block_bits received j) (length-confirmed_octets block good.2) (AreOctets-confirmed_octets block good.2) long
-      (subst (λ xs. distance_of xs (block_bits received j) ≤ 1) sent (within.blocks j inside)))
+      (simp sent at (within.blocks j inside)))
       ∙ slot_again block good.2
       ∙ sym good.1
 
@@ -108,8 +106,8 @@ module _ (half : HalfNear) (three_quarter : ThreeQuarterNear) (nac : ℕ) where
   octets_within packet received sendable within j inside =
       let octets = octets_of_block packet sendable j inside in
       let sent = image_block nac (Plain packet) sendable j inside ∙ body_block-plain packet j in
-      let long = long_block (Plain packet) received (within.long ∙ image_long nac (Plain packet) sendable) j inside in
-      half (part (12 * j) 12 (checked_octets packet.octets)) (block_bits received j) octets.0 octets.1 long (subst (λ xs. distance_of xs (block_bits received j) ≤ 2) sent (within.blocks j inside))
+      let long = long_block (Plain packet) received (simp (within.long, image_long)) j inside in
+      half (part (12 * j) 12 (checked_octets packet.octets)) (block_bits received j) octets.0 octets.1 long (simp sent at (within.blocks j inside))
 
   -- what follows the header
   pub body_within : (packet : Packet) (received : List Bool) → IsSendable packet → AreBlocksWithin packet (packet_image_of nac packet) received
@@ -131,26 +129,28 @@ module _ (half : HalfNear) (three_quarter : ThreeQuarterNear) (nac : ℕ) where
       let make : List ℕ → PlainParts = λ carried. record { head = packet.head; octets = carried } in
       let read : octets_read n received ≡ take (12 * n) checked
       = joined_below-same n (λ j. half_octets (block_bits received j)) (λ j. part (0 + 12 * j) 12 checked)
-      (λ j inside. octets_within packet received sendable within j inside ∙ ap (λ k. part k 12 checked) (let here : 12 * j ≡ 0 + 12 * j = omega arith in here))
+      (λ j inside. octets_within packet received sendable within j inside ∙ ap (λ k. part k 12 checked) ((omega arith)))
       ∙ joined_below-parts 0 12 n checked in
       let counted : length octets ≡ 12 * n - 4 = sendable.kind.count in
       let front : take (12 * n - 4) (octets_read n received) ≡ octets
-      = ap (take (12 * n - 4)) read ∙ take-take (12 * n - 4) (12 * n) checked (omega arith) ∙ ap (λ k. take k checked) (sym counted) ∙ checked_front octets in
-      let value : Result Packet Field = Ok (Plain (make (take (12 * n - 4) (octets_read n received)))) in
+      = cc (read, take-take (12 * n - 4) (12 * n) checked (omega arith), counted, checked_front octets) in
       packet_of_head-plain packet.head received sendable.kind.format
       ∙ elim (cases_eq n 0) [
         | inl none ↦ plain_from-none packet.head (octets_read n received) none
         | inr some ↦
-            let all : length checked ≤ 12 * n = omega (arith, length-checked_octets octets) in
-            let last : drop (12 * n - 4) (octets_read n received) ≡ drop (length octets) checked = ap (drop (12 * n - 4)) (read ∙ take_all (12 * n) checked all)
+            let last : drop (12 * n - 4) (octets_read n received) ≡ drop (length octets) checked = ap (drop (12 * n - 4)) (read
+            ∙ take_all (12 * n) checked (omega (arith, length-checked_octets octets)))
             ∙ ap (λ k. drop k checked) (sym counted) in
-            plain_from-good packet.head (octets_read n received) (eq-eqb _ _ (ap octets_number last ∙ checked_number octets ∙ ap crc32_of (sym front)))
+            plain_from-good packet.head (octets_read n received) (eq-eqb _ _ (simp (last, checked_number, front)))
       ]
       ∙ ap (λ carried. Ok (Plain (make carried))) front
 
   -- the whole unit, without status symbols
   pub packet_within : (packet : Packet) (received : List Bool) → IsSendable packet → AreBlocksWithin packet (packet_image_of nac packet) received → packet_reading_of received ≡ Ok packet
   packet_within packet received sendable within =
-      packet_reading_of-good received (packet_head packet) (head_reading_of-is received ∙ ap head_from (head_within packet received sendable within)
-      ∙ head_again (packet_head packet) (IsSendable-head packet sendable))
+      packet_reading_of-good received (packet_head packet) (cc (
+        head_reading_of-is received,
+        head_within packet received sendable within,
+        head_again (packet_head packet) (IsSendable-head packet sendable),
+      ))
       ∙ body_within packet received sendable within

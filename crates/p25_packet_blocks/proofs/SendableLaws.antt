@@ -1,5 +1,5 @@
 -- What packets that can be sent keep: their header, and the octets of each block to follow.
-use Rattle.std.proofs.{Common.{◌≡◌, ℕ, ◌+◌, ◌*◌, ◌<◌, ◌≤◌, length, drop, arith}, lemmas.List.Elements.{All-take, All-drop}}
+use Rattle.std.proofs.{Common.{◌≡◌, ℕ, ◌*◌, ◌<◌, length, drop, arith}, lemmas.List.Elements.{All-take, All-drop}}
 use Rattle.p25_bits.specs.Bits.{part}
 use Rattle.p25_bits.proofs.PartLaws.{length-part}
 use Rattle.p25_packet_blocks.specs.{declared.packet.Packet.{Packet}, declared.packet.Packet.TheVariants.{Confirmed, Plain}, Parts.{PlainParts}, Heads.{head_blocks}, Whole.{packet_head}}
@@ -15,9 +15,8 @@ IsSendable-head (Plain packet) sendable = sendable.head
 -- the twelve octets of a block at half rate
 pub octets_of_block : (packet : PlainParts) → IsSendablePlain packet → (j : ℕ) → j < head_blocks packet.head → (length (part (12 * j) 12 (checked_octets packet.octets)) ≡ 12) × AreOctets
     (part (12 * j) 12 (checked_octets packet.octets))
-octets_of_block packet sendable j inside =
-    let there : 12 * j + 12 ≤ length (checked_octets packet.octets) = omega (arith, length-checked_octets packet.octets, sendable.kind.count) in (
-      length-part (12 * j) 12 (checked_octets packet.octets) there,
-      All-take (λ n. n < 256) 12 (drop (12 * j) (checked_octets packet.octets))
-          (All-drop (λ n. n < 256) (12 * j) (checked_octets packet.octets) (AreOctets-checked_octets packet.octets sendable.small)),
-    )
+octets_of_block packet sendable j inside = (
+  length-part (12 * j) 12 (checked_octets packet.octets) (omega (arith, length-checked_octets packet.octets, sendable.kind.count)),
+  All-take (λ n. n < 256) 12 (drop (12 * j) (checked_octets packet.octets))
+      (All-drop (λ n. n < 256) (12 * j) (checked_octets packet.octets) (AreOctets-checked_octets packet.octets sendable.small)),
+)

@@ -1,5 +1,5 @@
 -- The packet answer of a sent unit by its cases: each arm with the facts that choose it.
-use Rattle.std.proofs.Common.{◌≡◌, ◌≢◌, ℕ, ◌<◌, ◌≤◌, Bool, true, false, eqb, leb, List, ◌++◌, length, take, Ok, Err, Some, None, refl, ap, ap₂, sym, ◌∙◌, arith}
+use Rattle.std.proofs.Common.{◌≡◌, ◌≢◌, ℕ, ◌<◌, ◌≤◌, Bool, true, false, eqb, leb, List, ◌++◌, length, take, Ok, Err, Some, None, refl, sym, ◌∙◌, arith}
 use Rattle.std.proofs.{lemmas.Bool.{cond-true, cond-false, eq-eqb, ne_eqb, le-leb, false_from_ne_true, leb-true}, lemmas.List.{take-append-le}}
 use Rattle.p25_bits.specs.Bits.{part}
 use Rattle.p25_bits.proofs.PartLaws.{part-take}
@@ -24,17 +24,15 @@ pub sent_header_bits-take : (count : ℕ) (sent : List Bool) → 316 ≤ count �
 unfolding sent_header_bits
 sent_header_bits-take count sent long =
     let join : List Bool → List Bool → List Bool = λ xs ys. xs ++ ys in
-    ap₂ join
-    (ap₂ join (ap₂ join (part-take 114 28 count sent (omega arith)) (part-take 144 70 count sent (omega arith))) (part-take 216 70 count sent (omega arith)))
-    (part-take 288 28 count sent (omega arith))
+    cc (part-take 114 28 count sent (omega arith), part-take 144 70 count sent (omega arith), part-take 216 70 count sent (omega arith), part-take 288 28 count sent (omega arith))
 
 pub sent_head_of-take : (count : ℕ) (sent : List Bool) → 316 ≤ count → sent_head_of (take count sent) ≡ sent_head_of sent
 sent_head_of-take count sent long =
-    sent_head_of-is (take count sent) ∙ ap (λ bits. head_from (half_octets bits)) (sent_header_bits-take count sent long) ∙ sym (sent_head_of-is sent)
+    simp (sent_head_of-is, sent_header_bits-take)
 
 pub sent_head_of-append : (sent more : List Bool) → 316 ≤ length sent → sent_head_of (sent ++ more) ≡ sent_head_of sent
 sent_head_of-append sent more long =
-    sym (sent_head_of-take 316 (sent ++ more) (omega arith)) ∙ ap sent_head_of (take-append-le 316 sent more long) ∙ sent_head_of-take 316 sent (omega arith)
+    cc (sent_head_of-take 316 (sent ++ more) (omega arith), take-append-le 316 sent more long, sent_head_of-take 316 sent (omega arith))
 
 -- So do its wrong bits.
 
@@ -44,11 +42,11 @@ sent_read_of-is sent = refl
 
 pub sent_read_of-take : (count : ℕ) (sent : List Bool) → 316 ≤ count → sent_read_of (take count sent) ≡ sent_read_of sent
 unfolding sent_read_of
-sent_read_of-take count sent long = ap read_head_of (sent_header_bits-take count sent long)
+sent_read_of-take count sent long = simp sent_header_bits-take
 
 pub sent_read_of-append : (sent more : List Bool) → 316 ≤ length sent → sent_read_of (sent ++ more) ≡ sent_read_of sent
 sent_read_of-append sent more long =
-    sym (sent_read_of-take 316 (sent ++ more) (omega arith)) ∙ ap sent_read_of (take-append-le 316 sent more long) ∙ sent_read_of-take 316 sent (omega arith)
+    cc (sent_read_of-take 316 (sent ++ more) (omega arith), take-append-le 316 sent more long, sent_read_of-take 316 sent (omega arith))
 
 -- the header alone
 pub sent_head_of-read : (sent : List Bool) (read : ReadHead) → sent_read_of sent ≡ Ok read → sent_head_of sent ≡ Ok read.head
@@ -85,24 +83,24 @@ synced sent some = cond-true (has_sync sent) _ _ some
 
 pub packet_unit_of-nid : (sent : List Bool) → has_sync sent ≡ true → identifier_of sent ≡ None → packet_unit_of sent ≡ Err Nid
 unfolding identified_packet_of
-packet_unit_of-nid sent some none = synced sent some ∙ ap (λ nid. identified_packet_of nid sent) none
+packet_unit_of-nid sent some none = simp (synced, none)
 
 pub packet_unit_of-duid : (sent : List Bool) (nid : ℕ × ℕ) → has_sync sent ≡ true → identifier_of sent ≡ Some nid → nid.1 ≢ 12 → packet_unit_of sent ≡ Err Duid
 unfolding identified_packet_of
 packet_unit_of-duid sent nid some is other =
-    synced sent some ∙ ap (λ nid. identified_packet_of nid sent) is ∙ cond-false (eqb nid.1 12) (with_nac nid.0 (sent_packet_of sent)) (Err Duid) (ne_eqb _ _ other)
+    cc (synced sent some, is, cond-false (eqb nid.1 12) (with_nac nid.0 (sent_packet_of sent)) (Err Duid) (ne_eqb _ _ other))
 
 identified : (sent : List Bool) (nid : ℕ × ℕ) → has_sync sent ≡ true → identifier_of sent ≡ Some nid → nid.1 ≡ 12 → packet_unit_of sent ≡ with_nac nid.0 (sent_packet_of sent)
 unfolding identified_packet_of
 identified sent nid some is duid =
-    synced sent some ∙ ap (λ nid. identified_packet_of nid sent) is ∙ cond-true (eqb nid.1 12) (with_nac nid.0 (sent_packet_of sent)) (Err Duid) (eq-eqb _ _ duid)
+    cc (synced sent some, is, cond-true (eqb nid.1 12) (with_nac nid.0 (sent_packet_of sent)) (Err Duid) (eq-eqb _ _ duid))
 
 pub packet_unit_of-bad : (sent : List Bool) (nid : ℕ × ℕ) (field : Field) → has_sync sent ≡ true → identifier_of sent ≡ Some nid → nid.1 ≡ 12 → sent_packet_of sent ≡ Err field
     → packet_unit_of sent ≡ Err field
 unfolding with_nac
-packet_unit_of-bad sent nid field some is duid fails = identified sent nid some is duid ∙ ap (with_nac nid.0) fails
+packet_unit_of-bad sent nid field some is duid fails = cc (identified sent nid some is duid, fails)
 
 pub packet_unit_of-good : (sent : List Bool) (nid : ℕ × ℕ) (packet : Packet) → has_sync sent ≡ true → identifier_of sent ≡ Some nid → nid.1 ≡ 12 → sent_packet_of sent ≡ Ok packet
     → packet_unit_of sent ≡ Ok (nid.0, packet)
 unfolding with_nac
-packet_unit_of-good sent nid packet some is duid reads = identified sent nid some is duid ∙ ap (with_nac nid.0) reads
+packet_unit_of-good sent nid packet some is duid reads = cc (identified sent nid some is duid, reads)

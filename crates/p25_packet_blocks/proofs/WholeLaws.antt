@@ -1,10 +1,10 @@
 -- A packet that was read and in which no slot is Bad can be sent, and is what the first nearest paths carry. By cases of what
 -- was read: where the checks agree, the octets that were read are those that are written.
 use Rattle.std.proofs.Common.{◌≡◌, ◌≢◌, ℕ, ◌+◌, ◌-◌, ◌*◌, ◌/◌, ◌%◌, ◌<◌, ◌^◌, inl, inr, Bool, true, false, ◌||◌, eqb, List, [], ◌∷◌, ◌++◌, length, take, drop, get_or, Result, Ok, Err, refl, ap, ap₂, sym, subst, ◌∙◌, arith, length-drop, take-append-drop}
-use Rattle.std.proofs.{lemmas.Bool.{cases_Bool, cases_eq, cond-false, cond-true, eqb-true, ne_eqb}, lemmas.List.{length-take-le}, lemmas.List.Elements.{All-head, All-tail, All-take, All-drop}}
+use Rattle.std.proofs.{lemmas.Bool.{cases_Bool, cases_eq, eqb-true, ne_eqb}, lemmas.List.{length-take-le}, lemmas.List.Elements.{All-head, All-tail, All-take, All-drop}}
 use Rattle.p25_bits.specs.{Bits.{part}, Numbers.{octets_number, number_after}}
 use Rattle.p25_bits.proofs.NumbersLaws.{All-numbers_from, All-joined_below, get_or-each_below, part-joined_below}
-use Rattle.p25_status.specs.{declared.fields.Field.{Field}, declared.fields.Field.TheVariants.{PacketHeader, Format, PacketCrc}}
+use Rattle.p25_status.specs.{declared.fields.Field.{Field}, declared.fields.Field.TheVariants.{Format}}
 use Rattle.p25_trellis.specs.Nearest.{nearest_octets, half_octets, three_quarter_octets}
 use Rattle.p25_crc.specs.Values.{crc9_of, crc16_of, crc32_of}
 use Rattle.p25_packet_blocks.specs.{declared.head.PacketHead.{PacketHead}, declared.block.Block.{Block}, declared.block.Slot.{Slot}, declared.block.Slot.TheVariants.{Good, Bad}}
@@ -26,9 +26,7 @@ unfolding octets_number number_after
 two_again (a ∷ b ∷ []) long small =
     let first = All-head IsOctet a (b ∷ []) small in
     let second = All-head IsOctet b [] (All-tail IsOctet a (b ∷ []) small) in
-    let high : (256 * (256 * 0 + a) + b) / 256 ≡ a = omega (arith, first, second) in
-    let low : (256 * (256 * 0 + a) + b) % 256 ≡ b = omega (arith, first, second) in
-    ap₂ (λ (x y : ℕ). x ∷ y ∷ []) high low
+    ap₂ (λ x y. x ∷ y ∷ []) (omega (arith, first, second)) (omega (arith, first, second))
 two_again [] long small = absurd (omega (arith, long))
 two_again (a ∷ []) long small = absurd (omega (arith, long))
 two_again (a ∷ b ∷ c ∷ rest) long small = absurd (omega (arith, long))
@@ -47,7 +45,7 @@ four_again (a ∷ b ∷ c ∷ d ∷ []) long small =
     let two : n / 2 ^ 16 % 256 ≡ b = omega (arith, a_fits, b_fits, c_fits, d_fits) in
     let three : n / 2 ^ 8 % 256 ≡ c = omega (arith, a_fits, b_fits, c_fits, d_fits) in
     let four : n % 256 ≡ d = omega (arith, a_fits, b_fits, c_fits, d_fits) in
-    ap₂ (λ (x : ℕ) (rest : List ℕ). x ∷ rest) one (ap₂ (λ (x : ℕ) (rest : List ℕ). x ∷ rest) two (ap₂ (λ (x y : ℕ). x ∷ y ∷ []) three four))
+    simp (one, two, three, four)
 four_again [] long small = absurd (omega (arith, long))
 four_again (a ∷ []) long small = absurd (omega (arith, long))
 four_again (a ∷ b ∷ []) long small = absurd (omega (arith, long))
@@ -63,14 +61,12 @@ pub record IsHeadOf (octets : List ℕ) (head : PacketHead) : Type 0 where
 
 IsHeadOf-octets : (octets : List ℕ) → length octets ≡ 12 → AreOctets octets → octets_number (drop 10 octets) ≡ crc16_of (take 10 octets) → IsHeadOf octets (record { 0 = take 10 octets })
 IsHeadOf-octets octets long small agrees =
-    let head : PacketHead = record { 0 = take 10 octets } in
-    let last : length (drop 10 octets) ≡ 2 = omega (arith, length-drop 10 octets) in
     record {
       is_head = record { long = length-take-le 10 octets (omega arith); small = All-take IsOctet 10 octets small };
       octets_are =
           sym (take-append-drop 10 octets)
-          ∙ ap (λ (xs : List ℕ). take 10 octets ++ xs) (sym (two_again (drop 10 octets) last (All-drop IsOctet 10 octets small)) ∙ ap two_octets agrees)
-          ∙ sym (header_octets-is head);
+          ∙ ap (λ xs. take 10 octets ++ xs) (sym (two_again (drop 10 octets) (omega (arith, length-drop 10 octets)) (All-drop IsOctet 10 octets small)) ∙ ap two_octets agrees)
+          ∙ sym (header_octets-is (record { 0 = take 10 octets }));
     }
 
 IsHeadOf-from : (octets : List ℕ) (head : PacketHead) → length octets ≡ 12 → AreOctets octets → head_from octets ≡ Ok head → IsHeadOf octets head
@@ -80,10 +76,9 @@ IsHeadOf-from octets head long small is =
     let made : PacketHead = record { 0 = take 10 octets } in
     elim (cases_Bool test) [
       | inl agrees ↦
-          let two : Ok made ≡ Ok head = sym (cond-true test (Ok made) (Err PacketHeader) agrees) ∙ is in
           let same : made ≡ head = cc in
-          subst (IsHeadOf octets) same (IsHeadOf-octets octets long small (eqb-true _ _ agrees))
-      | inr differs ↦ let two : Err PacketHeader ≡ Ok head = sym (cond-false test (Ok made) (Err PacketHeader) differs) ∙ is in absurd (cc)
+          simp same at (IsHeadOf-octets octets long small (eqb-true _ _ agrees))
+      | inr differs ↦ absurd (cc)
     ]
 
 AreOctets-half : (bits : List Bool) → AreOctets (half_octets bits)
@@ -106,15 +101,12 @@ record IsBlockOf (octets : List ℕ) (block : Block) : Type 0 where
 IsBlockOf-octets : (a b : ℕ) (rest : List ℕ) → length rest ≡ 16 → AreOctets (a ∷ b ∷ rest) → 256 * (a % 2) + b ≡ crc9_of (a / 2) rest
     → IsBlockOf (a ∷ b ∷ rest) (record { serial = a / 2; octets = rest })
 IsBlockOf-octets a b rest long small agrees =
-    let block : Block = record { serial = a / 2; octets = rest } in
     let first = All-head IsOctet a (b ∷ rest) small in
     let behind = All-tail IsOctet a (b ∷ rest) small in
     let second = All-head IsOctet b rest behind in
-    let high : (512 * (a / 2) + crc9_of (a / 2) rest) / 256 ≡ a = omega (arith, agrees, first, second) in
-    let low : (512 * (a / 2) + crc9_of (a / 2) rest) % 256 ≡ b = omega (arith, agrees, first, second) in
     record {
       is_block = record { serial_fits = omega (arith, first); long = long; small = All-tail IsOctet b rest behind };
-      octets_are = sym (confirmed_octets-is block ∙ ap₂ (λ (x y : ℕ). x ∷ y ∷ rest) high low);
+      octets_are = sym (confirmed_octets-is (record { serial = a / 2; octets = rest }) ∙ ap₂ (λ x y. x ∷ y ∷ rest) (omega (arith, agrees, first, second)) (omega (arith, agrees, first, second)));
     }
 
 IsBlockOf-cons : (a b : ℕ) (rest : List ℕ) (block : Block) → length rest ≡ 16 → AreOctets (a ∷ b ∷ rest) → slot_from (a ∷ b ∷ rest) ≡ Good block → IsBlockOf (a ∷ b ∷ rest) block
@@ -124,10 +116,9 @@ IsBlockOf-cons a b rest block long small is =
     let made : Block = record { serial = a / 2; octets = rest } in
     elim (cases_Bool test) [
       | inl agrees ↦
-          let two : Good made ≡ Good block = sym (cond-true test (Good made) Bad agrees) ∙ is in
           let same : made ≡ block = cc in
-          subst (IsBlockOf (a ∷ b ∷ rest)) same (IsBlockOf-octets a b rest long small (eqb-true _ _ agrees))
-      | inr differs ↦ let two : Bad ≡ Good block = sym (cond-false test (Good made) Bad differs) ∙ is in absurd (cc)
+          simp same at (IsBlockOf-octets a b rest long small (eqb-true _ _ agrees))
+      | inr differs ↦ absurd (cc)
     ]
 
 IsBlockOf-from : (octets : List ℕ) (block : Block) → length octets ≡ 18 → AreOctets octets → slot_from octets ≡ Good block → IsBlockOf octets block
@@ -161,8 +152,7 @@ module _ (head : PacketHead) (bare : List Bool) where
       → (block : Block) × (get_or (slots_read (head_blocks head) bare) j Bad ≡ Good block) × IsBlockOf (slot_octets j) block
   block_is good j inside =
       let found = good_block (get_or (slots_read (head_blocks head) bare) j Bad) (good.at j (omega (arith, length-slots_read (head_blocks head) bare))) in
-      let octets = slot_octets j in
-      (found.0, found.1, IsBlockOf-from octets found.0 (length-three_quarter_octets (block_bits bare j)) (AreOctets-three_quarter (block_bits bare j)) (sym (slot_is j inside) ∙ found.1))
+      (found.0, found.1, IsBlockOf-from (slot_octets j) found.0 (length-three_quarter_octets (block_bits bare j)) (AreOctets-three_quarter (block_bits bare j)) (sym (slot_is j inside) ∙ found.1))
 
   IsReadOf-confirmed : IsHead head → head_format head ≡ 0x16 → AreGood (slots_read (head_blocks head) bare)
       → IsReadOf head bare (Confirmed (record { head = head; slots = slots_read (head_blocks head) bare }))
@@ -197,9 +187,7 @@ module _ (head : PacketHead) (bare : List Bool) where
   checked_again some agrees =
       let count = 12 * head_blocks head - 4 in
       let last : length (drop count all_octets) ≡ 4 = omega (arith, length-drop count all_octets, length-octets_read (head_blocks head) bare) in
-      checked_octets-is carried
-      ∙ ap (λ (xs : List ℕ). carried ++ xs) (ap four_octets (sym agrees) ∙ four_again (drop count all_octets) last (All-drop IsOctet count all_octets small_octets))
-      ∙ take-append-drop count all_octets
+      cc (checked_octets-is carried, agrees, four_again (drop count all_octets) last (All-drop IsOctet count all_octets small_octets), take-append-drop count all_octets)
 
   octets_of_block : (j : ℕ) → j < head_blocks head → part (12 * j) 12 all_octets ≡ half_octets (block_bits bare j)
   unfolding octets_read
@@ -226,11 +214,10 @@ module _ (head : PacketHead) (bare : List Bool) where
       let agree = eqb (octets_number (drop (12 * head_blocks head - 4) all_octets)) (crc32_of carried) in
       let test = eqb (head_blocks head) 0 || agree in
       elim (cases_Bool test) [
-        | inr none ↦ let two : Err PacketCrc ≡ Ok packet = sym (cond-false test (Ok made) (Err PacketCrc) none) ∙ is in absurd (cc)
+        | inr none ↦ absurd (cc)
         | inl some ↦
-            let two : Ok made ≡ Ok packet = sym (cond-true test (Ok made) (Err PacketCrc) some) ∙ is in
             let same : made ≡ packet = cc in
-            subst (IsReadOf head bare) same (IsReadOf-plain is_head format
+            simp same at (IsReadOf-plain is_head format
             (λ blocks. eqb-true _ _ (right_of (eqb (head_blocks head) 0) agree some (ne_eqb (head_blocks head) 0 (λ zero'. omega arith)))))
       ]
     where
@@ -249,7 +236,7 @@ IsReadOf-head head bare packet is_head is whole =
           let two : Ok made ≡ Ok packet = sym (packet_of_head-confirmed head bare confirmed) ∙ is in
           let same : made ≡ packet = cc in
           let good = subst IsWholePacket (sym same) whole in
-          subst (IsReadOf head bare) same (IsReadOf-confirmed head bare is_head confirmed good)
+          simp same at (IsReadOf-confirmed head bare is_head confirmed good)
       | inr not_16 ↦ elim (cases_eq format 0x15) [
         | inl data' ↦ IsReadOf-plain_from head bare packet is_head (inl data') (sym (packet_of_head-plain head bare (inl data')) ∙ is)
         | inr not_15 ↦ elim (cases_eq format 0x03) [
@@ -279,7 +266,7 @@ whole-from bare packet (Ok head) read is whole =
       sendable = body.sendable;
       read = record {
         header = of.octets_are ∙ ap header_octets (sym body.head_is);
-        blocks = λ j inside. body.blocks j (subst (λ (h : PacketHead). j < head_blocks h) body.head_is inside);
+        blocks = λ j inside. body.blocks j (simp body.head_is at inside);
       };
     }
 

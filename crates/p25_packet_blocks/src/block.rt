@@ -1,3 +1,5 @@
+//! A block of a confirmed packet (PDU): its serial number and its octets.
+
 ghost use Rattle.std.specs.Prelude.{◌≡◌, ◌<◌, length};
 
 use p25_status::BoundedList;

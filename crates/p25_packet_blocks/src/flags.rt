@@ -1,3 +1,5 @@
+//! The flags of a selective retry (PDU): a list of bounded length, one for each block.
+
 ghost use Rattle.std.specs.{Prelude.{◌≡◌, ◌<◌, ◌⊎◌, ◌↔◌, false, length, replicate, slice_get, slice_set, Some, IsSome}, Bool.{beq}};
 ghost use Rattle.std.specs.{Cmp.{bool_eq_equiv, partial_equiv_from_equiv}, Cmp.Lexicographic.{pointwise, lists_equiv}};
 ghost use Rattle.p25_bits.specs.Bits.{octet_bits};

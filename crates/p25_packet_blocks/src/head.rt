@@ -1,3 +1,5 @@
+//! The header of a packet (PDU): its type, its fields, and the headers that are built from them.
+
 ghost use Rattle.std.specs.Prelude.{◌≡◌, ◌^◌, ◌<◌, true, false};
 ghost use Rattle.p25_packet_blocks.specs.Heads.{head_format, head_is_full, head_blocks, head_pad, head_llid, head_syn, head_number, response_class, response_kind, response_status, confirmed_head, plain_head, response_head, opening_head, head_by_octets};
 

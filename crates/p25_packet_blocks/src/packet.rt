@@ -1,3 +1,5 @@
+//! The packets (PDU) by their formats: confirmed, not confirmed and responses.
+
 ghost use Rattle.std.specs.Prelude.{◌≡◌, ℕ, ◌+◌, ◌-◌, ◌*◌, ◌≤◌, [], length, Ok, IfOk};
 ghost use Rattle.p25_packet_blocks.specs.{Fixes.{half_distance, packet_fixes_of}, Heads.{head_format, head_blocks, response_head}, Kinds.{IsPlainFormat}};
 ghost use Rattle.p25_packet_blocks.specs.Outcomes.{body_distance, failing_blocks_of, packet_or, packet_outcome_of};

@@ -1,3 +1,5 @@
+//! The methods of a packet (PDU) of any format.
+
 ghost use Rattle.std.specs.Prelude.{◌≡◌, ◌↔◌, IsTrue};
 ghost use Rattle.p25_packet_blocks.specs.Whole.{packet_head, IsWholePacket};
 
