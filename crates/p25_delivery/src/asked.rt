@@ -1,3 +1,5 @@
+//! What a response asks of the sender that waits for it.
+
 #![tactic(auto, unfolding(crate::specs::Asked::is_response, crate::specs::Asked::is_ack, crate::specs::Asked::asked_by_flags))]
 
 ghost use Rattle.std.specs.{Prelude.{◌≡◌, ◌≤◌, ◌&&◌, nat_le, not, Bool, List, length, take}, List.{list_any}};

@@ -1,3 +1,5 @@
+//! The blocks of a message that a receiver holds, each at the index of its serial number.
+
 ghost use Rattle.std.specs.Prelude.{◌≡◌, ◌<◌, ◌≤◌, ◌&&◌, ◌==◌, length, IfSome};
 ghost use Rattle.p25_delivery.specs.{Places.{put_slots, put_block, all_octets, held_flags}, Halves.{Keeping}, ReceiverRules.{empty_places}};
 

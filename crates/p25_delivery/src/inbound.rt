@@ -1,3 +1,5 @@
+//! The half of a station that receives: a receiver and the messages that it delivered.
+
 ghost use Rattle.std.specs.Prelude.{◌≡◌, ◌+◌, ◌<◌, ◌≤◌, OnOk, OnErr, IfSome};
 ghost use Rattle.p25_packet_blocks.specs.Sendable.{IsSendable};
 ghost use Rattle.p25_delivery.specs.{Halves.{first_incoming}, ReceiverRules.{receiver_heard}, HalfRules.{after_data}};

@@ -1,3 +1,5 @@
+//! The octets of the blocks of a message, with its pad octets and its check.
+
 ghost use Rattle.std.specs.Prelude.{◌≡◌, ℕ, ◌+◌, ◌*◌, ◌<◌, ◌≤◌, List, length, IfSome};
 ghost use Rattle.p25_bits.specs.{Bits.{part}, Numbers.{octets_number}};
 ghost use Rattle.p25_delivery.specs.{MessageBlocks.{block_count, pad_count, message_octets, unpadded}, Places.{all_octets}};

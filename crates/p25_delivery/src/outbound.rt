@@ -1,3 +1,5 @@
+//! The half of a station that sends: a sender, the messages that it sent, and the ends of its sessions.
+
 #![tactic(auto, unfolding(crate::specs::HalfRules::after_offer, crate::specs::HalfRules::after_timeout, crate::specs::HalfRules::after_answer))]
 
 ghost use Rattle.std.specs.Prelude.{◌≡◌, ◌+◌, ◌<◌, ◌≤◌, length, OnOk, OnErr, IfSome};

@@ -1,3 +1,5 @@
+//! The receiver of confirmed delivery: its state, and its answer to each packet.
+
 #![tactic(auto, unfolding(crate::specs::ReceiverRules::opening_heard, crate::specs::ReceiverRules::data_heard, crate::specs::ReceiverRules::finished))]
 
 ghost use Rattle.std.specs.Prelude.{◌≡◌, ◌<◌, IfNone};

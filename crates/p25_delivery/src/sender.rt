@@ -1,3 +1,5 @@
+//! The sender of confirmed delivery: its state, and what it sends at each event.
+
 #![tactic(auto, unfolding(crate::specs::Halves::IsNumbered, crate::specs::SenderRules::resent, crate::specs::SenderRules::retried))]
 
 ghost use Rattle.std.specs.Prelude.{◌≡◌, ◌<◌, if◌then◌else◌};

@@ -1,3 +1,5 @@
+//! The events and the steps of a duplex world.
+
 ghost use Rattle.std.specs.Prelude.{◌≡◌};
 ghost use Rattle.p25_duplex.specs.DuplexSteps.{side_of};
 

@@ -1,3 +1,5 @@
+//! The two sides of a duplex world, a and b.
+
 ghost use Rattle.std.specs.Prelude.{◌≡◌, length};
 ghost use Rattle.p25_duplex.specs.DuplexSteps.{other_side, side_word};
 

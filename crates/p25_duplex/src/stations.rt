@@ -1,3 +1,5 @@
+//! Two stations that both send, and the air between them, without the history of their events.
+
 ghost use Rattle.std.specs.Prelude.{◌≡◌, ◌<◌};
 ghost use Rattle.p25_duplex.specs.DuplexSteps.{duplex_step, first_duplex, station_at};
 

@@ -1,3 +1,5 @@
+//! The duplex world: its stations after some list of events, which its invariant states.
+
 ghost use Rattle.std.specs.Prelude.{◌≡◌, ◌+◌, length, OnErr, IfOk};
 ghost use Rattle.p25_delivery.specs.{Delivery.{sessions_of}, Orderly.{AreOrderly, AreWhole}};
 ghost use Rattle.p25_duplex.specs.DuplexRuns.{HasDuplexHistory, HasFacts, IsDuplexEvent, Side as side_type, delivery_at, duplex_step, first_duplex};

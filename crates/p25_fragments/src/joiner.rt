@@ -1,3 +1,5 @@
+//! The joiner, which makes long messages of their parts.
+
 ghost use Rattle.std.specs.Prelude.{◌≡◌};
 ghost use Rattle.p25_fragments.specs.Joining.{first_joining, is_refused, part_taken, message_taken};
 

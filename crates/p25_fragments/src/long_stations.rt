@@ -1,3 +1,5 @@
+//! Two stations with long messages, without the history of their events.
+
 #![tactic(auto, unfolding(crate::specs::LongSteps::long_step, crate::specs::LongSteps::started, crate::specs::LongSteps::inner_happened))]
 
 ghost use Rattle.std.specs.Prelude.{◌≡◌, ◌+◌, ◌<◌, ◌≤◌};

@@ -1,3 +1,5 @@
+//! The events and the steps of a world of long messages.
+
 use p25_messages::LongMessage;
 use p25_stations::{Event, Step};
 

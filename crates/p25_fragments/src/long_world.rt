@@ -1,3 +1,5 @@
+//! The world of long messages: its stations after some list of events, which its invariant states.
+
 ghost use Rattle.std.specs.Prelude.{◌≡◌, ◌+◌, ◌<◌, ◌≤◌, ◌||◌, false, OnOk, OnErr, IfOk};
 ghost use Rattle.p25_delivery.specs.Orderly.{AreOrderly, AreWhole};
 ghost use Rattle.p25_fragments.specs.{LongRuns.{HasLongHistory, IsEventOf, long_sessions_of, offers_beside}, LongState.{first_long, long_delivery}};

@@ -1,3 +1,5 @@
+//! A reader and a writer of std, with a history of each answer that they gave.
+
 // One of std's readers and one of its writers, with each of their answers, which exist only in proofs.
 //
 // No contract can say what a call of a terminal, a pipe or a file does. So the three functions `AskedReader::read`,

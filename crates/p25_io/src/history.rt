@@ -1,3 +1,5 @@
+//! A history that exists only in proofs: a list of events to which calls append.
+
 // The events that a port went through. They exist only in proofs.
 ghost use Rattle.std.specs.Prelude.{◌≡◌, List, [], ◌∷◌, ◌++◌};
 ghost use base.Fml.{ftrue};

@@ -1,3 +1,5 @@
+//! The offsets of the bit errors of a transmission.
+
 ghost use Rattle.std.specs.Prelude.{◌≡◌, ℕ, ◌+◌, ◌<◌, ◌≤◌, ◌↔◌, IsTrue, Some, List, [], ◌∷◌, ◌++◌, length, slice_get, All};
 ghost use Rattle.std.specs.List.Sorted.{IsStrictlyIncreasing};
 

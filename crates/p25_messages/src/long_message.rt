@@ -1,3 +1,5 @@
+//! Long messages, and the sizes of their parts.
+
 ghost use Rattle.std.specs.Prelude.{◌≡◌, ◌<◌, ◌≤◌, length};
 ghost use Rattle.p25_messages.specs.LongMessages.{part_count, part_mark, part_of};
 

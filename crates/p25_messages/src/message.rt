@@ -1,3 +1,5 @@
+//! Messages: lists of octets of bounded length.
+
 ghost use Rattle.std.specs.Prelude.{◌≡◌, ℕ, ⊤, ◌≤◌, ◌↔◌, List, length, take, IsSome, IfSome};
 
 use arrayvec::ArrayVec;

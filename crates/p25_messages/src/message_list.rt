@@ -1,3 +1,5 @@
+//! Lists of messages, which are stored as one list of octets.
+
 ghost use Rattle.std.specs.Prelude.{◌≡◌, ◌+◌, ◌^◌, ◌<◌, ◌≤◌, ◌↔◌, IsTrue, Some, [], ◌∷◌, ◌++◌, length, slice_get, vec_len, OnOk, OnErr};
 ghost use Rattle.p25_messages.specs.MessageList.{ListParts, pieces_between, start_before, room_for, IsKept};
 

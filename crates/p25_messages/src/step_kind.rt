@@ -1,3 +1,5 @@
+//! The direction of a transmission, and the kinds of steps.
+
 use crate::message::Message;
 use p25_packet_blocks::Flags;
 use p25_status::Field;

@@ -1,3 +1,5 @@
+//! The newest transmission of one direction of the air.
+
 ghost use Rattle.std.specs.Prelude.{◌≡◌, Option, None, IfSome};
 ghost use Rattle.p25_packet_blocks.specs.Sendable.{IsSendable};
 ghost use Rattle.p25_delivery.specs.Delivery.{newest_after};

@@ -1,3 +1,5 @@
+//! The events and the steps of a world of two stations.
+
 ghost use Rattle.std.specs.Prelude.{◌≡◌, false};
 ghost use Rattle.p25_stations.specs.Steps.{counted_when};
 

@@ -1,3 +1,5 @@
+//! Whether a delivery is a false pass: what was received beside what was sent.
+
 #![tactic(auto, unfolding(crate::specs::Air::is_true_slot, crate::specs::Air::are_true_slots, crate::specs::Air::is_true_to))]
 
 ghost use Rattle.std.specs.Prelude.{◌≡◌};

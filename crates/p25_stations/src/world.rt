@@ -1,3 +1,5 @@
+//! The world of two stations: its stations after some list of events, which its invariant states.
+
 ghost use Rattle.std.specs.Prelude.{◌≡◌, ◌+◌, ◌<◌, ◌≤◌, length, OnOk, OnErr, IfOk};
 ghost use Rattle.p25_delivery.specs.{Delivery.{sessions_of}, Facts.{DeliveryFacts}, Orderly.{AreCounted, AreOrderly, AreWhole}};
 ghost use Rattle.p25_stations.specs.{Runs.{HasHistory, IsEvent}, Steps.{world_step}, WorldState.{first_world}};

@@ -1,3 +1,5 @@
+//! The commands of the program.
+
 use p25_status::Status;
 
 /// What a call asks for.

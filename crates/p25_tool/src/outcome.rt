@@ -1,3 +1,5 @@
+//! The outcomes of a call, and the line of each on standard error.
+
 ghost use Rattle.std.specs.Prelude.{◌≡◌, ◌+◌, ◌≤◌, ◌++◌, length, codes, decimal, Some};
 ghost use Rattle.p25_tool.specs.Outcomes.{fault_word, line_of, status_of, filter_outcome};
 

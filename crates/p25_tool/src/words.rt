@@ -1,3 +1,5 @@
+//! The words of a call, in a list of bounded length.
+
 ghost use Rattle.std.specs.Prelude.{◌≡◌, ℕ, ◌<◌, List, [], option_map, IfSome};
 ghost use Rattle.p25_tool.specs.Words.{IsSoundCommand, forwarding_of, one_word_command, sample_of, status_in, three_word_command, two_word_command};
 ghost use Rattle.p25_line.specs.Values.{number_below};

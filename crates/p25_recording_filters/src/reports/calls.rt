@@ -1,3 +1,5 @@
+//! The report of `calls`: a line for each call, and their number.
+
 ghost use Rattle.std.specs.Prelude.{◌≡◌, ◌<◌, ◌≤◌, [], flat_map, length, option_to_list, IfSome};
 ghost use Rattle.p25_calls.specs.Taking.{fresh_caller};
 ghost use Rattle.p25_recording_filters.specs.ItemOutputs.{call_line};

@@ -1,3 +1,5 @@
+//! The report of `repair`, `bridge` and `relay`: the bits of each item, changed.
+
 ghost use Rattle.std.specs.Prelude.{◌≡◌, ◌+◌, ◌-◌, ◌/◌, ◌<◌, ◌≤◌, ◌++◌, [], length, drop};
 ghost use Rattle.p25_units.specs.{Items.{IsSoundItem, covered}, Units.{whole_octets}};
 ghost use Rattle.p25_follow.specs.Relayed.{IsFitItem};

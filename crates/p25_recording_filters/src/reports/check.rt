@@ -1,3 +1,5 @@
+//! The report of `check`: the items that are not whole units, and the counts.
+
 ghost use Rattle.std.specs.Prelude.{◌≡◌, ◌+◌};
 
 use super::show::put_item_line;

@@ -1,3 +1,5 @@
+//! The report of `follow`: the bits of the recording, with lost syncs and identifiers restored.
+
 ghost use Rattle.std.specs.Prelude.{◌≡◌, ◌<◌, [], length};
 ghost use Rattle.p25_follow.specs.Following.{fresh_follow};
 

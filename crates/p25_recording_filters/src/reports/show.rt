@@ -1,3 +1,5 @@
+//! The report of `show`: a line for each item.
+
 ghost use Rattle.std.specs.Prelude.{◌≡◌};
 ghost use Rattle.p25_units.specs.Items.{IsSoundItem};
 ghost use Rattle.p25_recording_filters.specs.ItemOutputs.{shown};
