@@ -1,3 +1,5 @@
+//! An element of GF(64): its type, its conversions from and to numbers, and the arithmetic of the field.
+
 ghost use Rattle.std.specs.Prelude.{◌≡◌, ◌≢◌, ◌%◌, ◌<◌, ◌↔◌, IsTrue, IsSome, IfSome, bit_xor};
 
 use crate::products::product;
