@@ -1,3 +1,5 @@
+//! The reasons for which a line is refused, in their order.
+
 use thiserror::Error;
 
 /// Why a line is refused, in the order in which the causes are judged. It is shown as one word.

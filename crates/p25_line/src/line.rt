@@ -1,3 +1,5 @@
+//! A line of text of bounded length, and what appends words and numbers to it.
+
 ghost use Rattle.std.specs.Prelude.{◌≡◌, ℕ, ◌+◌, ◌*◌, ◌<◌, ◌≤◌, ◌==◌, List, [], ◌++◌, length, take, decimal};
 ghost use Rattle.hex.specs.Hex.{encode_lower};
 ghost use Rattle.p25_line.specs.{Octets.{octets_text}, Values.{three_digits}};

@@ -1,3 +1,5 @@
+//! The words of a line: how many there are, and each by its number.
+
 ghost use Rattle.std.specs.Prelude.{◌≡◌, ◌↔◌, ◌<◌, ◌≤◌, length, slice_get, Err};
 ghost use Rattle.p25_line.specs.{Words.{words_or_fault}, declared.fault.LineFault.TheVariants.{Long}};
 

@@ -1,3 +1,5 @@
+//! The values of words: octets in hexadecimal, and decimal numbers.
+
 ghost use Rattle.std.specs.{Prelude.{◌≡◌, ◌≢◌, ℕ, ◌≤◌, List, length, take, drop, decimal, IfSome, MatchOption}, Bool.{OnTrue, OnFalse}, List.{list_all}};
 ghost use Rattle.std.specs.Option.{option_map};
 ghost use Rattle.hex.specs.Hex.{encode_lower};

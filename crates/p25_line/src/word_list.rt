@@ -1,3 +1,5 @@
+//! The places of the first words of a line, and how many words there are.
+
 ghost use Rattle.std.specs.Prelude.{◌≡◌, ◌+◌, ◌-◌, ◌<◌, ◌≤◌, [], ◌∷◌, ◌++◌, length, take, slice_get, All};
 ghost use Rattle.p25_line.specs.Words.{LiesIn, marked, WordsAnswer};
 

@@ -1,3 +1,5 @@
+//! The parts of a data unit that can fail to decode.
+
 use crate::list::BoundedList;
 
 /// A part of a unit that can fail to be read. The default, which fills the unused places of a list, means nothing.

@@ -1,3 +1,5 @@
+//! The frame sync: its bits, its length and the distance at which it is still found.
+
 ghost use Rattle.std.specs.Prelude.{◌≡◌, ◌+◌, ◌^◌, ◌<◌, ◌≤◌, ◌↔◌, IsTrue, length};
 ghost use Rattle.p25_bits.specs.{Bits.{bits_of, part}, Distance.{distance_of}};
 ghost use Rattle.p25_status.specs.Sync.{sync_bits, sync_slack, sync_length, identifier_length};

@@ -1,3 +1,5 @@
+//! A list of bounded length over any type with a default.
+
 ghost use Rattle.std.specs.Prelude.{◌≡◌, ◌+◌, ◌<◌, ◌≤◌, ◌↔◌, IsTrue, List, [], ◌∷◌, ◌++◌, length, slice_get, replicate, Some};
 
 use arrayvec::ArrayVec;

@@ -1,3 +1,5 @@
+//! A status symbol: its type, and its conversions from and to numbers.
+
 ghost use Rattle.std.specs.Prelude.{◌≡◌, ◌<◌, ◌↔◌, IsSome, IfSome};
 
 use crate::list::BoundedList;

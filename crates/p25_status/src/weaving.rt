@@ -1,3 +1,5 @@
+//! Status symbols between the bits of a data unit: how they are inserted and removed.
+
 ghost use Rattle.std.specs.Prelude.{◌≡◌, ◌+◌, ◌*◌, ◌%◌, ◌≤◌, Bool, List, length};
 ghost use Rattle.p25_bits.specs.Bits.{part};
 ghost use Rattle.p25_status.specs.Woven.{woven, bare_of, statuses_of, StandsByPlaces};
