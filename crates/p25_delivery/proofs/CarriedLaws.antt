@@ -40,8 +40,11 @@ message-read_back message =
     let zeros = replicate pad 0 in
     let many : length zeros ≡ pad = length-replicate {A = ℕ} pad 0 in
     let count : length (message ++ zeros) - pad ≡ length message = omega (arith, length-append message zeros, many) in
-    cc (unpadded-is (message ++ zeros) (four_octets (crc32_of (message ++ zeros))) pad refl (octets_number-four_octets (crc32_of (message ++ zeros))) (omega (arith, length-append message zeros, many)), take_at message zeros
-    (length (message ++ zeros) - pad) (sym count))
+    cc (
+      unpadded-is (message ++ zeros) (four_octets (crc32_of (message ++ zeros))) pad refl (octets_number-four_octets (crc32_of (message ++ zeros))) (omega (arith, length-append message zeros, many)),
+      take_at message zeros
+          (length (message ++ zeros) - pad) (sym count),
+    )
 
 -- where a block is put, and where the others stay
 pub put_block-here : (places : List (Option BlockParts)) (block : BlockParts) (j : ℕ) → j < length places → block.serial ≡ j → get_or (put_block places block) j None ≡ Some block
@@ -96,8 +99,14 @@ all_octets-each zero block =
     cc (each_below-zero (λ (j : ℕ). Some (block j)), joined_below-zero (λ (j : ℕ). (block j).octets))
 all_octets-each (suc n) block =
     let octets = joined_below n (λ (j : ℕ). (block j).octets) in
-    rw (each_below-suc n (λ (j : ℕ). Some (block j)), all_octets-append (each_below n (λ (j : ℕ). Some (block j))) (Some (block n) ∷ []), all_octets-each n block, append-nil (block n).octets, ← joined_below-suc n
-    (λ (j : ℕ). (block j).octets))
+    rw (
+      each_below-suc n (λ (j : ℕ). Some (block j)),
+      all_octets-append (each_below n (λ (j : ℕ). Some (block j))) (Some (block n) ∷ []),
+      all_octets-each n block,
+      append-nil (block n).octets,
+      ← joined_below-suc n
+          (λ (j : ℕ). (block j).octets),
+    )
 
 -- the blocks of a message joined are its octets
 pub joined-message_blocks : (message : List ℕ) → joined_below (block_count (length message)) (λ j. (message_block message j).octets) ≡ message_octets message

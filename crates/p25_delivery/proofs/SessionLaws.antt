@@ -97,8 +97,12 @@ ended-more limit from [] sent received more_sent more_received s r e f here all 
 ended-more limit from (to ∷ marks) sent received more_sent more_received s r e f here all =
     let next = All-head (IsWithin limit) to marks all in
     let session : List (List ℕ) → List (List ℕ) → Session = λ (xs ys : List (List ℕ)). record { sent = xs; delivered = ys; acknowledged = to.acknowledged - from.acknowledged } in
-    cc (e from.sent (to.sent - from.sent) (omega (arith, here.sent, next.sent, s)), f from.delivered (to.delivered - from.delivered)
-    (omega (arith, here.delivered, next.delivered, r)), ended-more limit to marks sent received more_sent more_received s r e f next (All-tail (IsWithin limit) to marks all))
+    cc (
+      e from.sent (to.sent - from.sent) (omega (arith, here.sent, next.sent, s)),
+      f from.delivered (to.delivered - from.delivered)
+          (omega (arith, here.delivered, next.delivered, r)),
+      ended-more limit to marks sent received more_sent more_received s r e f next (All-tail (IsWithin limit) to marks all),
+    )
 
 -- and a mark ends one more
 

@@ -136,7 +136,10 @@ fn run_stations<P: Port>(alloc: Global, port: &mut P) -> FilterEnd
 fn run_duplex<P: Port>(alloc: Global, port: &mut P) -> FilterEnd
     ensures { (events : List Event) × P.moves port.old events port.new × IsRun (command_future Duplex) events result }
 {
-    run_lines(Script::new(ScriptWorld::Duplex(DuplexWorld::new(alloc))), port)
+    run_lines(
+        Script::new(ScriptWorld::Duplex(DuplexWorld::new(alloc))),
+        port,
+    )
 }
 
 // The work of `fragments`.
