@@ -1,5 +1,5 @@
 -- Texts whose octets are all below 128: numbers, digits, lists with commas, and words that are joined. By tests of octets, which compute.
-use Rattle.std.proofs.Common.{◌≡◌, ℕ, zero, suc, ◌/◌, ◌%◌, ◌<◌, ◌==◌, ◌&&◌, Bool, true, false, cond, List, [], ◌∷◌, ◌++◌, length, drop, map, slice_index, refl, ap₂, ◌∙◌, arith}
+use Rattle.std.proofs.Common.{◌≡◌, ℕ, zero, suc, ◌/◌, ◌%◌, ◌<◌, ◌==◌, ◌&&◌, Bool, true, false, cond, List, [], ◌∷◌, ◌++◌, length, drop, map, slice_index, refl, ap₂, arith}
 use Rattle.std.proofs.{lemmas.Bool.{and_parts, lt-ltb, ltb-true}, lemmas.List.Folds.{list_all-append}, lemmas.Str.Ascii.{IsAscii-cons, IsAscii-nil}}
 use Rattle.std.specs.{Prelude.{IsAscii, decimal, nat_lt}, Fmt.{digit_glyph, digits, digits_onto}, List.{join_with_byte, list_all}}
 use Rattle.hex.specs.Hex.{encode_lower, encode_with, lower_digits}
@@ -19,7 +19,7 @@ IsAscii-tested (octet ∷ text) all =
 
 -- one text after the other
 pub ascii-append : (text more : List ℕ) → is_ascii text ≡ true → is_ascii more ≡ true → is_ascii (text ++ more) ≡ true
-ascii-append text more first second = list_all-append (λ octet. nat_lt octet 128) text more ∙ ap₂ ◌&&◌ first second
+ascii-append text more first second = simp (list_all-append, first, second)
 
 pub ascii-drop : (count : ℕ) (text : List ℕ) → is_ascii text ≡ true → is_ascii (drop count text) ≡ true
 ascii-drop zero text all = all
@@ -68,7 +68,7 @@ ascii-digit nibble = lt-ltb (slice_index lower_digits nibble) 128 (IsAscii-teste
 pub ascii-encode_lower : (octets : List ℕ) → is_ascii (encode_lower octets) ≡ true
 unfolding encode_with
 ascii-encode_lower [] = refl
-ascii-encode_lower (octet ∷ octets) = ap₂ ◌&&◌ (ascii-digit (octet / 16)) (ap₂ ◌&&◌ (ascii-digit (octet % 16)) (ascii-encode_lower octets))
+ascii-encode_lower (octet ∷ octets) = cc (ascii-digit (octet / 16), ascii-digit (octet % 16), ascii-encode_lower octets)
 
 pub ascii-three_digits : (number : ℕ) → is_ascii (three_digits number) ≡ true
 ascii-three_digits number = ascii-drop 1 (encode_lower (number / 256 ∷ number % 256 ∷ [])) (ascii-encode_lower (number / 256 ∷ number % 256 ∷ []))
@@ -83,13 +83,13 @@ ascii-join separator low [] all = refl
 ascii-join separator low (word ∷ []) all = (and_parts (is_ascii word) true all).0
 ascii-join separator low (word ∷ next ∷ words) all =
     let parts = and_parts (is_ascii word) (list_all is_ascii (next ∷ words)) all in
-    ascii-append word (separator ∷ join_with_byte separator (next ∷ words)) parts.0 (ap₂ ◌&&◌ low (ascii-join separator low (next ∷ words) parts.1))
+    ascii-append word (separator ∷ join_with_byte separator (next ∷ words)) parts.0 (cc (low, ascii-join separator low (next ∷ words) parts.1))
 
 -- lists whose entries have such texts
 module _ {X : Type 0} (text : X → List ℕ) (each : (entry : X) → is_ascii (text entry) ≡ true) where
   pub ascii-map : (entries : List X) → list_all is_ascii (map text entries) ≡ true
   ascii-map [] = refl
-  ascii-map (entry ∷ entries) = ap₂ ◌&&◌ (each entry) (ascii-map entries)
+  ascii-map (entry ∷ entries) = cc (each entry, ascii-map entries)
 
   pub ascii-comma_text : (entries : List X) → is_ascii (comma_text text entries) ≡ true
   unfolding comma_text

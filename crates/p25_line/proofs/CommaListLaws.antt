@@ -1,6 +1,6 @@
 -- A list is read from its text, and a word that is read as a list is its text, where that holds of each entry and no entry's text has a comma. By induction on the parts.
-use Rattle.std.proofs.Common.{◌≡◌, ℕ, ◌<◌, ◌==◌, ◌&&◌, Bool, true, false, List, [], ◌∷◌, length, map, Option, Some, inl, inr, refl, sym, ap, ap₂, subst, ◌∙◌, arith}
-use Rattle.std.proofs.{lemmas.Bool.{cases_Bool, cond-true, cond-false}, lemmas.List.Splits.{join_with_byte-slice_split, length-slice_split}, lemmas.Slice.Eq.{bytes_eq-Decides}}
+use Rattle.std.proofs.Common.{◌≡◌, ℕ, ◌<◌, ◌==◌, Bool, true, false, List, [], ◌∷◌, length, map, Option, Some, inl, inr, refl, sym, ap, ap₂, ◌∙◌, arith}
+use Rattle.std.proofs.{lemmas.Bool.{cases_Bool, cond-false}, lemmas.List.Splits.{join_with_byte-slice_split, length-slice_split}, lemmas.Slice.Eq.{bytes_eq-Decides}}
 use Rattle.std.specs.{List.{join_with_byte, list_all}, Str.{bytes_eq}}
 use Rattle.p25_line.proofs.JoinLaws.{Lacks, split-join}
 use Rattle.p25_line.specs.CommaLists.{comma_parts, comma_text, dash, entries_in, list_in, list_text, with_entry}
@@ -20,25 +20,23 @@ pub record EntryLaws {X : Type 0} (text : X → List ℕ) (read : List ℕ → O
 module _ {X : Type 0} {text : X → List ℕ} {read : List ℕ → Option X} {Fits : X → Type 0} {is_part : List ℕ → Bool} (laws : EntryLaws text read Fits is_part) where
   parts-fit : (entries : List X) → AllFit Fits entries → list_all is_part (map text entries) ≡ true
   parts-fit [] fits = refl
-  parts-fit (entry ∷ entries) fits = ap₂ ◌&&◌ (laws.written entry fits.0) (parts-fit entries fits.1)
+  parts-fit (entry ∷ entries) fits = cc (laws.written entry fits.0, parts-fit entries fits.1)
 
   entries_in-text : (entries : List X) → AllFit Fits entries → entries_in read (map text entries) ≡ Some entries
   entries_in-text [] fits = refl
-  entries_in-text (entry ∷ entries) fits = ap₂ with_entry (laws.back entry fits.0) (entries_in-text entries fits.1)
+  entries_in-text (entry ∷ entries) fits = cc (laws.back entry fits.0, entries_in-text entries fits.1)
 
   entries_more : (part : List ℕ) (parts : List (List ℕ)) (first : Option X) (others : Option (List X)) (entries : List X) → read part ≡ first → with_entry first others ≡ Some entries
       → ((rest : List X) → others ≡ Some rest → (map text rest ≡ parts) × AllFit Fits rest) → (map text entries ≡ part ∷ parts) × AllFit Fits entries
   entries_more part parts (Some entry) (Some others) (first ∷ entries) found all step =
-      let same_first : entry ≡ first = cc all in
-      let same_rest : others ≡ entries = cc all in
-      let one = laws.again part first (found ∙ ap Some same_first) in
-      let rest = step entries (ap Some same_rest) in
+      let one = laws.again part first (found ∙ ap Some (cc all)) in
+      let rest = step entries (ap Some (cc all)) in
       (ap₂ ◌∷◌ one.0 rest.0, (one.1, rest.1))
-  entries_more part parts first others entries found all step = cc all
+  entries_more part parts first others entries found all step = cc
 
   text-entries_in : (parts : List (List ℕ)) (entries : List X) → entries_in read parts ≡ Some entries → (map text entries ≡ parts) × AllFit Fits entries
   text-entries_in [] [] found = (refl, tt)
-  text-entries_in [] (entry ∷ entries) found = cc found
+  text-entries_in [] (entry ∷ entries) found = cc
   text-entries_in (part ∷ parts) entries found = entries_more part parts (read part) (entries_in read parts) entries refl found (λ rest h. text-entries_in parts rest h)
 
   -- a list is read from its text, where that is not `-`
@@ -47,13 +45,15 @@ module _ {X : Type 0} {text : X → List ℕ} {read : List ℕ → Option X} {Fi
   list_in-text [] fits other = refl
   list_in-text (entry ∷ entries) fits other =
       let word = list_text text (entry ∷ entries) in
-      cond-false (bytes_eq word dash) (Some []) (entries_in read (comma_parts word)) (other (omega arith))
-      ∙ ap (entries_in read) (split-join 44 is_part laws.lacks (map text (entry ∷ entries)) (omega arith) (parts-fit (entry ∷ entries) fits))
-      ∙ entries_in-text (entry ∷ entries) fits
+      cc (
+        cond-false (bytes_eq word dash) (Some []) (entries_in read (comma_parts word)) (other (omega arith)),
+        split-join 44 is_part laws.lacks (map text (entry ∷ entries)) (omega arith) (parts-fit (entry ∷ entries) fits),
+        entries_in-text (entry ∷ entries) fits,
+      )
 
   joined : (word : List ℕ) (entries : List X) → map text entries ≡ comma_parts word → AllFit Fits entries → (list_text text entries ≡ word) × AllFit Fits entries
   unfolding comma_text
-  joined word [] same fits = let long = ap length same in absurd (omega (arith, long, length-slice_split (λ octet. octet == 44) word))
+  joined word [] same fits = absurd (omega (arith, ap length same, length-slice_split (λ octet. octet == 44) word))
   joined word (entry ∷ entries) same fits = (ap (join_with_byte 44) same ∙ join_with_byte-slice_split 44 word, fits)
 
   -- a word that is read as a list is its text
@@ -62,11 +62,9 @@ module _ {X : Type 0} {text : X → List ℕ} {read : List ℕ → Option X} {Fi
       let empty : List X = [] in
       elim (cases_Bool (bytes_eq word dash)) [
         | inl same_dash ↦
-            let none = cond-true (bytes_eq word dash) (Some empty) (entries_in read (comma_parts word)) same_dash in
             let same : empty ≡ entries = cc in
-            subst (λ (l : List X). (list_text text l ≡ word) × AllFit Fits l) same (sym ((bytes_eq-Decides word dash).0 same_dash), tt)
+            rw (← same) (sym ((bytes_eq-Decides word dash).0 same_dash), tt)
         | inr other ↦
-            let some = cond-false (bytes_eq word dash) (Some empty) (entries_in read (comma_parts word)) other in
-            let facts = text-entries_in (comma_parts word) entries (sym some ∙ found) in
+            let facts = text-entries_in (comma_parts word) entries (sym (cond-false (bytes_eq word dash) (Some empty) (entries_in read (comma_parts word)) other) ∙ found) in
             joined word entries facts.0 facts.1
       ]

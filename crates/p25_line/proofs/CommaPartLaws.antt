@@ -13,11 +13,10 @@ NoComma word start end = (k : ℕ) → start ≤ k → k < end → get_or word k
 lacks-part : (word : List ℕ) (start n : ℕ) → NoComma word start (start + n) → Lacks 44 (take n (drop start word))
 lacks-part word start n none i d inside =
     let short : i < n = omega (arith, length-take n (drop start word)) in
-    let within : start + i < length word = omega (arith, length-take n (drop start word), length-drop start word) in
-    let same : get_or (take n (drop start word)) i d ≡ get_or word (start + i) d = get_or-take n (drop start word) i d short ∙ get_or-drop start word i d in
-    let any : get_or word (start + i) d ≡ get_or word (start + i) 0 = get_or_default word (start + i) d 0 within in
+    let same : get_or (take n (drop start word)) i d ≡ get_or word (start + i) d = simp (get_or-take, get_or-drop) in
+    let any : get_or word (start + i) d ≡ get_or word (start + i) 0 = get_or_default word (start + i) d 0 (omega (arith, length-take n (drop start word), length-drop start word)) in
     let other = none (start + i) (omega arith) (omega arith) in
-    ap (λ o. o == 44) (same ∙ any) ∙ ne_eqb (get_or word (start + i) 0) 44 other
+    simp (same, any, ne_eqb)
 
 -- a word is its parts from its beginning
 pub parts_from-start : (word : List ℕ) → parts_from word 0 ≡ comma_parts word
@@ -63,11 +62,9 @@ pub part-last : (word part : List ℕ) (start : ℕ) → start ≤ length word �
 part-last word part start within none same =
     let whole : start + (length word - start) ≡ length word = omega arith in
     let all : take (length word - start) (drop start word) ≡ drop start word = take_all (length word - start) (drop start word) (omega (arith, length-drop start word)) in
-    let count : length part ≡ length word - start = ap length (same ∙ all) ∙ length-drop start word in
-    let lacks = subst (Lacks 44) all (lacks-part word start (length word - start) (subst (NoComma word start) (sym whole) none)) in
-    parts_from-within word start within
-    ∙ slice_split_none (λ octet. octet == 44) (drop start word) lacks
-    ∙ ap₂ ◌∷◌ (sym (same ∙ all)) (sym (parts_from-past word (start + length part + 1) (omega arith)))
+    let count : length part ≡ length word - start = simp (same, all, length-drop) in
+    let lacks = subst (Lacks 44) all (lacks-part word start (length word - start) (simp whole none)) in
+    cc (parts_from-within word start within, slice_split_none (λ octet. octet == 44) (drop start word) lacks, all, same, parts_from-past word (start + length part + 1) (omega arith))
 
 -- there is a part at each place within a word
 pub some_parts : (word : List ℕ) (start : ℕ) → start ≤ length word → 0 < length (parts_from word start)

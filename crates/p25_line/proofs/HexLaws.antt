@@ -16,7 +16,7 @@ passes_below-at (suc n) test i all below =
     let parts = and_parts (test n) (passes_below n test) all in
     elim (cases_lt i n) [
       | inl lower ↦ passes_below-at n test i parts.1 lower
-      | inr top ↦ let same : i ≡ n = omega arith in ap test same ∙ parts.0
+      | inr top ↦ ap test (omega arith) ∙ parts.0
     ]
 
 -- a test that the digit of a number below 16 is read back
@@ -35,9 +35,9 @@ is_written_back digit = cond (is_lower_digit digit) ((slice_index lower_digits (
 
 nibble_facts : (digit : ℕ) → is_lower_digit digit ≡ true → (slice_index lower_digits (nibble_of digit) ≡ digit) × (nibble_of digit < 16)
 nibble_facts digit lower =
-    let below : digit < 103 = grind arith in
     let test : ((slice_index lower_digits (nibble_of digit) == digit) && nat_lt (nibble_of digit) 16) ≡ true =
-    sym (cond-true (is_lower_digit digit) ((slice_index lower_digits (nibble_of digit) == digit) && nat_lt (nibble_of digit) 16) true lower) ∙ passes_below-at 103 is_written_back digit refl below in
+    sym (cond-true (is_lower_digit digit) ((slice_index lower_digits (nibble_of digit) == digit) && nat_lt (nibble_of digit) 16) true lower)
+    ∙ passes_below-at 103 is_written_back digit refl (grind arith) in
     let parts = and_parts (slice_index lower_digits (nibble_of digit) == digit) (nat_lt (nibble_of digit) 16) test in
     (eqb-true (slice_index lower_digits (nibble_of digit)) digit parts.0, ltb-true (nibble_of digit) 16 parts.1)
 
@@ -49,7 +49,7 @@ list_all-encode_lower (octet ∷ octets) fits =
     let here : octet < 256 = All-head (λ x. x < 256) octet octets fits in
     let high = digit_facts (octet / 16) (omega arith) in
     let low = digit_facts (octet % 16) (omega arith) in
-    ap₂ ◌&&◌ high.0 (ap₂ ◌&&◌ low.0 (list_all-encode_lower octets (All-tail (λ x. x < 256) octet octets fits)))
+    cc (high.0, low.0, list_all-encode_lower octets (All-tail (λ x. x < 256) octet octets fits))
 
 -- the octets of a text are the octets that it was made of
 pub octets_of-encode_lower : (octets : List ℕ) → AllOctets octets → octets_of (encode_lower octets) ≡ octets
@@ -60,7 +60,7 @@ octets_of-encode_lower (octet ∷ octets) fits =
     let high = digit_facts (octet / 16) (omega arith) in
     let low = digit_facts (octet % 16) (omega arith) in
     let value : 16 * nibble_of (slice_index lower_digits (octet / 16)) + nibble_of (slice_index lower_digits (octet % 16)) ≡ octet = omega (arith, high.1, low.1) in
-    ap₂ ◌∷◌ value (octets_of-encode_lower octets (All-tail (λ x. x < 256) octet octets fits))
+    cc (value, octets_of-encode_lower octets (All-tail (λ x. x < 256) octet octets fits))
 
 -- a text of 2 * n digits is the text of its octets, which fit
 pub octets_of-facts : (n : ℕ) (word : List ℕ) → length word ≡ 2 * n → list_all is_lower_digit word ≡ true
@@ -72,15 +72,10 @@ octets_of-facts (suc n) (high ∷ low ∷ word) even digits =
     let second = and_parts (is_lower_digit low) (list_all is_lower_digit word) first.1 in
     let up = nibble_facts high first.0 in
     let down = nibble_facts low second.0 in
-    let up_fits : nibble_of high < 16 = up.1 in
-    let down_fits : nibble_of low < 16 = down.1 in
     let octet = 16 * nibble_of high + nibble_of low in
-    let high_part : octet / 16 ≡ nibble_of high = omega arith in
-    let low_part : octet % 16 ≡ nibble_of low = omega arith in
-    let fits : octet < 256 = omega arith in
     let others = octets_of-facts n word (omega arith) second.1 in (
-      ap₂ ◌∷◌ (ap (slice_index lower_digits) high_part ∙ up.0) (ap₂ ◌∷◌ (ap (slice_index lower_digits) low_part ∙ down.0) others.0),
-      All-cons (λ x. x < 256) octet (octets_of word) fits others.1,
+      ap₂ ◌∷◌ (ap (slice_index lower_digits) (omega arith) ∙ up.0) (ap₂ ◌∷◌ (ap (slice_index lower_digits) (omega arith) ∙ down.0) others.0),
+      All-cons (λ x. x < 256) octet (octets_of word) (omega arith) others.1,
       ap suc others.2,
     )
 octets_of-facts n word even digits = absurd (omega arith)

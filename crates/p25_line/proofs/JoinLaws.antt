@@ -1,5 +1,5 @@
 -- Splitting undoes joining: parts that lack the octet between them are read back from their join, and a line of words is the join of its words.
-use Rattle.std.proofs.Common.{◌≡◌, ℕ, ◌<◌, ◌≤◌, ◌==◌, Bool, true, false, List, [], ◌∷◌, length, take, Option, Some, Result, Ok, Err, inl, inr, refl, sym, ap, ◌∙◌, arith}
+use Rattle.std.proofs.Common.{◌≡◌, ℕ, ◌<◌, ◌≤◌, ◌==◌, Bool, true, false, List, [], ◌∷◌, length, take, Option, Result, Ok, Err, inl, inr, refl, sym, ap, ◌∙◌, arith}
 use Rattle.std.proofs.{lemmas.Bool.{and_parts, cases_Bool, cases_lt, eq-eqb}, lemmas.List.Splits.{slice_split_none, slice_split_at, length-slice_split, join_with_byte-slice_split}}
 use Rattle.std.specs.{Prelude.{nat_lt, ok_or}, List.{slice_split, join_with_byte, list_all, All}}
 use Rattle.p25_line.specs.{Words.{is_printed, is_word, parts_of, words_in, words_or_fault, LiesIn, marked, WordsFound, WordsAnswer}, Marks.{Marks}, declared.fault.LineFault.{LineFault}}
@@ -19,8 +19,10 @@ split-join separator test lacks (part ∷ []) some all =
     slice_split_none (λ octet. octet == separator) part (lacks part one.0)
 split-join separator test lacks (part ∷ next ∷ parts) some all =
     let both = and_parts (test part) (list_all test (next ∷ parts)) all in
-    slice_split_at (λ octet. octet == separator) part separator (join_with_byte separator (next ∷ parts)) (lacks part both.0) (eq-eqb separator separator refl)
-    ∙ ap (λ l. part ∷ l) (split-join separator test lacks (next ∷ parts) (omega arith) both.1)
+    cc (
+      slice_split_at (λ octet. octet == separator) part separator (join_with_byte separator (next ∷ parts)) (lacks part both.0) (eq-eqb separator separator refl),
+      split-join separator test lacks (next ∷ parts) (omega arith) both.1,
+    )
 
 -- a word has no space
 word-spaces : (word : List ℕ) → is_word word ≡ true → Lacks 32 word
@@ -32,7 +34,7 @@ pub words_or_fault-join : (words : List (List ℕ)) → 0 < length words → lis
 words_or_fault-join words some all short =
     let line = join_with_byte 32 words in
     let parts : parts_of line ≡ words = split-join 32 is_word word-spaces words some all in
-    words_or_fault-words line short ∙ ap (λ (words : Option (List (List ℕ))). ok_or words Form) (words_in-words line (ap (list_all is_word) parts ∙ all) ∙ ap Some parts)
+    cc (words_or_fault-words line short, words_in-words line (ap (list_all is_word) parts ∙ all), parts)
 
 -- what an accepted line is
 pub record Accepted (line : List ℕ) (words : List (List ℕ)) : Type 0 where
@@ -61,7 +63,7 @@ pub Accepted-words : (line : List ℕ) (words : List (List ℕ)) → words_or_fa
 Accepted-words line words found =
     elim (cases_lt 8192 (length line)) [
       | inl long ↦ let known = words_or_fault-long line long in cc
-      | inr short ↦ accepted-words line words short (sym (words_or_fault-words line short) ∙ found)
+      | inr short ↦ accepted-words line words short (rw (← words_or_fault-words, found))
     ]
 
 -- what a list of words tells of an accepted line
@@ -77,7 +79,7 @@ known : (line : List ℕ) (list : Marks) (answer : Result (List (List ℕ)) Line
 known line list (Ok words) same facts =
     let accepted = Accepted-words line words same in
     (words, record { found = same; some = accepted.some; count = facts.1; spans = facts.2; lies = facts.3 })
-known line list (Err fault) same facts = cc facts.0
+known line list (Err fault) same facts = cc
 
 pub Known-words : (line : List ℕ) (list : Marks) → WordsAnswer line list (Ok tt) → (words : List (List ℕ)) × Known line list words
 Known-words line list answer = known line list (words_or_fault line) refl answer

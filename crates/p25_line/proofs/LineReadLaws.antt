@@ -8,39 +8,39 @@ use Rattle.p25_line.proofs.{JoinLaws.{Accepted-words, words_or_fault-join}, Word
 -- a line that is too long is refused as such
 pub line_read-long : {X : Type 0} (read : List (List ℕ) → Result X LineFault) (line : List ℕ) → 8192 < length line → line_read read line ≡ Err Long
 unfolding line_read
-line_read-long read line long = ap (found_read read) (words_or_fault-long line long)
+line_read-long read line long = simp words_or_fault-long
 
 -- no word is refused as a line that is too long
 pub value-not_long : {V X : Type 0} (make : V → X) (value : Option V) → value_or_fault make value ≡ Err Long → ⊥
-value-not_long make (Some value) e = cc e
-value-not_long make None e = cc e
+value-not_long make (Some value) e = cc
+value-not_long make None e = cc
 
 pub keyed-not_long : {K V X : Type 0} (make : K → V → X) (key : Option K) (value : Option V) → keyed_or_fault make key value ≡ Err Long → ⊥
 keyed-not_long make (Some key) value e = value-not_long (make key) value e
-keyed-not_long make None value e = cc e
+keyed-not_long make None value e = cc
 
 pub or-not_long : {X : Type 0} (found : Option X) (fault : LineFault) → (fault ≡ Long → ⊥) → ok_or found fault ≡ Err Long → ⊥
-or-not_long None fault other e = let same : fault ≡ Long = cc e in other same
-or-not_long (Some value) fault other e = cc e
+or-not_long None fault other e = other (cc e)
+or-not_long (Some value) fault other e = cc
 
 pub found-not_long : {X : Type 0} (read : List (List ℕ) → Result X LineFault) → ((words : List (List ℕ)) → read words ≡ Err Long → ⊥) → (found : Result (List (List ℕ)) LineFault)
     → (found ≡ Err Long → ⊥) → found_read read found ≡ Err Long → ⊥
 found-not_long read never (Ok words) other e = never words e
-found-not_long read never (Err fault) other e = let same : fault ≡ Long = cc e in other (ap Err same)
+found-not_long read never (Err fault) other e = other (ap Err (cc e))
 
 pub named-not_long : {K X : Type 0} (read : K → List (List ℕ) → Result X LineFault) (others : List (List ℕ)) → ((kind : K) → read kind others ≡ Err Long → ⊥) → (kind : Option K)
     → named_or_fault read kind others ≡ Err Long → ⊥
 named-not_long read others never (Some kind) e = never kind e
-named-not_long read others never None e = cc e
+named-not_long read others never None e = cc
 
 -- a line is read as its words are, and refused as it has none
 pub line_read-found : {X : Type 0} (read : List (List ℕ) → Result X LineFault) (line : List ℕ) (words : List (List ℕ)) → words_or_fault line ≡ Ok words → line_read read line ≡ read words
 unfolding line_read
-line_read-found read line words found = ap (found_read read) found
+line_read-found read line words found = simp found
 
 pub line_read-refused : {X : Type 0} (read : List (List ℕ) → Result X LineFault) (line : List ℕ) (fault : LineFault) → words_or_fault line ≡ Err fault → line_read read line ≡ Err fault
 unfolding line_read
-line_read-refused read line fault refused = ap (found_read read) refused
+line_read-refused read line fault refused = simp refused
 
 -- what is kept between values, their words, and what words are read as: each undoes the other for values that fit
 pub record WordLaws {X : Type 0} (words : X → List (List ℕ)) (read : List (List ℕ) → Result X LineFault) (Fits : X → Type 0) : Type 0 where
@@ -54,7 +54,7 @@ pub line_read-words : {X : Type 0} {words : X → List (List ℕ)} {read : List 
     → length (join_with_byte 32 (words value)) ≤ 8192 → line_read read (join_with_byte 32 (words value)) ≡ Ok value
 unfolding line_read
 line_read-words {words = words} {read = read} laws value fits short =
-    ap (found_read read) (words_or_fault-join (words value) (laws.some value) (laws.are_words value fits) short) ∙ laws.back value fits
+    cc (words_or_fault-join (words value) (laws.some value) (laws.are_words value fits) short, laws.back value fits)
 
 -- what a line shows that is read as a value
 pub record IsLineOf {X : Type 0} (words : X → List (List ℕ)) (Fits : X → Type 0) (line : List ℕ) (value : X) : Type 0 where
@@ -65,7 +65,7 @@ pub record IsLineOf {X : Type 0} (words : X → List (List ℕ)) (Fits : X → T
 from_found : {X : Type 0} {words : X → List (List ℕ)} {read : List (List ℕ) → Result X LineFault} {Fits : X → Type 0}
     → WordLaws words read Fits → (line : List ℕ) (found : Result (List (List ℕ)) LineFault) (value : X)
     → words_or_fault line ≡ found → found_read read found ≡ Ok value → IsLineOf words Fits line value
-from_found laws line (Err fault) value same found = cc found
+from_found laws line (Err fault) value same found = cc
 from_found laws line (Ok others) value same found =
     let is = laws.again others value found in
     let accepted = Accepted-words line others same in

@@ -23,16 +23,16 @@ AreWordsOf-answer line list answer = let words = Known-words line list answer in
 -- a line that has none is refused
 refused : (line : List ℕ) (list : Marks) (fault : LineFault) (answer : Result (List (List ℕ)) LineFault) → words_or_fault line ≡ answer → WordsFound line list (Err fault) answer
     → Err fault ≡ words_or_fault line
-refused line list fault (Ok words) same facts = cc facts.0
-refused line list fault (Err other) same facts = let known : fault ≡ other = cc facts.0 in ap Err known ∙ sym same
+refused line list fault (Ok words) same facts = cc
+refused line list fault (Err other) same facts = ap Err (cc facts.0) ∙ sym same
 
 pub refused-answer : (line : List ℕ) (list : Marks) (fault : LineFault) → WordsAnswer line list (Err fault) → Err fault ≡ words_or_fault line
 refused-answer line list fault answer = refused line list fault (words_or_fault line) refl answer
 
 -- too long is a line of more than 8,192 octets, and no other
 form-long : (words : Option (List (List ℕ))) → ok_or words Form ≡ Err Long → ⊥
-form-long (Some words) same = cc same
-form-long None same = cc same
+form-long (Some words) same = cc
+form-long None same = cc
 
 pub words_or_fault-Long : (line : List ℕ) → (words_or_fault line ≡ Err Long) ↔ (8192 < length line)
 words_or_fault-Long line = (
@@ -57,13 +57,13 @@ slice_get-take (suc n) (x ∷ xs) (suc i) below = slice_get-take n xs i (omega a
 slice_get-take (suc n) xs i below = refl
 
 pub word_kept : (line : List ℕ) (list : Marks) (i : ℕ) (word : List ℕ) → AreWordsOf line list → i < 16 → slice_get (marked line list.spans) i ≡ Some word → slice_get (parts_of line) i ≡ Some word
-word_kept line list i word are kept at = sym (slice_get-take 16 (parts_of line) i kept) ∙ ap (λ (l : List (List ℕ)). slice_get l i) (sym are.spans) ∙ at
+word_kept line list i word are kept at = cc (slice_get-take 16 (parts_of line) i kept, are.spans, at)
 
 -- a word is no longer than its line
 short_word : (line : List ℕ) (spans : List Span) (i : ℕ) (word : List ℕ) → slice_get (marked line spans) i ≡ Some word → length word ≤ length line
-short_word line [] i word at = cc at
+short_word line [] i word at = cc
 short_word line (span ∷ spans) zero word at =
-    let same : word_at line span ≡ word = cc at in
+    let same : word_at line span ≡ word = cc in
     omega (arith, ap length same, length-take span.len (drop span.start line), length-drop span.start line)
 short_word line (span ∷ spans) (suc i) word at = short_word line spans i word at
 
@@ -73,9 +73,9 @@ word_short line list i word are at = omega (arith, short_word line list.spans i 
 -- ---- the words after the first
 
 pub first-others : {X : Type 0} (words : List X) (first : X) → slice_get words 0 ≡ Some first → words ≡ first ∷ drop 1 words
-first-others [] first at = cc at
-first-others (word ∷ words) first at = let same : word ≡ first = cc at in ap (λ w. w ∷ words) same
+first-others [] first at = cc
+first-others (word ∷ words) first at = let same : word ≡ first = cc in simp same
 
 pub one-other : {X : Type 0} (words : List X) (x : X) → length words ≡ 2 → slice_get words 1 ≡ Some x → drop 1 words ≡ x ∷ []
-one-other (first ∷ second ∷ []) x count at = let same : second ≡ x = cc at in ap (λ y. y ∷ []) same
+one-other (first ∷ second ∷ []) x count at = let same : second ≡ x = cc in simp same
 one-other words x count at = absurd (omega arith)

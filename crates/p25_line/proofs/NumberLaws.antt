@@ -11,15 +11,13 @@ number_below-decimal zero number below fits = absurd (omega arith)
 number_below-decimal (suc top) number below fits =
     elim (cases_Bool (bytes_eq (decimal number) (decimal top))) [
       | inl same ↦
-          let text = (bytes_eq-Decides (decimal number) (decimal top)).0 same in
-          let here : number ≡ top = decimal_injective number top (omega arith) (omega arith) text in
-          cond-true (bytes_eq (decimal number) (decimal top)) (Some top) (number_below top (decimal number)) same ∙ ap Some (sym here)
+          let here : number ≡ top = decimal_injective number top (omega arith) (omega arith) ((bytes_eq-Decides (decimal number) (decimal top)).0 same) in
+          rw (cond-true, ← here)
       | inr other ↦
           let lower : number < top = elim (cases_lt number top) [
             | inl less ↦ less
             | inr not_less ↦
-                let here : number ≡ top = omega (arith, not_less, below) in
-                absurd (true≢false (sym ((bytes_eq-Decides (decimal number) (decimal top)).1 (ap decimal here)) ∙ other))
+                absurd (true≢false (sym ((bytes_eq-Decides (decimal number) (decimal top)).1 (ap decimal (omega (arith, not_less, below)))) ∙ other))
           ] in
           cond-false (bytes_eq (decimal number) (decimal top)) (Some top) (number_below top (decimal number)) other
           ∙ number_below-decimal top number lower (omega arith)
@@ -28,11 +26,10 @@ number_below-decimal (suc top) number below fits =
 -- a word that is read as a number is its text
 pub decimal-number_below : (most : ℕ) (word : List ℕ) (number : ℕ) → number_below most word ≡ Some number → (decimal number ≡ word) × (number < most)
 unfolding number_below
-decimal-number_below zero word number found = cc found
+decimal-number_below zero word number found = cc
 decimal-number_below (suc top) word number found =
     elim (cases_Bool (bytes_eq word (decimal top))) [
       | inl same ↦
-          let read = cond-true (bytes_eq word (decimal top)) (Some top) (number_below top word) same in
           let here : top ≡ number = cc in
           (ap decimal (sym here) ∙ sym ((bytes_eq-Decides word (decimal top)).0 same), omega (arith, here))
       | inr other ↦

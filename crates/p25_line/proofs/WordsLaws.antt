@@ -1,5 +1,5 @@
 -- Laws of the words of a line. Splitting is followed octet by octet: a line has allowed octets alone where each of its parts is printed.
-use Rattle.std.proofs.{Common.{◌≡◌, ℕ, ◌<◌, ◌≤◌, ◌==◌, ◌&&◌, ◌||◌, Bool, true, false, cond, List, [], ◌∷◌, length, Some, None, Err, inl, inr, refl, sym, ap, ap₂, ◌∙◌, arith}, Math.Bool.{and_assoc}}
+use Rattle.std.proofs.{Common.{◌≡◌, ℕ, ◌<◌, ◌≤◌, ◌==◌, ◌&&◌, ◌||◌, Bool, true, false, cond, List, [], ◌∷◌, length, Some, None, Err, inl, inr, refl, sym, ap, ◌∙◌, arith}, Math.Bool.{and_assoc}}
 use Rattle.std.proofs.{lemmas.Bool.{and_parts, cases_Bool, cond-true, cond-false}, lemmas.List.Elements.{All-nil, All-cons}, lemmas.List.Splits.{length-slice_split}}
 use Rattle.std.proofs.lemmas.Slice.Eq.{bytes_eq-Decides}
 use Rattle.std.specs.{Prelude.{nat_lt, ok_or}, List.{find, onto_first, list_all, All}, Str.{bytes_eq}}
@@ -26,7 +26,7 @@ allowed_more : (octet : ℕ) (parts : List (List ℕ)) (rest space : Bool) → l
 allowed_more octet parts rest true same some = same
 allowed_more octet [] rest false same some = absurd (omega arith)
 allowed_more octet (part ∷ parts) rest false same some =
-    and_assoc (is_printed octet) (list_all is_printed part) (list_all (list_all is_printed) parts) ∙ ap (λ b. is_printed octet && b) same
+    simp (and_assoc, same)
 
 -- each part is printed exactly where each octet is allowed
 pub printed-parts : (line : List ℕ) → list_all (list_all is_printed) (parts_of line) ≡ list_all is_allowed line
@@ -39,7 +39,7 @@ words-printed [] all = refl
 words-printed (word ∷ words) all =
     let parts = and_parts (is_word word) (list_all is_word words) all in
     let printed = and_parts (nat_lt 0 (length word)) (list_all is_printed word) parts.0 in
-    ap₂ ◌&&◌ printed.1 (words-printed words parts.1)
+    cc (printed.1, words-printed words parts.1)
 
 -- where each part is a word, the parts are the words
 pub words_in-words : (line : List ℕ) → list_all is_word (parts_of line) ≡ true → words_in line ≡ Some (parts_of line)
@@ -62,13 +62,11 @@ words_or_fault-words line short = grind arith
 
 -- what a search finds passes its test
 pub find-passes : {X : Type 0} (test : X → Bool) (xs : List X) (x : X) → find test xs ≡ Some x → test x ≡ true
-find-passes test [] x found = cc found
+find-passes test [] x found = cc
 find-passes test (y ∷ xs) x found =
     elim (cases_Bool (test y)) [
       | inl passed ↦
-          let first = cond-true (test y) (Some y) (find test xs) passed in
-          let same : y ≡ x = cc in
-          ap test (sym same) ∙ passed
+          ap test (sym cc) ∙ passed
       | inr failed ↦ find-passes test xs x (sym (cond-false (test y) (Some y) (find test xs) failed) ∙ found)
     ]
 
@@ -80,7 +78,7 @@ pub all-also : {X : Type 0} (first second : X → Bool) → ((x : X) → first x
 all-also first second also [] all = refl
 all-also first second also (x ∷ xs) all =
     let parts = and_parts (first x) (list_all first xs) all in
-    ap₂ ◌&&◌ (also x parts.0) (all-also first second also xs parts.1)
+    cc (also x parts.0, all-also first second also xs parts.1)
 
 pub digits-printed : (digits : List ℕ) → list_all is_lower_digit digits ≡ true → list_all is_printed digits ≡ true
 digits-printed digits lower = all-also is_lower_digit is_printed digit-printed digits lower

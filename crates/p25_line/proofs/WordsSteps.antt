@@ -1,9 +1,9 @@
 -- What the loop over a line's octets keeps: the parts that end before `start` are words and are noted, and from there on to `i` the octets are printed.
-use Rattle.std.proofs.Common.{◌≡◌, ℕ, zero, suc, ◌+◌, ◌-◌, ◌<◌, ◌≤◌, ◌==◌, ◌&&◌, ◌||◌, true, false, List, [], ◌∷◌, ◌++◌, length, take, drop, get_or, Option, Some, None, Ok, Err, refl, sym, ap, ap₂, subst, ◌∙◌, arith, take-append-drop, append-nil, length-append, length-take, length-drop, ◌⊎◌, inl, inr}
+use Rattle.std.proofs.Common.{◌≡◌, ℕ, zero, suc, ◌+◌, ◌-◌, ◌<◌, ◌≤◌, ◌==◌, ◌&&◌, ◌||◌, true, false, List, [], ◌∷◌, ◌++◌, length, take, drop, get_or, Some, None, Ok, Err, refl, sym, ap, ap₂, subst, ◌∙◌, arith, take-append-drop, append-nil, length-append, length-take, length-drop, ◌⊎◌, inl, inr}
 use Rattle.std.proofs.{lemmas.Bool.{cases_Bool, eqb-true, lt-ltb, true≢false}, lemmas.List.{drop_more, take_all, take_at, drop_all, drop-drop, take-map, get_or-drop, map-append}}
 use Rattle.std.proofs.{lemmas.List.Elements.{All-push, All-take}, lemmas.List.Folds.{list_all-append, list_all_more, list_all_at}, lemmas.List.Splits.{slice_split_none, slice_split_at}}
-use Rattle.std.specs.{Prelude.{ok_or}, List.{list_all, All}}
-use Rattle.p25_line.specs.{Marks.{Marks}, Words.{is_printed, is_word, parts_of, words_in, LiesIn, word_at, marked, WordsFound, WordsAnswer}, declared.fault.LineFault.TheVariants.{Long, Form}}
+use Rattle.std.specs.{List.{list_all, All}}
+use Rattle.p25_line.specs.{Marks.{Marks}, Words.{is_printed, is_word, parts_of, words_in, LiesIn, word_at, marked, WordsAnswer}, declared.fault.LineFault.TheVariants.{Long, Form}}
 use Rattle.p25_line.specs.declared.word_list.Span.{Span}
 use Rattle.p25_line.proofs.WordsLaws.{printed-spaces, printed-parts, words-printed, words_in-words, words_in-none, words_or_fault-long, words_or_fault-words, is_allowed}
 
@@ -18,16 +18,14 @@ noted-full spans span full = sym (take_at spans (span ∷ []) 16 (eqb-true (leng
 
 -- the first elements of a list, some of which were cut off before
 take-take_append : {X : Type 0} (n : ℕ) (xs ys : List X) → take n (take n xs ++ ys) ≡ take n (xs ++ ys)
-take-take_append (suc n) (x ∷ xs) ys = ap (λ l. x ∷ l) (take-take_append n xs ys)
+take-take_append (suc n) (x ∷ xs) ys = cc (take-take_append n xs ys)
 take-take_append n xs ys = refl
 
 -- the words at the spans, after one more span
 marked-noted : (line : List ℕ) (spans : List Span) (span : Span) (found : List (List ℕ)) → marked line spans ≡ take 16 found
     → marked line (take 16 (spans ++ span ∷ [])) ≡ take 16 (found ++ word_at line span ∷ [])
 marked-noted line spans span found same =
-    sym (take-map (word_at line) 16 (spans ++ span ∷ []))
-    ∙ ap (take 16) (map-append (word_at line) spans (span ∷ []) ∙ ap (λ l. l ++ word_at line span ∷ []) same)
-    ∙ take-take_append 16 found (word_at line span ∷ [])
+    rw (← take-map, map-append, same, take-take_append)
 
 -- what the loop keeps
 pub record Cut (line : List ℕ) (list : Marks) (start i : ℕ) : Type 0 where
@@ -45,10 +43,8 @@ pub Cut-printed : (line : List ℕ) (list : Marks) (start i : ℕ) → Cut line 
     → Cut line list start (i + 1)
 Cut-printed line list start i cut inside octet =
     let order : start ≤ i = cut.order in
-    let more : (i + 1) - start ≡ (i - start) + 1 = omega arith in
     let span : start + (i - start) ≡ i = omega arith in
-    let there : i - start < length (drop start line) = omega (arith, length-drop start line) in
-    let same : get_or (drop start line) (i - start) 0 ≡ get_or line i 0 = get_or-drop start line (i - start) 0 ∙ ap (λ n. get_or line n 0) span in
+    let same : get_or (drop start line) (i - start) 0 ≡ get_or line i 0 = simp (get_or-drop, span) in
     record {
       order = omega arith;
       within = omega arith;
@@ -58,8 +54,8 @@ Cut-printed line list start i cut inside octet =
       spans = cut.spans;
       lies = cut.lies;
       printed =
-          ap (λ n. list_all is_printed (take n (drop start line))) more
-          ∙ list_all_more is_printed (drop start line) (i - start) 0 there
+          ap (λ n. list_all is_printed (take n (drop start line))) (omega arith)
+          ∙ list_all_more is_printed (drop start line) (i - start) 0 (omega (arith, length-drop start line))
           ∙ ap₂ ◌&&◌ cut.printed (ap is_printed same ∙ octet);
     }
 
@@ -68,24 +64,21 @@ rest-space : (line : List ℕ) (start i : ℕ) → start ≤ i → i < length li
     → drop start line ≡ take (i - start) (drop start line) ++ 32 ∷ drop (i + 1) line
 rest-space line start i order inside space =
     let span : start + (i - start) ≡ i = omega arith in
-    sym (take-append-drop (i - start) (drop start line))
-    ∙ ap (λ l. take (i - start) (drop start line) ++ l)
-    (drop-drop (i - start) start line ∙ ap (λ n. drop n line) span ∙ drop_more line i 0 inside ∙ ap (λ x. x ∷ drop (i + 1) line) space)
+    cc (take-append-drop (i - start) (drop start line), drop-drop (i - start) start line, span, drop_more line i 0 inside, space)
 
 -- the parts of the rest at a space
 parts-space : (line : List ℕ) (list : Marks) (start i : ℕ) → Cut line list start i → i < length line → get_or line i 0 ≡ 32
     → parts_of (drop start line) ≡ take (i - start) (drop start line) ∷ parts_of (drop (i + 1) line)
 parts-space line list start i cut inside space =
     let word = take (i - start) (drop start line) in
-    ap parts_of (rest-space line start i cut.order inside space)
-    ∙ slice_split_at (λ octet. octet == 32) word 32 (drop (i + 1) line) (printed-spaces word cut.printed) refl
+    cc (rest-space line start i cut.order inside space, slice_split_at (λ octet. octet == 32) word 32 (drop (i + 1) line) (printed-spaces word cut.printed) refl)
 
 -- one more part: the parts up to it and those after it
 more-parts : (parts : List (List ℕ)) (count : ℕ) (part : List ℕ) (others : List (List ℕ)) → drop count parts ≡ part ∷ others
     → (take (count + 1) parts ≡ take count parts ++ part ∷ []) × (drop (count + 1) parts ≡ others)
-more-parts [] zero part others rest = cc rest
-more-parts [] (suc count) part others rest = cc rest
-more-parts (first ∷ parts) zero part others rest = (cc rest, cc rest)
+more-parts [] zero part others rest = cc
+more-parts [] (suc count) part others rest = cc
+more-parts (first ∷ parts) zero part others rest = (cc rest, cc)
 more-parts (first ∷ parts) (suc count) part others rest =
     let more = more-parts parts count part others rest in
     let next : suc count + 1 ≡ suc (count + 1) = omega arith in (
@@ -97,12 +90,11 @@ more-parts (first ∷ parts) (suc count) part others rest =
 word-part : (line : List ℕ) (start i : ℕ) → start < i → i ≤ length line → list_all is_printed (take (i - start) (drop start line)) ≡ true
     → is_word (take (i - start) (drop start line)) ≡ true
 word-part line start i some within printed =
-    let long : 0 < length (take (i - start) (drop start line)) = omega (arith, length-take (i - start) (drop start line), length-drop start line) in
-    ap₂ ◌&&◌ (lt-ltb 0 _ long) printed
+    ap₂ ◌&&◌ (lt-ltb 0 _ (omega (arith, length-take (i - start) (drop start line), length-drop start line))) printed
 
 -- the words so far, with one more
 words-more : (found : List (List ℕ)) (word : List ℕ) → list_all is_word found ≡ true → is_word word ≡ true → list_all is_word (found ++ word ∷ []) ≡ true
-words-more found word all one = list_all-append is_word found (word ∷ []) ∙ ap₂ ◌&&◌ all (ap (λ b. b && true) one)
+words-more found word all one = simp (list_all-append, all, one)
 
 noted_word : (line : List ℕ) (list noted : Marks) (start i : ℕ) → Cut line list start i → start < i
     → noted.spans ≡ take 16 (list.spans ++ record { start = start; len = i - start } ∷ []) → (others : List (List ℕ))
@@ -113,14 +105,11 @@ noted_word : (line : List ℕ) (list noted : Marks) (start i : ℕ) → Cut line
     × (drop (list.count + 1) (parts_of line) ≡ others)
 noted_word line list noted start i cut some spans others rest =
     let span : Span = record { start = start; len = i - start } in
-    let within : i ≤ length line = cut.within in
-    let order : start ≤ i = cut.order in
-    let inside : LiesIn line span = omega arith in
     let word = take (i - start) (drop start line) in
     let more = more-parts (parts_of line) list.count word others rest in (
-      ap (list_all is_word) more.0 ∙ words-more (take list.count (parts_of line)) word cut.words (word-part line start i some within cut.printed),
+      ap (list_all is_word) more.0 ∙ words-more (take list.count (parts_of line)) word cut.words (word-part line start i some cut.within cut.printed),
       ap (marked line) spans ∙ marked-noted line list.spans span (take list.count (parts_of line)) cut.spans ∙ ap (take 16) (sym more.0),
-      subst (All (LiesIn line)) (sym spans) (All-take (LiesIn line) 16 (list.spans ++ span ∷ []) (All-push (LiesIn line) list.spans span cut.lies inside)),
+      subst (All (LiesIn line)) (sym spans) (All-take (LiesIn line) 16 (list.spans ++ span ∷ []) (All-push (LiesIn line) list.spans span cut.lies (omega arith))),
       more.1,
     )
 
@@ -145,9 +134,7 @@ Cut-space line list noted start i cut inside some space count spans =
 -- the parts of the rest decide
 rest-decides : (line : List ℕ) (list : Marks) (start i : ℕ) → Cut line list start i → list_all is_word (parts_of line) ≡ list_all is_word (parts_of (drop start line))
 rest-decides line list start i cut =
-    ap (list_all is_word) (sym (take-append-drop list.count (parts_of line)))
-    ∙ list_all-append is_word (take list.count (parts_of line)) (drop list.count (parts_of line))
-    ∙ ap₂ ◌&&◌ cut.words (ap (list_all is_word) cut.rest)
+    cc (take-append-drop list.count (parts_of line), list_all-append is_word (take list.count (parts_of line)) (drop list.count (parts_of line)), cut.words, cut.rest)
 
 -- the last word of a line
 pub Cut-end : (line : List ℕ) (list noted : Marks) (start i : ℕ) → Cut line list start i → i ≡ length line → start < i
@@ -156,12 +143,12 @@ pub Cut-end : (line : List ℕ) (list noted : Marks) (start i : ℕ) → Cut lin
 Cut-end line list noted start i cut end some count spans =
     let whole : take (i - start) (drop start line) ≡ drop start line = take_all (i - start) (drop start line) (omega (arith, length-drop start line)) in
     let last : parts_of (drop start line) ≡ take (i - start) (drop start line) ∷ [] =
-    slice_split_none (λ octet. octet == 32) (drop start line) (printed-spaces (drop start line) (ap (list_all is_printed) (sym whole) ∙ cut.printed)) ∙ ap (λ w. w ∷ []) (sym whole) in
+    cc (slice_split_none (λ octet. octet == 32) (drop start line) (printed-spaces (drop start line) (ap (list_all is_printed) (sym whole) ∙ cut.printed)), whole) in
     let facts = noted_word line list noted start i cut some spans [] (cut.rest ∙ last) in
     let all : take (list.count + 1) (parts_of line) ≡ parts_of line =
-    sym (append-nil (take (list.count + 1) (parts_of line))) ∙ ap (λ l. take (list.count + 1) (parts_of line) ++ l) (sym facts.3) ∙ take-append-drop (list.count + 1) (parts_of line) in
-    let one : length (parts_of line) - list.count ≡ 1 = sym (length-drop list.count (parts_of line)) ∙ ap length (cut.rest ∙ last) in (
-      words_in-words line (ap (list_all is_word) (sym all) ∙ facts.0),
+    cc (append-nil (take (list.count + 1) (parts_of line)), facts.3, take-append-drop (list.count + 1) (parts_of line)) in
+    let one : length (parts_of line) - list.count ≡ 1 = rw (← length-drop, cut.rest, last) in (
+      words_in-words line (cc (all, facts.0)),
       omega arith,
       facts.1 ∙ ap (take 16) all,
       facts.2,
@@ -170,41 +157,36 @@ Cut-end line list noted start i cut end some count spans =
 -- a line that ends with a space, or an empty one
 pub none-end : (line : List ℕ) (list : Marks) (start i : ℕ) → Cut line list start i → start ≡ length line → words_in line ≡ None
 none-end line list start i cut end =
-    words_in-none line (rest-decides line list start i cut ∙ ap (λ l. list_all is_word (parts_of l)) (drop_all start line (omega arith)))
+    words_in-none line (cc (rest-decides line list start i cut, drop_all start line (omega arith)))
 
 -- where the rest of a line begins with a space, its first part is no word
 none-space : (line : List ℕ) (list : Marks) (start i : ℕ) → Cut line list start i → i < length line → get_or line i 0 ≡ 32 → i ≡ start
     → list_all is_word (parts_of (drop start line)) ≡ false
 none-space line list start i cut inside space same =
     let none : i - start ≡ 0 = omega arith in
-    ap (list_all is_word) (parts-space line list start i cut inside space) ∙ ap (λ n. is_word (take n (drop start line)) && list_all is_word (parts_of (drop (i + 1) line))) none
+    cc (parts-space line list start i cut inside space, none)
 
 -- where the parts of the rest are words, an octet that is not printed is a space
 space-words : (line : List ℕ) (start i : ℕ) → start ≤ i → i < length line → is_printed (get_or line i 0) ≡ false
     → list_all is_word (parts_of (drop start line)) ≡ true → get_or line i 0 ≡ 32
 space-words line start i order inside bad all =
-    let span : start + (i - start) ≡ i = omega arith in
-    let there : i - start < length (drop start line) = omega (arith, length-drop start line) in
-    let octet : get_or (drop start line) (i - start) 0 ≡ get_or line i 0 = get_or-drop start line (i - start) 0 ∙ ap (λ n. get_or line n 0) span in
-    let allowed : list_all is_allowed (drop start line) ≡ true = sym (printed-parts (drop start line)) ∙ words-printed (parts_of (drop start line)) all in
+    let octet : get_or (drop start line) (i - start) 0 ≡ get_or line i 0 = get_or-drop start line (i - start) 0 ∙ ap (λ n. get_or line n 0) (omega arith) in
     elim (cases_Bool (get_or line i 0 == 32)) [
       | inl equal ↦ eqb-true (get_or line i 0) 32 equal
       | inr other ↦
-          let here : is_allowed (get_or (drop start line) (i - start) 0) ≡ false = ap is_allowed octet ∙ ap₂ ◌||◌ other bad in
-          absurd (true≢false (sym allowed ∙ list_all_at is_allowed (drop start line) (i - start) 0 there here))
+          absurd (true≢false (sym (sym (printed-parts (drop start line)) ∙ words-printed (parts_of (drop start line)) all)
+          ∙ list_all_at is_allowed (drop start line) (i - start) 0 (omega (arith, length-drop start line)) (ap is_allowed octet ∙ ap₂ ◌||◌ other bad)))
     ]
 
 -- an octet that is neither printed nor the space after a word
 pub none-bad : (line : List ℕ) (list : Marks) (start i : ℕ) → Cut line list start i → i < length line → is_printed (get_or line i 0) ≡ false
     → ((get_or line i 0 ≡ 32) × (i ≤ start)) ⊎ (get_or line i 0 ≡ 32 → ⊥) → words_in line ≡ None
 none-bad line list start i cut inside bad other =
-    let order : start ≤ i = cut.order in
-    let parts = rest-decides line list start i cut in
-    let some = λ (no_word : list_all is_word (parts_of (drop start line)) ≡ false). words_in-none line (parts ∙ no_word) in
+    let some = λ (no_word : list_all is_word (parts_of (drop start line)) ≡ false). words_in-none line ((rest-decides line list start i cut) ∙ no_word) in
     elim other [
       | inl first ↦ some (none-space line list start i cut inside first.0 (omega (arith, first.1)))
       | inr not_space ↦ elim (cases_Bool (list_all is_word (parts_of (drop start line)))) [
-        | inl all ↦ absurd (not_space (space-words line start i order inside bad all))
+        | inl all ↦ absurd (not_space (space-words line start i cut.order inside bad all))
         | inr no_word ↦ some no_word
       ]
     ]
@@ -212,17 +194,16 @@ none-bad line list start i cut inside bad other =
 -- a line that is too long
 pub answer-long : (line : List ℕ) (list : Marks) → list ≡ record { spans = []; count = 0 } → 8192 < length line → WordsAnswer line list (Err Long)
 answer-long line list none long =
-    subst (WordsFound line list (Err Long)) (sym (words_or_fault-long line long)) (refl, ap (λ (m : Marks). m.count) none, ap (λ (m : Marks). m.spans) none)
+    simp words_or_fault-long (refl, ap (λ (m : Marks). m.count) none, ap (λ (m : Marks). m.spans) none)
 
 -- a line of another form
 pub answer-form : (line : List ℕ) (list : Marks) → list ≡ record { spans = []; count = 0 } → length line ≤ 8192 → words_in line ≡ None → WordsAnswer line list (Err Form)
 answer-form line list none short other =
-    subst (WordsFound line list (Err Form)) (sym (words_or_fault-words line short ∙ ap (λ (words : Option (List (List ℕ))). ok_or words Form) other))
-    (refl, ap (λ (m : Marks). m.count) none, ap (λ (m : Marks). m.spans) none)
+    simp (other, words_or_fault-words) (refl, ap (λ (m : Marks). m.count) none, ap (λ (m : Marks). m.spans) none)
 
 -- a line of words
 pub answer-words : (line : List ℕ) (list noted : Marks) (start i : ℕ) → Cut line list start i → i ≡ length line → start < i → length line ≤ 8192
     → noted.count ≡ list.count + 1 → noted.spans ≡ take 16 (list.spans ++ record { start = start; len = i - start } ∷ []) → WordsAnswer line noted (Ok tt)
 answer-words line list noted start i cut end some short count spans =
     let facts = Cut-end line list noted start i cut end some count spans in
-    subst (WordsFound line noted (Ok tt)) (sym (words_or_fault-words line short ∙ ap (λ (words : Option (List (List ℕ))). ok_or words Form) facts.0)) (refl, facts.1, facts.2, facts.3)
+    simp (facts.0, words_or_fault-words) (refl, facts.1, facts.2, facts.3)
