@@ -107,9 +107,9 @@ class Terminal:
     def __init__(self, room, width=80, height=24):
         Terminal.count += 1
         self.tmux = ["tmux", "-L", f"p25-watch-{os.getpid()}-{Terminal.count}", "-f", "/dev/null"]
-        environment = {**os.environ, "LC_ALL": "C.UTF-8", "PS1": "ready> ", "ENV": ""}
+        environment = {**os.environ, "LC_ALL": "C.UTF-8"}
         environment.pop("NO_COLOR", None)
-        self.mux("new-session", "-d", "-x", str(width), "-y", str(height), "env TERM=screen-256color sh", cwd=room.path, env=environment)
+        self.mux("new-session", "-d", "-x", str(width), "-y", str(height), "env PS1='ready> ' ENV= TERM=screen-256color sh", cwd=room.path, env=environment)
         self.mux("set-option", "-g", "status", "off")
         self.sees("ready>")
 
