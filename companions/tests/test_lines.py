@@ -67,7 +67,7 @@ def test_bits_that_are_looked_at(room, unit):
 
 @pytest.fixture(scope="module")
 def long(mixed):
-    return 20 * mixed[0]
+    return 20 * mixed[0][: -len(SAMPLES["noise.bin"].read_bytes()) - len(SAMPLES["damaged_call.bin"].read_bytes())]
 
 
 @pytest.mark.parametrize("rate", [1, 2, 3, 6, 10, 16])
@@ -387,7 +387,7 @@ def test_ends(room, name):
         pytest.importorskip("jinja2")
     assert room.run(f"{command} > /dev/full", given)[::2] == (4, f"{name}: the output cannot be written: No space left on device\n")
     # A reader that leaves early ends a script without a word.
-    assert room.run(f"{command} | head -c 1", given if name == "p25-page" else 300 * given)[2] in ("", *INPUT)
+    assert room.run(f"{command} | head -c 1", given if name == "p25-page" else 300 * given)[2] in ("", "write fault\n")
 
 
 REFUSED = """
