@@ -5,6 +5,7 @@ A converter takes octets as they come and returns what they make: `take(octets)`
 
 import array
 import binascii
+import functools
 import itertools
 import operator
 import re
@@ -15,7 +16,7 @@ import sys
 SYMBOLS = (1, 3, -1, -3)
 SYNC = tuple(map(int, "111113113311333313133333"))
 # The levels of a unit are followed over so many symbols after its sync, in blocks of so many.
-FOLLOWED, BLOCK = 864, 32
+FOLLOWED, BLOCK = 864, 72
 BLANKS = b" \t\r\n\f\v"
 
 
@@ -183,6 +184,20 @@ class Values:
         return values if self.code == "f" else array.array("f", values)
 
 
+@functools.cache
+def table_of(polarity, swap):
+    """The levels of floats by their upper two octets, which tell them."""
+    turns = Turns(polarity, swap)
+    return bytes(turns.level(level_of(symbol)) & 255 for (symbol,) in struct.iter_unpack("<f", b"".join(struct.pack("<I", upper << 16) for upper in range(65536))))
+
+
+def level_of(symbol):
+    """The level of a symbol."""
+    if symbol != symbol:
+        return 0
+    return 127 if symbol > 4 else -128 if symbol < -4 else -int(0.5 - 32 * symbol) if symbol < 0 else int(0.5 + 32 * symbol)
+
+
 class Symbols:
     """Symbols as levels of p25 soft: 32 for each unit, so 3 is 96; a nearest dibit that changes keeps its distance."""
 
@@ -207,17 +222,9 @@ class Symbols:
         return self.levels(symbols, is_end)
 
     def levels(self, symbols, is_end):
-        # The upper two octets of a float tell its level.
-        if self.table is None:
-            self.table = bytes(self.level(struct.unpack("<f", struct.pack("<I", upper << 16))[0]) & 255 for upper in range(65536))
+        self.table = self.table or table_of(self.turns.polarity, self.turns.swap)
         uppers = array.array("H", struct.pack(f"<{len(symbols)}f", *symbols) if sys.byteorder == "big" else symbols.tobytes())
         return bytes(map(self.table.__getitem__, uppers[1::2]))
-
-    def level(self, symbol):
-        if symbol != symbol:
-            return 0
-        level = 127 if symbol > 4 else -128 if symbol < -4 else -int(0.5 - 32 * symbol) if symbol < 0 else int(0.5 + 32 * symbol)
-        return self.turns.level(level)
 
     def words(self):
         return None
