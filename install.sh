@@ -101,8 +101,13 @@ for companion in "$top"/companions/p25-*; do
         put 644 "$made" "share/man/man1/${companion##*/}.1"
     fi
 done
-for page in RECIPES.md FORMATS.md WEAK.md; do
-    put 644 "$top/docs/$page" "share/p25/$page"
+# Installed, the commands of a page are those of an installation, and its links lead to what is installed.
+for page in docs/RECIPES.md docs/FORMATS.md docs/WEAK.md; do
+    "$top/packaging/page" "$top/$page" >"$made"
+    put 644 "$made" "share/p25/${page##*/}"
+done
+for picture in rate.png weak-found.png weak-whole.png; do
+    put 644 "$top/docs/$picture" "share/p25/$picture"
 done
 put 644 "$top/RELEASE" share/p25/RELEASE
 # What companions share, and the parts of the page that p25-page makes.
@@ -116,7 +121,8 @@ for sample in "$top"/samples/*; do
     put 644 "$sample" "share/p25/samples/${sample##*/}"
 done
 # Installed, the commands of the page of the samples run in their folder.
-sed -e 's|\./p25 |p25 |g' -e 's|companions/p25-|p25-|g' -e 's|samples/\([a-z_]*\.\)|\1|g' "$top/samples/README.md" >"$root/share/p25/samples/README.md"
+"$top/packaging/page" "$top/samples/README.md" >"$made"
+put 644 "$made" share/p25/samples/README.md
 echo "installed the companions p25-* beside it, and the recipes and samples in $1/share/p25"
 
 # The library, brought up to date, with its header and what pkg-config tells of it.
@@ -156,4 +162,4 @@ if [ -f "$top/out/libp25.a" ] && [ -f "$top/out/libp25.so" ]; then
     fi
 fi
 mv -f -- "$root/$list.new" "$root/$list"
-echo "read the manual by: man -M $1/share/man p25"
+echo "read the manual by: man -M '$1/share/man' p25"

@@ -20,7 +20,7 @@ _p25_companion() {
     # Where no option is begun, files are offered, by the default.
     case $word:${COMP_WORDS[0]##*/} in
         -*) words="-h --help --version $("${COMP_WORDS[0]}" -h 2>/dev/null | sed '/^$/q' | grep -Eo -e '[[ ]--?[a-z-]+' | tr -d '[ ' | sort -u)" ;;
-        *:p25-octets) words='dibits digits bits octets floats' ;;
+        *:p25-octets) words='dibits digits bits octets floats unpacked hex doubles shorts signed numbers' ;;
     esac
     mapfile -t COMPREPLY < <(compgen -W "$words" -- "$word")
 }

@@ -12,7 +12,7 @@ _p25() {
     else
         # The options of a helper script are those that its help names before its first empty line.
         [[ ${words[CURRENT]} == -* ]] && found=(-h --help --version ${(f)"$(${words[1]} -h 2>/dev/null | sed '/^$/q' | grep -Eo -e '[[ ]--?[a-z-]+' | tr -d '[ ' | sort -u)"})
-        [[ ${words[1]:t} == p25-octets ]] && found+=(dibits digits bits octets floats)
+        [[ ${words[1]:t} == p25-octets ]] && found+=(dibits digits bits octets floats unpacked hex doubles shorts signed numbers)
     fi
     compadd -- $found
     [[ ${words[CURRENT]} == -* || ${words[1]:t} == p25 ]] || _files

@@ -131,6 +131,17 @@ def test_count():
     assert len(READ) + len(NAMED) >= 40
 
 
+@pytest.mark.parametrize("page", ["docs/RECIPES.md", "docs/FORMATS.md", "docs/WEAK.md", "samples/README.md"])
+def test_installed_pages(room, page):
+    """Each link of an installed page leads to a heading of its own, or to a file that is installed beside it; its commands are installed too."""
+    text = room.text(f"{TOP}/packaging/page {TOP}/{page}")
+    installed = (TOP / "install.sh").read_text()
+    for link in re.findall(r"\]\(([^)]*)\)", text):
+        assert link.startswith("#") or link.split("#")[0] in installed, link
+    assert "./p25 " not in text and "companions/p25-" not in text
+    assert text.count("![") == (TOP / page).read_text().count("![")
+
+
 @pytest.mark.parametrize("form, octets", [("octets", CALLS), ("-s -l dibits", received("dibits", "sl", CALLS)), ("floats -a", received("floats", "", CALLS, 0.2, 3))])
 def test_one_command(room, form, octets):
     """A file in any form is what its lines are, with the syncs that follow finds, and standard error has the form."""

@@ -137,7 +137,7 @@ def test_guess_lines(room):
     """Each line has the number of units that its command finds, and the best comes first."""
     lines, _ = guessed(room, room.put("made", received("dibits", "s", CALLS)))
     counts = [int(line.split()[0]) for line in lines]
-    assert len(lines) == 28 and counts == sorted(counts, reverse=True)
+    assert len(lines) == 32 and counts == sorted(counts, reverse=True)
     for line, count in zip(lines, counts):
         assert room.text(f"{best([line])} 2> told").count("unit at") == count + room.text(f"{best([line])} 2> told").count("nounit at")
 
@@ -185,14 +185,13 @@ def test_guess_what_is_none(room, octets, told):
 
 def test_guess_logs_and_names(room):
     digits = received("digits", "", CALLS)
-    _, told = guessed(room, room.put("log", b"12:00 heard\n" + digits))
-    assert told[0] == "p25-guess: 'log' is a text with other signs than digits and blanks, and is not tried as digits: octet 2 is ':'"
+    lines, _ = guessed(room, room.put("log", b"12:00 heard\n" + digits))
+    assert best(lines) == "p25-octets -w digits < log | p25 show"
     stream = re.sub(rb"\s", b"", digits)
     log = b"".join(b"2026-11-28 08:00:00 rx[0] dibits: %s\n" % stream[place : place + 80] for place in range(0, len(stream), 80))
-    lines, told = guessed(room, room.put("log", log), 1)
-    assert not any("dibits" in line or "looks like" in line for line in lines + told[1:0])
-    (command,) = [line.split("taken by: ")[1] for line in told if "taken by: " in line]
-    assert room.octets(command) == room.octets("p25 show", CALLS)
+    lines, told = guessed(room, room.put("log", log))
+    assert told == ["p25-guess: in the first line 23 of 23 syncs gave units, 100 %"]
+    assert room.octets(best(lines)) == room.octets("p25 show", CALLS)
     name = room.put("it's $(x) & y", CALLS)
     status, out, _ = room.run('p25-guess "it\'s \\$(x) & y"')
     assert room.octets(best(out.decode().splitlines())) == room.octets("p25 show", CALLS), name

@@ -362,7 +362,6 @@ def test_samples(room, name):
 
 # -- Options, ends and pages of all.
 
-PYTHON = [name for name in SCRIPTS if name not in ("p25-guess", "p25-octets")]
 # Words with which a script reads its input.
 INPUT = {"p25-octets": "octets", "p25-damage": "1 2", "p25-flip": "0", "p25-split": "-", "p25-page": "", "p25-watch": ""}
 
@@ -393,8 +392,8 @@ def test_ends(room, name):
 REFUSED = """
 p25-octets |p25-octets bytes|p25-octets -x octets|p25-octets octets dibits|p25-octets -a dibits|p25-calls file|p25-calls -x|p25-calls -c -j|p25-calls --begin
 p25-talkers --begin yesterday|p25-talkers --begin 2026-11-28|p25-talkers --begin 2026-11-28T08:00:00|p25-talkers --begin 2026-13-28T08:00:00Z
-p25-talkers --begin '2026-11-28T08:00:00 Nowhere/Else'|p25-talkers --begin '2026-03-29T02:30:00 Europe/Berlin'|p25-talkers --group Fire|p25-talkers -c -j|p25-talkers file
-p25-talkers -x|p25-talkers -c file|p25-guess |p25-guess one two|p25-guess -x|p25-rate -t 0|p25-rate -t 0.0|p25-rate -t x|p25-rate -t ''|p25-rate -t -1|p25-rate -t 1.2.3
+p25-talkers --begin '2026-11-28T08:00:00 Nowhere/Else'|p25-talkers --begin '2026-03-29T02:30:00 Europe/Berlin'|p25-talkers --group Fire|p25-talkers -c -j|p25-talkers one two
+p25-talkers -x|p25-talkers -c one two|p25-guess |p25-guess one two|p25-guess -x|p25-rate -t 0|p25-rate -t 0.0|p25-rate -t x|p25-rate -t ''|p25-rate -t -1|p25-rate -t 1.2.3
 p25-rate -t .|p25-rate -t 0.00001|p25-rate -t|p25-rate -g ''|p25-rate -g "it's"|p25-rate file|p25-json file|p25-damage |p25-damage 1|p25-damage x 1|p25-damage -1 1
 p25-damage 4294967296 1|p25-damage 1 101|p25-damage 1 100.5|p25-damage 1 0.00001|p25-damage 1 -5|p25-damage 1 5 6|p25-flip |p25-flip ''|p25-flip x|p25-flip 1,,2
 p25-flip 1, 2|p25-split |p25-split call.bin 4095|p25-split call.bin 16777217|p25-split call.bin x|p25-split call.bin 5000 x|p25-watch -x|p25-watch --begin|p25-watch -a
@@ -466,7 +465,7 @@ def test_man_pages_by_their_words(room, installed):
 @pytest.mark.parametrize(
     "function, words, wanted",
     [
-        ("_p25", "p25 s", "show soft stations sample"), ("_p25", "p25 build ''", "0 1 2 3"), ("_p25", "p25 bridge 293 ''", "0 1 2 3"), ("_p25_companion", "p25-octets d", "dibits digits"),
+        ("_p25", "p25 s", "show soft stations sample"), ("_p25", "p25 build ''", "0 1 2 3"), ("_p25", "p25 bridge 293 ''", "0 1 2 3"), ("_p25_companion", "p25-octets d", "dibits digits doubles"),
         ("_p25_companion", "p25-talkers --r", "--radio"), ("_p25_companion", "p25-rate -", "-h --help --version --begin --recording -c -g -j -t"),
         ("_p25_companion", "p25-guess ''", ""), ("_p25_companion", "p25-page ''", ""),
     ],

@@ -86,9 +86,10 @@ def test_wrong_lines(room, shown):
 
 
 @pytest.mark.parametrize("name", ["traffic.bin", "capture.dibits", "capture.digits", "capture.floats"])
-def test_recordings_are_refused(room, name):
-    status, _, told = room.run(f"p25-watch {name}")
-    assert status == 1 and told.endswith("lines of p25 show: those of a recording come by p25 show < FILE | p25-watch --replay\n")
+def test_recordings(room, name):
+    status, out, told = room.run(f"p25-watch {name}")
+    shown = told.rstrip("\n").split(": ", 2)[2]
+    assert status == 0 and out == room.octets("p25-watch", room.octets(shown))
 
 
 def test_replay(room, shown):
