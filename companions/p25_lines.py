@@ -477,6 +477,34 @@ class Calls:
         return [call for call in closed if call is not None]
 
 
+# The sync of 48 bits, and the generator of the code of the identifier: 16 bits become 63.
+SYNC, GENERATOR = 0x5575F5FF77FF, 0o6331141367235453
+DUIDS = {**{unit: int(duid, 16) for duid, unit in KINDS.items()}, **dict.fromkeys(PACKETS, 0xC)}
+# How many bits of a sync and of an identifier may be wrong, for p25 to read them.
+SYNC_RADIUS, NID_RADIUS = 4, 11
+
+
+def front_of(nac, unit):
+    """The 111 bits of the sync and the identifier of a unit, as they are transmitted."""
+    word = rest = (int(nac, 16) << 4 | DUIDS[unit]) << 47
+    for place in range(62, 46, -1):
+        if rest >> place & 1:
+            rest ^= GENERATOR << place - 47
+    return SYNC << 63 | word | rest
+
+
+def front_errors(octets, item):
+    """The bit errors of the sync and of the identifier of a unit in the octets of a recording, or None if they are not all in it."""
+    first, last = item.at // 8, (item.at + 113 + 7) // 8
+    if last > len(octets):
+        return None
+    bits = int.from_bytes(octets[first:last], "big") >> (8 * last - item.at - 113)
+    # Two bits of a status symbol are between the 22nd and the 23rd of the identifier.
+    came = (bits >> 43 & (1 << 70) - 1) << 41 | bits & (1 << 41) - 1
+    wrong = came ^ front_of(item.nac, item.unit)
+    return bin(wrong >> 63).count("1"), bin(wrong & (1 << 63) - 1).count("1")
+
+
 class Network:
     """What is counted of the units of a network."""
 

@@ -133,19 +133,19 @@
 
   // -- The table of calls.
   const columns = [
-    ["Began", "t"], ["Length", "n"], ["Network", ""], ["From", ""], ["To", ""], ["Encryption", ""],
-    ["Heard", "n"], ["Lost", "n"], ["Broken", "n"], ["Wrong bits", "n"], ["Notes", ""],
+    ["From", ""], ["To", ""], ["Began", "t"], ["Length", "n"], ["Network", ""], ["Encryption", ""],
+    ["Heard", "n"], ["Lost", "n"], ["Broken", "n"], ["Bit errors", "n"], ["Notes", ""],
   ];
   const rowOf = (call) => {
     const texts = [
-      timeText(call.begin, true, isLong), secondsText(call.length), call.network, call.from, call.to, call.cipher,
+      call.from, call.to, timeText(call.begin, true, isLong), secondsText(call.length), call.network, call.cipher,
       `${call.heard} of ${call.sent}`, String(call.lost), String(call.broken), call.rate === null ? "-" : `${call.rate.toFixed(2)} %`, call.notes,
     ];
     return {
       call,
       text: [...texts, call.alarm ? "emergency" : ""].join(" ").toLowerCase(),
-      values: [call.begin, call.length, call.network, call.from, call.to, call.cipher, call.heard, call.lost, call.broken, call.rate ?? -1,
-        (call.alarm ? "0" : "1") + call.notes],
+      values: [(call.alarm ? "0" : "1") + call.from, call.to, call.begin, call.length, call.network, call.cipher, call.heard, call.lost, call.broken, call.rate ?? -1,
+        call.notes],
       make: () => {
         const row = make("tr", call.alarm ? { class: "alarm" } : {});
         texts.forEach((text, column) => {
@@ -153,7 +153,8 @@
           const kind = columns[column][1] + (isFault ? " fault" : "");
           row.append(make("td", kind ? { class: kind } : {}, text));
         });
-        if (call.alarm) row.lastChild.prepend(make("span", { class: "badge" }, "EMERGENCY"), " ");
+        // Who speaks comes first, and an emergency before that: so much a phone shows.
+        if (call.alarm) row.firstChild.prepend(make("span", { class: "badge" }, "EMERGENCY"), " ");
         return row;
       },
     };
@@ -290,7 +291,7 @@
       if (!values.length) svg.append(draw("text", { class: "tick", x: (left + right) / 2, y: y + high / 2, "text-anchor": "middle" }, "no call"));
     };
     const narrow = right - left < 420;
-    plot(narrow ? "Wrong bits" : "Wrong bits, of those checked in whole units", rateTop, rateHeight, "rate", ([looked, wrong]) => (looked ? (100 * wrong) / looked : null));
+    plot(narrow ? "Bit errors" : "Bit errors, of the bits checked in whole units", rateTop, rateHeight, "rate", ([looked, wrong]) => (looked ? (100 * wrong) / looked : null));
     plot(narrow ? "Broken or lost" : "Broken or lost, of the time within calls", lossTop, lossHeight, "loss", ([, , inCalls, missing]) => (inCalls ? (100 * missing) / inCalls : null));
 
     // A stretch that is dragged over is shown larger.
