@@ -5,8 +5,8 @@
 const MOST = 16777216;
 // A beginning of so many octets is enough to find the form.
 const BEGINNING = 1048576;
-// The page shows at most so many units.
-const ROWS = 2000;
+// The page shows at most so many rows of a table.
+const ROWS = 1000;
 // Bits of a data unit that are examined for bit errors: its sync, 63 bits of its identifier, and the words of its codes.
 const EXAMINED = { hdu: 759, ldu1: 383, ldu2: 383, tdu: 111, tdulc: 399 };
 const EXAMINED_OF_PACKET = 111;
@@ -186,7 +186,7 @@ function read(showLines, callLines) {
         calls.push(made);
     }
     const errors = units.reduce((sum, it) => sum + it.fix, 0), examined = units.reduce((sum, it) => sum + it.examined, 0);
-    return { counts, rows, calls, errors, examined, ms: null };
+    return { counts, rows, calls: calls.slice(0, ROWS), callCount: calls.length, errors, examined };
 }
 
 const state = { octets: null };
