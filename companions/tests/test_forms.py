@@ -175,7 +175,7 @@ def wav():
         (lambda: gzip.compress(CALLS), "made is packed with gzip: unpack it first"),
         (wav, "made is a WAV file of 16-bit samples, 48000 a second: sound or a discriminator, of which no symbols are read"),
         (lambda: wav()[44:], "made looks like 16-bit samples, the lowest octet first: sound, IQ or a discriminator, of which no symbols are read"),
-        (lambda: b"".join(received("floats", "", CALLS)[place : place + 4][::-1] for place in range(0, 64 * len(CALLS) // 4, 4)), "made looks like 32-bit floats with the highest octet first"),
+        (lambda: b"".join(received("floats", "", CALLS)[place : place + 4][::-1] for place in range(0, 16384, 4)), "made looks like 32-bit floats with the highest octet first"),
     ],
 )
 def test_guess_what_is_none(room, octets, told):
@@ -185,7 +185,7 @@ def test_guess_what_is_none(room, octets, told):
 
 def test_guess_logs_and_names(room):
     digits = received("digits", "", CALLS)
-    _, told = guessed(room, room.put("log", b"12:00 heard\n" + digits))
+    _, told = guessed(room, room.put("log", b"12:00 heard\n" + digits), 1)
     assert told[0] == "p25-guess: 'log' is a text with other signs than digits and blanks, and is not tried as digits: octet 2 is ':'"
     stream = re.sub(rb"\s", b"", digits)
     log = b"".join(b"2026-11-28 08:00:00 rx[0] dibits: %s\n" % stream[place : place + 80] for place in range(0, len(stream), 80))
