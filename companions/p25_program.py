@@ -188,8 +188,8 @@ class Names:
                 return number
         raise ValueError(word)
 
-    def who(self, talk, nac, style="radio {} ({})"):
-        """Who speaks to whom, as a text: numbers with their names, or in another style."""
+    def who(self, talk, nac):
+        """Who speaks to whom, as a text: numbers with their names."""
 
         def named(kind, number):
             name = self.of(kind, nac, number)

@@ -237,6 +237,31 @@ def chains(lot):
     return recordings.octets_of(noise(lot, lot.choice([0, 0, 3])) + ''.join(parts) + noise(lot, lot.choice([0, 0, 9, 200, 2000])))
 
 
+def levels(lot):
+    """A recording of levels: bits at their nominal levels with noise, fades and clicks, and an end at any level."""
+    octets = chains(lot) if lot.random() < 0.5 else recording(lot)
+    bits = bits_of(int.from_bytes(octets, 'big'), 8 * len(octets)) if octets else ''
+    if lot.random() < 0.3:
+        bits += ''.join(recordings.unit_bits(unit(lot, kind=lot.choice(['confirmed', 'plain', 'response'])), 1) for _ in range(3))
+    if lot.random() < 0.3:
+        bits = lot.choice(['0', '00', '0000', '000000']) + bits
+    wide = lot.choice([0, 5, 15, 25, 32, 38, 45, 60])
+    scale = lot.choice([1, 1, 1, 0.8, 1.2])
+    answer = []
+    for dibit in cut_up(bits, 2):
+        level = scale * {'00': 32, '01': 96, '10': -32, '11': -96}.get(dibit, 0) + (lot.gauss(0, wide) if wide else 0)
+        answer.append(max(-128, min(127, round(level))))
+    if answer and lot.random() < 0.4:
+        start, size = lot.randrange(len(answer)), lot.choice([20, 60, 200, 800])
+        answer[start:start + size] = [lot.randrange(-128, 128) for _ in answer[start:start + size]]
+    for _ in range(lot.choice([0, 0, 3, 30])):
+        if answer:
+            answer[lot.randrange(len(answer))] = lot.choice([-128, 127, 64, -64, 0, 32])
+    if lot.random() < 0.3:
+        answer = answer[:max(0, len(answer) - lot.randrange(1, 500))]
+    return bytes(level & 255 for level in answer)
+
+
 def lines(lot):
     """Unit lines, of which one may be wrong."""
     made = [recordings.line_of(unit(lot)).encode() for _ in range(lot.choice([0, 1, 2, 4, 7]))]

@@ -1,15 +1,16 @@
 #!/usr/bin/env python3
 """A second implementation of the commands of `p25`, written from the documents without the crates (see README.md beside it).
 
-usage: second/p25_second.py COMMAND..    as `p25`, but for `soft` and `sample`
+usage: second/p25_second.py COMMAND..    as `p25`, but for `sample`
 """
 import re
 import sys
 
+import levels
 import recordings
 import stations
 
-COMMANDS = 'show|check|repair|follow|calls|(bridge|relay) [0-9a-f]{3} [0-3]|build [0-3]|' + '|'.join(stations.PLAYS)
+COMMANDS = 'show|check|repair|follow|calls|soft|(bridge|relay) [0-9a-f]{3} [0-3]|build [0-3]|' + '|'.join(stations.PLAYS)
 
 
 def run(words, data):
@@ -21,6 +22,8 @@ def run(words, data):
         return stations.run(data, name)
     if name == 'build':
         return recordings.build(data, int(rest[0]))
+    if name == 'soft':
+        return levels.soft(data)
     bits = recordings.bits_of(int.from_bytes(data, 'big'), 8 * len(data))
     return getattr(recordings, name)(bits, *(int(word, 16) for word in rest))
 

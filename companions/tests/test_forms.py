@@ -175,7 +175,7 @@ def wav():
         (lambda: gzip.compress(CALLS), "made is packed with gzip: unpack it first"),
         (wav, "made is a WAV file of 16-bit samples, 48000 a second: sound or a discriminator, of which no symbols are read"),
         (lambda: wav()[44:], "made looks like 16-bit samples, the lowest octet first: sound, IQ or a discriminator, of which no symbols are read"),
-        (lambda: b"".join(received("floats", "", CALLS)[place : place + 4][::-1] for place in range(0, 64 * len(CALLS) // 4, 4)), "made looks like 32-bit floats with the highest octet first"),
+        (lambda: b"".join(received("floats", "", CALLS)[place : place + 4][::-1] for place in range(0, 16384, 4)), "made looks like 32-bit floats with the highest octet first"),
     ],
 )
 def test_guess_what_is_none(room, octets, told):

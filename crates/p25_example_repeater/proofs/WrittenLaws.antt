@@ -1,13 +1,13 @@
 -- Bits that are written, one piece after the other, are those of the recording.
-use Rattle.std.proofs.Common.{◌≡◌, ℕ, zero, suc, ◌+◌, ◌-◌, ◌*◌, ◌/◌, ◌%◌, ◌^◌, ◌<◌, ◌≤◌, Bool, true, false, List, [], ◌∷◌, ◌++◌, length, take, drop, Option, Some, None, refl, ap, ap₂, sym, subst, ◌∙◌, arith, append_assoc, append-nil, length-append, length-drop}
+use Rattle.std.proofs.Common.{◌≡◌, ℕ, ◌+◌, ◌-◌, ◌*◌, ◌/◌, ◌^◌, ◌<◌, ◌≤◌, Bool, true, false, List, [], ◌++◌, length, take, drop, Option, Some, None, refl, ap, ◌∙◌, arith, append_assoc, append-nil, length-append, length-drop}
 use Rattle.std.proofs.{KnownBytes.{Appends-nil, Appends-trans}, Math.Seq.{take-add}, lemmas.List.{drop-append-le, drop-drop, take-append-le, take_all, take_rest}}
 use Rattle.std.specs.{Prelude.{IfSome}, Io.KnownBytes.{Appends, Consumes, IsAtEnd}}
-use Rattle.p25_bits.specs.{Bits.{octet_bits, part}, Numbers.{octets_from}}
+use Rattle.p25_bits.specs.{Bits.{octet_bits, part}}
 use Rattle.p25_bits.proofs.{BitsLaws.{octet_bits-append, octet_bits-nil}, NumbersLaws.{numbers_from-add, numbers_from-append, numbers_from-zero}}
-use Rattle.p25_stream.specs.{Items.{items_by, items_of}, Scan.{Gave, Scan, given}}
-use Rattle.p25_stream.proofs.ScanLaws.{gave-items}
+use Rattle.p25_stream.specs.{Scan.{Gave, Scan, given}}
+use Rattle.p25_stream.proofs.{ScanLaws.{gave-items}, WrittenLaws.{written-cons, written-nil}}
 use Rattle.p25_units.specs.{Items.{covered}, Units.{whole_octets}, declared.item.Item.{Item}}
-use Rattle.p25_example_repeater.specs.{Repeated.{repeated}, Written.{AreWritten, HasRepeated, bits_due, recording_repeated, repeated_by}}
+use Rattle.p25_example_repeater.specs.{Repeated.{repeated}, Written.{AreWritten, HasRepeated, bits_due, recording_repeated}}
 
 -- ---- octets of bits
 
@@ -15,10 +15,10 @@ use Rattle.p25_example_repeater.specs.{Repeated.{repeated}, Written.{AreWritten,
 octets-few : (bits : List Bool) → length bits < 8 → whole_octets bits ≡ []
 octets-few bits few =
     let none : length bits / 8 ≡ 0 = omega (arith, few) in
-    ap (λ (k : ℕ). octets_from k bits) none ∙ numbers_from-zero 8 bits
+    rw (none, numbers_from-zero)
 
 left-few : (bits : List Bool) → length bits < 8 → bits ≡ drop (8 * (length bits / 8)) bits
-left-few bits few = let none : 8 * (length bits / 8) ≡ 0 = omega (arith, few) in sym (ap (λ (k : ℕ). drop k bits) none)
+left-few bits few = let none : 8 * (length bits / 8) ≡ 0 = omega (arith, few) in rw none
 
 -- octets of bits, and then of those that are left and others
 module _ (bits rest : List Bool) where
@@ -39,48 +39,38 @@ module _ (bits rest : List Bool) where
 
   octets-both : whole_octets bits ++ whole_octets next_bits ≡ whole_octets (bits ++ rest)
   octets-both =
-      ap₂ (λ (xs ys : List ℕ). xs ++ ys) (sym (numbers_from-append 8 full bits rest full-fits)) (ap (λ (zs : List Bool). octets_from (length next_bits / 8) zs) (sym both-behind))
-      ∙ sym (numbers_from-add 8 full (length next_bits / 8) (bits ++ rest))
-      ∙ ap (λ (k : ℕ). octets_from k (bits ++ rest)) (sym both-count)
+      rw (both-count, numbers_from-add 8 full (length next_bits / 8) (bits ++ rest), numbers_from-append 8 full bits rest full-fits, both-behind)
 
   left-both : drop (8 * (length next_bits / 8)) next_bits ≡ drop (8 * (length (bits ++ rest) / 8)) (bits ++ rest)
   left-both =
       let same : 8 * full + 8 * (length next_bits / 8) ≡ 8 * (length (bits ++ rest) / 8) = omega (arith, both-count) in
-      ap (λ (zs : List Bool). drop (8 * (length next_bits / 8)) zs) (sym both-behind)
-      ∙ drop-drop (8 * (length next_bits / 8)) (8 * full) (bits ++ rest)
-      ∙ ap (λ (k : ℕ). drop k (bits ++ rest)) same
+      rw (← same, ← drop-drop, both-behind)
 
 -- ---- bits that are written
 
 -- none yet
 pub written-none : (held : Option (List ℕ)) (kept bits : List Bool) → length kept < 8 → AreWritten held (kept ++ take 0 bits) held kept
 written-none held kept bits few =
-    let same : kept ≡ kept ++ take 0 bits = sym (append-nil kept) in
-    subst (λ (zs : List Bool). AreWritten held zs held kept) same
-    (record { octets = subst (λ (xs : List ℕ). Appends held held xs) (sym (octets-few kept few)) (Appends-nil held); rest = left-few kept few })
+    rw append-nil (record { octets = rw (octets-few kept few) (Appends-nil held); rest = left-few kept few })
 
 -- more bits, behind those that are left
 pub written-both : (first before now : Option (List ℕ)) (bits rest left last : List Bool) → AreWritten first bits before left → AreWritten before (left ++ rest) now last
     → AreWritten first (bits ++ rest) now last
 written-both first before now bits rest left last done next =
-    let same : left ++ rest ≡ drop (8 * (length bits / 8)) bits ++ rest = ap (λ (zs : List Bool). zs ++ rest) done.rest in
     record {
-      octets = subst (λ (xs : List ℕ). Appends first now xs) (ap (λ (zs : List Bool). whole_octets bits ++ whole_octets zs) same ∙ octets-both bits rest)
-          (Appends-trans first before now (whole_octets bits) (whole_octets (left ++ rest)) done.octets next.octets);
-      rest = next.rest ∙ ap (λ (zs : List Bool). drop (8 * (length zs / 8)) zs) same ∙ left-both bits rest;
+      octets = rw (← octets-both bits rest, ← done.rest) (Appends-trans first before now (whole_octets bits) (whole_octets (left ++ rest)) done.octets next.octets);
+      rest = rw (done.rest, left-both bits rest) at next.rest;
     }
 
 -- a part of some bits behind those before it
 pub written-part : (first before now : Option (List ℕ)) (kept bits page last : List Bool) (at size : ℕ) → AreWritten first (kept ++ take at bits) before page
     → AreWritten before (page ++ part at size bits) now last → AreWritten first (kept ++ take (at + size) bits) now last
 written-part first before now kept bits page last at size done next =
-    let same : (kept ++ take at bits) ++ part at size bits ≡ kept ++ take (at + size) bits
-    = append_assoc kept (take at bits) (part at size bits) ∙ ap (λ (zs : List Bool). kept ++ zs) (sym (take-add at size bits)) in
-    subst (λ (zs : List Bool). AreWritten first zs now last) same (written-both first before now (kept ++ take at bits) (part at size bits) page last done next)
+    rw (append_assoc, ← take-add) at (written-both first before now (kept ++ take at bits) (part at size bits) page last done next)
 
 pub written-whole : (first now : Option (List ℕ)) (kept bits page : List Bool) (at : ℕ) → length bits ≤ at → AreWritten first (kept ++ take at bits) now page
     → AreWritten first (kept ++ bits) now page
-written-whole first now kept bits page at all = subst (λ (zs : List Bool). AreWritten first (kept ++ zs) now page) (take_all at bits all)
+written-whole first now kept bits page at all done = rw (take_all at bits all) at done
 
 -- ---- what is sent again
 
@@ -91,13 +81,15 @@ repeated-none held kept scan few = record { done = []; written = written-none he
 -- what is due where an item is given
 due-item : (scan after : Scan) (item : Item) (raw more : List Bool) → Gave scan item raw after → (scan.finished ≡ true → more ≡ [])
     → bits_due scan more ≡ repeated item raw ++ bits_due after more
-unfolding repeated_by
 due-item scan after item raw more gave goes =
-    let bits = scan.held ++ more in
-    ap (λ (items : List Item). repeated_by items bits) (gave-items scan after item raw true more gave (λ ended. (refl, goes ended)))
-    ∙ ap₂ (λ (front left : List Bool). repeated item front ++ repeated_by (items_of after.place (after.held ++ more)) left)
-    (take-append-le (covered item) scan.held more gave.there ∙ sym gave.raw_bits)
-    (drop-append-le (covered item) scan.held more gave.there ∙ ap (λ (zs : List Bool). zs ++ more) (sym gave.left))
+    rw (
+      gave-items scan after item raw true more gave (λ ended. (refl, goes ended)),
+      written-cons,
+      take-append-le (covered item) scan.held more gave.there,
+      drop-append-le (covered item) scan.held more gave.there,
+      ← gave.raw_bits,
+      ← gave.left,
+    )
 
 -- an item that was given
 pub repeated-item : (bits : List Bool) (first before now : Option (List ℕ)) (kept page last : List Bool) (scan next after : Scan) (item : Item) (raw : List Bool)
@@ -105,12 +97,9 @@ pub repeated-item : (bits : List Bool) (first before now : Option (List ℕ)) (k
     → HasRepeated bits first kept scan now last after
 repeated-item bits first before now kept page last scan next after item raw done gave wrote = record {
   done = done.done ++ repeated item raw;
-  written = subst (λ (zs : List Bool). AreWritten first zs now last) (append_assoc kept done.done (repeated item raw))
-      (written-both first before now (kept ++ done.done) (repeated item raw) page last done.written wrote);
+  written = rw append_assoc at (written-both first before now (kept ++ done.done) (repeated item raw) page last done.written wrote);
   due = λ more goes.
-      done.due more (λ ended. goes (gave.same ∙ ended))
-      ∙ ap (λ (zs : List Bool). done.done ++ zs) (due-item next after item raw more gave (λ ended. goes (gave.same ∙ ended)))
-      ∙ sym (append_assoc done.done (repeated item raw) (bits_due after more));
+      rw (done.due more (λ ended. goes (gave.same ∙ ended)), due-item next after item raw more gave (λ ended. goes (gave.same ∙ ended)), append_assoc);
 }
 
 -- bits that came to a scanner, and what was written then
@@ -119,10 +108,7 @@ pub repeated-pushed : (bits : List Bool) (before now : Option (List ℕ)) (kept 
 repeated-pushed bits before now kept last scan pushed next is done = record {
   done = done.done;
   written = done.written;
-  due = λ more goes.
-      ap (λ (held : List Bool). repeated_by (items_of scan.place held) held) (sym (append_assoc scan.held bits more))
-      ∙ ap (λ (s : Scan). bits_due s more) (sym is)
-      ∙ done.due more goes;
+  due = λ more goes. rw (← append_assoc scan.held bits more) (rw is at (done.due more goes));
 }
 
 -- what was written before, and what was written after it
@@ -130,13 +116,9 @@ pub repeated-both : (xs ys : List Bool) (first before now : Option (List ℕ)) (
     → HasRepeated xs first kept scan before page next → HasRepeated ys before page next now last after → HasRepeated (xs ++ ys) first kept scan now last after
 repeated-both xs ys first before now kept page last scan next after going done more_done = record {
   done = done.done ++ more_done.done;
-  written = subst (λ (zs : List Bool). AreWritten first zs now last) (append_assoc kept done.done more_done.done)
-      (written-both first before now (kept ++ done.done) more_done.done page last done.written more_done.written);
+  written = rw append_assoc at (written-both first before now (kept ++ done.done) more_done.done page last done.written more_done.written);
   due = λ more goes.
-      ap (λ (bits : List Bool). bits_due scan bits) (append_assoc xs ys more)
-      ∙ done.due (ys ++ more) (λ ended. let two : false ≡ true = sym going ∙ ended in absurd (cc two))
-      ∙ ap (λ (zs : List Bool). done.done ++ zs) (more_done.due more goes)
-      ∙ sym (append_assoc done.done more_done.done (bits_due after more));
+      rw (append_assoc, done.due (ys ++ more) (λ ended. let two = rw going at ended in absurd (cc)), more_done.due more goes, append_assoc);
 }
 
 -- ---- octets that a scanner takes
@@ -144,9 +126,7 @@ repeated-both xs ys first before now kept page last scan next after going done m
 octets-next : (octets : List ℕ) (taken count : ℕ)
     → octet_bits (take taken octets) ++ octet_bits (take count (take (length octets - taken) (drop taken octets))) ≡ octet_bits (take (taken + count) octets)
 octets-next octets taken count =
-    sym (octet_bits-append (take taken octets) (take count (take (length octets - taken) (drop taken octets))))
-    ∙ ap (λ (xs : List ℕ). octet_bits (take taken octets ++ take count xs)) (take_rest octets taken)
-    ∙ ap octet_bits (sym (take-add taken count octets))
+    rw (take_rest, ← octet_bits-append, ← take-add)
 
 pub repeated-next : (octets : List ℕ) (taken count : ℕ) (first before now : Option (List ℕ)) (kept page last : List Bool) (scan next pushed after : Scan) → next.finished ≡ false
     → HasRepeated (octet_bits (take taken octets)) first kept scan before page next
@@ -154,39 +134,33 @@ pub repeated-next : (octets : List ℕ) (taken count : ℕ) (first before now : 
     → HasRepeated [] before page pushed now last after → HasRepeated (octet_bits (take (taken + count) octets)) first kept scan now last after
 repeated-next octets taken count first before now kept page last scan next pushed after going done is later =
     let more = octet_bits (take count (take (length octets - taken) (drop taken octets))) in
-    subst (λ (bits : List Bool). HasRepeated bits first kept scan now last after) (octets-next octets taken count)
+    rw (octets-next octets taken count) at
     (repeated-both (octet_bits (take taken octets)) more first before now kept page last scan next after going done (repeated-pushed more before now page last next pushed after is later))
 
 pub repeated-begun : (octets : List ℕ) (held : Option (List ℕ)) (kept : List Bool) (scan : Scan) → length kept < 8 → HasRepeated (octet_bits (take 0 octets)) held kept scan held kept scan
-repeated-begun octets held kept scan few = subst (λ (bits : List Bool). HasRepeated bits held kept scan held kept scan) (sym octet_bits-nil) (repeated-none held kept scan few)
+repeated-begun octets held kept scan few = rw octet_bits-nil (repeated-none held kept scan few)
 
 pub repeated-whole : (octets : List ℕ) (taken : ℕ) (before now : Option (List ℕ)) (kept last : List Bool) (scan next : Scan) → length octets ≤ taken
     → HasRepeated (octet_bits (take taken octets)) before kept scan now last next → HasRepeated (octet_bits octets) before kept scan now last next
-repeated-whole octets taken before now kept last scan next all = subst (λ (xs : List ℕ). HasRepeated (octet_bits xs) before kept scan now last next) (take_all taken octets all)
+repeated-whole octets taken before now kept last scan next all done = rw (take_all taken octets all) at done
 
 -- ---- the end
 
 -- nothing is due of a scanner that has ended and gave all
 due-none : (scan : Scan) → scan.finished ≡ true → given scan ≡ [] → bits_due scan [] ≡ []
-unfolding repeated_by
-due-none scan ended none =
-    let last : items_of scan.place (scan.held ++ []) ≡ []
-    = ap₂ (λ (b : Bool) (held : List Bool). items_by b scan.place held) (sym ended) (append-nil scan.held) ∙ none in
-    ap (λ (items : List Item). repeated_by items (scan.held ++ [])) last
+due-none scan ended none = rw (append-nil, rw ended at none, written-nil)
 
 pub repeated-all : (before now : Option (List ℕ)) (kept last : List Bool) (scan next : Scan) → HasRepeated [] before kept scan now last next → next.finished ≡ true → given next ≡ []
     → AreWritten before (kept ++ bits_due scan []) now last
 repeated-all before now kept last scan next done ended none =
-    let all : bits_due scan [] ≡ done.done
-    = done.due [] (λ e. refl) ∙ ap (λ (zs : List Bool). done.done ++ zs) (due-none next ended none) ∙ append-nil done.done in
-    subst (λ (zs : List Bool). AreWritten before (kept ++ zs) now last) (sym all) done.written
+    rw (done.due [] (λ e. refl), due-none next ended none, append-nil) done.written
 
 -- what a reader gave is all that it had
 consumed-all : (before now : Option (List ℕ)) (octets : List ℕ) (P : List ℕ → Type 0) → Consumes before now octets → IsAtEnd now → P octets → IfSome before P
 consumed-all None now octets P took end holds = tt
 consumed-all (Some all) None octets P took end holds = absurd took
 consumed-all (Some all) (Some rest) octets P took end holds =
-    subst P (sym (took ∙ ap (λ (xs : List ℕ). octets ++ xs) end ∙ append-nil octets)) holds
+    rw (took, end, append-nil) holds
 
 -- of a reader that is at its end
 pub repeated-read : (first last before now : Option (List ℕ)) (page : List Bool) (scan begun : Scan) (octets : List ℕ) → begun ≡ record { place = 0; held = []; finished = false }
@@ -194,13 +168,10 @@ pub repeated-read : (first last before now : Option (List ℕ)) (page : List Boo
     → (written : Option (List ℕ)) (left : List Bool) → AreWritten now (page ++ bits_due scan []) written left
     → IfSome first (λ (all : List ℕ). length all < 2 ^ 32 - 1 → Appends before written (recording_repeated all))
 repeated-read first last before now page scan begun octets new took end done written left wrote =
-    let all : repeated_by (items_of 0 (octet_bits octets)) (octet_bits octets) ≡ done.done ++ bits_due scan []
-    = ap (λ (bits : List Bool). repeated_by (items_of 0 bits) bits) (sym (append-nil (octet_bits octets)))
-    ∙ ap (λ (s : Scan). bits_due s (octet_bits octets ++ [])) (sym new)
-    ∙ done.due [] (λ ended. refl) in
+    let all = rw (new, append-nil) at (done.due [] (λ ended. refl)) in
     let both = written-both before now written done.done (bits_due scan []) page left done.written wrote in
     consumed-all first last octets (λ (some : List ℕ). length some < 2 ^ 32 - 1 → Appends before written (recording_repeated some)) took end
-    (λ few. subst (λ (bits : List Bool). Appends before written (whole_octets bits)) (sym all) both.octets)
+    (λ few. rw all both.octets)
 
 -- of a reader that had more than that
 pub repeated-much : (first last before written : Option (List ℕ)) (octets : List ℕ) → Consumes first last octets → 2 ^ 32 - 1 ≤ length octets
@@ -213,15 +184,11 @@ repeated-much (Some all) (Some rest) before written octets took much = λ few. a
 pub repeated-first : (held : Option (List ℕ)) (page : List Bool) (scan : Scan) → page ≡ [] → scan ≡ record { place = 0; held = []; finished = false }
     → HasRepeated (octet_bits []) held [] (record { place = 0; held = []; finished = false }) held page scan
 repeated-first held page scan none is =
-    let begun : Scan = record { place = 0; held = []; finished = false } in
-    subst (λ (p : List Bool). HasRepeated (octet_bits []) held [] begun held p scan) (sym none)
-    (subst (λ (s : Scan). HasRepeated (octet_bits []) held [] begun held [] s) (sym is)
-    (subst (λ (bits : List Bool). HasRepeated bits held [] begun held [] begun) (sym octet_bits-nil) (repeated-none held [] begun (omega arith))))
+    rw (none, is, octet_bits-nil) (repeated-none held [] (record { place = 0; held = []; finished = false }) (omega arith))
 
 -- octets that were read behind others
 pub repeated-on : (octets more : List ℕ) (first before now : Option (List ℕ)) (kept page last : List Bool) (scan next after : Scan) → next.finished ≡ false
     → HasRepeated (octet_bits octets) first kept scan before page next → HasRepeated (octet_bits more) before page next now last after
     → HasRepeated (octet_bits (octets ++ more)) first kept scan now last after
 repeated-on octets more first before now kept page last scan next after going done later =
-    subst (λ (bits : List Bool). HasRepeated bits first kept scan now last after) (sym (octet_bits-append octets more))
-    (repeated-both (octet_bits octets) (octet_bits more) first before now kept page last scan next after going done later)
+    rw octet_bits-append (repeated-both (octet_bits octets) (octet_bits more) first before now kept page last scan next after going done later)

@@ -1,18 +1,13 @@
 -- What is written of a recording.
-use Rattle.std.specs.{Prelude.{◌≡◌, ℕ, ◌*◌, ◌/◌, Bool, true, List, [], ◌∷◌, ◌++◌, length, take, drop, Option}, Io.KnownBytes.{Appends}}
+use Rattle.std.specs.{Prelude.{◌≡◌, ℕ, ◌*◌, ◌/◌, Bool, true, List, [], ◌++◌, length, drop, Option}, Io.KnownBytes.{Appends}}
 use Rattle.p25_bits.specs.Bits.{octet_bits}
-use Rattle.p25_stream.specs.{Items.{items_of}, Scan.{Scan}}
-use Rattle.p25_units.specs.{Items.{covered}, Units.{whole_octets}, declared.item.Item.{Item}}
+use Rattle.p25_stream.specs.{Items.{items_of}, Scan.{Scan}, Written.{written}}
+use Rattle.p25_units.specs.Units.{whole_octets}
 use Rattle.p25_example_repeater.specs.Repeated.{repeated}
-
--- what is sent again of items that lie end to end over some bits
-unfoldable pub repeated_by : List Item → List Bool → List Bool
-repeated_by [] bits = []
-repeated_by (item ∷ items) bits = repeated item (take (covered item) bits) ++ repeated_by items (drop (covered item) bits)
 
 -- a recording, sent again: the octets that these bits fill
 abbrev pub recording_repeated : List ℕ → List ℕ
-recording_repeated octets = whole_octets (repeated_by (items_of 0 (octet_bits octets)) (octet_bits octets))
+recording_repeated octets = whole_octets (written repeated (items_of 0 (octet_bits octets)) (octet_bits octets))
 
 -- bits were written: the octets that they fill stand behind what a writer held, and the bits that fill none are left
 pub record AreWritten (before : Option (List ℕ)) (bits : List Bool) (now : Option (List ℕ)) (left : List Bool) : Type 0 where
@@ -21,7 +16,7 @@ pub record AreWritten (before : Option (List ℕ)) (bits : List Bool) (now : Opt
 
 -- the bits that are still sent again of what a scanner holds, where these bits come yet and then no more
 abbrev pub bits_due : Scan → List Bool → List Bool
-bits_due scan more = repeated_by (items_of scan.place (scan.held ++ more)) (scan.held ++ more)
+bits_due scan more = written repeated (items_of scan.place (scan.held ++ more)) (scan.held ++ more)
 
 -- since a writer held `before` and a page `kept`, bits came to a scanner, and some of the bits that are sent again were written; the others
 -- are due

@@ -1,4 +1,4 @@
-use Rattle.std.proofs.Common.{◌≡◌, ◌+◌, ◌*◌, ◌≤◌, ◌<◌, ◌-◌, ◌^◌, [], ◌++◌, List, Option, Bool, Result, Ok, Err, ℕ, false, length, take, refl, ap, sym, subst, ◌∙◌, arith, append-nil, length-append, rules}
+use Rattle.std.proofs.Common.{◌≡◌, ◌<◌, ◌-◌, ◌^◌, [], ◌++◌, List, Option, Bool, Result, Ok, Err, ℕ, false, length, take, refl, ap, subst, arith, append-nil, length-append, rules}
 use Rattle.std.proofs.KnownBytes.{Consumes-nil, Consumes-trans}
 use Rattle.std.specs.{Prelude.{IfSome, OnOk}, Io.KnownBytes.{Appends, Consumes, IsAtEnd}}
 use Rattle.p25_bits.specs.Bits.{octet_bits}

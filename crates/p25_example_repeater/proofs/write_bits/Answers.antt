@@ -1,4 +1,4 @@
-use Rattle.std.proofs.Common.{◌+◌, ◌++◌, List, Bool, length, subst, arith}
+use Rattle.std.proofs.Common.{List, Bool, subst, arith}
 use Rattle.p25_example_repeater.specs.Written.{AreWritten}
 use Rattle.p25_example_repeater.proofs.WrittenLaws.{written-none, written-part}
 use Rattle.p25_example_repeater.proofs.write_bits.Goals as goal

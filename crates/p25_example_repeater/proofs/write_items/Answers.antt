@@ -1,4 +1,4 @@
-use Rattle.std.proofs.Common.{◌+◌, ◌++◌, [], List, Bool, length, ap, refl, subst, ◌∙◌, arith, length-drop}
+use Rattle.std.proofs.Common.{◌++◌, [], List, Bool, length, ap, refl, subst, ◌∙◌, arith, length-drop}
 use Rattle.p25_units.specs.Items.{covered}
 use Rattle.p25_example_repeater.specs.Written.{AreWritten}
 use Rattle.p25_example_repeater.proofs.WrittenLaws.{repeated-item, repeated-none}

@@ -1,4 +1,4 @@
-use Rattle.std.proofs.Common.{◌≡◌, [], ◌++◌, true, List, Option, Bool, Result, Ok, Err, ℕ, ap, subst, sym, ◌∙◌}
+use Rattle.std.proofs.Common.{◌≡◌, [], ◌++◌, true, List, Option, Bool, Result, Ok, Err, ℕ, ap, subst, ◌∙◌}
 use Rattle.std.specs.Prelude.{OnOk}
 use Rattle.p25_stream.specs.Scan.{Scan, given}
 use Rattle.p25_example_repeater.specs.Written.{AreWritten, HasRepeated, bits_due}
