@@ -24,13 +24,13 @@ WIDTHS = {"octets": 1, "dibits": 4, "unpacked": 8, "digits": 5, "bits": 9, "hex"
 TURNS = ("", "p", "s", "ps", "l", "pl", "sl", "psl")
 PACKED = {b"\x1f\x8b\x08": "gzip", b"BZh": "bzip2", b"\xfd7zXZ\0": "xz", b"\x28\xb5\x2f\xfd": "zstd", b"PK\3\4": "zip", b"7z\xbc\xaf": "7z"}
 SOUND = {b"fLaC": "FLAC", b"OggS": "Ogg", b"ID3": "MP3", b"\xff\xfb": "MP3", b".snd": "AU", b"FORM": "AIFF"}
-# What samples a file may have, none of which is a symbol.
+# What samples a file may have, none of which is a symbol. Of octets both halves, as I and Q, are steady: of wider samples one half is not.
 SAMPLES = (
+    ("=B", "octets without a sign"),
     ("<h", "16-bit samples, the lowest octet first"),
     (">h", "16-bit samples, the highest octet first"),
     (">f", "32-bit floats with the highest octet first"),
     ("<f", "32-bit floats, several for each symbol"),
-    ("=B", "octets without a sign"),
 )
 
 
@@ -224,8 +224,8 @@ def likely_kind(begin):
         if letter == ">f":
             return f"looks like {name}: they are read by: perl -0777 -ne 'print(pack(\"V*\", unpack(\"N*\", $_)))' FILE | p25-octets floats -a"
         # Samples of a signal are near to the one before, or to the one before that, as I and Q are; octets of another kind are not.
-        steady = [it for it in (steadiness(samples), steadiness(samples[::2])) if it is not None]
-        if steady and min(steady) < 0.7:
+        halves = [it for it in (steadiness(samples[::2]), steadiness(samples[1::2])) if it is not None]
+        if halves and (max(halves) if width == 1 else min(halves[0], steadiness(samples))) < 0.7:
             return f"looks like {name}: sound, IQ or a discriminator, of which no symbols are read"
     return None
 

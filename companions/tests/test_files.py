@@ -142,14 +142,22 @@ def test_installed_pages(room, page):
     assert text.count("![") == (TOP / page).read_text().count("![")
 
 
-@pytest.mark.parametrize("form, octets", [("octets", CALLS), ("-s -l dibits", received("dibits", "sl", CALLS)), ("floats -a", received("floats", "", CALLS, 0.2, 3))])
+def ended(lines):
+    """What p25-watch says of calls that have ended: what it knows of one that begins depends on what came at once."""
+    return [line for line in lines.splitlines() if not line.startswith(b"begins ")]
+
+
+ONE = [("octets", CALLS), ("-s -l dibits", received("dibits", "sl", CALLS)), ("floats -a", received("floats", "", CALLS, 0.2, 3))]
+
+
+@pytest.mark.parametrize("form, octets", ONE, ids=[form for form, _ in ONE])
 def test_one_command(room, form, octets):
     """A file in any form is what its lines are, with the syncs that follow finds, and standard error has the form."""
     name = room.put("a file", octets)
     shown = room.octets("p25 follow | p25 show", CALLS)
     for script in ("p25-talkers", "p25-watch --plain"):
         status, out, told = room.run(f"{script} '{name}'")
-        assert (status, out) == (0, room.octets(script, shown))
+        assert (status, ended(out)) == (0, ended(room.octets(script, shown)))
         assert told.startswith(f"{script.split()[0]}: 'a file' is taken for the form {form}: ")
         assert room.octets(told.split(f"form {form}: ")[1].replace("\n", "")) == shown
     status, page, told = room.run(f"p25-page '{name}'")
@@ -206,7 +214,8 @@ def test_page_of_a_folder(room):
     text = page.decode()
     calls = len(room.lines("p25 show | p25-talkers", CALLS))
     assert f"{2 * UNITS} whole, 0 broken" in text and f"carried {2 * calls} calls" in text
-    assert "2026-11-28 08:00:00" in text and "2026-11-28 09:30:00" in text and "day (3 files by time)" in text
+    assert "2026-11-28 08:00:00 to 2026-11-28 09:30:04 UTC" in text and "2026-11-28 09:30:03" in text and "day (3 files by time)" in text
+    assert "In 1 h 30 min, from the first recording to the last," in text
     assert room.run("p25-page --begin 2026-11-28T08:00:00Z day")[0] == 2
     (room.path / "empty").mkdir()
     assert room.run("p25-page empty")[2].startswith("p25-page: 'empty' has no recording with a time in its name")
