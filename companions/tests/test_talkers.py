@@ -287,9 +287,14 @@ def test_live_lines(room):
 
 @pytest.mark.parametrize("pipe", ["p25 show | p25-talkers", "p25-split - | p25-talkers", "p25-split - | p25-calls -v | p25-talkers"])
 def test_interrupt_of_a_pipe(room, pipe):
+    octets = SAMPLES["traffic.bin"].read_bytes()[:747]
+    # How long the pipe takes to begin and to read this, on a machine as busy as it is.
+    began = time.monotonic()
+    room.octets(pipe, octets)
+    took = time.monotonic() - began
     live = Live(room, f"trap : INT; {pipe}")
-    live.give(SAMPLES["traffic.bin"].read_bytes()[:747])
-    time.sleep(8)
+    live.give(octets)
+    time.sleep(2 + 4 * took)
     os.killpg(live.run.pid, signal.SIGINT)
     assert "at least 3 sent, 3 heard, 0 broken; end not heard" in live.line()
     live.end()
