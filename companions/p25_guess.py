@@ -34,11 +34,21 @@ SAMPLES = (
 )
 
 
+class NoProgram(Exception):
+    """p25 does not run."""
+
+    def __init__(self):
+        super().__init__("p25 does not run: it is looked for beside the helper scripts, and in the path")
+
+
 def run(command, octets):
     """What a command of p25 makes of octets."""
-    ended = subprocess.run([program(), command], input=octets, capture_output=True)
-    if ended.returncode in (126, 127):
-        raise OSError(ended.returncode, "p25 does not run")
+    try:
+        ended = subprocess.run([program(), command], input=octets, capture_output=True)
+    except OSError:
+        raise NoProgram from None
+    if ended.returncode in (70, 126, 127):
+        raise NoProgram
     return ended.stdout
 
 
@@ -313,6 +323,8 @@ def guessed(script, path, otherwise=None):
         search = Search(path, lambda text: sys.stderr.write(f"{script.name}: {text}\n"))
     except OSError as fault:
         script.fail(3, f"'{path}' cannot be read: {fault.strerror}")
+    except NoProgram as fault:
+        script.fail(1, str(fault))
     if not search.is_sure:
         if otherwise is None:
             script.fail(1, f"'{path}' {search.why}")

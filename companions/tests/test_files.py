@@ -8,6 +8,7 @@ import lzma
 import math
 import random
 import re
+import shutil
 import struct
 import sys
 import time
@@ -171,6 +172,19 @@ def test_one_command_refuses(room):
     assert room.run("p25-talkers noise") == (1, b"", "p25-talkers: 'noise' holds no bits of P25 Phase 1 in any form that is known\n")
     shown = room.octets("p25 show", CALLS)
     assert room.octets(f"p25-talkers {room.put('lines', shown)}") == room.octets("p25-talkers", shown)
+
+
+def test_without_the_program(room):
+    """A copy of the scripts without p25 says so."""
+    copy = room.path / "copy"
+    copy.mkdir()
+    for path in (TOP / "companions").glob("p25*"):
+        if path.is_file():
+            shutil.copy(path, copy)
+    room.put("made", CALLS)
+    for name in ("p25-guess", "p25-talkers"):
+        told = f"{name}: p25 does not run: it is looked for beside the helper scripts, and in the path\n"
+        assert room.run(f"PATH=/usr/bin:/bin copy/{name} made") == (1, b"", told)
 
 
 def test_speed_of_levels():
