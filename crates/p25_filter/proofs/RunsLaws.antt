@@ -66,36 +66,26 @@ decided-begins future Broken octets rest text decided over = absurd decided
 after-octets : (at : Standing) (events : List Event) → (after_all at events).octets ≡ at.octets ++ octets_read events
 after-octets at [] = sym (append-nil at.octets)
 after-octets at (Read octets ∷ events) = after-octets (standing_after at (Read octets)) events ∙ append_assoc at.octets octets (octets_read events)
-after-octets at (ReadFailed ∷ events) = after-octets (standing_after at ReadFailed) events
-after-octets at (Wrote piece ∷ events) = after-octets (standing_after at (Wrote piece)) events
-after-octets at (WriteFailed piece count ∷ events) = after-octets (standing_after at (WriteFailed piece count)) events
+after-octets at (event ∷ events) = after-octets (standing_after at event) events
 
 after-text : (at : Standing) (events : List Event) → (after_all at events).text ≡ at.text ++ octets_written events
 after-text at [] = sym (append-nil at.text)
-after-text at (Read octets ∷ events) = after-text (standing_after at (Read octets)) events
-after-text at (ReadFailed ∷ events) = after-text (standing_after at ReadFailed) events
 after-text at (Wrote piece ∷ events) = after-text (standing_after at (Wrote piece)) events ∙ append_assoc at.text piece (octets_written events)
 after-text at (WriteFailed piece count ∷ events) =
     after-text (standing_after at (WriteFailed piece count)) events ∙ append_assoc at.text (take count piece) (octets_written events)
+after-text at (event ∷ events) = after-text (standing_after at event) events
 
 -- the input is over only by a read that gave none
 over-read : (at : Standing) (events : List Event) → (at.phase ≡ Over → ⊥) → (after_all at events).phase ≡ Over → HasEnd events
 over-read at [] not over = not over
 over-read at (Read [] ∷ events) not over = tt
-over-read at (Read (octet ∷ octets) ∷ events) not over =
-    over-read (standing_after at (Read (octet ∷ octets))) events (λ (same : Going ≡ Over). cc) over
-over-read at (ReadFailed ∷ events) not over = over-read (standing_after at ReadFailed) events (λ (same : Broken ≡ Over). cc) over
 over-read at (Wrote piece ∷ events) not over = over-read (standing_after at (Wrote piece)) events not over
-over-read at (WriteFailed piece count ∷ events) not over =
-    over-read (standing_after at (WriteFailed piece count)) events (λ (same : Broken ≡ Over). cc) over
+over-read at (event ∷ events) not over = over-read (standing_after at event) events (λ same. cc same) over
 
 HasEnd-front : (xs ys : List Event) → HasEnd xs → HasEnd (xs ++ ys)
 HasEnd-front [] ys ended = absurd ended
 HasEnd-front (Read [] ∷ xs) ys ended = tt
-HasEnd-front (Read (octet ∷ octets) ∷ xs) ys ended = HasEnd-front xs ys ended
-HasEnd-front (ReadFailed ∷ xs) ys ended = HasEnd-front xs ys ended
-HasEnd-front (Wrote piece ∷ xs) ys ended = HasEnd-front xs ys ended
-HasEnd-front (WriteFailed piece count ∷ xs) ys ended = HasEnd-front xs ys ended
+HasEnd-front (event ∷ xs) ys ended = HasEnd-front xs ys ended
 
 -- no more octets than an input has at most, and those of one read more, and not those where the input is over
 record IsBounded (at : Standing) : Type 0 where
@@ -290,17 +280,13 @@ run-quiet told left first last future events end run went input same none =
 -- a fault that the end tells is among the events
 has-read : (before : List Event) → HasReadFault (before ++ ReadFailed ∷ [])
 has-read [] = tt
-has-read (Read octets ∷ before) = has-read before
 has-read (ReadFailed ∷ before) = tt
-has-read (Wrote piece ∷ before) = has-read before
-has-read (WriteFailed piece count ∷ before) = has-read before
+has-read (event ∷ before) = has-read before
 
 has-write : (before : List Event) (piece : List ℕ) (count : ℕ) → HasWriteFault (before ++ WriteFailed piece count ∷ [])
 has-write [] piece count = tt
-has-write (Read octets ∷ before) piece count = has-write before piece count
-has-write (ReadFailed ∷ before) piece count = has-write before piece count
-has-write (Wrote other ∷ before) piece count = has-write before piece count
 has-write (WriteFailed other so_many ∷ before) piece count = tt
+has-write (event ∷ before) piece count = has-write before piece count
 
 pub run-read_fault : (future : Future) (events : List Event) (end : FilterEnd) → IsRun future events end → end ≡ ReadFault → HasReadFault events
 run-read_fault future events end run same =
