@@ -1,7 +1,7 @@
 -- The end of a line, by whether there is a line; and what was told, by whether the write failed.
-use Rattle.std.proofs.{Common.{false, ◌==◌, ◌≡◌, ℕ, ◌<◌, List, [], ◌∷◌, ◌++◌, length, Option, Result, Ok, Err, refl, sym, subst, arith}, lemmas.List.{take_all}}
+use Rattle.std.proofs.{Common.{false, ◌==◌, ◌≡◌, ℕ, ◌<◌, ◌≤◌, List, [], ◌∷◌, ◌++◌, length, Result, inl, inr, Ok, Err, refl, sym, subst, arith}, lemmas.List.{take_all}}
 use Rattle.std.specs.Prelude.{OnOk, OnErr}
-use Rattle.p25_io.specs.{Faults.{HasCause}, Octets.{Appended, AppendedBeginning}, declared.failed.Failed.{Failed}}
+use Rattle.p25_io.specs.{Events.{Event, Wrote, WriteFailed}, declared.failed.Failed.{Failed}}
 use Rattle.p25_app.specs.Calls.{IsTold, with_end}
 
 -- a line gets its LF
@@ -24,16 +24,10 @@ pub filled : (octets : List ℕ) → false ≡ (length octets == 0) → 0 < leng
 filled [] tested = absurd (cc)
 filled (octet ∷ octets) tested = omega arith
 
--- a write of a text tells it, or a beginning of it where the write failed
-pub told : {T : Type 0} (before after : Option (List ℕ)) (faults later : ℕ) (piece text : List ℕ) (result : Result T Failed) → piece ≡ text
-    → OnOk result (Appended before piece after) → OnErr result (AppendedBeginning before piece after) → HasCause faults later result → IsTold before after faults later text
-told before after faults later piece text (Ok value) same ok err cause =
-    let wrote : Appended before text after = subst (λ (octets : List ℕ). Appended before octets after) same ok in
-    record {
-      beginning = record { count = length text; beginning = subst (λ (octets : List ℕ). Appended before octets after) (sym (take_all (length text) text (omega arith))) wrote };
-      whole = λ none. wrote;
-    }
-told before after faults later piece text (Err failed) same ok err cause = record {
-  beginning = subst (λ (octets : List ℕ). AppendedBeginning before octets after) same err;
-  whole = λ none. absurd (none cause.failed);
-}
+-- a write of a text tells it
+pub told : {P T : Type 0} (moves : P → List Event → P → Type 0) (first last : P) (piece text : List ℕ) (result : Result T Failed) → piece ≡ text
+    → OnOk result (moves first (Wrote piece ∷ []) last)
+    → OnErr result ((count : ℕ) × (count ≤ length piece) × moves first (WriteFailed piece count ∷ []) last) → IsTold moves first text last
+told moves first last piece text (Ok value) same ok err = inl (subst (λ (octets : List ℕ). moves first (Wrote octets ∷ []) last) same ok)
+told moves first last piece text (Err failed) same ok err =
+    inr (subst (λ (octets : List ℕ). (count : ℕ) × (count ≤ length octets) × moves first (WriteFailed octets count ∷ []) last) same err)

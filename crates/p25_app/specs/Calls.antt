@@ -1,8 +1,8 @@
 -- One call of the program: the words among its arguments, the run of these words, the line of its outcome and its status.
-use Rattle.std.specs.{Prelude.{◌≡◌, ℕ, List, [], ◌∷◌, ◌++◌, codes, drop, map, string_bytes, Option, Some, None, Result, Ok, Err}, List.{fold}}
+use Rattle.std.specs.{Prelude.{◌≡◌, ◌≤◌, ◌⊎◌, ℕ, List, [], ◌∷◌, ◌++◌, codes, drop, length, map, string_bytes, Option, Some, None, Result, Ok, Err}, List.{fold}}
 use Rattle.std.specs.{Vec.Iter.{into_iter_items}, declared.vec.IntoIter.{IntoIter}, declared.string.String.{String}, declared.io.Error.{Error}}
 use Rattle.std.specs.{declared.io.ErrorKind.{ErrorKind}, declared.io.ErrorKind.TheVariants.{OutOfMemory}, IoError.{error_kind}}
-use Rattle.p25_io.specs.{Events.{Event}, Faults.{Rose}, Octets.{Appended, AppendedBeginning}}
+use Rattle.p25_io.specs.Events.{Event, Wrote, WriteFailed}
 use Rattle.p25_tool.specs.{declared.outcome.Outcome.{Outcome}, declared.outcome.Outcome.TheVariants.{Memory}, CallRuns.{IsCallRun}}
 use Rattle.p25_tool.specs.{Outcomes.{line_of, status_of}, Words.{added, command_of}}
 
@@ -34,16 +34,15 @@ with_end (octet ∷ octets) = (octet ∷ octets) ++ 10 ∷ []
 unfoldable pub error_text : Outcome → List ℕ
 error_text outcome = with_end (line_of outcome)
 
--- a text was written to a sink, or a beginning of it where the sink's count of faults rose
-pub record IsTold (before after : Option (List ℕ)) (faults faults_after : ℕ) (text : List ℕ) : Type 0 where
-  pub beginning : AppendedBeginning before text after
-  pub whole : (Rose faults faults_after → ⊥) → Appended before text after
+-- exactly this text was written, or that write failed after so many of its first octets
+abbrev pub IsTold : {P : Type 0} → (P → List Event → P → Type 0) → P → List ℕ → P → Type 0
+IsTold moves first text last = moves first (Wrote text ∷ []) last ⊎ ((count : ℕ) × (count ≤ length text) × moves first (WriteFailed text count ∷ []) last)
 
--- one call of the program, by its words: the events of one run of them, the line of its outcome, which is told on the sink of
+-- one call of the program, by its words: the events of one run of them, the line of its outcome, which is told on the port of
 -- errors, and its status
-pub record IsOneCall (words : Option (List (List ℕ))) (events : List Event) (before after : Option (List ℕ)) (faults faults_after status : ℕ)
+pub record IsOneCall {P : Type 0} (words : Option (List (List ℕ))) (events : List Event) (moves : P → List Event → P → Type 0) (first last : P) (status : ℕ)
     : Type 0 where
   pub outcome : Outcome
   pub run : IsRunOf words events outcome
-  pub told : IsTold before after faults faults_after (error_text outcome)
+  pub told : IsTold moves first (error_text outcome) last
   pub status_is : status ≡ status_of outcome

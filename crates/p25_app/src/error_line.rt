@@ -1,20 +1,22 @@
 //! The line of errors of a call.
 
 ghost use Rattle.std.specs.Prelude.{◌≡◌};
+ghost use Rattle.p25_io.specs.Streams.{StreamsGo};
 ghost use Rattle.p25_app.specs.Calls.{IsTold, error_text};
 
-use p25_io::{Sink, WriteSink};
+use p25_io::{Port, Streams};
 use p25_tool::{Line, Outcome, outcome_text};
-use std::io::Stderr;
+use std::io::{Read, Stderr, Write};
 
-/// A sink for the line of errors. Standard error is one, and standard output is not.
-pub trait ErrorSink: Sink {}
+/// A writer for the line of errors. Standard error is one, and standard output is not.
+pub trait ErrorWriter: Write {}
 
-impl ErrorSink for WriteSink<Stderr> {}
+impl ErrorWriter for Stderr {}
 
-/// Writes the line of an outcome with its LF, or nothing where the outcome has no line. A fault of this write changes nothing.
-pub fn tell<E: ErrorSink>(outcome: &Outcome, errors: &mut E)
-    ensures { IsTold (E.written errors.old) (E.written errors.new) (E.faults errors.old) (E.faults errors.new) (error_text outcome.now) }
+/// Writes the line of an outcome with its LF, or nothing if the outcome has no line, in one write and with one flush. A fault of this
+/// write changes nothing.
+pub fn tell<N: Read, E: ErrorWriter>(outcome: &Outcome, errors: &mut Streams<N, E>)
+    ensures { IsTold (StreamsGo N.remaining E.contents) errors.old (error_text outcome.now) errors.new }
 {
     let mut text = Line::new();
     put_error_text(outcome, &mut text);

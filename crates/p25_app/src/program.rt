@@ -7,7 +7,7 @@ ghost use Rattle.p25_app.specs.Calls.{IsOneCall, words_given};
 mod ended;
 
 use super::arguments::words_of;
-use super::error_line::{ErrorSink, tell};
+use super::error_line::{ErrorWriter, tell};
 pub use ended::Ended;
 use p25_io::Streams;
 use p25_tool::{Outcome, outcome_status, run_on};
@@ -20,18 +20,18 @@ use std::io::{Read, Write};
 ///
 /// The words are the arguments but the first. The events that stand on the streams afterwards, in their order and with nothing beside
 /// them, are those of one run of these words, as `run_on` of p25_tool has it; where there was not enough memory for the arguments there
-/// are none. What they come to is `stream_laws` of p25_tool. The line of the outcome is written to `errors`, or a beginning of it where
-/// that fails, and the end has the status of the outcome. No event was made on the streams before.
-pub fn call<R: Read, W: Write, E: ErrorSink>(
+/// are none. What they come to is `stream_laws` of p25_tool. One event is made on `errors`: a write of the line of the outcome, which is
+/// whole and flushed, or failed. The end has the status of the outcome. No event was made on the streams or on `errors` before.
+pub fn call<R: Read, W: Write, N: Read, E: ErrorWriter>(
     alloc: Global,
     arguments: io::Result<Args>,
     streams: &mut Streams<R, W>,
-    errors: &mut E,
+    errors: &mut Streams<N, E>,
 ) -> Ended
     requires blank { events_on streams.old ≡ [] }
+    requires quiet { events_on errors.old ≡ [] }
     ensures went { StreamsGo R.remaining W.contents streams.old (events_on streams.new) streams.new }
-    ensures called { IsOneCall (words_given arguments) (events_on streams.new) (E.written errors.old) (E.written errors.new) (E.faults errors.old)
-        (E.faults errors.new) result }
+    ensures called { IsOneCall (words_given arguments) (events_on streams.new) (StreamsGo N.remaining E.contents) errors.old errors.new result }
 {
     let outcome = match words_of(arguments) {
         Some(words) => run_on(alloc, &words, streams),

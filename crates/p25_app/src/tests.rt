@@ -1,22 +1,24 @@
 //! The end of a call whose arguments cannot be read, and the line of errors of each outcome.
 
 use super::arguments::words_of;
-use super::error_line::{ErrorSink, tell};
+use super::error_line::{ErrorWriter, tell};
 use super::program::call;
-use p25_io::{SliceSink, Streams};
+use p25_io::Streams;
 use p25_tool::Outcome;
+use std::alloc::Global;
 use std::io;
 use std::io::ErrorKind;
 use std::process::{ExitCode, Termination};
 
-impl ErrorSink for SliceSink<'_> {}
+impl ErrorWriter for &mut Vec<u8> {}
 
 // Whether this is the line of errors of an outcome.
-fn is_told(outcome: &Outcome, text: &[u8]) -> bool {
-    let mut room = [0; 64];
-    let mut errors = SliceSink::new(&mut room, &[]);
+fn is_told(alloc: Global, outcome: &Outcome, text: &[u8]) -> bool {
+    let mut written = Vec::new(alloc);
+    let mut errors = Streams::new(b"".as_slice(), &mut written);
     tell(outcome, &mut errors);
-    errors.written() == text
+    drop(errors);
+    written.as_slice() == text
 }
 
 #[test]
@@ -28,7 +30,7 @@ fn lines_of_errors(rt: HostRuntime) {
         (Outcome::Found { faults: 20 }, b"found 20\n"),
     ];
     for (outcome, text) in &rows {
-        assert!(rt; is_told(outcome, text));
+        assert!(rt; is_told(rt.alloc(), outcome, text));
     }
 }
 
@@ -47,8 +49,8 @@ fn ends_of_calls(rt: HostRuntime) {
     ];
     for (kind, text, status) in rows {
         let (mut input, mut output) = (b"send 61\n".as_slice(), Vec::new(rt.alloc()));
-        let mut line = [0; 64];
-        let mut errors = SliceSink::new(&mut line, &[]);
+        let mut line = Vec::new(rt.alloc());
+        let mut errors = Streams::new(b"".as_slice(), &mut line);
         let mut streams = Streams::new(&mut input, &mut output);
         let end = call(
             rt.alloc(),
@@ -56,7 +58,9 @@ fn ends_of_calls(rt: HostRuntime) {
             &mut streams,
             &mut errors,
         );
+        drop(errors);
+        drop(streams);
         assert!(rt; end.report(&rt) == ExitCode::from(status));
-        assert!(rt; errors.written() == text && output.is_empty() && input.len() == 8);
+        assert!(rt; line.as_slice() == text && output.is_empty() && input.len() == 8);
     }
 }

@@ -1,9 +1,9 @@
 pub mod TracesLaws
 pub mod GoingsLaws
 pub mod InputLaws
+pub mod WentLaws
 pub mod RunsLaws
 pub mod OrdersLaws
 pub mod SameLaws
 pub mod LinesLaws
 pub mod LineFiltersLaws
-pub mod StreamsLaws

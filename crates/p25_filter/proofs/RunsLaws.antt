@@ -1,14 +1,15 @@
--- What stands when the work between a source and a sink ends, by the events that they went through: what was taken, what was
--- written, and what the end says of both.
-use Rattle.std.proofs.Common.{◌≡◌, ℕ, ◌+◌, ◌<◌, ◌≤◌, Bool, true, false, cond, nat_lt, zero, suc, List, [], ◌∷◌, ◌++◌, length, take, Option, Some, None, refl, ap, sym, subst, ◌∙◌, arith, append-nil, length-append}
-use Rattle.std.proofs.{lemmas.List.{take_all, nil_from_length}, lemmas.Bool.Decides.{nat_tests}, Math.Seq.{take-append-add}, lemmas.Bool.{ltb-false}}
+-- What stands when the work ends, by the events that were made: what was taken, what was written, and what the end says of both, by what is told of the
+-- octets that the events read and wrote (`Went`).
+use Rattle.std.proofs.Common.{◌≡◌, ℕ, ◌+◌, ◌<◌, ◌≤◌, Bool, true, false, cond, nat_lt, zero, suc, List, [], ◌∷◌, ◌++◌, length, take, Option, Some, None, refl, ap, sym, subst, ◌∙◌, arith, append_assoc, append-nil, length-append}
+use Rattle.std.proofs.{lemmas.List.{take_all}, lemmas.Bool.Decides.{nat_tests}, Math.Seq.{take-append-add}, lemmas.Bool.{ltb-false}}
 use Rattle.std.specs.Prelude.{Contains, IfSome}
-use Rattle.p25_io.specs.{Events.{Event, Read, ReadFailed, Wrote, WriteFailed}, Faults.{Rose}, Octets.{Taken, Appended, AppendedBeginning}, Pairs.{SinkGoes, SourceGoes}}
-use Rattle.p25_io.proofs.OctetsLaws.{Appended-none, Appended-same, Appended-trans, AppendedBeginning-longer, AppendedBeginning-same, Rose-within, Taken-none, Taken-told, Taken-trans}
+use Rattle.p25_io.specs.Events.{Event, Read, ReadFailed, Wrote, WriteFailed, octets_read, octets_written}
+use Rattle.p25_io.specs.Octets.{Taken, Appended, AppendedBeginning}
+use Rattle.p25_io.proofs.OctetsLaws.{Appended-same, AppendedBeginning-longer, AppendedBeginning-same, Taken-same, Taken-told}
 use Rattle.p25_filter.specs.{declared.ending.Ending.{Ending}, declared.ending.FilterEnd.{FilterEnd}, declared.ending.FilterEnd.TheVariants.{Ended, ReadFault, WriteFault, TooLong, Memory}}
 use Rattle.p25_filter.specs.{Futures.{Future}, Runs.{Filtered, IsFinal, IsMemory, IsReadFault, IsWriteFault, Meets, all_written, input_most, read_most}}
-use Rattle.p25_filter.specs.Traces.{Begins, Broken, Going, IsDecided, IsFinalAt, IsLive, IsMemoryAt, IsRun, IsSettled, Over, Phase, Standing, after_all, at_first, standing_after, standing_at}
-use Rattle.p25_filter.proofs.TracesLaws.{IsLive-parts, after_all-append}
+use Rattle.p25_filter.specs.Traces.{AreReads, Begins, Broken, EndsAs, Going, HasReadFault, HasWriteFault, IsDecided, IsFinalAt, IsLive, IsMemoryAt, IsRun, IsSettled, Over, Phase, Standing, after_all, at_first, standing_after}
+use Rattle.p25_filter.proofs.{TracesLaws.{IsLive-parts, after_all-append}, WentLaws.{HasEnd, Went}}
 pub use Rattle.p25_filter.proofs.TracesLaws.{first-take}
 
 -- of an input that is not too long all is written
@@ -61,102 +62,55 @@ decided-begins future Over octets rest text decided over =
     subst (λ (zs : List ℕ). Begins text zs) (sym (ap (all_written future) same ∙ whole)) decided
 decided-begins future Broken octets rest text decided over = absurd decided
 
--- what a source that told its octets says of how far the work has come
-record Reached (told : Option (List ℕ)) (at : Standing) (left : Option (List ℕ)) : Type 0 where
-  taken : Taken told at.octets left
+-- the standing after some events has the octets that they read and the text that they wrote
+after-octets : (at : Standing) (events : List Event) → (after_all at events).octets ≡ at.octets ++ octets_read events
+after-octets at [] = sym (append-nil at.octets)
+after-octets at (Read octets ∷ events) = after-octets (standing_after at (Read octets)) events ∙ append_assoc at.octets octets (octets_read events)
+after-octets at (event ∷ events) = after-octets (standing_after at event) events
+
+after-text : (at : Standing) (events : List Event) → (after_all at events).text ≡ at.text ++ octets_written events
+after-text at [] = sym (append-nil at.text)
+after-text at (Wrote piece ∷ events) = after-text (standing_after at (Wrote piece)) events ∙ append_assoc at.text piece (octets_written events)
+after-text at (WriteFailed piece count ∷ events) =
+    after-text (standing_after at (WriteFailed piece count)) events ∙ append_assoc at.text (take count piece) (octets_written events)
+after-text at (event ∷ events) = after-text (standing_after at event) events
+
+-- the input is over only by a read that gave none
+over-read : (at : Standing) (events : List Event) → (at.phase ≡ Over → ⊥) → (after_all at events).phase ≡ Over → HasEnd events
+over-read at [] not over = not over
+over-read at (Read [] ∷ events) not over = tt
+over-read at (Wrote piece ∷ events) not over = over-read (standing_after at (Wrote piece)) events not over
+over-read at (event ∷ events) not over = over-read (standing_after at event) events (λ same. cc same) over
+
+HasEnd-front : (xs ys : List Event) → HasEnd xs → HasEnd (xs ++ ys)
+HasEnd-front [] ys ended = absurd ended
+HasEnd-front (Read [] ∷ xs) ys ended = tt
+HasEnd-front (event ∷ xs) ys ended = HasEnd-front xs ys ended
+
+-- no more octets than an input has at most, and those of one read more, and not those where the input is over
+record IsBounded (at : Standing) : Type 0 where
   few : length at.octets ≤ input_most + read_most
-  over : at.phase ≡ Over → (length at.octets ≤ input_most) × IfSome told (λ input. input ≡ at.octets)
+  over : at.phase ≡ Over → length at.octets ≤ input_most
 
-Reached-first : (told : Option (List ℕ)) → Reached told at_first told
-Reached-first told = record { taken = Taken-none told; few = omega arith; over = λ (same : Going ≡ Over). cc }
+bounded-first : IsBounded at_first
+bounded-first = record { few = omega arith; over = λ (same : Going ≡ Over). cc }
 
-Reached-read : (told before now : Option (List ℕ)) (future : Future) (at : Standing) (octets : List ℕ) → Reached told at before → IsSettled future at
-    → length octets ≤ read_most → Taken before octets now → (octets ≡ [] → IfSome before (λ rest. rest ≡ [])) → Reached told (standing_after at (Read octets)) now
-Reached-read told before now future at [] reached settled few taken ending =
-    record {
-      taken = Taken-trans reached.taken taken;
-      few = omega (arith, length-append at.octets [], settled.few);
-      over = λ same. (
-        omega (arith, length-append at.octets [], settled.few),
-        subst (λ (zs : List ℕ). IfSome told (λ input. input ≡ zs)) (sym (append-nil at.octets)) (taken-all told before at.octets reached.taken (ending refl)),
-      );
-    }
-Reached-read told before now future at (octet ∷ octets) reached settled few taken ending =
-    record {
-      taken = Taken-trans reached.taken taken;
-      few = omega (arith, length-append at.octets (octet ∷ octets), settled.few, few);
-      over = λ (same : Going ≡ Over). cc;
-    }
+bounded-read : (future : Future) (at : Standing) (octets : List ℕ) → IsSettled future at → length octets ≤ read_most → IsBounded (standing_after at (Read octets))
+bounded-read future at [] settled few =
+    record { few = omega (arith, length-append at.octets [], settled.few); over = λ same. omega (arith, length-append at.octets [], settled.few) }
+bounded-read future at (octet ∷ octets) settled few =
+    record { few = omega (arith, length-append at.octets (octet ∷ octets), settled.few, few); over = λ (same : Going ≡ Over). cc }
 
-Reached-broken : (told before now : Option (List ℕ)) (at : Standing) (text : List ℕ) → Reached told at before → now ≡ before → Reached told (standing_at Broken at.octets text) now
-Reached-broken told before now at text reached kept =
-    record { taken = subst (λ (o : Option (List ℕ)). Taken told at.octets o) (sym kept) reached.taken; few = reached.few; over = λ (same : Broken ≡ Over). cc }
-
-module _ {S : Type 0} (left : S → Option (List ℕ)) (faults : S → ℕ) where
-  -- a source's count of faults never falls
-  pub SourceGoes-later : (first last : S) (events : List Event) → SourceGoes left faults first events last → faults first ≤ faults last
-  SourceGoes-later first last [] goes = omega (arith, ap faults goes)
-  SourceGoes-later first last (Read octets ∷ events) goes = omega (arith, goes.1.later, SourceGoes-later goes.0 last events goes.2)
-  SourceGoes-later first last (ReadFailed ∷ events) goes = omega (arith, goes.1.later, SourceGoes-later goes.0 last events goes.2)
-  SourceGoes-later first last (Wrote piece ∷ events) goes = SourceGoes-later first last events goes
-  SourceGoes-later first last (WriteFailed piece count ∷ events) goes = SourceGoes-later first last events goes
-
-  -- and it rose where a read failed
-  SourceGoes-rose : (first last : S) (before : List Event) → SourceGoes left faults first (before ++ ReadFailed ∷ []) last → Rose (faults first) (faults last)
-  SourceGoes-rose first last [] goes = subst (λ (s : S). Rose (faults first) (faults s)) (sym goes.2) goes.1.cause
-  SourceGoes-rose first last (Read octets ∷ events) goes =
-      Rose-within (faults first) (faults goes.0) (faults last) (faults last) goes.1.later (SourceGoes-rose goes.0 last events goes.2) (omega arith)
-  SourceGoes-rose first last (ReadFailed ∷ events) goes =
-      Rose-within (faults first) (faults goes.0) (faults last) (faults last) goes.1.later (SourceGoes-rose goes.0 last events goes.2) (omega arith)
-  SourceGoes-rose first last (Wrote piece ∷ events) goes = SourceGoes-rose first last events goes
-  SourceGoes-rose first last (WriteFailed piece count ∷ events) goes = SourceGoes-rose first last events goes
-
-  Reached-all : (told : Option (List ℕ)) (future : Future) (at : Standing) (first last : S) (events : List Event) → IsLive future at events
-      → SourceGoes left faults first events last → Reached told at (left first) → Reached told (after_all at events) (left last)
-  Reached-all told future at first last [] live goes reached = subst (λ (s : S). Reached told at (left s)) (sym goes) reached
-  Reached-all told future at first last (Read octets ∷ events) live goes reached =
-      Reached-all told future (standing_after at (Read octets)) goes.0 last events live.1 goes.2
-      (Reached-read told (left first) (left goes.0) future at octets reached live.0.0 live.0.1 goes.1.taken goes.1.ending)
-  Reached-all told future at first last (ReadFailed ∷ events) live goes reached =
-      Reached-all told future (standing_after at ReadFailed) goes.0 last events live.1 goes.2
-      (Reached-broken told (left first) (left goes.0) at at.text reached goes.1.kept)
-  Reached-all told future at first last (Wrote piece ∷ events) live goes reached =
-      Reached-all told future (standing_after at (Wrote piece)) first last events live.1 goes
-      (record { taken = reached.taken; few = reached.few; over = reached.over })
-  Reached-all told future at first last (WriteFailed piece count ∷ events) live goes reached =
-      Reached-all told future (standing_after at (WriteFailed piece count)) first last events live.1 goes
-      (Reached-broken told (left first) (left first) at (at.text ++ take count piece) reached refl)
-
-module _ {K : Type 0} (written : K → Option (List ℕ)) (faults : K → ℕ) where
-  -- a sink's count of faults never falls
-  pub SinkGoes-later : (first last : K) (events : List Event) → SinkGoes written faults first events last → faults first ≤ faults last
-  SinkGoes-later first last [] goes = omega (arith, ap faults goes)
-  SinkGoes-later first last (Read octets ∷ events) goes = SinkGoes-later first last events goes
-  SinkGoes-later first last (ReadFailed ∷ events) goes = SinkGoes-later first last events goes
-  SinkGoes-later first last (Wrote piece ∷ events) goes = omega (arith, goes.1.later, SinkGoes-later goes.0 last events goes.2)
-  SinkGoes-later first last (WriteFailed piece count ∷ events) goes = omega (arith, goes.1.later, SinkGoes-later goes.0 last events goes.2)
-
-  -- and it rose where a write failed
-  SinkGoes-rose : (first last : K) (before : List Event) (piece : List ℕ) (count : ℕ) → SinkGoes written faults first (before ++ WriteFailed piece count ∷ []) last
-      → Rose (faults first) (faults last)
-  SinkGoes-rose first last [] piece count goes = subst (λ (s : K). Rose (faults first) (faults s)) (sym goes.2) goes.1.cause
-  SinkGoes-rose first last (Read octets ∷ events) piece count goes = SinkGoes-rose first last events piece count goes
-  SinkGoes-rose first last (ReadFailed ∷ events) piece count goes = SinkGoes-rose first last events piece count goes
-  SinkGoes-rose first last (Wrote other ∷ events) piece count goes =
-      Rose-within (faults first) (faults goes.0) (faults last) (faults last) goes.1.later (SinkGoes-rose goes.0 last events piece count goes.2) (omega arith)
-  SinkGoes-rose first last (WriteFailed other so_many ∷ events) piece count goes =
-      Rose-within (faults first) (faults goes.0) (faults last) (faults last) goes.1.later (SinkGoes-rose goes.0 last events piece count goes.2) (omega arith)
-
-  -- what the events wrote stands on the sink
-  text-appended : (base : Option (List ℕ)) (at : Standing) (first last : K) (events : List Event) → SinkGoes written faults first events last
-      → Appended base at.text (written first) → Appended base (after_all at events).text (written last)
-  text-appended base at first last [] goes appended = subst (λ (s : K). Appended base at.text (written s)) (sym goes) appended
-  text-appended base at first last (Read octets ∷ events) goes appended = text-appended base (standing_after at (Read octets)) first last events goes appended
-  text-appended base at first last (ReadFailed ∷ events) goes appended = text-appended base (standing_after at ReadFailed) first last events goes appended
-  text-appended base at first last (Wrote piece ∷ events) goes appended =
-      text-appended base (standing_after at (Wrote piece)) goes.0 last events goes.2 (Appended-trans appended goes.1.appended)
-  text-appended base at first last (WriteFailed piece count ∷ events) goes appended =
-      text-appended base (standing_after at (WriteFailed piece count)) goes.0 last events goes.2 (Appended-trans appended goes.1.appended)
+bounded : (future : Future) (at : Standing) (events : List Event) → IsLive future at events → IsBounded at → IsBounded (after_all at events)
+bounded future at [] live is = is
+bounded future at (Read octets ∷ events) live is =
+    bounded future (standing_after at (Read octets)) events live.1 (bounded-read future at octets live.0.0 live.0.1)
+bounded future at (ReadFailed ∷ events) live is =
+    bounded future (standing_after at ReadFailed) events live.1 (record { few = is.few; over = λ (same : Broken ≡ Over). cc })
+bounded future at (Wrote piece ∷ events) live is =
+    bounded future (standing_after at (Wrote piece)) events live.1 (record { few = is.few; over = is.over })
+bounded future at (WriteFailed piece count ∷ events) live is =
+    bounded future (standing_after at (WriteFailed piece count)) events live.1 (record { few = is.few; over = λ (same : Broken ≡ Over). cc })
 
 -- the end of an input or a refusal within it
 final-meets : (told first last : Option (List ℕ)) (future : Future) (phase : Phase) (octets text : List ℕ) (ending : Ending)
@@ -208,141 +162,138 @@ cut-front first last text piece whole count appended begins =
     record { count = length text + count; beginning = Appended-same (sym (take-append-add text piece count)) appended } in
     AppendedBeginning-same (sym begins.is) (AppendedBeginning-longer begins.rest beginning)
 
--- of the octets that a source told, none are left where the input is over
-none-left : (told left : Option (List ℕ)) (octets rest : List ℕ) → Taken told octets left → IfSome told (λ input. input ≡ octets) → left ≡ Some rest → rest ≡ []
-none-left None (Some some) octets rest taken all same = let wrong : None ≡ Some (octets ++ some) = taken.left in cc
-none-left None None octets rest taken all same = cc
-none-left (Some input) None octets rest taken all same = cc
-none-left (Some input) (Some some) octets rest taken all same =
-    let told : Some input ≡ Some (octets ++ some) = taken.left in
-    let whole : input ≡ octets ++ some = cc in
-    let equal : some ≡ rest = cc in
-    nil_from_length rest (omega (arith, length-append octets rest, ap length (sym all ∙ whole ∙ ap (λ (zs : List ℕ). octets ++ zs) equal)))
+-- what is left is none where it was told
+none-is : (left : Option (List ℕ)) (rest : List ℕ) → IfSome left (λ some. some ≡ []) → left ≡ Some rest → rest ≡ []
+none-is None rest none same = cc
+none-is (Some some) rest none same = let equal : some ≡ rest = cc same in sym equal ∙ none
 
-write-meets : (told left first last : Option (List ℕ)) (future : Future) (at : Standing) (piece : List ℕ) (count : ℕ) → Reached told at left
-    → IsDecided future at.phase at.octets (at.text ++ piece) → Appended first (at.text ++ take count piece) last → IsWriteFault left first last future at.octets
-write-meets told left first last future at piece count reached decided appended = record {
-  beginning = λ rest is.
-      cut-front first last at.text piece (all_written future (at.octets ++ rest)) count appended
-      (decided-begins future at.phase at.octets rest (at.text ++ piece) decided
-      (λ same. let over = reached.over same in (over.0, none-left told left at.octets rest reached.taken over.1 is)));
-}
-
-module _ {S K : Type 0} (left : S → Option (List ℕ)) (source_faults : S → ℕ) (written : K → Option (List ℕ)) (sink_faults : K → ℕ)
-    (source source_now : S) (sink sink_now : K) (future : Future) where
+module _ (told left first last : Option (List ℕ)) (future : Future) where
   -- what was taken, what was written and what the end says of it
-  meets : (events : List Event) (end : FilterEnd) → IsRun future events end → SourceGoes left source_faults source events source_now
-      → SinkGoes written sink_faults sink events sink_now
-      → Meets (left source) (left source_now) (written sink) (written sink_now) future (after_all at_first events).octets end
-  meets events (Ended ending) run read wrote =
-      let at = after_all at_first events in
-      let reached = Reached-all left source_faults (left source) future at_first source source_now events run.live read (Reached-first (left source)) in
-      final-meets (left source) (written sink) (written sink_now) future at.phase at.octets at.text ending run.ends reached.over
-      (text-appended written sink_faults (written sink) at_first sink sink_now events wrote (Appended-none (written sink)))
-  meets events Memory run read wrote =
-      let at = after_all at_first events in
-      let reached = Reached-all left source_faults (left source) future at_first source source_now events run.live read (Reached-first (left source)) in
-      memory-meets (left source) (written sink) (written sink_now) future at.phase at.octets at.text run.ends reached.over
-      (text-appended written sink_faults (written sink) at_first sink sink_now events wrote (Appended-none (written sink)))
-  meets events TooLong run read wrote =
-      record {
-        many = run.ends.many;
-        ends = run.ends.ends;
-        wrote =
-            Appended-same run.ends.wrote
-            (text-appended written sink_faults (written sink) at_first sink sink_now events wrote (Appended-none (written sink)));
-      }
-  meets events ReadFault run read wrote =
-      let before = run.ends.0 in
-      let at = after_all at_first before in
-      let last : after_all at_first events ≡ standing_after at ReadFailed =
-      ap (after_all at_first) run.ends.1 ∙ after_all-append at_first before (ReadFailed ∷ []) in
-      let live = IsLive-parts future at_first before (ReadFailed ∷ []) (subst (λ (es : List Event). IsLive future at_first es) run.ends.1 run.live) in
-      let settled : IsSettled future at = live.1.0 in
-      let appended = text-appended written sink_faults (written sink) at_first sink sink_now events wrote (Appended-none (written sink)) in
-      subst (λ (s : Standing). IsReadFault (written sink) (written sink_now) future s.octets) (sym last)
-      (record {
-        few = settled.few;
-        ends = settled.ends;
-        wrote = Appended-same (ap (λ (s : Standing). s.text) last ∙ settled.wrote) appended;
-      })
-  meets events WriteFault run read wrote =
-      let piece = run.ends.0 in
-      let count = run.ends.1 in
-      let before = run.ends.2.0 in
-      let same = run.ends.2.1 in
-      let at = after_all at_first before in
-      let last : after_all at_first events ≡ standing_after at (WriteFailed piece count) =
-      ap (after_all at_first) same ∙ after_all-append at_first before (WriteFailed piece count ∷ []) in
-      let live = IsLive-parts future at_first before (WriteFailed piece count ∷ []) (subst (λ (es : List Event). IsLive future at_first es) same run.live) in
-      let reached =
-      Reached-all left source_faults (left source) future at_first source source_now before live.0
-      (source-before before piece count source (subst (λ (es : List Event). SourceGoes left source_faults source es source_now) same read))
-      (Reached-first (left source)) in
-      subst (λ (s : Standing). IsWriteFault (left source_now) (written sink) (written sink_now) future s.octets) (sym last)
-      (write-meets (left source) (left source_now) (written sink) (written sink_now) future at piece count reached live.1.0.0.decided
-      (Appended-same (ap (λ (s : Standing). s.text) last)
-      (text-appended written sink_faults (written sink) at_first sink sink_now events wrote (Appended-none (written sink)))))
+  meets : (events : List Event) (end : FilterEnd) → IsRun future events end → Went told left first last events
+      → Meets told left first last future (after_all at_first events).octets end
+  meets events end run went = by_end end run.ends
     where
-      source-before : (before : List Event) (piece : List ℕ) (count : ℕ) (s : S) → SourceGoes left source_faults s (before ++ WriteFailed piece count ∷ []) source_now
-          → SourceGoes left source_faults s before source_now
-      source-before [] piece count s goes = goes
-      source-before (Read octets ∷ es) piece count s goes = (goes.0, goes.1, source-before es piece count goes.0 goes.2)
-      source-before (ReadFailed ∷ es) piece count s goes = (goes.0, goes.1, source-before es piece count goes.0 goes.2)
-      source-before (Wrote other ∷ es) piece count s goes = source-before es piece count s goes
-      source-before (WriteFailed other so_many ∷ es) piece count s goes = source-before es piece count s goes
+      at : Standing
+      at = after_all at_first events
 
-  pub run-filtered : (events : List Event) (end : FilterEnd) → IsRun future events end → SourceGoes left source_faults source events source_now
-      → SinkGoes written sink_faults sink events sink_now → Filtered (left source) (left source_now) (written sink) (written sink_now) future end
-  run-filtered events end run read wrote =
-      let reached = Reached-all left source_faults (left source) future at_first source source_now events run.live read (Reached-first (left source)) in
-      record {
-        octets = (after_all at_first events).octets;
-        taken = reached.taken;
-        few = reached.few;
-        meets = meets events end run read wrote;
-      }
+      appended : Appended first (after_all at_first events).text last
+      appended = Appended-same (sym (after-text at_first events)) went.appended
 
+      over : (after_all at_first events).phase ≡ Over
+          → (length (after_all at_first events).octets ≤ input_most) × IfSome told (λ input. input ≡ (after_all at_first events).octets)
+      over same = (
+        (bounded future at_first events run.live bounded-first).over same,
+        taken-all told left (after_all at_first events).octets (Taken-same (sym (after-octets at_first events)) went.taken)
+            (went.ending (over-read at_first events (λ (going : Going ≡ Over). cc) same)),
+      )
+
+      by_end : (end : FilterEnd) → EndsAs future events (after_all at_first events) end → Meets told left first last future (after_all at_first events).octets end
+      by_end (Ended ending) ends = final-meets told first last future at.phase at.octets at.text ending ends over appended
+      by_end Memory ends = memory-meets told first last future at.phase at.octets at.text ends over appended
+      by_end TooLong ends = record { many = ends.many; ends = ends.ends; wrote = Appended-same ends.wrote appended }
+      by_end ReadFault ends =
+          let before = after_all at_first ends.0 in
+          let is : after_all at_first events ≡ standing_after before ReadFailed =
+          ap (after_all at_first) ends.1 ∙ after_all-append at_first ends.0 (ReadFailed ∷ []) in
+          let live = IsLive-parts future at_first ends.0 (ReadFailed ∷ []) (subst (λ (es : List Event). IsLive future at_first es) ends.1 run.live) in
+          let settled : IsSettled future before = live.1.0 in
+          subst (λ (s : Standing). IsReadFault first last future s.octets) (sym is) (record {
+            few = settled.few;
+            ends = settled.ends;
+            wrote = Appended-same (ap (λ (s : Standing). s.text) is ∙ settled.wrote) appended;
+          })
+      by_end WriteFault ends =
+          let piece = ends.0 in
+          let count = ends.1 in
+          let front = ends.2.0 in
+          let before = after_all at_first front in
+          let is : after_all at_first events ≡ standing_after before (WriteFailed piece count) =
+          ap (after_all at_first) ends.2.1 ∙ after_all-append at_first front (WriteFailed piece count ∷ []) in
+          let live =
+          IsLive-parts future at_first front (WriteFailed piece count ∷ []) (subst (λ (es : List Event). IsLive future at_first es) ends.2.1 run.live) in
+          let ended : HasEnd front → HasEnd events =
+          λ (has : HasEnd front). subst HasEnd (sym ends.2.1) (HasEnd-front front (WriteFailed piece count ∷ []) has) in
+          subst (λ (s : Standing). IsWriteFault left first last future s.octets) (sym is) (record {
+            beginning = λ rest same.
+                cut-front first last before.text piece (all_written future (before.octets ++ rest)) count
+                (Appended-same (ap (λ (s : Standing). s.text) is) appended)
+                (decided-begins future before.phase before.octets rest (before.text ++ piece) live.1.0.0.decided
+                (λ over_before. (
+                  (bounded future at_first front live.0 bounded-first).over over_before,
+                  none-is left rest (went.ending (ended (over-read at_first front (λ (going : Going ≡ Over). cc) over_before))) same,
+                )));
+          })
+
+  pub run-filtered : (events : List Event) (end : FilterEnd) → IsRun future events end → Went told left first last events
+      → Filtered told left first last future end
+  run-filtered events end run went = record {
+    octets = (after_all at_first events).octets;
+    taken = Taken-same (sym (after-octets at_first events)) went.taken;
+    few = (bounded future at_first events run.live bounded-first).few;
+    meets = meets events end run went;
+  }
+
+-- no read after the end of the input gives octets
+nothing-behind : (future : Future) (at : Standing) (events : List Event) → (at.phase ≡ Going → ⊥) → IsLive future at events → octets_read events ≡ []
+nothing-behind future at [] not live = refl
+nothing-behind future at (Read octets ∷ events) not live = absurd (not live.0.0.going)
+nothing-behind future at (ReadFailed ∷ events) not live = absurd (not live.0.going)
+nothing-behind future at (Wrote piece ∷ events) not live = nothing-behind future (standing_after at (Wrote piece)) events not live.1
+nothing-behind future at (WriteFailed piece count ∷ events) not live =
+    nothing-behind future (standing_after at (WriteFailed piece count)) events (λ (same : Broken ≡ Going). cc) live.1
+
+module _ (future : Future) (input rest : List ℕ) (none : all_written future input ≡ []) where
   -- a piece that is due is some, so something is to be written
-  due-some : (input : List ℕ) (at : Standing) (s : S) (piece : List ℕ) → left source ≡ Some input → all_written future input ≡ [] → Reached (left source) at (left s)
-      → 0 < length piece → IsDecided future at.phase at.octets (at.text ++ piece) → ⊥
-  due-some input at s piece told none reached some decided =
-      let parts = told-parts (left source) (left s) at.octets input reached.taken told in
-      let begins =
-      decided-begins future at.phase at.octets parts.0 (at.text ++ piece) decided
-      (λ same. let over = reached.over same in
-      (over.0, nil_from_length _ (omega (arith, length-append at.octets parts.0, ap length (sym parts.1 ∙ ended-input (left source) at.octets input over.1 told))))) in
-      omega (arith, some, ap length begins.is, ap length (ap (all_written future) (sym parts.1) ∙ none), length-append (at.text ++ piece) begins.rest, length-append at.text piece)
+  due-some : (at : Standing) (more piece : List ℕ) → input ≡ at.octets ++ more → IsBounded at → (at.phase ≡ Over → more ≡ []) → 0 < length piece
+      → IsDecided future at.phase at.octets (at.text ++ piece) → ⊥
+  due-some at more piece whole is over some decided =
+      let begins = decided-begins future at.phase at.octets more (at.text ++ piece) decided (λ same. (is.over same, over same)) in
+      omega (arith, some, ap length begins.is, ap length (ap (all_written future) (sym whole) ∙ none), length-append (at.text ++ piece) begins.rest, length-append at.text piece)
 
-  -- an input of which nothing is to be written leaves the sink as it was
-  untouched-by : (input : List ℕ) → left source ≡ Some input → all_written future input ≡ [] → (at : Standing) (events : List Event) (s : S) (k : K) → IsLive future at events
-      → SourceGoes left source_faults s events source_now → SinkGoes written sink_faults k events sink_now → Reached (left source) at (left s) → sink_now ≡ k
-  untouched-by input told none at [] s k live read wrote reached = wrote
-  untouched-by input told none at (Read octets ∷ events) s k live read wrote reached =
-      untouched-by input told none (standing_after at (Read octets)) events read.0 k live.1 read.2 wrote
-      (Reached-read (left source) (left s) (left read.0) future at octets reached live.0.0 live.0.1 read.1.taken read.1.ending)
-  untouched-by input told none at (ReadFailed ∷ events) s k live read wrote reached =
-      untouched-by input told none (standing_after at ReadFailed) events read.0 k live.1 read.2 wrote
-      (Reached-broken (left source) (left s) (left read.0) at at.text reached read.1.kept)
-  untouched-by input told none at (Wrote piece ∷ events) s k live read wrote reached = absurd (due-some input at s piece told none reached live.0.some live.0.decided)
-  untouched-by input told none at (WriteFailed piece count ∷ events) s k live read wrote reached =
-      absurd (due-some input at s piece told none reached live.0.0.some live.0.0.decided)
+  -- of an input of which nothing is to be written the events are reads alone
+  quiet-by : (at : Standing) (events : List Event) → IsLive future at events → IsBounded at → input ≡ at.octets ++ (octets_read events ++ rest)
+      → (at.phase ≡ Over → octets_read events ++ rest ≡ []) → (HasEnd events → rest ≡ []) → AreReads events
+  quiet-by at [] live is whole over ended = tt
+  quiet-by at (Read [] ∷ events) live is whole over ended =
+      let left : octets_read events ++ rest ≡ [] =
+      ap (λ (zs : List ℕ). zs ++ rest) (nothing-behind future (standing_after at (Read [])) events (λ (same : Over ≡ Going). cc) live.1) ∙ ended tt in
+      quiet-by (standing_after at (Read [])) events live.1 (bounded-read future at [] live.0.0 live.0.1)
+      (whole ∙ sym (append_assoc at.octets [] (octets_read events ++ rest))) (λ same. left) (λ has. ended tt)
+  quiet-by at (Read (octet ∷ octets) ∷ events) live is whole over ended =
+      quiet-by (standing_after at (Read (octet ∷ octets))) events live.1 (bounded-read future at (octet ∷ octets) live.0.0 live.0.1)
+      (whole
+      ∙ ap (λ (zs : List ℕ). at.octets ++ zs) (append_assoc (octet ∷ octets) (octets_read events) rest)
+      ∙ sym (append_assoc at.octets (octet ∷ octets) (octets_read events ++ rest))) (λ (same : Going ≡ Over). cc) ended
+  quiet-by at (ReadFailed ∷ events) live is whole over ended =
+      quiet-by (standing_after at ReadFailed) events live.1 (record { few = is.few; over = λ (same : Broken ≡ Over). cc }) whole (λ (same : Broken ≡ Over). cc) ended
+  quiet-by at (Wrote piece ∷ events) live is whole over ended =
+      absurd (due-some at (octets_read events ++ rest) piece whole is over live.0.some live.0.decided)
+  quiet-by at (WriteFailed piece count ∷ events) live is whole over ended =
+      absurd (due-some at (octets_read events ++ rest) piece whole is over live.0.0.some live.0.0.decided)
 
-  pub run-untouched : (events : List Event) (end : FilterEnd) → IsRun future events end → SourceGoes left source_faults source events source_now
-      → SinkGoes written sink_faults sink events sink_now → (input : List ℕ) → left source ≡ Some input → all_written future input ≡ [] → sink_now ≡ sink
-  run-untouched events end run read wrote input told none =
-      untouched-by input told none at_first events source sink run.live read wrote (Reached-first (left source))
+pub run-quiet : (told left first last : Option (List ℕ)) (future : Future) (events : List Event) (end : FilterEnd) → IsRun future events end
+    → Went told left first last events → (input : List ℕ) → told ≡ Some input → all_written future input ≡ [] → AreReads events
+run-quiet told left first last future events end run went input same none =
+    let parts = Taken-told (subst (λ (o : Option (List ℕ)). Taken o (octets_read events) left) same went.taken) in
+    quiet-by future input parts.0 none at_first events run.live bounded-first parts.2 (λ (going : Going ≡ Over). cc) (λ has. none-is left parts.0 (went.ending has) parts.1)
 
-  -- a fault has its cause
-  pub run-read_fault : (events : List Event) (end : FilterEnd) → IsRun future events end → SourceGoes left source_faults source events source_now
-      → end ≡ ReadFault → Rose (source_faults source) (source_faults source_now)
-  run-read_fault events end run read same =
-      let ends = (subst (λ (e : FilterEnd). IsRun future events e) same run).ends in
-      SourceGoes-rose left source_faults source source_now ends.0 (subst (λ (es : List Event). SourceGoes left source_faults source es source_now) ends.1 read)
+-- a fault that the end tells is among the events
+has-read : (before : List Event) → HasReadFault (before ++ ReadFailed ∷ [])
+has-read [] = tt
+has-read (ReadFailed ∷ before) = tt
+has-read (event ∷ before) = has-read before
 
-  pub run-write_fault : (events : List Event) (end : FilterEnd) → IsRun future events end → SinkGoes written sink_faults sink events sink_now
-      → end ≡ WriteFault → Rose (sink_faults sink) (sink_faults sink_now)
-  run-write_fault events end run wrote same =
-      let ends = (subst (λ (e : FilterEnd). IsRun future events e) same run).ends in
-      SinkGoes-rose written sink_faults sink sink_now ends.2.0 ends.0 ends.1
-      (subst (λ (es : List Event). SinkGoes written sink_faults sink es sink_now) ends.2.1 wrote)
+has-write : (before : List Event) (piece : List ℕ) (count : ℕ) → HasWriteFault (before ++ WriteFailed piece count ∷ [])
+has-write [] piece count = tt
+has-write (WriteFailed other so_many ∷ before) piece count = tt
+has-write (event ∷ before) piece count = has-write before piece count
+
+pub run-read_fault : (future : Future) (events : List Event) (end : FilterEnd) → IsRun future events end → end ≡ ReadFault → HasReadFault events
+run-read_fault future events end run same =
+    let ends = (subst (λ (e : FilterEnd). IsRun future events e) same run).ends in
+    subst HasReadFault (sym ends.1) (has-read ends.0)
+
+pub run-write_fault : (future : Future) (events : List Event) (end : FilterEnd) → IsRun future events end → end ≡ WriteFault → HasWriteFault events
+run-write_fault future events end run same =
+    let ends = (subst (λ (e : FilterEnd). IsRun future events e) same run).ends in
+    subst HasWriteFault (sym ends.2.1) (has-write ends.2.0 ends.0 ends.1)

@@ -1,6 +1,5 @@
 -- Live runs of events: what the first octets of an input are, and events after events.
-use Rattle.std.proofs.{Common.{◌≡◌, ℕ, ◌+◌, ◌-◌, ◌≤◌, List, [], ◌∷◌, ◌++◌, length, take, drop, min, refl, ap, sym, ◌∙◌, arith, append_assoc, append-nil, length-take}, lemmas.List.{nil_from_length}}
-use Rattle.std.proofs.Math.Seq.{take-add, take-append-add}
+use Rattle.std.proofs.{Common.{◌≡◌, ℕ, ◌+◌, ◌-◌, ◌≤◌, List, [], ◌∷◌, ◌++◌, length, take, min, refl, ap, sym, ◌∙◌, arith, append_assoc, length-take}, lemmas.List.{take-take, take_min}, Math.Seq.{take-append-add}}
 use Rattle.p25_io.specs.Events.{Event}
 use Rattle.p25_filter.specs.{declared.ending.FilterEnd.{FilterEnd}, declared.ending.FilterEnd.TheVariants.{ReadFault, WriteFault}, Futures.{Future}, Runs.{input_most}}
 use Rattle.p25_filter.specs.Traces.{EndsAs, IsLive, Standing, after_all, standing_after}
@@ -15,34 +14,11 @@ first-take octets more few =
 pub first-read : (octets buf : List ℕ) (count fits : ℕ) → length octets ≤ input_most → count ≤ length buf → fits ≡ min count (input_most - length octets)
     → take input_most (octets ++ take count buf) ≡ octets ++ take fits buf
 first-read octets buf count fits few there fit =
-    first-take octets (take count buf) few ∙ ap (λ (zs : List ℕ). octets ++ zs) (
-    ap (take most) parts ∙ ap (λ (n : ℕ). take n (fed ++ rest)) e ∙ take-append-add fed rest (most - length fed)
-    ∙ ap (λ (zs : List ℕ). fed ++ zs) (nil_from_length (take (most - length fed) rest) none) ∙ append-nil fed
+    let piece = take count buf in
+    let same : min (input_most - length octets) (length piece) ≡ fits = omega (arith, fit, there, length-take count buf) in
+    first-take octets piece few ∙ ap (λ (zs : List ℕ). octets ++ zs) (
+    sym (take_min (input_most - length octets) piece) ∙ ap (λ (n : ℕ). take n piece) same ∙ take-take fits count buf (omega (arith, fit))
     )
-  where
-    most : ℕ
-    most = input_most - length octets
-
-    fed : List ℕ
-    fed = take fits buf
-
-    rest : List ℕ
-    rest = take (count - fits) (drop fits buf)
-
-    parts : take count buf ≡ take fits buf ++ take (count - fits) (drop fits buf)
-    parts = let e : count ≡ fits + (count - fits) = omega arith in ap (λ (n : ℕ). take n buf) e ∙ take-add fits (count - fits) buf
-
-    e : input_most - length octets ≡ length (take fits buf) + ((input_most - length octets) - length (take fits buf))
-    e = omega (arith, length-take fits buf)
-
-    none : length (take ((input_most - length octets) - length (take fits buf)) (take (count - fits) (drop fits buf))) ≡ 0
-    none =
-        omega (
-          arith,
-          length-take fits buf,
-          length-take (count - fits) (drop fits buf),
-          length-take ((input_most - length octets) - length (take fits buf)) (take (count - fits) (drop fits buf)),
-        )
 
 -- events after events
 pub after_all-append : (at : Standing) (xs ys : List Event) → after_all at (xs ++ ys) ≡ after_all (after_all at xs) ys

@@ -1,10 +1,18 @@
--- Which reads and writes the work on an input makes, step by step. `Traces` says what may come after which events (`IsLive`), and how
--- a run of events ends (`EndsAs`); here stands how the steps of the work keep to that.
+-- Which reads and writes the work on an input makes, step by step. `Traces` states which event may come after which (`IsLive`), and how
+-- a run of events ends (`EndsAs`). This file states how each function of `src/input.rt` and `src/page.rt` keeps to that.
 --
--- The work reads octets, hands them to the command, and gathers what the command gives on a page, which is written when it is full
--- and before the next read. `Stands` says how octets, page and command fit together between two events. `Goes` is a step after which
--- the work goes on: of gathering a piece, of writing the page, of all that a read decides. `Comes` is a step with which it ends.
--- Both are said from wherever the work may have stood, so steps follow one another. `SoFar` is the work from its first event on.
+--     run_on    a loop: read; `feed` the octets that were read, or at the end of the input `finish`, `drain` and `end_so`
+--     feed      a loop: hand some octets to the command, then `drain`; at last `flush`
+--     drain     a loop: ask the command for its next piece, and `gather` it; `end_so` if there is none for a cause
+--     gather    put a piece on the page; `flush` before, if the page has no room for it
+--     flush     write the page, if it is not empty: the only write of all
+--     end_so    `flush`, and the cause of the end
+--
+-- `Stands` relates octets, page and command between two events: what was written and what is on the page begin all that the command
+-- gives for the octets that were read, and the rest is what the command at work gives for those that wait. `Goes` is a step after which the
+-- work goes on: it holds of `gather`, `flush`, `drain` and `feed` if they return `Ok`. `Comes` is a step with which the work ends: it holds
+-- of `end_so`, and of the others if they return an error. Both hold from wherever the work stood, so one step can follow another. `SoFar` is the work
+-- from its first event on, and the invariant of the loop of `run_on`.
 use Rattle.std.specs.Prelude.{◌≡◌, ℕ, true, List, [], ◌++◌, take}
 use Rattle.p25_io.specs.Events.{Event}
 use Rattle.p25_filter.specs.{declared.ending.FilterEnd.{FilterEnd}, declared.ending.FilterEnd.TheVariants.{Ended, Memory}}

@@ -1,5 +1,5 @@
 -- Machines over lines: what comes of a line, and of lines up to the first that is refused.
-use Rattle.std.specs.{Prelude.{◌≡◌, ℕ, ◌+◌, Bool, true, false, List, [], ◌∷◌, ◌++◌, Option, Some, None, Result, Ok, Err, IsOk}, List.{concat}}
+use Rattle.std.specs.{Prelude.{◌≡◌, ℕ, ◌+◌, Bool, true, List, [], ◌∷◌, ◌++◌, Option, Some, None, Result, Ok, Err, IsOk}, List.{concat}}
 use Rattle.p25_line.specs.declared.fault.LineFault.{LineFault}
 use Rattle.p25_filter.specs.{declared.ending.Ending.{Ending}, declared.ending.Ending.TheVariants.{BadLine}, Lines.{closing_by}}
 use Rattle.p25_filter.specs.{declared.line_machine.LineRefusal.{LineRefusal}, declared.line_machine.LineRefusal.TheVariants.{Fault, Memory}}

@@ -116,6 +116,14 @@ HasWriteFault (ReadFailed ∷ events) = HasWriteFault events
 HasWriteFault (Wrote piece ∷ events) = HasWriteFault events
 HasWriteFault (WriteFailed piece count ∷ events) = Unit {0}
 
+-- no event is a write
+abbrev pub AreReads : List Event → Type 0
+AreReads [] = Unit {0}
+AreReads (Read octets ∷ events) = AreReads events
+AreReads (ReadFailed ∷ events) = AreReads events
+AreReads (Wrote piece ∷ events) = ⊥
+AreReads (WriteFailed piece count ∷ events) = ⊥
+
 -- what an end says of the events, and of what was read and written
 abbrev pub EndsAs : Future → List Event → Standing → FilterEnd → Type 0
 EndsAs future events at (Ended ending) = IsFinalAt future at.phase at.octets at.text ending

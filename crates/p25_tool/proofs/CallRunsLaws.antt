@@ -1,11 +1,12 @@
--- What a call between a source and a sink leaves, by the events that they went through.
+-- What a call leaves, by its events and by what is told of the octets that they read and wrote; and so between a source and a sink that went through them.
 use Rattle.std.proofs.Common.{◌≡◌, ℕ, ◌≤◌, false, List, [], ◌∷◌, ◌++◌, length, Option, Some, None, refl, ap, sym, subst, ◌∙◌, ◌⊎◌, ◌↔◌}
 use Rattle.std.specs.Prelude.{IfSome}
-use Rattle.p25_io.specs.{Events.{Event, ReadFailed, Wrote, WriteFailed}, Faults.{Rose}, Pairs.{SinkGoes, SourceGoes}}
-use Rattle.p25_filter.specs.{Futures.{Future}, Runs.{Filtered, all_written, input_most}, Traces.{IsFinalAt, IsMemoryAt, IsRun, Phase, Going, Over, Broken, after_all, at_first}}
+use Rattle.p25_io.specs.{Events.{Event, Read, ReadFailed, Wrote, WriteFailed}, Faults.{Rose}, Pairs.{SinkGoes, SourceGoes}}
+use Rattle.p25_filter.specs.{Futures.{Future}, Runs.{Filtered, all_written, input_most}}
+use Rattle.p25_filter.specs.Traces.{AreReads, Broken, Going, HasReadFault, HasWriteFault, IsFinalAt, IsMemoryAt, IsRun, Over, Phase, after_all, at_first}
 use Rattle.p25_filter.specs.{declared.ending.Ending.{Ending}, declared.ending.Ending.TheVariants.{Done}, declared.ending.FilterEnd.{FilterEnd}}
 use Rattle.p25_filter.specs.declared.ending.FilterEnd.TheVariants.{Ended, ReadFault as EndedReadFault, WriteFault as EndedWriteFault, TooLong, Memory as NoMemory}
-use Rattle.p25_filter.proofs.{RunsLaws.{run-filtered, run-read_fault, run-untouched, run-write_fault}, LinesLaws.{Contains-none}}
+use Rattle.p25_filter.proofs.{LinesLaws.{Contains-none}, RunsLaws.{run-filtered, run-quiet, run-read_fault, run-write_fault}, WentLaws.{SinkGoes-rose, SourceGoes-rose, Went, pair-went}}
 use Rattle.p25_stations.specs.declared.step.Event.{Event as StationsEvent}
 use Rattle.p25_fragments.specs.declared.long_step.LongEvent.{LongEvent}
 use Rattle.p25_duplex.specs.declared.event.DuplexEvent.{DuplexEvent}
@@ -54,14 +55,6 @@ is-write_fault : (end : FilterEnd) → filter_outcome end ≡ WriteFault → end
 is-write_fault (Ended ending) is = absurd (ending-not_write ending is)
 is-write_fault end is = cc
 
--- a source of which nothing is read stays as it was
-unread-source : {S : Type 0} (left : S → Option (List ℕ)) (faults : S → ℕ) (first last : S) (events : List Event) → SourceGoes left faults first events last → AreWrites events
-    → last ≡ first
-unread-source left faults first last [] goes writes = goes
-unread-source left faults first last (Wrote piece ∷ events) goes writes = unread-source left faults first last events goes writes
-unread-source left faults first last (WriteFailed piece count ∷ events) goes writes = unread-source left faults first last events goes writes
-unread-source left faults first last events goes writes = absurd writes
-
 -- no read fails among writes
 writes-end : (before : List Event) → AreWrites (before ++ ReadFailed ∷ []) → ⊥
 writes-end (Wrote piece ∷ before) writes = writes-end before writes
@@ -97,139 +90,138 @@ pub call-usage : (named : Option Command) (events : List Event) (outcome : Outco
 call-usage None events outcome call = (λ is. refl, λ none. call.1)
 call-usage (Some command) events outcome call = (λ is. absurd (not-usage call.end (sym call.outcome_is ∙ is)), λ none. cc)
 
-module _ {S K : Type 0} (left : S → Option (List ℕ)) (source_faults : S → ℕ) (written : K → Option (List ℕ)) (sink_faults : K → ℕ)
-    (source source_now : S) (sink sink_now : K) (events : List Event) (outcome : Outcome) (read : SourceGoes left source_faults source events source_now)
-    (wrote : SinkGoes written sink_faults sink events sink_now) where
-  pub call-untouched : (named : Option Command) → IsCallRun named events outcome → outcome ≡ Usage → (source_now ≡ source) × (sink_now ≡ sink)
-  call-untouched None call is = (
-    subst (λ (es : List Event). SourceGoes left source_faults source es source_now) call.0 read,
-    subst (λ (es : List Event). SinkGoes written sink_faults sink es sink_now) call.0 wrote,
-  )
+module _ (told left first last : Option (List ℕ)) (events : List Event) (outcome : Outcome) (went : Went told left first last events) where
+  call-untouched : (named : Option Command) → IsCallRun named events outcome → outcome ≡ Usage → AreWrites events × AreReads events
+  call-untouched None call is = (subst AreWrites (sym call.0) tt, subst AreReads (sym call.0) tt)
   call-untouched (Some command) call is = absurd (not-usage call.end (sym call.outcome_is ∙ is))
 
-  command-filtered : (command : Command) → (call : IsCommandRun command events outcome)
-      → Filtered (left source) (left source_now) (written sink) (written sink_now) (command_future command) call.end
-  command-filtered command call =
-      run-filtered left source_faults written sink_faults source source_now sink sink_now (command_future command) events call.end call.run read wrote
+  command-filtered : (command : Command) → (call : IsCommandRun command events outcome) → Filtered told left first last (command_future command) call.end
+  command-filtered command call = run-filtered told left first last (command_future command) events call.end call.run went
 
-  pub call-ran : (named : Option Command) → IsCallRun named events outcome
-      → IfSome named (λ command. Ran (left source) (left source_now) (written sink) (written sink_now) command outcome)
+  call-ran : (named : Option Command) → IsCallRun named events outcome → IfSome named (λ command. Ran told left first last command outcome)
   call-ran None call = tt
   call-ran (Some command) call = record { end = call.end; outcome_is = call.outcome_is; worked = command-filtered command call }
 
-  pub call-unread : (named : Option Command) → IsCallRun named events outcome → (count : ℕ) → named ≡ Some (Sample count) → source_now ≡ source
-  call-unread named call count same =
-      unread-source left source_faults source source_now events read ((named-run named (Sample count) events outcome same call).unread count refl)
-
-  pub call-quiet : (named : Option Command) → IsCallRun named events outcome → (command : Command) (input : List ℕ) → named ≡ Some command → left source ≡ Some input
-      → all_written (command_future command) input ≡ [] → sink_now ≡ sink
-  call-quiet named call command input same told none =
-      let run = named-run named command events outcome same call in
-      run-untouched left source_faults written sink_faults source source_now sink sink_now (command_future command) events run.end run.run read wrote input told none
-
   -- a fault has its cause
-  command-read_fault : (command : Command) → IsCommandRun command events outcome → outcome ≡ ReadFault → Rose (source_faults source) (source_faults source_now)
+  command-read_fault : (command : Command) → IsCommandRun command events outcome → outcome ≡ ReadFault → HasReadFault events
   command-read_fault command call is =
-      run-read_fault left source_faults written sink_faults source source_now sink sink_now (command_future command) events call.end call.run read
-      (is-read_fault call.end (sym call.outcome_is ∙ is))
+      run-read_fault (command_future command) events call.end call.run (is-read_fault call.end (sym call.outcome_is ∙ is))
 
-  command-write_fault : (command : Command) → IsCommandRun command events outcome → outcome ≡ WriteFault → Rose (sink_faults sink) (sink_faults sink_now)
+  command-write_fault : (command : Command) → IsCommandRun command events outcome → outcome ≡ WriteFault → HasWriteFault events
   command-write_fault command call is =
-      run-write_fault left source_faults written sink_faults source source_now sink sink_now (command_future command) events call.end call.run wrote
-      (is-write_fault call.end (sym call.outcome_is ∙ is))
+      run-write_fault (command_future command) events call.end call.run (is-write_fault call.end (sym call.outcome_is ∙ is))
 
-  pub call-read_fault : (named : Option Command) → IsCallRun named events outcome → outcome ≡ ReadFault → Rose (source_faults source) (source_faults source_now)
+  call-read_fault : (named : Option Command) → IsCallRun named events outcome → outcome ≡ ReadFault → HasReadFault events
   call-read_fault None call is = let wrong : Usage ≡ ReadFault = sym call.1 ∙ is in cc
   call-read_fault (Some command) call is = command-read_fault command call is
 
-  pub call-write_fault : (named : Option Command) → IsCallRun named events outcome → outcome ≡ WriteFault → Rose (sink_faults sink) (sink_faults sink_now)
+  call-write_fault : (named : Option Command) → IsCallRun named events outcome → outcome ≡ WriteFault → HasWriteFault events
   call-write_fault None call is = let wrong : Usage ≡ WriteFault = sym call.1 ∙ is in cc
   call-write_fault (Some command) call is = command-write_fault command call is
 
-  pub call-memory : (named : Option Command) → IsCallRun named events outcome → outcome ≡ Memory → IfSome named CanWantMemory
+  call-memory : (named : Option Command) → IsCallRun named events outcome → outcome ≡ Memory → IfSome named CanWantMemory
   call-memory None call is = tt
-  call-memory (Some command) call is =
-      memory-command command (left source) (left source_now) (written sink) (written sink_now) call.end (command-filtered command call) (sym call.outcome_is ∙ is)
+  call-memory (Some command) call is = memory-command command told left first last call.end (command-filtered command call) (sym call.outcome_is ∙ is)
 
   -- without a fault the outcome is the answer for the input, or memory was wanting
-  command-complete : (command : Command) → IsCommandRun command events outcome → (input : List ℕ) → left source ≡ Some input
-      → (Rose (source_faults source) (source_faults source_now) → ⊥) → (Rose (sink_faults sink) (sink_faults sink_now) → ⊥)
-      → (outcome ≡ answer_of command input) ⊎ ((outcome ≡ Memory) × CanWantMemory command)
-  command-complete command call input told no_read no_write =
+  command-complete : (command : Command) → IsCommandRun command events outcome → (input : List ℕ) → told ≡ Some input → (HasReadFault events → ⊥)
+      → (HasWriteFault events → ⊥) → (outcome ≡ answer_of command input) ⊎ ((outcome ≡ Memory) × CanWantMemory command)
+  command-complete command call input same no_read no_write =
       subst (λ (o : Outcome). (o ≡ answer_of command input) ⊎ ((o ≡ Memory) × CanWantMemory command)) (sym call.outcome_is)
-      (answer-without-faults command (left source) (left source_now) (written sink) (written sink_now) call.end (command-filtered command call)
-      (λ is. no_read (run-read_fault left source_faults written sink_faults source source_now sink sink_now (command_future command) events call.end call.run read is))
-      (λ is. no_write (run-write_fault left source_faults written sink_faults source source_now sink sink_now (command_future command) events call.end call.run wrote is))
-      input told)
+      (answer-without-faults command told left first last call.end (command-filtered command call)
+      (λ is. no_read (run-read_fault (command_future command) events call.end call.run is))
+      (λ is. no_write (run-write_fault (command_future command) events call.end call.run is)) input same)
 
-  pub call-complete : (named : Option Command) → IsCallRun named events outcome → (command : Command) (input : List ℕ) → named ≡ Some command → left source ≡ Some input
-      → (Rose (source_faults source) (source_faults source_now) → ⊥) → (Rose (sink_faults sink) (sink_faults sink_now) → ⊥)
-      → (outcome ≡ answer_of command input) ⊎ ((outcome ≡ Memory) × CanWantMemory command)
-  call-complete named call command input same told no_read no_write =
-      command-complete command (named-run named command events outcome same call) input told no_read no_write
-
-  -- `sample` is done where no write fails, whatever the source is
-  pub call-sampled : (named : Option Command) → IsCallRun named events outcome → (count : ℕ) → named ≡ Some (Sample count) → (Rose (sink_faults sink) (sink_faults sink_now) → ⊥)
-      → outcome ≡ DoneOutcome
-  call-sampled named call count same no_write =
-      let run = named-run named (Sample count) events outcome same call in
-      run.outcome_is
-      ∙ sample-done count events run.end run.run (run.unread count refl)
-      (λ is. no_write (run-write_fault left source_faults written sink_faults source source_now sink sink_now (command_future (Sample count)) events run.end run.run wrote is))
-
-  pub call-stations : (named : Option Command) → IsCallRun named events outcome → (input : List ℕ) (script : List StationsEvent) → named ≡ Some Stations → left source ≡ Some input
-      → IsScriptOf input script → (Rose (source_faults source) (source_faults source_now) → ⊥) → (Rose (sink_faults sink) (sink_faults sink_now) → ⊥)
-      → HasRun (written sink) (written sink_now) script outcome
-  call-stations named call input script same told is no_read no_write =
-      let run = named-run named Stations events outcome same call in
-      script-run (left source) (left source_now) (written sink) (written sink_now) input script is told run.end outcome run.outcome_is (command-filtered Stations run)
-      (command-complete Stations run input told no_read no_write)
-
-  pub call-fragments : (named : Option Command) → IsCallRun named events outcome → (input : List ℕ) (script : List LongEvent) → named ≡ Some Fragments → left source ≡ Some input
-      → IsLongScriptOf input script → (Rose (source_faults source) (source_faults source_now) → ⊥) → (Rose (sink_faults sink) (sink_faults sink_now) → ⊥)
-      → HasLongRun (written sink) (written sink_now) script outcome
-  call-fragments named call input script same told is no_read no_write =
-      let run = named-run named Fragments events outcome same call in
-      long-script-run (left source) (left source_now) (written sink) (written sink_now) input script is told run.end outcome run.outcome_is
-      (command-filtered Fragments run) (command-complete Fragments run input told no_read no_write)
-
-  pub call-duplex : (named : Option Command) → IsCallRun named events outcome → (input : List ℕ) (script : List DuplexEvent) → named ≡ Some Duplex → left source ≡ Some input
-      → IsDuplexScriptOf input script → (Rose (source_faults source) (source_faults source_now) → ⊥) → (Rose (sink_faults sink) (sink_faults sink_now) → ⊥)
-      → HasDuplexRun (written sink) (written sink_now) script outcome
-  call-duplex named call input script same told is no_read no_write =
-      let run = named-run named Duplex events outcome same call in
-      duplex-script-run (left source) (left source_now) (written sink) (written sink_now) input script is told run.end outcome run.outcome_is
-      (command-filtered Duplex run) (command-complete Duplex run input told no_read no_write)
-
-  pub call-recorded : (words : List (List ℕ)) → IsCallRun (command_of words) events outcome → (command : Command) (arrivals : List Arrival) (input : List ℕ) → command_of words ≡ Some command
-      → IsUnitCommand command → left source ≡ Some input → IsRecording arrivals input → length input ≤ input_most
-      → (Rose (source_faults source) (source_faults source_now) → ⊥) → (Rose (sink_faults sink) (sink_faults sink_now) → ⊥)
-      → HasWrittenUnits (written sink) (written sink_now) command arrivals outcome
-  call-recorded words call command arrivals input same units told recorded few no_read no_write =
-      let run = named-run (command_of words) command events outcome same call in
-      units-run arrivals input recorded command (left source) (left source_now) (written sink) (written sink_now)
-      (λ nac status.
-      let fit = command-fit nac status words in
-      ((λ is. fit.0 (same ∙ ap (λ (c : Command). Some c) is)), (λ is. fit.1 (same ∙ ap (λ (c : Command). Some c) is)))) units few told run.end outcome run.outcome_is
-      (command-filtered command run) (command-complete command run input told no_read no_write)
-
-  -- all of these
-  pub call-says : (words : List (List ℕ)) → IsCallRun (command_of words) events outcome
-      → CallSays (command_of words) (left source) (left source_now) (written sink) (written sink_now) (Rose (source_faults source) (source_faults source_now))
-      (Rose (sink_faults sink) (sink_faults sink_now)) (source_now ≡ source) (sink_now ≡ sink) outcome
-  call-says words call = record {
+  -- all that a call says
+  pub events-say : (words : List (List ℕ)) → IsCallRun (command_of words) events outcome
+      → CallSays (command_of words) told left first last (HasReadFault events) (HasWriteFault events) (AreWrites events) (AreReads events) outcome
+  events-say words call = record {
     usage = call-usage (command_of words) events outcome call;
     untouched = call-untouched (command_of words) call;
     ran = call-ran (command_of words) call;
-    unread = call-unread (command_of words) call;
-    quiet = call-quiet (command_of words) call;
-    complete = call-complete (command_of words) call;
-    sampled = call-sampled (command_of words) call;
-    stations = call-stations (command_of words) call;
-    fragments = call-fragments (command_of words) call;
-    duplex = call-duplex (command_of words) call;
-    recorded = call-recorded words call;
+    unread = λ count same. (run-of (Sample count) same).unread count refl;
+    quiet = λ command input same is none.
+        let run = run-of command same in run-quiet told left first last (command_future command) events run.end run.run went input is none;
+    complete = λ command input same is no_read no_write. command-complete command (run-of command same) input is no_read no_write;
+    sampled = λ count same no_write.
+        let run = run-of (Sample count) same in
+        run.outcome_is
+        ∙ sample-done count events run.end run.run (run.unread count refl)
+        (λ is. no_write (run-write_fault (command_future (Sample count)) events run.end run.run is));
+    stations = λ input script same is of no_read no_write.
+        let run = run-of Stations same in
+        script-run told left first last input script of is run.end outcome run.outcome_is (command-filtered Stations run)
+        (command-complete Stations run input is no_read no_write);
+    fragments = λ input script same is of no_read no_write.
+        let run = run-of Fragments same in
+        long-script-run told left first last input script of is run.end outcome run.outcome_is (command-filtered Fragments run)
+        (command-complete Fragments run input is no_read no_write);
+    duplex = λ input script same is of no_read no_write.
+        let run = run-of Duplex same in
+        duplex-script-run told left first last input script of is run.end outcome run.outcome_is (command-filtered Duplex run)
+        (command-complete Duplex run input is no_read no_write);
+    recorded = λ command arrivals input same units is recorded few no_read no_write.
+        let run = run-of command same in
+        units-run arrivals input recorded command told left first last
+        (λ nac status.
+        let fit = command-fit nac status words in
+        ((λ is. fit.0 (same ∙ ap (λ (c : Command). Some c) is)), (λ is. fit.1 (same ∙ ap (λ (c : Command). Some c) is)))) units few is run.end outcome
+        run.outcome_is (command-filtered command run) (command-complete command run input is no_read no_write);
     read_fault = call-read_fault (command_of words) call;
     write_fault = call-write_fault (command_of words) call;
     memory = call-memory (command_of words) call;
   }
+    where
+      run-of : (command : Command) → command_of words ≡ Some command → IsCommandRun command events outcome
+      run-of command same = named-run (command_of words) command events outcome same call
+
+-- what a call says by some faults it says by others that they imply
+pub says-by : (named : Option Command) (told left first last : Option (List ℕ)) (read read_now write write_now source source_now sink sink_now : Type 0) (outcome : Outcome)
+    → (read → read_now) → (write → write_now) → (source → source_now) → (sink → sink_now) → CallSays named told left first last read write source sink outcome
+    → CallSays named told left first last read_now write_now source_now sink_now outcome
+says-by named told left first last read read_now write write_now source source_now sink sink_now outcome reads writes sources sinks says = record {
+  usage = says.usage;
+  untouched = λ is. let kept = says.untouched is in (sources kept.0, sinks kept.1);
+  ran = says.ran;
+  unread = λ count is. sources (says.unread count is);
+  quiet = λ command input is same none. sinks (says.quiet command input is same none);
+  complete = λ command input is same no_read no_write. says.complete command input is same (λ failed. no_read (reads failed)) (λ failed. no_write (writes failed));
+  sampled = λ count is no_write. says.sampled count is (λ failed. no_write (writes failed));
+  stations = λ input script is same of no_read no_write. says.stations input script is same of (λ failed. no_read (reads failed)) (λ failed. no_write (writes failed));
+  fragments = λ input script is same of no_read no_write. says.fragments input script is same of (λ failed. no_read (reads failed)) (λ failed. no_write (writes failed));
+  duplex = λ input script is same of no_read no_write. says.duplex input script is same of (λ failed. no_read (reads failed)) (λ failed. no_write (writes failed));
+  recorded = λ command arrivals input is units same of few no_read no_write.
+      says.recorded command arrivals input is units same of few (λ failed. no_read (reads failed)) (λ failed. no_write (writes failed));
+  read_fault = λ is. reads (says.read_fault is);
+  write_fault = λ is. writes (says.write_fault is);
+  memory = says.memory;
+}
+
+-- a source of which nothing is read stays as it was
+unread-source : {S : Type 0} (left : S → Option (List ℕ)) (faults : S → ℕ) (first last : S) (events : List Event) → SourceGoes left faults first events last → AreWrites events
+    → last ≡ first
+unread-source left faults first last [] goes writes = goes
+unread-source left faults first last (Wrote piece ∷ events) goes writes = unread-source left faults first last events goes writes
+unread-source left faults first last (WriteFailed piece count ∷ events) goes writes = unread-source left faults first last events goes writes
+unread-source left faults first last events goes writes = absurd writes
+
+-- and a sink to which nothing is written
+unwritten-sink : {K : Type 0} (written : K → Option (List ℕ)) (faults : K → ℕ) (first last : K) (events : List Event) → SinkGoes written faults first events last → AreReads events
+    → last ≡ first
+unwritten-sink written faults first last [] goes reads = goes
+unwritten-sink written faults first last (Read octets ∷ events) goes reads = unwritten-sink written faults first last events goes reads
+unwritten-sink written faults first last (ReadFailed ∷ events) goes reads = unwritten-sink written faults first last events goes reads
+unwritten-sink written faults first last events goes reads = absurd reads
+
+-- all of these between a source and a sink
+pub call-says : {S K : Type 0} (left : S → Option (List ℕ)) (source_faults : S → ℕ) (written : K → Option (List ℕ)) (sink_faults : K → ℕ)
+    (source source_now : S) (sink sink_now : K) (events : List Event) (outcome : Outcome) → SourceGoes left source_faults source events source_now
+    → SinkGoes written sink_faults sink events sink_now → (words : List (List ℕ)) → IsCallRun (command_of words) events outcome
+    → CallSays (command_of words) (left source) (left source_now) (written sink) (written sink_now) (Rose (source_faults source) (source_faults source_now))
+    (Rose (sink_faults sink) (sink_faults sink_now)) (source_now ≡ source) (sink_now ≡ sink) outcome
+call-says left source_faults written sink_faults source source_now sink sink_now events outcome read wrote words call =
+    says-by (command_of words) (left source) (left source_now) (written sink) (written sink_now) (HasReadFault events) _ (HasWriteFault events) _ (AreWrites events) _
+    (AreReads events) _ outcome (SourceGoes-rose left source_faults source source_now events read) (SinkGoes-rose written sink_faults sink sink_now events wrote)
+    (unread-source left source_faults source source_now events read) (unwritten-sink written sink_faults sink sink_now events wrote)
+    (events-say (left source) (left source_now) (written sink) (written sink_now) events outcome
+    (pair-went left source_faults written sink_faults source source_now sink sink_now events read wrote) words call)

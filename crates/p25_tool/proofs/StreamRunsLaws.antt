@@ -1,76 +1,87 @@
--- What a call comes to on streams that tell what they hold: what it comes to between a source and a sink that went through its events.
-use Rattle.std.proofs.Common.{◌≡◌, ℕ, true, List, ◌++◌, Option, Some, None, ap, sym, subst, ◌∙◌, arith}
-use Rattle.std.specs.Prelude.{IfSome}
-use Rattle.p25_io.specs.{Events.{Event, octets_read, octets_written}, Faults.{Rose}, Streams.{StreamsGo, reader_in, writer_in}, declared.streams.Streams.{Streams}}
-use Rattle.p25_filter.specs.{Futures.{Future}, Traces.{HasReadFault, HasWriteFault, IsLive, at_first}}
-use Rattle.p25_filter.proofs.StreamsLaws.{Told, ended-told, faults_told, octets_told, read-rose, read-told, read_faults, sink-chain, source-chain, write-rose, write_faults, wrote-told}
-use Rattle.p25_tool.specs.{CallClauses.{CallSays}, CallRuns.{IsCallRun}, Outputs.{command_future, output_by}, Runs.{Ran}, Words.{command_of}, Written.{HasEnded}, declared.command.Command.{Command}}
-use Rattle.p25_tool.specs.{declared.command.Command.TheVariants.{Show}, declared.outcome.Outcome.{Outcome}}
-use Rattle.p25_tool.proofs.{CallRunsLaws.{call-says}, WrittenLaws.{all-written}}
+-- What a call comes to on streams, as far as the reader and the writer tell what they hold, by the events that were made on them.
+use Rattle.std.proofs.Common.{◌≡◌, ℕ, true, List, [], ◌∷◌, ◌++◌, Option, Some, None, refl, ap, sym, subst, ◌∙◌, append-nil}
+use Rattle.std.specs.{Prelude.{IfSome}, Io.KnownBytes.{Appends, Consumes}}
+use Rattle.p25_io.specs.{Events.{Event, Read, ReadFailed, Wrote, WriteFailed, octets_read, octets_written}, Streams.{StreamsGo, known, reader_in, writer_in}, declared.streams.Streams.{Streams}}
+use Rattle.p25_filter.specs.Traces.{AreReads, HasReadFault, HasWriteFault}
+use Rattle.p25_filter.proofs.WentLaws.{streams-went}
+use Rattle.p25_tool.specs.{CallClauses.{CallSays}, CallRuns.{AreWrites, IsCallRun}, Outputs.{output_by}, Runs.{Ran}, Words.{command_of}, Written.{HasEnded}, declared.command.Command.{Command}}
+use Rattle.p25_tool.specs.declared.outcome.Outcome.{Outcome}
+use Rattle.p25_tool.proofs.{CallRunsLaws.{events-say, says-by}, WrittenLaws.{all-written}}
 
--- the events of a call are live, by the command that is named, if one is
-live-events : (named : Option Command) (events : List Event) (outcome : Outcome) → IsCallRun named events outcome → (future : Future) × IsLive future at_first events
-live-events None events outcome call = (command_future Show, subst (λ (es : List Event). IsLive (command_future Show) at_first es) (sym call.0) tt)
-live-events (Some command) events outcome call = (command_future command, call.run.live)
+-- writes read no octets, and reads write none
+writes-read : (events : List Event) → AreWrites events → octets_read events ≡ []
+writes-read [] are = refl
+writes-read (Wrote piece ∷ events) are = writes-read events are
+writes-read (WriteFailed piece count ∷ events) are = writes-read events are
+writes-read events are = absurd are
 
--- what a call says by some faults it says by others that they imply
-says-by : (named : Option Command) (told left first last : Option (List ℕ)) (read read_now write write_now source source_now sink sink_now : Type 0) (outcome : Outcome)
-    → (read → read_now) → (write → write_now) → (source → source_now) → (sink → sink_now) → CallSays named told left first last read write source sink outcome
-    → CallSays named told left first last read_now write_now source_now sink_now outcome
-says-by named told left first last read read_now write write_now source source_now sink sink_now outcome reads writes sources sinks says = record {
-  usage = says.usage;
-  untouched = λ is. let kept = says.untouched is in (sources kept.0, sinks kept.1);
-  ran = says.ran;
-  unread = λ count is. sources (says.unread count is);
-  quiet = λ command input is same none. sinks (says.quiet command input is same none);
-  complete = λ command input is same no_read no_write. says.complete command input is same (λ failed. no_read (reads failed)) (λ failed. no_write (writes failed));
-  sampled = λ count is no_write. says.sampled count is (λ failed. no_write (writes failed));
-  stations = λ input script is same of no_read no_write. says.stations input script is same of (λ failed. no_read (reads failed)) (λ failed. no_write (writes failed));
-  fragments = λ input script is same of no_read no_write. says.fragments input script is same of (λ failed. no_read (reads failed)) (λ failed. no_write (writes failed));
-  duplex = λ input script is same of no_read no_write. says.duplex input script is same of (λ failed. no_read (reads failed)) (λ failed. no_write (writes failed));
-  recorded = λ command arrivals input is units same of few no_read no_write.
-      says.recorded command arrivals input is units same of few (λ failed. no_read (reads failed)) (λ failed. no_write (writes failed));
-  read_fault = λ is. reads (says.read_fault is);
-  write_fault = λ is. writes (says.write_fault is);
-  memory = says.memory;
-}
+reads-write : (events : List Event) → AreReads events → octets_written events ≡ []
+reads-write [] are = refl
+reads-write (Read octets ∷ events) are = reads-write events are
+reads-write (ReadFailed ∷ events) are = reads-write events are
+reads-write events are = absurd are
+
+-- what was told is left, or holds still
+kept-read : (first last : Option (List ℕ)) (octets input : List ℕ) → Consumes first last octets → octets ≡ [] → first ≡ Some input → last ≡ Some input
+kept-read None last octets input read none told = cc told
+kept-read (Some all) None octets input read none told = absurd read
+kept-read (Some all) (Some rest) octets input read none told =
+    let same : all ≡ input = cc told in ap (λ (zs : List ℕ). Some zs) (sym (read ∙ ap (λ (zs : List ℕ). zs ++ rest) none) ∙ same)
+
+kept-written : (first last : Option (List ℕ)) (octets held : List ℕ) → Appends first last octets → octets ≡ [] → first ≡ Some held → last ≡ Some held
+kept-written None last octets held wrote none told = cc told
+kept-written (Some before) None octets held wrote none told = absurd wrote
+kept-written (Some before) (Some now) octets held wrote none told =
+    let same : before ≡ held = cc told in
+    ap (λ (zs : List ℕ). Some zs) (wrote ∙ ap (λ (zs : List ℕ). before ++ zs) none ∙ append-nil before ∙ same)
+
+-- what is known of what was told
+known-told : (first last : Option (List ℕ)) (input : List ℕ) → first ≡ Some input → known first last ≡ last
+known-told None last input told = cc told
+known-told (Some all) last input told = refl
 
 module _ {R W : Type 0} (remaining : R → Option (List ℕ)) (contents : W → Option (List ℕ)) (words : List (List ℕ)) (events : List Event) (outcome : Outcome)
-    (first last : Streams R W) (input held : List ℕ) (went : StreamsGo remaining contents first events last) (call : IsCallRun (command_of words) events outcome)
-    (told : remaining (reader_in first) ≡ Some input) (holds : contents (writer_in first) ≡ Some held) where
+    (first last : Streams R W) (went : StreamsGo remaining contents first events last) (call : IsCallRun (command_of words) events outcome) where
+  abbrev before : Option (List ℕ)
+  before = remaining (reader_in first)
+
   abbrev left : Option (List ℕ)
   left = remaining (reader_in last)
+
+  abbrev stood : Option (List ℕ)
+  stood = contents (writer_in first)
 
   abbrev now : Option (List ℕ)
   now = contents (writer_in last)
 
-  pub streams-say : CallSays (command_of words) (Some input) left (Some held) now (HasReadFault events) (HasWriteFault events) (left ≡ Some input) (now ≡ Some held) outcome
-  streams-say =
-      let read = read-told (remaining (reader_in first)) left (octets_read events) input went.read told in
-      let rest = read.0 in
-      let wrote = wrote-told (contents (writer_in first)) now (octets_written events) held went.wrote holds in
-      let live = live-events (command_of words) events outcome call in
-      let source =
-      source-chain live.0 at_first events input rest 0 (omega arith) live.1 read.2
-      (λ none. ended-told (remaining (reader_in first)) left input rest (went.ending none) told read.1) in
-      let sink = sink-chain events held 0 (omega arith) in
-      let source_now : Told = (rest, read_faults 0 events) in
-      let sink_now : Told = (held ++ octets_written events, write_faults 0 events) in
-      let says =
-      says-by (command_of words) (Some input) (Some rest) (Some held) (Some (held ++ octets_written events)) (Rose 0 (read_faults 0 events)) (HasReadFault events)
-      (Rose 0 (write_faults 0 events)) (HasWriteFault events) (source_now ≡ (input, 0)) (left ≡ Some input) (sink_now ≡ (held, 0)) (now ≡ Some held) outcome
-      (read-rose events) (write-rose events) (λ same. read.1 ∙ ap octets_told same) (λ same. wrote ∙ ap octets_told same)
-      (call-says octets_told faults_told octets_told faults_told (input, 0) source_now (held, 0) sink_now events outcome source sink words call) in
-      subst (λ (o : Option (List ℕ)). CallSays (command_of words) (Some input) left (Some held) o (HasReadFault events) (HasWriteFault events) (left ≡ Some input) (now ≡ Some held) outcome)
-      (sym wrote)
-      (subst (λ (o : Option (List ℕ)). CallSays (command_of words) (Some input) o (Some held) (Some (held ++ octets_written events)) (HasReadFault events) (HasWriteFault events)
-      (left ≡ Some input) (now ≡ Some held) outcome) (sym read.1) says)
+  -- whether or not each of both tells
+  pub streams-known : CallSays (command_of words) before (known before left) stood (known stood now) (HasReadFault events) (HasWriteFault events) (AreWrites events)
+      (AreReads events) outcome
+  streams-known =
+      events-say before (known before left) stood (known stood now) events outcome (streams-went before left stood now events went.read went.ending went.wrote) words call
 
-  -- a call that came to the end of its input wrote all
-  pub streams-ended : HasEnded outcome → IfSome (command_of words) (λ command. now ≡ Some (held ++ output_by command true input))
-  streams-ended ended = by_command (command_of words) streams-say.ran
-    where
-      by_command : (named : Option Command) → IfSome named (λ command. Ran (Some input) left (Some held) now command outcome)
-          → IfSome named (λ command. now ≡ Some (held ++ output_by command true input))
-      by_command None ran = tt
-      by_command (Some command) ran = all-written command input held left now outcome ran ended
+  module _ (input held : List ℕ) (told : remaining (reader_in first) ≡ Some input) (holds : contents (writer_in first) ≡ Some held) where
+    pub streams-say : CallSays (command_of words) (Some input) left (Some held) now (HasReadFault events) (HasWriteFault events) (left ≡ Some input) (now ≡ Some held) outcome
+    streams-say =
+        let known_says =
+        says-by (command_of words) before (known before left) stood (known stood now) (HasReadFault events) (HasReadFault events) (HasWriteFault events)
+        (HasWriteFault events) (AreWrites events) (left ≡ Some input) (AreReads events) (now ≡ Some held) outcome (λ has. has) (λ has. has)
+        (λ are. kept-read before left (octets_read events) input went.read (writes-read events are) told)
+        (λ are. kept-written stood now (octets_written events) held went.wrote (reads-write events are) holds) streams-known in
+        subst (λ (o : Option (List ℕ)). CallSays (command_of words) (Some input) left o now (HasReadFault events) (HasWriteFault events) (left ≡ Some input) (now ≡ Some held) outcome)
+        holds
+        (subst (λ (o : Option (List ℕ)). CallSays (command_of words) o left stood now (HasReadFault events) (HasWriteFault events) (left ≡ Some input) (now ≡ Some held) outcome)
+        told
+        (subst (λ (o : Option (List ℕ)). CallSays (command_of words) before left stood o (HasReadFault events) (HasWriteFault events) (left ≡ Some input) (now ≡ Some held) outcome)
+        (known-told stood now held holds)
+        (subst (λ (o : Option (List ℕ)). CallSays (command_of words) before o stood (known stood now) (HasReadFault events) (HasWriteFault events) (left ≡ Some input)
+        (now ≡ Some held) outcome) (known-told before left input told) known_says)))
+
+    -- a call that came to the end of its input wrote all
+    pub streams-ended : HasEnded outcome → IfSome (command_of words) (λ command. now ≡ Some (held ++ output_by command true input))
+    streams-ended ended = by_command (command_of words) streams-say.ran
+      where
+        by_command : (named : Option Command) → IfSome named (λ command. Ran (Some input) left (Some held) now command outcome)
+            → IfSome named (λ command. now ≡ Some (held ++ output_by command true input))
+        by_command None ran = tt
+        by_command (Some command) ran = all-written command input held left now outcome ran ended

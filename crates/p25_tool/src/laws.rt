@@ -2,10 +2,10 @@
 //! function states what is proved.
 
 ghost use Rattle.std.specs.Prelude.{◌≡◌, ℕ, true, List, ◌++◌, Some, IfSome};
-ghost use Rattle.p25_io.specs.{Events.{Event}, Faults.{Rose}, Pairs.{SinkGoes, SourceGoes}, Streams.{StreamsGo, reader_in, writer_in}};
+ghost use Rattle.p25_io.specs.{Events.{Event}, Faults.{Rose}, Pairs.{SinkGoes, SourceGoes}, Streams.{StreamsGo, known, reader_in, writer_in}};
 ghost use Rattle.p25_io.specs.declared.streams.Streams.{Streams};
-ghost use Rattle.p25_filter.specs.Traces.{HasReadFault, HasWriteFault};
-ghost use Rattle.p25_tool.specs.{CallClauses.{CallSays}, CallRuns.{IsCallRun}, Outputs.{output_by}, Words.{command_of}, declared.outcome.Outcome.{Outcome}};
+ghost use Rattle.p25_filter.specs.Traces.{AreReads, HasReadFault, HasWriteFault};
+ghost use Rattle.p25_tool.specs.{CallClauses.{CallSays}, CallRuns.{AreWrites, IsCallRun}, Outputs.{output_by}, Words.{command_of}, declared.outcome.Outcome.{Outcome}};
 ghost use Rattle.p25_tool.specs.Built.{AcceptedAreRead, BuildsUnits, LinesAreTexts};
 ghost use Rattle.p25_tool.specs.Recorded.{BridgesUnits, ChecksUnits, FollowsRecording, FollowsUnits, RelaysItself, RelaysRecording, RelaysUnits, RepairKeepsLength, RepairedIsRecorded, RepairsEachUnit, RepairsUnits, ShowsEachUnit, ShowsUnits, UnitsAreRecorded};
 ghost use Rattle.p25_tool.specs.Written.{AllIsWritten, HasEnded};
@@ -25,11 +25,18 @@ pub fn run_laws<S: Source, K: Sink>()
 
 /// **Theorem.** What a call comes to on streams, by the events that were made on them: the program's own call says these events.
 ///
-/// The reader tells what is left in it, as a slice and a cursor do, and the writer what it holds, as a `Vec` does.
+/// A reader may tell what is left in it, as a slice and a cursor do, and a writer what it holds, as a `Vec` does.
 ///
-/// - `says`: all that `run` says, where a fault is a read or a write of the events that failed.
-/// - `ended`: a call that came to the end of its input wrote all of its output, after what stood there before.
+/// - `known`: all that `run` says, as far as each of both tells; a fault is a read or a write of the events that failed, and what is
+///   left as it was is not read from, or not written to. It needs neither to tell: of one that does not, nothing is said to be known.
+/// - `says`: the same if both tell.
+/// - `ended`: if both tell, a call that came to the end of its input wrote all of its output, after what stood there before.
 pub fn stream_laws<R: Read, W: Write>()
+    ensures known { (words : List (List ℕ)) (events : List Event) (outcome : Outcome) (first last : Streams R W)
+        → StreamsGo R.remaining W.contents first events last → IsCallRun (command_of words) events outcome
+        → CallSays (command_of words) (R.remaining (reader_in first)) (known (R.remaining (reader_in first)) (R.remaining (reader_in last)))
+        (W.contents (writer_in first)) (known (W.contents (writer_in first)) (W.contents (writer_in last))) (HasReadFault events)
+        (HasWriteFault events) (AreWrites events) (AreReads events) outcome }
     ensures says { (words : List (List ℕ)) (events : List Event) (outcome : Outcome) (first last : Streams R W) (input held : List ℕ)
         → StreamsGo R.remaining W.contents first events last → IsCallRun (command_of words) events outcome
         → R.remaining (reader_in first) ≡ Some input → W.contents (writer_in first) ≡ Some held

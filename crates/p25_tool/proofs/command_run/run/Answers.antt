@@ -1,5 +1,5 @@
 use Rattle.std.proofs.Common.{rules}
-use Rattle.p25_filter.proofs.RunsLaws.{SinkGoes-later, SourceGoes-later}
+use Rattle.p25_filter.proofs.WentLaws.{SinkGoes-later, SourceGoes-later}
 use Rattle.p25_tool.proofs.CallRunsLaws.{call-says}
 use Rattle.p25_tool.proofs.command_run.run.Goals as goal
 

@@ -1,4 +1,4 @@
-use Rattle.std.proofs.Common.{List, ℕ, ap, drop, sym, refl, ◌∙◌}
+use Rattle.std.proofs.Common.{List, ℕ, ap, sym, refl, ◌∙◌}
 use Rattle.p25_filter.specs.{declared.line_filter.LinePhase.TheVariants.{Closed}, LineFilters.{LineFiltering, line_filtering}}
 use Rattle.p25_filter.proofs.LineFiltersLaws.{step-close, step-last, step-line, step-none}
 use Rattle.p25_filter.proofs.line_filter.LineFilter.ready.Goals as goal
