@@ -173,7 +173,7 @@ def wav():
 @pytest.mark.parametrize(
     "octets, told",
     [
-        (lambda: SAMPLES["noise.bin"].read_bytes(), "in no form is there a unit"),
+        (lambda: SAMPLES["noise.bin"].read_bytes(), "made holds no bits of P25 Phase 1 in any form that is known"),
         (lambda: gzip.compress(CALLS), "made is packed with gzip: unpack it first"),
         (wav, "made is a WAV file of 16-bit samples, 48000 a second: sound or a discriminator, of which no symbols are read"),
         (lambda: wav()[44:], "made looks like 16-bit samples, the lowest octet first: sound, IQ or a discriminator, of which no symbols are read"),

@@ -428,15 +428,18 @@ def installed(tmp_path_factory):
     ended = subprocess.run([TOP / "install.sh", folder], capture_output=True, text=True)
     if ended.returncode:
         pytest.skip(f"install.sh: {ended.stderr}")
-    assert f"man -M {folder}/share/man p25" in ended.stdout
+    assert f"man -M '{folder}/share/man' p25" in ended.stdout
     return folder
 
 
 def test_installed_files(room, installed):
     files = {f"companions/{name}": f"bin/{name}" for name in SCRIPTS}
-    files |= {"docs/RECIPES.md": "share/p25/RECIPES.md", "docs/FORMATS.md": "share/p25/FORMATS.md", "RELEASE": "share/p25/RELEASE", "samples/traffic.bin": "share/p25/samples/traffic.bin"}
+    files |= {"RELEASE": "share/p25/RELEASE", "samples/traffic.bin": "share/p25/samples/traffic.bin"}
+    files |= {f"docs/{name}.png": f"share/p25/{name}.png" for name in ("rate", "weak-found", "weak-whole")}
     for source, target in files.items():
         assert (TOP / source).read_bytes() == (installed / target).read_bytes()
+    for name in ("RECIPES", "FORMATS", "WEAK"):
+        assert room.octets(f"{TOP}/packaging/page {TOP}/docs/{name}.md") == (installed / f"share/p25/{name}.md").read_bytes()
     assert not re.search("[.]/p25|samples/", (installed / "share/p25/samples/README.md").read_text())
     (room.path / "linked").symlink_to(installed / "bin/p25-talkers")
     path = {**os.environ, "PATH": "/usr/bin:/bin"}
