@@ -17,6 +17,7 @@
 //! `Recording::new(Check::new())` is the filter that takes octets, and `run_on` of p25_filter the work of it.
 #![tactic(auto)]
 
+mod decide;
 mod held_levels;
 pub mod parts;
 mod recording;
@@ -26,6 +27,7 @@ mod soft;
 #[cfg(test)]
 mod tests;
 
+pub use decide::Decide;
 pub use recording::Recording;
 pub use report::Report;
 pub use reports::{Calls, Change, Changed, Check, Followed, Show};

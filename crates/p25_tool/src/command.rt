@@ -30,6 +30,9 @@ pub enum Command {
     Fragments,
     /// The recording whose levels these are, one octet each, the blocks of broken packets (PDU) read again from their levels.
     Soft,
+    /// The recording whose levels these are, one octet each, with the fronts of units written as `Follow` does and each coded field of a
+    /// voice unit read from its levels.
+    Decide,
     /// What the first sample units read as, one line. There are 1 to 10,000 of them.
     Sample { count: u64 },
 }
