@@ -1,2 +1,3 @@
 pub mod LevelCosts
 pub mod DecidedUnits
+pub mod DecidedRecordings

@@ -1,5 +1,10 @@
 //! The coded fields of a voice unit, written as they are read from its levels.
 
+ghost use Rattle.std.specs.Prelude.{◌≡◌, ◌+◌, ◌*◌, ◌/◌, ◌<◌, ◌≤◌, ◌++◌, Some, length, take, drop};
+ghost use Rattle.p25_bits.specs.Bits.{part};
+ghost use Rattle.p25_voice_units.specs.Lengths.{voice_length_of};
+ghost use Rattle.p25_decide.specs.DecidedUnits.{decided_sent};
+
 use crate::costs::put_costs;
 use p25_bch_nid::{HDU, LDU1, LDU2, TDULC};
 use p25_bits::BitBuf;
@@ -70,7 +75,14 @@ fn decide_low_speed(levels: &[i8], at: usize, sent: &mut BitBuf) {
 /// Writes the coded fields of a voice unit of a kind as they are read from its levels, one for each two of its sent bits. The unit
 /// begins at place `at` of `sent`. A terminator (TDU) and a packet (PDU) have no coded field. TIA-102.BAAA, Voice Data Units; the
 /// levels are this project's own.
-pub fn decide_unit(duid: u8, levels: &[i8], at: usize, sent: &mut BitBuf) {
+pub fn decide_unit(duid: u8, levels: &[i8], at: usize, sent: &mut BitBuf)
+    requires kind { voice_length_of duid ≡ Some (length levels.now / 36 * 70) }
+    requires whole { 36 * (length levels.now / 36) ≡ length levels.now }
+    requires there { at + 2 * length levels.now ≤ length sent.old }
+    ensures list { let count = 2 * length levels.now in
+        sent.new ≡ take at sent.old ++ (decided_sent duid levels.now (part at count sent.old) ++ drop (at + count) sent.old) }
+    ensures len { length sent.new ≡ length sent.old }
+{
     match duid {
         HDU => decide_coded::<Golay18, 36, 20>(&HDU_WORDS, HDU_PAIRS, levels, at, sent),
         LDU1 => {
