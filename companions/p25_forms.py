@@ -120,13 +120,15 @@ class Text:
         self.digits, self.name = digits, name
         self.other = re.compile(b"[^%s%s]" % (signs, BLANKS))
         self.word = re.compile(b"(?<![0-9A-Za-z.+])[%s]{8,}(?![0-9A-Za-z.])" % signs) if is_log else None
+        self.usual = bytes(sign for sign in range(256) if not self.other.match(bytes([sign])))
         self.seen, self.kept = 0, b""
 
     def take(self, octets):
         if self.word:
             *lines, self.kept = (self.kept + octets).split(b"\n")
             return self.digits.take(b"".join(map(self.longest, lines)))
-        wrong = self.other.search(octets)
+        # To leave all usual signs out is quicker than to look for the first other one.
+        wrong = self.other.search(octets) if octets.translate(None, self.usual) else None
         made = self.digits.take(octets[: wrong.start() if wrong else None].translate(None, BLANKS))
         if wrong:
             sign = f"'{wrong[0].decode()}'" if b"!" <= wrong[0] <= b"~" else f"{wrong[0][0]:02x} hex"
