@@ -1,10 +1,10 @@
 -- Lists with erasures: a word within the cost of one is the only one, by the way round from word to list to word, on which each erasure
 -- counts one; and a list without an erasure is read as what was received.
-use Rattle.std.proofs.Common.{◌≡◌, ℕ, suc, ◌+◌, ◌*◌, ◌<◌, ◌≤◌, Bool, true, false, cond, List, [], ◌∷◌, length, map, Option, Some, None, All, ap, ap₂, sym, ◌∙◌, subst, refl, arith}
+use Rattle.std.proofs.Common.{◌≡◌, ℕ, zero, suc, ◌+◌, ◌*◌, ◌<◌, ◌≤◌, Bool, true, false, cond, List, [], ◌∷◌, ◌++◌, length, map, replicate, Option, Some, None, All, ap, ap₂, sym, ◌∙◌, subst, refl, arith}
 use Rattle.p25_bits.specs.Distance.{distance_by}
 use Rattle.p25_bits.proofs.DistanceLaws.{cond-le}
 use Rattle.p25_code.specs.{declared.code.Reading.{Reading}, declared.code.Reading.TheVariants.{Found, Beyond}, Words.{IsReading}, Readings.{word_read}}
-use Rattle.p25_code.specs.{Erasures.{without_erased, erasures_in, letter_distance, kept_distance, erased_cost, IsErasedReading}, ErasedReadings.{IsErasedReadAs, IsWithinCost}}
+use Rattle.p25_code.specs.{Erasures.{without_erased, erasures_in, erasure_weight, letter_distance, kept_distance, erased_cost, IsErasedReading}, ErasedReadings.{IsErasedReadAs, IsWithinCost}}
 use Rattle.p25_code.proofs.ReadingLaws.{IsBlockCode, near_words}
 
 -- a list with erasures is as long as what was received
@@ -37,6 +37,63 @@ erasures_in-letters (y ∷ received) = omega (arith, erasures_in-letters receive
 pub erased_cost-letters : {L : Type 0} (same : L → L → Bool) (received word : List L) → erased_cost same (map Some received) word ≡ 2 * distance_by same received word
 unfolding erased_cost
 erased_cost-letters same received word = omega (arith, kept_distance-letters same received word, erasures_in-letters received)
+
+-- without letters there is nothing
+pub without_erased-nil : {L : Type 0} (erased : List Bool) → without_erased {L = L} [] erased ≡ []
+unfolding without_erased
+without_erased-nil erased = refl
+
+-- where all is erased each place has an erasure
+pub without_erased-list : {L : Type 0} (xs : List L) (n : ℕ) → length xs ≡ n → without_erased xs (replicate n true) ≡ replicate n None
+unfolding without_erased
+without_erased-list [] zero long = refl
+without_erased-list [] (suc n) long = absurd (omega arith)
+without_erased-list (x ∷ xs) zero long = absurd (omega arith)
+without_erased-list (x ∷ xs) (suc n) long = let rest : length xs ≡ n = omega arith in rw (without_erased-list xs n rest) refl
+
+-- two runs, one after the other
+pub without_erased-append : {L : Type 0} (xs ys : List L) (es fs : List Bool) → length xs ≡ length es → without_erased (xs ++ ys) (es ++ fs) ≡ without_erased xs es ++ without_erased ys fs
+unfolding without_erased
+without_erased-append [] ys [] fs long = refl
+without_erased-append [] ys (e ∷ es) fs long = absurd (omega arith)
+without_erased-append (x ∷ xs) ys [] fs long = absurd (omega arith)
+without_erased-append (x ∷ xs) ys (e ∷ es) fs long = let rest : length xs ≡ length es = omega arith in rw (without_erased-append xs ys es fs rest) refl
+
+-- distances and erasures of two runs, one after the other, add up
+kept_distance-append : {L : Type 0} (same : L → L → Bool) (list more : List (Option L)) (word others : List L) → length list ≡ length word
+    → kept_distance same (list ++ more) (word ++ others) ≡ kept_distance same list word + kept_distance same more others
+unfolding kept_distance
+kept_distance-append same [] more [] others long = omega arith
+kept_distance-append same [] more (x ∷ word) others long = absurd (omega arith)
+kept_distance-append same (y ∷ list) more [] others long = absurd (omega arith)
+kept_distance-append same (y ∷ list) more (x ∷ word) others long = omega (arith, kept_distance-append same list more word others (omega arith))
+
+erasures_in-append : {L : Type 0} (list more : List (Option L)) → erasures_in (list ++ more) ≡ erasures_in list + erasures_in more
+unfolding erasures_in
+erasures_in-append [] more = omega arith
+erasures_in-append (y ∷ list) more = omega (arith, erasures_in-append list more)
+
+-- so do costs
+pub erased_cost-append : {L : Type 0} (same : L → L → Bool) (list more : List (Option L)) (word others : List L) → length list ≡ length word
+    → erased_cost same (list ++ more) (word ++ others) ≡ erased_cost same list word + erased_cost same more others
+unfolding erased_cost
+erased_cost-append same list more word others long = omega (arith, kept_distance-append same list more word others long, erasures_in-append list more)
+
+-- a place counts one at most
+place-le : {L : Type 0} (same : L → L → Bool) (y : Option L) (x : L) → letter_distance same y x + erasure_weight y ≤ 1
+place-le same None x = omega arith
+place-le same (Some y) x = elim (same y x) as (λ b. cond b 0 1 + 0 ≤ 1) [ true ↦ omega arith | false ↦ omega arith ]
+
+places-le : {L : Type 0} (same : L → L → Bool) (list : List (Option L)) (word : List L) → length list ≡ length word → kept_distance same list word + erasures_in list ≤ length list
+unfolding kept_distance erasures_in
+places-le same [] word long = omega arith
+places-le same (y ∷ list) [] long = absurd (omega arith)
+places-le same (y ∷ list) (x ∷ word) long = omega (arith, places-le same list word (omega arith), place-le same y x)
+
+-- no word costs more than two for each place
+pub erased_cost-le : {L : Type 0} (same : L → L → Bool) (list : List (Option L)) (word : List L) → length list ≡ length word → erased_cost same list word ≤ 2 * length list
+unfolding erased_cost
+erased_cost-le same list word long = omega (arith, places-le same list word long)
 
 module _ {L : Type 0} {same : L → L → Bool} {IsWord : List L → Type 0} {n k radius apart : ℕ} (code : IsBlockCode same IsWord n k radius apart) where
   -- two letters that differ: one of them differs from the letter between them, or there is an erasure

@@ -25,13 +25,6 @@ rs_is_code n k code = record {
   begins = begins_of n k code;
 }
 
--- a list that is read costs no more than is allowed
-within_cost : {L : Type 0} (same : L → L → Bool) (IsWord' : List L → Type 0) (most : ℕ) (list : List (Option L)) (answer : Option (List L)) (word : List L)
-    → IsErasedReadAs same IsWord' most list answer → answer ≡ Some word
-    → IsWithinCost same IsWord' most list word
-unfolding IsErasedReadAs
-within_cost same IsWord' most list answer word is read = rw read at is
-
 -- a layout of a binary code and a Reed-Solomon code
 pub layout_codes : {IsInnerWord : List Bool → Type 0} {size k radius apart : ℕ} (inner : IsBlockCode beq IsInnerWord size k radius apart) (inner_reading : List Bool → Option (List Bool))
     → ((received : List Bool) → IsReadAs beq IsInnerWord radius received (inner_reading received)) → (places : List ℕ) (each n information : ℕ) → IsCode n information → each * length places ≡ n
@@ -54,16 +47,6 @@ pub field_beyond : (layout : Layout) (bare : List Bool) (answer : Reading) (word
 unfolding word_read
 field_beyond layout bare answer word beyond is = field_reading_of-none layout bare (sym (rw beyond at is))
 
--- the outer word of a field that was read is a word of the outer code
-pub outer_word_found : (places : List ℕ) (size each n information : ℕ)
-    (inner_reading : List Bool → Option (List Bool)) (received : List Bool) (answer : Reading) (word : List Sym) (fixes : ℕ) → answer ≡ Found fixes
-    → word_read answer word ≡ outer_word_of (field_layout places size each inner_reading (rs_erased_reading_of n information) information) received → IsWord n information word
-unfolding word_read outer_word_of
-outer_word_found places size each n information inner_reading received answer word fixes found is =
-    let list = received_in (field_layout places size each inner_reading (rs_erased_reading_of n information) information) received in
-    (within_cost same_symbols (IsWord n information) (n - information) list
-    (rs_erased_reading_of n information list) word (rs_erased_reads_as n information list) (sym (rw found at is))).word_of_set
-
 -- the words at places that a test finds before an end are there
 pub all_end : (size end len : ℕ) (places : List ℕ) → list_all (λ at. nat_le (at + size) end) places ≡ true → end ≤ len → All (λ at. at + size ≤ len) places
 all_end size end len [] test fits = All-nil (λ at. at + size ≤ len)
@@ -72,38 +55,47 @@ all_end size end len (at ∷ places) test fits =
     let here : at + size ≤ end = leb-true (at + size) end parts.0 in
     All-cons (λ a. a + size ≤ len) at places (omega arith) (all_end size end len places parts.1 fits)
 
-module _ (places : List ℕ) (size each n information : ℕ) (inner_reading : List Bool → Option (List Bool)) (code : IsCode n information) where
+module _ (places : List ℕ) (size each n information : ℕ) (inner_reading : List Bool → Option (List Bool)) where
   abbrev coded : Layout
   coded = field_layout places size each inner_reading (rs_erased_reading_of n information) information
+
+  -- the outer word that is read costs no more than is allowed
+  read_within : (received : List Bool) (word : List Sym) → outer_word_of coded received ≡ Some word
+      → IsWithinCost same_symbols (IsWord n information) (n - information) (received_in coded received) word
+  unfolding IsErasedReadAs outer_word_of
+  read_within received word is = rw is at (rs_erased_reads_as n information (received_in coded received))
+
+  -- and is a word of the outer code
+  pub outer_word_found : (received : List Bool) (answer : Reading) (word : List Sym) (fixes : ℕ) → answer ≡ Found fixes
+      → word_read answer word ≡ outer_word_of coded received → IsWord n information word
+  unfolding word_read
+  outer_word_found received answer word fixes found is = (read_within received word (sym (rw found at is))).word_of_set
 
   -- a field that was read has an outer word near to what was received, which begins with its information
   word_of_reading : (received : List Bool) (info : List Sym) → field_reading_of coded received ≡ Some info
       → (word : List Sym) × IsWithinCost same_symbols (IsWord n information) (n - information) (received_in coded received) word × (take information word ≡ info)
-  unfolding field_reading_of outer_word_of
-  word_of_reading received info = found (rs_erased_reading_of n information list) refl
+  unfolding field_reading_of
+  word_of_reading received info = found (outer_word_of coded received) refl
     where
-      list : List (Option Sym)
-      list = received_in coded received
-
-      found : (answer : Option (List Sym)) → rs_erased_reading_of n information list ≡ answer → option_map (take information) answer ≡ Some info
-          → (word : List Sym) × IsWithinCost same_symbols (IsWord n information) (n - information) list word × (take information word ≡ info)
+      found : (answer : Option (List Sym)) → outer_word_of coded received ≡ answer → option_map (take information) answer ≡ Some info
+          → (word : List Sym) × IsWithinCost same_symbols (IsWord n information) (n - information) (received_in coded received) word × (take information word ≡ info)
       found None is e = absurd (cc)
-      found (Some word) is e =
-          (word, within_cost same_symbols (IsWord n information) (n - information) list (rs_erased_reading_of n information list) word (rs_erased_reads_as n information list) is, cc)
+      found (Some word) is e = (word, read_within received word is, cc)
 
-  -- what a field was read as lies near to it: of all bits that have a field with the information that was read, the outer word is the
-  -- one that was read, since it is the only one with this information
-  pub near_from_reading : {IsInnerWord : List Bool → Type 0} (info : List Sym) (sent received : List Bool)
-      → HasField IsInnerWord (IsWord n information) coded info sent → field_reading_of coded received ≡ Some info
-      → IsFieldNear (n - information) coded sent received
-  near_from_reading info sent received has read =
-      let found = word_of_reading received info read in
-      let same = one_word_of n information code (sent_in coded sent) found.0 has.outer found.1.word_of_set (has.begins ∙ sym found.2) in
-      record { near = rw same found.1.within }
+  module _ (code : IsCode n information) where
+    -- what a field was read as lies near to it: of all bits that have a field with the information that was read, the outer word is the
+    -- one that was read, since it is the only one with this information
+    pub near_from_reading : {IsInnerWord : List Bool → Type 0} (info : List Sym) (sent received : List Bool)
+        → HasField IsInnerWord (IsWord n information) coded info sent → field_reading_of coded received ≡ Some info
+        → IsFieldNear (n - information) coded sent received
+    near_from_reading info sent received has read =
+        let found = word_of_reading received info read in
+        let same = one_word_of n information code (sent_in coded sent) found.0 has.outer found.1.word_of_set (has.begins ∙ sym found.2) in
+        record { near = rw same found.1.within }
 
-  -- the information that was read has its length
-  pub field_information : (received : List Bool) (symbols : List Sym) → field_reading_of coded received ≡ Some symbols → length symbols ≡ information
-  field_information received symbols read =
-      let found = word_of_reading received symbols read in
-      let fits : information ≤ length found.0 = omega (arith, code.shorter, length_of_word_of n information found.0 found.1.word_of_set) in
-      ap length (sym found.2) ∙ length-take-le information found.0 fits
+    -- the information that was read has its length
+    pub field_information : (received : List Bool) (symbols : List Sym) → field_reading_of coded received ≡ Some symbols → length symbols ≡ information
+    field_information received symbols read =
+        let found = word_of_reading received symbols read in
+        let fits : information ≤ length found.0 = omega (arith, code.shorter, length_of_word_of n information found.0 found.1.word_of_set) in
+        ap length (sym found.2) ∙ length-take-le information found.0 fits

@@ -1,12 +1,12 @@
 -- The reader of fields: what one inner word gives, by whether it is read, and one more inner word in the loop.
-use Rattle.std.proofs.Common.{◌≡◌, ℕ, zero, suc, ◌+◌, ◌-◌, ◌*◌, ◌/◌, ◌^◌, ◌<◌, ◌≤◌, Bool, true, false, cond, List, [], ◌∷◌, ◌++◌, length, take, map, replicate, get_or, bit_xor, Option, Some, None, option_map, refl, ap, ap₂, sym, ◌∙◌, arith}
+use Rattle.std.proofs.Common.{◌≡◌, ℕ, ◌+◌, ◌-◌, ◌*◌, ◌/◌, ◌^◌, ◌<◌, ◌≤◌, Bool, true, false, List, [], ◌∷◌, length, take, map, replicate, get_or, bit_xor, Option, Some, None, option_map, refl, ap₂, sym, ◌∙◌, arith}
 use Rattle.std.proofs.{lemmas.List.{append-nil, length-take-le, take_all, take_more}, lemmas.List.Concat.{flat_map-append}, lemmas.List.Elements.{All-replicate}, lemmas.Slice.{take-put_mid}}
 use Rattle.std.specs.{List.{flat_map}, Int.RustNames.{count_ones}}
 use borrow.Rule.Slice.PartMut.{put_mid}
 use Rattle.p25_bits.specs.{Bits.{bits_of, field_of, part}, Distance.{distance_of}}
 use Rattle.p25_bits.proofs.{BitsLaws.{length-bits_of, take-bits_of}, DistanceLaws.{distance_of-bits_of}, NumbersLaws.{bits_of-field}}
 use Rattle.p25_code.specs.{Readings.{IsReadAs}, Words.{IsEncoding}, Erasures.{without_erased}}
-use Rattle.p25_code.proofs.ErasedLaws.{without_erased-none}
+use Rattle.p25_code.proofs.ErasedLaws.{without_erased-append, without_erased-list, without_erased-nil, without_erased-none}
 use Rattle.p25_gf64.specs.declared.symbol.Sym.{Sym}
 use Rattle.p25_link.specs.Symbols.{symbols_in}
 use Rattle.p25_coded_fields.specs.Layouts.{Layout, symbols_or_erasures, received_in, outer_word_of}
@@ -21,26 +21,6 @@ symbols_or_erasures-some each word = refl
 pub symbols_or_erasures-none : (each : ℕ) → symbols_or_erasures each None ≡ replicate each None
 unfolding symbols_or_erasures
 symbols_or_erasures-none each = refl
-
-pub without_erased-nil : {L : Type 0} (erased : List Bool) → without_erased {L = L} [] erased ≡ []
-unfolding without_erased
-without_erased-nil erased = refl
-
--- where all is erased each place has an erasure
-pub without_erased-list : {L : Type 0} (xs : List L) (n : ℕ) → length xs ≡ n → without_erased xs (replicate n true) ≡ replicate n None
-unfolding without_erased
-without_erased-list [] zero long = refl
-without_erased-list [] (suc n) long = absurd (omega arith)
-without_erased-list (x ∷ xs) zero long = absurd (omega arith)
-without_erased-list (x ∷ xs) (suc n) long = let rest : length xs ≡ n = omega arith in ap (λ list. None ∷ list) (without_erased-list xs n rest)
-
--- two runs, one after the other
-pub without_erased-append : {L : Type 0} (xs ys : List L) (es fs : List Bool) → length xs ≡ length es → without_erased (xs ++ ys) (es ++ fs) ≡ without_erased xs es ++ without_erased ys fs
-unfolding without_erased
-without_erased-append [] ys [] fs long = refl
-without_erased-append [] ys (e ∷ es) fs long = absurd (omega arith)
-without_erased-append (x ∷ xs) ys [] fs long = absurd (omega arith)
-without_erased-append (x ∷ xs) ys (e ∷ es) fs long = let rest : length xs ≡ length es = omega arith in ap (λ list. cond e None (Some x) ∷ list) (without_erased-append xs ys es fs rest)
 
 -- the length of the front of a buffer
 pub cut_long : {X : Type 0} (n : ℕ) (buffer xs : List X) → length xs ≡ length (take n buffer) → n ≤ length buffer → length xs ≡ n

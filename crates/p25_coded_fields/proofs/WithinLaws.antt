@@ -1,13 +1,13 @@
 -- A field that was damaged no more than its codes undo is read as it was sent: what was received costs so little that the outer
 -- code reads the word that was sent. What the older measure allows, with inner words that have more wrong bits than the radius
 -- counted as lost, costs no more: place by place, an inner word within the radius costs nothing, and a lost one two for each symbol.
-use Rattle.std.proofs.Common.{◌≡◌, ℕ, suc, ◌+◌, ◌*◌, ◌≤◌, inl, inr, Bool, true, false, cond, nat_le, List, [], ◌∷◌, ◌++◌, length, take, map, Option, Some, None, option_map, All, sum_by, refl, ap, sym, ◌∙◌, arith, length-append}
-use Rattle.std.proofs.{lemmas.Bool.{cases_lt, cond-true, cond-false, le-leb, lt-leb, eq-eqb}, lemmas.List.{length-map, length-replicate}, lemmas.List.Sums.{sum_by-cons}}
+use Rattle.std.proofs.Common.{◌≡◌, ℕ, suc, ◌+◌, ◌*◌, ◌≤◌, inl, inr, Bool, cond, nat_le, List, [], ◌∷◌, length, take, map, Option, Some, None, option_map, All, sum_by, refl, ap, ◌∙◌, arith, length-append}
+use Rattle.std.proofs.{lemmas.Bool.{cases_lt, le-leb, lt-leb, eq-eqb}, lemmas.List.{length-map, length-replicate}, lemmas.List.Sums.{sum_by-cons}}
 use Rattle.std.specs.List.{flat_map}
 use Rattle.p25_bits.specs.{Bits.{part}, Distance.{distance_of}}
 use Rattle.p25_bits.proofs.{DistanceLaws.{distance_by-same, distance_of-same}, PartLaws.{length-part}}
-use Rattle.p25_code.specs.Erasures.{erasures_in, erasure_weight, letter_distance, kept_distance, erased_cost}
-use Rattle.p25_code.proofs.ErasedLaws.{erased_cost-letters}
+use Rattle.p25_code.specs.Erasures.{erased_cost}
+use Rattle.p25_code.proofs.ErasedLaws.{erased_cost-append, erased_cost-le, erased_cost-letters}
 use Rattle.p25_gf64.specs.{declared.symbol.Sym.{Sym}, Symbol.{number}}
 use Rattle.p25_reed_solomon.specs.Words.{same_symbols}
 use Rattle.p25_link.specs.Symbols.{symbols_in}
@@ -17,14 +17,14 @@ use Rattle.p25_coded_fields.proofs.{ReadLaws.{symbols_or_erasures-some, symbols_
 
 -- an inner word gives as many symbols or erasures as it carries
 pub length-symbols_or_erasures : (each : ℕ) (word : Option (List Bool)) → length (symbols_or_erasures each word) ≡ each
-length-symbols_or_erasures each (Some word) = ap length (symbols_or_erasures-some each word) ∙ length-map (symbols_in each word) Some ∙ length-symbols_in each word
-length-symbols_or_erasures each None = ap length (symbols_or_erasures-none each) ∙ length-replicate each None
+length-symbols_or_erasures each (Some word) = rw (symbols_or_erasures-some each word, length-map (symbols_in each word) Some) (length-symbols_in each word)
+length-symbols_or_erasures each None = rw (symbols_or_erasures-none each) (length-replicate each None)
 
 -- lists of one length, one for each place
 length-pieces : {X : Type 0} (each : ℕ) (f : ℕ → List X) (places : List ℕ) → ((at : ℕ) → length (f at) ≡ each) → length (flat_map f places) ≡ each * length places
 length-pieces each f [] long = omega arith
 length-pieces each f (at ∷ places) long =
-    length-append (f at) (flat_map f places) ∙ omega (arith, long at, length-pieces each f places long, one_more each (length places))
+    rw (length-append (f at) (flat_map f places), long at, length-pieces each f places long) (omega (arith, one_more each (length places)))
 
 pub length-received_in : (layout : Layout) (bits : List Bool) → length (received_in layout bits) ≡ layout.each * length layout.places
 unfolding received_in
@@ -52,109 +52,66 @@ module _ {IsInnerWord : List Bool → Type 0} {inner_radius : ℕ}
       field_reading_of-some layout received (sent_in layout sent) (codes.outer (received_in layout received) (sent_in layout sent) (length-received_in layout received) has.outer is.near)
       ∙ ap Some has.begins
 
--- distances and erasures of two runs, one after the other, add up
-kept_distance-append : {L : Type 0} (same : L → L → Bool) (list more : List (Option L)) (word others : List L) → length list ≡ length word
-    → kept_distance same (list ++ more) (word ++ others) ≡ kept_distance same list word + kept_distance same more others
-unfolding kept_distance
-kept_distance-append same [] more [] others long = omega arith
-kept_distance-append same [] more (x ∷ word) others long = absurd (omega arith)
-kept_distance-append same (y ∷ list) more [] others long = absurd (omega arith)
-kept_distance-append same (y ∷ list) more (x ∷ word) others long = omega (arith, kept_distance-append same list more word others (omega arith))
-
-erasures_in-append : {L : Type 0} (list more : List (Option L)) → erasures_in (list ++ more) ≡ erasures_in list + erasures_in more
-unfolding erasures_in
-erasures_in-append [] more = omega arith
-erasures_in-append (y ∷ list) more = omega (arith, erasures_in-append list more)
-
--- so do costs
-erased_cost-append : {L : Type 0} (same : L → L → Bool) (list more : List (Option L)) (word others : List L) → length list ≡ length word
-    → erased_cost same (list ++ more) (word ++ others) ≡ erased_cost same list word + erased_cost same more others
-unfolding erased_cost
-erased_cost-append same list more word others long = omega (arith, kept_distance-append same list more word others long, erasures_in-append list more)
-
--- a place counts one at most
-place-le : {L : Type 0} (same : L → L → Bool) (y : Option L) (x : L) → letter_distance same y x + erasure_weight y ≤ 1
-place-le same None x = omega arith
-place-le same (Some y) x = elim (same y x) as (λ b. cond b 0 1 + 0 ≤ 1) [ true ↦ omega arith | false ↦ omega arith ]
-
-places-le : {L : Type 0} (same : L → L → Bool) (list : List (Option L)) (word : List L) → length list ≡ length word → kept_distance same list word + erasures_in list ≤ length list
-unfolding kept_distance erasures_in
-places-le same [] word long = omega arith
-places-le same (y ∷ list) [] long = absurd (omega arith)
-places-le same (y ∷ list) (x ∷ word) long = omega (arith, places-le same list word (omega arith), place-le same y x)
-
--- no word costs more than two for each place
-erased_cost-le : {L : Type 0} (same : L → L → Bool) (list : List (Option L)) (word : List L) → length list ≡ length word → erased_cost same list word ≤ 2 * length list
-unfolding erased_cost
-erased_cost-le same list word long = omega (arith, places-le same list word long)
-
 -- undamaged bits have no lost symbols
-lost_symbols-itself : (radius : ℕ) (layout : Layout) (bits : List Bool) → lost_symbols radius layout bits bits ≡ 0
+pub lost_symbols-itself : (radius : ℕ) (layout : Layout) (bits : List Bool) → lost_symbols radius layout bits bits ≡ 0
 unfolding lost_symbols
 lost_symbols-itself radius layout bits = none layout.places
   where
     lost : ℕ → ℕ
     lost at = cond (nat_le (distance_of (part at layout.size bits) (part at layout.size bits)) radius) 0 layout.each
 
-    near : (at : ℕ) → lost at ≡ 0
-    near at =
-        let within : distance_of (part at layout.size bits) (part at layout.size bits) ≤ radius = omega (arith, distance_of-same (part at layout.size bits)) in
-        cond-true {A = ℕ} (nat_le (distance_of (part at layout.size bits) (part at layout.size bits)) radius) 0 layout.each
-        (le-leb (distance_of (part at layout.size bits) (part at layout.size bits)) radius within)
-
     none : (places : List ℕ) → sum_by lost places ≡ 0
     none [] = refl
-    none (at ∷ places) = omega (arith, sum_by-cons lost at places, near at, none places)
+    none (at ∷ places) = rw (sum_by-cons lost at places, distance_of-same (part at layout.size bits), le-leb 0 radius (omega arith)) (omega (arith, none places))
 
 -- a word costs nothing for the letters that it has
 erased_cost-itself : (word : List Sym) → erased_cost same_symbols (map Some word) word ≡ 0
 erased_cost-itself word =
-    erased_cost-letters same_symbols word word ∙ omega (arith, distance_by-same same_symbols (λ x. eq-eqb (number x) (number x) refl) word)
+    rw (erased_cost-letters same_symbols word word, distance_by-same same_symbols (λ x. eq-eqb (number x) (number x) refl) word) refl
 
 module _ {IsInnerWord : List Bool → Type 0} {inner_radius : ℕ}
     {IsOuterWord : List Sym → Type 0} {checks : ℕ} {layout : Layout} (codes : HasCodes IsInnerWord inner_radius IsOuterWord checks layout) where
+  -- what a received word gives, and how many symbols of it are lost
+  abbrev given : List Bool → List (Option Sym)
+  given bits = symbols_or_erasures layout.each (layout.inner_reading bits)
+
+  abbrev lost : List Bool → List Bool → ℕ
+  lost sent received = cond (nat_le (distance_of received sent) inner_radius) 0 layout.each
+
+  even : (sent received : List Bool) → length (given received) ≡ length (symbols_in layout.each sent)
+  even sent received = rw (length-symbols_or_erasures layout.each (layout.inner_reading received), length-symbols_in layout.each sent) refl
+
   -- an inner word within the radius costs nothing, and any other two for each symbol at most
   piece_cost : (sent received : List Bool) → length received ≡ layout.size → IsInnerWord sent
-      → erased_cost same_symbols (symbols_or_erasures layout.each (layout.inner_reading received)) (symbols_in layout.each sent)
-      ≤ 2 * cond (nat_le (distance_of received sent) inner_radius) 0 layout.each
+      → erased_cost same_symbols (given received) (symbols_in layout.each sent) ≤ 2 * lost sent received
   piece_cost sent received long is =
       elim (cases_lt inner_radius (distance_of received sent)) [
         | inl far ↦
-            omega (
+            rw (lt-leb (distance_of received sent) inner_radius far)
+            (omega (
               arith,
-              erased_cost-le same_symbols (symbols_or_erasures layout.each (layout.inner_reading received)) (symbols_in layout.each sent)
-                  (length-symbols_or_erasures layout.each (layout.inner_reading received) ∙ sym (length-symbols_in layout.each sent)),
+              erased_cost-le same_symbols (given received) (symbols_in layout.each sent) (even sent received),
               length-symbols_or_erasures layout.each (layout.inner_reading received),
-              cond-false {A = ℕ} (nat_le (distance_of received sent) inner_radius) 0 layout.each (lt-leb (distance_of received sent) inner_radius far),
-            )
+            ))
         | inr near ↦
-            let read = ap (symbols_or_erasures layout.each) (codes.inner received sent long is near) ∙ symbols_or_erasures-some layout.each sent in
-            let none = ap (λ list. erased_cost same_symbols list (symbols_in layout.each sent)) read ∙ erased_cost-itself (symbols_in layout.each sent) in
-            omega (arith, none)
+            rw (codes.inner received sent long is near, symbols_or_erasures-some layout.each sent) (omega (arith, erased_cost-itself (symbols_in layout.each sent)))
       ]
 
   -- so do the words at places
   pieces_cost : (sent received : List Bool) (places : List ℕ) → All (λ at. IsInnerWord (part at layout.size sent)) places → All (λ at. at + layout.size ≤ length received) places
-      → erased_cost same_symbols (flat_map (λ at. symbols_or_erasures layout.each (layout.inner_reading (part at layout.size received))) places)
-      (flat_map (λ at. symbols_in layout.each (part at layout.size sent)) places)
-      ≤ 2 * sum_by (λ at. cond (nat_le (distance_of (part at layout.size received) (part at layout.size sent)) inner_radius) 0 layout.each) places
+      → erased_cost same_symbols (flat_map (λ at. given (part at layout.size received)) places) (flat_map (λ at. symbols_in layout.each (part at layout.size sent)) places)
+      ≤ 2 * sum_by (λ at. lost (part at layout.size sent) (part at layout.size received)) places
   pieces_cost sent received [] words there = omega (arith, erased_cost-itself [])
   pieces_cost sent received (at ∷ places) words there =
-      let list = symbols_or_erasures layout.each (layout.inner_reading (part at layout.size received)) in
-      let word = symbols_in layout.each (part at layout.size sent) in
-      let lost : ℕ → ℕ = λ at. cond (nat_le (distance_of (part at layout.size received) (part at layout.size sent)) inner_radius) 0 layout.each in
-      let even : length list ≡ length word = length-symbols_or_erasures layout.each (layout.inner_reading (part at layout.size received))
-      ∙ sym (length-symbols_in layout.each (part at layout.size sent)) in
       let here : at + layout.size ≤ length received = there 0 at (omega arith) in
-      let first = piece_cost (part at layout.size sent) (part at layout.size received) (length-part at layout.size received here) (words 0 at (omega arith)) in
-      let others = pieces_cost sent received places (λ k d h. words (suc k) d (omega arith)) (λ k d h. there (suc k) d (omega arith)) in
       omega (
         arith,
-        first,
-        others,
-        erased_cost-append same_symbols list (flat_map (λ at. symbols_or_erasures layout.each (layout.inner_reading (part at layout.size received))) places) word
-            (flat_map (λ at. symbols_in layout.each (part at layout.size sent)) places) even,
-        sum_by-cons lost at places,
+        piece_cost (part at layout.size sent) (part at layout.size received) (length-part at layout.size received here) (words 0 at (omega arith)),
+        pieces_cost sent received places (λ k d h. words (suc k) d (omega arith)) (λ k d h. there (suc k) d (omega arith)),
+        erased_cost-append same_symbols (given (part at layout.size received)) (flat_map (λ at. given (part at layout.size received)) places)
+            (symbols_in layout.each (part at layout.size sent)) (flat_map (λ at. symbols_in layout.each (part at layout.size sent)) places)
+            (even (part at layout.size sent) (part at layout.size received)),
+        sum_by-cons (λ at. lost (part at layout.size sent) (part at layout.size received)) at places,
       )
 
   -- what the older measure allows costs no more than the outer code undoes
