@@ -1,5 +1,5 @@
--- What the calls of `BitBuf` need: the bits held are the first ones of its words. Each call on words says what the first bits are after it, so that a
--- list is cut to its length at the end, and a bit at a place is one of its word's.
+-- What the calls of `BitBuf` need: the bits held are the first ones of its words. Each call on words states what the first bits are after it. So a
+-- list is cut to its length at the end, and a bit at a position is a bit of its word.
 use Rattle.std.proofs.Common.{◌≡◌, ℕ, zero, suc, ◌+◌, ◌-◌, ◌*◌, ◌/◌, ◌%◌, ◌^◌, ◌<◌, ◌≤◌, ◌≢◌, inl, inr, Bool, true, false, not, eqb, List, [], ◌∷◌, ◌++◌, length, take, drop, get_or, set, slice_get, Some, refl, ap, sym, ◌∙◌, arith, bit_and, bit_xor, mod-eq_of_lt, append_assoc, length-take, length-drop}
 use Rattle.std.proofs.{Math.Seq.{take-add, take-append-add}, lemmas.Bool.{cases_lt}, lemmas.Nat.{shl_whole, shl-shr, shr_below, one_shl}}
 use Rattle.std.proofs.lemmas.Nat.Bits.{bit_at_xor, bit_at-pow_same, bit_at-pow_other, bit_at-lt, shr_and_one}

@@ -1,5 +1,5 @@
--- Laws of the distance of two lists, for any test that calls letters equal exactly where they are one letter, and of the distance of bits as the
--- weight of an exclusive or. By induction on both lists.
+-- Laws of the distance of two lists, for any test that calls letters equal if and only if they are the same. The distance of bits is the weight of an
+-- exclusive or. By induction on both lists.
 use Rattle.std.proofs.Common.{◌≡◌, ℕ, zero, suc, ◌+◌, ◌^◌, ◌<◌, ◌≤◌, inl, inr, Bool, true, false, cond, List, [], ◌∷◌, ◌++◌, length, take, drop, refl, ap₂, sym, ◌∙◌, subst, arith, bit_xor, mod-eq_of_lt, nat_eq, length-drop}
 use Rattle.std.proofs.{lemmas.Bool.{cases_Bool, cond-true, cond-false}, lemmas.Nat.{ones_cat, xor_block, xor_lt}}
 use Rattle.std.specs.{Bool.{beq}, Cmp.{booleans_Decides, unsigned_Decides, both_ways}, Cmp.Lexicographic.{pointwise, pointwise_decides}, Int.RustNames.{count_ones}}

@@ -1,5 +1,5 @@
--- Laws of multiples and remainders of polynomials over GF(2). Multiples add up as their quotients do, and the only multiple of lower degree is 0, so there
--- is one remainder. It is made a coefficient at a time, and falls below the generator's degree where it reaches it.
+-- Laws of multiples and remainders of polynomials over GF(2). Multiples add up as their quotients do. The only multiple of lower degree is 0, so
+-- there is one remainder. It is made one coefficient at a time, and the generator is subtracted if it reaches the generator's degree.
 use Rattle.std.proofs.Common.{zero, suc, ◌≡◌, ℕ, suc, ◌+◌, ◌-◌, ◌*◌, ◌/◌, ◌%◌, ◌^◌, ◌<◌, ◌≤◌, inl, inr, Bool, true, false, not, cond, List, [], ◌∷◌, bit_xor, bit_and, eqb, refl, ap, ap₂, sym, ◌∙◌, subst, arith, add-one, mod-eq_of_lt}
 use Rattle.std.proofs.{lemmas.Bool.{cases_lt}, lemmas.Nat.{xor_comm, xor_lt, xor_block, xor_shr, shr_high, le-div, pow_pos, shr_split, shr-shr, shr_below, div_below}}
 use Rattle.std.proofs.lemmas.Nat.Bits.{shr_and_one}

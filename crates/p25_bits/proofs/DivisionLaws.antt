@@ -1,5 +1,5 @@
--- Laws of remainders by which polynomials are divided many coefficients at a time: the remainder of a sum, of a polynomial
--- times a power of x, and of one with more coefficients after it.
+-- Laws of remainders by which polynomials are divided many coefficients at a time. They give the remainder of a sum, of a polynomial times a power of
+-- x, and of one with more coefficients after it.
 use Rattle.std.proofs.Common.{◌≡◌, ℕ, zero, suc, ◌+◌, ◌*◌, ◌/◌, ◌^◌, ◌<◌, inl, inr, Bool, true, false, cond, ltb, List, [], ◌∷◌, bit_xor, refl, ap, ap₂, sym, ◌∙◌, subst, arith}
 use Rattle.std.proofs.{Math.Nat.{mul_assoc, mul_comm, pow-suc}, lemmas.Bool.{cases_lt, cond_below, cond_above}, lemmas.Nat.{xor_lt, xor_block, xor_shr, shl-shr, pow_pos, shr_below}}
 use Rattle.std.specs.Int.Bits.{xor_assoc, xor_self}

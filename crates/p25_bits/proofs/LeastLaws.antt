@@ -1,4 +1,4 @@
--- The lowest number of least value, by induction on the bound, and the least value of the other numbers; each is one value.
+-- The lowest number of least value, by induction on the bound, and the least value of the other numbers. Each of them is unique.
 use Rattle.std.proofs.{Common.{◌≡◌, ◌≢◌, ℕ, zero, suc, ◌+◌, ◌-◌, ◌<◌, ◌≤◌, inl, inr, if◌then◌else◌, nat_lt, refl, ap, sym, subst, ◌∙◌, arith, below_more, add-one}, lemmas.Bool.{cases_lt, cond-true, cond-false, lt-ltb, le-ltb}}
 use Rattle.p25_bits.specs.Least.{lowest_least, IsLowestLeast, numbers_beside, least_beside, IsLeastBeside}
 

@@ -1,4 +1,4 @@
--- Numbers as bits and back, and lists made place by place. Each law is by induction on the list or on the count.
+-- Numbers as bits and back, and lists made position by position. Each law is by induction on the list or on the count.
 use Rattle.std.proofs.Common.{◌≡◌, ℕ, zero, suc, ◌+◌, ◌-◌, ◌*◌, ◌^◌, ◌<◌, ◌≤◌, inl, inr, Bool, List, [], ◌∷◌, ◌++◌, length, take, drop, get_or, refl, ap, ◌∙◌, arith, length-append, length-drop, append-nil, add-one, All}
 use Rattle.std.proofs.{Math.Nat.{mod-eq_of_lt, mul-le-mul_left}, Math.Pow.{pow_mono}, Math.Seq.{take-add}, lemmas.Bool.{cases_lt}}
 use Rattle.std.proofs.lemmas.List.{flat_map_more, take_more, drop-drop, drop-append-le, take-append-le, take_at, drop_at, get_or_append_left, get_or-append_right, length-take, length-take-le, drop_more, take_all, take-append-drop}

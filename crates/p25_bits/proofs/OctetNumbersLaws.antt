@@ -1,4 +1,4 @@
--- Numbers that octets write in base 256: by their bits, which they share with the octets. By induction on the octets.
+-- Numbers that octets write in base 256: they have the same bits as the octets. By induction on the octets.
 use Rattle.std.proofs.Common.{◌≡◌, ℕ, zero, suc, ◌+◌, ◌*◌, ◌^◌, ◌<◌, ◌≤◌, List, [], ◌∷◌, length, length-take, take, get_or, refl, ap, sym, ◌∙◌, arith, pow-add, All}
 use Rattle.std.proofs.{Math.Nat.{mul_comm, mul_assoc, add-mul, pow-suc, mod-eq_of_lt}, lemmas.List.Elements.{All-head, All-tail}}
 use Rattle.p25_bits.specs.{Bits.{bits_of, field_of, octet_bits}, Numbers.{number_after, octets_number}}

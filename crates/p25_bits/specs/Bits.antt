@@ -11,7 +11,7 @@ unfoldable pub bits_of : ℕ → ℕ → List Bool
 bits_of zero number = []
 bits_of (suc width) number = (bit_at number width == 1) ∷ bits_of width number
 
--- the number that bits write after a number that stands before them
+-- the number that bits write after the number of the bits before them
 unfoldable pub field_after : ℕ → List Bool → ℕ
 field_after high [] = high
 field_after high (bit ∷ bits) = field_after (2 * high + digit_of bit) bits
@@ -24,11 +24,11 @@ field_of bits = field_after 0 bits
 unfoldable pub octet_bits : List ℕ → List Bool
 octet_bits octets = flat_map (bits_of 8) octets
 
--- the part of a list of `count` elements from place `at` on
+-- the part of a list of `count` elements from position `at` on
 abbrev pub part : {X : Type 0} → ℕ → ℕ → List X → List X
 part at count list = take count (drop at list)
 
--- a list of bits with the bit at a place inverted
+-- a list of bits with the bit at a position inverted
 abbrev pub flipped : List Bool → ℕ → List Bool
 flipped [] place = []
 flipped (bit ∷ bits) zero = not bit ∷ bits

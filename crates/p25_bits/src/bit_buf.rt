@@ -1,4 +1,5 @@
-//! A list of bits of bounded length, packed into words of 64: its type and its methods. Callers see it as the list of its bits alone.
+//! A list of bits of bounded length, packed into words of 64: its type and its methods. Callers see it only as the list
+//! of its bits.
 
 ghost use Rattle.std.specs.{Prelude.{◌≡◌, ⊤, ◌+◌, ◌^◌, ◌<◌, ◌≤◌, ◌↔◌, Bool, IsTrue, List, [], ◌∷◌, ◌++◌, length, take, drop, slice_get, slice_set}, Bool.{beq}};
 ghost use Rattle.std.specs.{Cmp.{bool_eq_equiv, partial_equiv_from_equiv}, Cmp.Lexicographic.{pointwise, lists_equiv}};
@@ -10,7 +11,7 @@ use std::alloc::AllocError;
 use std::fmt;
 use std::marker::Model;
 
-/// The most bits that a `BitBuf` holds: those of the longest unit, 25,920, and one octet more.
+/// The most bits that a `BitBuf` holds: those of the longest data unit, 25,920, and one octet more.
 pub const BITS_MOST: usize = 25_928;
 
 /// A list of at most 25,928 bits.
@@ -29,7 +30,7 @@ impl Model for BitBuf {
 }
 
 impl BitBuf {
-    /// Answers an empty list.
+    /// Returns an empty list.
     pub fn new() -> BitBuf
         ensures { result ≡ [] }
     {
@@ -39,7 +40,7 @@ impl BitBuf {
         }
     }
 
-    /// Answers the number of bits held, at most `BITS_MOST`.
+    /// Returns the number of bits held, at most `BITS_MOST`.
     pub fn len(&self) -> usize
         ensures value { result ≡ length self.now }
         ensures most { result ≤ 25928 }
@@ -48,7 +49,7 @@ impl BitBuf {
         self.len
     }
 
-    /// Answers whether the list holds no bit.
+    /// Returns whether the list holds no bit.
     pub fn is_empty(&self) -> bool
         ensures { IsTrue result ↔ (self.now ≡ []) }
     {
@@ -77,7 +78,7 @@ impl BitBuf {
         self.len += 1;
     }
 
-    /// Answers the bit at place `i`.
+    /// Returns the bit at position `i`.
     pub fn get(&self, i: usize) -> bool
         requires { i < length self.now }
         ensures { slice_get self.now i ≡ Some result }
@@ -85,7 +86,7 @@ impl BitBuf {
         (self.words[i / 64] >> (63 - i % 64)) & 1 == 1
     }
 
-    /// Replaces the bit at place `i`.
+    /// Replaces the bit at position `i`.
     pub fn set(&mut self, i: usize, bit: bool)
         requires { i < length self.old }
         ensures list { self.new ≡ slice_set self.old i bit }
@@ -96,7 +97,7 @@ impl BitBuf {
         }
     }
 
-    /// Inverts the bit at place `i`.
+    /// Inverts the bit at position `i`.
     pub fn flip(&mut self, i: usize)
         requires { i < length self.old }
         ensures list { self.new ≡ flipped self.old i }
@@ -107,7 +108,7 @@ impl BitBuf {
 }
 
 impl BitBuf {
-    /// Answers the number that `width` bits from place `at` write, the first bit highest.
+    /// Returns the number that is written by `width` bits from position `at` on, the first bit highest.
     pub fn field(&self, at: usize, width: u32) -> u64
         requires width { width ≤ 64 }
         requires there { at + width ≤ length self.now }
@@ -135,7 +136,7 @@ impl BitBuf {
         self.len += width as usize;
     }
 
-    /// Appends `count` bits of another list, those from place `at` on.
+    /// Appends `count` bits of another list, from its position `at` on.
     pub fn append(&mut self, other: &BitBuf, at: usize, count: usize)
         requires there { at + count ≤ length other.now }
         requires room { length self.old + count ≤ 25928 }
@@ -160,7 +161,7 @@ impl BitBuf {
         self.put_field(number_of(rest), rest.len() as u32);
     }
 
-    /// Takes the first `n` bits away.
+    /// Removes the first `n` bits.
     pub fn drop_front(&mut self, n: usize)
         requires { n ≤ length self.old }
         ensures list { self.new ≡ drop n self.old }
@@ -171,7 +172,7 @@ impl BitBuf {
         self.len = left;
     }
 
-    /// Answers in how many places two lists of one length differ (their Hamming distance).
+    /// Returns the number of positions in which two lists of the same length differ (their Hamming distance).
     pub fn distance(a: &BitBuf, b: &BitBuf) -> u32
         requires { length a.now ≡ length b.now }
         ensures { result ≡ distance_of a.now b.now }
@@ -183,7 +184,7 @@ impl BitBuf {
     }
 }
 
-/// Two lists are equal where they hold the same bits, whatever they held before.
+/// Two lists are equal if they hold the same bits, whatever they held before.
 impl PartialEq for BitBuf {
     ghost eq = { pointwise beq };
 
@@ -201,7 +202,7 @@ impl Eq for BitBuf {
 impl Default for BitBuf {
     ghost is_default = { λ bits. bits ≡ [] };
 
-    /// An empty list.
+    /// Returns an empty list.
     fn default() -> BitBuf {
         BitBuf::new()
     }
@@ -220,7 +221,7 @@ impl Clone for BitBuf {
     }
 }
 
-/// Its bits, as `BitBuf(0101)`. No contract says so.
+/// Writes the bits of a list, as `BitBuf(0101)`. No contract states this.
 impl fmt::Debug for BitBuf {
     fn fmt<W: fmt::Write>(&self, f: &mut fmt::Formatter<W>) -> fmt::Result {
         f.write_str("BitBuf(")?;

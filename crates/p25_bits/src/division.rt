@@ -1,11 +1,11 @@
-//! Division of polynomials over GF(2) by a generator, coefficient by coefficient. A number stands for the polynomial
+//! Division of polynomials over GF(2) by a generator, coefficient by coefficient. A number represents the polynomial
 //! whose coefficient of x^i is the number's bit i.
 
 ghost use Rattle.std.specs.Prelude.{◌≡◌, ℕ, ◌+◌, ◌*◌, ◌^◌, ◌<◌};
 ghost use Rattle.p25_bits.specs.{Bits.{digit_of}, Divisible.{HasDegree, IsRemainder}};
 
-/// Answers the remainder after one more coefficient: where `remainder` is that of some polynomial P by the generator,
-/// the answer is that of x·P plus `bit`. `degree` is the generator's, at most 62.
+/// Returns the remainder after one more coefficient. If `remainder` is that of some polynomial P by the generator, the
+/// result is that of x·P plus `bit`. `degree` is the degree of the generator, at most 62.
 pub fn next_remainder(remainder: u64, bit: bool, generator: u64, degree: u32) -> u64
     requires fits { degree < 63 }
     requires generator { HasDegree generator degree }
@@ -21,8 +21,8 @@ pub fn next_remainder(remainder: u64, bit: bool, generator: u64, degree: u32) ->
     }
 }
 
-/// Answers the remainder of a number's polynomial by a generator of the given degree, at most 62: the only polynomial of
-/// lower degree that differs from it by a multiple of the generator.
+/// Returns the remainder of a number's polynomial by a generator of the given degree, at most 62. It is the only
+/// polynomial of lower degree that differs from the number's polynomial by a multiple of the generator.
 pub fn number_remainder(number: u64, generator: u64, degree: u32) -> u64
     requires fits { degree < 63 }
     requires generator { HasDegree generator degree }

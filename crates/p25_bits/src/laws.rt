@@ -1,14 +1,14 @@
-//! A theorem on octets, and the number of a public constant. Their contracts are the theorems.
+//! A theorem on octets, and the value of a public constant. Their contracts are the theorems.
 
 ghost use Rattle.std.specs.Prelude.{◌≡◌, ◌<◌, All};
 
 use crate::BITS_MOST;
 
-/// **Theorem.** Its clause says that each of some octets is below 256.
+/// **Theorem.** Each octet of a slice is below 256.
 pub fn octets_fit(octets: &[u8])
     ensures { All (λ octet. octet < 256) octets.now }
 {
-    // What a slice of octets keeps.
+    // For the prover: this call gives the facts about a slice of octets.
     let _ = octets.len();
 }
 

@@ -7,7 +7,7 @@ ghost use Rattle.p25_bits.specs.{Bits.{bits_of, field_of, octet_bits}, Numbers.{
 use super::bit_buf::BitBuf;
 use super::laws::octets_fit;
 
-/// Answers the number that at most 64 bits write, the first bit highest.
+/// Returns the number that is written by at most 64 bits, the first bit highest.
 pub fn number_of(bits: &[bool]) -> u64
     requires { length bits.now ≤ 64 }
     ensures value { result ≡ field_of bits.now }
@@ -20,7 +20,7 @@ pub fn number_of(bits: &[bool]) -> u64
     number
 }
 
-/// Sets at most 64 bits to the lowest ones of a number, the highest of them first.
+/// Writes the lowest bits of a number to at most 64 bits, the highest of them first.
 pub fn put_number(number: u64, bits: &mut [bool])
     requires { length bits.old ≤ 64 }
     ensures { bits.new ≡ bits_of (length bits.old) number }
@@ -31,7 +31,7 @@ pub fn put_number(number: u64, bits: &mut [bool])
     }
 }
 
-/// Answers the number that the two octets from a place on write, the first one higher.
+/// Returns the number of the two octets from a position on, the first one higher.
 pub fn pair_at(octets: &[u8], at: usize) -> u16
     requires { at + 2 ≤ length octets.now }
     ensures { result ≡ pair_at octets.now at }
@@ -39,7 +39,7 @@ pub fn pair_at(octets: &[u8], at: usize) -> u16
     256 * u16::from(octets[at]) + u16::from(octets[at + 1])
 }
 
-/// Answers the number that the three octets from a place on write, the first one highest.
+/// Returns the number of the three octets from a position on, the first one highest.
 pub fn triple_at(octets: &[u8], at: usize) -> u32
     requires { at + 3 ≤ length octets.now }
     ensures value { result ≡ triple_at octets.now at }
@@ -78,7 +78,7 @@ impl BitBuf {
         self.put_field(eight, 64);
     }
 
-    /// Sets the numbers to those that the bits from place `at` on write, `width` bits each, the first bit highest.
+    /// Writes to `numbers` those that the bits from position `at` on write, `width` bits each, the first bit highest.
     pub fn take_numbers(&self, at: usize, width: u32, numbers: &mut [u8])
         requires width { width ≤ 8 }
         requires there { at + width * length numbers.old ≤ length self.now }
@@ -92,7 +92,7 @@ impl BitBuf {
         self.take_from(at, width, first, numbers);
     }
 
-    // Sets the numbers from a place in their list on, where those before it are set.
+    // Writes the numbers from index `first` on. Those before it are already written.
     fn take_from(&self, at: usize, width: u32, first: usize, numbers: &mut [u8])
         requires width { width ≤ 8 }
         requires there { at + width * length numbers.old ≤ length self.now }
@@ -100,21 +100,21 @@ impl BitBuf {
         requires before { take first numbers.old ≡ numbers_from width first (drop at self.now) }
         ensures { numbers.new ≡ numbers_from width (length numbers.old) (drop at self.now) }
     {
-        // For the prover: the number of bits held bounds every place below.
+        // For the prover: the number of bits held bounds every position below.
         let _ = self.len();
         for i in first..numbers.len() {
             numbers[i] = self.field(at + width as usize * i, width) as u8;
         }
     }
 
-    // Sets octets, eight at once, as long as there are eight, and answers how many.
+    // Writes octets, eight at once, as long as eight are left, and returns how many were written.
     fn take_eights(&self, at: usize, octets: &mut [u8]) -> usize
         requires there { at + 8 * length octets.old ≤ length self.now }
         ensures most { result ≤ length octets.old }
         ensures long { length octets.new ≡ length octets.old }
         ensures taken { take result octets.new ≡ numbers_from 8 result (drop at self.now) }
     {
-        // For the prover: the number of bits held bounds every place below.
+        // For the prover: the number of bits held bounds every position below.
         let _ = self.len();
         let whole = octets.len() / 8;
         for g in 0..whole {

@@ -1,7 +1,7 @@
 //! Tables of sums over GF(2).
 
-/// Makes the array of the sums over GF(2) of every choice among some numbers. At a place stands the sum of those that its
-/// bits choose, the highest bit the first number. So `sums! { a, b }` is `[0, b, a, a ^ b]`.
+/// Makes the array of the sums over GF(2) of every choice among some numbers. Each entry is the sum of the numbers that
+/// the bits of its index choose, the highest bit the first number. So `sums! { a, b }` is `[0, b, a, a ^ b]`.
 #[macro_export]
 macro_rules! sums {
     (@of [$($sum:expr),*]) => { [$($sum),*] };

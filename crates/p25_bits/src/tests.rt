@@ -25,7 +25,7 @@ fn full() -> BitBuf
     bits
 }
 
-// In how many places a list differs from itself with one bit inverted.
+// Returns the number of positions in which a list differs from itself with one bit inverted.
 fn distance_inverted(bits: &BitBuf, place: usize) -> u32
     requires { place < length bits.now }
 {
@@ -35,7 +35,7 @@ fn distance_inverted(bits: &BitBuf, place: usize) -> u32
     BitBuf::distance(bits, &other)
 }
 
-// Fields that begin about the seam of two words, and the last bits.
+// Fields that begin near the border of two words, and the last bits.
 #[test]
 fn fields_by_place(rt: HostRuntime) {
     let bits = full();
@@ -102,7 +102,7 @@ fn octets_eight_at_once(rt: HostRuntime) {
     assert_eq!(rt; bits.field(65, 64), 0x2345_6789_ABCD_EFFE);
 }
 
-// The generator of the BCH code (63,16), two of its words, and a word with one bit wrong.
+// The generator of the BCH code (63,16), two of its codewords, and a codeword with one bit error.
 #[test]
 fn remainders(rt: HostRuntime) {
     let generator = 0xCD93_0BDD_3B2B;
