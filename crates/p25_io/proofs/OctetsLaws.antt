@@ -1,4 +1,4 @@
--- Laws for a loop that reads to the end, or that writes piece after piece.
+-- Laws for a loop that reads to the end, or that writes chunk after chunk.
 use Rattle.std.proofs.Common.{ℕ, ◌+◌, ◌-◌, ◌≡◌, ◌≤◌, Option, None, Some, List, [], ◌++◌, length, take, min, refl, sym, ap, subst, ◌∙◌, arith, append_assoc, append-nil, length-append, length-take}
 use Rattle.std.proofs.{lemmas.List.{take_min, take-append-le}, Math.Seq.{take-append-add}}
 use Rattle.std.specs.Io.KnownBytes.{prepend_known, append_known}

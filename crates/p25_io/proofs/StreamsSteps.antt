@@ -1,4 +1,4 @@
--- What the answers of a writer come to, in one step and then in another.
+-- The results of a writer in one step and in two.
 use Rattle.std.proofs.Common.{◌≡◌, ℕ, ◌+◌, ◌-◌, ◌<◌, List, [], ◌∷◌, ◌++◌, Option, length, take, drop, arith, ap, sym, subst, ◌∙◌, append_assoc, append-nil}
 use Rattle.std.proofs.{lemmas.List.{take_rest}, Math.Seq.{take-add}, KnownBytes.{Appends-trans}, lemmas.Grind.{flat_map-append}}
 use Rattle.p25_io.specs.{Asked.{Answered, Took, refusals_in}, declared.asked.AskedWriter.{AskedWriter}, StreamsLaws.{write_faults_in-append, writes_in-append}}

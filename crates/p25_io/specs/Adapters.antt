@@ -6,11 +6,11 @@ use Rattle.p25_io.specs.{Events.{Event}, declared.read_source.ReadSource.{ReadSo
 abbrev pub reader_of : {R : Type 0} → ReadSource R → R
 reader_of source = source.inner.inner
 
--- each of its answers
+-- each result of the reader
 abbrev pub answers_of : {R : Type 0} → ReadSource R → List Event
 answers_of source = source.inner.answers.events
 
--- how often a read of it failed
+-- the number of its reads that failed
 abbrev pub read_faults : {R : Type 0} → ReadSource R → ℕ
 read_faults source = source.faults
 
@@ -18,10 +18,10 @@ read_faults source = source.faults
 abbrev pub writer_of : {W : Type 0} → WriteSink W → W
 writer_of sink = sink.inner
 
--- how often a write to it failed
+-- the number of its writes that failed
 abbrev pub write_faults : {W : Type 0} → WriteSink W → ℕ
 write_faults sink = sink.faults
 
--- what a writer is known to hold grows by a beginning of the piece
+-- the exposed contents of a writer grow by a beginning of the chunk
 abbrev pub AppendsBeginning : Option (List ℕ) → Option (List ℕ) → List ℕ → Type 0
 AppendsBeginning before now piece = (count : ℕ) × Appends before now (take count piece)

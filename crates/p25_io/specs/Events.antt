@@ -1,8 +1,8 @@
--- What a call does to the outside, as a list of events in their order, and what of that was read and written.
+-- The effects of a call on the outside, as a list of events in their order, and the octets that these events read and wrote.
 use Rattle.std.specs.{Prelude.{ℕ, ◌+◌, List, [], ◌∷◌, take}, List.{flat_map}}
 
--- a read gave these octets, or none at the end of the input; a read failed; a write wrote its piece; a write failed, and of its
--- piece so many of the first octets were written
+-- a read returned these octets, or none at the end of the input; a read failed; a write wrote its chunk; a write failed after this number of octets
+-- of its chunk
 pub data Event : Type 0 where
   Read : (octets : List ℕ) → Event
   ReadFailed : Event
@@ -39,7 +39,7 @@ read_alone (WriteFailed piece count) = []
 abbrev pub reads_in : List Event → List Event
 reads_in events = flat_map read_alone events
 
--- how many of some events are writes that did not fail, and how many are writes that failed
+-- the number of events that are writes without a failure, and the number of those that are writes with one
 abbrev pub writes_in : List Event → ℕ
 writes_in [] = 0
 writes_in (Read octets ∷ events) = writes_in events

@@ -1,8 +1,8 @@
--- How the logic stores the events of a history.
+-- The storage of the events of a history in the logic.
 use Rattle.std.specs.{Prelude.{◌≡◌, ℕ, List, [], cond, ◌==◌, refl}, Coded.{Coded, code_by, coded×, coded_ℕ, coded_list}}
 use Rattle.p25_io.specs.Events.{Event, Read, ReadFailed, Wrote, WriteFailed}
 
--- the kind of an event, a count and octets
+-- the constructor of an event, a count and octets
 abbrev Parts : Type 0
 Parts = ℕ × (ℕ × List ℕ)
 

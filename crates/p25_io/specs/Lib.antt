@@ -12,7 +12,7 @@ pub mod SliceSink
 pub mod SteadySource
 pub mod Streams
 pub mod Tapes
--- laws of impls: nothing to believe
+-- laws of impls, with no definition to trust
 pub mod PairLaws
 pub mod StreamsLaws
 pub mod TapeLaws

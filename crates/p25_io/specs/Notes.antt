@@ -1,4 +1,4 @@
--- The event that a note of a call is.
+-- The event of a note.
 use Rattle.p25_io.specs.{Events.{Event, Read, ReadFailed, Wrote, WriteFailed}, declared.history.Note.{Note}}
 use Rattle.p25_io.specs.declared.history.Note.TheVariants as note
 

@@ -1,4 +1,4 @@
--- No event leads from a pair to itself, and events after events join: by induction on the events, for the source and for the sink.
+-- No event leads from a pair to itself, and sequences of events compose: by induction on the events, for the source and for the sink.
 use Rattle.std.specs.Prelude.{ℕ, List, [], ◌∷◌, ◌++◌, Option}
 use Rattle.std.proofs.Common.{refl, ◌∙◌, subst}
 use Rattle.p25_io.specs.{Chains.{Chain}, Events.{Event, Read, ReadFailed, Wrote, WriteFailed}, Pairs.{SourceGoes, SinkGoes, PairGoes}}

@@ -1,4 +1,4 @@
--- No event leads from streams to themselves, and events after events join.
+-- No event leads from streams to themselves, and sequences of events compose.
 use Rattle.std.specs.{Prelude.{◌≡◌, ℕ, ◌+◌, List, [], ◌∷◌, ◌++◌, Option, Some, None, length, Contains, IfSome}, Io.KnownBytes.{Appends, Consumes, IsAtEnd}}
 use Rattle.std.proofs.Common.{sym, ap, subst, ◌∙◌, arith, append_assoc, append-nil, ◌⊎◌, inl, inr, ◌<◌}
 use Rattle.std.proofs.{KnownBytes.{Appends-nil, Appends-trans, Consumes-nil, Consumes-trans}, lemmas.Grind.{flat_map-append}}
@@ -20,7 +20,7 @@ write_faults_in-append (ReadFailed ∷ xs) ys = write_faults_in-append xs ys
 write_faults_in-append (Wrote piece ∷ xs) ys = write_faults_in-append xs ys
 write_faults_in-append (WriteFailed piece count ∷ xs) ys = omega (arith, write_faults_in-append xs ys)
 
--- no more than what is left is read: nothing where nothing is left
+-- no more octets are read than are left: none if none are left
 nothing-left : (now last : Option (List ℕ)) (octets : List ℕ) → Consumes now last octets → IsAtEnd now → IfSome now (λ left. IsAtEnd last)
 nothing-left None last octets read end = tt
 nothing-left (Some left) None octets read end = absurd read
@@ -30,7 +30,7 @@ nothing-left (Some left) (Some rest) octets read end = none octets rest (sym rea
     none [] ys same = same
     none (x ∷ xs) ys same = absurd (omega (arith, ap length same))
 
--- what is told stays told
+-- exposed octets stay exposed
 ended-on : (first now last : Option (List ℕ)) (before after : List ℕ) → Consumes first now before → Consumes now last after
     → IfSome first (λ left. IsAtEnd now) → IfSome first (λ left. IsAtEnd last)
 ended-on None now last before after read more end = tt
@@ -43,7 +43,7 @@ ended-later None now last before read end = tt
 ended-later (Some left) None last before read end = absurd read
 ended-later (Some left) (Some rest) last before read end = end
 
--- what came after something, and what came after both
+-- the octets appended by one step and those appended by two
 after : {X : Type 0} {next last all : List X} (first xs ys : List X) → next ≡ first ++ xs → last ≡ next ++ ys → all ≡ xs ++ ys → last ≡ first ++ all
 after first xs ys one two both = two ∙ ap (λ zs. zs ++ ys) one ∙ append_assoc first xs ys ∙ ap (λ zs. first ++ zs) (sym both)
 

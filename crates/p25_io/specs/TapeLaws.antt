@@ -1,4 +1,4 @@
--- No event leads from a tape to itself, and events after events join: what is told of the last is told of those before.
+-- No event leads from a tape to itself, and sequences of events compose: the calls of the last state include those of the states before.
 use Rattle.std.specs.Prelude.{List, ◌++◌, Some}
 use Rattle.std.proofs.{Common.{refl, sym, ◌∙◌, ap}, lemmas.List.{append-nil, append_assoc}}
 use Rattle.p25_io.specs.{Chains.{Chain}, Events.{Event}, Tapes.{calls_on, TapeGoes}, MemorySource.{Supply}, SliceSink.{Storage}}

@@ -1,4 +1,4 @@
--- What a tape tells of the calls that were made on it.
+-- The calls of a tape.
 use Rattle.std.specs.Prelude.{◌≡◌, Bool, false, List, [], ◌∷◌, ◌++◌, map, Some}
 use Rattle.p25_io.specs.declared.tape.Call.{Call}
 use Rattle.p25_io.specs.declared.tape.Call.TheVariants.{Read as ReadCall, ReadFailed as ReadFailedCall, Wrote as WroteCall, WriteFailed as WriteFailedCall}
@@ -14,7 +14,7 @@ event_of (WriteFailedCall piece count) = WriteFailed piece.items count
 abbrev pub events_of : List Call → List Event
 events_of calls = map event_of calls
 
--- the calls that a tape tells of, as events, and whether it is torn
+-- the calls of a tape, as events, and whether the tape is torn
 abbrev pub calls_on : Tape → List Event
 calls_on tape = events_of tape.calls.items
 
@@ -27,7 +27,7 @@ pub record IsKept (event : Event) (before after : Tape) : Type 0 where
   pub sink : after.sink ≡ before.sink
   pub told : is_torn after ≡ false → (is_torn before ≡ false) × (calls_on after ≡ calls_on before ++ event ∷ [])
 
--- the source and the sink went through these events, also where the tape is torn; and unless it is, they stand after those before
+-- the source and the sink went through these events, even if the tape is torn; and unless it is, they follow those before
 pub record TapeGoes (first : Tape) (events : List Event) (last : Tape) : Type 0 where
   pub source : SourceGoes (λ supply. Some supply.left) (λ supply. supply.faults) first.source events last.source
   pub sink : SinkGoes (λ storage. Some storage.written) (λ storage. storage.faults) first.sink events last.sink

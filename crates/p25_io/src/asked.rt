@@ -1,10 +1,10 @@
-//! A reader and a writer of std, with a history of each answer that they gave.
+//! A reader and a writer of std, each with a history of every result that it returned.
 
-// One of std's readers and one of its writers, with each of their answers, which exist only in proofs.
+// One of std's readers and one of its writers, each with a history of its results. The histories exist only in proofs.
 //
-// No contract can say what a call of a terminal, a pipe or a file does. So the three functions `AskedReader::read`,
-// `AskedWriter::write` and `AskedWriter::flush` are to be read: each asks once, and notes the answer. All fields are private to this
-// file, so what stands above can neither ask without a note nor change one.
+// No contract can state what a call of a terminal, a pipe or a file does. So a reviewer should read the three functions
+// `AskedReader::read`, `AskedWriter::write` and `AskedWriter::flush`: each makes one call and records its result. All
+// fields are private to this file, so code outside it can neither make a call without a record nor change a record.
 ghost use Rattle.std.specs.{Prelude.{◌≡◌, ◌≤◌, [], ◌∷◌, ◌++◌, length, take, OnErr, OnOk, IfOk}, Io.{ReadsAtMost}, Io.KnownBytes.{ReadConsumes}};
 ghost use Rattle.p25_io.specs.Events.{Read as ReadEvent, ReadFailed, Wrote, WriteFailed};
 
@@ -12,7 +12,7 @@ use super::history::{History, Note};
 use crate::Failed;
 use std::io::{Read, Write};
 
-// A reader, a history of its answers, and one with a write of the whole buffer for each time that it was asked.
+// A reader, the history of its results, and a history of its calls, each as a write of the whole buffer.
 #[derive(Debug, Drop)]
 pub(crate) struct AskedReader<R> {
     inner: R,
@@ -32,7 +32,7 @@ impl<R: Read> AskedReader<R> {
         }
     }
 
-    // One read of the reader.
+    // Makes one read of the reader.
     pub(crate) fn read(&mut self, buf: &mut [u8]) -> Result<usize, Failed>
         ensures bound { ReadsAtMost result buf.new }
         ensures bytes { ReadConsumes (R.remaining self.old.inner) (R.remaining self.new.inner) result buf.new }
@@ -57,7 +57,7 @@ impl<R: Read> AskedReader<R> {
 
 #[cfg(test)]
 impl<R> AskedReader<R> {
-    // The reader, for the tests.
+    // Returns the reader, for the tests.
     pub(crate) fn inner(&self) -> &R
         ensures { result.now ≡ self.now.inner }
     {
@@ -65,14 +65,14 @@ impl<R> AskedReader<R> {
     }
 }
 
-// The buffers so far, and this one.
+// Returns the buffers so far and this one.
 fn with_buffer(buffers: &History, buf: &[u8]) -> History
     ensures { result.events ≡ buffers.now.events ++ Wrote buf.now ∷ [] }
 {
     buffers.then(&Note::Wrote(buf))
 }
 
-// A writer, a history of its answers to writes, and one of its answers to flushes, each as a write of nothing.
+// A writer, the history of the results of its writes, and that of its flushes, each as a write of nothing.
 #[derive(Debug, Drop)]
 pub(crate) struct AskedWriter<W> {
     inner: W,
@@ -95,7 +95,7 @@ impl<W: Write> AskedWriter<W> {
         }
     }
 
-    // One write of the writer, of which some octets at the beginning were taken.
+    // Makes one write of the writer, which takes some octets at the beginning of the chunk.
     pub(crate) fn write(&mut self, piece: &[u8]) -> Result<usize, Failed>
         ensures fits { IfOk result (λ count. count ≤ length piece.now) }
         ensures ok { IfOk result (λ count. Answered W.contents self.old (take count piece.now) (Wrote (take count piece.now) ∷ []) [] self.new) }
@@ -113,7 +113,7 @@ impl<W: Write> AskedWriter<W> {
         }
     }
 
-    // One flush of the writer.
+    // Makes one flush of the writer.
     pub(crate) fn flush(&mut self) -> Result<(), Failed>
         ensures ok { OnOk result (Answered W.contents self.old [] [] (Wrote [] ∷ []) self.new) }
         ensures err { OnErr result (Answered W.contents self.old [] [] (WriteFailed [] 0 ∷ []) self.new) }

@@ -5,9 +5,9 @@ ghost use Rattle.p25_io.specs.{Faults.{HasCause}, Octets.{Appended, AppendedBegi
 use crate::{Failed, Sink};
 use std::marker::Model;
 
-/// A sink that counts the octets written to it, tells none of them, and never fails. Its count of faults is 0.
+/// A sink that counts the octets written to it, exposes none of them, and never fails. Its count of faults is 0.
 ///
-/// Contracts see it as the number of octets, which stands still at 2^64 - 1.
+/// Contracts see it as the number of octets, which saturates at 2^64 - 1.
 #[derive(Clone, Debug, Default, Drop, PartialEq, Eq)]
 pub struct CountSink {
     octets: u64,
@@ -24,14 +24,14 @@ impl Model for CountSink {
 }
 
 impl CountSink {
-    /// Answers a sink to which nothing was written.
+    /// Returns a sink to which nothing has been written.
     pub fn new() -> CountSink
         ensures { result ≡ 0 }
     {
         CountSink { octets: 0 }
     }
 
-    /// Answers how many octets were written, or 2^64 - 1 where they are more.
+    /// Returns the number of octets written, or 2^64 - 1 if there are more.
     pub fn octets(&self) -> u64
         ensures { result ≡ self.now }
     {
@@ -44,13 +44,13 @@ impl Sink for CountSink {
 
     ghost faults = { λ s. 0 };
 
-    /// Adds the number of octets of the piece.
+    /// Adds the number of octets of the chunk.
     fn write(&mut self, piece: &[u8]) -> Result<(), Failed>
         ensures ok { OnOk result (Appended None piece.now None) }
         ensures err { OnErr result (AppendedBeginning None piece.now None) }
         ensures cause { HasCause 0 0 result }
 
-        // It never fails, and counts.
+        // The call never fails, and it counts.
         ensures never { IsOk result }
         ensures count { self.new ≡ min (self.old + length piece.now) (2 ^ 64 - 1) }
     {

@@ -1,11 +1,11 @@
-//! The one answer of a source or a sink that could not do what was asked.
+//! The only error of a source or a sink.
 
 ghost use Rattle.std.specs.Prelude.{Some, codes};
 
 use std::error::Error;
 use std::fmt;
 
-/// A read or a write failed. It has no cause with it: that there was one shows in the count of faults.
+/// A read or a write failed. The error has no cause with it: the count of faults shows that there was one.
 #[derive(Clone, Copy, Debug, PartialEq, Eq)]
 pub struct Failed;
 

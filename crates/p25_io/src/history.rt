@@ -1,6 +1,6 @@
 //! A history that exists only in proofs: a list of events to which calls append.
 
-// The events that a port went through. They exist only in proofs.
+// The events of a port. They exist only in proofs.
 ghost use Rattle.std.specs.Prelude.{◌≡◌, List, [], ◌∷◌, ◌++◌};
 ghost use base.Fml.{ftrue};
 ghost use Rattle.p25_io.specs.{Events.{Event}, Histories.{events_code}};
@@ -17,8 +17,8 @@ impl Model for History {
     ghost also_owns = { λ _. ftrue };
 }
 
-// A call that was made: a read that gave these octets, a read that failed, a write of this piece, and one that failed, of which so
-// many octets were written.
+// A call that was made: a read that returned these octets, a read that failed, a write of this chunk, or a write that
+// failed after this number of its octets.
 #[derive(Clone, Copy, Drop)]
 pub(crate) enum Note<'a> {
     Read(&'a [u8]),
@@ -36,7 +36,7 @@ impl History {
         History {}
     }
 
-    // The events so far, and this call.
+    // Returns the events so far and this call.
     pub(crate) fn then(&self, _note: &Note<'_>) -> History
         ensures { result.events ≡ self.now.events ++ noted_event _note.now ∷ [] }
     {

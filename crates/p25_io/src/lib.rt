@@ -1,4 +1,4 @@
-//! The outside of the toolkit: where octets come from ([`Source`]) and where they go to ([`Sink`]).
+//! The input and output of the toolkit: where octets come from ([`Source`]) and where they go to ([`Sink`]).
 //!
 //! ```
 //! let mut source = SteadySource::new(b"octets", 4096);
@@ -10,16 +10,17 @@
 //! assert_eq!(rt; sink.written(), b"octe".as_slice());
 //! ```
 //!
-//! - What stands above is written over any source and any sink, and proved from their clauses alone.
-//! - A source may tell the octets that it has left, and a sink those that were written to it. Those in memory do. The
-//!   adapters over std's readers and writers, [`ReadSource`] and [`WriteSink`], tell nothing, since no contract can
-//!   say what a terminal, a pipe or a file holds; [`CountSink`] keeps a number alone.
-//! - Each fault of a source or a sink raises a count, which never falls and stands still at 2^64 - 1. A call fails only where its count
-//!   rose. [`ReadSource`] and [`Streams`] keep each answer of their reader, so that `Failed` comes exactly where the reader failed; the
-//!   answers of a writer are kept by [`Streams`] alone.
-//! - A [`Port`] is both, and tells the order of its calls. [`Pair`] is the port of a source and a sink, and [`Tape`] one in
-//!   memory that keeps every call. [`Streams`] is that of a reader and a writer of std.
-//! - No call takes memory, but for those of [`Tape`].
+//! - The crates above are written over any source and any sink, and proved from the clauses of these traits alone.
+//! - A source may expose the octets that it has left, and a sink the octets that were written to it. Sources and sinks
+//!   in memory do so. The adapters over std's readers and writers, [`ReadSource`] and [`WriteSink`], expose nothing,
+//!   because no contract can state what a terminal, a pipe or a file holds. [`CountSink`] keeps a number alone.
+//! - Each fault of a source or a sink raises a count, which never falls and saturates at 2^64 - 1. A call fails only if
+//!   its count rose. [`ReadSource`] and [`Streams`] keep each result of their reader, so that `Failed` is returned if
+//!   and only if the reader failed. Only [`Streams`] keeps the results of a writer.
+//! - A [`Port`] is both a source and a sink, and exposes the order of its calls. [`Pair`] is the port of a source and a
+//!   sink, and [`Tape`] is a port in memory that keeps every call. [`Streams`] is the port of a reader and a writer of
+//!   std.
+//! - No call allocates memory, except those of [`Tape`].
 #![tactic(auto)]
 
 mod asked;

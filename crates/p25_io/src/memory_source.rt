@@ -5,10 +5,11 @@ ghost use Rattle.p25_io.specs.{Faults.{counted, faults_after, HasCause}, Octets.
 use crate::{Failed, Source};
 use std::marker::Model;
 
-/// A source over octets in memory, in which chosen calls fail: to try what stands on a source at each of its faults.
+/// A source over octets in memory, in which chosen calls fail. It serves to test a user of a source at each of its
+/// faults.
 ///
-/// Contracts see it as a `Supply`: the octets left, the most that a read gives, the numbers of the calls that fail,
-/// the calls made and the faults. Calls are counted from 1; both counts stand still at 2^64 - 1.
+/// Contracts see it as a `Supply`: the octets left, the most that a read returns, the numbers of the calls that fail,
+/// the calls made and the faults. Calls are counted from 1; both counts saturate at 2^64 - 1.
 #[derive(Debug, Drop)]
 pub struct MemorySource<'a> {
     rest: &'a [u8],
@@ -30,8 +31,8 @@ impl<'a> Model for MemorySource<'a> {
 }
 
 impl<'a> MemorySource<'a> {
-    /// Answers a source that gives these octets, at most `piece` of them a read, and fails at the calls numbered in
-    /// `fails`, counted from 1. `piece` is above 0.
+    /// Returns a source of these octets, which returns at most `piece` of them in a read, and fails at the calls
+    /// numbered in `fails`, counted from 1. It requires `piece` above 0.
     pub fn new(octets: &'a [u8], piece: usize, fails: &'a [u64]) -> MemorySource<'a>
         requires { 0 < piece }
         ensures { result ≡ record { left = octets.now; piece = piece; fails = fails.now; calls = 0; faults = 0 } }
@@ -45,7 +46,7 @@ impl<'a> MemorySource<'a> {
         }
     }
 
-    /// Answers the octets that are left to be read.
+    /// Returns the octets that are left to be read.
     pub fn rest(&self) -> &[u8]
         ensures { result.now ≡ self.now.left }
     {
@@ -58,7 +59,8 @@ impl Source for MemorySource<'_> {
 
     ghost faults = { λ s. s.faults };
 
-    /// Gives as many octets as `piece`, `buf` and what is left allow, and fails exactly at the numbered calls.
+    /// Reads as many octets as `piece`, `buf` and the octets left allow, and fails if and only if the call is numbered
+    /// in `fails`.
     fn read(&mut self, buf: &mut [u8]) -> Result<usize, Failed>
         requires { 0 < length buf.old }
         ensures given { IfOk result (Gives (Some self.old.left) (Some self.new.left) buf.new) }
@@ -66,7 +68,7 @@ impl Source for MemorySource<'_> {
         ensures cause { HasCause self.old.faults self.new.faults result }
         ensures room { length buf.new ≡ length buf.old }
 
-        // Which calls fail, how many octets the others give, and what is kept.
+        // The calls that fail, the number of octets that the others return, and what is unchanged.
         ensures fails { IsErr result ↔ Contains self.old.fails (counted self.old.calls) }
         ensures count { IfOk result (λ count. count ≡ min (min self.old.piece (length buf.old)) (length self.old.left)) }
         ensures copied { IfOk result (λ count. buf.new ≡ take count self.old.left ++ drop count buf.old) }

@@ -4,7 +4,7 @@ ghost use Rattle.std.specs.Prelude.{◌≡◌};
 
 use crate::{Failed, Port, Sink, Source};
 
-/// A port that reads from a source and writes to a sink. Contracts see what each went through.
+/// A port that reads from a source and writes to a sink. Contracts see the events of each.
 #[derive(Debug, Drop)]
 pub struct Pair<'a, S, K> {
     source: &'a mut S,
@@ -12,7 +12,7 @@ pub struct Pair<'a, S, K> {
 }
 
 impl<'a, S: Source, K: Sink> Pair<'a, S, K> {
-    /// Answers the port of a source and a sink.
+    /// Returns the port of a source and a sink.
     pub fn new(source: &'a mut S, sink: &'a mut K) -> Pair<'a, S, K>
         ensures same_source { result.source.ghost_name ≡ source.entry.ghost_name }
         ensures same_sink { result.sink.ghost_name ≡ sink.entry.ghost_name }

@@ -7,9 +7,9 @@ use super::asked::AskedReader;
 use crate::{Failed, Source};
 use std::io::Read;
 
-/// A source over one of std's readers. It doesn't tell what is left.
+/// A source over one of std's readers. It does not expose the octets that are left.
 ///
-/// Each Err of the reader is a fault, whatever its kind, and raises a count that stands still at 2^64 - 1.
+/// Each `Err` of the reader is a fault, whatever its kind, and raises a count that saturates at 2^64 - 1.
 #[derive(Debug, Drop)]
 pub struct ReadSource<R> {
     inner: AskedReader<R>,
@@ -17,7 +17,7 @@ pub struct ReadSource<R> {
 }
 
 impl<R: Read> ReadSource<R> {
-    /// Answers a source over this reader, which counts no fault so far.
+    /// Returns a source over this reader, with a count of no faults.
     pub fn new(inner: R) -> ReadSource<R>
         ensures reader { reader_of result ≡ inner }
         ensures faults { read_faults result ≡ 0 }
@@ -34,7 +34,7 @@ impl<R: Read> Source for ReadSource<R> {
 
     ghost faults = { read_faults };
 
-    /// Sets the beginning of `buf` to what one read of the reader gives, and answers how many octets that is.
+    /// Reads octets into the beginning of `buf` by one read of the reader, and returns their number.
     fn read(&mut self, buf: &mut [u8]) -> Result<usize, Failed>
         requires { 0 < length buf.old }
         ensures given { IfOk result (Gives None None buf.new) }
@@ -42,11 +42,11 @@ impl<R: Read> Source for ReadSource<R> {
         ensures cause { HasCause (read_faults self.old) (read_faults self.new) result }
         ensures room { length buf.new ≡ length buf.old }
 
-        // The octets come from the reader, as far as it tells them, and each fault counts.
+        // The octets come from the reader, as far as it exposes them, and each fault counts.
         ensures known { ReadConsumes (R.remaining (reader_of self.old)) (R.remaining (reader_of self.new)) result buf.new }
         ensures faults { read_faults self.new ≡ faults_after result (read_faults self.old) }
 
-        // The reader is asked once, and fails exactly where this does.
+        // The reader is called once, and fails if and only if this call fails.
         ensures answered { IfOk result (λ count. answers_of self.new ≡ answers_of self.old ++ ReadEvent (take count buf.new) ∷ []) }
         ensures failed { OnErr result (answers_of self.new ≡ answers_of self.old ++ ReadFailed ∷ []) }
     {
@@ -67,7 +67,8 @@ mod tests {
     use std::io;
     use std::io::ErrorKind;
 
-    // Gives two octets, is interrupted once, gives one more octet, ends, and would give another octet after the end.
+    // Returns two octets, is interrupted once, returns one more octet, ends, and would return another octet after the
+    // end.
     #[derive(Drop)]
     struct Stuttering {
         calls: u8,
@@ -89,7 +90,7 @@ mod tests {
         }
     }
 
-    // Each call makes one read of the reader, and an interrupted read is a fault as any other.
+    // Each call makes one read of the reader, and an interrupted read is a fault like any other.
     #[test]
     fn an_interrupted_read_is_a_fault(rt: HostRuntime) {
         let mut source = ReadSource::new(Stuttering { calls: 0 });
@@ -108,7 +109,7 @@ mod tests {
         assert_eq!(rt; &buf[..2], b"cb".as_slice());
     }
 
-    // What reads to the end makes no read after it.
+    // A reader to the end makes no read after it.
     #[test]
     fn no_read_behind_the_end(rt: HostRuntime) {
         let mut source = ReadSource::new(Stuttering { calls: 2 });

@@ -1,14 +1,14 @@
-//! A sink into memory that was lent to it, in which chosen calls fail.
+//! A sink into borrowed memory, in which chosen calls fail.
 ghost use Rattle.std.specs.Prelude.{◌≡◌, ◌+◌, ◌-◌, ◌<◌, ◌≤◌, ◌⊎◌, ◌↔◌, ◌++◌, [], length, take, Some, Contains, IsErr, OnOk, OnErr};
 ghost use Rattle.p25_io.specs.{Faults.{counted, faults_after, HasCause}, Octets.{Appended, AppendedBeginning}};
 
 use crate::{Failed, Sink};
 use std::marker::Model;
 
-/// A sink into memory that was lent to it, in which chosen calls fail.
+/// A sink into borrowed memory, in which chosen calls fail.
 ///
 /// Contracts see it as a `Storage`: the octets written, how many more fit, the numbers of the calls that fail, the
-/// calls made and the faults. Calls are counted from 1; both counts stand still at 2^64 - 1.
+/// calls made and the faults. Calls are counted from 1; both counts saturate at 2^64 - 1.
 #[derive(Debug, Drop)]
 pub struct SliceSink<'a> {
     room: &'a mut [u8],
@@ -30,8 +30,8 @@ impl<'a> Model for SliceSink<'a> {
 }
 
 impl<'a> SliceSink<'a> {
-    /// Answers a sink that writes into `room` from its first octet on, and fails at the calls numbered in `fails`,
-    /// counted from 1.
+    /// Returns a sink that writes into the buffer `room` from its first octet on, and fails at the calls numbered in
+    /// `fails`, counted from 1.
     pub fn new(room: &'a mut [u8], fails: &'a [u64]) -> SliceSink<'a>
         ensures { result ≡ record { written = []; room = length room.old; fails = fails.now; calls = 0; faults = 0 } }
     {
@@ -44,7 +44,7 @@ impl<'a> SliceSink<'a> {
         }
     }
 
-    /// Answers the octets that were written.
+    /// Returns the octets that were written.
     pub fn written(&self) -> &[u8]
         ensures { result.now ≡ self.now.written }
     {
@@ -57,14 +57,14 @@ impl Sink for SliceSink<'_> {
 
     ghost faults = { λ s. s.faults };
 
-    /// Appends the whole piece, and fails exactly at the numbered calls, which append nothing, and where the piece
-    /// doesn't fit: then as much of it as fits is appended.
+    /// Appends the whole chunk. The call fails if and only if it is numbered in `fails` or the chunk does not fit. A
+    /// numbered call appends nothing; otherwise as much of the chunk as fits is appended.
     fn write(&mut self, piece: &[u8]) -> Result<(), Failed>
         ensures ok { OnOk result (Appended (Some self.old.written) piece.now (Some self.new.written)) }
         ensures err { OnErr result (AppendedBeginning (Some self.old.written) piece.now (Some self.new.written)) }
         ensures cause { HasCause self.old.faults self.new.faults result }
 
-        // Which calls fail, how many octets they write, and what is kept.
+        // The calls that fail, the number of octets that they write, and what is unchanged.
         ensures fails { IsErr result ↔ (Contains self.old.fails (counted self.old.calls) ⊎ (self.old.room < length piece.now)) }
         ensures numbered { Contains self.old.fails (counted self.old.calls) → self.new.written ≡ self.old.written }
         ensures others { ¬ Contains self.old.fails (counted self.old.calls) → self.new.written ≡ self.old.written ++ take self.old.room piece.now }

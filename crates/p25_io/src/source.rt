@@ -6,20 +6,20 @@ use crate::Failed;
 
 /// Where octets come from, a few at a time.
 ///
-/// Contracts see the octets that are left, where the source tells them, and its count of faults. Whether it tells
-/// them never changes.
+/// Contracts see the octets that are left, if the source exposes them, and its count of faults. Whether it exposes them
+/// never changes.
 pub trait Source {
-    /// The octets that are left to be read, where the source tells them.
+    /// The octets that are left to be read, if the source exposes them.
     ghost left: { Self → Option (List ℕ) };
 
-    /// How often a read failed. It stands still at 2^64 - 1.
+    /// The number of reads that failed. It saturates at 2^64 - 1.
     ghost faults: { Self → ℕ };
 
-    /// Sets the beginning of `buf`, which isn't empty, to octets that are read, and answers how many.
+    /// Reads octets into the beginning of `buf` and returns their number. It requires a buffer that is not empty.
     ///
-    /// They are the first of those left. `Ok(0)` is the end of the input: where the source tells what is left, it
-    /// comes exactly where nothing is. `Failed` comes only where the count of faults rose in this call or stands at
-    /// 2^64 - 1, and then no octet was taken.
+    /// The octets are the first of those left. `Ok(0)` is the end of the input: if the source exposes the octets that
+    /// are left, it is returned if and only if none are. `Failed` is returned only if the count of faults rose in this
+    /// call or is at 2^64 - 1, and then no octet was taken.
     fn read(&mut self, buf: &mut [u8]) -> Result<usize, Failed>
         requires { 0 < length buf.old }
         ensures given { IfOk result (Gives (left self.old) (left self.new) buf.new) }

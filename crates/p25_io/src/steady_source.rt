@@ -7,7 +7,7 @@ use std::marker::Model;
 
 /// A source over octets in memory that never fails. Its count of faults is 0.
 ///
-/// Contracts see it as a `SteadySupply`: the octets left, and the most that a read gives.
+/// Contracts see it as a `SteadySupply`: the octets left, and the most that a read returns.
 #[derive(Debug, Drop)]
 pub struct SteadySource<'a> {
     rest: &'a [u8],
@@ -26,7 +26,7 @@ impl<'a> Model for SteadySource<'a> {
 }
 
 impl<'a> SteadySource<'a> {
-    /// Answers a source that gives these octets, at most `piece` of them a read. `piece` is above 0.
+    /// Returns a source of these octets, which returns at most `piece` of them in a read. It requires `piece` above 0.
     pub fn new(octets: &'a [u8], piece: usize) -> SteadySource<'a>
         requires { 0 < piece }
         ensures { result ≡ record { left = octets.now; piece = piece } }
@@ -37,7 +37,7 @@ impl<'a> SteadySource<'a> {
         }
     }
 
-    /// Answers the octets that are left to be read.
+    /// Returns the octets that are left to be read.
     pub fn rest(&self) -> &[u8]
         ensures { result.now ≡ self.now.left }
     {
@@ -50,7 +50,7 @@ impl Source for SteadySource<'_> {
 
     ghost faults = { λ s. 0 };
 
-    /// Gives as many octets as `piece`, `buf` and what is left allow.
+    /// Reads as many octets as `piece`, `buf` and the octets left allow.
     fn read(&mut self, buf: &mut [u8]) -> Result<usize, Failed>
         requires { 0 < length buf.old }
         ensures given { IfOk result (Gives (Some self.old.left) (Some self.new.left) buf.new) }
@@ -58,7 +58,7 @@ impl Source for SteadySource<'_> {
         ensures cause { HasCause 0 0 result }
         ensures room { length buf.new ≡ length buf.old }
 
-        // How many octets each call gives.
+        // The number of octets that each call returns.
         ensures count { result ≡ Ok (min (min self.old.piece (length buf.old)) (length self.old.left)) }
         ensures copied { IfOk result (λ count. buf.new ≡ take count self.old.left ++ drop count buf.old) }
         ensures same { self.new.piece ≡ self.old.piece }

@@ -10,11 +10,13 @@ use std::io::{Read, Write};
 
 /// A port that reads from one of std's readers and writes to one of its writers.
 ///
-/// Contracts see the events that were made on it, in their order: each read is one call of the reader, and each write takes what the writer
-/// takes of its piece, in as many calls as the writer wants, and then flushes it. Where the reader tells what is left, and the writer
-/// what it holds, as a slice and a `Vec` do, the octets of the events are those. An Err of either, whatever its kind, is a call that
-/// failed, and so is a write of the writer that takes nothing of octets that are left. Each answer of the reader and of the writer is
-/// kept, in proofs alone: a read fails exactly where the reader did, and a write exactly where a write or the flush of the writer did.
+/// Contracts see the events that were made on it, in their order. Each read is one call of the reader. Each write makes
+/// as many calls of the writer as the writer needs to take the chunk, and then flushes it. If the reader exposes its
+/// remaining octets and the writer its contents, as a slice and a `Vec` do, the octets of the events are those.
+///
+/// An `Err` of either, whatever its kind, is a call that failed. So is a write in which the writer takes nothing of
+/// octets that are left. Each result of the reader and of the writer is kept, in proofs alone. A read fails if and only
+/// if the reader failed, and a write if and only if a write or the flush of the writer failed.
 ///
 /// ```
 /// let mut written = Vec::new(rt.alloc());
@@ -30,7 +32,7 @@ pub struct Streams<R, W> {
 impl<R: Read, W: Write> Streams<R, W> {
     ghost use Rattle.p25_io.specs.Streams.{answers_on, events_on, faults_on, flushed_on, reader_in, taken_on, writer_in};
 
-    /// Answers the port of a reader and a writer, on which no event was made.
+    /// Returns the port of a reader and a writer, on which no event has been made.
     pub fn new(reader: R, writer: W) -> Streams<R, W>
         ensures reader { reader_in result ≡ reader }
         ensures writer { writer_in result ≡ writer }
@@ -52,7 +54,7 @@ impl<R: Read, W: Write> Port for Streams<R, W> {
 
     ghost chain = { StreamsGo-chain R.remaining W.contents };
 
-    /// Asks the reader once, to fill the whole buffer.
+    /// Calls the reader once, with the whole buffer.
     fn read(&mut self, buf: &mut [u8]) -> Result<usize, Failed>
         requires { 0 < length buf.old }
         ensures given { IfOk result (λ count. (count ≤ length buf.new)
@@ -60,7 +62,7 @@ impl<R: Read, W: Write> Port for Streams<R, W> {
         ensures failed { OnErr result (StreamsGo R.remaining W.contents self.old (ReadFailed ∷ []) self.new) }
         ensures room { length buf.new ≡ length buf.old }
 
-        // The reader is asked with all of the buffer.
+        // The reader is called with the whole buffer.
         ensures asked { buffers_on self.new ≡ buffers_on self.old ++ Wrote buf.old ∷ [] }
     {
         let result = self.reader.read(buf);
@@ -85,7 +87,7 @@ impl<R: Read, W: Write> Port for Streams<R, W> {
     }
 }
 
-// Writes the whole piece and flushes. Where that fails, so many of its first octets were written.
+// Writes the whole chunk and flushes. If that fails, returns the number of its first octets that were written.
 fn put_whole<W: Write>(writer: &mut AskedWriter<W>, piece: &[u8]) -> Result<(), usize>
     ensures ok { OnOk result (Took W.contents writer.old piece.now 1 0 writer.new) }
     ensures err { IfErr result (λ count. (count ≤ length piece.now) × Took W.contents writer.old (take count piece.now) 0 1 writer.new) }

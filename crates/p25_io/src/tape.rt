@@ -1,4 +1,4 @@
-//! A port in memory that tells every call.
+//! A port in memory that exposes every call.
 
 ghost use Rattle.std.specs.Prelude.{◌≡◌, false, [], IfOk};
 ghost use Rattle.p25_io.specs.{Notes.{noted_event}, Tapes.{IsKept, TapeGoes, event_of}};
@@ -10,19 +10,21 @@ use std::alloc::{AllocError, Global};
 /// A call of a port.
 #[derive(Debug, Drop, PartialEq, Eq)]
 pub enum Call {
-    /// A read gave these octets, or none at the end of the input.
+    /// A read returned these octets, or none at the end of the input.
     Read(Vec<u8>),
     /// A read failed.
     ReadFailed,
-    /// A write wrote this piece.
+    /// A write wrote this chunk.
     Wrote(Vec<u8>),
-    /// A write of this piece failed, and so many of its first octets were written.
+    /// A write of this chunk failed, and this number of its first octets were written.
     WriteFailed(Vec<u8>, usize),
 }
 
-/// A port over a source and a sink in memory that keeps all its calls, in their order: to try what stands on a port.
+/// A port over a source and a sink in memory that keeps all its calls, in their order. It serves to test a user of a
+/// port.
 ///
-/// Contracts see that the calls on it are those that were made, unless it is torn: there was not enough memory for one of them.
+/// Contracts state that its calls are those that were made, unless the tape is torn: the allocation for one of them
+/// failed.
 #[derive(Debug, Drop)]
 pub struct Tape<'a> {
     source: MemorySource<'a>,
@@ -33,7 +35,7 @@ pub struct Tape<'a> {
 }
 
 impl<'a> Tape<'a> {
-    /// Answers a tape without a call, over a source and a sink.
+    /// Returns a tape over a source and a sink, without a call.
     pub fn new(alloc: Global, source: MemorySource<'a>, sink: SliceSink<'a>) -> Tape<'a>
         ensures source { result.source ≡ source.entry }
         ensures sink { result.sink ≡ sink.entry }
@@ -49,21 +51,21 @@ impl<'a> Tape<'a> {
         }
     }
 
-    /// Answers the calls that were made, in their order.
+    /// Returns the calls that were made, in their order.
     pub fn calls(&self) -> &[Call]
         ensures { result.now ≡ self.now.calls.items }
     {
         self.calls.as_slice()
     }
 
-    /// Answers whether there was not enough memory for one of the calls.
+    /// Returns whether the allocation for one of the calls failed.
     pub fn is_torn(&self) -> bool
         ensures { result ≡ self.now.torn }
     {
         self.torn
     }
 
-    // Puts a call at the end, or tears the tape.
+    // Appends a call, or tears the tape.
     fn keep(&mut self, note: &Note<'_>)
         ensures { IsKept (noted_event note.now) self.old self.new }
     {
@@ -74,7 +76,7 @@ impl<'a> Tape<'a> {
     }
 }
 
-// The call of a note, where there is enough memory for it.
+// Returns the call of a note, unless the allocation fails.
 fn call_of(alloc: Global, note: &Note<'_>) -> Result<Call, AllocError>
     ensures { IfOk result (λ call. event_of call ≡ noted_event note.now) }
 {

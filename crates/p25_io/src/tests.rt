@@ -17,7 +17,7 @@ fn the_example_of_the_head(rt: HostRuntime) -> Result<(), Fail> {
     Ok(())
 }
 
-// Reads to the end, or until the room is full.
+// Reads to the end, or until the buffer is full.
 pub(crate) fn gather<S: Source>(source: &mut S, room: &mut [u8]) -> Result<usize, Failed>
     ensures taken { IfOk result (λ count. Taken (S.left source.old) (take count room.new) (S.left source.new)) }
     ensures all { IfOk result (λ count. count < length room.new → IfSome (S.left source.old) (λ all. all ≡ take count room.new)) }
@@ -34,7 +34,7 @@ pub(crate) fn gather<S: Source>(source: &mut S, room: &mut [u8]) -> Result<usize
     Ok(held)
 }
 
-// Writes piece after piece.
+// Writes chunk after chunk.
 pub(crate) fn put_all<K: Sink>(sink: &mut K, pieces: &[&[u8]]) -> Result<(), Failed>
     ensures ok { OnOk result (Appended (K.written sink.old) (flat_map (λ piece. piece.now) pieces.now) (K.written sink.new)) }
     ensures err { OnErr result (AppendedBeginning (K.written sink.old) (flat_map (λ piece. piece.now) pieces.now) (K.written sink.new)) }
@@ -46,7 +46,7 @@ pub(crate) fn put_all<K: Sink>(sink: &mut K, pieces: &[&[u8]]) -> Result<(), Fai
     Ok(())
 }
 
-// Which call fails, how many octets were gathered then, and how many are left.
+// The number of the failing call, the octets gathered by then, and the octets left.
 const FAILING_CALLS: [(u64, Result<usize, Failed>, usize); 5] = [
     (1, Err(Failed), 5),
     (2, Err(Failed), 3),
@@ -55,7 +55,7 @@ const FAILING_CALLS: [(u64, Result<usize, Failed>, usize); 5] = [
     (5, Ok(5), 0),
 ];
 
-// Whether so many octets are gathered, and left, where this call fails.
+// Whether this many octets are gathered and left, if this call fails.
 fn is_gathered(number: u64, want: Result<usize, Failed>, left: usize) -> bool {
     let fails = [number];
     let mut source = MemorySource::new(b"abcde", 2, &fails);
@@ -78,7 +78,7 @@ fn a_source_that_never_fails(rt: HostRuntime) {
     assert!(rt; count == Ok(4) && &room == b"abcd" && source.rest() == b"e".as_slice());
 }
 
-// The size of the room, the number of the failing call, whether all is written, and what is written.
+// The size of the buffer, the number of the failing call, whether all is written, and what is written.
 const ROOMS: [(usize, u64, bool, &[u8]); 5] = [
     (5, 0, true, b"abcde"),
     (4, 0, false, b"abcd"),
@@ -87,10 +87,10 @@ const ROOMS: [(usize, u64, bool, &[u8]); 5] = [
     (5, 1, false, b""),
 ];
 
-// Two pieces of five octets.
+// Two chunks of five octets.
 const PIECES: [&[u8]; 2] = [b"ab", b"cde"];
 
-// Whether this is written to a room where this call fails, and whether that is all.
+// Whether this is written to a buffer if this call fails, and whether that is all.
 fn is_put(room: &mut [u8], number: u64, all: bool, want: &[u8]) -> bool {
     let fails = [number];
     let mut sink = SliceSink::new(room, &fails);

@@ -5,10 +5,10 @@ ghost use Rattle.p25_io.specs.{Faults.{faults_after, HasCause}, Octets.{Appended
 use crate::{Failed, Sink};
 use std::io::Write;
 
-/// A sink over one of std's writers. It doesn't tell what was written.
+/// A sink over one of std's writers. It does not expose the octets that were written.
 ///
-/// A fault is an Err of the writer, whatever its kind, also of its flush, or a write of the writer that takes nothing
-/// of octets that are left. It raises a count that stands still at 2^64 - 1.
+/// A fault is an `Err` of the writer or of its flush, whatever its kind, or a write in which the writer takes nothing
+/// of octets that are left. It raises a count that saturates at 2^64 - 1.
 #[derive(Debug, Drop)]
 pub struct WriteSink<W> {
     inner: W,
@@ -16,7 +16,7 @@ pub struct WriteSink<W> {
 }
 
 impl<W: Write> WriteSink<W> {
-    /// Answers a sink over this writer, which counts no fault so far.
+    /// Returns a sink over this writer, with a count of no faults.
     pub fn new(inner: W) -> WriteSink<W>
         ensures writer { writer_of result ≡ inner }
         ensures faults { write_faults result ≡ 0 }
@@ -30,13 +30,13 @@ impl<W: Write> Sink for WriteSink<W> {
 
     ghost faults = { write_faults };
 
-    /// Appends the piece: writes until the writer has taken all of it, and flushes the writer.
+    /// Appends the chunk: writes until the writer has taken all of it, and flushes the writer.
     fn write(&mut self, piece: &[u8]) -> Result<(), Failed>
         ensures ok { OnOk result (Appended None piece.now None) }
         ensures err { OnErr result (AppendedBeginning None piece.now None) }
         ensures cause { HasCause (write_faults self.old) (write_faults self.new) result }
 
-        // The octets go to the writer, as far as it tells what it holds, and each fault counts.
+        // The octets go to the writer, as far as it exposes its contents, and each fault counts.
         ensures known { OnOk result (Appends (W.contents (writer_of self.old)) (W.contents (writer_of self.new)) piece.now) }
         ensures beginning { OnErr result (AppendsBeginning (W.contents (writer_of self.old)) (W.contents (writer_of self.new)) piece.now) }
         ensures faults { write_faults self.new ≡ faults_after result (write_faults self.old) }
@@ -49,7 +49,7 @@ impl<W: Write> Sink for WriteSink<W> {
     }
 }
 
-// Writes the whole piece and flushes.
+// Writes the whole chunk and flushes.
 fn write_whole<W: Write>(inner: &mut W, piece: &[u8]) -> Result<(), Failed>
     ensures known { OnOk result (Appends (W.contents inner.old) (W.contents inner.new) piece.now) }
     ensures beginning { OnErr result (AppendsBeginning (W.contents inner.old) (W.contents inner.new) piece.now) }
@@ -71,7 +71,8 @@ mod tests {
     use std::io;
     use std::io::ErrorKind;
 
-    // Takes at most so many octets a call, is interrupted at the call of that number and, if it is to, fails at each flush.
+    // Takes at most a given number of octets in a call, is interrupted at the call of a given number and, if it is set
+    // so, fails at each flush.
     #[derive(Drop)]
     struct Fussy {
         most: usize,
@@ -100,7 +101,8 @@ mod tests {
         }
     }
 
-    // The piece, the most octets a call, the interrupted call, whether a flush fails; the answer, the octets taken and the faults.
+    // The chunk, the most octets of a call, the interrupted call, whether a flush fails; the result, the octets taken
+    // and the faults.
     const WRITERS: [(&[u8], usize, u8, bool, Result<(), Failed>, usize, u64); 5] = [
         (b"abcde", 2, 0, false, Ok(()), 5, 0),
         (b"abcde", 0, 0, false, Err(Failed), 0, 1),

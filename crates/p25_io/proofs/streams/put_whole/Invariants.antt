@@ -1,4 +1,4 @@
--- What the writer took are the octets that are done, and it was not flushed and did not fail.
+-- The octets that the writer took are those of the chunk so far, and there was no flush and no failure.
 use Rattle.std.proofs.Common.{length, take, ◌-◌, ◌≤◌}
 use Rattle.p25_io.specs.Asked.{Took}
 use Rattle.p25_io.proofs.streams.put_whole.Given as goal

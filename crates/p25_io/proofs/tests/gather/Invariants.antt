@@ -1,4 +1,4 @@
--- What is held was taken, and the count stands still.
+-- The octets held were taken, and the count is unchanged.
 use Rattle.std.proofs.Common.{length, take, ◌-◌, ◌≤◌, ◌≡◌}
 use Rattle.p25_io.specs.Octets.{Taken}
 use Rattle.p25_io.proofs.tests.gather.Given as goal

@@ -1,4 +1,4 @@
--- The pieces so far were added, and the count stands still.
+-- The chunks so far were appended, and the count is unchanged.
 use Rattle.std.proofs.Common.{take, ◌≡◌}
 use Rattle.std.specs.Prelude.{flat_map}
 use Rattle.p25_io.specs.Octets.{Appended}

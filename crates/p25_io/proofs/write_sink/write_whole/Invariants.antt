@@ -1,4 +1,4 @@
--- What the writer is known to hold has grown by the octets that are done.
+-- The exposed contents of the writer have grown by the octets of the chunk so far.
 use Rattle.std.proofs.Common.{length, take, ◌-◌, ◌≤◌}
 use Rattle.std.specs.Io.KnownBytes.{Appends}
 use Rattle.p25_io.proofs.write_sink.write_whole.Given as goal
