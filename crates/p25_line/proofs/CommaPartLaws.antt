@@ -1,4 +1,4 @@
--- The parts of a word, one after the other: what stands before the next comma is the first part, and what stands after it the others.
+-- The parts of a word, one after the other: the first part ends at the next comma, and the others follow it.
 use Rattle.std.proofs.Common.{◌≡◌, ◌≢◌, ℕ, ◌+◌, ◌-◌, ◌<◌, ◌≤◌, ◌==◌, List, [], ◌∷◌, ◌++◌, length, take, drop, get_or, refl, sym, ap, ap₂, subst, ◌∙◌, arith, length-take, length-drop}
 use Rattle.std.proofs.{lemmas.Bool.{cond-true, cond-false, ne_eqb, le-leb, lt-leb}, lemmas.List.{take_all, drop_more, drop-drop, take-append-drop, get_or-take, get_or-drop, get_or_default}}
 use Rattle.std.proofs.lemmas.List.Splits.{length-slice_split, slice_split_none, slice_split_at}

@@ -1,4 +1,4 @@
--- A list with commas that is written entry by entry, as a loop does it: each entry but the first stands after a comma.
+-- A list with commas that is written entry by entry, as a loop does it: each entry but the first follows a comma.
 use Rattle.std.proofs.Common.{◌≡◌, ℕ, ◌+◌, ◌<◌, List, [], ◌∷◌, ◌++◌, length, take, map, slice_get, Some, refl, arith, append-nil, append_assoc, length-take}
 use Rattle.std.proofs.{lemmas.List.{length-map, take_more, map_push}, lemmas.Option.{slice_get_within, get_or_from_slice_get}}
 use Rattle.std.specs.List.{join_with_byte}

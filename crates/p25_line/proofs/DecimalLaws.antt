@@ -1,4 +1,4 @@
--- How long decimal numbers are.
+-- The length of decimal numbers.
 use Rattle.std.proofs.{Common.{ℕ, ◌^◌, ◌<◌, ◌≤◌, length, decimal, arith}, lemmas.Fmt.{length-decimal-le}}
 
 -- a number of 64 bits has at most 20 digits

@@ -1,4 +1,4 @@
--- Texts of octets: two lower-case digits an octet, read back by `octets_of`. What is true of each digit is shown by a test of all of them.
+-- Texts of octets: two lower-case digits for each octet, which `octets_of` reads back. A property of every digit is shown by a test of all of them.
 use Rattle.std.proofs.Common.{◌≡◌, ℕ, zero, suc, ◌+◌, ◌*◌, ◌/◌, ◌%◌, ◌<◌, ◌==◌, ◌&&◌, Bool, true, cond, List, [], ◌∷◌, length, slice_index, inl, inr, refl, sym, ap, ap₂, ◌∙◌, arith}
 use Rattle.std.proofs.{lemmas.Bool.{and_parts, cases_lt, eqb-true, ltb-true, cond-true}, lemmas.List.Elements.{All-nil, All-cons, All-head, All-tail}, lemmas.List.{get_or_past}}
 use Rattle.std.specs.{Prelude.{nat_lt}, List.{list_all}}

@@ -1,4 +1,4 @@
--- Splitting undoes joining: parts that lack the octet between them are read back from their join, and a line of words is the join of its words.
+-- Splitting inverts joining: parts without the octet between them are read back from their join, and a line of words is the join of its words.
 use Rattle.std.proofs.Common.{◌≡◌, ℕ, ◌<◌, ◌≤◌, ◌==◌, Bool, true, false, List, [], ◌∷◌, length, take, Option, Result, Ok, Err, inl, inr, refl, sym, ap, ◌∙◌, arith}
 use Rattle.std.proofs.{lemmas.Bool.{and_parts, cases_Bool, cases_lt, eq-eqb}, lemmas.List.Splits.{slice_split_none, slice_split_at, length-slice_split, join_with_byte-slice_split}}
 use Rattle.std.specs.{Prelude.{nat_lt, ok_or}, List.{slice_split, join_with_byte, list_all, All}}

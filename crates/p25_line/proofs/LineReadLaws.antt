@@ -1,4 +1,4 @@
--- Reading a line by its words and writing it undo each other, where they do for words. For all that lines tell of.
+-- Reading and writing a line are inverse if they are for its words. For every form of line.
 use Rattle.std.proofs.Common.{◌≡◌, ℕ, ◌<◌, ◌≤◌, true, List, length, Option, Some, None, Result, Ok, Err, refl, ap, ◌∙◌, sym}
 use Rattle.std.specs.{Prelude.{IfOk, ok_or}, List.{join_with_byte, list_all}}
 use Rattle.p25_line.specs.{LineReadings.{found_read, keyed_or_fault, line_read, named_or_fault, value_or_fault}, Words.{is_word, words_or_fault}, declared.fault.LineFault.{LineFault}}

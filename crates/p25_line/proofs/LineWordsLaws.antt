@@ -1,4 +1,4 @@
--- What is kept of the words of a line: the spans of the first 16, and how many there are.
+-- The list kept for the words of a line: the spans of the first 16, and their number.
 use Rattle.std.proofs.Common.{◌≡◌, ℕ, zero, suc, ◌<◌, ◌≤◌, List, [], ◌∷◌, length, take, drop, slice_get, Option, Some, None, Result, Ok, Err, inl, inr, refl, sym, ap, ap₂, ◌∙◌, arith, length-take, length-drop}
 use Rattle.std.proofs.{lemmas.Bool.{cases_lt}, lemmas.List.{length-map}}
 use Rattle.std.specs.Prelude.{◌↔◌, ok_or}

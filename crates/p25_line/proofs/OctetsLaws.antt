@@ -1,4 +1,4 @@
--- Octets are read from their text, and a word that is read as octets is their text. By cases on what each test found.
+-- Octets are read from their text, and a word that decodes to octets is their text. By cases on the result of each test.
 use Rattle.std.proofs.Common.{◌≡◌, ℕ, ◌*◌, ◌/◌, ◌%◌, ◌<◌, ◌≤◌, ◌==◌, ◌&&◌, true, false, cond, List, [], ◌∷◌, length, Some, None, inl, inr, refl, sym, ap, ap₂, subst, ◌∙◌, arith}
 use Rattle.std.proofs.{lemmas.Bool.{and_parts, cases_Bool, cond-true, cond-false, eq-eqb, eqb-true, le-leb, leb-true, lt-ltb}, lemmas.List.Elements.{All-nil}, lemmas.Slice.Eq.{bytes_eq-Decides}}
 use Rattle.std.specs.{Prelude.{nat_le}, List.{list_all}, Str.{bytes_eq}}

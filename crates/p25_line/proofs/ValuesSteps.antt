@@ -1,4 +1,4 @@
--- What a word that is read as a value shows: the octets and the number whose text it is, and why it is no such text.
+-- The value of a word that decodes to one: the octets or the number whose text it is, and why any other word is no such text.
 use Rattle.std.proofs.{Common.{◌≡◌, ℕ, ◌*◌, ◌^◌, ◌<◌, true, false, List, length, decimal, Result, Ok, sym, subst, ◌∙◌}, lemmas.Bool.{true≢false}, lemmas.Fmt.{parse-decimal, IsAscii-decimal}}
 use Rattle.std.proofs.{lemmas.Slice.Eq.{bytes_eq-Decides}, lemmas.Str.{IsUtf8-from_ascii}}
 use Rattle.std.specs.{List.{list_all}, Str.{IsUtf8, bytes_eq}, Str.Parse.{ParsesUnsigned}}

@@ -1,4 +1,4 @@
--- Laws of the words of a line. Splitting is followed octet by octet: a line has allowed octets alone where each of its parts is printed.
+-- Laws of the words of a line. Splitting is followed octet by octet: a line has allowed octets alone if each of its parts is printable.
 use Rattle.std.proofs.{Common.{◌≡◌, ℕ, ◌<◌, ◌≤◌, ◌==◌, ◌&&◌, ◌||◌, Bool, true, false, cond, List, [], ◌∷◌, length, Some, None, Err, inl, inr, refl, sym, ap, ◌∙◌, arith}, Math.Bool.{and_assoc}}
 use Rattle.std.proofs.{lemmas.Bool.{and_parts, cases_Bool, cond-true, cond-false}, lemmas.List.Elements.{All-nil, All-cons}, lemmas.List.Splits.{length-slice_split}}
 use Rattle.std.proofs.lemmas.Slice.Eq.{bytes_eq-Decides}

@@ -1,4 +1,5 @@
--- What the loop over a line's octets keeps: the parts that end before `start` are words and are noted, and from there on to `i` the octets are printed.
+-- The invariant of the loop over a line's octets: the parts that end before `start` are words and are kept, and from there up to `i` the octets are
+-- printable.
 use Rattle.std.proofs.Common.{◌≡◌, ℕ, zero, suc, ◌+◌, ◌-◌, ◌<◌, ◌≤◌, ◌==◌, ◌&&◌, ◌||◌, true, false, List, [], ◌∷◌, ◌++◌, length, take, drop, get_or, Some, None, Ok, Err, refl, sym, ap, ap₂, subst, ◌∙◌, arith, take-append-drop, append-nil, length-append, length-take, length-drop, ◌⊎◌, inl, inr}
 use Rattle.std.proofs.{lemmas.Bool.{cases_Bool, eqb-true, lt-ltb, true≢false}, lemmas.List.{drop_more, take_all, take_at, drop_all, drop-drop, take-map, get_or-drop, map-append}}
 use Rattle.std.proofs.{lemmas.List.Elements.{All-push, All-take}, lemmas.List.Folds.{list_all-append, list_all_more, list_all_at}, lemmas.List.Splits.{slice_split_none, slice_split_at}}

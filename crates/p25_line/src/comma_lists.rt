@@ -1,16 +1,16 @@
-//! Words that are lists: entries with commas between them, or `-` where there is none.
+//! Words that are lists: entries with commas between them, or `-` for no entry.
 
 ghost use Rattle.std.specs.{Prelude.{◌≡◌, ◌+◌, ◌≤◌, ◌∷◌, length}, Str.{bytes_eq}};
 ghost use Rattle.p25_line.specs.CommaLists.{dash, parts_from};
 
-/// Answers whether a word is `-`, which stands for nothing.
+/// Returns whether a word is `-`, which represents no entry.
 pub fn is_dash(word: &[u8]) -> bool
     ensures { result ≡ bytes_eq word.now dash }
 {
     matches!(word, b"-")
 }
 
-/// Answers the part of a word that begins at `start`: up to the next comma, or to the end.
+/// Returns the part of a word that begins at `start`: up to the next comma, or to the end.
 pub fn comma_part(word: &[u8], start: usize) -> &[u8]
     requires { start ≤ length word.now }
     ensures within { start + length result.now ≤ length word.now }

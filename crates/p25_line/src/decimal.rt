@@ -9,7 +9,7 @@ pub(crate) const DIGITS_MOST: usize = 20;
 static PAIRS: [u8; 200] =
     *b"00010203040506070809101112131415161718192021222324252627282930313233343536373839404142434445464748495051525354555657585960616263646566676869707172737475767778798081828384858687888990919293949596979899";
 
-/// Answers the decimal digits of a number, which it writes at the end of some room.
+/// Returns the decimal digits of a number, which it writes at the end of a buffer.
 pub(crate) fn decimal_text(number: u64, room: &mut [u8; DIGITS_MOST]) -> &[u8]
     ensures { result.now ≡ decimal number }
 {
@@ -17,7 +17,7 @@ pub(crate) fn decimal_text(number: u64, room: &mut [u8; DIGITS_MOST]) -> &[u8]
     &room[start..]
 }
 
-// Writes the decimal digits of a number at the end of some room, and answers the place of the first.
+// Writes the decimal digits of a number at the end of a buffer, and returns the position of the first.
 fn write_decimal(number: u64, room: &mut [u8; DIGITS_MOST]) -> usize
     ensures within { result ≤ 20 }
     ensures written { drop result room.new ≡ decimal number }
@@ -32,7 +32,7 @@ fn write_decimal(number: u64, room: &mut [u8; DIGITS_MOST]) -> usize
     write_first(left, room, at)
 }
 
-// Writes the two digits of a number below 100 at a place.
+// Writes the two digits of a number below 100 at a position.
 #[inline(always)]
 fn write_pair(pair: u64, room: &mut [u8; DIGITS_MOST], at: usize)
     requires below { pair < 100 }
@@ -45,7 +45,7 @@ fn write_pair(pair: u64, room: &mut [u8; DIGITS_MOST], at: usize)
     room[at + 1] = ones;
 }
 
-// Writes the one or two digits of a number below 100 before a place, and answers the place of the first.
+// Writes the one or two digits of a number below 100 before a position, and returns the position of the first.
 #[inline(always)]
 fn write_first(number: u64, room: &mut [u8; DIGITS_MOST], end: usize) -> usize
     requires below { number < 100 }

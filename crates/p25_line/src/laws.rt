@@ -1,4 +1,4 @@
-//! The number of a public constant. The body is empty: the function states what is proved.
+//! The value of a public constant. The body is empty: the function states what is proved.
 
 ghost use Rattle.std.specs.Prelude.{◌≡◌};
 

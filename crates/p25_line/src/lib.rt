@@ -1,14 +1,17 @@
-//! Lines of text: a list of octets that is written in pieces, the words of a line, the values that words stand for, and
-//! words that are lists.
+//! Lines of text: a list of octets that is written in parts, the words of a line, the values of words, and words that
+//! are lists.
 //!
 //! A line has at most 8,192 octets. Its words are octets 21 to 7E hex with single spaces between them. Contracts see a
-//! `Line` as the list of its octets, first to last, a `WordList` as the spans of the first 16 words with the number of all,
-//! and `LineWords` as the list of all words of the line that was read. What the words of a line are is `words_or_fault line`,
-//! and `line_read read line` what a line is read as, where `read` tells what its words are read as: `read_whole` reads lines of
-//! any form, which a `LineReader` tells. A value is told by the text that it has in the line.
-//! A word that is a list has its entries in order with commas between them, and `-` stands for the empty list: `list_text`
-//! is that word by the text of an entry, `list_in` what a word is read as by the reading of an entry, and each undoes the
-//! other where that holds of entries and no entry's text has a comma.
+//! `Line` as the list of its octets, first to last, a `WordList` as the spans of the first 16 words with the number of
+//! all, and `LineWords` as the list of all words of the line.
+//!
+//! `words_or_fault line` is the words of a line or the reason for refusing it. `line_read read line` is the decoding of
+//! a line, if `read` decodes its words. `read_whole` reads lines of any form that a `LineReader` defines. A value is
+//! defined by its text in the line.
+//!
+//! A word that is a list has its entries in order with commas between them, and `-` represents the empty list.
+//! `list_text` is that word by the text of an entry, and `list_in` the list that a word decodes to, by the decoding of
+//! an entry. Each inverts the other, if this holds of entries and no entry's text has a comma.
 //!
 //! ```text
 //! let mut line = Line::new();

@@ -1,4 +1,4 @@
-//! A line of text of bounded length, and what appends words and numbers to it.
+//! A line of text of bounded length, and the calls that append words and numbers to it.
 
 ghost use Rattle.std.specs.Prelude.{◌≡◌, ℕ, ◌+◌, ◌*◌, ◌<◌, ◌≤◌, ◌==◌, List, [], ◌++◌, length, take, decimal};
 ghost use Rattle.hex.specs.Hex.{encode_lower};
@@ -26,7 +26,7 @@ impl Model for Line {
 }
 
 impl Line {
-    /// Answers an empty line.
+    /// Returns an empty line.
     pub fn new() -> Line
         ensures { result ≡ [] }
     {
@@ -43,7 +43,7 @@ impl Line {
         self.len = 0;
     }
 
-    /// Answers the number of octets of the line, at most 8,192.
+    /// Returns the number of octets of the line, at most 8,192.
     pub fn len(&self) -> usize
         ensures value { result ≡ length self.now }
         ensures most { result ≤ 8192 }
@@ -51,14 +51,14 @@ impl Line {
         self.len
     }
 
-    /// Answers whether the line has no octets.
+    /// Returns whether the line has no octets.
     pub fn is_empty(&self) -> bool
         ensures { result ≡ (length self.now == 0) }
     {
         self.len == 0
     }
 
-    /// Answers the octets of the line.
+    /// Returns the octets of the line.
     pub fn octets(&self) -> &[u8]
         ensures { result.now ≡ self.now }
     {
@@ -86,7 +86,7 @@ impl Line {
         self.put(decimal_text(value, &mut room));
     }
 
-    /// Appends a label and a number in decimal, for which there must be room with 20 digits.
+    /// Appends a label and a number in decimal. It requires capacity for the label and 20 digits.
     #[tactic(auto, using(crate::proofs::DecimalLaws::decimal_short))]
     pub fn put_labelled(&mut self, label: &[u8], number: u64)
         requires { length self.old + length label.now + 20 ≤ 8192 }
@@ -108,7 +108,7 @@ impl Line {
         self.len = end;
     }
 
-    /// Appends octets in lower-case hexadecimal, two digits each, or `-` where there are none.
+    /// Appends octets in lower-case hexadecimal, two digits each, or `-` if there are none.
     pub fn put_octets(&mut self, octets: &[u8])
         requires { length self.old + 2 * length octets.now < 8192 }
         ensures text { self.new ≡ self.old ++ octets_text octets.now }

@@ -6,24 +6,25 @@ ghost use Rattle.p25_line.specs.{LineReadings.{line_read}, declared.fault.LineFa
 use super::fault::LineFault;
 use super::line_words::LineWords;
 
-/// How lines of one form are read by their words. A type stands for a form and holds no value.
+/// A reader of the words of lines of one form. A type represents a form and holds no value.
 pub trait LineReader {
-    /// What a line is read as.
+    /// The value that a line decodes to.
     type Value;
 
-    // What words are read as, or why they are refused.
+    // The value that words decode to, or the reason for refusing them.
     ghost words_read: { List (List ℕ) → Result Self.Value fault_type };
 
     // Words are never refused as a line that is too long.
     ghost not_long: { (words : List (List ℕ)) → words_read words ≢ Err Long };
 
-    /// Answers what the words of a line are read as, or why they are refused.
+    /// Returns the value that the words of a line decode to, or the reason for refusing them.
     fn read_words(words: &LineWords) -> Result<Self::Value, LineFault>
         ensures { result ≡ words_read words.now };
 }
 
-/// Answers what a whole line is read as, or the first cause for which it is refused: Long exactly above 8,192 octets; Form
-/// exactly where it is not one or more words of octets 21 to 7E hex with single spaces between them; else as its words are.
+/// Returns the value that a whole line decodes to, or the first reason for refusing it. `Long` is returned if and only
+/// if the line has more than 8,192 octets. `Form` is returned if and only if the line is not longer and is not one or
+/// more words of octets 21 to 7E hex with single spaces between them. Otherwise the result is that of its words.
 pub fn read_whole<R: LineReader>(line: &[u8]) -> Result<R::Value, LineFault>
     ensures read { result ≡ line_read R.words_read line.now }
     ensures long { (result ≡ Err Long) ↔ (8192 < length line.now) }

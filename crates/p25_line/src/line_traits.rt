@@ -1,4 +1,5 @@
-//! A line as other Rust code takes it: empty by default, compared by its octets, lent as a slice, and shown as a text.
+//! A line as other Rust code uses it: empty by default, compared by its octets, lent as a slice, and displayed as a
+//! text.
 
 ghost use Rattle.std.specs.{Prelude.{◌≡◌, [], Some, nat_eq}, Cmp.{on_equiv, on_per, partial_equiv_from_equiv}};
 ghost use Rattle.std.specs.Cmp.Lexicographic.{nat_list_eq_equiv, pointwise};
@@ -7,7 +8,7 @@ use super::line::Line;
 use std::convert::AsSlice;
 use std::fmt;
 
-/// The empty line.
+/// Returns the empty line.
 impl Default for Line {
     ghost is_default = { λ line. line ≡ [] };
 
@@ -16,7 +17,7 @@ impl Default for Line {
     }
 }
 
-/// Lines are equal where their octets are.
+/// Lines are equal if their octets are.
 impl PartialEq for Line {
     ghost eq = { λ line other. pointwise nat_eq line other };
 
@@ -40,7 +41,8 @@ impl AsSlice<u8> for Line {
     }
 }
 
-/// Writes the octets of the line. They are no text where they are not UTF-8; then it fails, and nothing is written.
+/// Writes the octets of the line. If they are not UTF-8 they are not a text; then the call fails, and nothing is
+/// written.
 impl fmt::Display for Line {
     ghost output = { λ line. Some line };
 
@@ -52,7 +54,7 @@ impl fmt::Display for Line {
     }
 }
 
-/// Writes the line as a text in quotes, or where it is no text as the list of its octets.
+/// Writes the line as a text in quotes, or, if it is not a text, as the list of its octets.
 impl fmt::Debug for Line {
     fn fmt<W: fmt::Write>(&self, f: &mut fmt::Formatter<W>) -> fmt::Result {
         match str::from_utf8(self.octets()) {

@@ -7,7 +7,7 @@ use super::{
 use std::alloc::Global;
 use std::test::Fail;
 
-// Whether a line that is emptied is written in pieces.
+// Whether an emptied line is written in parts.
 #[tactic(auto, using(crate::proofs::DecimalLaws::decimal_short))]
 fn pieces_are_put(line: &mut Line) -> bool {
     line.clear();
@@ -49,7 +49,7 @@ fn words_of_a_line_that_is_written(rt: HostRuntime) -> Result<(), Fail> {
     Ok(())
 }
 
-// Whether a line is shown as this text, for users and for programmers.
+// Whether a line is displayed as this text, for users and for programmers.
 fn is_shown(alloc: Global, line: &Line, want: &str) -> bool {
     match format!(in alloc; "{line} {line:?}") {
         Ok(text) => text.as_str() == want,
@@ -57,7 +57,7 @@ fn is_shown(alloc: Global, line: &Line, want: &str) -> bool {
     }
 }
 
-// Whether a line is shown for programmers alone, as this text.
+// Whether a line is displayed for programmers alone, as this text.
 fn is_no_text(alloc: Global, line: &Line, want: &str) -> bool {
     match format!(in alloc; "{line:?}") {
         Ok(text) => text.as_str() == want && line.to_string(alloc).is_err(),
@@ -65,7 +65,7 @@ fn is_no_text(alloc: Global, line: &Line, want: &str) -> bool {
     }
 }
 
-// Whether a copy of a line is another line.
+// Whether a copy of a line equals another line.
 fn is_copied_as(line: &Line, other: &Line) -> bool {
     match line.clone() {
         Ok(copy) => copy == *other,
@@ -80,8 +80,8 @@ fn line_of_octet(octet: u8) -> Line {
     line
 }
 
-// A line is shown as its text, or where it is none as its octets; lines are the same where their octets are, whatever stood
-// in them before.
+// A line is displayed as its text or, if it is not a text, as its octets. Lines are equal if their octets are, whatever
+// they held before.
 #[test]
 fn line_as_a_text(rt: HostRuntime) {
     let mut line = Line::default();
@@ -96,7 +96,7 @@ fn line_as_a_text(rt: HostRuntime) {
     assert!(rt; line != octet && is_no_text(rt.alloc(), &octet, "[255]"));
 }
 
-// Whether a line has so many words, or is refused.
+// Whether a line has this many words, or is refused.
 fn has_words(line: &[u8], answer: Result<(), LineFault>, count: usize) -> bool {
     let mut words = WordList::new();
     words_of(line, &mut words) == answer && words.count() == count
@@ -121,12 +121,12 @@ fn words_of_lines(rt: HostRuntime) {
     }
 }
 
-// Whether this word stands at a place of a line.
+// Whether this word is at a position of a line.
 fn has_word(words: &LineWords, place: usize, word: &[u8]) -> bool {
     place < words.count() && place < 16 && words.get(place) == word
 }
 
-// Whether a line is read as so many words, with this one first and this one at a place.
+// Whether a line decodes to this many words, with this one first and this one at a position.
 fn is_read(line: &[u8], count: usize, first: &[u8], place: usize, word: &[u8]) -> bool {
     match LineWords::read(line) {
         Ok(words) => {
@@ -142,7 +142,7 @@ fn words_of_a_line_that_is_read(rt: HostRuntime) {
     assert!(rt; is_read(line, 18, b"a", 15, b"p"));
 }
 
-// Whether a line is read as one word.
+// Whether a line decodes to one word.
 fn is_one_word(line: &[u8]) -> bool {
     match LineWords::read(line) {
         Ok(words) => words.count() == 1,
@@ -150,7 +150,7 @@ fn is_one_word(line: &[u8]) -> bool {
     }
 }
 
-// Whether a line is refused for this cause.
+// Whether a line is refused for this reason.
 fn is_refused(line: &[u8], fault: LineFault) -> bool {
     matches!(LineWords::read(line), Err(cause) if cause == fault)
 }
@@ -183,13 +183,13 @@ const NUMBERS: [(&[u8], u64, Option<u64>); 6] = [
     (b"18446744073709551616", 18_446_744_073_709_551_615, None),
 ];
 
-// Whether a word is an octet of hexadecimal, and what stands in the room then, where 7 stood.
+// Whether a word is an octet in hexadecimal, and what the buffer, which held 7, contains afterwards.
 fn is_hex(word: &[u8], answer: bool, octet: u8) -> bool {
     let mut octets = [7];
     hex_value(word, &mut octets) == answer && octets == [octet]
 }
 
-// Numbers of each count of digits up to five, at its ends.
+// Numbers with each count of digits up to five, the least and the greatest.
 const DECIMALS: [(u64, &[u8]); 8] = [
     (0, b"0"),
     (9, b"9"),
@@ -201,7 +201,7 @@ const DECIMALS: [(u64, &[u8]); 8] = [
     (90_817, b"90817"),
 ];
 
-// Whether this is what is written of a number.
+// Whether this is the decimal text of a number.
 #[tactic(auto, using(crate::proofs::DecimalLaws::decimal_short))]
 fn is_decimal(number: u64, text: &[u8]) -> bool {
     let mut line = Line::new();
@@ -230,7 +230,7 @@ fn values_of_words(rt: HostRuntime) {
     }
 }
 
-// A word, and the octets that it is, of which there are two at most.
+// A word, and its octets, at most two.
 const OCTETS: [(&[u8], Option<&[u8]>); 8] = [
     (b"-", Some(b"")),
     (b"0a", Some(b"\x0A")),
@@ -242,7 +242,7 @@ const OCTETS: [(&[u8], Option<&[u8]>); 8] = [
     (b"--", None),
 ];
 
-// Whether a word is these octets, or none, and the room is then as it was.
+// Whether a word is these octets, or none, and then the buffer is unchanged.
 fn are_octets(word: &[u8], octets: Option<&[u8]>) -> bool {
     let mut room = [7; 2];
     match (octets_or_dash(word, &mut room), octets) {
@@ -259,7 +259,7 @@ fn octets_of_words(rt: HostRuntime) {
     }
 }
 
-// A word, a place in it, the part that begins there, and whether that part is `-`.
+// A word, a position in it, the part that begins there, and whether that part is `-`.
 const PARTS: [(&[u8], usize, &[u8], bool); 8] = [
     (b"3,14,15", 0, b"3", false),
     (b"3,14,15", 2, b"14", false),
@@ -271,7 +271,7 @@ const PARTS: [(&[u8], usize, &[u8], bool); 8] = [
     (b"--", 0, b"--", false),
 ];
 
-// Whether this part begins at a place of a word, and whether it is `-`.
+// Whether this part begins at a position of a word, and whether it is `-`.
 fn is_part(word: &[u8], start: usize, part: &[u8], dash: bool) -> bool {
     if start > word.len() {
         return false;
@@ -295,7 +295,7 @@ const FAULTS: [(LineFault, &str); 5] = [
     (LineFault::Value, "value"),
 ];
 
-// Whether a fault is shown as this word.
+// Whether a fault is displayed as this word.
 fn is_fault_shown(alloc: Global, fault: LineFault, word: &str) -> bool {
     match format!(in alloc; "{fault}") {
         Ok(text) => text.as_str() == word,

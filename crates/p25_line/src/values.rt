@@ -9,8 +9,8 @@ use super::comma_lists::is_dash;
 use crate::decimal::{DIGITS_MOST, decimal_text};
 use std::str;
 
-/// Sets `out` to the octets whose lower-case hexadecimal text a word is, and answers whether there are as many as `out`
-/// has. It is false exactly where the word is no such text, and then `out` is as before.
+/// Writes to `out` the octets whose lower-case hexadecimal text a word is, and returns whether there are as many as
+/// `out` has. If the word is no such text, the result is false and `out` is unchanged.
 pub fn hex_value(word: &[u8], out: &mut [u8]) -> bool
     ensures value { OnTrue result (encode_lower out.new ≡ word.now) }
     ensures octets { OnTrue result (AllOctets out.new) }
@@ -24,9 +24,9 @@ pub fn hex_value(word: &[u8], out: &mut [u8]) -> bool
     true
 }
 
-/// Sets the beginning of `out` to the octets that a word is, two lower-case hexadecimal digits each or `-` for none, and
-/// answers how many they are. It is `None` exactly where the word is neither, or there are more of them than `out` has, and then
-/// `out` is as before.
+/// Writes to the beginning of `out` the octets that a word represents, two lower-case hexadecimal digits each or `-`
+/// for none, and returns their number. `None` is returned if and only if the word is neither, or there are more octets
+/// than `out` has; then `out` is unchanged.
 pub fn octets_or_dash(word: &[u8], out: &mut [u8]) -> Option<usize>
     ensures value { option_map (λ count. take count out.new) result ≡ octets_up_to (length out.old) word.now }
     ensures few { IfSome result (λ count. count ≤ length out.new) }
@@ -42,8 +42,8 @@ pub fn octets_or_dash(word: &[u8], out: &mut [u8]) -> Option<usize>
     hex_value(word, &mut out[..count]).then_some(count)
 }
 
-/// Answers the number whose decimal text a word is. It is `None` exactly where the word is not the text of a number that
-/// is at most `most`: no leading zero, no sign.
+/// Returns the number whose decimal text a word is. `None` is returned if and only if the word is not the text of a
+/// number up to `most`, without a leading zero or a sign.
 pub fn number_value(word: &[u8], most: u64) -> Option<u64>
     ensures { MatchOption result ((number : ℕ) → number ≤ most → decimal number ≢ word.now)
         (λ number. (number ≤ most) × (decimal number ≡ word.now)) }
@@ -62,7 +62,7 @@ pub fn number_value(word: &[u8], most: u64) -> Option<u64>
     }
 }
 
-// Whether a word has lower-case hexadecimal digits alone.
+// Returns whether a word has lower-case hexadecimal digits alone.
 fn is_lower_hex(word: &[u8]) -> bool
     ensures { result ≡ list_all is_lower_digit word.now }
 {

@@ -1,4 +1,4 @@
-//! The places of the first words of a line, and how many words there are.
+//! The positions of the first words of a line, and how many words there are.
 
 ghost use Rattle.std.specs.Prelude.{◌≡◌, ◌+◌, ◌-◌, ◌<◌, ◌≤◌, [], ◌∷◌, ◌++◌, length, take, slice_get, All};
 ghost use Rattle.p25_line.specs.Words.{LiesIn, marked, WordsAnswer};
@@ -11,10 +11,10 @@ use std::marker::Model;
 // The most words of a line whose spans are kept.
 const WORDS_MOST: usize = 16;
 
-/// Where a word stands in its line.
+/// The position of a word in its line.
 #[derive(Clone, Copy, Debug, Default, PartialEq, Eq)]
 pub struct Span {
-    /// Where its first octet stands, counted from 0.
+    /// The position of its first octet, counted from 0.
     pub start: usize,
     /// The number of its octets.
     pub len: usize,
@@ -36,7 +36,7 @@ impl Model for WordList {
 }
 
 impl WordList {
-    /// Answers a list of no words.
+    /// Returns a list of no words.
     pub fn new() -> WordList
         ensures { result ≡ record { spans = []; count = 0 } }
     {
@@ -46,14 +46,14 @@ impl WordList {
         }
     }
 
-    /// Answers the number of all words, also of those whose spans are not kept.
+    /// Returns the number of all words, including those whose spans are not kept.
     pub fn count(&self) -> usize
         ensures { result ≡ self.now.count }
     {
         self.count
     }
 
-    /// Answers word `i`, counted from 0, of the line whose words are kept.
+    /// Returns word `i`, counted from 0, of the line whose words are kept.
     pub fn word<'a>(&self, line: &'a [u8], i: usize) -> &'a [u8]
         requires held { i < length self.now.spans }
         requires lies { All (LiesIn line.now) self.now.spans }
@@ -71,7 +71,7 @@ impl WordList {
         self.count = 0;
     }
 
-    // Counts one more word, and keeps its span where there is room.
+    // Counts one more word, and keeps its span if there is capacity.
     fn note(&mut self, start: usize, end: usize)
         requires order { start ≤ end }
         requires count { self.old.count < 8193 }
@@ -88,7 +88,7 @@ impl WordList {
     }
 }
 
-/// The list of no words.
+/// Returns the list of no words.
 impl Default for WordList {
     ghost is_default = { λ list. list ≡ record { spans = []; count = 0 } };
 
@@ -97,9 +97,9 @@ impl Default for WordList {
     }
 }
 
-/// Sets `out` to the words of a line, and answers why there are none. Long comes exactly where the line has more than
-/// 8,192 octets, else Form exactly where it is not one or more words of octets 21 to 7E hex with single spaces between
-/// them. After a refusal `out` is empty.
+/// Writes to `out` the words of a line, or returns the reason for refusing it. `Long` is returned if and only if the
+/// line has more than 8,192 octets. `Form` is returned if and only if the line is not longer and is not one or more
+/// words of octets 21 to 7E hex with single spaces between them. After a refusal `out` is empty.
 pub fn words_of(line: &[u8], out: &mut WordList) -> Result<(), LineFault>
     ensures { WordsAnswer line.now out.new result }
 {
