@@ -1,4 +1,4 @@
--- The product of the code is that of the definition: the definition unfolded, a bit of the second number at a time.
+-- The product of the code is that of the definition: the definition is unfolded, one bit of the second number at a time.
 use Rattle.std.proofs.{Common.{◌≡◌, ℕ, ◌*◌, ◌/◌, ◌%◌, ◌<◌, ◌≤◌, ◌==◌, suc, cond, bit_xor, refl, sym, ap, ap₂, ◌∙◌}, lemmas.Bool.{lt-ltb, le-ltb}}
 use Rattle.std.specs.Int.Bits.{xor_zero_r}
 use Rattle.p25_gf64.specs.Product.{times_x, product, product_by}

@@ -1,8 +1,8 @@
 -- A field of characteristic 2, over any type of elements.
 use Rattle.std.specs.Prelude.{◌≡◌, ◌≢◌, ◌⊎◌, ℕ, zero, suc}
 
--- both operations commute and associate, each has its neutral element, each element is its own
--- negative, each but zero has an inverse, products distribute over sums, and one is not zero
+-- both operations commute and associate, each has its neutral element, each element is its own negative, each element but zero has an inverse,
+-- products distribute over sums, and one is not zero
 pub record FieldLaws {F : Type 0} (zero one : F) (add mul : F → F → F) (inverse : F → F) : Type 0 where
   pub add_comm : (x y : F) → add x y ≡ add y x
   pub add_assoc : (x y z : F) → add (add x y) z ≡ add x (add y z)
@@ -15,7 +15,7 @@ pub record FieldLaws {F : Type 0} (zero one : F) (add mul : F → F → F) (inve
   pub mul_add : (x y z : F) → mul x (add y z) ≡ add (mul x y) (mul x z)
   pub one_ne_zero : one ≢ zero
 
--- elements with such operations; whether an element is zero can be told
+-- elements with such operations, and a decision whether an element is zero
 pub record Field (F : Type 0) : Type 0 where
   pub zero : F
   pub one : F
@@ -25,7 +25,7 @@ pub record Field (F : Type 0) : Type 0 where
   pub laws : FieldLaws zero one add mul inverse
   pub is_zero : (x : F) → (x ≡ zero) ⊎ (x ≢ zero)
 
--- x multiplied by itself so often; the power 0 is one
+-- x multiplied by itself as often as the exponent; the power 0 is one
 unfoldable pub power : {F : Type 0} → Field F → F → ℕ → F
 power K x zero = K.one
 power K x (suc n) = K.mul x (power K x n)

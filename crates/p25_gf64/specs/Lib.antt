@@ -2,5 +2,5 @@ pub mod Field
 pub mod Product
 pub mod Symbol
 pub mod Gf64
--- laws of impls: nothing to believe
+-- laws of impls, with no definition to trust
 pub mod ProductLaws

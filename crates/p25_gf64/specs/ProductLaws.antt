@@ -10,7 +10,7 @@ unfoldable pub all_below : ℕ → (ℕ → Bool) → Bool
 all_below zero test = true
 all_below (suc n) test = test n && all_below n test
 
--- what is tested of all is true of each
+-- a test of all numbers holds of each
 pub all_below_at : (n : ℕ) (test : ℕ → Bool) → all_below n test ≡ true → (k : ℕ) → k < n → test k ≡ true
 unfolding all_below
 all_below_at zero test e k h = absurd (omega arith)

@@ -14,7 +14,7 @@ symbol_of n h = record { value = n; below = h }
 same_made : (m n : ℕ) → m ≡ n → (p : m < 64) (q : n < 64) → symbol_of m p ≡ symbol_of n q
 same_made m n e p = subst (λ k. (q : k < 64) → symbol_of m p ≡ symbol_of k q) e (λ q. ap (λ r. symbol_of m r) (le_prop p q))
 
--- symbols of one number are one symbol
+-- symbols with the same number are equal
 pub same_symbol : (a b : Sym) → number a ≡ number b → a ≡ b
 same_symbol a b e = same_made (number a) (number b) e a.below b.below
 

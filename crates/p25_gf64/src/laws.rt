@@ -1,4 +1,4 @@
-//! The laws of the field, for those who prove what they compute with symbols.
+//! The laws of the field, for proofs about computations with symbols.
 
 ghost use Rattle.std.specs.Prelude.{◌≡◌, ◌≢◌, ◌⊎◌, ℕ, true, ◌<◌};
 ghost use Rattle.p25_gf64.specs.{declared.symbol.Sym.{Sym}, Field.{FieldLaws, power}, Symbol.{number, alpha}, Gf64.{gf64}};
@@ -9,7 +9,7 @@ pub fn field_laws()
     ensures zero_factor { (x y : Sym) → gf64.mul x y ≡ gf64.zero → (x ≡ gf64.zero) ⊎ (y ≡ gf64.zero) }
 {}
 
-/// **Theorem.** A symbol is its number.
+/// **Theorem.** A symbol is determined by its number.
 pub fn symbol_laws()
     ensures same { (x y : Sym) → number x ≡ number y → x ≡ y }
     ensures equal { (x y : Sym) → ⟦<crate::Sym as PartialEq>⟧.eq x y ≡ true → x ≡ y }

@@ -1,9 +1,9 @@
-//! The field GF(64) of the Reed-Solomon and BCH codes of Project 25 (TIA-102.BAAA, where its
-//! primitive polynomial is x^6 + x + 1).
+//! The field GF(64) of the Reed-Solomon and BCH codes of Project 25. Its primitive polynomial in TIA-102.BAAA is x^6 +
+//! x + 1.
 //!
-//! A symbol is a number from 0 to 63. Bit k of it is the coefficient of x^k in a polynomial over
-//! GF(2): the sum of two symbols is their exclusive or, and their product that of the polynomials
-//! modulo x^6 + x + 1. α is the symbol 2; its powers are all symbols but 0.
+//! A symbol is a number from 0 to 63. Bit k of it is the coefficient of x^k in a polynomial over GF(2). The sum of two
+//! symbols is their exclusive or, and their product is the product of the polynomials modulo that polynomial. α is the
+//! symbol 2; its powers are all symbols but 0.
 //!
 //! ```
 //! let two = Sym::try_from(2)?;
@@ -11,8 +11,8 @@
 //! assert_eq!(rt; u8::from(two * three), 6);
 //! ```
 //!
-//! Contracts speak of `gf64`, the field as a record of its operations, and of a symbol's `number`.
-//! The laws of the field stand on `field_laws`, `symbol_laws` and `alpha_order`.
+//! Contracts use `gf64`, the field as a record of its operations, and the `number` of a symbol. The laws of the field
+//! are the contracts of `field_laws`, `symbol_laws` and `alpha_order`.
 #![tactic(auto)]
 
 pub mod laws;

@@ -1,10 +1,10 @@
-//! The product of two symbols by their numbers. It is made of shifts and exclusive ors alone, without a table or a branch,
-//! so that a compiler makes vector operations of a loop of products.
+//! The product of two symbols by their numbers. It uses only shifts and exclusive ors, without a table or a branch, so
+//! that a compiler makes vector operations of a loop of products.
 
 ghost use Rattle.std.specs.Prelude.{◌≡◌, ◌<◌, ◌%◌, ◌==◌, if◌then◌else◌};
 ghost use Rattle.p25_gf64.specs.Product.{times_x, product};
 
-// The product of two numbers of six bits, as polynomials over GF(2) modulo x^6 + x + 1.
+// Returns the product of two numbers of six bits, as polynomials over GF(2) modulo x^6 + x + 1.
 #[inline(always)]
 pub(crate) fn product(a: u8, b: u8) -> u8
     requires a { a < 64 }
@@ -21,7 +21,7 @@ pub(crate) fn product(a: u8, b: u8) -> u8
         ^ (chosen(b1, a1) ^ (chosen(b2, a2) ^ (chosen(b3, a3) ^ (chosen(b4, a4) ^ chosen(b5, a5)))))
 }
 
-// A number of six bits times x: shifted by one place, and x^6 + x + 1 (67) taken away where x^6 has come.
+// Returns a number of six bits times x: shifted by one position, and reduced by x^6 + x + 1 (67) if it has a term x^6.
 #[inline(always)]
 fn times_x(a: u8) -> u8
     requires { a < 64 }
@@ -31,7 +31,7 @@ fn times_x(a: u8) -> u8
     if a < 32 { 2 * a } else { (2 * a) ^ 67 }
 }
 
-// A number where the lowest bit of b is 1, else 0.
+// Returns `a` if the lowest bit of `b` is 1, else 0.
 #[inline(always)]
 fn chosen(b: u8, a: u8) -> u8
     ensures { result ≡ (if b % 2 == 1 then a else 0) }

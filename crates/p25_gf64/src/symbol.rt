@@ -35,7 +35,7 @@ impl Sym {
     /// The symbol 1.
     pub const ONE: Sym = Sym { value: 1 };
 
-    /// Answers the two symbols that have names, `Sym::ZERO` and `Sym::ONE`: the 0 and the 1 of the field.
+    /// Returns the two symbols that have names, `Sym::ZERO` and `Sym::ONE`: the 0 and the 1 of the field.
     pub fn named() -> (Sym, Sym)
         ensures zero { result.0 ≡ gf64.zero }
         ensures one { result.1 ≡ gf64.one }
@@ -43,7 +43,7 @@ impl Sym {
         (Sym::ZERO, Sym::ONE)
     }
 
-    /// Answers the symbol of a number. None comes exactly above 63.
+    /// Returns the symbol of a number. `None` is returned if and only if the number is above 63.
     pub fn new(value: u8) -> Option<Sym>
         ensures below { IsSome result ↔ (value < 64) }
         ensures number { IfSome result (λ symbol. number symbol ≡ value) }
@@ -55,7 +55,7 @@ impl Sym {
         }
     }
 
-    /// Answers the symbol that the low six bits of a number write.
+    /// Returns the symbol whose number is the low six bits of a number.
     pub fn of_low_bits(value: u128) -> Sym
         ensures { number result ≡ value % 64 }
     {
@@ -64,7 +64,7 @@ impl Sym {
         }
     }
 
-    /// Answers the number of the symbol, from 0 to 63.
+    /// Returns the number of the symbol, from 0 to 63.
     pub fn value(self) -> u8
         ensures number { result ≡ number self }
         ensures below { result < 64 }
@@ -72,14 +72,14 @@ impl Sym {
         self.value
     }
 
-    /// Answers whether the symbol is 0.
+    /// Returns whether the symbol is 0.
     pub fn is_zero(self) -> bool
         ensures { IsTrue result ↔ (self ≡ gf64.zero) }
     {
         self.value == 0
     }
 
-    /// Answers the sum of two symbols, which is their exclusive or. It is their difference too.
+    /// Returns the sum of two symbols, which is their exclusive or. It is also their difference.
     pub fn add(self, other: Sym) -> Sym
         ensures sum { result ≡ gf64.add self other }
         ensures number { number result ≡ bit_xor (number self) (number other) }
@@ -89,7 +89,7 @@ impl Sym {
         }
     }
 
-    /// Answers the product of two symbols, as polynomials modulo x^6 + x + 1.
+    /// Returns the product of two symbols, as polynomials modulo x^6 + x + 1.
     pub fn mul(self, other: Sym) -> Sym
         ensures product { result ≡ gf64.mul self other }
         ensures number { number result ≡ product (number self) (number other) }
@@ -99,7 +99,7 @@ impl Sym {
         }
     }
 
-    /// Answers the inverse of a symbol that isn't 0: the one symbol whose product with it is 1.
+    /// Returns the inverse of a symbol other than 0: the one symbol whose product with it is 1.
     pub fn inv(self) -> Sym
         requires { self ≢ gf64.zero }
         ensures inverse { result ≡ gf64.inverse self }
@@ -108,7 +108,7 @@ impl Sym {
         Sym::power_below((63 - self.logarithm()) % 63)
     }
 
-    /// Answers the quotient by a symbol that isn't 0: the one symbol whose product with it is this one.
+    /// Returns the quotient by a symbol other than 0: the one symbol whose product with the divisor is this symbol.
     pub fn div(self, other: Sym) -> Sym
         requires { other ≢ gf64.zero }
         ensures quotient { result ≡ gf64.mul self (gf64.inverse other) }
@@ -124,14 +124,14 @@ impl Sym {
         Sym::power_below(exponent - 63)
     }
 
-    /// Answers α = 2 to any power. The powers repeat after 63.
+    /// Returns α = 2 to any power. The powers repeat after 63.
     pub fn pow_alpha(exponent: u32) -> Sym
         ensures { result ≡ power gf64 alpha exponent }
     {
         Sym::power_below((exponent % 63) as u8)
     }
 
-    // α to a power below 63.
+    // Returns α to a power below 63.
     fn power_below(exponent: u8) -> Sym
         requires { exponent < 63 }
         ensures { result ≡ power gf64 alpha exponent }
@@ -141,7 +141,7 @@ impl Sym {
         }
     }
 
-    // The exponent below 63 with which α gives the symbol.
+    // Returns the exponent below 63 of the power of α that is the symbol.
     fn logarithm(self) -> u8
         requires { self ≢ gf64.zero }
         ensures below { result < 63 }
@@ -151,7 +151,7 @@ impl Sym {
     }
 }
 
-/// The number of a symbol.
+/// Returns the number of a symbol.
 impl From<Sym> for u8 {
     ghost use Rattle.std.specs.Prelude.{◌≡◌};
     ghost use Rattle.p25_gf64.specs.Symbol.{number};
@@ -163,7 +163,8 @@ impl From<Sym> for u8 {
     }
 }
 
-/// The symbol of a number, as `Sym::new` answers it. `NotASymbol` comes exactly above 63, with the number.
+/// Returns the symbol of a number, as `Sym::new` does. `NotASymbol` is returned with the number, if and only if the
+/// number is above 63.
 impl TryFrom<u8> for Sym {
     type Error = NotASymbol;
 
@@ -179,7 +180,7 @@ impl TryFrom<u8> for Sym {
     }
 }
 
-/// A number above 63, which is that of no symbol.
+/// A number above 63, which is the number of no symbol.
 #[derive(Clone, Copy, Debug, PartialEq, Eq)]
 pub struct NotASymbol(pub u8);
 
@@ -196,7 +197,7 @@ impl fmt::Display for NotASymbol {
 
 impl Error for NotASymbol {}
 
-/// The sum, as `Sym::add` answers it.
+/// Returns the sum, as `Sym::add` does.
 impl Add for Sym {
     type Output = Sym;
 
@@ -210,7 +211,7 @@ impl Add for Sym {
     }
 }
 
-/// The product, as `Sym::mul` answers it.
+/// Returns the product, as `Sym::mul` does.
 impl Mul for Sym {
     type Output = Sym;
 

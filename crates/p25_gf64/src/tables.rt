@@ -11,7 +11,7 @@ pub(crate) const POWERS: [u8; 63] = [
     23, 46, 31, 62, 63, 61, 57, 49, 33,
 ];
 
-/// The exponent below 63 with which α gives each number from 1 to 63; the entry of 0 is not read.
+/// The exponent below 63 of the power of α that is each number from 1 to 63. The entry of 0 is not read.
 pub(crate) const LOGARITHMS: [u8; 64] = [
     0, 0, 1, 6, 2, 12, 7, 26, //
     3, 32, 13, 35, 8, 48, 27, 18, //
