@@ -1,5 +1,5 @@
--- Locators: polynomials whose products with power sums have coefficients of zero. Such a coefficient is a power sum of other factors,
--- so these vanish.
+-- Locators: polynomials whose products with power sums have coefficients of zero. Such a coefficient is a power sum of other factors, so these
+-- factors vanish.
 use Rattle.std.proofs.Common.{◌≡◌, ◌≢◌, ℕ, suc, ◌+◌, ◌-◌, ◌*◌, ◌<◌, ◌≤◌, sym, ap, ap₂, ◌∙◌, arith}
 use Rattle.p25_gf64.specs.Field.{Field, power}
 use Rattle.p25_gf64.proofs.{FieldLaws.{mul_comm, mul_assoc, mul_left_comm, zero_mul, mul_inverse, mul_ne_zero, other_zero}, PowerLaws.{power-add, power_ne_zero}}

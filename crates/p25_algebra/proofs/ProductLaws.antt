@@ -1,5 +1,5 @@
--- Products of polynomials by their coefficients: a product is the sum of the second factor's multiples by the first factor's terms, and degrees add, since
--- the leading coefficient is a product of two that are not zero.
+-- Products of polynomials by their coefficients. A product is the sum of the second factor's multiples by the first factor's terms. Degrees add,
+-- because the leading coefficient is a product of two that are not zero.
 use Rattle.std.proofs.{Common.{◌≡◌, ◌≢◌, ◌⊎◌, ℕ, zero, suc, ◌+◌, ◌-◌, ◌<◌, ◌≤◌, cond, eqb, refl, sym, ap, ap₂, ◌∙◌, inl, inr, arith}, lemmas.Bool.{cases_eq, cases_lt, lt-ltb, le-ltb, eq-eqb, ne_eqb}}
 use Rattle.p25_gf64.specs.Field.{Field}
 use Rattle.p25_gf64.proofs.FieldLaws.{mul_assoc, add_assoc, add_zero, add_self, add_twice, same_from_sum, mul_comm, mul_one, mul_add, mul_zero, zero_mul, mul_ne_zero}

@@ -1,4 +1,4 @@
--- Values of polynomials by their coefficients, by Horner's rule, and how few zeros there are: the quotient at one zero has the others.
+-- Values of polynomials by their coefficients, by Horner's rule, and the number of zeros: the quotient at one zero has the others.
 use Rattle.std.proofs.Common.{◌≡◌, ◌≢◌, ℕ, zero, suc, ◌<◌, ◌≤◌, sym, ap, ap₂, ◌∙◌, arith}
 use Rattle.p25_gf64.specs.Field.{Field, power}
 use Rattle.p25_gf64.proofs.FieldLaws.{add_comm, add_assoc, add_left_comm, add_zero, zero_add, add_twice, same_from_sum, mul_comm, mul_assoc, mul_left_comm, mul_one, mul_add, add_mul, mul_zero, zero_mul, other_zero}

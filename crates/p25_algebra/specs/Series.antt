@@ -36,8 +36,8 @@ shifted K s f n = if nat_lt n s then K.zero else f (n - s)
 abbrev pub times_linear : {F : Type 0} → Field F → F → (ℕ → F) → ℕ → F
 times_linear K y f i = K.add (f i) (K.mul y (shifted K 1 f i))
 
--- the coefficient of x^k in the quotient by x + z of a polynomial with n coefficients: what Horner's rule at z has before it comes
--- to the coefficient of x^k
+-- the coefficient of x^k in the quotient by x + z of a polynomial with n coefficients: the value of Horner's rule at z before the coefficient of x^k
+-- is added
 abbrev pub rest_at : {F : Type 0} → Field F → ℕ → (ℕ → F) → F → ℕ → F
 rest_at K n f z k = value_at K (n - suc k) (λ i. f (suc k + i)) z
 

@@ -1,4 +1,4 @@
--- Finite sums in a field, and how many of some elements are not zero.
+-- Finite sums in a field, and the number of some elements that are not zero.
 use Rattle.std.specs.Prelude.{◌≡◌, ◌⊎◌, ℕ, zero, suc, ◌+◌, ◌<◌}
 use Rattle.std.proofs.Common.{inl, inr}
 use Rattle.p25_gf64.specs.Field.{Field, power}
@@ -21,7 +21,7 @@ abbrev pub weight_by : {A B : Type 0} → A ⊎ B → ℕ
 weight_by (inl same) = 0
 weight_by (inr apart) = 1
 
--- how many of the factors 0 to n - 1 are not zero
+-- the number of the factors 0 to n - 1 that are not zero
 unfoldable pub nonzeros : {F : Type 0} → Field F → ℕ → (ℕ → F) → ℕ
 nonzeros K zero factor = 0
 nonzeros K (suc n) factor = nonzeros K n factor + weight_by (K.is_zero (factor n))

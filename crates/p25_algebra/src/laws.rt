@@ -4,7 +4,7 @@ ghost use Rattle.std.specs.Prelude.{◌≡◌, ℕ, suc, ◌+◌, ◌<◌, ◌�
 ghost use Rattle.p25_gf64.specs.{declared.symbol.Sym.{Sym}, Gf64.{gf64}, Field.{power}, Symbol.{alpha}};
 ghost use Rattle.p25_algebra.specs.{Sums.{AreApart, power_sum, nonzeros}, Series.{value_at, product_at, IsShort, IsDegree, times_linear, slope_at}};
 
-/// **Theorem.** A polynomial of `length` coefficients that has as many different zeros is zero.
+/// **Theorem.** A polynomial of `length` coefficients with that many different zeros is zero.
 pub fn few_zeros()
     ensures { (length count : ℕ) (f zeros : ℕ → Sym) → length ≤ count → AreApart count zeros
         → ((j : ℕ) → j < count → value_at gf64 length f (zeros j) ≡ gf64.zero)
@@ -30,8 +30,8 @@ pub fn value_laws()
         → value_at gf64 n (product_at gf64 f g) x ≡ gf64.mul (value_at gf64 m f x) (value_at gf64 k g x) }
 {}
 
-/// **Theorem.** Where a polynomial f is multiplied by 1 + y x, a zero of f keeps its slope times 1 + y z, and the zero of 1 + y x
-/// has the slope y times the value of f.
+/// **Theorem.** If a polynomial f is multiplied by 1 + y x, the slope of f at each zero of f is multiplied by 1 + y z.
+/// The slope at the zero of 1 + y x is y times the value of f.
 pub fn slope_laws()
     ensures kept { (n : ℕ) (y : Sym) (f : ℕ → Sym) (z : Sym) → 0 < n → IsShort gf64 n f
         → value_at gf64 n f z ≡ gf64.zero
@@ -40,7 +40,7 @@ pub fn slope_laws()
         → slope_at gf64 (suc n) (times_linear gf64 y f) z ≡ gf64.mul y (value_at gf64 n f z) }
 {}
 
-/// **Theorem.** Quotient and remainder by a polynomial of degree d are determined, where the remainder has no coefficient from
+/// **Theorem.** Quotient and remainder by a polynomial of degree d are unique, if the remainder has no coefficient from
 /// x^d on.
 pub fn unique_division()
     ensures { (n d : ℕ) (b q p r t : ℕ → Sym) → IsDegree gf64 b d
@@ -49,8 +49,8 @@ pub fn unique_division()
         → (i : ℕ) → (q i ≡ p i) × (r i ≡ t i) }
 {}
 
-/// **Theorem.** Where at most m factors are not zero and the power sums over different elements other than zero vanish for m
-/// successive exponents, every factor is zero (the Vandermonde determinant isn't zero).
+/// **Theorem.** If at most m factors are not zero and the power sums over different elements other than zero vanish for
+/// m successive exponents, every factor is zero (the Vandermonde determinant is not zero).
 pub fn vanishing_sums()
     ensures { (count m start : ℕ) (element factor : ℕ → Sym) → AreApart count element
         → ((j : ℕ) → j < count → element j ≢ gf64.zero)
@@ -59,9 +59,9 @@ pub fn vanishing_sums()
         → (j : ℕ) → j < count → factor j ≡ gf64.zero }
 {}
 
-/// **Theorem.** The first 2m of the numbers s are the power sums of at most m factors that aren't zero, from the exponent 1 on,
-/// and a polynomial f of degree m at most has a product with s whose coefficients of x^m to x^(2m - 1) are zero. Then f vanishes
-/// at the inverse of the element of each factor that isn't zero.
+/// **Theorem.** Let the first 2m of the numbers s be the power sums of at most m factors other than zero, from the
+/// exponent 1 on. Let f be a polynomial of degree at most m whose product with s has zero coefficients from x^m to
+/// x^(2m - 1). Then f vanishes at the inverse of the element of each factor other than zero.
 pub fn locator_vanishes()
     ensures { (n m : ℕ) (element factor f s : ℕ → Sym) → AreApart n element
         → ((j : ℕ) → j < n → element j ≢ gf64.zero)
@@ -72,10 +72,10 @@ pub fn locator_vanishes()
         → (j : ℕ) → j < n → factor j ≢ gf64.zero → value_at gf64 (m + 1) f (gf64.inverse (element j)) ≡ gf64.zero }
 {}
 
-/// **Theorem.** Forney's formula. The first m of the numbers s are the power sums of different elements other than zero, from the
-/// exponent 1 on, and a polynomial f of degree m at most vanishes at the inverse of each element whose factor isn't zero. At the
-/// inverse of an element where f vanishes, the factor times the slope of f is the value of the first m coefficients of the
-/// product of f and s.
+/// **Theorem.** Forney's formula. Let the first m of the numbers s be the power sums of different elements other than
+/// zero, from the exponent 1 on. Let a polynomial f of degree at most m vanish at the inverse of each element whose
+/// factor is not zero. At the inverse of an element at which f vanishes, the factor times the slope of f is the value
+/// of the first m coefficients of the product of f and s.
 pub fn forney()
     ensures { (n m : ℕ) (element factor f s : ℕ → Sym) → 1 ≤ m → AreApart n element
         → ((j : ℕ) → j < n → element j ≢ gf64.zero)
