@@ -1,4 +1,4 @@
--- Coefficients in lists, and the steps of the loops over them: a step writes one place, and a list has zeros past its end.
+-- Coefficients in lists, and the steps of the loops over them: a step writes one position, and a list has zeros after its end.
 use Rattle.std.proofs.Common.{◌≡◌, ◌≢◌, ◌⊎◌, ℕ, suc, ◌+◌, ◌-◌, ◌<◌, ◌≤◌, List, length, get_or, set, replicate, drop, ◌++◌, sym, ap, ap₂, ◌∙◌, inl, inr, arith, get_or-set_same, get_or-set_other}
 use Rattle.std.proofs.{lemmas.Bool.{cases_eq, cases_lt}, lemmas.List.{get_or_append_left, get_or-append_right, get_or-drop, get_or_past, get_or_read, get_or-replicate, length-replicate, length-set}}
 use Rattle.p25_gf64.specs.Field.{Field}

@@ -1,4 +1,4 @@
--- Division of polynomials, a coefficient of the quotient at a time, by which the remainder loses its leading coefficient.
+-- Division of polynomials, one coefficient of the quotient at a time, by which the remainder loses its leading coefficient.
 use Rattle.std.proofs.{Common.{◌≡◌, ◌≢◌, ℕ, ◌+◌, ◌-◌, ◌<◌, ◌≤◌, List, length, set, sym, ap, ap₂, ◌∙◌, inl, inr, arith}, lemmas.Bool.{cases_eq, cases_lt}, lemmas.List.{length-set}}
 use Rattle.p25_gf64.specs.Field.{Field}
 use Rattle.p25_gf64.proofs.FieldLaws.{add_zero, zero_add, add_self, add_swap, add_twice, mul_assoc, mul_comm, mul_one, mul_zero, mul_inverse}

@@ -1,5 +1,5 @@
--- The steps of Euclid's algorithm keep its pair of sides. What holds of each coefficient is shown coefficient by coefficient; the
--- crosswise sum is shown by values, so that no product of the two sides is needed.
+-- The steps of Euclid's algorithm keep its pair of sides. Facts about each coefficient are shown coefficient by coefficient. The crosswise sum is
+-- shown by values, so no product of the two sides is needed.
 use Rattle.std.proofs.{Common.{◌≡◌, ◌≢◌, ℕ, ◌+◌, ◌-◌, ◌*◌, ◌/◌, ◌<◌, ◌≤◌, List, length, sym, ap, ap₂, ◌∙◌, inl, inr, arith}, lemmas.Bool.{cases_eq, cases_lt}}
 use Rattle.p25_gf64.specs.{declared.symbol.Sym.{Sym}, Field.{Field, power}, Gf64.{gf64}}
 use Rattle.p25_gf64.proofs.FieldLaws.{add_comm, add_assoc, add_zero, add_self, add_twice, mul_comm, mul_assoc, mul_left_comm, mul_one, one_mul, mul_add, add_mul, mul_zero, zero_mul, mul_inverse}

@@ -1,4 +1,4 @@
--- A polynomial is its coefficients, and quotient and remainder are determined.
+-- A polynomial is determined by its coefficients, and so are quotient and remainder.
 use Rattle.std.proofs.{Common.{◌≡◌, ℕ, ◌<◌, List, length, sym, ap, ◌∙◌, arith}, lemmas.List.{ext_get_or}}
 use Rattle.std.specs.Coded.{Coded-set, coded_ℕ}
 use Rattle.p25_gf64.specs.{declared.symbol.Sym.{Sym}, Gf64.{gf64}}

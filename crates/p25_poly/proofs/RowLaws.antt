@@ -1,5 +1,5 @@
--- Rows of a linear system: clearing a column, correcting an unknown, and the steps of elimination. With the front row, cleared rows have the
--- solutions of the rows; the unknown of the cleared column is free in them, and the front row corrects it.
+-- Rows of a linear system: clearing a column, correcting an unknown, and the steps of elimination. With the pivot row, cleared rows have the
+-- solutions of the rows; the unknown of the cleared column is free in them, and the pivot row corrects it.
 use Rattle.std.proofs.{Common.{◌≡◌, ◌≢◌, ℕ, zero, suc, ◌+◌, ◌<◌, List, length, drop, Bool, false, ◌==◌, sym, ap, ap₂, ◌∙◌, arith}, lemmas.Bool.{eqb-false}, lemmas.List.{get_or-drop, length-drop}}
 use Rattle.p25_gf64.specs.{declared.symbol.Sym.{Sym}, Gf64.{gf64}}
 use Rattle.p25_gf64.proofs.FieldLaws.{add_self, add_comm, add_twice, mul_comm, mul_assoc, mul_inverse, mul_one}
@@ -7,7 +7,7 @@ use Rattle.p25_algebra.specs.{Sums.{dot}, Series.{coefficient}}
 use Rattle.p25_poly.specs.{declared.row.Row.{Row}, LinearSystem.{IsMet, blank_row, row_of, AreMet, IsCleared, AreCleared, AgreeBut}}
 use Rattle.p25_poly.proofs.DotLaws.{dot_of_zeros, dot_same, dot_multiple, dot_elsewhere, dot_gained, short_made_up}
 
--- a row that has gained the multiple of the front row which takes its cell in the column
+-- a row that has gained the multiple of the pivot row which takes its cell in the column
 pub cleared_row : (column : ℕ) (front old new : Row) (factor : Sym) → coefficient gf64 front.cells column ≢ gf64.zero
     → factor ≡ gf64.mul (coefficient gf64 old.cells column) (gf64.inverse (coefficient gf64 front.cells column))
     → ((k : ℕ) → coefficient gf64 new.cells k ≡ gf64.add (coefficient gf64 old.cells k) (gf64.mul factor (coefficient gf64 front.cells k)))
@@ -73,7 +73,7 @@ blank_met n row x none right = simp (dot_of_zeros, right)
 pub blank_right : (n : ℕ) (row : Row) (x : ℕ → Sym) → ((k : ℕ) → k < n → coefficient gf64 row.cells k ≡ gf64.zero) → IsMet n row x → row.right ≡ gf64.zero
 blank_right n row x none met = rw (← met, dot_of_zeros)
 
--- cleared rows have, with the front row, the solutions of the rows
+-- cleared rows have, with the pivot row, the solutions of the rows
 pub cleared_forth : (n column : ℕ) (front : Row) (old new : List Row) (x : ℕ → Sym) → AreCleared column front old new → IsMet n front x → AreMet n old x → AreMet n new x
 cleared_forth n column front old new x cleared first met =
     record { each = λ r h. (cleared.each r (omega arith)).forth n x first (met.each r (omega arith)) }
@@ -94,7 +94,7 @@ cleared_elsewhere n column front old new x y cleared agree met = record {
 
 module _ (n column : ℕ) (system cleared : List Row) (front : Row)
     (inside : column < n) (some : 0 < length system) (is_front : front ≡ row_of system 0) (clears : AreCleared column front (drop 1 system) cleared) where
-  -- what solves the cleared rows, corrected by the front row, solves all
+  -- what solves the cleared rows, corrected by the pivot row, solves all
   pub corrected_solution : (x y : ℕ → Sym) → AgreeBut column x y → IsMet n front y → AreMet n cleared x → AreMet n system y
   corrected_solution x y agree first met =
       met_with_front n system y (rw (← is_front) first)

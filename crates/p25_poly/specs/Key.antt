@@ -4,8 +4,8 @@ use Rattle.p25_gf64.specs.{declared.symbol.Sym.{Sym}, Gf64.{gf64}}
 use Rattle.p25_algebra.specs.Series.{coefficient, value_at, product_at, IsZero, IsShort}
 use Rattle.p25_poly.specs.{declared.polynomial.Poly.{Poly}, Polynomial.{coefficient_of}}
 
--- of 2t syndromes, the coefficients of a polynomial S, lowest first: a locator that isn't zero, of degree t at most, and an evaluator
--- of degree below t; locator times S and the evaluator are the same below x^(2t), and only 0 can be a zero of both
+-- a solution for 2t syndromes, the coefficients of a polynomial S, lowest first: a locator other than zero, of degree at most t, and an evaluator of
+-- degree below t; locator times S and the evaluator are the same below x^(2t), and only 0 can be a zero of both
 pub record IsKey (syndromes : List Sym) (locator evaluator : Poly) : Type 0 where
   pub nonzero : IsZero gf64 (coefficient_of locator) → ⊥
   pub locator_degree : IsShort gf64 (length syndromes / 2 + 1) (coefficient_of locator)

@@ -20,7 +20,7 @@ row_of rows r = slice_index_or rows r blank_row
 pub record AreMet (n : ℕ) (rows : List Row) (x : ℕ → Sym) : Type 0 where
   pub each : (r : ℕ) → r < length rows → IsMet n (row_of rows r) x
 
--- the new row has no cell in the column, and with the front row it has the same solutions as the old
+-- the new row has no cell in the column, and together with the pivot row it has the same solutions as the old row
 pub record IsCleared (column : ℕ) (front old new : Row) : Type 0 where
   pub gone : coefficient gf64 new.cells column ≡ gf64.zero
   pub forth : (n : ℕ) (x : ℕ → Sym) → IsMet n front x → IsMet n old x → IsMet n new x

@@ -4,11 +4,11 @@ use Rattle.p25_gf64.specs.{declared.symbol.Sym.{Sym}, Gf64.{gf64}}
 use Rattle.p25_algebra.specs.{Sums.{dot}, Series.{coefficient}}
 use Rattle.p25_poly.specs.{declared.matrix.Matrix.{Matrix}, declared.row.Row.{Row}, LinearSystem.{row_of}}
 
--- how many rows there are
+-- the number of rows
 abbrev pub row_count : Matrix → ℕ
 row_count m = m.rows
 
--- how many columns there are
+-- the number of columns
 abbrev pub column_count : Matrix → ℕ
 column_count m = m.columns
 

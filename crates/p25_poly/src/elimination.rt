@@ -1,5 +1,5 @@
-//! Gaussian elimination, a row at a time: the front row clears its first column from the others, these
-//! are solved, and the unknown of that column is then set by the front row.
+//! Gaussian elimination, one row at a time. The pivot row clears its first column from the others, these are solved,
+//! and then the pivot row determines the unknown of that column.
 
 ghost use Rattle.std.specs.Prelude.{ℕ, ◌≤◌, length, IsTrue};
 ghost use Rattle.p25_gf64.specs.{declared.symbol.Sym.{Sym}, Gf64.{gf64}};
@@ -9,8 +9,8 @@ ghost use Rattle.p25_poly.specs.LinearSystem.{AreMet};
 use crate::row::Row;
 use p25_gf64::Sym;
 
-/// Solves the rows for the unknowns and answers whether there is a solution. An unknown that no row
-/// decides keeps its value.
+/// Solves the rows for the unknowns and returns whether there is a solution. An unknown that no row determines keeps
+/// its value.
 pub(crate) fn solve_rows(rows: &mut [Row], unknowns: &mut [Sym]) -> bool
     requires { length unknowns.old ≤ 24 }
     ensures solved { IsTrue result → AreMet (length unknowns.old) rows.old (coefficient gf64 unknowns.new) }

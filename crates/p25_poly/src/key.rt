@@ -15,9 +15,9 @@ pub struct Key {
     pub evaluator: Poly,
 }
 
-/// Answers a solution of the key equation of 2t syndromes, t from 1 to 11, of which the first is the coefficient of x^0 of a
-/// polynomial S. The locator isn't zero and has degree t at most, the evaluator has degree below t or is zero, and both
-/// locator times S and the evaluator have the same coefficients below x^(2t). No symbol but 0 is a zero of both.
+/// Returns a solution of the key equation of 2t syndromes, t from 1 to 11, the first of which is the coefficient of x^0
+/// of a polynomial S. The locator is not zero and has degree at most t. The evaluator has degree below t or is zero.
+/// The locator times S and the evaluator have the same coefficients below x^(2t). No symbol but 0 is a zero of both.
 pub fn key_solve(syndromes: &[Sym]) -> Key
     requires some { 2 ≤ length syndromes.now }
     requires few { length syndromes.now ≤ 22 }
@@ -26,7 +26,7 @@ pub fn key_solve(syndromes: &[Sym]) -> Key
 {
     let mut front = Side::power(syndromes.len());
     let mut back = Side::series(syndromes);
-    // Each side is lowered by the other in turn, until the degree of one is below half.
+    // Each side is reduced by the other in turn, until the degree of one is below half.
     while 2 * back.degree >= syndromes.len() && 2 * front.degree >= syndromes.len() {
         lower(&mut front, &mut back, syndromes.len());
         if 2 * back.degree >= syndromes.len() {
@@ -40,7 +40,7 @@ pub fn key_solve(syndromes: &[Sym]) -> Key
     }
 }
 
-// The factor and the rest of a side.
+// Returns the factor and the remainder of a side.
 fn key_of(side: &Side) -> Key
     ensures locator { (k : ℕ) → coefficient_of result.locator k ≡ behind side.now.factor k }
     ensures evaluator { (k : ℕ) → coefficient_of result.evaluator k ≡ behind side.now.rest k }
@@ -51,7 +51,7 @@ fn key_of(side: &Side) -> Key
     }
 }
 
-// Lowers the front side by the back one, until its degree is the lower one or that of the back side is below half.
+// Reduces the side `front` by the side `back`, until its degree is the lower one or that of `back` is below half.
 fn lower(front: &mut Side, back: &mut Side, count: usize)
     requires some { 2 ≤ count }
     requires lower { back.old.degree ≤ front.old.degree }
@@ -69,8 +69,8 @@ fn lower(front: &mut Side, back: &mut Side, count: usize)
     }
 }
 
-// A step: one of the sides loses the coefficient of its degree. Where that is zero nothing has to be taken: so it is at every second
-// step of the syndromes of a word of bits, the last first.
+// Makes one step: one of the sides loses the coefficient of its degree. If that coefficient is zero, nothing has to be
+// subtracted. This is so at every second step for the syndromes of a word of bits in reverse order.
 fn step(front: &mut Side, back: &mut Side)
     requires positive { 1 ≤ back.old.degree }
     requires lower { back.old.degree ≤ front.old.degree }

@@ -1,13 +1,12 @@
-//! Polynomials and linear systems over GF(64), as the Reed-Solomon and BCH codes of Project 25 use
-//! them (TIA-102.BAAA).
+//! Polynomials and linear systems over GF(64), for the Reed-Solomon and BCH codes of Project 25 (TIA-102.BAAA).
 //!
-//! A [`Poly`] has degree below 64 and is its coefficients, of which the lowest comes first. A
-//! [`Matrix`] has 1 to 24 rows and columns, both counted from 0; [`solve`] takes at most the cube of
-//! the size in steps. [`key_solve`] solves the key equation, from which the readers of the codes take
-//! the places that are wrong and the values there; it takes the square of the number of syndromes. No
-//! call takes memory. The other crates here call [`key_solve`] and take its polynomials apart; [`solve`]
-//! with [`Matrix`], and the calls of [`Poly`] other than `zero`, `from_symbols` and `coefficient`, are for
-//! programs of your own.
+//! A [`Poly`] has degree below 64 and consists of its coefficients, lowest first. A [`Matrix`] has 1 to 24 rows and
+//! columns, both counted from 0; [`solve`] takes at most the cube of the size in steps. [`key_solve`] solves the key
+//! equation, from which the decoders derive the positions of the errors and their values; it takes the square of the
+//! number of syndromes. No call allocates memory.
+//!
+//! The other crates here call [`key_solve`] and read the coefficients of its polynomials. The calls [`solve`], those of
+//! [`Matrix`], and those of [`Poly`] other than `zero`, `from_symbols` and `coefficient` are for other programs.
 //!
 //! ```
 //! let one = Sym::ONE;
@@ -17,8 +16,8 @@
 //! assert_eq!(rt; product, wanted);
 //! ```
 //!
-//! Contracts see a polynomial as `coefficient_of` at each exponent and a matrix as its `entry` at each
-//! row and column. The laws that tie these are on `polynomial_laws` and in `p25_algebra`.
+//! Contracts see a polynomial as `coefficient_of` at each exponent and a matrix as its `entry` at each row and column.
+//! The laws for these are in the contract of `polynomial_laws` and in `p25_algebra`.
 #![tactic(auto)]
 
 mod elimination;

@@ -1,4 +1,4 @@
-//! A matrix over GF(64) of bounded size: its type and its cells.
+//! A matrix over GF(64) of bounded size: its type and its entries.
 
 ghost use Rattle.std.specs.Prelude.{◌≡◌, ℕ, ◌<◌, ◌≤◌, length};
 
@@ -21,7 +21,7 @@ impl Matrix {
     ghost use Rattle.p25_algebra.specs.Series.{coefficient};
     ghost use Rattle.p25_poly.specs.Matrix.{row_count, column_count, entry, IsSystem};
 
-    /// Answers the matrix of zeros with 1 to 24 rows and 1 to 24 columns.
+    /// Returns the matrix of zeros with 1 to 24 rows and 1 to 24 columns.
     pub fn new(rows: usize, columns: usize) -> Matrix
         requires rows { (1 ≤ rows) × (rows ≤ 24) }
         requires columns { (1 ≤ columns) × (columns ≤ 24) }
@@ -36,7 +36,7 @@ impl Matrix {
         }
     }
 
-    /// Answers the entry of a row and a column, both counted from 0.
+    /// Returns the entry of a row and a column, both counted from 0.
     pub fn get(&self, row: usize, column: usize) -> Sym
         requires row { row < row_count self.now }
         requires column { column < column_count self.now }
@@ -46,7 +46,7 @@ impl Matrix {
         line.cells[column]
     }
 
-    /// Sets the entry of a row and a column, both counted from 0.
+    /// Writes the entry of a row and a column, both counted from 0.
     pub fn set(&mut self, row: usize, column: usize, value: Sym)
         requires row { row < row_count self.old }
         requires column { column < column_count self.old }
@@ -60,7 +60,7 @@ impl Matrix {
         self.lines[row] = line;
     }
 
-    // The rows with these right sides.
+    // Returns the rows with these right sides.
     pub(crate) fn with_right(&self, right: &[Sym]) -> [Row; 24]
         requires { length right.now ≡ row_count self.now }
         ensures full { length result ≡ 24 }

@@ -7,7 +7,7 @@ ghost use Rattle.p25_poly.specs.Euclid.{IsMoved};
 
 use p25_gf64::Sym;
 
-/// Adds the factor times the other list, moved up by the shift, as far as there is room.
+/// Adds the factor times the other list, moved up by the shift, as far as the list reaches.
 pub(crate) fn add_multiple(into: &mut [Sym], factor: Sym, other: &[Sym], shift: usize)
     requires { length into.old ≡ length other.now }
     ensures { (k : ℕ) → k < length into.old
@@ -18,8 +18,9 @@ pub(crate) fn add_multiple(into: &mut [Sym], factor: Sym, other: &[Sym], shift: 
     }
 }
 
-/// Adds to 16 symbols behind the first 32, from a place on, the multiple of the other list's, moved up by the shift. These are copied
-/// first: so nothing is written of what is still to be read, and a compiler makes vector operations of the loop.
+/// Adds to 16 symbols after the first 32, from a position on, the multiple of the other list's symbols, moved up by the
+/// shift. These are copied first, so no symbol is written before it is read, and a compiler makes vector operations of
+/// the loop.
 #[inline(always)]
 pub(crate) fn add_moved(into: &mut [Sym], multiple: Sym, other: &[Sym], shift: usize, place: usize)
     requires into { length into.old ≡ 64 }

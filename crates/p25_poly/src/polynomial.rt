@@ -17,7 +17,7 @@ pub struct Poly {
 impl Poly {
     ghost use Rattle.p25_poly.specs.{declared.polynomial.Poly.{Poly as Polynomial}, Polynomial.{coefficient_of, IsDivision}};
 
-    /// Answers the polynomial zero.
+    /// Returns the polynomial zero.
     pub fn zero() -> Poly
         ensures { IsZero gf64 (coefficient_of result) }
     {
@@ -26,7 +26,7 @@ impl Poly {
         }
     }
 
-    /// Answers the polynomial of at most 64 coefficients, lowest first; the others are zero.
+    /// Returns the polynomial of at most 64 coefficients, lowest first; the others are zero.
     pub fn from_symbols(low_first: &[Sym]) -> Poly
         requires { length low_first.now ≤ 64 }
         ensures { (i : ℕ) → coefficient_of result i ≡ coefficient gf64 low_first.now i }
@@ -36,7 +36,7 @@ impl Poly {
         Poly { coefficients }
     }
 
-    /// Answers the coefficient of x^i, for i below 64.
+    /// Returns the coefficient of x^i, for i below 64.
     pub fn coefficient(&self, i: usize) -> Sym
         requires { i < 64 }
         ensures { result ≡ coefficient_of self.now i }
@@ -44,8 +44,8 @@ impl Poly {
         self.coefficients[i]
     }
 
-    /// Answers the degree, the largest exponent whose coefficient isn't zero, and None exactly for the
-    /// polynomial zero.
+    /// Returns the degree, the largest exponent whose coefficient is not zero, or `None` if and only if the polynomial
+    /// is zero.
     pub fn degree(&self) -> Option<usize>
         ensures none { IsNone result ↔ IsZero gf64 (coefficient_of self.now) }
         ensures some { IfSome result (IsDegree gf64 (coefficient_of self.now)) }
@@ -59,7 +59,7 @@ impl Poly {
         None
     }
 
-    /// Answers the value at x: the sum of coefficient times power of x.
+    /// Returns the value at x: the sum over the coefficients of coefficient times power of x.
     pub fn eval(&self, x: Sym) -> Sym
         ensures { result ≡ value_at gf64 64 (coefficient_of self.now) x }
     {
@@ -70,7 +70,7 @@ impl Poly {
         value
     }
 
-    /// Answers the sum, coefficient by coefficient. It is the difference too.
+    /// Returns the sum, coefficient by coefficient. It is also the difference.
     pub fn add(&self, other: &Poly) -> Poly
         ensures { (i : ℕ) → coefficient_of result i ≡ gf64.add (coefficient_of self.now i) (coefficient_of other.now i) }
     {
@@ -79,8 +79,8 @@ impl Poly {
         Poly { coefficients }
     }
 
-    /// Answers the product, where one of the polynomials is zero or the degrees add to less than 64: the
-    /// coefficient of x^n is the sum of the products of coefficients whose exponents add to n.
+    /// Returns the product. It requires that one of the polynomials is zero or that the degrees add to less than 64.
+    /// The coefficient of x^n is the sum of the products of coefficients whose exponents add to n.
     pub fn mul(&self, other: &Poly) -> Poly
         requires { (d e : ℕ) → IsDegree gf64 (coefficient_of self.now) d → IsDegree gf64 (coefficient_of other.now) e → d + e < 64 }
         ensures { (i : ℕ) → coefficient_of result i ≡ product_at gf64 (coefficient_of self.now) (coefficient_of other.now) i }
@@ -97,7 +97,7 @@ impl Poly {
         Poly { coefficients }
     }
 
-    /// Answers quotient and remainder by a polynomial that isn't zero: the polynomial is the divisor times the
+    /// Returns quotient and remainder by a polynomial other than zero. The polynomial is the divisor times the
     /// quotient, plus the remainder, whose degree is lower than the divisor's.
     pub fn divide(&self, by: &Poly) -> (Poly, Poly)
         requires { IsZero gf64 (coefficient_of by.now) → ⊥ }

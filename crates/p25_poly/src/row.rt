@@ -5,7 +5,7 @@ ghost use Rattle.std.specs.Prelude.{◌≡◌, ◌≢◌, ℕ, ◌<◌, ◌≤�
 use crate::multiples::add_multiple;
 use p25_gf64::Sym;
 
-/// The equation that the sum of cell times unknown is the right side.
+/// The equation that the sum over the cells of cell times unknown is the right side.
 #[derive(Clone, Copy, Debug, PartialEq, Eq)]
 pub(crate) struct Row {
     pub(crate) cells: [Sym; 24],
@@ -18,7 +18,7 @@ impl Row {
     ghost use Rattle.p25_algebra.specs.Series.{coefficient};
     ghost use Rattle.p25_poly.specs.LinearSystem.{IsMet, IsCleared, AgreeBut};
 
-    /// The row of zeros.
+    /// Returns the row of zeros.
     pub(crate) fn blank() -> Row
         ensures cells { (k : ℕ) → coefficient gf64 result.cells k ≡ gf64.zero }
     {
@@ -28,7 +28,7 @@ impl Row {
         }
     }
 
-    /// The first of so many columns whose cell isn't zero.
+    /// Returns the first of a number of columns whose cell is not zero.
     pub(crate) fn pivot(&self, columns: usize) -> Option<usize>
         requires { columns ≤ 24 }
         ensures none { IfNone result ((k : ℕ) → k < columns → coefficient gf64 self.now.cells k ≡ gf64.zero) }
@@ -43,7 +43,7 @@ impl Row {
         None
     }
 
-    /// The row without its cell in a column, by taking a multiple of the front row from it.
+    /// Returns the row without its cell in a column, by subtracting a multiple of the pivot row.
     pub(crate) fn cleared(&self, front: &Row, column: usize) -> Row
         requires inside { column < 24 }
         requires pivot { coefficient gf64 front.now.cells column ≢ gf64.zero }
@@ -66,7 +66,7 @@ impl Row {
         ensures met { IsMet (length unknowns.old) self.now (coefficient gf64 unknowns.new) }
         ensures others { AgreeBut column (coefficient gf64 unknowns.old) (coefficient gf64 unknowns.new) }
     {
-        // What the sum is short of at these unknowns.
+        // The difference of the right side and the sum at these unknowns.
         let mut residual = self.right;
         for k in 0..unknowns.len() {
             residual = residual.add(self.cells[k].mul(unknowns[k]));

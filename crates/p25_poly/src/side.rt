@@ -5,9 +5,10 @@ ghost use Rattle.std.specs.Prelude.{◌≡◌, ◌≢◌, ℕ, ◌+◌, ◌<◌,
 use crate::multiples::add_moved;
 use p25_gf64::Sym;
 
-/// A side: a rest, the factor whose product with the series gives it, and a bound on the degree of the rest. Both are
-/// coefficients, lowest first, after 32 zeros: so a side moved up by some places is a part of its list. Each step goes over 16 places
-/// of the factor, and over 16 or 32 of the rest: so many can be other than zero, and a compiler makes a vector of 16.
+/// A side: a remainder, the factor whose product with the series gives it, and a bound on the degree of the remainder.
+/// Both are coefficients, lowest first, after 32 zeros, so a side moved up by some positions is a part of its list.
+/// Each step goes over 16 positions of the factor and over 16 or 32 of the remainder. No others can be nonzero, and a
+/// compiler makes a vector of 16.
 #[derive(Clone, Copy, Debug)]
 pub(crate) struct Side {
     pub(crate) rest: [Sym; 64],
@@ -22,7 +23,7 @@ impl Side {
     ghost use Rattle.p25_algebra.specs.Series.{coefficient};
     ghost use Rattle.p25_poly.specs.Euclid.{behind, IsReduced};
 
-    /// The power of x with the factor 0.
+    /// Returns the power of x with the factor 0.
     pub(crate) fn power(exponent: usize) -> Side
         requires { exponent ≤ 22 }
         ensures at { behind result.rest exponent ≡ gf64.one }
@@ -39,7 +40,7 @@ impl Side {
         }
     }
 
-    /// The series with the factor 1.
+    /// Returns the series with the factor 1.
     pub(crate) fn series(symbols: &[Sym]) -> Side
         requires some { 1 ≤ length symbols.now }
         requires few { length symbols.now ≤ 22 }
@@ -62,7 +63,7 @@ impl Side {
         }
     }
 
-    /// The coefficient of the rest at its degree.
+    /// Returns the coefficient of the remainder at its degree.
     pub(crate) fn leading(&self) -> Sym
         requires { self.now.degree ≤ 22 }
         ensures { result ≡ behind self.now.rest self.now.degree }
@@ -70,8 +71,8 @@ impl Side {
         self.rest[32 + self.degree]
     }
 
-    /// Takes from this side the multiple of another, moved up to its degree, that takes its leading coefficient, and lowers its
-    /// degree by one.
+    /// Subtracts the multiple of another side, moved up to this side's degree, that cancels the leading coefficient,
+    /// and lowers the degree by one.
     pub(crate) fn reduce(&mut self, other: &Side)
         requires positive { 1 ≤ self.old.degree }
         requires inside { self.old.degree ≤ 22 }

@@ -9,9 +9,9 @@ use crate::elimination::solve_rows;
 use crate::matrix::Matrix;
 use p25_gf64::Sym;
 
-/// Sets `out` to a solution of the system and answers true, exactly where it has one. `right` has as
-/// many symbols as the matrix has rows, and `out` as many as it has columns. Where the answer is false,
-/// nothing is said of `out`.
+/// Writes to `out` a solution of the system and returns true, if and only if it has one. It requires that `right` has
+/// as many symbols as the matrix has rows, and `out` as many as it has columns. If the result is false, the contract
+/// leaves `out` open.
 pub fn solve(matrix: &Matrix, right: &[Sym], out: &mut [Sym]) -> bool
     requires right { length right.now ≡ row_count matrix.now }
     requires room { length out.old ≡ column_count matrix.now }

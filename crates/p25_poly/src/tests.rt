@@ -12,7 +12,7 @@ fn the_example_of_the_head(rt: HostRuntime) {
     assert_eq!(rt; product, wanted);
 }
 
-// Whether 1 + 2 x^2 has its degree, its coefficient, its value at 2, and twice itself as nothing.
+// Whether 1 + 2 x^2 has its degree, its coefficient and its value at 2, and twice itself is zero.
 fn is_told(two: Sym) -> bool {
     let poly = Poly::from_symbols(&[Sym::ONE, Sym::ZERO, two]);
     poly.degree() == Some(2)
@@ -27,7 +27,7 @@ fn degrees(rt: HostRuntime) {
     assert!(rt; Sym::new(2).is_some_and(is_told));
 }
 
-// Whether a polynomial is (1 + x) (1 + x + x^2) and a rest.
+// Whether a polynomial is (1 + x) (1 + x + x^2) plus a remainder.
 fn is_divided(dividend: &Poly, rest: &Poly) -> bool {
     let one = Sym::ONE;
     let by = Poly::from_symbols(&[one, one]);
@@ -136,7 +136,7 @@ const PRODUCTS: [(&[u8], &[u8], &[u8]); 3] = [
     (&[0, 0, 1], &[0, 63], &[0, 0, 0, 63]),
 ];
 
-// Whether the product of two polynomials is a third, which both divide; one more leaves a rest of 1.
+// Whether the product of two polynomials is a third, which both divide; one more leaves a remainder of 1.
 fn is_product(one: &Poly, other: &Poly, product: &Poly) -> bool {
     let (Some(first), Some(second)) = (one.degree(), other.degree()) else {
         return false;
@@ -173,7 +173,7 @@ fn values(rt: HostRuntime) {
     }
 }
 
-// The syndromes of one, two and three wrong symbols, and a locator and an evaluator for them.
+// The syndromes of one, two and three symbol errors, and a locator and an evaluator for them.
 const KEYS: [(&[u8], &[u8], &[u8]); 3] = [
     (&[40, 15], &[1, 8], &[40]),
     (&[18, 26, 26, 9], &[1, 56, 10], &[18, 59]),
