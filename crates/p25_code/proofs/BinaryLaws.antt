@@ -1,5 +1,5 @@
--- The words that a check matrix lets pass, where its last columns are check columns: they are the systematic words, and a
--- computed test of all information gives their least distance.
+-- The words that pass a check matrix, if its last columns are check columns: they are the systematic words, and a computed test of all information
+-- gives their least distance.
 use Rattle.std.proofs.Common.{◌≡◌, ◌≢◌, ◌⊎◌, ℕ, ◌+◌, ◌-◌, ◌^◌, ◌<◌, ◌≤◌, inl, inr, Bool, true, false, cond, eqb, ltb, leb, List, ◌∷◌, ◌++◌, length, take, drop, bit_xor, ap, ap₂, sym, ◌∙◌, subst, arith, length-append, take-append-drop, length-drop}
 use Rattle.std.proofs.{Math.Nat.{mod-eq_of_lt}, Math.Seq.{take-append_seam, drop-append_seam}, lemmas.List.{length-take-le}, lemmas.Bool.{cases_eq, and_parts, or_cases, eqb-true, leb-true, ltb-true}}
 use Rattle.std.proofs.lemmas.Nat.{xor_lt, pow_pos}

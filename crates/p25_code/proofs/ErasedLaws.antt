@@ -1,5 +1,5 @@
--- Lists with erasures: a word within the cost of one is the only one, by the way round from word to list to word, on which each erasure
--- counts one; and a list without an erasure is read as what was received.
+-- Lists with erasures. A codeword within the cost of a list is the only one: on the way from one codeword to the list to another each erasure counts
+-- one. A list without an erasure is decoded like the received word.
 use Rattle.std.proofs.Common.{◌≡◌, ℕ, zero, suc, ◌+◌, ◌*◌, ◌<◌, ◌≤◌, Bool, true, false, cond, List, [], ◌∷◌, ◌++◌, length, map, replicate, Option, Some, None, All, ap, ap₂, sym, ◌∙◌, subst, refl, arith}
 use Rattle.p25_bits.specs.Distance.{distance_by}
 use Rattle.p25_bits.proofs.DistanceLaws.{cond-le}

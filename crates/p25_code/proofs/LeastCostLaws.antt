@@ -1,5 +1,5 @@
--- What pairs of bits cost. A cost is a sum over parts of a word, so that of a word of 24 bits is one over its groups of six; bits before a word
--- whose pairs cost nothing change none. A word whose pairs each cost less than any other value of the pair costs less than any other list.
+-- The costs of pairs of bits. A cost is a sum over parts of a word, so that of a word of 24 bits is one over its groups of six. Bits before a word
+-- whose pairs cost nothing change no cost. A word whose pairs each cost less than any other value of the pair costs less than any other list.
 use Rattle.std.proofs.Common.{◌≡◌, ◌≢◌, ℕ, zero, suc, ◌+◌, ◌-◌, ◌*◌, ◌/◌, ◌%◌, ◌^◌, ◌<◌, ◌≤◌, ◌⊎◌, inl, inr, Bool, true, false, List, [], ◌∷◌, ◌++◌, length, take, drop, replicate, get_or, refl, ap, ap₂, sym, ◌∙◌, subst, arith, add-one, All, length-append, length-drop, mod-eq_of_lt}
 use Rattle.std.proofs.{Math.Nat.{mul-suc, mul-le-mul_left, mul-add, pow-le-pow_right}, lemmas.Bool.{cases_lt}, lemmas.Nat.{shl_whole}}
 use borrow.Rule.Slice.PartMut.{put_mid}

@@ -1,4 +1,4 @@
--- Words that are read as numbers: by the wrong bits of what was received, and what a reader of bits makes of them.
+-- Decoding of words as numbers: by the bit errors of the received word, and the result as bits.
 use Rattle.std.proofs.Common.{◌≡◌, ℕ, ◌^◌, ◌<◌, ◌≤◌, Bool, List, length, Option, Some, None, bit_xor, refl, ap, ap₂, sym, ◌∙◌, arith, mod-eq_of_lt, ◌/◌, ◌%◌, bit_or, ◌+◌, ◌-◌, ◌*◌}
 use Rattle.std.proofs.{Math.Nat.{mul_comm}, lemmas.Nat.{mod_below, shr_below, pow-add, mul-add-lt, or_shifted, shl_whole, xor_lt, pow_pos, ones_le_self, zero_from_ones}}
 use Rattle.std.specs.{Bool.{beq}, Int.Bits.{xor_self, xor_zero_r}, Int.RustNames.{count_ones}, Option.{MatchOption, option_map}}

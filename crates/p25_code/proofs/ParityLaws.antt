@@ -1,4 +1,4 @@
--- Checks that are sums of other checks, and a parity beside other checks.
+-- Checks that are sums of other checks, and a parity besides other checks.
 use Rattle.std.proofs.Common.{◌≡◌, ℕ, zero, suc, ◌+◌, ◌*◌, ◌%◌, ◌<◌, Bool, true, false, cond, eqb, List, [], ◌∷◌, length, map, bit_xor, refl, ap, ap₂, sym, ◌∙◌, arith}
 use Rattle.std.proofs.lemmas.Nat.Bits.{bit_at_xor, bit_at-lt}
 use Rattle.std.specs.{Int.{bit_at}, Int.Bits.{xor_zero_l}}

@@ -1,4 +1,4 @@
--- What follows from the laws of a block code: a reading leaves the word within the radius and no other.
+-- Consequences of the laws of a block code: decoding leaves the codeword within the correction radius and no other.
 use Rattle.std.proofs.{Common.{◌≡◌, ◌≢◌, ℕ, ◌+◌, ◌<◌, ◌≤◌, inl, inr, Bool, true, List, length, Option, Some, None, ap, sym, ◌∙◌, subst, refl, arith}, lemmas.Bool.{cases_eq}}
 use Rattle.p25_bits.specs.Distance.{distance_by}
 use Rattle.p25_bits.proofs.DistanceLaws.{distance_by-same, distance_by-sym, distance_by-triangle, same_from_distance_by}

@@ -1,4 +1,4 @@
--- Columns that are remainders of powers by a generator: a word passes exactly where its polynomial is divisible.
+-- Columns that are remainders of powers by a generator: a word passes if and only if its polynomial is divisible.
 use Rattle.std.proofs.{Common.{◌≡◌, ℕ, zero, suc, ◌+◌, ◌*◌, ◌^◌, ◌<◌, ◌≤◌, inl, inr, Bool, true, false, cond, ltb, List, [], ◌∷◌, length, bit_xor, ap, ◌∙◌, subst, arith}, Math.Nat.{pow-suc}}
 use Rattle.std.proofs.{lemmas.Bool.{cases_lt, cond_below, cond_above}, lemmas.Nat.{pow_pos}}
 use Rattle.p25_bits.specs.{Bits.{field_of}, Divisible.{IsDivisible, HasDegree, IsRemainder}}

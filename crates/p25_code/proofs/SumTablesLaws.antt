@@ -1,4 +1,4 @@
--- Tables of the sums of all choices of rows: where a table holds them, in the order of numbers, the entry of a number is its sum.
+-- Tables of the sums of all choices of rows: if a table holds them in the order of numbers, the entry of a number is its sum.
 use Rattle.std.proofs.Common.{◌≡◌, ℕ, ◌^◌, ◌<◌, List, length, get_or}
 use Rattle.p25_bits.specs.Numbers.{each_below}
 use Rattle.p25_bits.proofs.NumbersLaws.{get_or-each_below}

@@ -1,4 +1,4 @@
--- Laws of syndromes: sums of columns at the places where a word is 1. By induction on the columns and the bits.
+-- Laws of syndromes: sums of columns at the positions at which a word is 1. By induction on the columns and the bits.
 use Rattle.std.proofs.{Common.{◌≡◌, ℕ, zero, suc, ◌+◌, ◌*◌, ◌^◌, ◌<◌, Bool, true, false, cond, List, [], ◌∷◌, ◌++◌, length, bit_xor, refl, ap, ap₂, sym, ◌∙◌, arith}, lemmas.Nat.{xor_block, pow_pos}}
 use Rattle.std.specs.{Bool.{beq}, Int.Bits.{xor_assoc, xor_self, xor_zero_l, xor_zero_r}}
 use Rattle.p25_bits.specs.Bits.{digit_of, field_of}

@@ -1,4 +1,4 @@
--- What makes a systematic binary code of a set of words: the test of its table, and that its words are those that the rows let pass.
+-- The conditions for a systematic binary code of a set of codewords: the test of its table, and that its codewords are the words that pass the rows.
 use Rattle.std.specs.{Prelude.{ℕ, ◌-◌, ◌++◌, Bool, List}, Bool.{beq}}
 use Rattle.p25_code.specs.{Binary.{IsChecked, check_columns}, CodeLaws.{IsCheckedCode, IsSystematic, radius_of}}
 use Rattle.p25_code.specs.Readings.{IsReadAs-reading_of, Tested, bits_searched, reading_of, tested_as}

@@ -1,5 +1,5 @@
--- Which bits are wrong, by their sum: those of a word are those of its information and of its check bits, at most one wrong bit of
--- information is one row or none, and where two lists of rows undo each other the two halves of a word may change places.
+-- The bit errors by their sum. Those of a word are those of its information and of its check bits; at most one bit error of the information is one
+-- row or none. If two lists of rows invert each other, the two halves of a word may be exchanged.
 use Rattle.std.proofs.Common.{◌≡◌, ◌⊎◌, ℕ, zero, suc, ◌+◌, ◌-◌, ◌*◌, ◌/◌, ◌%◌, ◌^◌, ◌<◌, ◌≤◌, inl, inr, true, cond, eqb, ltb, List, [], ◌∷◌, ◌++◌, length, map, get_or, Option, Some, None, bit_or, bit_xor, refl, ap, ap₂, sym, ◌∙◌, subst, arith, length-append, mod-eq_of_lt}
 use Rattle.std.proofs.{Math.Nat.{pow-suc, mul_comm}, lemmas.Bool.{cases_lt, and_parts, ltb-true}}
 use Rattle.std.proofs.lemmas.Nat.{xor_comm, ones_cat, zero_from_ones, pow_pos, pow-add, pow_below, shr_high, mod_low, shr_split, shr_below, mod_below, mul-add-lt, one_shl, or_shifted, shl_whole}

@@ -20,16 +20,16 @@ unfoldable pub all_bits : ℕ → (List Bool → Bool) → Bool
 all_bits zero test = test []
 all_bits (suc n) test = all_bits n (λ bits. test (true ∷ bits)) && all_bits n (λ bits. test (false ∷ bits))
 
--- the information is nothing but zeros, or the systematic word is heavy
+-- the information is zeros alone, or the systematic word is heavy
 unfoldable pub is_heavy : List ℕ → ℕ → ℕ → List Bool → Bool
 is_heavy rows checks apart info = weight_of info == 0 || nat_le apart (weight_of (systematic rows checks info))
 
--- the radius of a least distance: within it of any list is one word at most
+-- the correction radius of a least distance: at most one codeword lies within it of any list
 abbrev pub radius_of : ℕ → ℕ
 radius_of d = (d - 1) / 2
 
--- what the tests of a table of rows say of a code (n,k,d): the rows fit, no word but that of zeros is light, and the numbers are those of
--- a small code
+-- the facts that the tests of a table of rows establish for a code (n,k,d): the rows fit, no codeword but that of zeros is light, and the numbers are
+-- those of a small code
 pub record IsSystematic (rows : List ℕ) (n k d : ℕ) : Type 0 where
   pub rows_long : length rows ≡ k
   pub fit : rows_fit (n - k) rows ≡ true
@@ -39,8 +39,8 @@ pub record IsSystematic (rows : List ℕ) (n k d : ℕ) : Type 0 where
   pub few_checks : n - k ≤ 16
   pub some : 0 < d
 
--- what is known of words by the rows of their check bits: they are what the check matrix lets pass, and a block code that a function reads;
--- the systematic words are its encodings
+-- the laws of a set of codewords by the rows of their check bits: they are the words that pass the check matrix, and a block code that a function
+-- decodes; the systematic words are its encodings
 pub record IsCheckedCode (n k d : ℕ) (rows : List ℕ) (IsWord : List Bool → Type 0) : Type 0 where
   pub table : IsSystematic rows n k d
   pub passes : (word : List Bool) → IsWord word → IsChecked (rows ++ check_columns (n - k)) word
@@ -50,7 +50,7 @@ pub record IsCheckedCode (n k d : ℕ) (rows : List ℕ) (IsWord : List Bool →
   pub reading : List Bool → Option (List Bool)
   pub reads : (received : List Bool) → IsReadAs beq IsWord (radius_of d) received (reading received)
 
--- a systematic binary code (n,k,d): the check bits of the messages with one 1, in order, its words, and what is known of them
+-- a systematic binary code (n,k,d): the check bits of the messages with a single 1, in order, its codewords, and their laws
 pub record SystematicCode (n k d : ℕ) : Type 1 where
   pub rows : List ℕ
   pub IsWord : List Bool → Type 0
@@ -60,6 +60,6 @@ pub record SystematicCode (n k d : ℕ) : Type 1 where
 abbrev pub columns_of : {n k d : ℕ} → SystematicCode n k d → List ℕ
 columns_of {n} {k} {d} code = code.rows ++ check_columns (n - k)
 
--- its parameters, as code has them
+-- its parameters, as the type `Parameters` of the code
 abbrev pub parameters_of : {n k d : ℕ} → SystematicCode n k d → Parameters
 parameters_of {n} {k} {d} code = record { n = n; k = k; d = d }

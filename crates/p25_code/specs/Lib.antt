@@ -6,5 +6,5 @@ pub mod Erasures
 pub mod ErasedReadings
 pub mod WrongBits
 pub mod LeastCost
--- laws of impls: nothing to believe
+-- laws of impls, with no definition to trust
 pub mod CodeLaws

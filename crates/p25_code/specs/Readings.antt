@@ -1,14 +1,14 @@
--- Readings as functions: of what was received, the word of the set within the radius, or none where no word is that near.
+-- Decoding as functions of the received word: the codeword of the set within the correction radius, or none if no codeword is that near.
 use Rattle.std.specs.Prelude.{◌≡◌, ◌⊎◌, ℕ, zero, suc, ◌<◌, ◌≤◌, Bool, true, false, List, [], ◌∷◌, length, Option, Some, None, refl}
 use Rattle.std.proofs.{Common.{ap, subst, inl, inr, arith}, lemmas.Bool.{cases_lt}}
 use Rattle.p25_bits.specs.Distance.{distance_by}
 use Rattle.p25_code.specs.{declared.code.Reading.{Reading}, declared.code.Reading.TheVariants.{Found, Beyond}, Words.{NoneWithin}}
 
--- a condition that can be tested
+-- a condition that can be decided
 abbrev pub Tested : {X : Type 0} → (X → Type 0) → Type 0
 Tested {X} P = (x : X) → P x ⊎ ¬ P x
 
--- letters that can be searched: of each condition that can be tested, some letter meets it or none does
+-- letters that can be searched: for each condition that can be decided, some letter meets it or none does
 abbrev pub Searched : Type 0 → Type 1
 Searched L = (P : L → Type 0) → Tested P → ((x : L) × P x) ⊎ ((x : L) → ¬ P x)
 
@@ -27,7 +27,7 @@ bits_searched P test =
     neither first second true = first
     neither first second false = second
 
--- two conditions together, and a bound, can be tested
+-- two conditions together, and a bound, can be decided
 pub both_tested : {X : Type 0} (P Q : X → Type 0) → Tested P → Tested Q → Tested (λ x. P x × Q x)
 both_tested P Q first second x =
     elim (first x) [
@@ -38,7 +38,7 @@ both_tested P Q first second x =
 pub le_tested : {X : Type 0} (f : X → ℕ) (most : ℕ) → Tested (λ x. f x ≤ most)
 le_tested f most x = elim (cases_lt most (f x)) [ inl more ↦ inr (λ within. omega arith) | inr within ↦ inl within ]
 
--- a condition that says the same as one that can be tested
+-- a condition that is equivalent to one that can be decided
 pub tested_as : {X : Type 0} (P Q : X → Type 0) → ((x : X) → P x → Q x) → ((x : X) → Q x → P x) → Tested P → Tested Q
 tested_as P Q to from test x = elim (test x) [ inl met ↦ inl (to x met) | inr other ↦ inr (λ met. other (from x met)) ]
 
@@ -70,7 +70,7 @@ list_or_none {L} letters (suc n) P test =
     none without [] long met = absurd (omega arith)
     none without (x ∷ word) long met = without x (word, (omega arith, met))
 
--- some list of so many letters that meets a condition, or none where no list meets it
+-- some list of so many letters that meets a condition, or none if no list meets it
 unfoldable pub IsListWhere : {L : Type 0} → ℕ → (List L → Type 0) → Option (List L) → Type 0
 IsListWhere n P (Some word) = (length word ≡ n) × P word
 IsListWhere {L} n P None = (word : List L) → length word ≡ n → ¬ P word
@@ -87,12 +87,12 @@ IsListWhere-list_where letters n P test =
       | inr without ↦ without
     ]
 
--- the word of a set, of n letters, that costs at most so much, or none where every word costs more
+-- the codeword of a set, of n letters, that costs at most a given number, or none if every codeword costs more
 pub word_within : {L : Type 0} → Searched L → (IsWord : List L → Type 0) → Tested IsWord → (n : ℕ) (cost : List L → ℕ) (most : ℕ) → Option (List L)
 word_within letters IsWord test n cost most =
     list_where letters n (λ word. IsWord word × (cost word ≤ most)) (both_tested IsWord (λ word. cost word ≤ most) test (le_tested cost most))
 
--- that word as a value
+-- that codeword as a value
 unfoldable pub IsWordWithin : {L : Type 0} → (List L → Type 0) → (List L → ℕ) → ℕ → Option (List L) → Type 0
 IsWordWithin IsWord cost most (Some word) = IsWord word × (cost word ≤ most)
 IsWordWithin {L} IsWord cost most None = (word : List L) → IsWord word → most < cost word
@@ -111,8 +111,8 @@ IsWordWithin-word_within {L} letters IsWord test n cost most long =
     read (Some word) is = is.1
     read None is = λ word w. elim (cases_lt most (cost word)) [ inl dear ↦ dear | inr cheap ↦ absurd (is word (long word w) (w, cheap)) ]
 
--- to prove a property of what is read: prove it of each word of the set that costs at most so much, and of None where every word costs
--- more
+-- to prove a property of the decoded word, prove it of each codeword of the set that costs at most the given number, and of None if every codeword
+-- costs more
 pub word_within-meets : {L : Type 0} (letters : Searched L) (IsWord : List L → Type 0) (test : Tested IsWord) (n : ℕ) (cost : List L → ℕ) (most : ℕ)
     → ((word : List L) → IsWord word → length word ≡ n) → (P : Option (List L) → Type 0)
     → ((word : List L) → IsWord word → cost word ≤ most → P (Some word)) → (((word : List L) → IsWord word → most < cost word) → P None)
@@ -125,22 +125,22 @@ word_within-meets {L} letters IsWord test n cost most long P some none =
     read (Some word) is = some word is.0 is.1
     read None is = none is
 
--- a word of the set lies within the radius of what was received
+-- a codeword of the set lies within the correction radius of the received word
 pub record IsNear {L : Type 0} (same : L → L → Bool) (IsWord : List L → Type 0) (radius : ℕ) (received word : List L) : Type 0 where
   pub word_of_set : IsWord word
   pub within : distance_by same received word ≤ radius
 
--- a reading as a value: a word of the set within the radius, or none exactly where no word is that near
+-- a decoding as a value: a codeword of the set within the correction radius, or none if and only if no codeword is that near
 unfoldable pub IsReadAs : {L : Type 0} → (L → L → Bool) → (List L → Type 0) → ℕ → List L → Option (List L) → Type 0
 IsReadAs same IsWord radius received (Some word) = IsNear same IsWord radius received word
 IsReadAs same IsWord radius received None = NoneWithin same IsWord radius received
 
--- what a reader answers and leaves, as that value
+-- the result of a decoder and the word that it leaves, as that value
 unfoldable pub word_read : {L : Type 0} → Reading → List L → Option (List L)
 word_read (Found fixes) word = Some word
 word_read Beyond word = None
 
--- the reading of what was received, for a set of words of n letters
+-- the decoding of a received word, for a set of codewords of n letters
 pub reading_of : {L : Type 0} → Searched L → (L → L → Bool) → (IsWord : List L → Type 0) → Tested IsWord → (n radius : ℕ) → List L → Option (List L)
 reading_of letters same IsWord test n radius received = word_within letters IsWord test n (distance_by same received) radius
 

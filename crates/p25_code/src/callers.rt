@@ -1,4 +1,4 @@
-//! What any block code gives its callers, proved from the trait alone.
+//! The properties that every block code gives its callers, proved from the trait alone.
 
 ghost use Rattle.std.specs.Prelude.{◌≡◌, ◌*◌, ◌-◌, ◌≤◌, List, false, length, All};
 ghost use Rattle.p25_bits.specs.Distance.{distance_by};
@@ -6,8 +6,8 @@ ghost use Rattle.p25_code.specs.{Words.{IsReading}, Readings.{word_read}, Erasur
 
 use crate::code::{BlockCode, ErasedCode, Reading};
 
-/// Reads a received word. Wherever a word of the code lies within the radius of what was received, exactly that word is
-/// left, and the answer is Found with the distance between the two.
+/// Decodes a received word. If a codeword lies within the correction radius of the received word, exactly that codeword
+/// is left, and the result is `Found` with the distance between the two.
 pub fn read_received<C: BlockCode>(word: &mut [C::Letter]) -> Reading
     requires code { C.HasCode }
     requires word { length word.old ≡ C.N }
@@ -20,9 +20,9 @@ pub fn read_received<C: BlockCode>(word: &mut [C::Letter]) -> Reading
     C::read(word)
 }
 
-/// Reads a received word of which some letters are erased. Wherever a word of the code costs at most N - K, two for each
-/// wrong letter that is not erased and one for each erased one, exactly that word is left. Where nothing is erased and
-/// twice the radius is N - K, the answer and what is left are those of `read_received`.
+/// Decodes a received word with some erased letters. If a codeword costs at most N - K, two for each wrong letter that
+/// is not erased and one for each erased letter, exactly that codeword is left. If nothing is erased and twice the
+/// radius is N - K, the result and the letters left are those of `read_received`.
 pub fn read_with_erasures<C: ErasedCode>(word: &mut [C::Letter], erased: &[bool]) -> Reading
     requires code { C.HasCode }
     requires word { length word.old ≡ C.N }

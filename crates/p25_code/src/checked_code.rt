@@ -6,9 +6,9 @@ use crate::code::{BlockCode, Reading};
 use crate::number_code::{NumberCode, put_reading};
 use p25_bits::{number_of, put_number};
 
-/// The three numbers by which the standard names a code, as in Golay (24,12,8): a word has n bits, of which the first k are the information,
-/// and any two words differ in at least d bits. So n - k check bits stand behind the information, and the radius, the most wrong bits that
-/// are corrected, is (d - 1) / 2, rounded down.
+/// The three parameters by which the standard names a code, as in Golay (24,12,8). A codeword has n bits, the first k
+/// of which are the information, and any two codewords differ in at least d bits. So n - k check bits follow the
+/// information. The correction radius, the most bit errors that are corrected, is (d - 1) / 2, rounded down.
 #[derive(Clone, Copy, Debug, PartialEq, Eq)]
 pub struct Parameters {
     pub n: usize,
@@ -16,29 +16,30 @@ pub struct Parameters {
     pub d: usize,
 }
 
-/// A systematic binary code of at most 32 bits, by its check bits: the information, and then at most 16 bits, the sum over GF(2) of
-/// the rows at whose places the information is 1. A type that says which check bits those are, and which bits are wrong where others
-/// were received, is a `BlockCode` and a `NumberCode`.
+/// A systematic binary code of at most 32 bits, by its check bits. The information is followed by at most 16 check
+/// bits, the sum over GF(2) of the rows at whose positions the information is 1. A type that computes the check bits
+/// and the bit errors of a syndrome is a `BlockCode` and a `NumberCode`.
 pub trait CheckedCode {
     ghost use Rattle.p25_code.specs.{declared.checked_code.Parameters.{Parameters}, CodeLaws.{SystematicCode, columns_of, radius_of}};
     ghost use Rattle.p25_code.specs.WrongBits.{number_sum, AreWrong, NoneWrong};
 
-    /// How many bits a word has, how many of them are information, and the least distance.
+    /// The number of bits of a codeword, the number of its information bits, and the least distance.
     const PARAMETERS: Parameters;
 
     ghost PARAMETERS: { Parameters };
 
-    // The words of the code by the rows of their check bits, and what is known of them.
+    // The codewords by the rows of their check bits, and their laws.
     ghost code: { SystematicCode PARAMETERS.n PARAMETERS.k PARAMETERS.d };
 
-    /// Answers the check bits of the information, the first the highest.
+    /// Returns the check bits of the information, the first bit highest.
     fn check_bits(info: u32) -> u16
         requires { info < 2 ^ PARAMETERS.k }
         ensures { result ≡ number_sum code.rows info };
 
-    /// Answers the wrong bits of a word by its syndrome, the sum over GF(2) of the received check bits and those of the received
-    /// information: a number of as many bits as the word, the first the highest, with a 1 for each of at most as many wrong bits as the
-    /// radius says. None comes exactly where no such bits make that syndrome.
+    /// Returns the bit errors of a word by its syndrome, the sum over GF(2) of the received check bits and those of the
+    /// received information. They are a number of as many bits as the word, the first bit highest, with a 1 for each
+    /// bit error, at most as many as the correction radius. `None` is returned if and only if no such bit errors have
+    /// that syndrome.
     fn wrong_bits(syndrome: u16) -> Option<u32>
         requires { syndrome < 2 ^ (PARAMETERS.n - PARAMETERS.k) }
         ensures { let radius = radius_of PARAMETERS.d in

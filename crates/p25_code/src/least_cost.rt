@@ -1,7 +1,7 @@
-//! Words read by what their bits cost (soft decisions).
+//! Decoding by the costs of bits (soft decisions).
 //!
-//! The bits of a word come in pairs. Costs are four numbers for each pair, in the order of the pairs: what it costs to be 00, 01, 10 and
-//! 11. A word costs the sum over its pairs.
+//! The bits of a word come in pairs. Costs are four numbers for each pair, in the order of the pairs: the costs of 00,
+//! 01, 10 and 11. The cost of a word is the sum over its pairs.
 
 ghost use Rattle.std.specs.Prelude.{◌≡◌, ◌≢◌, ℕ, ◌+◌, ◌*◌, ◌-◌, ◌/◌, ◌^◌, ◌<◌, ◌≤◌, ◌++◌, List, Bool, All, IfSome, length, drop, replicate, slice_index};
 ghost use Rattle.p25_bits.specs.{Bits.{bits_of}, Least.{least_beside}};
@@ -15,7 +15,7 @@ const COSTS: usize = 48;
 // The number of sums over groups of six bits: 64 for each of four groups.
 const SUMS: usize = 256;
 
-// The value of a pair of bits that costs less than any other, if one does.
+// Returns the value of a pair of bits that costs less than any other, if there is one.
 fn least_value(costs: &[u32]) -> Option<u32>
     requires { 4 ≤ length costs.now }
     ensures { IfSome result (λ value. (value < 4) × ((other : ℕ) → other < 4 → other ≢ value → slice_index costs.now value < slice_index costs.now other)) }
@@ -34,7 +34,7 @@ fn least_value(costs: &[u32]) -> Option<u32>
     }
 }
 
-// The bits that cost less than any others, as a number, if some do.
+// Returns the bits that cost less than any others, as a number, if there are such bits.
 fn hard_word(costs: &[u32]) -> Option<u32>
     requires few { length costs.now ≤ 48 }
     requires pairs { 4 * (length costs.now / 4) ≡ length costs.now }
@@ -47,7 +47,7 @@ fn hard_word(costs: &[u32]) -> Option<u32>
     Some(word)
 }
 
-// The costs of 24 bits that end in those that have costs: the bits before them cost nothing.
+// Returns the costs of 24 bits that end in those with costs: the bits before them cost nothing.
 fn padded(costs: &[u32]) -> [u32; COSTS]
     requires few { length costs.now ≤ 48 }
     requires low { All (λ cost. cost ≤ 2 ^ 16) costs.now }
@@ -60,7 +60,7 @@ fn padded(costs: &[u32]) -> [u32; COSTS]
     all
 }
 
-// What a value of a group of six bits costs: `at` is the value and 64 times the place of the group.
+// Returns the cost of a value of a group of six bits: `at` is the value plus 64 times the position of the group.
 fn group_cost(costs: &[u32], at: usize) -> u32
     requires at { at < 256 }
     requires costs { length costs.now ≡ 48 }
@@ -72,7 +72,7 @@ fn group_cost(costs: &[u32], at: usize) -> u32
     costs[first + at / 16 % 4] + costs[first + 4 + at / 4 % 4] + costs[first + 8 + at % 4]
 }
 
-// What each value of each group of six bits costs, of 24 bits that end in those that have costs.
+// Returns the cost of each value of each group of six bits, for 24 bits that end in those with costs.
 fn group_sums(costs: &[u32]) -> [u32; SUMS]
     requires few { length costs.now ≤ 48 }
     requires low { All (λ cost. cost ≤ 2 ^ 16) costs.now }
@@ -88,7 +88,7 @@ fn group_sums(costs: &[u32]) -> [u32; SUMS]
     sums
 }
 
-// What the word of an information costs, by the sums over its groups.
+// Returns the cost of the codeword of an information, by the sums over its groups.
 fn cost_by<C: NumberCode>(sums: &[u32; SUMS], info: u32) -> u32
     requires code { C.HasCode }
     requires pairs { 2 * (C.N / 2) ≡ C.N }
@@ -106,7 +106,7 @@ fn cost_by<C: NumberCode>(sums: &[u32; SUMS], info: u32) -> u32
         + sums[192 + word % 64]
 }
 
-// The information of the word whose bits cost less than any others, if the code has that word.
+// Returns the information of the word whose bits cost less than any others, if that is a codeword.
 fn hard_information<C: NumberCode>(costs: &[u32]) -> Option<u32>
     requires code { C.HasCode }
     requires pairs { 2 * (C.N / 2) ≡ C.N }
@@ -123,9 +123,10 @@ fn hard_information<C: NumberCode>(costs: &[u32]) -> Option<u32>
     }
 }
 
-/// Returns the information of the word of the code that costs least, as a number. Of several such words it is the one whose
-/// information is the lowest number. `costs` has four numbers for each pair of bits, what it costs to be 00, 01, 10 and 11. If the costs
-/// tell pairs of bits apart by a margin, a word of the code that costs less than the margin times the least distance is that word.
+/// Returns the information of the codeword that costs least, as a number. If several codewords cost least, it is the
+/// lowest such number. It requires four numbers in `costs` for each pair of bits, the costs of 00, 01, 10 and 11. If
+/// the costs separate the values of pairs by a margin, a codeword that costs less than the margin times the least
+/// distance is the result.
 pub fn cheapest<C: NumberCode>(costs: &[u32]) -> u32
     requires code { C.HasCode }
     requires pairs { 2 * (C.N / 2) ≡ C.N }
@@ -154,15 +155,15 @@ pub fn cheapest<C: NumberCode>(costs: &[u32]) -> u32
     best
 }
 
-/// What a word costs, and the least that any other word of its code costs.
+/// The cost of a codeword, and the least cost of any other codeword of its code.
 #[derive(Clone, Copy, Debug, PartialEq, Eq)]
 pub struct Margin {
     pub least: u32,
     pub second: u32,
 }
 
-/// Returns what the word of an information costs, and the least that any other word of the code costs. `costs` has four numbers for
-/// each pair of bits, what it costs to be 00, 01, 10 and 11.
+/// Returns the cost of the codeword of an information, and the least cost of any other codeword. It requires four
+/// numbers in `costs` for each pair of bits, the costs of 00, 01, 10 and 11.
 pub fn cost_margin<C: NumberCode>(costs: &[u32], info: u32) -> Margin
     requires code { C.HasCode }
     requires pairs { 2 * (C.N / 2) ≡ C.N }

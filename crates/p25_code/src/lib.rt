@@ -1,8 +1,8 @@
-//! Block codes: what an encoder and a reader of one promise, whatever the code and however it finds its words.
+//! Block codes: the contracts of their encoders and decoders, for any code and any decoding method.
 //!
-//! A code is a type with an `impl BlockCode`. A word is a slice of N letters, the first letter first; its first K letters
-//! are the information. `encode` makes the word of some information, and `read` brings a received word back to the word
-//! of the code that lies within the radius:
+//! A code is a type with an `impl BlockCode`. A codeword is a slice of N letters, the first letter first; its first K
+//! letters are the information. `encode` makes the codeword of an information. `read` corrects a received word to the
+//! codeword within the correction radius:
 //!
 //! ```
 //! let mut word = [false; 10];
@@ -11,18 +11,21 @@
 //! assert_eq!(rt; Hamming10::read(&mut word), Reading::Found { fixes: 1 });
 //! ```
 //!
-//! `read` corrects as many wrong letters as the radius says, always, and never more: what lies further from every word
-//! is answered as `Beyond` and left as it was received. The codes of the air interface are in TIA-102.BAAA; the words
-//! radius, least distance and bounded-distance reading are those of any textbook of coding theory.
+//! `read` always corrects as many wrong letters as the correction radius, and never more. A word farther from every
+//! codeword is uncorrectable: `Beyond` is returned, and the word is left as it was received. The codes of the air
+//! interface are in TIA-102.BAAA; correction radius, least distance and bounded-distance decoding are terms of any
+//! textbook of coding theory.
 //!
-//! `read_received` says what this comes to for any code, proved from the trait alone. An `ErasedCode` also reads words of
-//! which some letters are not known; `read_with_erasures` says what that comes to.
-//! `cheapest` reads a codeword of a `NumberCode` from what its bits cost (soft decisions), and `cost_margin` says how sure it is.
-//! The words of a `NumberCode` are bits and numbers too. A small binary code says its check bits and which bits are wrong by the
-//! syndrome, and is both by `CheckedCode`; `wrong_by_rows` and `wrong_by_halves` find those bits without a search.
+//! `read_received` states the consequences for any code, proved from the trait alone. An `ErasedCode` also decodes
+//! words with erased letters, and `read_with_erasures` states the consequences of that. `cheapest` decodes a codeword
+//! of a `NumberCode` from the costs of its bits (soft decisions), and `cost_margin` returns how certain it is. The
+//! codewords of a `NumberCode` are both bits and numbers.
 //!
-//! Contracts see a reading as a function of what was received: the word of the code within the radius, or none. Its law,
-//! `reads_as`, is all that is known of it, and only one answer meets that law.
+//! A small binary code defines its check bits and the bit errors of each syndrome, and becomes both by `CheckedCode`.
+//! `wrong_by_rows` and `wrong_by_halves` find those bit errors without a search.
+//!
+//! Contracts see decoding as a function of the received word: the codeword within the correction radius, or none. Its
+//! law, `reads_as`, is all that a caller can use, and exactly one function satisfies it.
 #![tactic(auto)]
 
 mod callers;

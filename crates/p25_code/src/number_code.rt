@@ -1,4 +1,4 @@
-//! Binary codes whose words are numbers too.
+//! Binary codes whose codewords are also numbers.
 
 ghost use Rattle.std.specs.Prelude.{◌≡◌, ◌^◌, ◌<◌, ◌≤◌, Bool, List, length, IfSome, MatchOption};
 ghost use Rattle.p25_bits.specs.{Bits.{bits_of, field_of}, Distance.{distance_of}};
@@ -6,35 +6,35 @@ ghost use Rattle.p25_bits.specs.{Bits.{bits_of, field_of}, Distance.{distance_of
 use crate::code::{BlockCode, Reading};
 use p25_bits::put_number;
 
-/// A binary block code whose words and information are numbers too, of at most 32 bits, the first bit highest.
+/// A binary block code whose codewords and information are also numbers, of at most 32 bits, the first bit highest.
 pub trait NumberCode: BlockCode<Letter = bool> {
     ghost use Rattle.std.specs.Option.{option_map};
     ghost use Rattle.p25_code.specs.Words.{IsEncoding};
 
-    /// Answers the one word of the code whose first K bits write `info`.
+    /// Returns the one codeword whose first K bits write `info`.
     fn encode_number(info: u32) -> u32
         requires code { Self.HasCode }
         requires info { info < 2 ^ Self.K }
         ensures encoding { bits_of Self.N result ≡ Self.encoding_is (bits_of Self.K info) }
         ensures fits { result < 2 ^ Self.N };
 
-    /// Answers the word of the code that lies within the radius of a received one (bounded-distance decoding). None comes
-    /// exactly where there is none.
+    /// Returns the codeword within the correction radius of a received word (bounded-distance decoding). `None` is
+    /// returned if and only if there is none.
     fn read_number(received: u32) -> Option<u32>
         requires code { Self.HasCode }
         requires received { received < 2 ^ Self.N }
         ensures reading { option_map (bits_of Self.N) result ≡ Self.reading_is (bits_of Self.N received) }
         ensures fits { IfSome result (λ sent. sent < 2 ^ Self.N) };
 
-    // The encoding is a word of the code that begins with the information.
+    // The encoding is a codeword that begins with the information.
     ghost encodes: { Self.HasCode → (info : List Bool) → length info ≡ Self.K → IsEncoding Self.IsWord Self.K info (Self.encoding_is info) };
 
-    // A word has at most 32 bits.
+    // A codeword has at most 32 bits.
     ghost fits_number: { Self.HasCode → Self.N ≤ 32 };
 }
 
-/// Sets the bits that a number was read from to those of the word that was read, where there is one, and answers the
-/// reading: Found with how many bits changed, or Beyond.
+/// Writes the decoded codeword, if there is one, to the bits of the received number, and returns the result: `Found`
+/// with the number of bits that changed, or `Beyond`.
 pub fn put_reading(received: u32, sent: Option<u32>, word: &mut [bool]) -> Reading
     requires few { length word.old ≤ 32 }
     requires received { received ≡ field_of word.old }

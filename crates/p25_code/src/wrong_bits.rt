@@ -1,16 +1,16 @@
-//! Which bits of a word of a small binary code are wrong, by its syndrome, without a search.
+//! The bit errors of a word of a small binary code, by its syndrome, without a search.
 //!
-//! A word is the information and then its check bits, the sum over GF(2) of the rows at whose places the information is 1.
-//! A row is a number of at most 16 bits, its highest the first check bit. As a check matrix this is a column for each
-//! place: the rows, and for each check bit a column with the one check of its own. A word passes where the sum of the
-//! columns at the places that are 1, its syndrome, is 0. What is wrong is a number of as many bits as the word has, the first
-//! bit highest, with a 1 for each wrong bit.
+//! A word is the information and then its check bits, the sum over GF(2) of the rows at whose positions the information
+//! is 1. A row is a number of at most 16 bits, its highest bit for the first check bit. As a check matrix this is a
+//! column for each position: the rows, and for each check bit a column with one bit of its own. A word passes if the
+//! sum of the columns at the positions that are 1, its syndrome, is 0. Bit errors are a number of as many bits as the
+//! word has, the first bit highest, with a 1 for each bit error.
 
 ghost use Rattle.std.specs.Prelude.{◌≡◌, ◌+◌, ◌^◌, ◌<◌, ◌≤◌, ◌++◌, true, length, MatchOption};
 ghost use Rattle.p25_code.specs.{Binary.{check_columns, rows_fit}, WrongBits.{number_sum, AreInverse, AreWrong, NoneByRows, NoneWrong}};
 
-/// Answers at most `radius` wrong bits that make the syndrome `sum`, of which at most one is a bit of information. There is
-/// a row for each bit of information; `checks` is how many check bits there are. None comes exactly where no such bits make
+/// Returns at most `radius` bit errors with the syndrome `sum`, at most one of them in the information. It requires a
+/// row for each bit of information and `checks` check bits. `None` is returned if and only if no such bit errors have
 /// that syndrome.
 pub fn wrong_by_rows(rows: &[u16], checks: u32, radius: u32, sum: u16) -> Option<u32>
     requires rows { length rows.now ≤ 16 }
@@ -33,12 +33,12 @@ pub fn wrong_by_rows(rows: &[u16], checks: u32, radius: u32, sum: u16) -> Option
     None
 }
 
-/// Answers at most `radius` wrong bits, of at most three, that make the syndrome `sum`, in a code of as many check bits as
-/// bits of information. `turned` are the rows that undo the others, and `turned_sum` is the sum of those at whose places the
-/// syndrome is 1: the bits of information that alone would make it. None comes exactly where no such bits make that
-/// syndrome.
+/// Returns at most `radius` bit errors, and at most three, with the syndrome `sum`, in a code with as many check bits
+/// as bits of information. `turned` are the rows of the inverse matrix, and `turned_sum` is the sum of those at whose
+/// positions the syndrome is 1: the bits of information that alone would have it. `None` is returned if and only if no
+/// such bit errors have that syndrome.
 ///
-/// Of three bits at most one is a bit of information, or at most one is a check bit.
+/// Of three bit errors at most one is in the information, or at most one is in the check bits.
 pub fn wrong_by_halves(
     rows: &[u16],
     turned: &[u16],
