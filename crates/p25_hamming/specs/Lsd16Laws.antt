@@ -16,12 +16,12 @@ columns-remainders = refl
 generator_degree : HasDegree 0x139 8
 generator_degree = record { highest = omega arith; none_above = omega arith }
 
--- every word but that of zeros has at least five ones
+-- every codeword but that of zeros has at least five ones
 heavy : all_bits 8 (is_heavy check_rows 8 5) ≡ true
 unfolding all_bits is_heavy systematic syndrome_of weight_of bits_of
 heavy = refl
 
--- so the tests of the table say yes
+-- so the tests of the table hold
 pub table : IsSystematic check_rows 16 8 5
 table = record { rows_long = refl; fit = refl; heavy = heavy; begins = omega arith; few = omega arith; few_checks = omega arith; some = omega arith }
 
@@ -29,16 +29,16 @@ table = record { rows_long = refl; fit = refl; heavy = heavy; begins = omega ari
 not_constant : 1 < 2 ^ 8
 not_constant = omega arith
 
--- a word of sixteen bits has the sum 0 by the columns as by the remainders
+-- a word of sixteen bits has the syndrome 0 by the columns if and only if it has the syndrome 0 by the remainders
 same_sum : (word : List Bool) → length word ≡ 16 → syndrome_of (check_rows ++ check_columns 8) word ≡ syndrome_of (remainders 0x139 8 (length word)) word
 same_sum word long = ap (λ cs. syndrome_of cs word) columns-remainders ∙ ap (λ n. syndrome_of (remainders 0x139 8 n) word) (sym long)
 
--- the words are those that the check matrix lets pass
+-- the codewords pass the check matrix
 pub to_checked : (word : List Bool) → IsLsd16 word → IsChecked (check_rows ++ check_columns 8) word
 unfolding check_columns
 to_checked word is = record { long = is.long; passes = same_sum word is.long ∙ remainders-divisible generator_degree not_constant word is.divisible }
 
--- what the check matrix lets pass are words of the code
+-- words that pass the check matrix are codewords
 pub from_checked : (word : List Bool) → IsChecked (check_rows ++ check_columns 8) word → IsLsd16 word
 from_checked word is =
     let long = length_checked table word is in
@@ -48,6 +48,6 @@ from_checked word is =
 abbrev pub lsd16_code : SystematicCode 16 8 5
 lsd16_code = record { rows = check_rows; IsWord = IsLsd16; is = is_checked_code table to_checked from_checked }
 
--- the word within 2 bits of what was received, or none
+-- the codeword within 2 bits of the received word, or none
 abbrev pub lsd16_reading_of : List Bool → Option (List Bool)
 lsd16_reading_of = lsd16_code.is.reading

@@ -1,11 +1,12 @@
-//! Words of costs that lie between two words, at nominal levels 32, 96, -32 and -96 of 00, 01, 10 and 11 and with costs of at most 96 squared.
+//! Words whose costs lie between two codewords, at nominal levels 32, 96, -32 and -96 of 00, 01, 10 and 11 and with
+//! costs of at most 96 squared.
 
 ghost use Rattle.std.specs.Prelude.{◌≡◌, ◌*◌, ◌/◌, ◌<◌, ◌≤◌, length};
 
 use crate::{Hamming10, Lsd16};
 use p25_code::{Margin, NumberCode, cheapest, cost_margin};
 
-// Levels half way from the word of zeros to 064, so both cost as much.
+// Levels half way between the codeword of zeros and 064, so both cost the same.
 const TIE: [u32; 20] = [
     0, 4096, 4096, 9216, 1024, 1024, 9216, 9216, 1024, 9216, 1024, 9216, 1024, 1024, 9216, 9216, 0,
     4096, 4096, 9216,
@@ -17,7 +18,7 @@ const BEYOND: [u32; 20] = [
     4096, 4096, 9216,
 ];
 
-// Levels half way from the word of zeros to 1506 of the low speed data.
+// Levels half way between the codeword of zeros and 1506 of the low speed data.
 const LSD_TIE: [u32; 32] = [
     0, 4096, 4096, 9216, 1024, 1024, 9216, 9216, 1024, 1024, 9216, 9216, 1024, 1024, 9216, 9216, 0,
     4096, 4096, 9216, 0, 4096, 4096, 9216, 1024, 1024, 9216, 9216, 1024, 9216, 1024, 9216,
@@ -41,7 +42,7 @@ const NOISE: [u32; 32] = [
     9216, 9216, 9216, 1024, 9216, 9216, 9216, 1024, 9216, 9216, 9216, 1024, 9216, 9216, 9216, 1024,
 ];
 
-// What costs read as, and what the word read and the cheapest other word cost, if all are small.
+// The codeword decoded from costs, its cost and that of the cheapest other codeword, if all are small.
 fn read<C: NumberCode>(costs: &[u32]) -> Option<(u32, Margin)>
     requires code { C.HasCode }
     requires pairs { 2 * (C.N / 2) ≡ C.N }
@@ -82,7 +83,7 @@ fn lsd16_reads_costs(rt: HostRuntime) {
         second: 5445,
     };
     assert_eq!(rt; read::<Lsd16>(&LSD_BEYOND), Some((0x15, next)));
-    // A click: squares without a limit would read another word, of cost 13,312.
+    // A click: squares without a limit would decode to another codeword, of cost 13,312.
     let far = Margin {
         least: 9216,
         second: 13312,

@@ -6,16 +6,16 @@ ghost use Rattle.p25_hamming.specs.Lsd16Laws.{lsd16_code};
 use p25_bits::sums;
 use p25_code::{CheckedCode, Parameters, wrong_by_halves};
 
-/// The shortened cyclic code (16,8) of the low speed data (LSD): eight bits of information and their eight remainder bits, so
-/// that the word, as a polynomial with the first bit highest, is divisible by x^8 + x^5 + x^4 + x^3 + 1 (139 hex). Any two
-/// words differ in at least 5 bits; two wrong bits are corrected. TIA-102.BAAA, Low Speed Data.
+/// The shortened cyclic code (16,8) of the low speed data (LSD): eight bits of information and their eight remainder
+/// bits. The codeword, as a polynomial with the first bit highest, is divisible by x^8 + x^5 + x^4 + x^3 + 1 (139 hex).
+/// Any two codewords differ in at least 5 bits; two bit errors are corrected. TIA-102.BAAA, Low Speed Data.
 #[derive(Clone, Copy, Debug, PartialEq, Eq)]
 pub struct Lsd16;
 
-// The check bits of the messages with one 1, in order: the remainders of x^15 to x^8 by the generator 139 hex.
+// The check bits of the messages with a single 1, in order: the remainders of x^15 to x^8 by the generator 139 hex.
 const CHECK_ROWS: [u16; 8] = [0x4E, 0x27, 0x8F, 0xDB, 0xF1, 0xE4, 0x72, 0x39];
 
-// The messages of the words with one 1 among the check bits, in order.
+// The messages of the codewords with a single 1 among the check bits, in order.
 const MESSAGE_ROWS: [u16; 8] = [0x9C, 0x4E, 0x27, 0x8F, 0xDB, 0xF1, 0xE4, 0x72];
 
 impl CheckedCode for Lsd16 {

@@ -1,4 +1,4 @@
-//! Words that other programs encoded and read.
+//! Words that other programs encoded and decoded.
 
 use crate::{Hamming10, Lsd16};
 use p25_bits::put_number;
