@@ -1,4 +1,4 @@
--- The shorter code by the tables of the longer one: six zeros in front add nothing to a sum, and wrong bits among them leave none.
+-- The shorter code by the tables of the longer one: six leading zeros add nothing to a sum, and with bit errors among them there is no codeword.
 use Rattle.std.proofs.{Common.{◌≡◌, ℕ, ◌/◌, ◌^◌, ◌<◌, ◌≤◌, inl, inr, List, [], ◌∷◌, ◌++◌, length, Option, Some, None, bit_xor, refl, ap, sym, ◌∙◌, subst, arith}, lemmas.Bool.{cases_lt}}
 use Rattle.std.specs.{Option.{MatchOption}, Int.Bits.{xor_zero_l}, Int.RustNames.{count_ones}}
 use Rattle.p25_code.specs.{Binary.{check_columns}, WrongBits.{number_sum, AreWrong, NoneWrong}}

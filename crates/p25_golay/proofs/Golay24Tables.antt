@@ -1,5 +1,5 @@
--- The tables hold the check bits of all messages, and the messages of all check bits: the checker computes each entry, and that
--- each list of rows undoes the other.
+-- The tables hold the check bits of all messages, and the messages of all check bits. The checker computes each entry, and that each list of rows
+-- inverts the other.
 use Rattle.std.proofs.Common.{◌≡◌, ℕ, ◌/◌, ◌%◌, ◌^◌, ◌<◌, List, [], ◌∷◌, ◌++◌, length, take, drop, get_or, bit_xor, refl, ap, ap₂, sym, ◌∙◌, arith}
 use Rattle.p25_bits.specs.{Bits.{bits_of}, Numbers.{each_below}}
 use Rattle.p25_code.specs.{Binary.{syndrome_of, check_columns}, WrongBits.{number_sum, AreInverse}}

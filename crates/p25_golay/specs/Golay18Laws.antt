@@ -6,16 +6,16 @@ use Rattle.p25_code.specs.{Binary.{IsChecked, check_columns, systematic, syndrom
 use Rattle.p25_code.proofs.SystematicLaws.{is_checked_code}
 use Rattle.p25_golay.specs.{Golay18.{short_rows, IsGolay18}, Golay24Laws.{golay24_code}}
 
--- every word but that of zeros has at least eight ones
+-- every codeword but that of zeros has at least eight ones
 heavy : all_bits 6 (is_heavy short_rows 12 8) ≡ true
 unfolding all_bits is_heavy systematic syndrome_of weight_of bits_of
 heavy = refl
 
--- so the tests of the table say yes
+-- so the tests of the table hold
 pub table : IsSystematic short_rows 18 6 8
 table = record { rows_long = refl; fit = refl; heavy = heavy; begins = omega arith; few = omega arith; few_checks = omega arith; some = omega arith }
 
--- a zero in front adds nothing to a sum
+-- a leading zero adds nothing to a sum
 zero_first : (column : ℕ) (columns : List ℕ) (word : List Bool) → syndrome_of (column ∷ columns) (false ∷ word) ≡ syndrome_of columns word
 unfolding syndrome_of
 zero_first column columns word = xor_zero_l (syndrome_of columns word)
@@ -25,7 +25,7 @@ zeros_first : (a b c d e f : ℕ) (columns : List ℕ) (word : List Bool)
     → syndrome_of (a ∷ b ∷ c ∷ d ∷ e ∷ f ∷ columns) (false ∷ false ∷ false ∷ false ∷ false ∷ false ∷ word) ≡ syndrome_of columns word
 zeros_first a b c d e f columns word = simp zero_first
 
--- the words are those that the last columns of the check matrix let pass
+-- the codewords pass the last columns of the check matrix
 pub to_short : (word : List Bool) → IsGolay18 word → IsChecked (short_rows ++ check_columns 12) word
 unfolding check_columns
 to_short word is =
@@ -35,7 +35,7 @@ to_short word is =
       passes = sym (zeros_first 0xC75 0x63B 0xF68 0x7B4 0x3DA 0xD99 (short_rows ++ check_columns 12) word) ∙ whole.passes;
     }
 
--- what the short check matrix lets pass are words of the code
+-- words that pass the short check matrix are codewords
 pub from_short : (word : List Bool) → IsChecked (short_rows ++ check_columns 12) word → IsGolay18 word
 unfolding check_columns
 from_short word is = record {
@@ -49,6 +49,6 @@ from_short word is = record {
 abbrev pub golay18_code : SystematicCode 18 6 8
 golay18_code = record { rows = short_rows; IsWord = IsGolay18; is = is_checked_code table to_short from_short }
 
--- the word within 3 bits of what was received, or none
+-- the codeword within 3 bits of the received word, or none
 abbrev pub golay18_reading_of : List Bool → Option (List Bool)
 golay18_reading_of = golay18_code.is.reading

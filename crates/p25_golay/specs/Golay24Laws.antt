@@ -10,12 +10,12 @@ use Rattle.p25_code.proofs.RemainderLaws.{power_remainder, remainders, remainder
 use Rattle.p25_code.proofs.ParityLaws.{mixed_passes, with_parity, syndrome_of-with_parity}
 use Rattle.p25_golay.specs.Golay24.{check_rows, IsGolay24}
 
--- every word but that of zeros has at least eight ones
+-- every codeword but that of zeros has at least eight ones
 heavy : all_bits 12 (is_heavy check_rows 12 8) ≡ true
 unfolding all_bits is_heavy systematic syndrome_of weight_of bits_of
 heavy = refl
 
--- so the tests of the table say yes
+-- so the tests of the table hold
 pub table : IsSystematic check_rows 24 12 8
 table = record { rows_long = refl; fit = refl; heavy = heavy; begins = omega arith; few = omega arith; few_checks = omega arith; some = omega arith }
 
@@ -27,15 +27,15 @@ generator_degree = record { highest = omega arith; none_above = omega arith }
 not_constant : 1 < 2 ^ 11
 not_constant = omega arith
 
--- the checks as the set states them: the remainder of the first 23 places, and the parity of all
+-- the checks of the definition: the remainder of the first 23 positions, and the parity of all
 stated_columns : List ℕ
 stated_columns = map with_parity (remainders 0xC75 11 23 ++ 0 ∷ [])
 
--- the parity of the check bits is added to the parity, or taken away
+-- the parity of the check bits is added to the parity, or subtracted
 mix : List ℕ
 mix = 0x801 ∷ 0x401 ∷ 0x201 ∷ 0x101 ∷ 0x081 ∷ 0x041 ∷ 0x021 ∷ 0x011 ∷ 0x009 ∷ 0x005 ∷ 0x003 ∷ 0x001 ∷ []
 
--- so the columns of the matrix are sums of the stated ones, and these are sums of those
+-- so the columns of the matrix are sums of the stated ones, and conversely
 matrix-stated : map (number_sum mix) stated_columns ≡ check_rows ++ check_columns 12
 unfolding stated_columns mix number_sum syndrome_of bits_of check_columns remainders power_remainder
 matrix-stated = refl
@@ -52,13 +52,13 @@ length-stated : length (remainders 0xC75 11 23 ++ 0 ∷ []) ≡ 24
 unfolding remainders
 length-stated = refl
 
--- a place without checks adds nothing
+-- a position without checks adds nothing
 no_checks : (bits : List Bool) → syndrome_of (0 ∷ []) bits ≡ 0
 unfolding syndrome_of
 no_checks (false ∷ bits) = refl
 no_checks bits = refl
 
--- the last place takes no part in the remainder
+-- the last position takes no part in the remainder
 remainder_sum : (word : List Bool) → length word ≡ 24
     → syndrome_of (remainders 0xC75 11 23 ++ 0 ∷ []) word ≡ syndrome_of (remainders 0xC75 11 (length (take 23 word))) (take 23 word)
 remainder_sum word long =
@@ -79,7 +79,7 @@ stated_sum word long =
     syndrome_of-with_parity (remainders 0xC75 11 23 ++ 0 ∷ []) word (long ∙ sym length-stated)
     ∙ ap (λ n. 2 * n + weight_of word % 2) (remainder_sum word long)
 
--- the words are those that the check matrix lets pass
+-- the codewords pass the check matrix
 pub to_checked : (word : List Bool) → IsGolay24 word → IsChecked (check_rows ++ check_columns 12) word
 unfolding check_columns
 to_checked word is =
@@ -90,7 +90,7 @@ to_checked word is =
       passes = ap (λ cs. syndrome_of cs word) (sym matrix-stated) ∙ mixed_passes mix stated_columns word passes;
     }
 
--- what the check matrix lets pass are words of the code
+-- words that pass the check matrix are codewords
 pub from_checked : (word : List Bool) → IsChecked (check_rows ++ check_columns 12) word → IsGolay24 word
 from_checked word is =
     let long = length_checked table word is in
@@ -104,6 +104,6 @@ from_checked word is =
 abbrev pub golay24_code : SystematicCode 24 12 8
 golay24_code = record { rows = check_rows; IsWord = IsGolay24; is = is_checked_code table to_checked from_checked }
 
--- the word within 3 bits of what was received, or none
+-- the codeword within 3 bits of the received word, or none
 abbrev pub golay24_reading_of : List Bool → Option (List Bool)
 golay24_reading_of = golay24_code.is.reading

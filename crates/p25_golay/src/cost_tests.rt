@@ -1,11 +1,12 @@
-//! Words of costs that lie between two words, at nominal levels 32, 96, -32 and -96 of 00, 01, 10 and 11 and with costs of at most 96 squared.
+//! Words whose costs lie between two codewords, at nominal levels 32, 96, -32 and -96 of 00, 01, 10 and 11 and with
+//! costs of at most 96 squared.
 
 ghost use Rattle.std.specs.Prelude.{◌≡◌, ◌*◌, ◌/◌, ◌<◌, ◌≤◌, length};
 
 use crate::{Golay18, Golay24};
 use p25_code::{Margin, NumberCode, cheapest, cost_margin};
 
-// Levels half way from the word of zeros to 04A961, so both cost as much.
+// Levels half way between the codeword of zeros and 04A961, so both cost the same.
 const TIE: [u32; 48] = [
     0, 4096, 4096, 9216, 0, 4096, 4096, 9216, 1024, 1024, 9216, 9216, 0, 4096, 4096, 9216, 1024,
     9216, 1024, 9216, 1024, 9216, 1024, 9216, 1024, 9216, 1024, 9216, 1024, 1024, 9216, 9216, 1024,
@@ -26,7 +27,7 @@ const NOMINAL: [u32; 48] = [
     4096, 9216, 0, 4096, 0, 4096, 4096, 9216, 4096, 0, 9216, 9216,
 ];
 
-// Levels half way from the word of zeros to 12A59 of the code (18,6).
+// Levels half way between the codeword of zeros and 12A59 of the code (18,6).
 const SHORT_TIE: [u32; 36] = [
     1024, 1024, 9216, 9216, 0, 4096, 4096, 9216, 1024, 9216, 1024, 9216, 1024, 9216, 1024, 9216,
     1024, 9216, 1024, 9216, 1024, 1024, 9216, 9216, 1024, 1024, 9216, 9216, 1024, 9216, 1024, 9216,
@@ -40,7 +41,7 @@ const SHORT_BEYOND: [u32; 36] = [
     961, 9216, 9216,
 ];
 
-// What costs read as, and what the word read and the cheapest other word cost, if all are small.
+// The codeword decoded from costs, its cost and that of the cheapest other codeword, if all are small.
 fn read<C: NumberCode>(costs: &[u32]) -> Option<(u32, Margin)>
     requires code { C.HasCode }
     requires pairs { 2 * (C.N / 2) ≡ C.N }
@@ -57,7 +58,7 @@ fn read<C: NumberCode>(costs: &[u32]) -> Option<(u32, Margin)>
 
 #[test]
 fn reads_costs(rt: HostRuntime) {
-    // The last line is a key of 32,768: the second cost less twice the least.
+    // The last row has a key of 32,768: the second cost less twice the least.
     let both = Margin {
         least: 8192,
         second: 8192,

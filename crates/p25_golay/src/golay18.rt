@@ -6,9 +6,10 @@ ghost use Rattle.p25_golay.specs.Golay18Laws.{golay18_code};
 use crate::golay24::Golay24;
 use p25_code::{CheckedCode, Parameters};
 
-/// The shortened Golay code (18,6): the words of the Golay code (24,12) that begin with six zeros, without those six. Any
-/// two words differ in at least 8 bits; three wrong bits are corrected. A list that is near to a word of the longer code
-/// alone, one whose six bits in front are not all 0, is Beyond. TIA-102.BAAA, Header Data Unit.
+/// The shortened Golay code (18,6): the codewords of the Golay code (24,12) that begin with six zeros, without those
+/// zeros. Any two codewords differ in at least 8 bits; three bit errors are corrected. `Beyond` is returned if a
+/// received word is near only to a codeword of the longer code whose first six bits are not all 0. TIA-102.BAAA, Header
+/// Data Unit.
 #[derive(Clone, Copy, Debug, PartialEq, Eq)]
 pub struct Golay18;
 
@@ -23,7 +24,7 @@ impl CheckedCode for Golay18 {
         Golay24::check_bits(info)
     }
 
-    // Bits among the six in front are wrong bits of the longer code alone.
+    // Bits among the first six are bit errors of the longer code alone.
     fn wrong_bits(syndrome: u16) -> Option<u32> {
         let wrong = Golay24::wrong_bits(syndrome)?;
         if wrong < 1 << 18 { Some(wrong) } else { None }

@@ -6,19 +6,19 @@ ghost use Rattle.p25_golay.specs.Golay24Laws.{golay24_code};
 use p25_bits::sums;
 use p25_code::{CheckedCode, Parameters, wrong_by_halves};
 
-/// The extended Golay code (24,12): 12 bits of information, their 11 remainder bits, so that the first 23 bits, as a
-/// polynomial with the first bit highest, are divisible by x^11 + x^10 + x^6 + x^5 + x^4 + x^2 + 1 (C75 hex), and one bit
-/// that makes the weight even. Any two words differ in at least 8 bits; three wrong bits are corrected. TIA-102.BAAA,
+/// The extended Golay code (24,12): 12 bits of information, their 11 remainder bits, and one bit that makes the weight
+/// even. The first 23 bits, as a polynomial with the first bit highest, are divisible by x^11 + x^10 + x^6 + x^5 + x^4
+/// + x^2 + 1 (C75 hex). Any two codewords differ in at least 8 bits; three bit errors are corrected. TIA-102.BAAA,
 /// Terminator with Link Control.
 #[derive(Clone, Copy, Debug, PartialEq, Eq)]
 pub struct Golay24;
 
-// The check bits of the messages with one 1, in order.
+// The check bits of the messages with a single 1, in order.
 const CHECK_ROWS: [u16; 12] = [
     0xC75, 0x63B, 0xF68, 0x7B4, 0x3DA, 0xD99, 0x6CD, 0x367, 0xDC6, 0xA97, 0x93E, 0x8EB,
 ];
 
-// The messages of the words with one 1 among the check bits, in order.
+// The messages of the codewords with a single 1 among the check bits, in order.
 const MESSAGE_ROWS: [u16; 12] = [
     0xA4F, 0xF68, 0x7B4, 0x3DA, 0x1ED, 0xAB9, 0xF13, 0xDC6, 0x6E3, 0x93E, 0x49F, 0xC75,
 ];

@@ -1,8 +1,9 @@
 //! The Golay codes (24,12) and (18,6) of the Project 25 air interface (TIA-102.BAAA).
 //!
-//! A word is a slice of bits in the order in which they are sent: the information first, its most significant bit first,
-//! then the check bits. `Golay24` has 12 bits of information and 12 checks; `Golay18` is its part of words that begin
-//! with six zeros, without those, and has 6 bits of information and 12 checks. Both correct three wrong bits.
+//! A codeword is a slice of bits in the order of transmission: the information first, its most significant bit first,
+//! then the check bits. `Golay24` has 12 bits of information and 12 check bits. `Golay18` consists of its codewords
+//! that begin with six zeros, without those zeros, and has 6 bits of information and 12 check bits. Both correct three
+//! bit errors.
 //!
 //! ```
 //! use p25_code::{BlockCode, Reading};
@@ -14,8 +15,9 @@
 //! assert_eq!(rt; Golay18::read(&mut word), Reading::Found { fixes: 2 });
 //! ```
 //!
-//! Both are a `NumberCode`, so their words are numbers of 24 and 18 bits too. No call takes memory or fails. A word takes two
-//! tables of 64 entries and, where bits are wrong, two more and at most 26 counts of ones, whether it lies within the radius or not.
+//! Both are a `NumberCode`, so their codewords are also numbers of 24 and 18 bits. No call allocates memory or fails.
+//! Decoding takes two tables of 64 entries. If there are bit errors, it takes two more tables and at most 26 population
+//! counts, whether the word is correctable or not.
 #![tactic(auto)]
 
 #[cfg(test)]

@@ -1,4 +1,4 @@
-//! Words that other programs encoded and read, and every pattern of three and of four wrong bits.
+//! Words that other programs encoded and decoded, and every pattern of three and of four bit errors.
 
 use crate::{Golay18, Golay24};
 use p25_bits::put_number;
@@ -80,7 +80,7 @@ fn golay18_reads(rt: HostRuntime) {
     assert_eq!(rt; Golay18::radius(), 3);
     for (received, reading, left) in [
         (0x3C000, Reading::Beyond, 0x3C000),
-        // The end of a word of the code (24,12) that begins with 100000.
+        // The end of a codeword of the code (24,12) that begins with 100000.
         (0x00C75, Reading::Beyond, 0x00C75),
         (0x0F684, Reading::Found { fixes: 0 }, 0x0F684),
         (0x3886C, Reading::Found { fixes: 0 }, 0x3886C),
