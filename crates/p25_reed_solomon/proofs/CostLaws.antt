@@ -1,4 +1,4 @@
--- The cost of a word to a list with erasures, by the errors between what was received and the word: by induction on both lists.
+-- The cost of a codeword for a list with erasures, by the errors between the received word and the codeword: by induction on both lists.
 use Rattle.std.proofs.Common.{◌≡◌, ℕ, zero, suc, ◌+◌, ◌*◌, Bool, true, false, cond, List, [], ◌∷◌, length, Some, None, refl, sym, arith}
 use Rattle.p25_gf64.specs.{declared.symbol.Sym.{Sym}, Gf64.{gf64}}
 use Rattle.p25_algebra.specs.{Sums.{nonzeros, weight_by}, Series.{coefficient}}

@@ -1,5 +1,5 @@
--- The steps of the encoder of Reed-Solomon words: the generator a factor at a time, the division a symbol at a time; the word is the sum of two
--- lists that have one value at each power of α.
+-- The steps of the encoder of Reed-Solomon codewords: the generator one factor at a time, and the division one symbol at a time. The codeword is the
+-- sum of two lists that have the same value at each power of α.
 use Rattle.std.proofs.{Common.{◌≡◌, ◌≢◌, ℕ, ◌+◌, ◌-◌, ◌*◌, ◌<◌, ◌≤◌, List, replicate, set, sym, ap, ap₂, ◌∙◌, inl, inr, arith}, lemmas.Bool.{cases_eq, cases_lt}, lemmas.List.{length-replicate}}
 use Rattle.p25_gf64.specs.{declared.symbol.Sym.{Sym}, Field.{power}, Symbol.{alpha}, Gf64.{gf64}}
 use Rattle.p25_gf64.proofs.{FieldLaws.{add_zero, zero_add, add_self, mul_zero, mul_one}, PowerLaws.{power-mul, power_ne_zero}, SymbolLaws.{alpha_ne_zero}}

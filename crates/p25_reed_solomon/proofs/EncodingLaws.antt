@@ -1,5 +1,5 @@
--- The word of some information is a word of the code that begins with it: the generator vanishes at the powers of α by induction on its
--- factors, and what is taken away for the remainder keeps the values there.
+-- The codeword of an information is a codeword that begins with it. The generator vanishes at the powers of α by induction on its factors, and the
+-- multiples that are added for the remainder keep the values there.
 use Rattle.std.proofs.{Common.{◌≡◌, ℕ, zero, suc, ◌+◌, ◌-◌, ◌<◌, ◌≤◌, eqb, List, length, take, refl, ap, sym, ◌∙◌, inl, inr, arith}, lemmas.Bool.{cases_eq, cond-false, ne_eqb}, Math.Seq.{take-length}}
 use Rattle.p25_bits.specs.Numbers.{each_below}
 use Rattle.p25_bits.proofs.NumbersLaws.{length-each_below, get_or-each_below, each_below-same, take-each_below, each_below-list}

@@ -1,5 +1,5 @@
--- Erased places: their number, the polynomial with a zero for each as a factor, and errors with the factors that this gives them. All
--- by induction on the places.
+-- Erased positions: their number, the polynomial with a zero for each as a factor, and errors with the factors of these zeros. All by induction on
+-- the positions.
 use Rattle.std.proofs.Common.{◌≡◌, ◌≢◌, ℕ, zero, suc, ◌+◌, ◌<◌, ◌≤◌, Bool, true, false, cond, List, refl, sym, ap, ap₂, ◌∙◌, inl, inr, arith}
 use Rattle.std.proofs.lemmas.Bool.{cases_eq, cases_Bool, cond-true, cond-false, both_ways}
 use Rattle.p25_gf64.specs.{declared.symbol.Sym.{Sym}, Gf64.{gf64}}

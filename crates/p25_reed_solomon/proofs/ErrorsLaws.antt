@@ -1,4 +1,4 @@
--- Errors at listed places: their power sums, and how many there are, by sums over the places and by induction.
+-- Errors at listed positions: their power sums, and their number, by sums over the positions and by induction.
 use Rattle.std.proofs.Common.{◌≡◌, ◌≢◌, ℕ, zero, suc, ◌+◌, ◌<◌, ◌≤◌, cond, eqb, List, length, get_or, set, inl, inr, refl, ap, sym, ◌∙◌, arith}
 use Rattle.std.proofs.{lemmas.Bool.{cases_eq, cases_order, cond-true, cond-false, eq-eqb, ne_eqb}, lemmas.List.{length-set, get_or-set_same, get_or-set_other}}
 use Rattle.p25_gf64.specs.{declared.symbol.Sym.{Sym}, Field.{power}, Gf64.{gf64}}

@@ -1,5 +1,5 @@
--- The errors that a locator gives: any errors that explain the syndromes stand at its zeros and have the values that Forney's formula
--- gives there; and values at its zeros with the right power sums explain the syndromes, since each erasure is one of few zeros.
+-- The errors of a locator. Any errors that explain the syndromes are at its zeros and have the values of Forney's formula there. Values at its zeros
+-- with the right power sums explain the syndromes, because each erasure is one of few zeros.
 use Rattle.std.proofs.Common.{◌≡◌, ◌≢◌, ℕ, zero, suc, ◌+◌, ◌*◌, ◌<◌, ◌≤◌, Bool, cond, List, length, take, get_or, inl, inr, ap, sym, ◌∙◌, subst, arith}
 use Rattle.std.proofs.{lemmas.Bool.{cases_eq, cases_lt, cases_Bool, cond-true, cond-false}, lemmas.List.{get_or-take, length-take}}
 use Rattle.p25_gf64.specs.{declared.symbol.Sym.{Sym}, Field.{power}, Gf64.{gf64}}

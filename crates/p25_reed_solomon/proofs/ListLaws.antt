@@ -1,4 +1,4 @@
--- The steps of the loops over lists of 32 and 64 symbols: what holds of each place holds of the coefficients.
+-- The steps of the loops over lists of 32 and 64 symbols: a fact about each position is a fact about the coefficients.
 use Rattle.std.proofs.{Common.{◌≡◌, ℕ, zero, suc, ◌+◌, ◌-◌, ◌<◌, ◌≤◌, List, length, set, ap, ap₂, sym, ◌∙◌, inl, inr, arith}, lemmas.Bool.{cases_eq, cases_lt}}
 use Rattle.p25_gf64.specs.{declared.symbol.Sym.{Sym}, Field.{power}, Gf64.{gf64}}
 use Rattle.p25_gf64.proofs.{FieldLaws.{mul_comm, mul_assoc, zero_mul}, PowerLaws.{power-suc}}

@@ -1,4 +1,4 @@
--- Multiples that are added to the symbols of a list, and values in 1/x: where a polynomial vanishes, a multiple of it changes no value.
+-- Multiples that are added to the symbols of a list, and values in 1/x: at a zero of a polynomial, a multiple of it changes no value.
 use Rattle.std.proofs.{Common.{◌≡◌, ◌≢◌, ℕ, ◌+◌, ◌-◌, ◌<◌, ◌≤◌, List, length, set, refl, sym, ap, ap₂, ◌∙◌, inl, inr, arith}, lemmas.Bool.{cases_eq, cases_lt}}
 use Rattle.p25_gf64.specs.Field.{Field, power}
 use Rattle.p25_gf64.proofs.{FieldLaws.{add_zero, add_self, mul_comm, mul_assoc, mul_zero, one_mul, mul_one, mul_inverse}, PowerLaws.{power-one, power-add, power_of_mul, power_of_one}}

@@ -1,5 +1,5 @@
--- The table of values is right at each place: the checker computes each entry. A word's values are the sums of those of the two halves of
--- its symbols, octet by octet.
+-- The table of values is right at each position: the checker computes each entry. A word's values are the sums of those of the two halves of its
+-- symbols, octet by octet.
 use Rattle.std.proofs.{Common.{◌≡◌, ℕ, suc, ◌+◌, ◌-◌, ◌*◌, ◌/◌, ◌%◌, ◌^◌, ◌<◌, ◌≤◌, ◌==◌, [], List, true, bit_xor, get_or, refl, ap, arith}, lemmas.Bool.{eqb-true}}
 use Rattle.std.proofs.{lemmas.Nat.{xor_shr, xor_mod, xor_comm, pow_pos, mod-pow-add}, Math.Nat.{le-mul_of_pos_right}}
 use Rattle.p25_bits.proofs.DivisibleLaws.{xor_apart}

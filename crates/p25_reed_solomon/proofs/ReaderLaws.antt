@@ -1,4 +1,5 @@
--- What the reader answers: the cost of a word is that of the errors between it and what was received, and errors that explain the syndromes make a word.
+-- The results of the decoder: the cost of a codeword is that of the errors between it and the received word, and errors that explain the syndromes
+-- make a codeword.
 use Rattle.std.proofs.{Common.{◌≡◌, ℕ, ◌+◌, ◌-◌, ◌*◌, ◌<◌, ◌≤◌, Bool, false, cond, List, length, take, replicate, All, refl, ap, ap₂, sym, ◌∙◌, arith}, lemmas.Bool.{cond_both}}
 use Rattle.std.proofs.lemmas.List.{get_or-take, get_or-replicate, length-take, length-replicate}
 use Rattle.p25_bits.specs.Distance.{distance_by}

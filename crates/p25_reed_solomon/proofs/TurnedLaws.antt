@@ -1,5 +1,5 @@
--- The syndromes with the last first are power sums of the points of the wrong places, as the syndromes are of their elements. So the key
--- of these has a locator that vanishes at the elements, and with its coefficients in the other order it vanishes at the points.
+-- The syndromes in reverse order are power sums of the points of the positions with errors, as the syndromes are of their elements. So the key of
+-- these has a locator that vanishes at the elements, and with its coefficients in reverse order it vanishes at the points.
 use Rattle.std.proofs.Common.{◌≡◌, ◌≢◌, ◌↔◌, ℕ, suc, ◌+◌, ◌-◌, ◌*◌, ◌<◌, ◌≤◌, List, length, sym, ap, ◌∙◌, arith}
 use Rattle.p25_gf64.specs.{declared.symbol.Sym.{Sym}, Field.{power}, Gf64.{gf64}}
 use Rattle.p25_gf64.proofs.FieldLaws.{mul_comm, mul_assoc, mul_left_comm, mul_one, mul_zero, zero_mul, mul_inverse, mul_ne_zero, other_zero, inverse_ne_zero}

@@ -1,4 +1,4 @@
--- The errors between a received word and a word of the code.
+-- The errors between a received word and a codeword.
 use Rattle.std.proofs.Common.{◌≡◌, ℕ, ◌+◌, ◌-◌, ◌*◌, ◌<◌, ◌≤◌, List, length, ap, sym, ◌∙◌, arith}
 use Rattle.p25_bits.specs.Distance.{distance_by}
 use Rattle.p25_gf64.specs.{declared.symbol.Sym.{Sym}, Gf64.{gf64}}

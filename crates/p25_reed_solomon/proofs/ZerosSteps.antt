@@ -1,4 +1,4 @@
--- The places at which a polynomial vanishes, listed in rising order: one place more at a time, and no more than the polynomial has coefficients.
+-- The positions at which a polynomial vanishes, listed in rising order: one position at a time, and no more than the polynomial has coefficients.
 use Rattle.std.proofs.{Common.{◌≡◌, ◌≢◌, ℕ, ◌+◌, ◌<◌, ◌≤◌, List, [], ◌∷◌, ◌++◌, length, get_or, inl, inr, refl, sym, ◌∙◌, subst, arith}, lemmas.Bool.{cases_lt, cases_eq, cases_order}}
 use Rattle.std.proofs.lemmas.List.{get_or_append_left, get_or_at, length_push}
 use Rattle.p25_gf64.specs.{declared.symbol.Sym.{Sym}, Gf64.{gf64}}

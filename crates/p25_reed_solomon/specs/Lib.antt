@@ -4,7 +4,7 @@ pub mod Locator
 pub mod Generator
 pub mod RsReadings
 pub mod Encoding
--- laws of impls: nothing to believe
+-- laws of impls, with no definition to trust
 pub mod ValueLaws
 pub mod ElementLaws
 pub mod DistanceLaws

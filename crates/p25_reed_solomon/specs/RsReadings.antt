@@ -1,5 +1,5 @@
--- The readings of the Reed-Solomon codes as functions, of symbols and of lists with erasures: symbols are searched by their numbers, and
--- whether a word vanishes is tested at each power of α.
+-- The decoding of the Reed-Solomon codes as functions, for symbols and for lists with erasures. Symbols are searched by their numbers, and whether a
+-- word vanishes is tested at each power of α.
 use Rattle.std.specs.Prelude.{◌≡◌, ◌⊎◌, ℕ, zero, suc, ◌+◌, ◌-◌, ◌*◌, ◌<◌, ◌≤◌, List, length, Option}
 use Rattle.std.proofs.{Common.{ap, sym, subst, ◌∙◌, inl, inr, arith, lit≤}, lemmas.Bool.{cases_eq}}
 use Rattle.p25_code.specs.Readings.{Tested, Searched, reading_of, IsReadAs, IsReadAs-reading_of}
@@ -34,7 +34,7 @@ pub symbols_searched : Searched Sym
 symbols_searched P test =
     elim (symbol_below P test 64 (lit≤ tt)) [ inl found ↦ inl found | inr without ↦ inr (λ x. without x x.below) ]
 
--- a word vanishes at each of the first powers of α, or at some it does not
+-- a word vanishes at each of the first powers of α, or at one of them it does not
 vanishes_tested : (n : ℕ) (word : List Sym) (checks : ℕ)
     → ((i : ℕ) → 1 ≤ i → i ≤ checks → value_of n word i ≡ gf64.zero) ⊎ ¬ ((i : ℕ) → 1 ≤ i → i ≤ checks → value_of n word i ≡ gf64.zero)
 vanishes_tested n word zero = inl (λ i some most. absurd (omega arith))
@@ -55,7 +55,7 @@ vanishes_tested n word (suc checks) =
           | inr lower ↦ before i some (omega arith)
         ]
 
--- whether a list of symbols is a word can be tested
+-- whether a list of symbols is a codeword can be decided
 pub IsWord-tested : (n k : ℕ) → Tested (IsWord n k)
 IsWord-tested n k word =
     elim (cases_eq (length word) n) [
@@ -66,24 +66,24 @@ IsWord-tested n k word =
       | inr other ↦ inr (λ is. other is.long)
     ]
 
--- the word within the radius of what was received, or none
+-- the codeword within the correction radius of a received word, or none
 pub rs_reading_of : (n k : ℕ) → List Sym → Option (List Sym)
 rs_reading_of n k = reading_of symbols_searched same_symbols (IsWord n k) (IsWord-tested n k) n (radius_of n k)
 
--- it is the reading
+-- it is the decoding
 pub rs_reads_as : (n k : ℕ) (received : List Sym) → IsReadAs same_symbols (IsWord n k) (radius_of n k) received (rs_reading_of n k received)
 unfolding rs_reading_of
 rs_reads_as n k = IsReadAs-reading_of symbols_searched same_symbols (IsWord n k) (IsWord-tested n k) n (radius_of n k) (length_of_word_of n k)
 
--- the word that costs at most n - k, two for each wrong symbol and one for each erasure, or none
+-- the codeword that costs at most n - k, two for each symbol error and one for each erasure, or none
 pub rs_erased_reading_of : (n k : ℕ) → List (Option Sym) → Option (List Sym)
 rs_erased_reading_of n k = erased_reading_of symbols_searched same_symbols (IsWord n k) (IsWord-tested n k) n (n - k)
 
--- it is the reading
+-- it is the decoding
 pub rs_erased_reads_as : (n k : ℕ) (list : List (Option Sym)) → IsErasedReadAs same_symbols (IsWord n k) (n - k) list (rs_erased_reading_of n k list)
 unfolding rs_erased_reading_of
 rs_erased_reads_as n k = IsErasedReadAs-erased_reading_of symbols_searched same_symbols (IsWord n k) (IsWord-tested n k) n (n - k) (length_of_word_of n k)
 
--- fewer erasures are allowed than two words differ in symbols
+-- the allowed erasures are fewer than the symbols in which two codewords differ
 pub erasures_within_of : (n k : ℕ) → n - k < n - k + 1
 erasures_within_of n k = omega arith

@@ -41,7 +41,7 @@ front_value-suc symbol i k =
     ∙ mul_one gf64 (symbol k)
     )
 
--- the value of a word at α^i is its i-th power sum over the elements of the places
+-- the value of a word at α^i is its i-th power sum over the elements of the positions
 pub value-power_sum : (n : ℕ) (symbol : ℕ → Sym) (i : ℕ) → front_value symbol i n ≡ power_sum gf64 n (element_of n) symbol i
 value-power_sum n symbol i =
     sum_same gf64 n _ _ (λ j below. ap (gf64.mul (symbol j)) (ap (power gf64 alpha) (nat_mul_comm i (n - 1 - j)) ∙ power-mul gf64 alpha (n - 1 - j) i))

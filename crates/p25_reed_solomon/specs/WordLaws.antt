@@ -1,4 +1,4 @@
--- Laws of the Reed-Solomon words: their distance, and that the information determines the word.
+-- Laws of the Reed-Solomon codewords: their distance, and that the information determines the codeword.
 use Rattle.std.specs.Prelude.{◌≡◌, ◌≢◌, ℕ, ◌+◌, ◌-◌, ◌*◌, ◌/◌, ◌<◌, ◌≤◌, List, length, take, drop}
 use Rattle.std.proofs.{Common.{inl, inr, ap, ap₂, sym, ◌∙◌, arith, length-drop, take-append-drop}, lemmas.Bool.{cases_lt}}
 use Rattle.std.proofs.lemmas.List.{ext_get_or, length-take-le}
@@ -11,7 +11,7 @@ use Rattle.p25_algebra.proofs.VanishingLaws.{vanishing}
 use Rattle.p25_reed_solomon.specs.{Words.{IsCode, IsWord, same_symbols}, Errors.{element_of}, ValueLaws.{value-power_sum, front_value-add}}
 use Rattle.p25_reed_solomon.specs.{ElementLaws.{elements_apart, element_ne_zero}, DistanceLaws.{distance-nonzeros, same_symbols-same}}
 
--- two words that differ in no more symbols than there are check symbols are one word
+-- two codewords that differ in at most as many symbols as there are check symbols are equal
 pub same_word : (n k : ℕ) → IsCode n k → (v w : List Sym) → IsWord n k v → IsWord n k w → distance_by same_symbols v w ≤ n - k → v ≡ w
 same_word n k code v w first second near =
     let sum : ℕ → Sym = λ j. gf64.add (coefficient gf64 v j) (coefficient gf64 w j) in
@@ -27,7 +27,7 @@ same_word n k code v w first second near =
     ext_get_or gf64.zero v w (first.long ∙ sym second.long)
     (λ j below. same_from_sum gf64 (coefficient gf64 v j) (coefficient gf64 w j) (none j (omega (arith, first.long))))
 
--- two different words differ in more symbols than there are check symbols
+-- two different codewords differ in more symbols than there are check symbols
 pub words_apart : (n k : ℕ) → IsCode n k → (v w : List Sym) → IsWord n k v → IsWord n k w → v ≢ w → n - k + 1 ≤ distance_by same_symbols v w
 words_apart n k code v w first second other =
     elim (cases_lt (n - k) (distance_by same_symbols v w)) [
@@ -35,7 +35,7 @@ words_apart n k code v w first second other =
       | inr near ↦ absurd (other (same_word n k code v w first second near))
     ]
 
--- words with the same information are one word
+-- codewords with the same information are equal
 pub one_word_of : (n k : ℕ) → IsCode n k → (v w : List Sym) → IsWord n k v → IsWord n k w → take k v ≡ take k w → v ≡ w
 one_word_of n k code v w first second same =
     let long = length-take-le k v (omega (arith, code.shorter, first.long)) ∙ sym (length-take-le k w (omega (arith, code.shorter, second.long))) in
@@ -45,14 +45,14 @@ one_word_of n k code v w first second same =
     let front = ap (λ xs. distance_by same_symbols xs (take k w)) same ∙ distance_by-same same_symbols same_symbols-same (take k w) in
     same_word n k code v w first second (omega (arith, split, front, distance_by-le same_symbols (drop k v) (drop k w), length-drop k v, first.long))
 
--- a word has n symbols
+-- a codeword has n symbols
 pub length_of_word_of : (n k : ℕ) (word : List Sym) → IsWord n k word → length word ≡ n
 length_of_word_of n k word is = is.long
 
--- twice the radius is below the distance
+-- twice the correction radius is below the distance
 pub within_of : (n k : ℕ) → IsCode n k → 2 * ((n - k) / 2) < n - k + 1
 within_of n k code = omega (arith, code.even)
 
--- the information is part of the word
+-- the information is part of the codeword
 pub begins_of : (n k : ℕ) → IsCode n k → k ≤ n
 begins_of n k code = omega (arith, code.shorter)

@@ -1,4 +1,4 @@
-//! The Reed-Solomon code as a type, with the coder and the decoders of every block code.
+//! The Reed-Solomon code as a type, with the encoder and the decoders of every block code.
 
 ghost use Rattle.std.specs.Prelude.{◌+◌, ◌-◌};
 ghost use Rattle.p25_gf64.proofs.SymbolLaws.{same_from_eq};
@@ -10,11 +10,11 @@ use crate::reader::{read, read_erased};
 use p25_code::{BlockCode, ErasedCode, Reading};
 use p25_gf64::Sym;
 
-/// The Reed-Solomon code over GF(64) of N symbols, of which the first K are the information (TIA-102.BAAA). Its words
-/// vanish, as polynomials with their first symbol as the highest coefficient, at α^1 to α^(N - K).
+/// The Reed-Solomon code over GF(64) of N symbols, the first K of which are the information (TIA-102.BAAA). Its
+/// codewords vanish at α^1 to α^(N - K), as polynomials with their first symbol as the highest coefficient.
 ///
-/// N is at most 63, K from 1 to below N, and N - K even and at most 22: the calls of `BlockCode` require this of the
-/// parameters. The radius is (N - K) / 2, and two different words differ in at least N - K + 1 symbols.
+/// The calls of `BlockCode` require that N is at most 63, K is at least 1 and less than N, and N - K is even and at
+/// most 22. The correction radius is (N - K) / 2, and two different codewords differ in at least N - K + 1 symbols.
 #[derive(Clone, Copy, Debug, PartialEq, Eq)]
 pub struct Rs<const N: usize, const K: usize>;
 

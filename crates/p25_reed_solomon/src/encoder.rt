@@ -1,8 +1,7 @@
-//! The check symbols of some information, by division by the generator polynomial.
+//! The check symbols of an information, by division by the generator polynomial.
 //!
-//! A list of symbols is seen here as a polynomial in 1/x: the symbol at j is the coefficient of the
-//! j-th power of 1/x. Times the highest power of x it is the usual polynomial, so both have the same
-//! zeros but 0.
+//! A list of symbols is used here as a polynomial in 1/x: the symbol at j is the coefficient of the j-th power of 1/x.
+//! Times the highest power of x it is the usual polynomial, so both have the same zeros except 0.
 
 ghost use Rattle.std.specs.Prelude.{◌≡◌, ℕ, ◌+◌, ◌≤◌, length, take};
 ghost use Rattle.p25_gf64.specs.Gf64.{gf64};
@@ -11,11 +10,12 @@ ghost use Rattle.p25_reed_solomon.specs.{Generator.{IsGenerator}, Words.{IsCode,
 
 use p25_gf64::Sym;
 
-// How many symbols are added at once, more than a generator polynomial has: so many that a compiler makes vector operations of them.
+// The number of symbols that are added at once, more than a generator polynomial has. With this number a compiler makes
+// vector operations of them.
 const WIDTH: usize = 32;
 
-// Sets `word` to the one word of the code that begins with the information. It takes 32 products for each symbol of information, and
-// as many for each check symbol.
+// Encodes an information: writes to `word` the one codeword that begins with it. It takes 32 products for each symbol
+// of information, and as many for each check symbol.
 pub(crate) fn encode(info: &[Sym], word: &mut [Sym])
     requires code { IsCode (length word.old) (length info.now) }
     ensures word { IsWord (length word.old) (length info.now) word.new }
@@ -25,8 +25,8 @@ pub(crate) fn encode(info: &[Sym], word: &mut [Sym])
     let generator = generator_of(n - k);
     let mut divided = [Sym::default(); 95];
     divided[..k].copy_from_slice(info);
-    // Multiples of the generator polynomial are added, so that all symbols but the last n - k become zero.
-    // The values at its zeros stay: what is left is the remainder.
+    // Multiples of the generator polynomial are added, so that all symbols but the last n - k become zero. The values
+    // at its zeros are unchanged, so the last symbols are the remainder.
     for i in 0..k {
         let factor = divided[i];
         add_multiple(&mut divided, factor, &generator, i);
@@ -35,7 +35,7 @@ pub(crate) fn encode(info: &[Sym], word: &mut [Sym])
     word[..k].copy_from_slice(info);
 }
 
-// The generator polynomial, whose zeros are α^1 to α^checks.
+// Returns the generator polynomial, whose zeros are α^1 to α^checks.
 fn generator_of(checks: usize) -> [Sym; 64]
     requires { checks ≤ 22 }
     ensures generator { IsGenerator checks result }
@@ -51,7 +51,8 @@ fn generator_of(checks: usize) -> [Sym; 64]
     generator
 }
 
-// Adds the factor times the other list, of which the first 32 symbols alone are not zero, moved up by the shift.
+// Adds the factor times the other list, moved up by the shift. Only the first 32 symbols of the other list are not
+// zero.
 fn add_multiple(into: &mut [Sym], factor: Sym, other: &[Sym], shift: usize)
     requires short { IsShort gf64 32 (coefficient gf64 other.now) }
     requires inside { 32 ≤ length other.now }

@@ -1,4 +1,5 @@
-//! The erasures of a received word: how many there are, and the polynomial with a zero for each of them as a factor of others.
+//! The erasures of a received word: their number, and the polynomial with a zero for each of them as a factor of
+//! others.
 
 ghost use Rattle.std.specs.Prelude.{◌≡◌, ℕ, ◌<◌, ◌≤◌, length};
 ghost use Rattle.p25_gf64.specs.Gf64.{gf64};
@@ -7,7 +8,7 @@ ghost use Rattle.p25_reed_solomon.specs.{Errors.{erased_below}, Locator.{times_e
 
 use p25_gf64::Sym;
 
-// How many places are erased.
+// Returns the number of erased positions.
 pub(crate) fn count_erasures(erased: &[bool]) -> usize
     requires { length erased.now ≤ 63 }
     ensures count { result ≡ erased_below erased.now (length erased.now) }
@@ -22,8 +23,8 @@ pub(crate) fn count_erasures(erased: &[bool]) -> usize
     count
 }
 
-// Multiplies a polynomial of 32 coefficients by 1 + x times the element of each erased place, of which there are so many, as far as there
-// is room.
+// Multiplies a polynomial of 32 coefficients by 1 + x times the element of each erased position, of which there are
+// `erasures`, as far as the coefficients reach.
 pub(crate) fn multiply_by_erasures(polynomial: &mut [Sym], erased: &[bool], erasures: usize)
     requires room { length polynomial.old ≡ 32 }
     requires count { erasures ≡ erased_below erased.now (length erased.now) }
@@ -45,7 +46,7 @@ pub(crate) fn multiply_by_erasures(polynomial: &mut [Sym], erased: &[bool], eras
     }
 }
 
-// Multiplies a polynomial of 32 coefficients by x, as far as there is room, and adds a multiple of another.
+// Multiplies a polynomial of 32 coefficients by x, as far as the coefficients reach, and adds a multiple of another.
 pub(crate) fn multiply_by_x_and_add(polynomial: &mut [Sym], factor: Sym, other: &[Sym])
     requires room { length polynomial.old ≡ 32 }
     requires other { length other.now ≡ 32 }
@@ -58,7 +59,7 @@ pub(crate) fn multiply_by_x_and_add(polynomial: &mut [Sym], factor: Sym, other: 
     }
 }
 
-// The polynomial times x, of whose coefficients there are 33.
+// Returns the polynomial times x, with 33 coefficients.
 fn moved_up(polynomial: &[Sym]) -> [Sym; 33]
     requires { length polynomial.now ≡ 32 }
     ensures moved { (k : ℕ) → coefficient gf64 result k ≡ shifted gf64 1 (coefficient gf64 polynomial.now) k }

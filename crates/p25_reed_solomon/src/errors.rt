@@ -1,4 +1,4 @@
-//! The errors of a received word: which places are wrong, and what was added at each.
+//! The errors of a received word: their positions, and the value added at each.
 
 ghost use Rattle.std.specs.Prelude.{◌≡◌, ℕ, ◌<◌, ◌≤◌, length, IsTrue, slice_index_or};
 ghost use Rattle.p25_gf64.specs.{declared.symbol.Sym.{Sym}, Gf64.{gf64}};
@@ -12,7 +12,8 @@ use crate::values::fill_errors;
 use crate::zeros::zeros;
 use p25_gf64::Sym;
 
-// Sets `out` to errors that explain the first `checks` syndromes of a word with these erasures, and answers true, exactly where some do.
+// Writes to `out` errors that explain the first `checks` syndromes of a word with these erasures, and returns true, if
+// and only if such errors exist.
 pub(crate) fn find_errors(
     syndromes: &[Sym],
     checks: usize,
@@ -52,7 +53,7 @@ pub(crate) fn find_errors(
     true
 }
 
-// Sets `out` to zeros but for these values, each added at its place.
+// Writes to `out` zeros except for these values, each added at its position.
 fn place(places: &[usize], values: &[Sym], out: &mut [Sym])
     requires as_many { length places.now ≤ length values.now }
     requires inside { (c : ℕ) → c < length places.now → slice_index_or places.now c 0 < length out.old }

@@ -1,18 +1,18 @@
 //! The Reed-Solomon codes of the Project 25 air interface (TIA-102.BAAA), over GF(64).
 //!
-//! A word is a slice of N symbols in the order in which they are sent: the K symbols of information first, then the
-//! N - K check symbols. As a polynomial, its first symbol is the highest coefficient, that of x^(N-1), and its last the
-//! constant. The words of the code are those that vanish at α^1 to α^(N-K), where α is the symbol 2. So the code has one
+//! A codeword is a slice of N symbols in the order of transmission: the K symbols of information first, then the N - K
+//! check symbols. As a polynomial, its first symbol is the highest coefficient, that of x^(N-1), and its last the
+//! constant. The codewords are the words that vanish at α^1 to α^(N-K), with the symbol 2 for α. So the code has one
 //! body for all sizes, and `Rs` takes these as parameters:
 //!
-//! | Code | Words of | Least distance | Radius |
+//! | Code | Codewords of | Least distance | Correction radius |
 //! |---|---|---|---|
 //! | `Rs<36, 20>` | the header | 17 | 8 |
 //! | `Rs<24, 12>` | the link control | 13 | 6 |
 //! | `Rs<24, 16>` | the encryption sync | 9 | 4 |
 //!
-//! Distances count symbols: two words of a code differ in at least N - K + 1 of them, and (N - K) / 2 wrong ones are
-//! corrected, whatever stands in them.
+//! Distances count symbols: two codewords differ in at least N - K + 1 of them, and (N - K) / 2 symbol errors are
+//! corrected, whatever their values.
 //!
 //! ```
 //! use p25_code::{BlockCode, Reading};
@@ -22,8 +22,8 @@
 //! assert_eq!(rt; Rs::<24, 12>::read(&mut word), Reading::Found { fixes: 6 });
 //! ```
 //!
-//! With `read_erased` some symbols are erased. A word is then read where twice the wrong symbols without an erasure, and
-//! the erasures, are at most N - K together:
+//! With `read_erased` some symbols are erasures. A word is then decoded if twice the symbol errors outside the
+//! erasures, plus the erasures, are at most N - K:
 //!
 //! ```
 //! use p25_code::{ErasedCode, Reading};
@@ -36,10 +36,11 @@
 //! assert_eq!(rt; reading, Reading::Found { fixes: 12 });
 //! ```
 //!
-//! The encoder divides by the generator polynomial. The reader is one for both calls. It makes the syndromes of what was received, and
-//! a word whose syndromes are zero is answered at once. From the syndromes, times a factor for each erasure, the key equation gives a
-//! polynomial that vanishes at the wrong places; its zeros, and its evaluator divided by its slope there (Forney's formula), give the
-//! errors. It answers Found only once the power sums of these are the syndromes. No call takes memory or fails.
+//! The encoder divides by the generator polynomial. One decoder serves both calls. It computes the syndromes of the
+//! received word, and returns at once if they are zero. From the syndromes, times a factor for each erasure, the key
+//! equation gives a polynomial that vanishes at the positions of the errors. Its zeros, and its evaluator divided by
+//! its slope there (Forney's formula), give the errors. The decoder returns `Found` only if the power sums of these
+//! errors are the syndromes. No call allocates memory or fails.
 #![tactic(auto)]
 
 mod code;

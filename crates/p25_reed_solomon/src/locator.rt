@@ -1,4 +1,5 @@
-//! The locator: a polynomial that vanishes at the inverse of the element of each place that is erased or wrong, and its evaluator.
+//! The locator: a polynomial that vanishes at the inverse of the element of each position that is erased or has an
+//! error, and its evaluator.
 
 ghost use Rattle.std.specs.Prelude.{◌≡◌, ℕ, ◌+◌, ◌*◌, ◌/◌, ◌<◌, ◌≤◌, length};
 ghost use Rattle.p25_gf64.specs.Gf64.{gf64};
@@ -10,9 +11,9 @@ use crate::erasures::{multiply_by_erasures, multiply_by_x_and_add};
 use p25_gf64::Sym;
 use p25_poly::{Key, Poly, key_solve};
 
-// Sets `locator` and `evaluator` to a locator of the first `checks` syndromes of a word with so many erasures, and its evaluator: the
-// solution of the key equation of the syndromes times the factor of each erasure, and this factor again. Answers the locator's degree,
-// or 1.
+// Writes to `locator` a locator of the first `checks` syndromes of a word with the given erasures, and to `evaluator`
+// its evaluator. They come from the solution of the key equation of the syndromes times the factor of each erasure, and
+// from this factor again. Returns the locator's degree, or 1 if it is lower.
 pub(crate) fn locate(
     syndromes: &[Sym],
     checks: usize,
@@ -46,7 +47,7 @@ pub(crate) fn locate(
     degree_bound(locator)
 }
 
-// The degree of a polynomial of 32 coefficients, and 1 where it is lower.
+// Returns the degree of a polynomial of 32 coefficients, or 1 if it is lower.
 fn degree_bound(polynomial: &[Sym]) -> usize
     requires { length polynomial.now ≡ 32 }
     ensures some { 1 ≤ result }
@@ -61,7 +62,7 @@ fn degree_bound(polynomial: &[Sym]) -> usize
     1
 }
 
-// The solution of the key equation, which without symbols is 1 with the evaluator 0.
+// Returns the solution of the key equation, which without symbols is 1 with the evaluator 0.
 fn key_of(symbols: &[Sym]) -> Key
     requires few { length symbols.now ≤ 22 }
     requires even { 2 * (length symbols.now / 2) ≡ length symbols.now }
@@ -76,7 +77,7 @@ fn key_of(symbols: &[Sym]) -> Key
     key_solve(symbols)
 }
 
-// Sets `out` to the first coefficients of a polynomial.
+// Writes to `out` the first coefficients of a polynomial.
 fn fill_front(polynomial: &Poly, out: &mut [Sym])
     requires { length out.old ≡ 32 }
     ensures { (k : ℕ) → k < 32 → coefficient gf64 out.new k ≡ coefficient_of polynomial.now k }

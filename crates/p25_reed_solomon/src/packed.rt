@@ -8,14 +8,15 @@ ghost use Rattle.p25_reed_solomon.specs.Words.{value_of};
 use p25_bits::sums;
 use p25_gf64::Sym;
 
-// How many symbols a word has at most.
+// The most symbols of a word.
 pub(crate) const SYMBOLS_MOST: usize = 36;
 
-// How many values are told of a word.
+// The number of values that are computed of a word.
 pub(crate) const VALUES_MOST: usize = 16;
 
-// The values of v · x^e at α^1 to α^16, at 2 · e and v, and those of 8 · v · x^e at 2 · e + 1 and v, for each e below 36 and each v
-// below 8: sixteen symbols in the sixteen octets of a number, the lowest first. Those of 4, 2 and 1 are enough to make all.
+// The values of v · x^e at α^1 to α^16, at 2 · e and v, and those of 8 · v · x^e at 2 · e + 1 and v, for each e below
+// 36 and each v below 8: sixteen symbols in the sixteen octets of a number, the lowest first. The entries of 4, 2 and 1
+// are enough to make all.
 static VALUES: [[u128; 8]; 72] = [
     sums! { 0x04040404_04040404_04040404_04040404, 0x02020202_02020202_02020202_02020202, 0x01010101_01010101_01010101_01010101 },
     sums! { 0x20202020_20202020_20202020_20202020, 0x10101010_10101010_10101010_10101010, 0x08080808_08080808_08080808_08080808 },
@@ -91,7 +92,7 @@ static VALUES: [[u128; 8]; 72] = [
     sums! { 0x3107171E_27052F20_12310717_1E27052F, 0x39222A0F_32233610_0939222A_0F322336, 0x3D111526_19301B08_253D1115_2619301B },
 ];
 
-// Answers the values of a word at α^1 to α^16, in the octets of a number, the lowest first.
+// Returns the values of a word at α^1 to α^16, in the octets of a number, the lowest first.
 pub(crate) fn values_of(word: &[Sym]) -> u128
     requires { length word.now ≤ 36 }
     ensures { (b : ℕ) → b < 16 → result / 2 ^ (8 * b) % 2 ^ 8 ≡ number (value_of (length word.now) word.now (b + 1)) }
@@ -105,7 +106,7 @@ pub(crate) fn values_of(word: &[Sym]) -> u128
     values
 }
 
-// Whether so many octets of a number, from the lowest on, are zero. It may look at a few more.
+// Returns whether the lowest `count` octets of a number are zero. It may test a few more.
 pub(crate) fn are_zero(values: u128, count: usize) -> bool
     requires { count ≤ 16 }
     ensures { result ≡ true → (b : ℕ) → b < count → values / 2 ^ (8 * b) % 2 ^ 8 ≡ 0 }
@@ -119,7 +120,7 @@ pub(crate) fn are_zero(values: u128, count: usize) -> bool
     }
 }
 
-// Sets the first sixteen symbols to those in the octets of a number.
+// Writes to the first sixteen symbols those in the octets of a number.
 pub(crate) fn put_values(values: u128, out: &mut [Sym])
     requires room { length out.old ≡ 32 }
     requires symbols { (b : ℕ) → b < 16 → values / 2 ^ (8 * b) % 2 ^ 8 < 64 }

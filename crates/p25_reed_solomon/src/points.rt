@@ -6,7 +6,7 @@ ghost use Rattle.p25_algebra.specs.Series.{coefficient, value_at};
 
 use p25_gf64::Sym;
 
-// Sets `powers` to the powers of α from an exponent on.
+// Writes to `powers` the powers of α from an exponent on.
 pub(crate) fn fill_powers(first: u32, powers: &mut [Sym])
     ensures { (r : ℕ) → r < length powers.old → coefficient gf64 powers.new r ≡ power gf64 alpha (first + r) }
 {
@@ -18,7 +18,7 @@ pub(crate) fn fill_powers(first: u32, powers: &mut [Sym])
     }
 }
 
-// A step of Horner's rule at each point: the value times the point, plus the symbol.
+// Makes a step of Horner's rule at each point: the value times the point, plus the symbol.
 pub(crate) fn horner_step(values: &mut [Sym], points: &[Sym], symbol: Sym)
     requires { length points.now ≡ length values.old }
     ensures { (r : ℕ) → r < length values.old
@@ -29,7 +29,7 @@ pub(crate) fn horner_step(values: &mut [Sym], points: &[Sym], symbol: Sym)
     }
 }
 
-// Sets `values` to the values at each point of a polynomial by its coefficients, lowest first.
+// Writes to `values` the values at each point of a polynomial by its coefficients, lowest first.
 pub(crate) fn fill_values(polynomial: &[Sym], points: &[Sym], values: &mut [Sym])
     requires { length points.now ≡ length values.old }
     ensures { (r : ℕ) → r < length values.old

@@ -1,4 +1,4 @@
-//! The reader of a received word, with erasures or without.
+//! The decoder of a received word, with erasures or without.
 
 ghost use Rattle.std.specs.Prelude.{◌≡◌, ◌-◌, ◌≤◌, length};
 ghost use Rattle.p25_gf64.specs.Gf64.{gf64};
@@ -12,7 +12,8 @@ use crate::syndromes::are_syndromes_zero;
 use p25_code::Reading;
 use p25_gf64::Sym;
 
-// Reads a received word of the code with k information symbols to the radius: as one without an erasure.
+// Decodes a received word of the code with k information symbols up to the correction radius, as a word without an
+// erasure.
 pub(crate) fn read(word: &mut [Sym], k: usize) -> Reading
     requires { IsCode (length word.old) k }
     ensures { IsReading same_symbols (IsWord (length word.old) k) (radius_of (length word.old) k) word.old word.new result }
@@ -21,8 +22,8 @@ pub(crate) fn read(word: &mut [Sym], k: usize) -> Reading
     read_erased(word, k, &[false; 63][..n])
 }
 
-// Reads a received word with erasures of the code with k information symbols, to a cost of as many as there are check symbols: the errors
-// that explain its syndromes are taken away.
+// Decodes a received word with erasures of the code with k information symbols, up to a cost of the number of check
+// symbols: the errors that explain its syndromes are subtracted.
 pub(crate) fn read_erased(word: &mut [Sym], k: usize, erased: &[bool]) -> Reading
     requires code { IsCode (length word.old) k }
     requires erased { length erased.now ≡ length word.old }
@@ -49,7 +50,7 @@ pub(crate) fn read_erased(word: &mut [Sym], k: usize, erased: &[bool]) -> Readin
     }
 }
 
-// How many symbols are not zero.
+// Returns the number of symbols that are not zero.
 fn weight(symbols: &[Sym]) -> u32
     requires { length symbols.now ≤ 63 }
     ensures { result ≡ nonzeros gf64 (length symbols.now) (coefficient gf64 symbols.now) }

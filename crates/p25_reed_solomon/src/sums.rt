@@ -7,7 +7,8 @@ ghost use Rattle.p25_reed_solomon.specs.Errors.{element_of};
 
 use p25_gf64::Sym;
 
-// Whether the power sums of these values at the elements of listed places among n, from the first power on, are the syndromes.
+// Returns whether the power sums of these values at the elements of listed positions among n, from the first power on,
+// are the syndromes.
 pub(crate) fn are_sums(syndromes: &[Sym], n: usize, places: &[usize], values: &[Sym]) -> bool
     requires places { n ≤ 63 }
     requires few { length places.now ≤ 24 }
@@ -34,7 +35,7 @@ pub(crate) fn are_sums(syndromes: &[Sym], n: usize, places: &[usize], values: &[
     true
 }
 
-// The elements of listed places among n, with zeros after them.
+// Returns the elements of listed positions among n, with zeros after them.
 fn elements_of(n: usize, places: &[usize]) -> [Sym; 32]
     requires places { n ≤ 63 }
     requires few { length places.now ≤ 24 }

@@ -1,4 +1,4 @@
-//! Syndromes: the values of a received word at the powers of α at which each word of the code vanishes.
+//! Syndromes: the values of a received word at the powers of α at which each codeword vanishes.
 
 ghost use Rattle.std.specs.Prelude.{◌≡◌, ℕ, ◌+◌, ◌<◌, ◌≤◌, length, true, false};
 ghost use Rattle.p25_gf64.specs.Gf64.{gf64};
@@ -9,8 +9,8 @@ use crate::packed::{SYMBOLS_MOST, VALUES_MOST, are_zero, put_values, values_of};
 use crate::points::{fill_powers, horner_step};
 use p25_gf64::Sym;
 
-/// Sets `out`, of 32 symbols, to the values of a word of at most 63 symbols at α^1 to α^32. Its first symbol is the highest
-/// coefficient.
+/// Writes to `out`, of 32 symbols, the values of a word at α^1 to α^32. It requires a word of at most 63 symbols. The
+/// first symbol of the word is the highest coefficient.
 pub fn fill_syndromes(word: &[Sym], out: &mut [Sym])
     requires word { length word.now ≤ 63 }
     requires room { length out.old ≡ 32 }
@@ -24,7 +24,8 @@ pub fn fill_syndromes(word: &[Sym], out: &mut [Sym])
     }
 }
 
-// Whether the first `checks` syndromes of a word are zero. Where they are not, the first of `out` are set to them.
+// Returns whether the first `checks` syndromes of a word are zero. If they are not, writes them to the first symbols of
+// `out`.
 pub(crate) fn are_syndromes_zero(word: &[Sym], checks: usize, out: &mut [Sym]) -> bool
     requires word { length word.now ≤ 63 }
     requires few { checks ≤ 32 }

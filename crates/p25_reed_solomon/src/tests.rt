@@ -1,4 +1,4 @@
-//! Words that other programs encoded and read. A text gives a symbol by two octal digits.
+//! Words that other programs encoded and decoded. A text represents a symbol by two octal digits.
 
 ghost use Rattle.std.specs.Prelude.{◌-◌, ◌≤◌};
 ghost use Rattle.p25_reed_solomon.specs.Words.{IsCode};
@@ -42,7 +42,7 @@ fn symbols_of<const N: usize>(text: &str) -> [Sym; N] {
     symbols
 }
 
-// Whether a received word is read so, and what it is then.
+// Whether a received word is decoded with this result, and to this word.
 fn is_read<const N: usize, const K: usize>(
     received: &[Sym; N],
     reading: Reading,
@@ -54,7 +54,7 @@ fn is_read<const N: usize, const K: usize>(
     read_received::<Rs<N, K>>(&mut word) == reading && word == *read
 }
 
-// Whether a word of the code is what its information is encoded to.
+// Whether a codeword is the encoding of its information.
 fn is_encoded<const N: usize, const K: usize>(sent: &[Sym; N]) -> bool
     requires { IsCode N K }
 {
@@ -63,7 +63,7 @@ fn is_encoded<const N: usize, const K: usize>(sent: &[Sym; N]) -> bool
     word == *sent && read_received::<Rs<N, K>>(&mut word) == (Reading::Found { fixes: 0 })
 }
 
-// Whether a word of the code is read, and is what its information is encoded to.
+// Whether a codeword is decoded, and is the encoding of its information.
 fn is_found<const N: usize, const K: usize>(row: &(&str, u32, &str)) -> bool
     requires { IsCode N K }
 {
@@ -73,7 +73,7 @@ fn is_found<const N: usize, const K: usize>(row: &(&str, u32, &str)) -> bool
         && is_encoded::<N, K>(&sent)
 }
 
-// Whether no word of the code is near enough: nothing is changed.
+// Whether no codeword is near enough, and nothing is changed.
 fn is_beyond<const N: usize, const K: usize>(received: &str) -> bool
     requires { IsCode N K }
 {
@@ -90,7 +90,7 @@ fn zeros_but_first<const N: usize>(count: usize) -> [Sym; N] {
     word
 }
 
-// Whether the word of zeros is read where as many symbols as the radius says are 63.
+// Whether the codeword of zeros is decoded if as many symbols as the correction radius are 63.
 fn reads_to<const N: usize, const K: usize>(radius: usize, fixes: u32) -> bool
     requires { IsCode N K }
 {
@@ -99,7 +99,7 @@ fn reads_to<const N: usize, const K: usize>(radius: usize, fixes: u32) -> bool
         && is_read::<N, K>(&received, Reading::Found { fixes }, &[Sym::default(); N])
 }
 
-// A word whose first symbols are other ones.
+// A codeword whose first symbols are replaced by other ones.
 fn with_wrong<const N: usize>(sent: &[Sym; N], count: usize) -> [Sym; N] {
     let mut word = *sent;
     for symbol in word.iter_mut().take(count) {
@@ -108,7 +108,7 @@ fn with_wrong<const N: usize>(sent: &[Sym; N], count: usize) -> [Sym; N] {
     word
 }
 
-// So many erasures after the first places.
+// This many erasures after the first positions.
 fn erased_from<const N: usize>(first: usize, count: usize) -> [bool; N] {
     let mut erased = [false; N];
     for i in 0..N {
@@ -117,7 +117,8 @@ fn erased_from<const N: usize>(first: usize, count: usize) -> [bool; N] {
     erased
 }
 
-// Whether a received word is read so where so many symbols are erased after the first places, and what it is then.
+// Whether a received word is decoded with this result and to this word, if this many symbols are erased after the first
+// positions.
 fn is_read_erased<const N: usize, const K: usize>(
     received: &[Sym; N],
     first: usize,
@@ -132,8 +133,8 @@ fn is_read_erased<const N: usize, const K: usize>(
     read_with_erasures::<Rs<N, K>>(&mut word, &erased) == reading && word == *read
 }
 
-// Whether a word is read with so many erasures at its beginning, and as many wrong symbols in them and after them as there may be: each
-// erasure costs one, each wrong symbol two.
+// Whether a codeword is decoded with this many erasures at its beginning, and as many symbol errors in them and after
+// them as possible: each erasure costs one, each symbol error two.
 fn reads_wrong<const N: usize, const K: usize>(sent: &[Sym; N], erasures: usize) -> bool
     requires code { IsCode N K }
     requires few { erasures ≤ N - K }
@@ -148,7 +149,7 @@ fn reads_wrong<const N: usize, const K: usize>(sent: &[Sym; N], erasures: usize)
     true
 }
 
-// Whether it is with each number of erasures.
+// Whether that holds for each number of erasures.
 fn reads_with<const N: usize, const K: usize>(sent: &str) -> bool
     requires { IsCode N K }
 {
@@ -161,7 +162,8 @@ fn reads_with<const N: usize, const K: usize>(sent: &str) -> bool
     true
 }
 
-// Whether a word is left where fewer than all of its check symbols are erased, and read as the word of zeros where all are.
+// Whether a word is unchanged if not all of its check symbols are erased, and decoded to the codeword of zeros if all
+// are.
 fn reads_few<const N: usize, const K: usize>(received: &[Sym; N], erasures: usize) -> bool
     requires code { IsCode N K }
     requires few { erasures ≤ N - K }
@@ -179,9 +181,9 @@ fn reads_few<const N: usize, const K: usize>(received: &[Sym; N], erasures: usiz
     )
 }
 
-// The coefficients of (x - α)(x - α^2)..(x - α^(N - K - 1)), which stand in the check symbols, differ from each word of the code in
-// N - K symbols at least. So with fewer erasures than that no word costs so little as is allowed, one too much with one erasure less, and
-// with as many the word is read.
+// The coefficients of (x - α)(x - α^2)..(x - α^(N - K - 1)), which are in the check symbols, differ from each codeword
+// in at least N - K symbols. So with fewer erasures than that no codeword is within the cost, with one erasure less by
+// one only; and with that many the word is decoded.
 fn needs_all<const N: usize, const K: usize>(received: &str) -> bool
     requires { IsCode N K }
 {

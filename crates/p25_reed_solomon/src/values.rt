@@ -8,8 +8,8 @@ ghost use Rattle.p25_reed_solomon.specs.Errors.{point_of};
 use crate::points::{fill_values, horner_step};
 use p25_gf64::Sym;
 
-// Sets `out` to the errors at listed places among n, and zeros after them. Times the locator's slope at the point of its place, where
-// this isn't zero, each is the evaluator's value there.
+// Writes to `out` the errors at listed positions among n, and zeros after them. Each error times the locator's slope at
+// the point of its position, if this slope is not zero, is the evaluator's value there.
 pub(crate) fn fill_errors(
     locator: &[Sym],
     evaluator: &[Sym],
@@ -39,7 +39,7 @@ pub(crate) fn fill_errors(
     }
 }
 
-// The points of listed places among n, with zeros after them.
+// Returns the points of listed positions among n, with zeros after them.
 fn points_of(n: usize, places: &[usize]) -> [Sym; 32]
     requires places { n ≤ 63 }
     requires few { length places.now ≤ 24 }
@@ -54,7 +54,7 @@ fn points_of(n: usize, places: &[usize]) -> [Sym; 32]
     points
 }
 
-// The slopes of a polynomial at each of 32 points.
+// Returns the slopes of a polynomial at each of 32 points.
 fn slopes_of(polynomial: &[Sym], points: &[Sym]) -> [Sym; 32]
     requires { length points.now ≡ 32 }
     ensures slopes { (r : ℕ) → r < 32
@@ -64,7 +64,7 @@ fn slopes_of(polynomial: &[Sym], points: &[Sym]) -> [Sym; 32]
     let mut slopes = [Sym::default(); 32];
     let mut values = [Sym::default(); 32];
     for i in (0..polynomial.len()).rev() {
-        // Horner's rule for the slopes takes the values before this step.
+        // Horner's rule for the slopes takes the values from before this step.
         for r in 0..32 {
             slopes[r] = slopes[r].mul(points[r]).add(values[r]);
         }

@@ -1,4 +1,4 @@
-//! The wrong places of a received word, for codes whose errors are known once their places are.
+//! The positions of the errors of a received word, for codes whose errors are known once their positions are.
 
 ghost use Rattle.std.specs.Prelude.{◌≡◌, ◌≢◌, ◌↔◌, ℕ, ◌<◌, ◌≤◌, length};
 ghost use Rattle.p25_gf64.specs.{declared.symbol.Sym.{Sym}, Gf64.{gf64}};
@@ -8,13 +8,15 @@ ghost use Rattle.p25_reed_solomon.specs.Errors.{AreErrors, point_of};
 use p25_gf64::Sym;
 use p25_poly::key_solve;
 
-/// Answers a polynomial of degree 11 at most, its lowest coefficient first, that vanishes at the point of a place, the inverse of α to
-/// the exponent of its coefficient, exactly where the received word of n symbols is wrong there: for any errors that explain its first
-/// `checks` syndromes and are half as many at most. Where no errors do, nothing is said of it. There are at most 63 places, the
-/// first that of the highest coefficient, and `syndromes` are 32 as `fill_syndromes` sets them.
+/// Returns a polynomial of degree at most 11, its lowest coefficient first, that locates the errors of a received word
+/// of n symbols. Take any errors that explain the first `checks` syndromes and are at most half as many. The polynomial
+/// vanishes at the point of a position if and only if there is an error at that position. The point of a position is
+/// the inverse of α to the exponent of its coefficient. If no such errors exist, the contract leaves the polynomial
+/// open. It requires at most 63 positions, the first that of the highest coefficient, and 32 `syndromes` as
+/// `fill_syndromes` writes them.
 ///
-/// The key equation of the syndromes is solved with the last of them first, whose locator vanishes at the elements of the places in
-/// place of their points: for a word of bits that takes half of the steps.
+/// The key equation of the syndromes is solved with the syndromes in reverse order. Its locator vanishes at the
+/// elements of the positions instead of their points, and for a word of bits that takes half of the steps.
 pub fn wrong_locator(syndromes: &[Sym], checks: usize, n: usize) -> [Sym; 12]
     requires places { n ≤ 63 }
     requires some { 2 ≤ checks }

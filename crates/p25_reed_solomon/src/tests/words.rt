@@ -1,6 +1,7 @@
-//! Words as they are received and sent, each symbol as two octal digits: read with so many wrong symbols, and beyond the radius.
+//! Words as received and transmitted, each symbol as two octal digits: correctable with a number of symbol errors, and
+//! uncorrectable.
 
-// Words of (36,20): received, the number of wrong symbols, sent.
+// Words of (36,20): received, the number of symbol errors, transmitted.
 pub(super) const FOUND_36_20: [(&str, u32, &str); 9] = [
     (
         "270175232777377521255315260744575571261610414715134206634110723660117725",
@@ -49,7 +50,7 @@ pub(super) const FOUND_36_20: [(&str, u32, &str); 9] = [
     ),
 ];
 
-// Words of which no word of (36,20) is near enough.
+// Words to which no codeword of (36,20) is near enough.
 pub(super) const BEYOND_36_20: [&str; 5] = [
     "426505302417372223235750031730421606360554162355116451037016142621100144",
     "421367701420747756410737757414705146051115527302251714634021520346657722",
@@ -58,7 +59,7 @@ pub(super) const BEYOND_36_20: [&str; 5] = [
     "461001661736227254432211533442736450766440774515115732277604062776100667",
 ];
 
-// Words of (24,12): received, the number of wrong symbols, sent.
+// Words of (24,12): received, the number of symbol errors, transmitted.
 pub(super) const FOUND_24_12: [(&str, u32, &str); 9] = [
     (
         "035000476356506273717415466536506351313017440371",
@@ -107,7 +108,7 @@ pub(super) const FOUND_24_12: [(&str, u32, &str); 9] = [
     ),
 ];
 
-// Words of which no word of (24,12) is near enough.
+// Words to which no codeword of (24,12) is near enough.
 pub(super) const BEYOND_24_12: [&str; 6] = [
     // the coefficients of (x - α)(x - α^2)..(x - α^11)
     "000000000000000000000000017414212573160627644310",
@@ -118,7 +119,7 @@ pub(super) const BEYOND_24_12: [&str; 6] = [
     "763443146210754671737443625421306553103166362115",
 ];
 
-// Words of (24,16): received, the number of wrong symbols, sent.
+// Words of (24,16): received, the number of symbol errors, transmitted.
 pub(super) const FOUND_24_16: [(&str, u32, &str); 9] = [
     (
         "031163745554154624037047554717145530440712313622",
@@ -167,7 +168,7 @@ pub(super) const FOUND_24_16: [(&str, u32, &str); 9] = [
     ),
 ];
 
-// Words of which no word of (24,16) is near enough.
+// Words to which no codeword of (24,16) is near enough.
 pub(super) const BEYOND_24_16: [&str; 5] = [
     "752655166353361004241352144402540604254607260550",
     "160665646015012164427351537072622702056464403552",
