@@ -1,4 +1,5 @@
--- The table of remainders is right at each place: the checker computes each entry by doubling. A word's remainder is the sum of those of its four-bit parts.
+-- The table of remainders is right at each position: the checker computes each entry by doubling. A word's remainder is the sum of those of its
+-- four-bit parts.
 use Rattle.std.proofs.Common.{◌≡◌, ℕ, List, [], get_or, ◌+◌, ◌*◌, ◌/◌, ◌%◌, ◌^◌, ◌<◌, bit_xor, refl, ap, sym, ◌∙◌, subst, arith}
 use Rattle.std.specs.Int.Bits.{xor_zero_r}
 use Rattle.p25_bits.specs.{Divisible.{IsDivisible, IsRemainder}, Numbers.{each_below}}

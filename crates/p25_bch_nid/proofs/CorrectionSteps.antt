@@ -1,5 +1,5 @@
--- Inverting the bits of the places that are wrong makes the word that was sent: the symbols of two bits add to zero exactly where the
--- bits are the same.
+-- Inverting the bits at the positions of the errors makes the transmitted word: the symbols of two bits add to zero if and only if the bits are the
+-- same.
 use Rattle.std.proofs.Common.{◌≡◌, ◌≢◌, ◌↔◌, ℕ, zero, suc, ◌+◌, ◌-◌, ◌%◌, ◌^◌, ◌<◌, eqb, bit_xor, ◌≤◌, Bool, true, false, cond, not, IsTrue, List, ◌∷◌, Option, length, get_or, refl, ap, sym, ◌∙◌, subst, arith, lit<}
 use Rattle.std.proofs.{Math.Nat.{mod-eq_of_lt}, lemmas.Nat.Bits.{bit_at_xor, bit_at-lt}, lemmas.Bool.{false≢true}, lemmas.List.{ext_get_or, length-map}}
 use Rattle.std.specs.{Bool.{beq}, Int.{bit_at}, Int.RustNames.{count_ones}, Int.Bits.{xor_zero_r}}

@@ -1,5 +1,5 @@
--- The laws of the reading of identifiers. They follow from those of the code: at most one word lies within the radius, and one word
--- begins with a NAC and a DUID.
+-- The laws of the decoding of identifiers. They follow from those of the code: at most one codeword lies within the correction radius, and one
+-- codeword begins with a NAC and a DUID.
 use Rattle.std.proofs.{Common.{◌≡◌, ℕ, ◌≤◌, Bool, List, length, take, Option, Some, None, option_map, refl, arith}, lemmas.List.{length-take-le}}
 use Rattle.std.specs.Bool.{beq}
 use Rattle.p25_bits.specs.Distance.{distance_of}

@@ -1,4 +1,4 @@
--- Identifiers as the bits that are sent.
+-- Identifiers as their transmitted bits.
 use Rattle.std.proofs.Common.{◌≡◌, ℕ, ◌+◌, ◌*◌, ◌/◌, ◌%◌, ◌^◌, ◌<◌, Bool, true, false, cond, bit_xor, ap, sym, ◌∙◌, subst, arith, lit<}
 use Rattle.std.proofs.lemmas.Nat.{shr_high, shr-shr, xor_shr, mod_below, pow_pos, div-mul-add, mod-mul-add}
 use Rattle.std.specs.Int.Bits.{xor_self}

@@ -1,5 +1,5 @@
--- The 64 bits that an identifier is sent as: a word of the code and P. A word is the one that begins with the NAC and the DUID in it,
--- so what is sent is read as the identifier, and what was read lies within the radius of what is sent for it.
+-- The 64 transmitted bits of an identifier: a codeword and P. A codeword is the one that begins with its NAC and DUID, so the transmitted bits decode
+-- to the identifier. The received bits lie within the correction radius of the transmitted bits of the decoded identifier.
 use Rattle.std.proofs.Common.{◌≡◌, ℕ, ◌≤◌, ◌<◌, ◌^◌, ◌++◌, Bool, eqb, List, [], ◌∷◌, length, take, drop, Some, ap, ap₂, sym, subst, ◌∙◌, arith, length-append, length-drop, mod-eq_of_lt}
 use Rattle.std.proofs.{Math.Seq.{take-add}, lemmas.List.{length-take-le, take_at, drop_at, take-take, drop-take}}
 use Rattle.p25_bits.specs.{Bits.{bits_of, field_of, part}, Distance.{distance_of}}

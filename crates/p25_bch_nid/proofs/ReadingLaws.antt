@@ -1,5 +1,5 @@
--- What each way through the reader of identifiers answers: the number of a word has its NAC and DUID in its highest bits, and a word
--- is read as the code reads it.
+-- The result of each branch of the decoder of identifiers. The number of a codeword has its NAC and DUID in its highest bits, and the result is the
+-- decoding of the code.
 use Rattle.std.proofs.Common.{◌≡◌, ℕ, ◌/◌, ◌%◌, ◌^◌, ◌<◌, ◌≤◌, Bool, List, take, bit_xor, Option, Some, option_map, ap, sym, ◌∙◌, arith, mod-eq_of_lt}
 use Rattle.std.proofs.lemmas.List.{take_at, drop_at, drop-take}
 use Rattle.std.specs.{Int.RustNames.{count_ones}}

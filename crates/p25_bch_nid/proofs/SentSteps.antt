@@ -1,4 +1,4 @@
--- What the writer of identifiers answers: its number is the one that is sent, and its bits are the word of the code and P.
+-- The result of the encoder of identifiers: its number is the transmitted one, and its bits are the codeword and P.
 use Rattle.std.proofs.{Common.{◌≡◌, ℕ, ◌+◌, ◌*◌, ◌/◌, ◌^◌, ◌<◌, ◌++◌, Bool, List, take, bit_xor, Some, ap, ap₂, sym, ◌∙◌, arith, mod-eq_of_lt}, lemmas.List.{take_at}}
 use Rattle.std.proofs.lemmas.Nat.{shr-shr, xor_shr, div-mul-add, mod-mul-add}
 use Rattle.std.specs.Int.RustNames.{count_ones}

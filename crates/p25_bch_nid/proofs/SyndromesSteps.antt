@@ -1,5 +1,5 @@
--- The table of values is right at each place: the checker computes each entry. A word's values are the sums of those of its
--- four-bit parts, octet by octet.
+-- The table of values is right at each position: the checker computes each entry. A word's values are the sums of those of its four-bit parts, octet
+-- by octet.
 use Rattle.std.proofs.{Common.{◌≡◌, ℕ, zero, suc, ◌+◌, ◌-◌, ◌*◌, ◌/◌, ◌%◌, ◌^◌, ◌<◌, ◌≤◌, ◌==◌, [], true, bit_xor, get_or, refl, ap, ap₂, sym, ◌∙◌, arith}, lemmas.Bool.{eqb-true}}
 use Rattle.std.proofs.{lemmas.Nat.{xor_shr, xor_mod, xor_comm, pow_pos, mod-pow-add}, Math.Nat.{pow-suc, mod-lt}}
 use Rattle.p25_bits.specs.Bits.{bits_of}

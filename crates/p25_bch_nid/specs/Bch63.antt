@@ -1,4 +1,4 @@
--- The BCH code (63,16) of the network identifier, by the zeros of its words.
+-- The BCH code (63,16) of the network identifier, by the zeros of its codewords.
 use Rattle.std.specs.Prelude.{◌≡◌, ℕ, ◌≤◌, Bool, List, length, map}
 use Rattle.p25_gf64.specs.{declared.symbol.Sym.{Sym}, Gf64.{gf64}}
 use Rattle.p25_reed_solomon.specs.Words.{value_of}

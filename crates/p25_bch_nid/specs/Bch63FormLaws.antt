@@ -26,9 +26,9 @@ generator_degree = record { highest = lit≤ tt; none_above = lit< tt }
 some : 1 < 2 ^ 47
 some = lit< tt
 
--- ---- sums over places are values
+-- ---- sums over positions are values
 
--- the sum over the places is the value of the word's polynomial at α^i
+-- the sum over the positions is the value of the word's polynomial at α^i
 pub value_of-symbols : (word : List Bool) (n i : ℕ) → length word ≡ n → value_of n (symbols_of word) i ≡ bit_value gf64 (power gf64 alpha i) word
 value_of-symbols word n i long =
     subst (λ m. value_of m (symbols_of word) i ≡ bit_value gf64 (power gf64 alpha i) word) long
@@ -51,7 +51,7 @@ digit_number : (bit : Bool) → number (bit_coefficient gf64 bit) ≡ digit_of b
 digit_number true = number_one
 digit_number false = number_zero
 
--- it is the value, after what stands before
+-- it is the value, after the coefficients before
 pub horner-value : (x high : Sym) (bits : List Bool)
     → horner (number x) (number high) bits ≡ number (gf64.add (gf64.mul high (power gf64 x (length bits))) (bit_value gf64 x bits))
 unfolding horner
@@ -148,7 +148,7 @@ zeros_apart = record { apart = apart }
         ]
 
 module _ (bits : List Bool) (zeros : (i : ℕ) → 1 ≤ i → i ≤ 22 → bit_value gf64 (power gf64 alpha i) bits ≡ gf64.zero) where
-  -- with an exponent its double is one of a zero
+  -- the double of the exponent of a zero is the exponent of a zero
   doubled : (e : ℕ) → bit_value gf64 (power gf64 alpha e) bits ≡ gf64.zero → bit_value gf64 (power gf64 alpha (2 * e % 63)) bits ≡ gf64.zero
   doubled e none =
       let twice : 2 * e ≡ e + e = omega arith in
@@ -159,7 +159,7 @@ module _ (bits : List Bool) (zeros : (i : ℕ) → 1 ≤ i → i ≤ 22 → bit_
       ∙ ap (λ v. gf64.mul v (bit_value gf64 (power gf64 alpha e) bits)) none
       ∙ zero_mul gf64 (bit_value gf64 (power gf64 alpha e) bits)
 
-  -- so each of the table is one
+  -- so each of the table is the exponent of a zero
   each_zero : (j : ℕ) → j < 47 → bit_value gf64 (power gf64 alpha (exponent j)) bits ≡ gf64.zero
   unfolding is_next exponent exponents
   each_zero zero h = zeros 1 (omega arith) (omega arith)
@@ -180,7 +180,7 @@ module _ (bits : List Bool) (zeros : (i : ℕ) → 1 ≤ i → i ≤ 22 → bit_
 
 -- ---- the two forms
 
--- a word is divisible by the generator
+-- a codeword is divisible by the generator
 pub to_divisible : (word : List Bool) → IsBch63 word → IsDivisible generator (field_of word)
 to_divisible word is =
     let r = syndrome_of (remainders generator 47 (length word)) word in
@@ -190,7 +190,7 @@ to_divisible word is =
     let low : r < 2 ^ 47 = (IsRemainder-word generator_degree some word).lower in
     divisible-remainders generator_degree some word (sym (mod-eq_of_lt low) ∙ sym (field_of-bits_of 47 r) ∙ only_zeros bits zeros (length-bits_of 47 r))
 
--- 63 bits divisible by the generator are a word
+-- 63 bits divisible by the generator are a codeword
 pub from_divisible : (word : List Bool) → length word ≡ 63 → IsDivisible generator (field_of word) → IsBch63 word
 from_divisible word long divisible =
     let none = remainders-divisible generator_degree some word divisible in

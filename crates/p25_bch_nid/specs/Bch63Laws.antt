@@ -1,4 +1,4 @@
--- The laws of the code (63,16): its words by their information, and how far they lie apart.
+-- The laws of the code (63,16): its codewords by their information, and their distance.
 use Rattle.std.specs.{Prelude.{◌≡◌, ◌≢◌, ℕ, ◌+◌, ◌*◌, ◌^◌, ◌<◌, ◌≤◌, Bool, List, ◌++◌, length, take, drop, bit_xor}, Int.Bits.{xor_self}, Bool.{beq}}
 use Rattle.std.specs.Cmp.{bool_eq_equiv}
 use Rattle.std.proofs.{Common.{ap, sym, subst, ◌∙◌, arith, lit≤, lit<, take-append-drop, length-drop, length-append}, Math.Nat.{mod-eq_of_lt}}
@@ -19,7 +19,7 @@ use Rattle.p25_bch_nid.specs.Bch63FormLaws.{generator_degree, to_divisible, from
 unfoldable pub encoded_by : List Bool → ℕ → List Bool
 encoded_by info remainder = info ++ bits_of 47 remainder
 
--- where that is the remainder, it is a word that begins with the information
+-- if that is the remainder, it is a codeword that begins with the information
 pub IsEncoding-encoded_by : (info : List Bool) (remainder : ℕ) → length info ≡ 16 → IsRemainder generator 47 (field_of info * 2 ^ 47) remainder
     → IsEncoding IsBch63 16 info (encoded_by info remainder)
 unfolding encoded_by
@@ -37,18 +37,18 @@ IsEncoding-encoded_by info remainder long is =
       begins = ap (λ n. take n (info ++ checks)) (sym long) ∙ take-append_seam info checks;
     }
 
--- the word of some information
+-- the codeword of an information
 pub encoded : List Bool → List Bool
 encoded info = encoded_by info (some_remainder generator 47 (field_of info * 2 ^ 47) generator_degree).0
 
--- it is a word that begins with the information
+-- it is a codeword that begins with the information
 pub IsEncoding-encoded : (info : List Bool) → length info ≡ 16 → IsEncoding IsBch63 16 info (encoded info)
 unfolding encoded
 IsEncoding-encoded info long =
     let some = some_remainder generator 47 (field_of info * 2 ^ 47) generator_degree in
     IsEncoding-encoded_by info some.0 long some.1
 
--- what stands before the last 47 of 63 bits is the high part of their number
+-- the bits before the last 47 of 63 bits are the high part of their number
 split_number : (word : List Bool) → length word ≡ 63 → field_of word ≡ field_of (take 16 word) * 2 ^ 47 + field_of (drop 16 word)
 split_number word long =
     let rest : length (drop 16 word) ≡ 47 = omega (arith, length-drop 16 word) in
@@ -59,7 +59,7 @@ low_part word long =
     let rest : length (drop 16 word) ≡ 47 = omega (arith, length-drop 16 word) in
     simp rest at (field_of-lt (drop 16 word))
 
--- no other word has the same information
+-- no other codeword has the same information
 pub one_word : (v w : List Bool) → IsBch63 v → IsBch63 w → take 16 v ≡ take 16 w → v ≡ w
 one_word v w isv isw same =
     let a = field_of (take 16 v) in
@@ -85,7 +85,7 @@ one_word v w isv isw same =
 
 -- ---- the least distance
 
--- two different words differ in at least 23 bits, since their symbols are words of the Reed-Solomon code (63,41)
+-- two different codewords differ in at least 23 bits, because their symbols are codewords of the Reed-Solomon code (63,41)
 pub far_apart : (v w : List Bool) → IsBch63 v → IsBch63 w → v ≢ w → 23 ≤ distance_of v w
 far_apart v w isv isw differ =
     omega (
@@ -95,15 +95,15 @@ far_apart v w isv isw differ =
       distance_of_symbols,
     )
 
--- each word has 63 bits
+-- each codeword has 63 bits
 length_of_word : (word : List Bool) → IsBch63 word → length word ≡ 63
 length_of_word word is = is.long
 
--- so at most one word lies within 11 bits of any list
+-- so at most one codeword lies within 11 bits of any list
 within : 2 * 11 < 23
 within = lit< tt
 
--- the information is part of the word
+-- the information is part of the codeword
 begins : 16 ≤ 63
 begins = lit≤ tt
 

@@ -1,4 +1,4 @@
--- Symbols that are bits: words of bits as words of the Reed-Solomon code (63,41).
+-- Symbols that are bits: codewords of bits as codewords of the Reed-Solomon code (63,41).
 use Rattle.std.specs.{Prelude.{◌≡◌, ◌==◌, Bool, true, false, List, [], ◌∷◌, map, refl}, Bool.{beq}}
 use Rattle.std.proofs.{Common.{ap, sym, ◌∙◌, lit≤, lit<}, lemmas.Bool.{false_from_ne_true}, lemmas.List.{length-map}}
 use Rattle.p25_bits.specs.Distance.{distance_by, distance_of}
@@ -27,7 +27,7 @@ compares false false = same_symbols-same gf64.zero
 compares true false = false_from_ne_true _ (λ test. gf64.laws.one_ne_zero (same_from_eq gf64.one gf64.zero test))
 compares false true = false_from_ne_true _ (λ test. gf64.laws.one_ne_zero (sym (same_from_eq gf64.zero gf64.one test)))
 
--- so words of bits are as far apart as their symbols
+-- so the distance of words of bits is that of their symbols
 pub distance_of_symbols : (v w : List Bool) → distance_by same_symbols (symbols_of v) (symbols_of w) ≡ distance_of v w
 unfolding distance_by
 distance_of_symbols (x ∷ v) (y ∷ w) = cc (compares x y, distance_of_symbols v w)
@@ -37,7 +37,7 @@ distance_of_symbols v w = refl
 pub IsCode-63_41 : IsCode 63 41
 IsCode-63_41 = record { places = lit≤ tt; some = lit≤ tt; shorter = lit< tt; even = refl; few = lit≤ tt }
 
--- bits are a word exactly where their symbols are one of the Reed-Solomon code
+-- bits are a codeword if and only if their symbols are one of the Reed-Solomon code
 pub IsWord-symbols_of : (bits : List Bool) → IsBch63 bits → IsWord 63 41 (symbols_of bits)
 IsWord-symbols_of bits is = record { long = length-map bits (bit_coefficient gf64) ∙ is.long; vanishes = is.vanishes }
 

@@ -48,7 +48,7 @@ module _ {F : Type 0} (K : Field F) where
       regroup : (d p v q w : F) → d ⊗ (p ⊗ q) ⊕ (v ⊗ q ⊕ w) ≡ (d ⊗ p ⊕ v) ⊗ q ⊕ w
       regroup d p v q w = simp (add_mul K, mul_assoc K, add_assoc K)
 
-  -- one more place before two sums of which the rest is known
+  -- one more position before two sums whose other terms are known
   sum_first_places : (x : F) (a b : List Bool) (e d c : Bool) → length a ≡ length b → bit_coefficient K e ≡ bit_coefficient K d ⊕ bit_coefficient K c
       → bit_value K x (sum_of_words a b) ≡ bit_value K x a ⊕ bit_value K x b
       → bit_value K x (e ∷ sum_of_words a b) ≡ bit_value K x (d ∷ a) ⊕ bit_value K x (c ∷ b)
@@ -100,7 +100,7 @@ module _ {F : Type 0} (K : Field F) where
           apart : (d p : F) → d ⊗ d ⊗ (p ⊗ p) ≡ d ⊗ p ⊗ (d ⊗ p)
           apart d p = simp (mul_assoc K, mul_left_comm K)
 
-  -- the value as a sum over the places
+  -- the value as a sum over the positions
   pub bit_value-places : (x : F) (bits : List Bool)
       → sum_below K (length bits) (λ j. coefficient K (map (bit_coefficient K) bits) j ⊗ power K x (length bits - 1 - j)) ≡ bit_value K x bits
   unfolding bit_value
@@ -123,7 +123,7 @@ module _ {F : Type 0} (K : Field F) where
       less : (n i : ℕ) → suc n - 1 - suc i ≡ n - 1 - i
       less n i = omega arith
 
-  -- where the value is zero at as many different elements as there are bits, each bit is 0
+  -- if the value is zero at as many different elements as there are bits, each bit is 0
   pub no_coefficient : (bits : List Bool) (z : ℕ → F) → AreApart (length bits) z → ((j : ℕ) → j < length bits → bit_value K (z j) bits ≡ 𝟘) → field_of bits ≡ 0
   no_coefficient bits z apart zeros =
       let n = length bits in

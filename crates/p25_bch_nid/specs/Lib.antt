@@ -4,7 +4,7 @@ pub mod Bch63
 pub mod Bch63Readings
 pub mod NidReading
 pub mod NidWord
--- laws of impls: nothing to believe
+-- laws of impls, with no definition to trust
 pub mod BitValueLaws
 pub mod RemainderValueLaws
 pub mod Bch63FormLaws

@@ -1,4 +1,4 @@
--- Network identifiers (NID) as 64 sent bits: NAC, DUID, 47 check bits and P.
+-- Network identifiers (NID) as 64 transmitted bits: NAC, DUID, 47 check bits and P.
 use Rattle.std.specs.Prelude.{◌≡◌, ℕ, ◌+◌, ◌*◌, ◌/◌, ◌%◌, ◌^◌, ◌<◌, ◌==◌, ◌||◌, if◌then◌else◌}
 use Rattle.p25_bits.specs.Divisible.{IsDivisible}
 use Rattle.p25_bch_nid.specs.Duids.{duid_ldu1, duid_ldu2}
@@ -7,11 +7,11 @@ use Rattle.p25_bch_nid.specs.Duids.{duid_ldu1, duid_ldu2}
 abbrev pub generator : ℕ
 generator = 0xCD930BDD3B2B
 
--- P by the writer's rule: 1 for an LDU1 and an LDU2, 0 for every other unit
+-- P by the rule for transmitters: 1 for an LDU1 and an LDU2, 0 for every other data unit
 abbrev pub parity_of : ℕ → ℕ
 parity_of duid = if duid == duid_ldu1 || duid == duid_ldu2 then 1 else 0
 
--- the 64 bits that a network identifier (NID) is sent as, as a number: a BCH word that begins with NAC and DUID, and P
+-- the 64 transmitted bits of a network identifier (NID), as a number: a BCH codeword that begins with NAC and DUID, and P
 pub record IsSent (nac duid bits : ℕ) : Type 0 where
   pub word : IsDivisible generator (bits / 2)
   pub information : bits / 2 ^ 48 ≡ 16 * nac + duid

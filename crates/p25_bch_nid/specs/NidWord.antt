@@ -1,4 +1,4 @@
--- The 64 bits that a network identifier (NID) is sent as, as a list.
+-- The 64 transmitted bits of a network identifier (NID), as a list.
 use Rattle.std.specs.Prelude.{◌≡◌, ℕ, ◌/◌, ◌^◌, Bool, true, false, ◌==◌, ◌||◌, if◌then◌else◌, List, [], ◌∷◌, ◌++◌, length, take, refl}
 use Rattle.std.proofs.{Common.{ap, ap₂, sym, ◌∙◌, arith, length-append}, lemmas.List.{take_at}}
 use Rattle.p25_bits.specs.Bits.{bits_of, digit_of}
@@ -6,7 +6,7 @@ use Rattle.p25_bits.proofs.BitsLaws.{length-bits_of, bits_of-add, field_of-bits_
 use Rattle.p25_code.specs.Words.{IsEncoding}
 use Rattle.p25_bch_nid.specs.{Duids.{duid_ldu1, duid_ldu2}, Nid.{parity_of, IsSent}, Bch63.{IsBch63}, Bch63Laws.{encoded, IsEncoding-encoded, one_word}}
 
--- the 64 bits of a network identifier (NID): the word of the code that begins with NAC and DUID, and P
+-- the 64 bits of a network identifier (NID): the codeword that begins with NAC and DUID, and P
 unfoldable pub nid_word : ℕ → ℕ → List Bool
 nid_word nac duid = encoded (bits_of 12 nac ++ bits_of 4 duid) ++ (parity_of duid == 1) ∷ []
 
@@ -14,7 +14,7 @@ parity-digit : (b : Bool) → digit_of ((if b then 1 else 0) == 1) ≡ (if b the
 parity-digit true = refl
 parity-digit false = refl
 
--- it is what is sent
+-- it is the transmitted list
 pub nid_word-sent : (nac duid bits : ℕ) → IsSent nac duid bits → IsEncoding IsBch63 16 (bits_of 12 nac ++ bits_of 4 duid) (take 63 (bits_of 64 bits))
     → bits_of 64 bits ≡ nid_word nac duid
 unfolding nid_word

@@ -16,7 +16,7 @@ module _ {F : Type 0} (K : Field F) (x : F) where
 
   infixl 65 ◌⊕◌
   infixl 70 ◌⊗◌
-  -- the value of the polynomial that a number is, by so many of its coefficients
+  -- the value of the polynomial of a number, by a given number of its coefficients
   abbrev pub number_value : ℕ → ℕ → F
   number_value width number = bit_value K x (bits_of width number)
 

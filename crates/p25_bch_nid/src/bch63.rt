@@ -11,10 +11,10 @@ pub(crate) const GENERATOR: u64 = 0xCD93_0BDD_3B2B;
 
 const RADIUS: usize = 11;
 
-/// The BCH code (63,16): 63 bits, the first the coefficient of x^62, whose polynomial is zero at α^1 to α^22 in GF(64);
-/// that is the same as being divisible by the generator polynomial CD930BDD3B2B hex (octal 6331141367235453). The first 16
-/// bits are the information. Any two words differ in at least 23 bits; eleven wrong bits are corrected. TIA-102.BAAA,
-/// Network Identifier.
+/// The BCH code (63,16): 63 bits, the first the coefficient of x^62, whose polynomial is zero at α^1 to α^22 in GF(64).
+/// This is equivalent to divisibility by the generator polynomial CD930BDD3B2B hex (octal 6331141367235453). The first
+/// 16 bits are the information. Any two codewords differ in at least 23 bits; eleven bit errors are corrected.
+/// TIA-102.BAAA, Network Identifier.
 #[derive(Clone, Copy, Debug, PartialEq, Eq)]
 pub struct Bch63;
 

@@ -1,4 +1,4 @@
-//! The check bits of an identifier, by a table.
+//! The check bits of a network identifier (NID), by a table.
 
 ghost use Rattle.std.specs.Prelude.{◌+◌, ◌*◌, ◌^◌, ◌<◌, ◌↔◌, IsTrue};
 ghost use Rattle.p25_bits.specs.Divisible.{IsRemainder};
@@ -6,8 +6,8 @@ ghost use Rattle.p25_bch_nid.specs.Nid.{generator};
 
 use p25_bits::sums;
 
-// The remainders by the generator of v · x^(47 + 4 · place), by the place, below 4, and v below 16. Those of 8, 4, 2 and 1 are enough
-// to make all.
+// The remainders by the generator of v · x^(47 + 4 · position), by the position, below 4, and v below 16. The entries
+// of 8, 4, 2 and 1 are enough to make all.
 pub(crate) static REMAINDERS: [[u64; 16]; 4] = [
     sums! { 0x0C61_6DFA_7889, 0x60F9_3313_A1D1, 0x56B5_1C67_4D7D, 0x4D93_0BDD_3B2B },
     sums! { 0x0B85_D47A_B3BB, 0x630B_6FD3_C448, 0x3185_B7E9_E224, 0x18C2_DBF4_F112 },
@@ -15,7 +15,7 @@ pub(crate) static REMAINDERS: [[u64; 16]; 4] = [
     sums! { 0x66C9_85EE_9D95, 0x55AD_4719_D35F, 0x4C1F_2662_743A, 0x260F_9331_3A1D },
 ];
 
-// Answers the 47 check bits of 16 bits of information: the remainder of the information times x^47.
+// Returns the 47 check bits of 16 bits of information: the remainder of the information times x^47.
 pub(crate) fn check_bits(information: u64) -> u64
     requires { information < 2 ^ 16 }
     ensures { IsRemainder generator 47 (information * 2 ^ 47) result }
@@ -25,7 +25,7 @@ pub(crate) fn check_bits(information: u64) -> u64
             ^ (remainder_at(1, information / 16 % 16) ^ remainder_at(0, information % 16)))
 }
 
-// Answers the remainder of four bits at a place.
+// Returns the remainder of four bits at a position.
 fn remainder_at(place: usize, bits: u64) -> u64
     requires place { place < 4 }
     requires bits { bits < 16 }
@@ -34,7 +34,7 @@ fn remainder_at(place: usize, bits: u64) -> u64
     REMAINDERS[place][bits as usize]
 }
 
-// Answers whether a word of 63 bits has the check bits of its first 16.
+// Returns whether a word of 63 bits has the check bits of its first 16.
 pub(crate) fn is_clean(word: u64) -> bool
     requires { word < 2 ^ 63 }
     ensures { IsTrue result ↔ IsRemainder generator 47 word 0 }

@@ -1,4 +1,4 @@
-//! Words of bits corrected, as numbers. The errors of bits are bits, so they are known once the wrong places are.
+//! Correction of words of bits, as numbers. The errors of bits are bits, so they are known once their positions are.
 
 ghost use Rattle.std.specs.Prelude.{◌≡◌, ◌≤◌, ◌<◌, ◌^◌, Bool, List, IfSome, option_map};
 ghost use Rattle.p25_bits.specs.{Bits.{bits_of}, Distance.{distance_of}};
@@ -9,8 +9,9 @@ use crate::syndromes::syndromes_of;
 use crate::zeros::zeros_of;
 use p25_reed_solomon::wrong_locator;
 
-// Answers the word of the code within 11 bits of a received one of 63 bits, and None exactly where there is none. A word without wrong
-// bits is answered from its check bits. Of any other the wrong bits are inverted, and the word that this makes is tested again.
+// Returns the codeword within 11 bits of a received word of 63 bits, or `None` if and only if there is none. A codeword
+// is recognized by its check bits and returned at once. In any other word the bit errors are inverted, and the result
+// is tested again.
 pub(crate) fn nearest(received: u64) -> Option<u64>
     requires { received < 2 ^ 63 }
     ensures reading { option_map (bits_of 63) result ≡ bch63_reading_of (bits_of 63 received) }
@@ -30,7 +31,7 @@ pub(crate) fn nearest(received: u64) -> Option<u64>
     Some(sent)
 }
 
-// Answers a word with its wrong bits inverted: wherever at most 11 bits differ from a word of the code, that word.
+// Returns a word with its bit errors inverted: if at most 11 bits differ from a codeword, that codeword.
 fn corrected(received: u64) -> u64
     requires { received < 2 ^ 63 }
     ensures sent { (sent : List Bool) → IsBch63 sent → distance_of (bits_of 63 received) sent ≤ 11 → bits_of 63 result ≡ sent }

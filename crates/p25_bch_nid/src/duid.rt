@@ -1,4 +1,4 @@
-//! The data unit identifiers (DUID) of the units that are read. TIA-102.BAAA, Data Unit Identifier.
+//! The data unit identifiers (DUID) of the data units that the toolkit decodes. TIA-102.BAAA, Data Unit Identifier.
 
 /// HDU: a header data unit.
 pub const HDU: u8 = 0x0;

@@ -1,4 +1,4 @@
-//! The laws of the code and of the reading of network identifiers (NID), for those who prove what they read.
+//! The laws of the code and of the decoding of network identifiers (NID), for proofs about them.
 
 ghost use Rattle.std.specs.Prelude.{◌≡◌, ◌↔◌, ℕ, ◌^◌, ◌<◌, ◌≤◌, Bool, List, Option, Some, length, take};
 ghost use Rattle.p25_bits.specs.{Bits.{field_of}, Distance.{distance_of}, Divisible.{IsDivisible}};
@@ -6,18 +6,19 @@ ghost use Rattle.p25_bch_nid.specs.{Nid.{generator}, Bch63.{IsBch63}, NidReading
 
 use crate::{HDU, LDU1, LDU2, PDU, TDU, TDULC};
 
-/// **Theorem.** The words of the code, which are zero at α^1 to α^22, are the lists of 63 bits that are divisible by the generator.
+/// **Theorem.** The codewords, which are zero at α^1 to α^22, are the lists of 63 bits that are divisible by the
+/// generator.
 pub fn two_forms()
     ensures { (word : List Bool) → IsBch63 word ↔ ((length word ≡ 63) × IsDivisible generator (field_of word)) }
 {}
 
-/// **Theorem.** The laws of reading network identifiers (NID).
+/// **Theorem.** The laws of decoding network identifiers (NID).
 ///
-/// - `only`: what is read is the one answer that `IsNidReading` allows.
-/// - `word`: wherever a word of the code lies within 11 bits of the first 63, its NAC and DUID are read.
-/// - `near`: what was received lies within 11 bits of what is sent for the identifier that was read.
-/// - `sent`: what is sent for an identifier is read as that.
-/// - `first`: the last bit, P, is not looked at.
+/// - `only`: the decoding is the only value that `IsNidReading` allows.
+/// - `word`: if a codeword lies within 11 bits of the first 63 bits, its NAC and DUID are the result.
+/// - `near`: the received bits lie within 11 bits of the transmitted bits of the decoded identifier.
+/// - `sent`: the transmitted bits of an identifier decode to that identifier.
+/// - `first`: the last bit, P, is ignored.
 pub fn reading_laws()
     ensures only { (bits : List Bool) (answer : Option (ℕ × ℕ)) → 63 ≤ length bits → IsNidReading bits answer ↔ (answer ≡ nid_reading_of bits) }
     ensures word { (bits word : List Bool) → 63 ≤ length bits → IsBch63 word → distance_of (take 63 bits) word ≤ 11

@@ -1,9 +1,11 @@
-//! Network identifiers (NID) of the Project 25 air interface (TIA-102.BAAA, Network Identifier): a 12-bit network access
-//! code (NAC) and a 4-bit data unit identifier (DUID), protected by the BCH code (63,16) and followed by one bit P.
+//! Network identifiers (NID) of the Project 25 air interface (TIA-102.BAAA, Network Identifier). A NID is a 12-bit
+//! network access code (NAC) and a 4-bit data unit identifier (DUID), protected by the BCH code (63,16) and followed by
+//! one bit P.
 //!
-//! The 64 bits of an identifier are a number whose highest bit is sent first. The first 63 of them are a word of the code,
-//! and its first 16 bits are the NAC and the DUID. `nid_bits` makes them, `read_nid` reads them where at most 11 of the 63
-//! are wrong, `read_nid_counted` tells how many were, and `nid_distance` how many are for any identifier:
+//! The 64 bits of a NID are a number whose highest bit is transmitted first. The first 63 of them are a codeword, and
+//! its first 16 bits are the NAC and the DUID. `nid_bits` encodes them, and `read_nid` decodes them if at most 11 of
+//! the 63 bits are wrong. `read_nid_counted` also returns the number of bit errors, and `nid_distance` returns that
+//! number for any NID:
 //!
 //! ```
 //! let nid = Nid::from(0x2933); // NAC 293 hex, DUID 3
@@ -12,10 +14,10 @@
 //! assert!(rt; read_nid(received) == Some(nid) && fixes == 11);
 //! ```
 //!
-//! `Bch63` is the code itself, as a `BlockCode` with bits for letters. Contracts see its words as `IsBch63`, the lists of 63
-//! bits that are zero at α^1 to α^22; `two_forms` says that these are the lists that the generator divides. They see what
-//! is sent as the list `nid_word`, and what `read_nid` answers as the function `nid_reading_of` of the 64 bits;
-//! `reading_laws` says what that is.
+//! `Bch63` is the code itself, as a `BlockCode` with bits for letters. Contracts see its codewords as `IsBch63`, the
+//! lists of 63 bits that are zero at α^1 to α^22; `two_forms` states that these are the lists that the generator
+//! divides. They see the transmitted bits as the list `nid_word`, and the result of `read_nid` as the function
+//! `nid_reading_of` of the 64 bits; `reading_laws` states its laws.
 #![tactic(auto)]
 
 mod bch63;

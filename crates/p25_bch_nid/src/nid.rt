@@ -2,7 +2,8 @@
 
 ghost use Rattle.std.specs.Prelude.{◌≡◌, ◌≤◌, ◌↔◌, ◌+◌, ◌*◌, ◌/◌, ◌%◌, IsSome, IfSome};
 
-/// A network identifier (NID): whose traffic it is, and which kind of unit follows. TIA-102.BAAA, Network Identifier.
+/// A network identifier (NID): the network of the traffic, and the type of the data unit that follows. TIA-102.BAAA,
+/// Network Identifier.
 #[derive(Clone, Copy, Debug, PartialEq, Eq)]
 pub struct Nid {
     /// The network access code (NAC), below 4,096.
@@ -13,18 +14,19 @@ pub struct Nid {
     ghost duid_fits: { duid ≤ 15 },
 }
 
-/// A network identifier (NID) as it was read.
+/// A decoded network identifier (NID) with its number of bit errors.
 #[derive(Clone, Copy, Debug, PartialEq, Eq)]
 pub struct ReadNid {
     /// The identifier.
     pub nid: Nid,
-    /// How many of the bits that were looked at were received otherwise than they are sent for it: so many were put right.
+    /// The number of its first 63 bits in which the received bits differ from the transmitted ones: the corrected bit
+    /// errors.
     pub wrong: u32,
 }
 
 impl Nid {
-    /// Answers the network identifier (NID) of a network access code (NAC) and a data unit identifier (DUID); `None` exactly where
-    /// the first is above 4,095 or the second above 15.
+    /// Returns the network identifier (NID) of a network access code (NAC) and a data unit identifier (DUID). `None` is
+    /// returned if and only if the first is above 4,095 or the second above 15.
     pub fn new(nac: u16, duid: u8) -> Option<Nid>
         ensures fits { IsSome result ↔ ((nac ≤ 4095) × (duid ≤ 15)) }
         ensures value { IfSome result (λ nid. (nid.nac ≡ nac) × (nid.duid ≡ duid)) }
@@ -37,8 +39,8 @@ impl Nid {
     }
 }
 
-/// The network identifier (NID) whose NAC and DUID a number writes, twelve bits and four, the highest first. Each number writes
-/// one.
+/// Returns the network identifier (NID) of a number: twelve bits of NAC and four bits of DUID, the highest first. Each
+/// number has one.
 impl From<u16> for Nid {
     ghost from_gives = { λ number nid. (nid.nac ≡ number / 16) × (nid.duid ≡ number % 16) };
 
@@ -50,8 +52,8 @@ impl From<u16> for Nid {
     }
 }
 
-/// The number that writes the NAC and the DUID of a network identifier (NID), twelve bits and four, the highest first: the
-/// information of the code word.
+/// Returns the number of a network identifier (NID): twelve bits of NAC and four bits of DUID, the highest first. It is
+/// the information of the codeword.
 impl From<Nid> for u16 {
     ghost from_gives = { λ nid number. number ≡ 16 * nid.nac + nid.duid };
 

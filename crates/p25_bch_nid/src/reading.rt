@@ -1,4 +1,4 @@
-//! Network identifiers (NID) as they are received.
+//! Decoding of received network identifiers (NID).
 
 ghost use Rattle.std.specs.Prelude.{◌≡◌, ◌≤◌, Bool, IfSome, List, Some, take, option_map};
 ghost use Rattle.p25_bits.specs.{Bits.{bits_of}, Distance.{distance_of}};
@@ -7,11 +7,11 @@ ghost use Rattle.p25_bch_nid.specs.{Bch63.{IsBch63}, NidReading.{IsNidReading, i
 use crate::correction::nearest;
 use crate::nid::{Nid, ReadNid};
 
-/// Answers the network identifier (NID) of 64 received bits, the first bit highest: the NAC and the DUID with which the word of
-/// the BCH code (63,16) begins that lies within 11 bits of the first 63. `None` comes exactly where no word of the code lies so
-/// near. The last bit, P, is not looked at. TIA-102.BAAA, Network Identifier.
+/// Decodes a network identifier (NID) from 64 received bits, the first bit highest. The result is the NAC and the DUID
+/// with which the codeword of the BCH code (63,16) begins that lies within 11 bits of the first 63 bits. `None` is
+/// returned if and only if no codeword is that near. The last bit, P, is ignored. TIA-102.BAAA, Network Identifier.
 ///
-/// A word without wrong bits is answered from its check bits.
+/// A word without bit errors is recognized by its check bits.
 pub fn read_nid(bits: u64) -> Option<Nid>
     ensures reading { IsNidReading (bits_of 64 bits) (option_map (λ nid. (nid.nac, nid.duid)) result) }
     ensures value { option_map (λ nid. (nid.nac, nid.duid)) result ≡ nid_reading_of (bits_of 64 bits) }
@@ -21,9 +21,9 @@ pub fn read_nid(bits: u64) -> Option<Nid>
     Some(read_nid_counted(bits)?.nid)
 }
 
-/// Answers the network identifier (NID) that `read_nid` answers, with the number of wrong bits among the first 63: what
-/// `nid_distance` answers for it. Nothing is encoded to count them. `None` comes exactly where `read_nid` answers it.
-/// TIA-102.BAAA, Network Identifier.
+/// Decodes a network identifier (NID) as `read_nid` does, and returns it with the number of bit errors among the first
+/// 63 bits, which `nid_distance` returns for it. Nothing is encoded to count them. `None` is returned if and only if
+/// `read_nid` returns it. TIA-102.BAAA, Network Identifier.
 pub fn read_nid_counted(bits: u64) -> Option<ReadNid>
     ensures value { option_map (λ read. (read.nid.nac, read.nid.duid)) result ≡ nid_reading_of (bits_of 64 bits) }
     ensures wrong { IfSome result (λ read. read.wrong ≡ distance_of (take 63 (bits_of 64 bits)) (take 63 (nid_word read.nid.nac read.nid.duid))) }

@@ -8,9 +8,9 @@ ghost use Rattle.p25_bch_nid.specs.RemainderValueLaws.{number_value};
 use p25_bits::sums;
 use p25_gf64::Sym;
 
-// The values of v · x^(4 · place) at α^(8 · part + 1) to α^(8 · part + 8), at 3 · place + part and v, for each place below 16, each part
-// below 3 and each v below 16: eight symbols in the eight octets of a number, the lowest first. Those of 8, 4, 2 and 1 are enough to
-// make all.
+// The values of v · x^(4 · position) at α^(8 · part + 1) to α^(8 · part + 8), at 3 · position + part and v, for each
+// position below 16, each part below 3 and each v below 16: eight symbols in the eight octets of a number, the lowest
+// first. The entries of 8, 4, 2 and 1 are enough to make all.
 static VALUES: [[u64; 16]; 48] = [
     sums! { 0x113B_0F28_0518_0308, 0x1314_0530_0C03_1004, 0x0C06_0320_1008_0402, 0x0101_0101_0101_0101 },
     sums! { 0x0D19_3A36_1612_330E, 0x0933_1C07_1135_3C0F, 0x1328_140A_0523_3018, 0x0101_0101_0101_0101 },
@@ -62,7 +62,7 @@ static VALUES: [[u64; 16]; 48] = [
     sums! { 0x0101_0101_0101_0101, 0x362F_1D3A_372D_1932, 0x2826_1E3B_2922_0E38, 0x173E_3901_0803_1805 },
 ];
 
-// Answers the values of a word of 64 bits, the first the coefficient of x^63, at α^1 to α^24, and zeros after them.
+// Returns the values of a word of 64 bits, the first the coefficient of x^63, at α^1 to α^24, and zeros after them.
 pub(crate) fn syndromes_of(word: u64) -> [Sym; 32]
     ensures values { (r : ℕ) → r < 24 → coefficient gf64 result r ≡ number_value gf64 (power gf64 alpha (r + 1)) 64 word }
     ensures full { length result ≡ 32 }
@@ -77,7 +77,7 @@ pub(crate) fn syndromes_of(word: u64) -> [Sym; 32]
     syndromes
 }
 
-// Answers the values of a word at α^(8 · part + 1) to α^(8 · part + 8), in the octets of a number, the lowest first.
+// Returns the values of a word at α^(8 · part + 1) to α^(8 · part + 8), in the octets of a number, the lowest first.
 fn eight_values(word: u64, part: usize) -> u64
     requires { part < 3 }
     ensures { (b : ℕ) → b < 8 → result / 2 ^ (8 * b) % 2 ^ 8 ≡ number (number_value gf64 (power gf64 alpha (8 * part + b + 1)) 64 word) }

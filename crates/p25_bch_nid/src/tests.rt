@@ -4,7 +4,8 @@ use super::*;
 use p25_bits::{number_of, put_number};
 use p25_code::{BlockCode, Reading};
 
-// A network identifier (NID) and the 64 bits that it is sent as. P, the last bit, is 1 for DUID 5 (LDU1) and A hex (LDU2) alone.
+// A network identifier (NID) and its 64 transmitted bits. P, the last bit, is 1 for DUID 5 (LDU1) and A hex (LDU2)
+// alone.
 const SENT: [(u16, u8, u64); 6] = [
     (0x800, 0x0, 0x8000_CD93_0BDD_3B2A),
     (0x000, 0x3, 0x0003_364C_2F74_ECAC),
@@ -52,7 +53,8 @@ fn identifiers_of_parts_that_fit(rt: HostRuntime) {
     }
 }
 
-// Received words of 63 bits, the words that they are read as, and how many bits change; read by another program.
+// Received words of 63 bits, the codewords that they decode to, and the number of bits that change; decoded by another
+// program.
 const FOUND: [(u64, u64, u32); 9] = [
     (0x0848_3548_9CBF_78B4, 0x0848_3548_9CBF_78B4, 0),
     (0x214E_C9F6_4C49_BD49, 0x214E_C9F6_4C49_BD69, 1),
@@ -65,7 +67,7 @@ const FOUND: [(u64, u64, u32); 9] = [
     (0x7FF0_0000_0000_0000, 0x0000_0000_0000_0000, 11),
 ];
 
-// Received words that are farther than 11 bits from every word.
+// Received words that are more than 11 bits from every codeword.
 const BEYOND: [u64; 5] = [
     0x43B7_8B0C_DB17_5F9C,
     0x6C4B_198E_6004_0547,
@@ -74,7 +76,7 @@ const BEYOND: [u64; 5] = [
     0x47FA_6DC4_DD8E_6E47,
 ];
 
-// Reads 63 bits, and answers what they became too.
+// Decodes 63 bits, and returns the word left as well.
 fn read_bits(received: u64) -> (Reading, u64) {
     let mut word = [false; 63];
     put_number(received, &mut word);
@@ -149,12 +151,12 @@ fn identifiers_with_wrong_bits(rt: HostRuntime) {
             }
         }
     }
-    // It differs from each word in 21 places at least.
+    // It differs from each codeword in at least 21 positions.
     assert_eq!(rt; read_nid(0x0003_682D_4527_4B06), None);
 }
 
-// The sum of the last of these identifiers and of what is sent for NAC 0 and DUID 3. The code is linear, so what is sent for any other
-// NAC becomes as far from each word by it.
+// The sum of the last of these identifiers and of the transmitted bits for NAC 0 and DUID 3. The code is linear, so
+// adding the transmitted bits of any other NAC leaves the distance from each codeword the same.
 #[test]
 fn far_from_each_access_code(rt: HostRuntime) {
     for nac in 0..4096_u16 {
@@ -165,7 +167,7 @@ fn far_from_each_access_code(rt: HostRuntime) {
     }
 }
 
-// Eleven bits at every second to sixth place, none the lowest, and at how many places they can begin.
+// Eleven bits at every second to sixth position, none the lowest, and the number of positions at which they can begin.
 const COMBS: [(u64, u32); 5] = [
     (0x0000_0000_002A_AAAA, 43),
     (0x0000_0000_9249_2492, 33),

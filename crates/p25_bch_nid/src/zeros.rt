@@ -1,4 +1,4 @@
-//! The zeros of a locator at all 63 places at once, by a table.
+//! The zeros of a locator at all 63 positions at once, by a table.
 
 ghost use Rattle.std.specs.{Prelude.{◌≡◌, ◌↔◌, ℕ, ◌-◌, ◌^◌, ◌<◌, ◌==◌, IsTrue, length}, Int.{bit_at}};
 ghost use Rattle.p25_gf64.specs.{Field.{power}, Gf64.{gf64}};
@@ -96,7 +96,7 @@ static PLANES: [[u64; 8]; 144] = planes! {
     [0x5DE6_2A7E_8384_8D96, 0x048D_96BB_CC54_FD07, 0x54FD_0709_1B2D_7798], [0x048D_96BB_CC54_FD07, 0x54FD_0709_1B2D_7798, 0x2D77_98A9_FA0E_1236]
 };
 
-// Answers a number whose bit 62 - j is 1 exactly where a polynomial of twelve coefficients vanishes at the point of place j.
+// Returns a number whose bit 62 - j is 1 if and only if a polynomial of twelve coefficients vanishes at the point of position j.
 pub(crate) fn zeros_of(polynomial: &[Sym]) -> u64
     requires { length polynomial.now ≡ 12 }
     ensures zeros { (j : ℕ) → j < 63 → IsTrue (bit_at result (63 - 1 - j) == 1)
