@@ -1,5 +1,5 @@
--- How far paths differ, and what lies so near to one that no other is as near. By induction on the symbols: two states ask for no more bits than a step
--- differs in and the states after it ask for.
+-- The distance of paths, and when no path is as near as a given one. By induction on the symbols: the bound of two states is at most the distance of
+-- a step plus the bound of the states after it.
 use Rattle.std.proofs.Common.{◌≡◌, ◌≢◌, ℕ, zero, suc, ◌+◌, ◌*◌, ◌<◌, ◌≤◌, inl, inr, Bool, false, eqb, List, [], ◌∷◌, length, refl, ap, ap₂, sym, subst, ◌∙◌, arith}
 use Rattle.std.proofs.lemmas.Bool.{cases_Bool, eqb-true, eq-eqb}
 use Rattle.p25_bits.specs.Distance.{distance_of}

@@ -1,4 +1,4 @@
--- The least cost of what follows a state, from the last step to the first: the least over its symbols of what the step and the rest cost.
+-- The least cost after a state, from the last step to the first: the least over its symbols of the cost of the step and its rest.
 use Rattle.std.proofs.Common.{◌≡◌, ◌≢◌, ℕ, zero, suc, ◌+◌, ◌*◌, ◌<◌, ◌≤◌, inl, inr, List, [], ◌∷◌, length, get_or, set, refl, ap, ap₂, sym, subst, ◌∙◌, arith, All, below_more, get_or-set_same, get_or-set_other, ◌-◌, ◌^◌, add-one}
 use Rattle.std.proofs.{Math.Nat.{mul-suc, mul-le-mul_left}, lemmas.Bool.{cases_lt}, lemmas.List.{get_or_past}}
 use Rattle.p25_trellis.proofs.PathLaws.{length-nibbles_from}

@@ -1,4 +1,4 @@
--- The distance of sent bits as a sum over nibbles.
+-- The distance of transmitted bits as a sum over nibbles.
 use Rattle.std.proofs.{Common.{◌≡◌, ℕ, suc, ◌+◌, ◌<◌, ◌≤◌, Bool, List, [], ◌∷◌, length, drop, get_or, refl, ap₂, sym, ◌∙◌, arith, All}, lemmas.List.{drop_more}}
 use Rattle.std.proofs.lemmas.List.Elements.{All-cons, All-nil, All-head, All-tail}
 use Rattle.std.specs.Bool.{beq}

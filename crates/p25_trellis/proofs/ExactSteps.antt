@@ -1,5 +1,5 @@
--- A path that sends exactly what was received is the first nearest: no distance is less than 0, and any other path at
--- distance 0 sends the same bits, so it is this one.
+-- A path whose transmitted bits are exactly the received ones is the first nearest. No distance is less than 0, and any other path at distance 0 has
+-- the same transmitted bits, so it is this one.
 use Rattle.std.proofs.Common.{◌≡◌, ℕ, ◌+◌, ◌<◌, inr, Bool, List, [], ◌∷◌, ◌++◌, length, take, drop, set, get_or, refl, ap, subst, ◌∙◌, arith, append_assoc, ◌≤◌}
 use Rattle.std.proofs.lemmas.List.{take_all, take_more, take_more_set, take-append-drop}
 use Rattle.p25_bits.specs.Distance.{distance_of}

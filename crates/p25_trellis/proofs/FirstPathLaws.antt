@@ -1,4 +1,4 @@
--- The first least path, from the first step to the last: the lowest of the symbols that cost least goes before the first least end after it.
+-- The first least path, from the first step to the last: the lowest of the symbols that cost least comes before the first least end after it.
 use Rattle.std.proofs.Common.{◌≡◌, ℕ, zero, suc, ◌+◌, ◌<◌, ◌≤◌, inl, inr, List, [], ◌∷◌, ◌++◌, length, take, drop, set, refl, ap, ap₂, sym, subst, ◌∙◌, arith, append_assoc, All}
 use Rattle.std.proofs.{lemmas.Bool.{cases_lt}, lemmas.List.{take_more_set}, lemmas.List.Elements.{All-cons, All-nil, All-head, All-tail, All-same}}
 use Rattle.p25_trellis.specs.{Trellis.{IsPath, IsNotAfter, IsFirstLeast, IsFirstLeastReading}, Costs.{symbols_cost}}

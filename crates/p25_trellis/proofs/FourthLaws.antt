@@ -1,4 +1,4 @@
--- Each fourth element of a list: which element it is, and what becomes of them where an element is set.
+-- Every fourth element of a list: which element it is, and how the elements change if one is replaced.
 use Rattle.std.proofs.Common.{◌≡◌, ◌≢◌, ℕ, zero, suc, ◌+◌, ◌*◌, ◌<◌, ◌≤◌, List, [], ◌∷◌, length, get_or, set, refl, ap, sym, ◌∙◌, arith}
 use Rattle.p25_trellis.specs.Interleave.{each_fourth}
 

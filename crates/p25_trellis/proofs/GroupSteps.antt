@@ -1,4 +1,4 @@
--- Numbers of a few bits each, group by group: joined to one number, taken apart, and written as numbers of another width.
+-- Numbers of a few bits each, group by group: joined to one number, split, and written as numbers of another width.
 use Rattle.std.proofs.Common.{◌≡◌, ℕ, ◌+◌, ◌-◌, ◌*◌, ◌/◌, ◌%◌, ◌^◌, ◌<◌, ◌≤◌, Bool, List, length, take, drop, get_or, ap, sym, ◌∙◌, arith, add-one, length-drop}
 use Rattle.std.proofs.{Math.Nat.{mul-suc, mul-le-mul_left, mul-le-mul_right}, Math.Pow.{pow_mono}, lemmas.List.{ext_get_or, take_more}, lemmas.Nat.{pow-add, shl_whole}, lemmas.Slice.{take-put_mid}}
 use borrow.Rule.Slice.PartMut.{put_mid}

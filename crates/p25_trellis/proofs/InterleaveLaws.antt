@@ -1,5 +1,5 @@
--- Laws of the interleaver: what is summed over the places of lists is summed over their fourth elements, and its order is a table, which
--- computed tests compare.
+-- Laws of the interleaver: a sum over the positions of lists is a sum over their fourth elements, and its order is a table, which computed tests
+-- compare.
 use Rattle.std.proofs.Common.{◌≡◌, ◌≢◌, ℕ, zero, suc, ◌+◌, ◌<◌, ◌≤◌, ◌||◌, Bool, true, false, not, cond, eqb, ltb, List, [], ◌∷◌, ◌++◌, map, length, get_or, set, take, drop, refl, sym, ◌∙◌, arith, length-append, below_more, get_or-set_same, get_or-set_other, All}
 use Rattle.std.proofs.{lemmas.List.Elements.{All-cons, All-head, All-tail, All-append, All-same, All-take, All-drop}, lemmas.Bool.{eqb-true, ltb-true, eq-eqb}}
 use Rattle.std.proofs.{lemmas.List.{take_all, take_at, drop_at, map-append, get_or-map}, lemmas.List.FromFn.{fill_by_all}}

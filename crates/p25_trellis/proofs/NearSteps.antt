@@ -1,4 +1,4 @@
--- The least distances of a step, from those of the step after it: each is the least over the symbols, which are taken in one after another.
+-- The least distances of a step, from those of the step after it: each is the least over the symbols, which are added one after another.
 use Rattle.std.proofs.Common.{◌≡◌, ℕ, zero, suc, ◌≢◌, ◌+◌, ◌-◌, ◌*◌, ◌/◌, ◌%◌, ◌<◌, ◌≤◌, inl, inr, List, length, get_or, set, refl, ap, ap₂, sym, subst, ◌∙◌, arith, min}
 use Rattle.std.proofs.lemmas.Bool.{cases_lt}
 use borrow.Rule.Slice.PartMut.{mid_of}

@@ -1,4 +1,4 @@
--- The distance of the first nearest path is that of the block of the octets that are read by it.
+-- The distance of the first nearest path is that of the block of the octets decoded by it.
 use Rattle.std.proofs.Common.{◌≡◌, ℕ, ◌*◌, ◌^◌, ◌<◌, ◌≤◌, Bool, List, length, refl, ap, ◌∙◌, arith, All}
 use Rattle.std.specs.Bool.{beq}
 use Rattle.p25_bits.specs.Distance.{distance_of}

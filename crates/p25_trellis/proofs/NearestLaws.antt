@@ -1,5 +1,5 @@
--- The first nearest path, as a function, is the first least path; what is read by it and the block of octets follow. The
--- path goes by induction on the symbols that are left: the lowest symbol with the cheapest best end goes before that end.
+-- The first nearest path, as a function, is the first least path; the decoded octets and the block of octets follow from it. By induction on the
+-- symbols that are left: the lowest symbol with the cheapest best end comes before that end.
 use Rattle.std.proofs.Common.{◌≡◌, ℕ, zero, suc, ◌*◌, ◌^◌, ◌<◌, ◌≤◌, inl, inr, Bool, if◌then◌else◌, nat_lt, List, [], ◌∷◌, length, take, refl, ap, sym, subst, ◌∙◌, arith, All, add-one, length-append}
 use Rattle.std.proofs.{lemmas.Bool.{cases_lt, cond-true, cond-false, lt-ltb, le-ltb}, lemmas.List.{length-take-le, take_all, take_at, drop_at}, lemmas.List.Elements.{All-append, All-cons, All-nil}}
 use Rattle.p25_bits.specs.{Bits.{octet_bits}, Numbers.{number_bits, numbers_from, octets_from}}

@@ -1,4 +1,4 @@
--- The nibbles of a block, a fourth of them at a time: those that a word writes, and the word that they write.
+-- The nibbles of a block, a quarter of them at a time: those that a word writes, and the word that they write.
 use Rattle.std.proofs.Common.{◌≡◌, ◌≢◌, ℕ, ◌+◌, ◌*◌, ◌<◌, ◌≤◌, Bool, List, ◌++◌, length, drop, get_or, set, ap, ◌∙◌, arith, below_more, length-drop, get_or-set_same, get_or-set_other}
 use Rattle.std.proofs.lemmas.List.{drop-drop}
 use Rattle.p25_bits.specs.{Bits.{bits_of, field_of, part}, Numbers.{number_bits, numbers_from}}

@@ -1,4 +1,4 @@
--- The tables of the two rates have what the points say: each entry is compared, and the comparison computes.
+-- The tables of the two rates have the contents of the points: each entry is compared, and the comparison computes.
 use Rattle.std.proofs.Common.{◌≡◌, ◌≢◌, ℕ, ◌+◌, ◌*◌, ◌<◌, ◌≤◌, inl, inr, Bool, true, false, eqb, ltb, ◌||◌, ◌&&◌, not, List, length, get_or, refl, sym, ◌∙◌, arith}
 use Rattle.std.proofs.{lemmas.Bool.{eq-eqb, eqb-true, le-ltb, ltb-true, cases_lt, lt-ltb}, lemmas.List.{get_or_past}}
 use Rattle.std.specs.Cmp.{first_so, second_so}

@@ -1,8 +1,8 @@
--- The cost of a path, where each step has a cost for each nibble.
+-- The cost of a path, by a cost for each nibble at each step.
 use Rattle.std.specs.Prelude.{ℕ, suc, ◌+◌, ◌*◌, List, [], ◌∷◌, slice_index}
 use Rattle.p25_trellis.specs.{Tables.{nibble_distance}, Trellis.{nibbles_from}}
 
--- the cost of nibbles sent from a step on, where each step has a cost for each nibble
+-- the cost of nibbles from a step on, by a cost for each nibble at each step
 unfoldable pub total_cost : (ℕ → ℕ → ℕ) → ℕ → List ℕ → ℕ
 total_cost cost step [] = 0
 total_cost cost step (nibble ∷ nibbles) = cost step nibble + total_cost cost (suc step) nibbles
@@ -19,6 +19,6 @@ path_cost point cost path = symbols_cost point cost 0 0 path
 unfoldable pub cost_in : List ℕ → ℕ → ℕ → ℕ
 cost_in table step nibble = slice_index table (16 * step + nibble)
 
--- where nibbles were received, a nibble costs its distance from the one received at its step
+-- a nibble costs its distance from the received nibble of its step
 unfoldable pub received_cost : List ℕ → ℕ → ℕ → ℕ
 received_cost received step nibble = nibble_distance nibble (slice_index received step)

@@ -4,5 +4,5 @@ pub mod Trellis
 pub mod Nearest
 pub mod Costs
 pub mod Least
--- laws of impls: nothing to believe
+-- laws of impls, with no definition to trust
 pub mod TableLaws

@@ -1,5 +1,4 @@
--- The first nearest path to received bits as a function, the octets and the distance that are read by it, and the block
--- of octets as a function.
+-- The first nearest path to received bits as a function, the octets and the distance decoded by it, and the block of octets as a function.
 use Rattle.std.specs.Prelude.{ℕ, zero, suc, ◌*◌, Bool, if◌then◌else◌, nat_lt, List, [], ◌∷◌, ◌++◌, take}
 use Rattle.p25_bits.specs.{Bits.{octet_bits}, Numbers.{number_bits, numbers_from, octets_from}}
 use Rattle.p25_trellis.specs.{Trellis.{sent_bits, distance_from}, Tables.{half_point, three_quarter_point}}
@@ -9,8 +8,7 @@ unfoldable pub lowest_least : ℕ → (ℕ → ℕ) → ℕ
 lowest_least zero value = 0
 lowest_least (suc n) value = if nat_lt (value n) (value (lowest_least n value)) then n else lowest_least n value
 
--- the first of the ends that cost least, which have `before` symbols before their 0: its first symbol is the lowest
--- that the cheapest ends begin with
+-- the first of the ends that cost least, with `before` symbols before their 0: its first symbol is the lowest with which the cheapest ends begin
 unfoldable pub first_least_end : ℕ → ℕ → (List ℕ → ℕ) → List ℕ
 first_least_end states zero cost = 0 ∷ []
 first_least_end states (suc before) cost =
@@ -29,11 +27,11 @@ nearest_octets states width point received = octets_from (6 * width) (number_bit
 unfoldable pub nearest_distance : ℕ → (ℕ → ℕ → ℕ) → List Bool → ℕ
 nearest_distance states point received = distance_from point received (nearest_path states point received)
 
--- the 12 octets that a half-rate block reads as
+-- the 12 octets that a half-rate block decodes to
 abbrev pub half_octets : List Bool → List ℕ
 half_octets received = nearest_octets 4 2 half_point received
 
--- the 18 octets that a three-quarter-rate block reads as
+-- the 18 octets that a three-quarter-rate block decodes to
 abbrev pub three_quarter_octets : List Bool → List ℕ
 three_quarter_octets received = nearest_octets 8 3 three_quarter_point received
 
@@ -41,7 +39,7 @@ three_quarter_octets received = nearest_octets 8 3 three_quarter_point received
 unfoldable pub path_from : ℕ → List ℕ → List ℕ
 path_from width octets = numbers_from width 48 (octet_bits octets) ++ 0 ∷ []
 
--- the block of octets: the sent bits of the path that carries them
+-- the block of octets: the transmitted bits of the path that carries them
 unfoldable pub block_from : ℕ → (ℕ → ℕ → ℕ) → List ℕ → List Bool
 block_from width point octets = sent_bits point (path_from width octets)
 

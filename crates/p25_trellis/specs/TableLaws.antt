@@ -1,4 +1,4 @@
--- The laws of the tables of points, from tests over the whole table that compute, and what the tables of the code have.
+-- The laws of the tables of points, from tests over the whole table that compute, and the contents of the tables of the code.
 use Rattle.std.specs.Prelude.{◌≡◌, ◌≢◌, ℕ, zero, suc, ◌+◌, ◌*◌, ◌^◌, ◌/◌, ◌%◌, ◌<◌, ◌≤◌, Bool, true, false, if◌then◌else◌, ◌==◌, nat_le, nat_lt, ◌&&◌, ◌||◌, List, ◌∷◌, length, replicate, slice_index, refl}
 use Rattle.std.proofs.{Common.{inl, inr, sym, subst, arith}, lemmas.Bool.{cases_Bool, leb-true, ltb-true, eqb-true, and_parts}}
 use Rattle.std.proofs.lemmas.List.Elements.{All-cons, All-replicate}
@@ -6,8 +6,8 @@ use Rattle.p25_bits.specs.{Bits.{bits_of}, Distance.{distance_by, distance_of}, 
 use Rattle.p25_trellis.specs.{Interleave.{each_fourth, interleaved}, Trellis.{nibbles_from, sent_bits, SomeApart}}
 use Rattle.p25_trellis.specs.Tables.{point_nibbles, half_rows, three_quarter_rows, point_in, nibble_distance, half_point, three_quarter_point}
 
--- what makes a table of points a rate: there is a state for each symbol and a symbol for each value of its bits, the 48 symbols have as many
--- bits as the octets, each point is four bits, and paths that part differ in at least `apart` bits, some in no more
+-- the conditions under which a table of points is a rate: there is a state for each symbol and a symbol for each value of its bits, the 48 symbols
+-- have as many bits as the octets, each point is four bits, and paths that part differ in at least `apart` bits, some in no more
 pub record IsRate (states bits octets apart : ℕ) (point parted : ℕ → ℕ → ℕ) : Type 0 where
   pub states_of_bits : states ≡ 2 ^ bits
   pub few_bits : bits ≤ 3
@@ -15,16 +15,16 @@ pub record IsRate (states bits octets apart : ℕ) (point parted : ℕ → ℕ �
   pub octets_of_bits : 48 * bits ≡ 8 * octets
   pub some_apart : 0 < apart
   pub nibbles : (state symbol : ℕ) → state < states → symbol < states → point state symbol < 16
-  -- paths that are in state 0 at one time need not differ
+  -- paths that are in state 0 at the same time need not differ
   pub together : parted 0 0 ≡ 0
-  -- of two paths in two states, a step and what must follow it differ in as many bits as the states ask for
+  -- if two paths are in two states, their next steps and the bits by which they must differ afterwards together reach the bound of the two states
   pub stays_parted : (a b x y : ℕ) → a < states → b < states → x < states → y < states → parted a b ≤ nibble_distance (point a x) (point b y) + parted x y
   pub reached : SomeApart states point apart
-  -- of two paths that leave one state by two symbols, the step and what must follow it differ in `apart` bits
+  -- if two paths leave one state by two symbols, these steps and the bits by which they must differ afterwards together reach `apart`
   pub parts : (state x y : ℕ) → state < states → x < states → y < states → x ≢ y → apart ≤ nibble_distance (point state x) (point state y) + parted x y
 
--- a rate whose symbols have so many bits and whose paths that part differ in at least `apart` bits: the four bits of the point in a
--- state's row and a symbol's column, and in how many bits at least the paths from two states differ until they meet
+-- a rate with a number of bits per symbol whose paths that part differ in at least `apart` bits: the four bits of the point in a state's row and a
+-- symbol's column, and the least number of bits in which the paths from two states differ until they meet
 pub record TrellisRate (bits apart : ℕ) : Type 0 where
   pub point : ℕ → ℕ → ℕ
   pub parted : ℕ → ℕ → ℕ
@@ -34,8 +34,9 @@ pub record TrellisRate (bits apart : ℕ) : Type 0 where
 unfoldable pub symbol_digit : List ℕ → ℕ → ℕ → ℕ
 symbol_digit symbols state nibble = slice_index symbols nibble / 2 ^ (4 * state) % 16
 
--- the tables of a rate with so many states: the nibbles of its points, a row for each state; which symbol sends a nibble from a state, 8 where none
--- does; and how a symbol ranks at a nibble after a state: eight times in how many bits its point differs from the nibble, and the symbol
+-- the tables of a rate with a number of states: the nibbles of its points, a row for each state; the symbol that transmits a nibble from a state, 8
+-- if none does; and the rank of a symbol at a nibble after a state: eight times the number of bits in which its point differs from the nibble, plus
+-- the symbol
 pub record AreTables (states : ℕ) (point : ℕ → ℕ → ℕ) (nibbles symbols ranks : List ℕ) : Type 0 where
   pub nibbles_long : length nibbles ≡ states * states
   pub nibbles_small : (place : ℕ) → slice_index nibbles place < 16
@@ -50,11 +51,11 @@ pub record AreTables (states : ℕ) (point : ℕ → ℕ → ℕ) (nibbles symbo
       → slice_index ranks (8 * (nibble * states + symbol) + state) ≡ 8 * nibble_distance (point state symbol) nibble + symbol
   pub ranks_small : (place : ℕ) → slice_index ranks place ≤ 39
 
--- in how many bits at least the half-rate paths from two states differ until they meet
+-- the least number of bits in which the half-rate paths from two states differ until they meet
 unfoldable pub half_parted : ℕ → ℕ → ℕ
 half_parted a b = if a == b then 0 else if a / 2 == b / 2 then 2 else 3
 
--- how far two symbols at three-quarter rate part before they meet again
+-- the least number of bits in which the three-quarter-rate paths from two states differ until they meet
 unfoldable pub three_quarter_parted : ℕ → ℕ → ℕ
 three_quarter_parted a b = if a == b then 0 else 1
 
@@ -63,7 +64,7 @@ unfoldable pub passed_below : ℕ → (ℕ → Bool) → Bool
 passed_below zero test = true
 passed_below (suc n) test = test n && passed_below n test
 
--- what a test over the numbers below n tells of one of them
+-- a test over the numbers below n holds of each of them
 pub passed_below-at : (n : ℕ) (test : ℕ → Bool) → passed_below n test ≡ true → (k : ℕ) → k < n → test k ≡ true
 unfolding passed_below
 passed_below-at zero test passed k below = absurd (omega arith)
@@ -79,14 +80,14 @@ passed_below-at (suc n) test passed k below = elim (cases_Bool (k == n)) [
 unfoldable pub nibbles_test : ℕ → (ℕ → ℕ → ℕ) → Bool
 nibbles_test states point = passed_below states (λ state. passed_below states (λ symbol. nat_lt (point state symbol) 16))
 
--- from two states on, a step and what must follow it differ in as many bits as the two states ask for
+-- from two states on, a step and the bits by which the paths must differ afterwards together reach the bound of the two states
 unfoldable pub parted_test : ℕ → (ℕ → ℕ → ℕ) → (ℕ → ℕ → ℕ) → Bool
 parted_test states point parted =
     passed_below states (
     λ a. passed_below states (
     λ b. passed_below states (λ x. passed_below states (λ y. nat_le (parted a b) (nibble_distance (point a x) (point b y) + parted x y)))))
 
--- two symbols from one state, and what must follow them, differ in so many bits
+-- two symbols from one state, and the bits by which the paths must differ afterwards, differ in at least `apart` bits
 unfoldable pub parts_test : ℕ → ℕ → (ℕ → ℕ → ℕ) → (ℕ → ℕ → ℕ) → Bool
 parts_test states apart point parted =
     passed_below states (
@@ -125,7 +126,7 @@ record PassesTests (states first apart : ℕ) (point parted : ℕ → ℕ → �
   pub together : parted 0 0 ≡ 0
   pub distance : distance_of (sent_bits point (replicate 49 0)) (sent_bits point (first ∷ replicate 48 0)) ≡ apart
 
--- a table that passes them is a rate
+-- a table that passes these tests is a rate
 rate-of_tests : {states bits octets first apart : ℕ} {point parted : ℕ → ℕ → ℕ} → PassesTests states first apart point parted → states ≡ 2 ^ bits
     → bits ≤ 3 → states ≤ 8 → 48 * bits ≡ 8 * octets → 0 < apart → first ≢ 0 → first < states → IsRate states bits octets apart point parted
 rate-of_tests {states} {bits} {octets} {first} {apart} {point} {parted} passes same few_bits few_states octets_same some other below = record {

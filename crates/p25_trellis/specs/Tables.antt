@@ -1,4 +1,4 @@
--- The tables of points of the two rates, and in how many bits two nibbles differ.
+-- The tables of points of the two rates, and the distance of two nibbles.
 use Rattle.std.specs.Prelude.{ℕ, List, [], ◌∷◌, slice_index, slice_index_or}
 use Rattle.p25_bits.specs.{Bits.{bits_of}, Distance.{distance_of}}
 
@@ -40,6 +40,6 @@ half_point state symbol = point_in half_rows state symbol
 unfoldable pub three_quarter_point : ℕ → ℕ → ℕ
 three_quarter_point state symbol = point_in three_quarter_rows state symbol
 
--- in how many bits two nibbles differ
+-- the number of bits in which two nibbles differ
 unfoldable pub nibble_distance : ℕ → ℕ → ℕ
 nibble_distance a b = distance_of (bits_of 4 a) (bits_of 4 b)

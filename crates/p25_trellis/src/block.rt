@@ -1,4 +1,4 @@
-//! Blocks: octets to sent bits, and received bits to the octets of the first nearest path.
+//! Blocks: octets to transmitted bits, and received bits to the octets of the first nearest path.
 
 ghost use Rattle.std.specs.Prelude.{◌≡◌, ◌+◌, ◌≤◌, List, Bool, ◌++◌, length};
 ghost use Rattle.p25_bits.specs.Bits.{part};
@@ -13,8 +13,9 @@ use super::path::{nibbles_of, octets_of};
 use super::rate::Rate;
 use p25_bits::BitBuf;
 
-/// Appends the block of octets: 196 bits, the sent bits of the one path that carries them (TIA-102.BAAA, Trellis Coding
-/// of data blocks). There are 12 octets at half rate and 18 at three-quarter rate, each most significant bit first.
+/// Encodes octets: appends their block of 196 bits, the transmitted bits of the one path that carries them
+/// (TIA-102.BAAA, Trellis Coding of data blocks). It requires 12 octets at half rate and 18 at three-quarter rate; the
+/// most significant bit of each is first.
 pub fn encode_block<R: Rate>(octets: &[u8], out: &mut BitBuf)
     requires octets { length octets.now ≡ R.OCTETS }
     requires room { length out.old + 196 ≤ 25928 }
@@ -29,10 +30,10 @@ pub fn encode_block<R: Rate>(octets: &[u8], out: &mut BitBuf)
     append_nibbles(&nibbles_of::<R>(&path), out);
 }
 
-/// Sets `octets` to those of the first nearest path to the 196 bits from place `at`, and answers its distance, the number
-/// of bits in which they differ from the path's sent bits. No path's sent bits are nearer, and of several that are as near
-/// it is the first in dictionary order of symbols. So a block with at most 2 wrong bits at half rate, or 1 at
-/// three-quarter rate, reads as the octets that were sent. TIA-102.BAAA, Trellis Coding.
+/// Decodes the 196 bits from position `at` on: writes to `octets` those of the first nearest path, and returns its
+/// distance, the number of bits in which the path's transmitted bits differ. No path's transmitted bits are nearer; if
+/// several are as near, it is the first in dictionary order of symbols. So a block with at most 2 bit errors at half
+/// rate, or 1 at three-quarter rate, decodes to the transmitted octets. TIA-102.BAAA, Trellis Coding.
 pub fn read_block<R: Rate>(bits: &BitBuf, at: usize, octets: &mut [u8]) -> u32
     requires there { at + 196 ≤ length bits.now }
     requires octets { length octets.old ≡ R.OCTETS }
@@ -42,7 +43,7 @@ pub fn read_block<R: Rate>(bits: &BitBuf, at: usize, octets: &mut [u8]) -> u32
     ensures near { IsNearReading R.STATES R.BITS_PER_SYMBOL R.point_of R.APART (part at 196 bits.now) octets.new result }
 {
     let received = take_nibbles(bits, at);
-    // Mostly they are the nibbles of a path: then no other is as near.
+    // Usually they are the nibbles of a path; then no other path is as near.
     match path_along::<R>(&received) {
         Some(path) => {
             octets_of::<R>(&path, octets);

@@ -1,10 +1,10 @@
-//! Numbers of a few bits each, group by group: a group joined to one number, a number taken apart, and so numbers of one
-//! width written as numbers of another.
+//! Numbers of a few bits each, group by group: a group is joined to one number, a number is split, and so numbers of
+//! one width are written as numbers of another.
 
 ghost use Rattle.std.specs.Prelude.{◌≡◌, ◌*◌, ◌^◌, ◌<◌, ◌≤◌, All, length};
 ghost use Rattle.p25_bits.specs.{Bits.{bits_of}, Numbers.{number_bits, numbers_from}};
 
-// The number that numbers of `width` bits each write, the first one highest.
+// Returns the number that numbers of `width` bits each write, the first one highest.
 #[inline(always)]
 pub(crate) fn joined(width: u32, numbers: &[u8]) -> u64
     requires width { width ≤ 8 }
@@ -20,7 +20,7 @@ pub(crate) fn joined(width: u32, numbers: &[u8]) -> u64
     whole
 }
 
-// Sets numbers of `width` bits each to those that the low bits of a number write, the first one highest.
+// Splits the low bits of a number into numbers of `width` bits each, the first one highest.
 #[inline(always)]
 pub(crate) fn put_apart(whole: u64, width: u32, numbers: &mut [u8])
     requires width { width ≤ 8 }
@@ -33,8 +33,8 @@ pub(crate) fn put_apart(whole: u64, width: u32, numbers: &mut [u8])
     }
 }
 
-// Sets numbers of `to` bits each to those that the bits of numbers of `from` bits each write. There are six groups: `to` numbers of
-// the one list have as many bits as `from` numbers of the other.
+// Writes to `target` the numbers of `to` bits each that the bits of numbers of `from` bits each write. There are six
+// groups: `to` numbers of the one list have as many bits as `from` numbers of the other.
 #[inline(always)]
 pub(crate) fn regroup(source: &[u8], from: u32, to: u32, target: &mut [u8])
     requires from { from ≤ 8 }

@@ -1,10 +1,10 @@
-//! The order in which the nibbles of a block are sent.
+//! The order in which the nibbles of a block are transmitted.
 
 ghost use Rattle.std.specs.Prelude.{◌≡◌, ℕ, List, length};
 ghost use Rattle.p25_trellis.specs.Interleave.{interleaved};
 
-// Which nibble of a path is sent at each place: 0, 4, .., 48 first, then 1, 5, .., 45, then 2, 6, .., 46, and then
-// 3, 7, .., 47.
+// The index of the nibble of a path that is transmitted at each position: 0, 4, .., 48 first, then 1, 5, .., 45, then
+// 2, 6, .., 46, and then 3, 7, .., 47.
 const SENT_ORDER: [usize; 49] = [
     0, 4, 8, 12, 16, 20, 24, 28, 32, 36, 40, 44, 48, //
     1, 5, 9, 13, 17, 21, 25, 29, 33, 37, 41, 45, //
@@ -12,8 +12,8 @@ const SENT_ORDER: [usize; 49] = [
     3, 7, 11, 15, 19, 23, 27, 31, 35, 39, 43, 47,
 ];
 
-/// Answers the nibbles of a path in the order in which they are sent: those at places 0 modulo 4 first, then those at
-/// 1, 2 and 3 modulo 4 (TIA-102.BAAA, Data Interleaving).
+/// Interleaves the nibbles of a path: returns them in the order of transmission, those at positions 0 modulo 4 first,
+/// then those at 1, 2 and 3 modulo 4 (TIA-102.BAAA, Data Interleaving).
 pub fn spread(nibbles: &[u8; 49]) -> [u8; 49]
     ensures sent { result ≡ interleaved nibbles.now }
     ensures len { length result ≡ 49 }
@@ -25,8 +25,8 @@ pub fn spread(nibbles: &[u8; 49]) -> [u8; 49]
     sent
 }
 
-/// Answers the nibbles of a path from those that were sent. It undoes `spread`, and `spread` undoes it. TIA-102.BAAA, Data
-/// Interleaving.
+/// Deinterleaves transmitted nibbles: returns them in the order of the path. This is the inverse of `spread`.
+/// TIA-102.BAAA, Data Interleaving.
 pub fn gather(nibbles: &[u8; 49]) -> [u8; 49]
     ensures sent { interleaved result ≡ nibbles.now }
     ensures undone { (gathered : List ℕ) → interleaved gathered ≡ nibbles.now → result ≡ gathered }
@@ -43,14 +43,14 @@ pub fn gather(nibbles: &[u8; 49]) -> [u8; 49]
 mod tests {
     use super::*;
 
-    // To gather what was spread gives the nibbles again.
+    // Deinterleaving interleaved nibbles gives the nibbles again.
     fn gathered_again(nibbles: &[u8; 49]) -> [u8; 49]
         ensures { result ≡ nibbles.now }
     {
         gather(&spread(nibbles))
     }
 
-    // To spread what was gathered gives the nibbles again.
+    // Interleaving deinterleaved nibbles gives the nibbles again.
     fn spread_again(nibbles: &[u8; 49]) -> [u8; 49]
         ensures { result ≡ nibbles.now }
     {

@@ -1,4 +1,4 @@
-//! Laws of the rates: how far their paths differ, and what the functions of blocks and readings are. Each function
+//! Laws of the rates: the distance of their paths, and what the functions of blocks and decoding are. Each function
 //! states what is proved, and calls at most other theorems.
 
 ghost use Rattle.std.specs.{Prelude.{◌≡◌, ℕ, ◌*◌, ◌<◌, ◌≤◌, Bool, List, All, length, map, slice_index}, List.{concat}};
@@ -11,14 +11,14 @@ use super::rate::{Half, Rate, ThreeQuarter};
 use super::tables::{HALF_NIBBLES, THREE_QUARTER_NIBBLES};
 use crate::BLOCK_COSTS;
 
-/// **Theorem.** The sent bits of two different paths of a rate differ in at least `APART` places, and those of some two in no
-/// more.
+/// **Theorem.** The transmitted bits of two different paths of a rate differ in at least `APART` positions, and those
+/// of some two in no more.
 pub fn paths_apart<R: Rate>()
     ensures apart { ArePathsApart R.STATES R.point_of R.APART }
     ensures reached { SomeApart R.STATES R.point_of R.APART }
 {}
 
-/// **Theorem.** The sent bits of two different half-rate paths differ in at least 5 places.
+/// **Theorem.** The transmitted bits of two different half-rate paths differ in at least 5 positions.
 pub fn half_rate_apart()
     ensures apart { ArePathsApart 4 half_point 5 }
     ensures reached { SomeApart 4 half_point 5 }
@@ -26,7 +26,7 @@ pub fn half_rate_apart()
     paths_apart::<Half>()
 }
 
-/// **Theorem.** The sent bits of two different three-quarter-rate paths differ in at least 3 places.
+/// **Theorem.** The transmitted bits of two different three-quarter-rate paths differ in at least 3 positions.
 pub fn three_quarter_rate_apart()
     ensures apart { ArePathsApart 8 three_quarter_point 3 }
     ensures reached { SomeApart 8 three_quarter_point 3 }
@@ -34,8 +34,8 @@ pub fn three_quarter_rate_apart()
     paths_apart::<ThreeQuarter>()
 }
 
-/// **Theorem.** The octets and the distance that `nearest_octets` and `nearest_distance` give are those of the first nearest
-/// path, and no others are. The block that `block_from` gives is the block of octets.
+/// **Theorem.** The octets and the distance that `nearest_octets` and `nearest_distance` return are those of the first
+/// nearest path, and no others are. The block that `block_from` returns is the block of its octets.
 pub fn nearest_laws<R: Rate>()
     ensures reading { (received : List Bool)
         → IsFirstLeastReading R.STATES R.BITS_PER_SYMBOL (distance_from R.point_of received) (nearest_octets R.STATES R.BITS_PER_SYMBOL R.point_of received)
@@ -52,7 +52,7 @@ pub fn nearest_laws<R: Rate>()
         × (nearest_distance R.STATES R.point_of received ≡ distance_of (block_from R.BITS_PER_SYMBOL R.point_of octets) received) }
 {}
 
-/// **Theorem.** A half-rate block with at most two wrong bits reads as the octets that were sent.
+/// **Theorem.** A half-rate block with at most two bit errors decodes to the transmitted octets.
 pub fn half_rate_near()
     ensures { (octets : List ℕ) (received : List Bool) → length octets ≡ 12 → All (λ octet. octet < 256) octets → length received ≡ 196
         → distance_of (half_block octets) received ≤ 2 → half_octets received ≡ octets }
@@ -60,7 +60,7 @@ pub fn half_rate_near()
     nearest_laws::<Half>()
 }
 
-/// **Theorem.** A three-quarter-rate block with at most one wrong bit reads as the octets that were sent.
+/// **Theorem.** A three-quarter-rate block with at most one bit error decodes to the transmitted octets.
 pub fn three_quarter_rate_near()
     ensures { (octets : List ℕ) (received : List Bool) → length octets ≡ 18 → All (λ octet. octet < 256) octets → length received ≡ 196
         → distance_of (three_quarter_block octets) received ≤ 1 → three_quarter_octets received ≡ octets }
@@ -68,13 +68,13 @@ pub fn three_quarter_rate_near()
     nearest_laws::<ThreeQuarter>()
 }
 
-/// **Theorem.** The tables that the code reads have the nibbles of the points of the definitions, row by row.
+/// **Theorem.** The tables of the code have the nibbles of the points of the definitions, row by row.
 pub fn tables_are_as_defined()
     ensures half { HALF_NIBBLES ≡ map (λ point. slice_index point_nibbles point) (concat half_rows) }
     ensures three_quarter { THREE_QUARTER_NIBBLES ≡ map (λ point. slice_index point_nibbles point) (concat three_quarter_rows) }
 {}
 
-/// **Theorem.** A block has a cost for each of the 16 nibbles at each of its 49 places.
+/// **Theorem.** A block has a cost for each of the 16 nibbles at each of its 49 positions.
 pub fn numbers()
     ensures costs { BLOCK_COSTS ≡ 49 * 16 }
 {}

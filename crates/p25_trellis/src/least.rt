@@ -1,5 +1,5 @@
-//! The first least path of a table of costs: from the last step to the first the least cost of what follows each
-//! state, and then forward the lowest symbol that attains it.
+//! The first least path of a table of costs. From the last step to the first the least cost after each state is
+//! computed, and then forward the lowest symbol that attains it.
 
 ghost use Rattle.std.specs.Prelude.{◌≡◌, ℕ, ◌^◌, ◌<◌, ◌≤◌, All, length};
 ghost use Rattle.p25_trellis.specs.{Trellis.{IsFirstLeastReading}, Costs.{cost_in, path_cost}, Least.{step_cost, HasLeastFrom, IsLowestLeast}};
@@ -11,14 +11,14 @@ use super::rate::Rate;
 /// The number of costs of a block: 16 for each of 49 steps, one for each nibble.
 pub const BLOCK_COSTS: usize = 784;
 
-// A symbol, and what it and the rest of a path cost.
+// A symbol, and the cost of it and the rest of a path.
 #[derive(Clone, Copy)]
 struct Choice {
     symbol: u8,
     cost: u32,
 }
 
-// What a symbol costs after a state, together with the least that can follow it.
+// Returns the cost of a symbol after a state, together with the least cost that can follow it.
 fn symbol_cost<R: Rate>(costs: &[u32], rests: &[u32], step: usize, state: u8, symbol: u8) -> u32
     requires costs { length costs.now ≡ 784 }
     requires rests { length rests.now ≡ 392 }
@@ -32,7 +32,7 @@ fn symbol_cost<R: Rate>(costs: &[u32], rests: &[u32], step: usize, state: u8, sy
         + rests[8 * (step + 1) + usize::from(symbol)]
 }
 
-// The lowest of the symbols that cost least after a state.
+// Returns the lowest of the symbols that cost least after a state.
 fn best_symbol<R: Rate>(costs: &[u32], rests: &[u32], step: usize, state: u8) -> Choice
     requires costs { length costs.now ≡ 784 }
     requires rests { length rests.now ≡ 392 }
@@ -54,7 +54,7 @@ fn best_symbol<R: Rate>(costs: &[u32], rests: &[u32], step: usize, state: u8) ->
     best
 }
 
-// Fills in what the last step costs after each state: the cost of the symbol 0.
+// Writes the cost of the last step after each state: that of the symbol 0.
 fn fill_last<R: Rate>(costs: &[u32], rests: &mut [u32])
     requires costs { length costs.now ≡ 784 }
     requires rests { length rests.old ≡ 392 }
@@ -65,12 +65,12 @@ fn fill_last<R: Rate>(costs: &[u32], rests: &mut [u32])
     }
 }
 
-/// Sets `octets` to those of the first least path by a table of costs, and answers what that path costs: no path costs
-/// less, and of several that cost as little it is the first in dictionary order of symbols.
+/// Decodes by a table of costs: writes to `octets` those of the first least path, and returns the cost of that path. No
+/// path costs less; if several cost the same, it is the first in dictionary order of symbols.
 ///
-/// The table has 16 costs for each of the 49 steps, that of nibble n at step i at place 16·i + n, each at most 2^24. A path
-/// costs the sum over its nibbles, as they are before they are interleaved. `read_block` is this with the distances from
-/// received nibbles as costs; a reader of soft symbols has costs of its own.
+/// It requires 16 costs for each of the 49 steps, that of nibble n at step i at index 16·i + n, each at most 2^24. The
+/// cost of a path is the sum over its nibbles, before interleaving. `read_block` is this with the distances from
+/// received nibbles as costs; a decoder of soft symbols has costs of its own.
 pub fn read_costs<R: Rate>(costs: &[u32], octets: &mut [u8]) -> u32
     requires costs { length costs.now ≡ 784 }
     requires low { All (λ cost. cost ≤ 2 ^ 24) costs.now }

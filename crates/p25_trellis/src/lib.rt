@@ -1,16 +1,16 @@
 //! The trellis codes of the data blocks, at both rates (TIA-102.BAAA, Trellis Coding and Interleaving of data packets).
 //!
 //! A half-rate block is 12 octets as 48 symbols of two bits, and a three-quarter-rate block 18 octets as 48 symbols of
-//! three bits, the first bit highest. A path is those symbols and then the symbol 0. It begins in state 0, and the state
-//! after a symbol is that symbol; each step sends the four bits of one point, which the state and the symbol choose. The
-//! 49 nibbles are interleaved, so a block is 196 bits.
+//! three bits, the first bit highest. A path is those symbols and then the symbol 0. It begins in state 0, and the
+//! state after a symbol is that symbol. Each step transmits the four bits of one point, which the state and the symbol
+//! select. The 49 nibbles are interleaved, so a block is 196 bits.
 //!
-//! `read_block` answers the first nearest path of any 196 bits. Two different half-rate paths differ in at least 5 bits
-//! and two different three-quarter-rate paths in at least 3, so 2 wrong bits, or 1, are put right. The choice among paths
-//! that are as near is this project's own.
+//! `read_block` decodes any 196 bits to the first nearest path. Two different half-rate paths differ in at least 5 bits
+//! and two different three-quarter-rate paths in at least 3, so 2 bit errors, or 1, are corrected. The choice among
+//! paths at the same distance is this project's own.
 //!
-//! Contracts see what 196 bits read as, and the block of octets, as functions: `half_octets` and `half_block`, and
-//! `three_quarter_octets` and `three_quarter_block`. `nearest_laws` says what they are.
+//! Contracts see the decoding of 196 bits, and the block of octets, as functions: `half_octets` and `half_block`, and
+//! `three_quarter_octets` and `three_quarter_block`. `nearest_laws` states their laws.
 //!
 //! ```
 //! let mut bits = BitBuf::new();

@@ -1,5 +1,6 @@
-//! The search of the first nearest path to nibbles that were received: from the last step to the first the least distance of what
-//! follows each state and the lowest symbol that it begins with, all states of a step side by side, and then the path of these symbols.
+//! The search for the first nearest path to received nibbles. From the last step to the first it computes the least
+//! distance after each state and the lowest symbol with which a rest of that distance begins, all states of a step side
+//! by side. Then it follows these symbols.
 
 ghost use Rattle.std.specs.Prelude.{◌≡◌, ℕ, ◌+◌, ◌/◌, ◌%◌, ◌<◌, All, length, slice_index};
 ghost use Rattle.p25_trellis.specs.{Trellis.{IsFirstLeastReading}, Tables.{nibble_distance}, Costs.{path_cost, received_cost}};
@@ -8,12 +9,12 @@ ghost use Rattle.p25_trellis.specs.Least.{HasLeastFrom, HasLowestFrom, IsLowestL
 use super::path::take_path;
 use super::rate::Rate;
 
-// The number of the least that follows a state, a distance or a cost: 8 for each of 49 steps.
+// The number of least distances or costs after the states: 8 for each of 49 steps.
 pub(crate) const BLOCK_RESTS: usize = 392;
 
-// The least rank of each state at a step, where `rests` has the least distances of what follows the next step: eight times the least
-// distance of the step with what follows it, and the lowest symbol that attains it. There are eight places; those after the last state
-// mean nothing.
+// Returns the least rank of each state at a step; `rests` has the least distances after the next step. The rank is
+// eight times the least distance of the step and its rest, plus the lowest symbol that attains it. There are eight
+// entries; those after the last state are not used.
 #[inline(always)]
 fn least_at<R: Rate>(nibble: u8, rests: &[u8]) -> [u16; 8]
     requires nibble { nibble < 16 }
@@ -34,7 +35,7 @@ fn least_at<R: Rate>(nibble: u8, rests: &[u8]) -> [u16; 8]
     least
 }
 
-// Fills in the distance of the last step after each state: that of the symbol 0.
+// Writes the distance of the last step after each state: that of the symbol 0.
 fn fill_last<R: Rate>(received: &[u8; 49], rests: &mut [u8])
     requires nibbles { All (λ n. n < 16) received.now }
     requires rests { length rests.old ≡ 392 }
@@ -46,7 +47,7 @@ fn fill_last<R: Rate>(received: &[u8; 49], rests: &mut [u8])
     }
 }
 
-// Sets the least distance of what can follow each state at each step, and the lowest symbol that it begins with.
+// Writes the least distance after each state at each step, and the lowest symbol with which it begins.
 fn fill_rests<R: Rate>(
     received: &[u8; 49],
     rests: &mut [u8; BLOCK_RESTS],
@@ -66,8 +67,8 @@ fn fill_rests<R: Rate>(
     }
 }
 
-// Sets `octets` to those of the first nearest path to nibbles, and answers its distance. It is a function of its own, so that a block
-// that was sent without a wrong bit pays nothing for the search.
+// Decodes nibbles: writes to `octets` those of the first nearest path, and returns its distance. It is a function of
+// its own, so a block without bit errors does not pay for the search.
 #[inline(never)]
 pub(crate) fn read_near<R: Rate>(received: &[u8; 49], octets: &mut [u8]) -> u32
     requires nibbles { All (λ n. n < 16) received.now }

@@ -1,5 +1,5 @@
-//! The nibbles of a path, read from the bits of its block and written to them. Each fourth nibble stands side by side there, so a word
-//! holds 13 or 12 of them.
+//! The nibbles of a path, read from the bits of its block and written to them. Every fourth nibble is side by side
+//! there, so a word holds 13 or 12 of them.
 
 ghost use Rattle.std.specs.Prelude.{◌≡◌, ◌≢◌, ℕ, ◌+◌, ◌*◌, ◌^◌, ◌<◌, ◌≤◌, ◌++◌, All, length, drop};
 ghost use Rattle.p25_bits.specs.{Bits.{bits_of}, Numbers.{number_bits, numbers_from}};
@@ -7,7 +7,8 @@ ghost use Rattle.p25_trellis.specs.Interleave.{each_fourth, interleaved};
 
 use p25_bits::BitBuf;
 
-// Sets each fourth nibble from number `from` on, which are so many, to those that the low bits of a number write, the first one highest.
+// Writes every fourth nibble from number `from` on, `count` of them, from the low bits of a number, the first one
+// highest.
 #[inline(always)]
 fn put_fourths(number: u64, from: usize, count: usize, nibbles: &mut [u8; 49])
     requires from { from < 4 }
@@ -21,13 +22,13 @@ fn put_fourths(number: u64, from: usize, count: usize, nibbles: &mut [u8; 49])
     }
 }
 
-// The nibbles of a path, as they are before they are interleaved, from the bits of its block, which begin at a place.
+// Returns the nibbles of a path, before interleaving, from the bits of its block, which begin at a position.
 pub(crate) fn take_nibbles(bits: &BitBuf, at: usize) -> [u8; 49]
     requires { at + 196 ≤ length bits.now }
     ensures sent { interleaved result ≡ numbers_from 4 49 (drop at bits.now) }
     ensures len { length result ≡ 49 }
 {
-    // For the prover: the number of bits held bounds every place below.
+    // For the prover: the number of bits held bounds every position below.
     let _ = bits.len();
     let mut nibbles = [0; 49];
     put_fourths(bits.field(at, 52), 0, 13, &mut nibbles);
@@ -37,7 +38,7 @@ pub(crate) fn take_nibbles(bits: &BitBuf, at: usize) -> [u8; 49]
     nibbles
 }
 
-// The number that each fourth nibble from number `from` on write, which are so many, the first one highest.
+// Returns the number that every fourth nibble from number `from` on, `count` of them, write, the first one highest.
 #[inline(always)]
 fn fourths_joined(nibbles: &[u8; 49], from: usize, count: usize) -> u64
     requires small { All (λ n. n < 16) nibbles.now }
@@ -54,7 +55,7 @@ fn fourths_joined(nibbles: &[u8; 49], from: usize, count: usize) -> u64
     whole
 }
 
-// Appends the block of a path with such nibbles.
+// Appends the block of a path with the given nibbles.
 pub(crate) fn append_nibbles(nibbles: &[u8; 49], out: &mut BitBuf)
     requires small { All (λ n. n < 16) nibbles.now }
     requires room { length out.old + 196 ≤ 25928 }

@@ -15,8 +15,8 @@ pub(crate) fn octets_of<R: Rate>(path: &[u8], octets: &mut [u8])
     regroup(&path[..48], R::BITS_PER_SYMBOL, 8, octets);
 }
 
-// Writes the octets that the path carries on which each step takes the symbol chosen for the step and the state before it. Where
-// that is the lowest of those that lead to the least that can follow the state, the path is the first least.
+// Writes the octets of the path on which each step takes the symbol chosen for the step and the state before it. If
+// that is the lowest symbol that leads to the least cost after the state, the path is the first least one.
 pub(crate) fn take_path<R: Rate, F: Fn(usize, u8) -> u8>(choose: F, octets: &mut [u8])
     requires callable { (step state : ℕ) → step < 48 → state < R.STATES → F.pre choose step state }
     requires below { (step state symbol : ℕ) → step < 48 → state < R.STATES → F.post choose step state symbol → symbol < R.STATES }
@@ -34,7 +34,7 @@ pub(crate) fn take_path<R: Rate, F: Fn(usize, u8) -> u8>(choose: F, octets: &mut
     octets_of::<R>(&path, octets);
 }
 
-// The nibbles of a path.
+// Returns the nibbles of a path.
 pub(crate) fn nibbles_of<R: Rate>(path: &[u8; 49]) -> [u8; 49]
     requires { All (λ symbol. symbol < R.STATES) path.now }
     ensures value { result ≡ nibbles_from R.point_of 0 path.now }

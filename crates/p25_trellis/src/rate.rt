@@ -1,23 +1,23 @@
-//! The two rates: their numbers, and what every rate is by its tables.
+//! The two rates: their parameters, and the traits of a rate by its tables.
 
 ghost use Rattle.std.specs.Prelude.{◌≡◌, ◌≢◌, ℕ, ◌+◌, ◌*◌, ◌^◌, ◌<◌, ◌≤◌, length, slice_index};
 ghost use Rattle.p25_trellis.specs.{Tables.{nibble_distance}, TableLaws.{IsRate}};
 
 use super::tables::RateTables;
 
-/// A rate of the trellis code: a table of points with a row for each state and a column for each symbol. The state after
-/// a symbol is that symbol (TIA-102.BAAA, Trellis Coding).
+/// A rate of the trellis code: a table of points with a row for each state and a column for each symbol. The state
+/// after a symbol is that symbol (TIA-102.BAAA, Trellis Coding).
 ///
-/// The laws of a table are what the reading of blocks stands on: its points are nibbles, and from one state two symbols
-/// lead to paths that differ in at least `APART` bits before they meet again.
+/// The laws of a table are the basis of decoding: its points are nibbles, and from one state two symbols lead to paths
+/// that differ in at least `APART` bits before they meet again.
 pub trait Rate {
     /// The number of states, and of symbols: 4 or 8.
     const STATES: u8;
-    /// The number of bits that a symbol stands for: 2 or 3.
+    /// The number of bits that a symbol represents: 2 or 3.
     const BITS_PER_SYMBOL: u32;
     /// The number of octets of a block: 12 or 18.
     const OCTETS: usize;
-    /// The least number of sent bits in which two different paths differ: 5 or 3.
+    /// The least number of transmitted bits in which two different paths differ: 5 or 3.
     const APART: u32;
 
     ghost STATES: { ℕ };
@@ -31,26 +31,26 @@ pub trait Rate {
     // The four bits of the point in a state's row and a symbol's column.
     ghost point_of: { ℕ → ℕ → ℕ };
 
-    // In how many bits at least the paths from two states differ until they meet.
+    // The least number of bits in which the paths from two states differ until they meet.
     ghost parted: { ℕ → ℕ → ℕ };
 
-    /// Answers the four bits of the point in a state's row and a symbol's column, as a number.
+    /// Returns the four bits of the point in a state's row and a symbol's column, as a number.
     fn point(state: u8, symbol: u8) -> u8
         requires row { state < STATES }
         requires column { symbol < STATES }
         ensures value { result ≡ point_of state symbol }
         ensures nibble { result < 16 };
 
-    /// Answers the symbol that sends a nibble from a state, or 8 where none does.
+    /// Returns the symbol that transmits a nibble from a state, or 8 if none does.
     fn symbol_sending(state: u8, nibble: u8) -> u8
         requires row { state < STATES }
         requires nibble { nibble < 16 }
         ensures sends { result < STATES → point_of state result ≡ nibble }
         ensures none { STATES ≤ result → (result ≡ 8) × ((symbol : ℕ) → symbol < STATES → point_of state symbol ≢ nibble) };
 
-    /// Answers how a symbol ranks at a nibble after each state: eight times in how many bits its point differs from the nibble, and the
-    /// symbol. So the lowest rank is that of the lowest of the nearest symbols. There are eight places; those after the last state mean
-    /// nothing.
+    /// Returns the rank of a symbol at a nibble after each state: eight times the number of bits in which its point
+    /// differs from the nibble, plus the symbol. So the lowest rank is that of the lowest of the nearest symbols. There
+    /// are eight entries; those after the last state are not used.
     fn ranks(symbol: u8, nibble: u8) -> &'static [u16]
         requires column { symbol < STATES }
         requires nibble { nibble < 16 }
@@ -70,16 +70,16 @@ pub struct Half;
 #[derive(Clone, Copy, Debug, PartialEq, Eq)]
 pub struct ThreeQuarter;
 
-/// The numbers of a rate from which its others follow.
+/// The parameters of a rate from which its others follow.
 #[derive(Clone, Copy)]
 pub(crate) struct RateNumbers {
-    // The number of bits that a symbol stands for: 2 of a dibit or 3 of a tribit.
+    // The number of bits that a symbol represents: 2 of a dibit or 3 of a tribit.
     pub(crate) bits: u32,
-    // The least number of sent bits in which two different paths differ.
+    // The least number of transmitted bits in which two different paths differ.
     pub(crate) apart: u32,
 }
 
-/// A rate that is told by its numbers and its points.
+/// A rate defined by its parameters and its points.
 pub(crate) trait RatePoints {
     ghost use Rattle.p25_trellis.specs.{TableLaws.{TrellisRate}, declared.rate.RateNumbers.{RateNumbers}};
 
@@ -87,7 +87,7 @@ pub(crate) trait RatePoints {
 
     ghost NUMBERS: { RateNumbers };
 
-    // The points, how far paths part, and the laws of both.
+    // The points, the distances between paths, and the laws of both.
     ghost rate: { TrellisRate NUMBERS.bits NUMBERS.apart };
 }
 
@@ -111,7 +111,7 @@ impl RatePoints for ThreeQuarter {
     ghost rate = { three_quarter_rate };
 }
 
-// There is a state, and a symbol, for each value of a symbol's bits, and a block is 48 symbols.
+// There is a state and a symbol for each value of a symbol's bits, and a block is 48 symbols.
 impl<T: RateTables> Rate for T {
     const STATES: u8 = 1 << T::NUMBERS.bits;
 

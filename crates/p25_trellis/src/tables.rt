@@ -1,5 +1,5 @@
-//! The tables of each rate, as the search of a path reads them: the nibbles of its points, which symbol sends a nibble, and how a symbol
-//! ranks at a nibble.
+//! The tables of each rate for the search of a path: the nibbles of its points, the symbol that transmits each nibble,
+//! and the rank of each symbol at a nibble.
 
 ghost use Rattle.std.specs.Prelude.{◌^◌};
 ghost use Rattle.p25_trellis.specs.TableLaws.{AreTables};
@@ -11,17 +11,17 @@ use super::rate::{Half, RatePoints, ThreeQuarter};
 pub(crate) struct Tables {
     // The four bits of each point, a row for each state with a number for each symbol.
     pub(crate) nibbles: &'static [u8],
-    // Which symbol sends each nibble: a number for each nibble, with a hexadecimal digit for each state, the last for state 0. It is 8
-    // where no symbol does.
+    // The symbol that transmits each nibble: a number for each nibble, with a hexadecimal digit for each state, the
+    // last for state 0. It is 8 if no symbol does.
     pub(crate) symbols: &'static [u32],
-    // Eight times in how many bits the point of a state and a symbol differs from a nibble, and the symbol, at place
-    // 8 · (nibble · states + symbol) + state.
+    // Eight times the number of bits in which the point of a state and a symbol differs from a nibble, plus the symbol,
+    // at index 8 · (nibble · states + symbol) + state.
     pub(crate) ranks: &'static [u16],
 }
 
-/// A rate whose tables are there.
+/// A rate with its tables.
 pub(crate) trait RateTables: RatePoints {
-    /// Answers the tables.
+    /// Returns the tables.
     fn tables() -> Tables
         ensures { AreTables (2 ^ Self.NUMBERS.bits) Self.rate.point result.nibbles.now result.symbols.now result.ranks.now };
 }
@@ -72,7 +72,7 @@ pub(crate) const THREE_QUARTER_NIBBLES: [u8; 64] = [
     0xB, 0x4, 0x2, 0xD, 0xE, 0x1, 0x7, 0x8,
 ];
 
-// Which symbol sends each nibble at half rate, a digit for each state, the last for state 0; 8 where none does.
+// The symbol that transmits each nibble at half rate, a digit for each state, the last for state 0; 8 if none does.
 pub(crate) const HALF_SYMBOLS: [u32; 16] = [
     0x8888_8818,
     0x8888_8882,
@@ -92,7 +92,8 @@ pub(crate) const HALF_SYMBOLS: [u32; 16] = [
     0x8888_8883,
 ];
 
-// Which symbol sends each nibble at three-quarter rate, a digit for each state, the last for state 0; 8 where none does.
+// The symbol that transmits each nibble at three-quarter rate, a digit for each state, the last for state 0; 8 if none
+// does.
 pub(crate) const THREE_QUARTER_SYMBOLS: [u32; 16] = [
     0x8871_3588,
     0x5788_8813,
@@ -112,8 +113,8 @@ pub(crate) const THREE_QUARTER_SYMBOLS: [u32; 16] = [
     0x8860_2488,
 ];
 
-// Eight times in how many bits the point of a state and a symbol differs from a nibble at half rate, and the symbol, at place
-// 32 · nibble + 8 · symbol + state. It has 0 in place of four more states.
+// Eight times the number of bits in which the point of a state and a symbol differs from a nibble at half rate, plus
+// the symbol, at index 32 · nibble + 8 · symbol + state. It has 0 for four more states.
 pub(crate) const HALF_RANKS: [u16; 512] = [
     8, 24, 16, 16, 0, 0, 0, 0, 17, 1, 25, 25, 0, 0, 0, 0, 10, 26, 18, 18, 0, 0, 0, 0, 35, 19, 11,
     11, 0, 0, 0, 0, //
@@ -149,8 +150,8 @@ pub(crate) const HALF_RANKS: [u16; 512] = [
     0, 0, 0, 0,
 ];
 
-// Eight times in how many bits the point of a state and a symbol differs from a nibble at three-quarter rate, and the symbol, at place
-// 64 · nibble + 8 · symbol + state.
+// Eight times the number of bits in which the point of a state and a symbol differs from a nibble at three-quarter
+// rate, plus the symbol, at index 64 · nibble + 8 · symbol + state.
 pub(crate) const THREE_QUARTER_RANKS: [u16; 1024] = [
     8, 24, 16, 16, 32, 16, 24, 24, 25, 9, 17, 17, 1, 17, 9, 9, 26, 26, 18, 34, 18, 18, 26, 10, 11,
     11, 19, 3, 19, 19, 11, 27, //

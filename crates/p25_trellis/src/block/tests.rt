@@ -35,7 +35,8 @@ const ZEROS: [u64; 4] = [
     2,
 ];
 
-// Blocks that another program made from the standard's tables are written so, and read with no distance.
+// Blocks that another program made from the standard's tables are the encodings of their octets, and decode with
+// distance 0.
 #[test]
 fn blocks_of_half_rate(rt: HostRuntime) {
     let rows: [([u8; 12], [u64; 4]); 3] = [
@@ -100,7 +101,7 @@ fn blocks_of_three_quarter_rate(rt: HostRuntime) {
     }
 }
 
-// The block of zeros with two wrong bits at half rate, and with one at three-quarter rate.
+// The block of zeros with two bit errors at half rate, and with one at three-quarter rate.
 #[test]
 fn blocks_with_wrong_bits(rt: HostRuntime) {
     for place in 0..195 {
@@ -116,7 +117,8 @@ fn blocks_with_wrong_bits(rt: HostRuntime) {
     }
 }
 
-// Two wrong bits at three-quarter rate: as near as another path, which comes later; and nearer to another path.
+// Two bit errors at three-quarter rate: at the same distance from another path, which comes later; and nearer to
+// another path.
 #[test]
 fn a_tie_and_a_nearer_path(rt: HostRuntime) {
     let mut bits = sent_block(&ZEROS);
