@@ -1,4 +1,4 @@
--- Laws of the packet checks: a message has one check alone, since it has one remainder, and a check has no more bits than its width.
+-- Laws of the packet checks: a message has only one check, because it has one remainder, and a check has no more bits than its width.
 use Rattle.std.proofs.{Common.{subst, ◌≡◌, ℕ, ◌-◌, ◌*◌, ◌%◌, ◌^◌, ◌<◌, ◌≤◌, Bool, List, ap, sym, ◌∙◌, arith, lit<}, Math.Nat.{mod-eq_of_lt, lt_of_le_of_lt}, Math.Pow.{pow_mono}}
 use Rattle.std.proofs.lemmas.Nat.{xor_lt, pow_pos}
 use Rattle.p25_bits.specs.{Bits.{octet_bits}, Divisible.{HasDegree}}

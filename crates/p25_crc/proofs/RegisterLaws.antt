@@ -1,4 +1,4 @@
--- How the number of a message grows with each octet that a register takes in, and what check the register gives in the end.
+-- The number of a message after each octet that is shifted into a register, and the check that the register holds at the end.
 use Rattle.std.proofs.Common.{◌≡◌, ℕ, ◌+◌, ◌-◌, ◌*◌, ◌/◌, ◌^◌, ◌<◌, ◌≤◌, Bool, List, [], ◌∷◌, ◌++◌, length, take, drop, get_or, bit_xor, refl, ap, ap₂, sym, ◌∙◌, subst, arith, append_assoc, take-append-drop, length-drop}
 use Rattle.std.proofs.{lemmas.List.{take_all, take_more, append-nil}, Math.Nat.{mod-eq_of_lt, mul_assoc}, lemmas.Nat.{pow_pos, pow-add}}
 use Rattle.std.specs.Int.{w32, from_be_bytes}

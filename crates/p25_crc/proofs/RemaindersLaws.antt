@@ -1,5 +1,5 @@
--- The tables of the checks hold the remainders: the checker computes each entry by doubling. So a register takes in the bits of
--- an octet, or of a word of four.
+-- The tables of the checks hold the remainders: the checker computes each entry by doubling. So the register is right after the bits of an octet, and
+-- after a word of four.
 use Rattle.std.proofs.{Common.{◌≡◌, ℕ, ◌+◌, ◌*◌, ◌/◌, ◌%◌, ◌^◌, ◌<◌, List, [], bit_xor, get_or, refl, ap, sym, ◌∙◌, subst, arith, lit<, lit≤}, lemmas.Nat.{xor_comm, xor_lt}}
 use Rattle.std.specs.Int.Bits.{xor_assoc}
 use Rattle.p25_bits.specs.{Divisible.{HasDegree, IsRemainder}, Numbers.{each_below}}

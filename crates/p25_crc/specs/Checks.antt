@@ -25,7 +25,7 @@ header_divisor = 2 ^ 16 + 2 ^ 12 + 2 ^ 5 + 1
 abbrev pub packet_divisor : ℕ
 packet_divisor = 2 ^ 32 + 2 ^ 26 + 2 ^ 23 + 2 ^ 22 + 2 ^ 16 + 2 ^ 12 + 2 ^ 11 + 2 ^ 10 + 2 ^ 8 + 2 ^ 7 + 2 ^ 5 + 2 ^ 4 + 2 ^ 2 + 2 ^ 1 + 1
 
--- the message of a confirmed block's check: the serial in seven bits, and then the octets
+-- the message of a confirmed block's check: the serial number in seven bits, and then the octets
 abbrev pub block_message : ℕ → List ℕ → List Bool
 block_message serial octets = bits_of 7 serial ++ octet_bits octets
 

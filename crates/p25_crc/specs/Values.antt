@@ -1,5 +1,4 @@
--- The three checks as functions. Each gives a check of the message, and a message has one check alone, so all that is
--- known of a function here is that it gives the check.
+-- The three checks as functions. Each returns a check of the message. A message has only one check, so this property determines the function.
 use Rattle.std.specs.Prelude.{ℕ, ◌*◌, ◌^◌, Bool, List, refl}
 use Rattle.std.proofs.Common.{lit<, lit≤}
 use Rattle.p25_bits.specs.{Bits.{field_of, octet_bits}, Divisible.{HasDegree}}

@@ -1,9 +1,9 @@
-//! What the three checks are as functions. The body is empty: the function states what is proved.
+//! The laws of the three checks as functions. The body is empty: the function states what is proved.
 
 ghost use Rattle.std.specs.Prelude.{◌≡◌, ℕ, List};
 ghost use Rattle.p25_crc.specs.{Checks.{IsCrc9, IsCrc16, IsCrc32}, Values.{crc9_of, crc16_of, crc32_of}};
 
-/// **Theorem.** `crc9_of`, `crc16_of` and `crc32_of` give the check of a message, and no other number is its check.
+/// **Theorem.** `crc9_of`, `crc16_of` and `crc32_of` return the check of a message, and no other number is its check.
 pub fn check_laws()
     ensures crc9 { (serial : ℕ) (octets : List ℕ) → IsCrc9 serial octets (crc9_of serial octets) }
     ensures crc16 { (octets : List ℕ) → IsCrc16 octets (crc16_of octets) }

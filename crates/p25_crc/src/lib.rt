@@ -1,9 +1,10 @@
 //! The three checks of packet data: the header CRC, the CRC of a confirmed block and the CRC of a whole packet.
 //!
-//! A message is a polynomial over GF(2) whose highest coefficient is its first bit; of an octet the most significant
-//! bit comes first. Its check is the remainder of x^width times the message by a divisor of degree `width`, with all
-//! bits inverted: the register starts at 0, nothing is reflected, and a check is a number whose highest bit is sent
-//! first. There is exactly one check of each message. A check is made of four octets at a time, by tables of remainders.
+//! A message is a polynomial over GF(2) whose highest coefficient is its first bit; the most significant bit of an
+//! octet is its first. Its check is the remainder of x^width times the message by a divisor of degree `width`, with all
+//! bits inverted. The register starts at 0, nothing is reflected, and a check is a number whose highest bit is
+//! transmitted first. There is exactly one check of each message. A check is computed four octets at a time, by tables
+//! of remainders.
 //!
 //! ```
 //! let octets = b"123456789";
@@ -30,8 +31,8 @@ mod tests;
 use register::take_octets;
 use remainders::{BLOCK, HEADER, PACKET};
 
-/// Answers the nine check bits of a confirmed block: of its serial number in seven bits, below 128, and its sixteen
-/// octets after it. TIA-102.BAAA, Packet Data, CRC-9.
+/// Returns the nine check bits of a confirmed block: of its serial number in seven bits, followed by its sixteen
+/// octets. It requires a serial number below 128. TIA-102.BAAA, Packet Data, CRC-9.
 pub fn crc9(serial: u8, octets: &[u8; 16]) -> u16
     requires { serial < 128 }
     ensures value { result ≡ crc9_of serial octets.now }
@@ -39,12 +40,12 @@ pub fn crc9(serial: u8, octets: &[u8; 16]) -> u16
     ensures only { (other : ℕ) → IsCrc9 serial octets.now other → other ≡ result }
     ensures width { result < 2 ^ 9 }
 {
-    // A serial number, below 128, writes the same number in eight bits.
+    // A serial number below 128 is the same number in eight bits.
     let register = take_octets(0, &[serial], &BLOCK);
     (take_octets(register, octets, &BLOCK) >> 23) as u16 ^ 0x1FF
 }
 
-/// Answers the sixteen check bits of a packet header's octets. TIA-102.BAAA, Packet Data, Header CRC.
+/// Returns the sixteen check bits of a packet header's octets. TIA-102.BAAA, Packet Data, Header CRC.
 pub fn crc16(octets: &[u8]) -> u16
     ensures value { result ≡ crc16_of octets.now }
     ensures check { IsCrc16 octets.now result }
@@ -53,7 +54,7 @@ pub fn crc16(octets: &[u8]) -> u16
     (take_octets(0, octets, &HEADER) >> 16) as u16 ^ 0xFFFF
 }
 
-/// Answers the 32 check bits of a packet's data and pad octets. TIA-102.BAAA, Packet Data, Packet CRC.
+/// Returns the 32 check bits of a packet's data and pad octets. TIA-102.BAAA, Packet Data, Packet CRC.
 pub fn crc32(octets: &[u8]) -> u32
     ensures value { result ≡ crc32_of octets.now }
     ensures check { IsCrc32 octets.now result }

@@ -1,5 +1,5 @@
 //! A register that divides the bits shifted into it by a polynomial of degree 32. It holds the remainder of x^32 times
-//! what was shifted in.
+//! the polynomial of these bits.
 
 ghost use Rattle.std.specs.Prelude.{ℕ, ◌+◌, ◌*◌, ◌^◌, Bool, List, ◌++◌};
 ghost use Rattle.p25_bits.specs.{Bits.{field_of, octet_bits}, Divisible.{IsRemainder}};
@@ -18,8 +18,8 @@ fn take_word(register: u32, word: u32, remainders: &Remainders) -> u32
             ^ (remainders[1][((sum >> 8) % 256) as usize] ^ remainders[0][(sum % 256) as usize]))
 }
 
-// Shifts the bits of octets into a register four octets at a time as long as there are so many, and then one at a time, each
-// octet's highest bit first.
+// Shifts the bits of octets into a register, four octets at a time as long as four are left, and then one at a time,
+// each octet's highest bit first.
 pub(crate) fn take_octets(register: u32, octets: &[u8], remainders: &Remainders) -> u32
     ensures { (divisor : ℕ) (before : List Bool) → AreRemainders divisor remainders.now → IsRemainder divisor 32 (field_of before * 2 ^ 32) register
         → IsRemainder divisor 32 (field_of (before ++ octet_bits octets.now) * 2 ^ 32) result }

@@ -1,9 +1,9 @@
-//! The remainders that the checks are made of. All three divisors are taken as of degree 32: each is multiplied by the
-//! power of x that it lacks, and so are its remainders.
+//! The remainders from which the checks are computed. All three divisors are used with degree 32: each is multiplied by
+//! the power of x that it lacks, and so are its remainders.
 
 use p25_bits::sums;
 
-// The remainders by a divisor of v · x^(32 + 8 · place), by the place, below 4, and the octet v.
+// The remainders by a divisor of v · x^(32 + 8 · position), by the position, below 4, and the octet v.
 pub(crate) type Remainders = [[u32; 256]; 4];
 
 // The remainders of x^39 to x^32, of x^47 to x^40, of x^55 to x^48 and of x^63 to x^56 are enough to make all.
