@@ -1,4 +1,4 @@
--- The rule by places: a bit stands two places later for each whole 70 before it. By recursion on the status symbols, a block each.
+-- The rule by positions: a bit is two positions later for each whole 70 bits before it. By recursion on the status symbols, one block each.
 use Rattle.std.proofs.Common.{◌≡◌, ℕ, zero, suc, ◌+◌, ◌-◌, ◌*◌, ◌/◌, ◌<◌, inl, inr, Bool, List, [], ◌∷◌, ◌++◌, length, take, drop, slice_get, Some, refl, ap, sym, ◌∙◌, arith, length-drop, get_or}
 use Rattle.std.proofs.{lemmas.Option.{unwrap_or-slice_get}, Math.Nat.{div-eq_of_lt}, lemmas.Bool.{cases_lt}}
 use Rattle.std.proofs.lemmas.List.{take-append-drop, length-take-le, drop-drop, get_or-take, get_or-drop, same_lists, take_at, drop_at}

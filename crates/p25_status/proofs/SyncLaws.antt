@@ -1,4 +1,5 @@
--- The frame sync and its distance as the weight of an exclusive or, and when bits begin with a sync. The laws of `has_sync` are read off its two tests.
+-- The frame sync and its distance as the weight of an exclusive or, and when bits begin with a sync. The laws of `has_sync` follow from its two
+-- tests.
 use Rattle.std.proofs.Common.{◌≡◌, ℕ, ◌<◌, ◌≤◌, ◌&&◌, Bool, true, false, nat_le, List, ◌++◌, length, length-append, take, drop, bit_xor, refl, ap, ap₂, sym, ◌∙◌, arith}
 use Rattle.std.proofs.{lemmas.Bool.{and_parts, and_from, and_left, and_right, le-leb, leb-true, lt-leb}, lemmas.List.{take-append-le, take-append-drop, length-take}}
 use Rattle.std.specs.Int.RustNames.{count_ones}

@@ -1,4 +1,4 @@
--- To weave and to take apart undo each other. By recursion on the blocks, each of 70 bits and a status symbol.
+-- Inserting and removing status symbols are inverse. By recursion on the blocks, each of 70 bits and a status symbol.
 use Rattle.std.proofs.Common.{◌≡◌, ℕ, zero, suc, ◌+◌, ◌*◌, ◌/◌, ◌<◌, ◌≤◌, Bool, true, false, eqb, List, [], ◌∷◌, ◌++◌, length, take, drop, get_or, refl, ap, ap₂, sym, ◌∙◌, arith, length-append, length-drop}
 use Rattle.std.proofs.{Math.Nat.{mod-eq_of_lt}, Math.Seq.{drop-cons}, lemmas.List.{take-append-drop, length-take-le, nil_from_length, get_or-drop, drop-drop, take_at, drop_at}}
 use Rattle.std.specs.Int.{bit_at}

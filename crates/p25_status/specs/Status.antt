@@ -29,6 +29,6 @@ status_from_bits high low = status_at_number (2 * digit_of high + digit_of low) 
 same_made : (m n : ℕ) → m ≡ n → (p : m < 4) (q : n < 4) → status_at_number m p ≡ status_at_number n q
 same_made m n e p = subst (λ k. (q : k < 4) → status_at_number m p ≡ status_at_number k q) e (λ q. ap (λ r. status_at_number m r) (le_prop p q))
 
--- status symbols of one number are one symbol
+-- status symbols with the same number are equal
 pub same_status : (a b : Status) → status_number a ≡ status_number b → a ≡ b
 same_status a b e = same_made (status_number a) (status_number b) e a.below b.below

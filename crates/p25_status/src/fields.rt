@@ -2,15 +2,16 @@
 
 use crate::list::BoundedList;
 
-/// A part of a unit that can fail to be read. The default, which fills the unused places of a list, means nothing.
+/// A part of a data unit that can fail to decode. The default, which fills the unused positions of a list, has no
+/// meaning.
 #[derive(Clone, Copy, Debug, PartialEq, Eq, Default)]
 pub enum Field {
-    /// The frame sync, with more than four wrong bits.
+    /// The frame sync, with more than four bit errors.
     #[default]
     Sync,
     /// The network identifier (NID).
     Nid,
-    /// The data unit identifier (DUID), where it is none that this toolkit knows.
+    /// The data unit identifier (DUID), if this toolkit does not know it.
     Duid,
     /// The header word of a header data unit (HDU).
     HeaderWord,
@@ -22,15 +23,15 @@ pub enum Field {
     LowSpeed1,
     /// The second low speed data (LSD) word of an LDU1 or an LDU2.
     LowSpeed2,
-    /// The header block of a packet (PDU), where its CRC does not agree.
+    /// The header block of a packet (PDU), if its CRC does not agree.
     PacketHeader,
-    /// The length of a packet (PDU), where fewer bits are there than its header tells.
+    /// The length of a packet (PDU), if there are fewer bits than its header states.
     Length,
-    /// The format of a packet (PDU), where it is none that this toolkit reads.
+    /// The format of a packet (PDU), if this toolkit does not decode it.
     Format,
     /// The CRC of a whole packet (PDU).
     PacketCrc,
-    /// The CRC of one block of a packet (PDU), by its place, from 0.
+    /// The CRC of one block of a packet (PDU), by its index, from 0.
     Block(u8),
 }
 

@@ -1,4 +1,4 @@
-//! The frame sync: its bits, its length and the distance at which it is still found.
+//! The frame sync: its bits, its length and the distance at which it is still detected.
 
 ghost use Rattle.std.specs.Prelude.{◌≡◌, ◌+◌, ◌^◌, ◌<◌, ◌≤◌, ◌↔◌, IsTrue, length};
 ghost use Rattle.p25_bits.specs.{Bits.{bits_of, part}, Distance.{distance_of}};
@@ -9,16 +9,17 @@ use p25_bits::BitBuf;
 /// The 48 bits of the frame sync as a number, the first bit highest. TIA-102.BAAA, Frame Synchronization.
 pub const SYNC: u64 = 0x5575_F5FF_77FF;
 
-/// How many bits a frame sync has. TIA-102.BAAA, Frame Synchronization.
+/// The number of bits of a frame sync. TIA-102.BAAA, Frame Synchronization.
 pub const SYNC_LENGTH: usize = 48;
 
-/// In how many of its places a frame sync may be wrong. That number is this project's choice.
+/// The most bit errors of a frame sync that is detected. This number is this project's choice.
 pub const SYNC_SLACK: u32 = 4;
 
-/// How many bits the network identifier (NID) has, which stands after the sync. TIA-102.BAAA, Network Identifier.
+/// The number of bits of the network identifier (NID), which follows the sync. TIA-102.BAAA, Network Identifier.
 pub const IDENTIFIER_LENGTH: usize = 64;
 
-/// Answers in how many places 48 bits differ from the frame sync. `window` is the number of the bits, the first highest.
+/// Returns the number of positions in which 48 bits differ from the frame sync. `window` is the number of the bits, the
+/// first bit highest.
 pub fn sync_distance(window: u64) -> u32
     requires { window < 2 ^ 48 }
     ensures distance { result ≡ distance_of (bits_of 48 window) sync_bits }
@@ -30,8 +31,8 @@ pub fn sync_distance(window: u64) -> u32
     (window ^ SYNC).count_ones()
 }
 
-/// Answers whether 48 bits differ from the frame sync in at most four places. `window` is the number of the bits, the
-/// first highest. That four wrong bits are accepted is this project's choice.
+/// Returns whether 48 bits differ from the frame sync in at most four positions. `window` is the number of the bits,
+/// the first bit highest. The threshold of four bit errors is this project's choice.
 pub fn is_sync_window(window: u64) -> bool
     requires { window < 2 ^ 48 }
     ensures { IsTrue result ↔ (distance_of (bits_of 48 window) sync_bits ≤ sync_slack) }
@@ -39,7 +40,7 @@ pub fn is_sync_window(window: u64) -> bool
     sync_distance(window) <= SYNC_SLACK
 }
 
-/// Answers whether the 48 bits from place `at` on differ from the frame sync in at most four places. TIA-102.BAAA, Frame
+/// Returns whether the 48 bits from position `at` on differ from the frame sync in at most four positions. TIA-102.BAAA, Frame
 /// Synchronization.
 pub fn is_sync(bits: &BitBuf, at: usize) -> bool
     requires { at + 48 ≤ length bits.now }

@@ -1,9 +1,10 @@
-//! Frame sync, the status symbols among the bits of a unit, and the names of a unit's fields.
+//! Frame sync, the status symbols among the bits of a data unit, and the names of a data unit's fields.
 //!
-//! A unit is sent with a status symbol of two bits, the higher one first, after every 70 of its bits, counted from the
-//! first bit of its sync. So bit u of a unit is sent at place u + 2 · (u / 70), and status symbol i at the places
-//! 72 · i + 70 and 72 · i + 71. Contracts speak of the sent bits as `woven bits statuses`, of the way back as `bare_of`
-//! and `statuses_of`, and of the rule by places as `StandsByPlaces`. Lists are seen as lists.
+//! A data unit is transmitted with a status symbol of two bits, the higher one first, after every 70 of its bits,
+//! counted from the first bit of its sync. So bit u of a data unit is transmitted at position u + 2 · (u / 70), and
+//! status symbol i at the positions 72 · i + 70 and 72 · i + 71. In contracts the transmitted bits are `woven bits
+//! statuses`, the inverse is `bare_of` and `statuses_of`, and the rule by positions is `StandsByPlaces`. A list is seen
+//! as a list.
 //!
 //! ```
 //! let mut bare = BitBuf::new();

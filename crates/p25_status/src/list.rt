@@ -20,7 +20,7 @@ impl<T: Default, const MOST: usize> Model for BoundedList<T, MOST> {
 }
 
 impl<T: Copy + Default, const MOST: usize> BoundedList<T, MOST> {
-    /// Answers an empty list.
+    /// Returns an empty list.
     pub fn new() -> BoundedList<T, MOST>
         ensures { result ≡ [] }
     {
@@ -29,7 +29,7 @@ impl<T: Copy + Default, const MOST: usize> BoundedList<T, MOST> {
         }
     }
 
-    /// Answers the list of one item.
+    /// Returns the list of one item.
     pub fn one(item: T) -> BoundedList<T, MOST>
         requires { 0 < MOST }
         ensures { result ≡ item ∷ [] }
@@ -39,7 +39,7 @@ impl<T: Copy + Default, const MOST: usize> BoundedList<T, MOST> {
         list
     }
 
-    /// Answers a list of `count` times one item.
+    /// Returns a list of `count` copies of one item.
     pub fn filled(item: T, count: usize) -> BoundedList<T, MOST>
         requires { count ≤ MOST }
         ensures list { result ≡ replicate count item }
@@ -52,7 +52,7 @@ impl<T: Copy + Default, const MOST: usize> BoundedList<T, MOST> {
         list
     }
 
-    /// Answers the number of items held.
+    /// Returns the number of items held.
     pub fn len(&self) -> usize
         ensures value { result ≡ length self.now }
         ensures most { result ≤ MOST }
@@ -60,14 +60,14 @@ impl<T: Copy + Default, const MOST: usize> BoundedList<T, MOST> {
         self.items.len()
     }
 
-    /// Answers whether the list holds no item.
+    /// Returns whether the list holds no item.
     pub fn is_empty(&self) -> bool
         ensures { IsTrue result ↔ (self.now ≡ []) }
     {
         self.len() == 0
     }
 
-    /// Answers a copy of item `i`.
+    /// Returns a copy of item `i`.
     pub fn get(&self, i: usize) -> T
         requires { i < length self.now }
         ensures { slice_get self.now i ≡ Some result }
@@ -75,7 +75,7 @@ impl<T: Copy + Default, const MOST: usize> BoundedList<T, MOST> {
         self.items.as_slice()[i]
     }
 
-    /// Answers all items, in order.
+    /// Returns all items, in order.
     pub fn as_slice(&self) -> &[T]
         ensures value { result.now ≡ self.now }
         ensures most { length self.now ≤ MOST }
@@ -101,7 +101,7 @@ impl<T: Copy + Default, const MOST: usize> BoundedList<T, MOST> {
 }
 
 impl<const MOST: usize> BoundedList<u8, MOST> {
-    /// Answers all octets, in order, as `as_slice` does.
+    /// Returns all octets, in order, as `as_slice` does.
     pub fn octets(&self) -> &[u8]
         ensures value { result.now ≡ self.now }
         ensures most { length self.now ≤ MOST }

@@ -1,4 +1,4 @@
-//! The names of the fields that fail, as texts have them.
+//! The names of the fields that fail, in texts.
 
 ghost use Rattle.std.specs.Prelude.{◌≡◌, ◌+◌, ◌≤◌, ◌++◌, Some, length};
 ghost use Rattle.p25_status.specs.FieldNames.{field_name, field_names};
@@ -22,7 +22,7 @@ pub fn put_field_names(fields: &FieldList, out: &mut Line)
     }
 }
 
-/// Appends the name of a field, as `nid` of the network identifier (NID).
+/// Appends the name of a field, as `nid` for the network identifier (NID).
 #[tactic(auto, using(p25_line::proofs::DecimalLaws::decimal_octet))]
 pub fn put_field_name(field: Field, out: &mut Line)
     requires { length out.old + 15 ≤ 8192 }
@@ -49,7 +49,7 @@ pub fn put_field_name(field: Field, out: &mut Line)
     }
 }
 
-/// Its name, as `put_field_name` appends it.
+/// Writes the name of a field, as `put_field_name` appends it.
 impl fmt::Display for Field {
     ghost output = { λ field. Some (field_name field) };
 
@@ -62,7 +62,7 @@ impl fmt::Display for Field {
 
 impl Error for Field {}
 
-/// The names of its fields, as `put_field_names` appends them.
+/// Writes the names of fields, as `put_field_names` appends them.
 impl fmt::Display for FieldList {
     ghost output = { λ fields. Some (field_names fields) };
 

@@ -6,8 +6,8 @@ use crate::list::BoundedList;
 use std::error::Error;
 use std::fmt;
 
-/// A status symbol, a number from 0 to 3 that is sent as two bits, the higher one first: 1 is inbound busy, 3 inbound
-/// idle, 0 unknown or talk-around, and 2 unknown. TIA-102.BAAA, Status Symbols.
+/// A status symbol, a number from 0 to 3 that is transmitted as two bits, the higher one first: 1 is inbound busy, 3
+/// inbound idle, 0 unknown or talk-around, and 2 unknown. TIA-102.BAAA, Status Symbols.
 #[derive(Clone, Copy, Debug, PartialEq, Eq)]
 pub struct Status {
     value: u8,
@@ -20,7 +20,7 @@ impl Default for Status {
 
     ghost is_default = { λ status. status_number status ≡ 0 };
 
-    /// The symbol 0, unknown or talk-around.
+    /// Returns the symbol 0, unknown or talk-around.
     fn default() -> Status {
         Status { value: 0 }
     }
@@ -29,7 +29,7 @@ impl Default for Status {
 impl Status {
     ghost use Rattle.p25_status.specs.Status.{status_number};
 
-    /// Answers the status symbol of a number. None comes exactly above 3.
+    /// Returns the status symbol of a number. `None` is returned if and only if the number is above 3.
     pub fn new(value: u8) -> Option<Status>
         ensures below { IsSome result ↔ (value < 4) }
         ensures number { IfSome result (λ status. status_number status ≡ value) }
@@ -41,7 +41,7 @@ impl Status {
         }
     }
 
-    /// Answers the number of the symbol, from 0 to 3.
+    /// Returns the number of the symbol, from 0 to 3.
     pub fn value(self) -> u8
         ensures number { result ≡ status_number self }
         ensures below { result < 4 }
@@ -49,7 +49,7 @@ impl Status {
         self.value
     }
 
-    // Answers the symbol that two bits write as a number, the first one higher.
+    // Returns the symbol whose number two bits write, the first one higher.
     pub(crate) fn at_number(value: u8) -> Status
         requires { value < 4 }
         ensures { status_number result ≡ value }
@@ -58,7 +58,7 @@ impl Status {
     }
 }
 
-/// The number of a status symbol.
+/// Returns the number of a status symbol.
 impl From<Status> for u8 {
     ghost use Rattle.std.specs.Prelude.{◌≡◌};
     ghost use Rattle.p25_status.specs.Status.{status_number};
@@ -70,7 +70,8 @@ impl From<Status> for u8 {
     }
 }
 
-/// The status symbol of a number, as `Status::new` answers it. `NotAStatus` comes exactly above 3, with the number.
+/// Returns the status symbol of a number, as `Status::new` does. `NotAStatus` is returned with the number, if and only
+/// if the number is above 3.
 impl TryFrom<u8> for Status {
     type Error = NotAStatus;
 
@@ -86,7 +87,7 @@ impl TryFrom<u8> for Status {
     }
 }
 
-/// A number above 3, which is that of no status symbol.
+/// A number above 3, which is the number of no status symbol.
 #[derive(Clone, Copy, Debug, PartialEq, Eq)]
 pub struct NotAStatus(pub u8);
 
@@ -103,5 +104,5 @@ impl fmt::Display for NotAStatus {
 
 impl Error for NotAStatus {}
 
-/// A list of at most 360 status symbols, as many as the longest unit has.
+/// A list of at most 360 status symbols, as many as the longest data unit has.
 pub type Statuses = BoundedList<Status, 360>;

@@ -7,17 +7,17 @@ ghost use Rattle.p25_status.specs.Woven.{woven, bare_of, statuses_of, StandsByPl
 use crate::symbols::{Status, Statuses};
 use p25_bits::BitBuf;
 
-/// How many bits of a unit stand before each of its status symbols. TIA-102.BAAA, Status Symbols.
+/// The number of bits of a data unit before each of its status symbols. TIA-102.BAAA, Status Symbols.
 pub const BARE_BLOCK_LENGTH: usize = 70;
 
-/// How many bits are sent for them: a status symbol has two. TIA-102.BAAA, Status Symbols.
+/// The number of transmitted bits of such a block: the status symbol has two. TIA-102.BAAA, Status Symbols.
 pub const SENT_BLOCK_LENGTH: usize = 72;
 
-// How many bits a status symbol has.
+// The number of bits of a status symbol.
 const STATUS_WIDTH: u32 = 2;
 
-/// Replaces `out` by a unit's bits as they are sent: after every 70 bits of `bare` comes one of the status symbols, in
-/// order. There are 70 bits for each symbol. TIA-102.BAAA, Status Symbols.
+/// Inserts the status symbols: replaces `out` by a data unit's transmitted bits, with one of the status symbols, in
+/// order, after every 70 bits of `bare`. It requires 70 bits for each symbol. TIA-102.BAAA, Status Symbols.
 pub fn weave(bare: &BitBuf, statuses: &Statuses, out: &mut BitBuf)
     requires { length bare.now ≡ 70 * length statuses.now }
     ensures list { out.new ≡ woven bare.now statuses.now }
@@ -34,8 +34,9 @@ pub fn weave(bare: &BitBuf, statuses: &Statuses, out: &mut BitBuf)
     }
 }
 
-/// Takes `len` sent bits, those from place `at` on, apart: `out` becomes the unit's bits without status symbols, and
-/// `statuses` its status symbols, one for every 72 bits. What both held before is gone. TIA-102.BAAA, Status Symbols.
+/// Removes the status symbols from `len` transmitted bits, those from position `at` on: `out` becomes the data unit's
+/// bits without status symbols, and `statuses` its status symbols, one for every 72 bits. Both lose their former
+/// contents. TIA-102.BAAA, Status Symbols.
 pub fn unweave(bits: &BitBuf, at: usize, len: usize, out: &mut BitBuf, statuses: &mut Statuses)
     requires blocks { len % 72 ≡ 0 }
     requires most { len ≤ 25920 }
@@ -47,7 +48,7 @@ pub fn unweave(bits: &BitBuf, at: usize, len: usize, out: &mut BitBuf, statuses:
     ensures bare_len { length out.new ≡ 70 * length statuses.new }
     ensures len { 72 * length statuses.new ≡ len }
 {
-    // For the prover: the number of bits held bounds every place below.
+    // For the prover: the number of bits held bounds every position below.
     let _ = bits.len();
     out.clear();
     statuses.clear();
