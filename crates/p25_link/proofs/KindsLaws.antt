@@ -1,4 +1,4 @@
--- The kinds of calls, by the cases of octet 0.
+-- The types of calls, by the cases of octet 0.
 use Rattle.std.proofs.{Common.{◌≡◌, ◌≢◌, ◌↔◌, eqb, slice_index, sym, ◌∙◌, arith}, lemmas.Bool.{cond-true, cond-false, eq-eqb, ne_eqb}}
 use Rattle.p25_link.specs.{declared.link_control.LinkControl.{LinkControl}, declared.link_control.LinkKind.{LinkKind}, declared.link_control.LinkKind.TheVariants.{Other}}
 use Rattle.p25_link.specs.Kinds.{group_call, individual_call, link_kind_of}

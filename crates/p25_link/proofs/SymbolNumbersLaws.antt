@@ -1,5 +1,5 @@
--- Symbols and octets by the numbers that their bits write: one more of them in the loops that turn one into the other, nine octets and a
--- number after them, and the fields of a number.
+-- Symbols and octets by the numbers that their bits write: one more of them in the loops that convert one into the other, nine octets and a number
+-- after them, and the fields of a number.
 use Rattle.std.proofs.Common.{◌≡◌, ℕ, ◌+◌, ◌-◌, ◌*◌, ◌/◌, ◌%◌, ◌^◌, ◌<◌, ◌≤◌, Bool, List, [], ◌∷◌, ◌++◌, length, take, drop, map, get_or, set, ap, ap₂, sym, ◌∙◌, arith, length-append, length-drop, length-take}
 use Rattle.std.proofs.{Math.Nat.{mod-eq_of_lt}, Math.Pow.{pow_mono}, lemmas.List.{append-nil, drop_at, length-take-le, map-append, take-append-drop, take_all, take_more, take_more_set}}
 use Rattle.p25_bits.specs.{Bits.{bits_of, field_of, octet_bits, part}, Numbers.{number_bits, octets_from}}

@@ -1,4 +1,4 @@
--- Symbols of six bits are numbers of six bits: each law follows from that of numbers in p25_bits, or by induction on the symbols.
+-- Symbols of six bits are numbers of six bits. Each law follows from that of numbers in p25_bits, or is by induction on the symbols.
 use Rattle.std.proofs.{Common.{◌≡◌, ℕ, zero, suc, ◌+◌, ◌*◌, ◌<◌, ◌≤◌, Bool, List, [], ◌∷◌, ◌++◌, length, take, drop, map, refl, ap, ap₂, sym, ◌∙◌, arith, All, get_or, ◌^◌}, Math.Seq.{take-length}}
 use Rattle.std.proofs.{lemmas.List.{drop-drop, length-map}, lemmas.List.Elements.{All-map}, lemmas.List.Folds.{flat_map-map}}
 use Rattle.p25_bits.specs.{Bits.{bits_of, field_of}, Numbers.{number_bits, numbers_from}}

@@ -1,4 +1,4 @@
--- Words and symbols undo each other: each is shown of the bits between them, field by field.
+-- The conversions between words and symbols are inverse: each is shown for the bits between them, field by field.
 use Rattle.std.proofs.{Common.{◌≡◌, ℕ, ◌+◌, ◌*◌, ◌^◌, ◌<◌, ◌≤◌, Bool, List, ◌++◌, length, ap, ap₂, sym, ◌∙◌, arith, length-append}, Math.Nat.{mod-eq_of_lt}}
 use Rattle.p25_bits.specs.{Bits.{bits_of, field_of, octet_bits, part}, Numbers.{octets_from}}
 use Rattle.p25_bits.proofs.BitsLaws.{length-bits_of, field_of-bits_of}

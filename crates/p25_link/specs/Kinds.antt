@@ -1,4 +1,4 @@
--- What the octets of link control (LC) say of a call.
+-- The call that the octets of link control (LC) describe.
 use Rattle.std.specs.Prelude.{◌/◌, ◌==◌, if◌then◌else◌, slice_index}
 use Rattle.p25_bits.specs.Numbers.{pair_at, triple_at}
 use Rattle.p25_link.specs.{declared.link_control.LinkControl.{LinkControl}, declared.link_control.LinkKind.{LinkKind}}
@@ -12,7 +12,7 @@ group_call link = Group (slice_index link.0 1) (slice_index link.0 2 / 128 == 1)
 unfoldable pub individual_call : LinkControl → LinkKind
 individual_call link = Individual (slice_index link.0 1) (triple_at link.0 3) (triple_at link.0 6)
 
--- the kind of call, by octet 0 of link control (LC): 00 hex a group's, 03 hex from unit to unit
+-- the type of call, by octet 0 of link control (LC): 00 hex a group's, 03 hex from unit to unit
 unfoldable pub link_kind_of : LinkControl → LinkKind
 link_kind_of link =
     if slice_index link.0 0 == 0 then group_call link else (if slice_index link.0 0 == 3 then individual_call link else Other)

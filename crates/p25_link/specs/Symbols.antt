@@ -12,7 +12,7 @@ six-lt bits = field-lt 6 0 bits
 unfoldable pub symbol_in : List Bool → Sym
 symbol_in bits = symbol_of (field_of (take 6 bits)) (six-lt bits)
 
--- the symbols that bits write, as many as are asked for
+-- the symbols that bits write, a given number of them
 unfoldable pub symbols_in : ℕ → List Bool → List Sym
 symbols_in zero bits = []
 symbols_in (suc n) bits = symbol_in bits ∷ symbols_in n (drop 6 bits)

@@ -65,17 +65,17 @@ pub record AreNineOctets (octets : List ℕ) : Type 0 where
   pub long : length octets ≡ 9
   pub small : All (λ octet. octet < 256) octets
 
--- what every link control (LC) keeps
+-- the invariant of link control (LC)
 pub record IsLinkControl (link : LinkControl) : Type 0 where
   pub octets : AreNineOctets link.0
 
--- what every encryption sync (ES) keeps
+-- the invariant of encryption sync (ES)
 pub record IsEncryptionSync (sync : EncryptionSync) : Type 0 where
   pub mi : AreNineOctets sync.mi
   pub algid : sync.algid < 2 ^ 8
   pub kid : sync.kid < 2 ^ 16
 
--- what every header word of an HDU keeps
+-- the invariant of the header word of an HDU
 pub record IsHeaderWord (word : HeaderWord) : Type 0 where
   pub mi : AreNineOctets word.mi
   pub mfid : word.mfid < 2 ^ 8
@@ -83,8 +83,7 @@ pub record IsHeaderWord (word : HeaderWord) : Type 0 where
   pub kid : word.kid < 2 ^ 16
   pub tgid : word.tgid < 2 ^ 16
 
--- what the symbols of a word are: `count` symbols, of which the word can be read again; and each part of the word fits the bits that
--- it has
+-- the laws of the symbols of a word: there are `count` of them, the word is determined by them, and each part of the word fits its bits
 pub record AreSymbolsOf {W : Type 0} (symbols_of : W → List Sym) (of_symbols : List Sym → W) (Keeps : W → Type 0)
     (count : ℕ) (word : W) (symbols : List Sym) : Type 0 where
   pub value : symbols ≡ symbols_of word
@@ -92,7 +91,7 @@ pub record AreSymbolsOf {W : Type 0} (symbols_of : W → List Sym) (of_symbols :
   pub back : of_symbols symbols ≡ word
   pub sound : Keeps word
 
--- the word of symbols is that of its kind, and they are its symbols
+-- a word is the word of symbols, and they are its symbols
 pub record IsWordOf {W : Type 0} (symbols_of : W → List Sym) (of_symbols : List Sym → W) (symbols : List Sym) (word : W) : Type 0 where
   pub value : word ≡ of_symbols symbols
   pub back : symbols_of word ≡ symbols

@@ -6,7 +6,7 @@ ghost use Rattle.p25_link.specs.{declared.link_control.LinkControl.{LinkControl}
 ghost use Rattle.p25_link.specs.declared.encryption.HeaderWord.{HeaderWord};
 ghost use Rattle.p25_link.specs.Words.{link_symbols, link_of_symbols, IsLinkControl, sync_symbols, sync_of_symbols, IsEncryptionSync, header_symbols, header_of_symbols, IsHeaderWord};
 
-/// **Theorem.** Words and symbols undo each other.
+/// **Theorem.** The conversions between words and symbols are inverse.
 pub fn word_laws()
     ensures link { (link : LinkControl) → IsLinkControl link → link_of_symbols (link_symbols link) ≡ link }
     ensures link_back { (symbols : List Sym) → length symbols ≡ 12 → link_symbols (link_of_symbols symbols) ≡ symbols }

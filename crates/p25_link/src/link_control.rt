@@ -7,11 +7,11 @@ use crate::symbols::{first_octets, symbols_of};
 use p25_bits::{pair_at, triple_at};
 use p25_gf64::Sym;
 
-/// Link control (LC): nine octets, which say whose voice a call carries and to whom. TIA-102.BAAA, Link Control Word.
+/// Link control (LC): nine octets with the source and the destination of a call. TIA-102.BAAA, Link Control Word.
 #[derive(Clone, Copy, Debug, PartialEq, Eq)]
 pub struct LinkControl(pub [u8; 9]);
 
-/// What link control (LC) says of a call, by its first octet. TIA-102.BAAA, Link Control Word, Formats.
+/// The format of link control (LC), by its first octet. TIA-102.BAAA, Link Control Word, Formats.
 #[derive(Clone, Copy, Debug, PartialEq, Eq)]
 pub enum LinkKind {
     /// A call to a group (first octet 00 hex).
@@ -22,16 +22,16 @@ pub enum LinkKind {
         emergency: bool,
         /// The group, octets 4 and 5.
         group: u16,
-        /// The unit that speaks, octets 6 to 8.
+        /// The radio unit that transmits, octets 6 to 8.
         source: u32,
     },
     /// A call from unit to unit (first octet 03 hex).
     Individual {
         /// The manufacturer, octet 1.
         mfid: u8,
-        /// The unit that is called, octets 3 to 5.
+        /// The radio unit that is called, octets 3 to 5.
         destination: u32,
-        /// The unit that speaks, octets 6 to 8.
+        /// The radio unit that transmits, octets 6 to 8.
         source: u32,
     },
     /// Link control with another first octet, which is not interpreted.
@@ -39,22 +39,22 @@ pub enum LinkKind {
 }
 
 impl LinkControl {
-    /// Answers the twelve symbols of the nine octets of link control (LC). TIA-102.BAAA, Link Control Word.
+    /// Returns the twelve symbols of the nine octets of link control (LC). TIA-102.BAAA, Link Control Word.
     pub fn symbols(&self) -> [Sym; 12]
         ensures { AreSymbolsOf link_symbols link_of_symbols IsLinkControl 12 self.now result }
     {
         symbols_of(&self.0, 0)
     }
 
-    /// Answers the link control (LC) whose symbols these are. TIA-102.BAAA, Link Control Word.
+    /// Returns the link control (LC) whose symbols these are. TIA-102.BAAA, Link Control Word.
     pub fn from_symbols(symbols: &[Sym; 12]) -> LinkControl
         ensures { IsWordOf link_symbols link_of_symbols symbols.now result }
     {
         LinkControl(first_octets(symbols))
     }
 
-    /// Answers what link control (LC) says of the call. Other comes exactly where the first octet is neither 00 nor 03 hex.
-    /// TIA-102.BAAA, Link Control Word, Formats.
+    /// Decodes link control (LC) by its first octet. `Other` is returned if and only if the first octet is neither 00
+    /// nor 03 hex. TIA-102.BAAA, Link Control Word, Formats.
     pub fn kind(&self) -> LinkKind
         ensures value { result ≡ link_kind_of self.now }
         ensures other { (result ≡ LinkKind.Other) ↔ ((slice_index self.now.0 0 ≢ 0) × (slice_index self.now.0 0 ≢ 3)) }

@@ -6,7 +6,7 @@ ghost use Rattle.p25_link.specs.{Words.{AreNineOctets}, Symbols.{symbols_in, sym
 
 use p25_gf64::Sym;
 
-// Answers the symbols of nine octets and of the last bits of a number after them, as many bits as the symbols have left.
+// Returns the symbols of nine octets and of the last bits of a number after them, as many bits as fill the symbols.
 pub(crate) fn symbols_of<const N: usize>(octets: &[u8; 9], rest: u64) -> [Sym; N]
     requires least { 12 ≤ N }
     requires most { N ≤ 20 }
@@ -24,7 +24,7 @@ pub(crate) fn symbols_of<const N: usize>(octets: &[u8; 9], rest: u64) -> [Sym; N
     symbols
 }
 
-// Answers the nine octets that the bits of the first twelve symbols write.
+// Returns the nine octets that the bits of the first twelve symbols write.
 pub(crate) fn first_octets(symbols: &[Sym]) -> [u8; 9]
     requires { 12 ≤ length symbols.now }
     ensures list { result ≡ octets_from 9 (symbol_bits symbols.now) }
@@ -38,7 +38,7 @@ pub(crate) fn first_octets(symbols: &[Sym]) -> [u8; 9]
     octets
 }
 
-/// Sets the symbols to those that the last bits of a number write, six each, the last of them the last symbol's.
+/// Writes the symbols of the last bits of a number, six bits each, the last bits in the last symbol.
 pub fn put_symbols(number: u128, symbols: &mut [Sym])
     requires { length symbols.old ≤ 21 }
     ensures { symbols.new ≡ symbols_in (length symbols.old) (bits_of (6 * length symbols.old) number) }
@@ -49,7 +49,7 @@ pub fn put_symbols(number: u128, symbols: &mut [Sym])
     }
 }
 
-/// Answers the number that the bits of the symbols write, six each.
+/// Returns the number that the bits of the symbols write, six bits each.
 pub fn symbols_number(symbols: &[Sym]) -> u128
     requires { length symbols.now ≤ 21 }
     ensures value { result ≡ field_of (symbol_bits symbols.now) }

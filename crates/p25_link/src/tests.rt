@@ -134,7 +134,7 @@ fn header_word_symbols(rt: HostRuntime) -> Result<(), Fail> {
 
 #[test]
 fn kinds_of_calls(rt: HostRuntime) -> Result<(), Fail> {
-    // Rows: the octets of link control (LC), and the kind of call.
+    // Rows: the octets of link control (LC), and the type of call.
     let rows: [([u8; 9], LinkKind); 7] = [
         (
             [0; 9],
