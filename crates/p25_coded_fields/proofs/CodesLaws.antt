@@ -1,5 +1,5 @@
--- The readings of a layout whose outer code is a Reed-Solomon code are those of its codes: a word near to what was received is the
--- one that is read, by the laws of block codes and of lists with erasures. And what a reader of a field leaves is the field's reading.
+-- The decodings of a layout whose outer code is a Reed-Solomon code are those of its codes. A codeword near to the received word is its decoding, by
+-- the laws of block codes and of lists with erasures. The result of the decoder of a field is the field's decoding.
 use Rattle.std.proofs.Common.{◌≡◌, ℕ, ◌+◌, ◌-◌, ◌*◌, ◌≤◌, Bool, true, nat_le, List, [], ◌∷◌, length, take, Option, Some, None, All, option_map, refl, ap, sym, ◌∙◌, arith}
 use Rattle.std.proofs.{lemmas.Bool.{leb-true, and_parts}, lemmas.Cmp.{on_equiv, nat_eq_equiv}, lemmas.List.{length-take-le}, lemmas.List.Elements.{All-nil, All-cons}}
 use Rattle.std.specs.{Bool.{beq}, List.{list_all}}

@@ -1,4 +1,5 @@
--- Fields read from costs: the order of the inner words as a test of numbers, places of words in lists, and the first reading that finds a word.
+-- Fields decoded from costs: the order of the inner words as a test of numbers, positions of words in lists, and the first decoding that finds a
+-- codeword.
 use Rattle.std.proofs.Common.{◌≡◌, ◌≢◌, ◌⊎◌, inl, inr, ℕ, zero, suc, ◌+◌, ◌-◌, ◌*◌, ◌<◌, ◌≤◌, Bool, true, false, ◌||◌, ◌&&◌, eqb, nat_lt, cond, List, [], ◌∷◌, ◌++◌, length, take, drop, replicate, Option, Some, None, refl, ap, ap₂, sym, ◌∙◌, subst, arith, add-one}
 use Rattle.std.proofs.{lemmas.Bool.{lt-ltb, le-ltb, eq-eqb}, lemmas.Bool.Decides.{eqb_tells}, lemmas.List.{length-take-le, take_all, take-replicate, append-nil, length-replicate, replicate-append-replicate}, lemmas.Slice.{take-put_mid}}
 use Rattle.std.specs.Option.{option_or, is_some}

@@ -1,5 +1,5 @@
--- A field is there where the inner words of its symbols stand at its places: joined over the places, the symbols that the words begin
--- with are the groups of symbols joined, and these are all of them. The bits of a field that was written have them a step apart.
+-- A field is present if the inner words of its symbols are at its positions. Joined over the positions, the symbols with which the words begin are
+-- the groups of symbols joined, and these are all of them. The bits of an encoded field have the words a step apart.
 use Rattle.std.proofs.{Common.{◌≡◌, ℕ, zero, suc, ◌+◌, ◌*◌, ◌<◌, ◌≤◌, Bool, List, [], ◌∷◌, length, take, get_or, All, refl, ap, sym, ◌∙◌, subst, arith}, Math.Nat.{mul-suc}}
 use Rattle.std.proofs.{lemmas.List.{append-nil, take_all, take_more}, lemmas.List.Concat.{flat_map-append}}
 use Rattle.std.specs.List.{flat_map}

@@ -1,4 +1,4 @@
--- Fixes place by place: one inner word more is one run of bits more in both lists, and their distances add up.
+-- Fixes position by position: one inner word more is one run of bits more in both lists, and their distances add up.
 use Rattle.std.proofs.Common.{◌≡◌, ℕ, suc, ◌+◌, ◌*◌, ◌<◌, ◌≤◌, Bool, List, [], ◌∷◌, ◌++◌, length, take, get_or, All, refl, ap, ap₂, sym, ◌∙◌, arith, zero-add, length-append}
 use Rattle.std.proofs.{Math.Nat.{mul-le-mul_left, mul-le-mul_right, mul_comm}, lemmas.List.{append-nil, length-take-le, take_all, take_more}, lemmas.List.Concat.{flat_map-append}, lemmas.List.Elements.{All-take}}
 use Rattle.std.specs.{Bool.{beq}}

@@ -1,4 +1,4 @@
--- The reader of fields: what one inner word gives, by whether it is read, and one more inner word in the loop.
+-- The decoder of fields: the symbols of one inner word, by whether it is correctable, and one more inner word in the loop.
 use Rattle.std.proofs.Common.{◌≡◌, ℕ, ◌+◌, ◌-◌, ◌*◌, ◌/◌, ◌^◌, ◌<◌, ◌≤◌, Bool, true, false, List, [], ◌∷◌, length, take, map, replicate, get_or, bit_xor, Option, Some, None, option_map, refl, ap₂, sym, ◌∙◌, arith}
 use Rattle.std.proofs.{lemmas.List.{append-nil, length-take-le, take_all, take_more}, lemmas.List.Concat.{flat_map-append}, lemmas.List.Elements.{All-replicate}, lemmas.Slice.{take-put_mid}}
 use Rattle.std.specs.{List.{flat_map}, Int.RustNames.{count_ones}}

@@ -1,4 +1,4 @@
--- Symbols of the first of some bits, and groups of a list, each as long as the others.
+-- Symbols of the first of some bits, and groups of a list of the same length.
 use Rattle.std.proofs.{Common.{◌≡◌, ℕ, ◌+◌, ◌-◌, ◌*◌, ◌<◌, ◌≤◌, Bool, List, length, take, drop, refl, sym, ◌∙◌, arith, add-one, length-drop}, Math.Nat.{mul-suc, mul-le-mul_left}}
 use Rattle.std.proofs.lemmas.List.{length-take-le}
 use Rattle.p25_bits.specs.Bits.{bits_of, field_of, part}

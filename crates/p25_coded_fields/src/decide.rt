@@ -1,4 +1,4 @@
-//! Fields read from what their bits cost (soft decisions).
+//! Decoding of fields from the costs of their bits (soft decisions).
 
 ghost use Rattle.std.specs.Prelude.{◌≡◌, ℕ, suc, ◌+◌, ◌*◌, ◌/◌, ◌^◌, ◌<◌, ◌≤◌, All, None, false, length, replicate, slice_index};
 ghost use Rattle.std.specs.Option.{is_some};
@@ -11,10 +11,10 @@ use p25_code::{ErasedCode, NumberCode, Reading, cheapest, cost_margin, read_with
 use p25_gf64::Sym;
 use p25_link::put_symbols;
 
-// The most inner words of a field, and the most symbols.
+// The most inner codewords of a field, and the most symbols.
 const MOST: usize = 36;
 
-// Reads the inner words, and leaves their informations, as numbers.
+// Decodes the inner words, and leaves their informations, as numbers.
 fn read_words<I: NumberCode>(costs: &[u32], infos: &mut [u32])
     requires code { I.HasCode }
     requires pairs { 2 * (I.N / 2) ≡ I.N }
@@ -33,7 +33,7 @@ fn read_words<I: NumberCode>(costs: &[u32], infos: &mut [u32])
     }
 }
 
-// Sets the symbols to those of the informations, `each` of one.
+// Writes the symbols of the informations, `each` of one.
 fn put_words(infos: &[u32], each: usize, word: &mut [Sym])
     requires each { each ≤ 2 }
     requires few { length infos.now ≤ 36 }
@@ -45,7 +45,7 @@ fn put_words(infos: &[u32], each: usize, word: &mut [Sym])
     }
 }
 
-// Sets what the inner words cost, and what the cheapest other words do.
+// Writes the costs of the inner codewords, and those of the cheapest other codewords.
 fn weigh<I: NumberCode>(costs: &[u32], infos: &[u32], leasts: &mut [u32], seconds: &mut [u32])
     requires code { I.HasCode }
     requires pairs { 2 * (I.N / 2) ≡ I.N }
@@ -74,7 +74,7 @@ fn weigh<I: NumberCode>(costs: &[u32], infos: &[u32], leasts: &mut [u32], second
     }
 }
 
-// Whether the inner word at a place stands before that at another in the order, the least sure first.
+// Returns whether the inner word at index `i` is before the one at index `j` in the order, the least certain first.
 fn is_before(leasts: &[u32], seconds: &[u32], i: usize, j: usize) -> bool
     requires first { i < length leasts.now }
     requires second { j < length leasts.now }
@@ -87,7 +87,7 @@ fn is_before(leasts: &[u32], seconds: &[u32], i: usize, j: usize) -> bool
     first < second || first == second && i < j
 }
 
-// How many of the inner words stand before the one at a place in the order, the least sure first.
+// Returns the number of inner words before the one at index `i` in the order, the least certain first.
 fn rank(leasts: &[u32], seconds: &[u32], i: usize) -> usize
     requires place { i < length leasts.now }
     requires few { length leasts.now ≤ 36 }
@@ -103,7 +103,7 @@ fn rank(leasts: &[u32], seconds: &[u32], i: usize) -> usize
     before
 }
 
-// Sets the rank of each inner word.
+// Writes the rank of each inner word.
 fn put_ranks(leasts: &[u32], seconds: &[u32], ranks: &mut [usize])
     requires few { length leasts.now ≤ 36 }
     requires seconds { length seconds.now ≡ length leasts.now }
@@ -118,7 +118,7 @@ fn put_ranks(leasts: &[u32], seconds: &[u32], ranks: &mut [usize])
     }
 }
 
-// Sets the rank of each inner word by its costs.
+// Writes the rank of each inner word by its costs.
 fn put_order<I: NumberCode>(costs: &[u32], infos: &[u32], ranks: &mut [usize])
     requires code { I.HasCode }
     requires pairs { 2 * (I.N / 2) ≡ I.N }
@@ -144,7 +144,7 @@ fn put_order<I: NumberCode>(costs: &[u32], infos: &[u32], ranks: &mut [usize])
     put_ranks(leasts, seconds, ranks);
 }
 
-// Marks the symbols of the first words of the order, so many symbols.
+// Marks as erased the symbols of the first words of the order, `symbols` symbols in all.
 fn mark(ranks: &[usize], each: usize, symbols: usize, erased: &mut [bool])
     requires each { each ≤ 2 }
     requires few { length ranks.now ≤ 36 }
@@ -157,7 +157,7 @@ fn mark(ranks: &[usize], each: usize, symbols: usize, erased: &mut [bool])
     }
 }
 
-// Reads the outer word with no symbol erased, and returns whether it was found. If not, the symbols are unchanged.
+// Decodes the outer word without erasures, and returns whether a codeword was found. If not, the symbols are unchanged.
 fn read_whole<O: ErasedCode<Letter = Sym>>(word: &mut [Sym]) -> bool
     requires code { O.HasCode }
     requires word { length word.old ≡ O.N }
@@ -172,8 +172,8 @@ fn read_whole<O: ErasedCode<Letter = Sym>>(word: &mut [Sym]) -> bool
     }
 }
 
-// Reads the outer word with one pair of symbols erased, with two, and so on, until one is found, and returns whether one is. If none is
-// found the symbols are unchanged.
+// Decodes the outer word with one pair of symbols erased, with two, and so on, until a codeword is found, and returns
+// whether one is. If none is found, the symbols are unchanged.
 fn read_erasing<O: ErasedCode<Letter = Sym>>(
     ranks: &[usize],
     each: usize,
@@ -206,7 +206,8 @@ fn read_erasing<O: ErasedCode<Letter = Sym>>(
     false
 }
 
-// Reads the outer word of symbols that were read from costs, with the least sure of them erased, where it is not found with none erased.
+// Decodes the outer word of symbols that were decoded from costs. If no codeword is found without erasures, the least
+// certain symbols are erased.
 fn read_ordered<I: NumberCode, O: ErasedCode<Letter = Sym>>(
     costs: &[u32],
     infos: &[u32],
@@ -241,7 +242,7 @@ fn read_ordered<I: NumberCode, O: ErasedCode<Letter = Sym>>(
     read_erasing::<O>(ranks, I::K / 6, most, word)
 }
 
-// Reads a field, with room for the informations of its inner words.
+// Decodes a field, with a buffer for the informations of its inner words.
 fn decide_words<I: NumberCode, O: ErasedCode<Letter = Sym>>(
     costs: &[u32],
     infos: &mut [u32],
@@ -273,12 +274,15 @@ fn decide_words<I: NumberCode, O: ErasedCode<Letter = Sym>>(
     read_ordered::<I, O>(costs, infos, most, word)
 }
 
-/// Reads a field of a unit from what its bits cost: each inner word is the cheapest of its code, and then the outer word is read with no
-/// symbol erased, with the two least sure, with four, and so on, up to `most` pairs, until one is found. An inner word is the less sure,
-/// the less the cheapest other word costs above twice what it costs itself; of equal ones the first is. `costs` has four numbers for each
-/// pair of bits of the inner words, `count` words one after the other. `word` gets the symbols of the outer word, and the call returns
-/// whether one was found; if none was, `word` gets the symbols of the inner words as they were read. In the terms of the field: soft
-/// decisions for the inner code, generalized minimum distance decoding for the outer one.
+/// Decodes a field of a data unit from the costs of its bits. Each inner word is decoded to the cheapest codeword. Then
+/// the outer word is decoded with no symbol erased, with the two least certain, with four, and so on, up to `most`
+/// pairs, until a codeword is found. An inner word is the less certain, the smaller the cost of the cheapest other
+/// codeword minus twice its own cost; among equal ones the first is the least certain.
+///
+/// It requires four numbers in `costs` for each pair of bits of the inner words, `count` words one after the other. The
+/// call returns whether a codeword was found, and writes to `word` its symbols. If none was found, it writes the
+/// symbols of the inner words as they were decoded. In the terms of coding theory this is soft-decision decoding of the
+/// inner code, and generalized minimum distance decoding of the outer one.
 pub fn decide_field<I: NumberCode, O: ErasedCode<Letter = Sym>>(
     costs: &[u32],
     count: usize,

@@ -1,4 +1,4 @@
-//! In how many bits the inner words of a field were received otherwise than they are sent.
+//! The number of bit errors in the inner words of a field.
 
 ghost use Rattle.std.specs.Prelude.{◌≡◌, ◌+◌, ◌*◌, ◌/◌, ◌≤◌, All, length};
 ghost use Rattle.p25_bits.specs.{Bits.{part}, Distance.{distance_of}};
@@ -10,8 +10,8 @@ use p25_code::NumberCode;
 use p25_gf64::Sym;
 use p25_link::symbols_number;
 
-/// Counts the wrong bits of a field whose outer word was read: in how many bits its inner words were received otherwise than
-/// they are sent for the symbols of `word`.
+/// Counts the bit errors of a field with a decoded outer word: the bits in which its received inner words differ from
+/// those transmitted for the symbols of `word`.
 pub(crate) fn field_fixes<I: NumberCode>(bare: &BitBuf, places: &[usize], word: &[Sym]) -> u32
     requires code { I.HasCode }
     requires small { I.N ≤ 24 }
@@ -30,7 +30,8 @@ pub(crate) fn field_fixes<I: NumberCode>(bare: &BitBuf, places: &[usize], word: 
     wrong
 }
 
-// In how many bits the inner word at a place was received otherwise than the symbols are sent, by encoding them.
+// Returns the number of bits in which the received inner word at a position differs from the codeword of the symbols,
+// by encoding them.
 fn inner_fixes<I: NumberCode>(bare: &BitBuf, at: usize, symbols: &[Sym]) -> u32
     requires code { I.HasCode }
     requires small { I.N ≤ 24 }

@@ -1,10 +1,11 @@
-//! Fields of units, such as link control (LC) and encryption sync (ES): an outer word of symbols over GF(64), carried by inner
-//! words of bits at places of the unit (TIA-102.BAAA, Voice Data Units).
+//! Fields of data units, such as link control (LC) and encryption sync (ES). A field is an outer codeword of symbols
+//! over GF(64), carried by inner codewords of bits at positions of the data unit (TIA-102.BAAA, Voice Data Units).
 //!
-//! A symbol is the number that six bits write, the first bit highest. The information of an inner word is one symbol, or two
-//! of a Golay (24,12) word. `put_coded` encodes the symbols of an outer word as inner words, one after the other;
-//! `read_field` reads the inner words at places of a unit and then the outer word. Where an inner word is not read, each of
-//! its symbols is an erasure, and the outer code reads the symbols that are left:
+//! A symbol is the number that six bits write, the first bit highest. The information of an inner codeword is one
+//! symbol, or two for a Golay (24,12) codeword. `put_coded` encodes the symbols of an outer codeword as inner
+//! codewords, one after the other. `read_field` decodes the inner words at positions of a data unit and then the outer
+//! word. If an inner word is uncorrectable, each of its symbols is an erasure. The outer code decodes the symbols that
+//! are left:
 //!
 //! ```
 //! let mut bare = BitBuf::new();
@@ -15,10 +16,12 @@
 //! assert!(rt; word == [Sym::ZERO; 4] && reading == Reading::Found { fixes: 1 });
 //! ```
 //!
-//! `decide_field` reads a field from what its bits cost (soft decisions), with as few erasures of the least sure symbols as find a word.
+//! `decide_field` decodes a field from the costs of its bits (soft decisions), with as few erasures of the least
+//! certain symbols as are needed to find a codeword.
 //!
-//! Contracts see a field as a `Layout`, its places and the readings of its codes, and what is read as `outer_word_of` the
-//! layout and the unit's bits. Both codes are any that meet the traits of p25_code; no call takes memory or fails.
+//! Contracts see a field as a `Layout`, its positions and the decodings of its codes, and its result as `outer_word_of`
+//! the layout and the data unit's bits. Both codes are any that implement the traits of p25_code; no call allocates
+//! memory or fails.
 #![tactic(auto)]
 
 mod decide;

@@ -1,4 +1,4 @@
-//! Fields written.
+//! Encoding of fields.
 
 ghost use Rattle.std.specs.Prelude.{◌≡◌, ◌+◌, ◌*◌, ◌/◌, ◌≤◌, ◌++◌, length};
 ghost use Rattle.p25_link.specs.Symbols.{symbol_bits};
@@ -9,7 +9,7 @@ use p25_code::NumberCode;
 use p25_gf64::Sym;
 use p25_link::symbols_number;
 
-// Appends the inner word whose information is the symbols.
+// Appends the inner codeword whose information is the symbols.
 fn put_inner<I: NumberCode>(symbols: &[Sym], out: &mut BitBuf)
     requires code { I.HasCode }
     requires small { I.N ≤ 24 }
@@ -22,8 +22,8 @@ fn put_inner<I: NumberCode>(symbols: &[Sym], out: &mut BitBuf)
     out.put_field(u64::from(word), I::N as u32);
 }
 
-/// Appends `count` inner words, whose information is the symbols in order, so many for each word as its information has.
-/// TIA-102.BAAA, Voice Data Units.
+/// Encodes symbols: appends `count` inner codewords, whose information is the symbols in order, each with as many
+/// symbols as its information has. TIA-102.BAAA, Voice Data Units.
 pub fn put_coded<I: NumberCode>(symbols: &[Sym], count: usize, out: &mut BitBuf)
     requires code { I.HasCode }
     requires small { I.N ≤ 24 }

@@ -1,4 +1,4 @@
-//! Fields read.
+//! Decoding of fields.
 
 ghost use Rattle.std.specs.Prelude.{◌≡◌, ℕ, ◌+◌, ◌*◌, ◌/◌, ◌<◌, ◌≤◌, All, length};
 ghost use Rattle.p25_bits.specs.Bits.{part};
@@ -11,7 +11,8 @@ use p25_code::{ErasedCode, NumberCode, Reading};
 use p25_gf64::Sym;
 use p25_link::put_symbols;
 
-// Reads the inner word at a place. The symbols become those of its information. Where no word is read all are erased.
+// Decodes the inner word at a position. The symbols become those of its information. If the word is uncorrectable, all
+// are erased.
 fn read_inner<I: NumberCode>(bare: &BitBuf, at: usize, symbols: &mut [Sym], erased: &mut [bool])
     requires code { I.HasCode }
     requires small { I.N ≤ 24 }
@@ -30,12 +31,14 @@ fn read_inner<I: NumberCode>(bare: &BitBuf, at: usize, symbols: &mut [Sym], eras
     }
 }
 
-/// Reads a field of a unit: the inner words at the places, in order, and then the outer word of their symbols. Where no
-/// word of the inner code lies within the radius of what was received at a place, the symbols there are erased. `word` gets
-/// the N symbols of the outer word: where the answer is Found those of the word that costs at most N - K, two for each
-/// wrong symbol and one for each erased one. Where the answer is Beyond there is no such word, and nothing is said of
-/// `word`. The fixes of Found are the bits in which the inner words were received otherwise than they are sent for that word.
-/// TIA-102.BAAA, Voice Data Units.
+/// Decodes a field of a data unit: the inner words at the positions, in order, and then the outer word of their
+/// symbols. If no codeword of the inner code lies within the correction radius of the received word at a position, the
+/// symbols there are erasures.
+///
+/// `word` receives the N symbols of the outer word. If the result is `Found`, they are those of the codeword that costs
+/// at most N - K, two for each symbol error and one for each erasure. If the result is `Beyond`, there is no such
+/// codeword, and the contract leaves `word` open. The fixes of `Found` are the bits in which the received inner words
+/// differ from those transmitted for that codeword. TIA-102.BAAA, Voice Data Units.
 pub fn read_field<I: NumberCode, O: ErasedCode<Letter = Sym>>(
     bare: &BitBuf,
     places: &[usize],
@@ -55,7 +58,7 @@ pub fn read_field<I: NumberCode, O: ErasedCode<Letter = Sym>>(
     ensures most { 0 < I.K → (fixes : ℕ) → result ≡ Reading.Found fixes → fixes ≤ 24 * length places.now }
 {
     let each = I::K / 6;
-    // Where an inner word carries no symbol the outer word has none.
+    // If an inner word carries no symbol, the outer word has none.
     if each == 0 {
         return O::read_erased(word, &[]);
     }

@@ -1,4 +1,4 @@
-//! A field of two Golay words, each with two symbols of an outer word of four, written and read.
+//! A field of two Golay codewords, each with two symbols of an outer codeword of four, encoded and decoded.
 
 ghost use Rattle.std.specs.Prelude.{◌≤◌};
 
@@ -22,10 +22,10 @@ fn the_example_of_the_head(rt: HostRuntime) {
 // The outer code: two symbols of information and two check symbols.
 type Outer = Rs<4, 2>;
 
-// Where the inner words stand, after eight other bits.
+// The positions of the inner words, after eight other bits.
 const PLACES: [usize; 2] = [8, 32];
 
-// Inverts bits of the inner word at a place, the first ones.
+// Inverts the first bits of the inner word at a position.
 fn invert(bits: &mut BitBuf, place: usize, count: usize)
     requires place { place ≤ 32 }
     requires count { count ≤ 24 }
@@ -41,7 +41,7 @@ fn invert(bits: &mut BitBuf, place: usize, count: usize)
 fn fields(rt: HostRuntime) {
     let mut sent = [Sym::ZERO; 4];
     Outer::encode(&[Sym::pow_alpha(7), Sym::ONE], &mut sent);
-    // Rows: the wrong bits of both words, and the fixes of the field, where it is read.
+    // Rows: the bit errors of both words, and the fixes of the field, if it is decoded.
     for (first, second, read) in [
         (0, 0, Some(0)),
         (3, 3, Some(6)),
