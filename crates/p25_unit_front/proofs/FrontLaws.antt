@@ -1,4 +1,4 @@
--- The laws of a unit's front: its two parts, its form by places, and where it stands in a sent unit. Each goes by cutting
+-- The laws of a data unit's sync and NID: its two parts, their form by positions, and their positions in a transmitted data unit. Each law splits
 -- lists at known lengths.
 use Rattle.std.proofs.Common.{◌≡◌, ◌↔◌, ◌<◌, Option, Some, ℕ, ◌+◌, ◌*◌, ◌≤◌, Bool, List, ◌++◌, length, take, drop, ap, ap₂, sym, ◌∙◌, subst, arith, length-append, length-drop, length-take}
 use Rattle.std.proofs.{Math.Seq.{take-add, take-append-add, take-length}, lemmas.List.{length-take-le, take-append-drop, drop-drop, take-append-le, take-take, take_at, drop_at}}

@@ -1,4 +1,4 @@
--- What fronts as numbers are as bits: a number of two fields, and the weight of an exclusive or as a distance.
+-- Sync and NID as numbers and as bits: a number of two fields, and the weight of an exclusive or as a distance.
 use Rattle.std.proofs.{Common.{◌≡◌, ℕ, ◌+◌, ◌*◌, ◌^◌, ◌≤◌, Bool, List, length, take, drop, ap, ap₂, sym, ◌∙◌, arith, length-drop}, lemmas.List.{length-take-le, drop-drop}}
 use Rattle.p25_bits.specs.{Bits.{bits_of, field_of, part}, Distance.{distance_of}}
 use Rattle.p25_bits.proofs.BitsLaws.{bits_of-field_of, field_of-append}

@@ -1,14 +1,14 @@
-//! What the front of a unit, its frame sync and its network identifier (NID), is by the places of its bits.
+//! The frame sync and the network identifier (NID) of a data unit, by the positions of their bits.
 
 ghost use Rattle.std.specs.Prelude.{◌≡◌, ◌↔◌, ◌*◌, ◌≤◌, ℕ, Bool, List, length, take};
 ghost use Rattle.p25_unit_front.specs.Front.{IsFront, front_of, front_fixes_of, unit_front};
 ghost use Rattle.p25_status.specs.Woven.{bare_of};
 
-/// **Theorem.** The laws of fronts.
+/// **Theorem.** The laws of sync and NID.
 ///
-/// - `form`: 112 bits are the front of a NAC and a DUID exactly where they stand as `IsFront` says.
-/// - `bare`: the front of a sent unit is the first 112 of its bits without status symbols.
-/// - `none`: a unit with the front that is sent has no wrong bit in it.
+/// - `form`: 112 bits are the sync and the NID of a NAC and a DUID if and only if they meet `IsFront`.
+/// - `bare`: sync and NID of a transmitted data unit are the first 112 of its bits without status symbols.
+/// - `none`: a data unit whose sync and NID are the transmitted ones has no bit error in them.
 pub fn one_front()
     ensures form { (nac duid : ℕ) (bits : List Bool) → IsFront nac duid bits ↔ (bits ≡ unit_front nac duid) }
     ensures bare { (blocks : ℕ) (sent : List Bool) → 2 ≤ blocks → length sent ≡ 72 * blocks → take 112 (bare_of sent) ≡ front_of sent }

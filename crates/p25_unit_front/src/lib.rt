@@ -1,9 +1,9 @@
-//! The front of a unit: the first 112 of its bits, its frame sync and its network identifier (NID). TIA-102.BAAA, Frame
-//! Synchronization and Network Identifier.
+//! The first 112 bits of a data unit, its frame sync and its network identifier (NID), which names in this crate call
+//! `front`. TIA-102.BAAA, Frame Synchronization and Network Identifier.
 //!
-//! The first bit of a list is the first that is sent. Without status symbols the sync has bits 0 to 47 and the
-//! identifier bits 48 to 111. A status symbol stands within the identifier, so in a unit as it is sent the identifier has
-//! the places 48 to 69 and 72 to 113.
+//! The first bit of a list is transmitted first. Without status symbols the sync has bits 0 to 47 and the NID bits 48
+//! to 111. There is a status symbol within the NID, so in a transmitted data unit the NID has the positions 48 to 69
+//! and 72 to 113.
 //!
 //! ```
 //! let nid = Nid::from(0x2933); // NAC 293 hex, DUID 3
@@ -12,7 +12,7 @@
 //! assert!(rt; bare.len() == 112 && bare.field(48, 16) == 0x2933);
 //! ```
 //!
-//! Contracts see the front as `unit_front`, and what `IsFront` says of it by places as a law, `one_front`.
+//! Contracts see these bits as `unit_front`, and the law `one_front` gives `IsFront`, their form by positions.
 #![tactic(auto)]
 
 mod front;

@@ -1,4 +1,4 @@
-//! Each call once, with a front computed apart from this code.
+//! Each call once, with a sync and NID computed apart from this code.
 
 ghost use Rattle.std.specs.Prelude.{◌≡◌, length};
 
@@ -15,7 +15,7 @@ fn the_example_of_the_head(rt: HostRuntime) {
     assert!(rt; bare.len() == 112 && bare.field(48, 16) == 0x2933);
 }
 
-// The front of a terminator (TDU) of NAC 0 as it is sent, with the status symbol 0 within its network identifier (NID).
+// The transmitted sync and NID of a terminator (TDU) of NAC 0, with the status symbol 0 within the NID.
 fn sent_front(wrong_sync: u64, wrong_identifier: u64) -> BitBuf
     ensures { length result ≡ 114 }
 {
@@ -35,7 +35,7 @@ fn fronts(rt: HostRuntime) -> Result<(), Fail> {
     put_front(&nid, &mut bare);
     assert_eq!(rt; bare.len(), 112);
     assert_eq!(rt; bare.field(0, 48), 0x5575_F5FF_77FF);
-    // Rows: wrong bits of the sync, wrong bits of the identifier, whether it is read, and the fixes.
+    // Rows: bit errors of the sync, bit errors of the NID, whether it is decoded, and the fixes.
     let rows: [(u64, u64, bool, u32); 4] = [
         (0, 0, true, 0),
         (0, 1, true, 0),
