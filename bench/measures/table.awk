@@ -1,16 +1,12 @@
-# Makes the rows of the table. Reads the figures wished for (`name|case|figure`), of which one may be so many times another row above it
-# (``1.2 times `repair` `` of the same recording), and then the lines of what was timed, of several turns: of a call
-# `call|words|input|seconds|KiB|octets|COUNT UNITS|kind`, and of a coder `program|name|case|tenths of a nanosecond|sum`.
+# Makes the three tables of what was timed: the commands on recordings, the other calls, and the coders. Reads the figures wished for (`name|case|figure`), of
+# which one may be so many times another one above it (``1.2 times `repair` `` of the same recording), and then the lines of what was timed, of several
+# turns: of a call `call|words|input|seconds|KiB|octets|COUNT UNITS|kind`, and of a coder `program|name|case|tenths of a nanosecond|sum`. A figure that misses
+# what was wished for has that in brackets behind it.
 BEGIN {
     FS = "|"
     mib = 1048576
-    shown["libfec"] = "libfec"
-    shown["radio"] = "GNU Radio"
-}
-
-# The text of a time that is below a second.
-function text(seconds) {
-    return seconds >= 0.0000001 ? sprintf("%.2f µs", seconds * 1000000) : sprintf("%.1f ns", seconds * 1000000000)
+    count_of_columns = split("show|check|repair|bridge 293 0|relay 293 0|follow|calls", columns, "|")
+    for (n = 1; n <= count_of_columns; n++) is_column[columns[n]] = 1
 }
 
 # The seconds of a figure that is wished for. A call is compared with `repair` of the same recording, and a block from levels with one from bits
@@ -22,51 +18,64 @@ function seconds_of(name,   parts) {
     return parts[1] * (parts[2] == "s" ? 1 : parts[2] == "µs" ? 0.000001 : 0.000000001)
 }
 
-# The figure that is wished for, and whether it is missed.
-function wished(name, seconds) {
-    if (!(name in goals)) return ""
-    return goals[name] (seconds > seconds_of(name) ? ", missed" : "")
+# What was wished for, in brackets, if it is missed.
+function missed(name, seconds) {
+    return name in goals && seconds > seconds_of(name) ? " (" goals[name] ")" : ""
 }
 
 # How many units or lines in a second.
 function rate(count, seconds,   parts) {
     split(count, parts, " ")
-    return parts[1] == 0 || seconds == 0 ? "" : sprintf("%.0f %s", parts[1] / seconds, parts[2])
+    return parts[1] == 0 || seconds == 0 ? "" : sprintf("%.0f", parts[1] / seconds)
 }
 
-# Keeps the least seconds of the calls of a row, and the most memory.
-function keep_call(   name) {
+# Microseconds, of which short ones have four decimals.
+function micros(seconds) {
+    return sprintf(seconds < 0.0000001 ? "%.4f" : "%.2f", seconds * 1000000)
+}
+
+# Keeps the least seconds of the calls of a row, and the most memory. The seconds of a recording are those of 16 MiB.
+function keep_call(   name, seconds) {
     name = $2 "|" $3
-    if (!(name in call)) {
-        call[name] = $0
-        calls[++count_of_calls] = name
-        seconds_taken[name] = $4
+    if ($2 in is_column && !($3 in is_input)) {
+        is_input[$3] = 1
+        inputs[++count_of_inputs] = $3
     }
-    if ($4 < seconds_taken[name]) seconds_taken[name] = $4
+    if (!($2 in is_column) && !(name in taken)) others[++count_of_others] = name
+    seconds = $8 == "recording" ? $4 * 16 * mib / $6 : $4
+    if (!(name in taken) || seconds < taken[name]) {
+        taken[name] = seconds
+        rates[name] = rate($7, $4)
+    }
     if ($5 > memory[name]) memory[name] = $5
+    is_recording[name] = $8 == "recording"
 }
 
-# The row of a call: of a recording its seconds are those of 16 MiB, and its memory is to be small.
-function row_of_call(name,   parts, seconds, whole, speed, large) {
-    split(call[name], parts, "|")
-    seconds = whole = seconds_taken[name]
-    if (parts[8] == "recording") {
-        whole = seconds * 16 * mib / parts[6]
-        speed = seconds > 0 ? sprintf("%.1f", parts[6] / seconds / 1000000) : ""
-        large = memory[name] > 4096 ? ", missed" : ""
-        taken[name] = whole
+# The row of a recording: the seconds of each command, the units in a second of `show`, and the most memory of them all.
+function row_of_input(input,   n, name, row, most) {
+    row = "| " input " |"
+    for (n = 1; n <= count_of_columns; n++) {
+        name = columns[n] "|" input
+        row = row (name in taken ? sprintf(" %.2f", taken[name]) missed(name, taken[name]) : "") " |"
+        if (memory[name] > most) most = memory[name]
     }
-    printf("| `%s` | %s | %.2f s | %s | %s | %s | | | %s |\n",
-        parts[2], parts[3], whole, speed, rate(parts[7], seconds), memory[name] large, wished(name, whole))
+    print row " " rates["show|" input] " | " most (most > 4096 ? " (4096)" : "") " |"
 }
 
-# The row of a coder, beside the program that does the same.
-function row_of_coder(name,   own, mark, other) {
+# The row of another call.
+function row_of_call(name,   parts) {
+    split(name, parts, "|")
+    printf("| `%s` | %s | %.2f%s | %s | %s |\n", parts[1], parts[2], taken[name], missed(name, taken[name]), rates[name],
+        memory[name] (is_recording[name] && memory[name] > 4096 ? " (4096)" : ""))
+}
+
+# The row of a coder, beside the program that does the same. The name of a coder is in its first row alone.
+function row_of_coder(name, is_first,   own, mark, other) {
     own = least["coders|" name] / 10000000000
     mark = ("libfec|" name) in least ? "libfec" : "radio"
     other = (mark "|" name) in least ? least[mark "|" name] / 10000000000 : 0
-    printf("| %s | %s | %s | | | | %s | %s | %s |\n", part[name], label[name], text(own),
-        other ? shown[mark] " " text(other) : "", other ? sprintf("%.1f", other / own) : "", wished(name, own))
+    printf("| %s | %s | %s | %s | %s |\n", is_first ? part[name] : "", label[name], micros(own) missed(name, own),
+        other ? micros(other) : "", other ? sprintf("%.1f", other / own) : "")
 }
 
 # Keeps the least time of a line of a coder.
@@ -83,6 +92,13 @@ function keep(name, key) {
     if (!(key in least) || $4 < least[key]) least[key] = $4
 }
 
+# The head of a table of so many columns.
+function head(titles,   n, parts, row) {
+    print titles
+    for (n = split(titles, parts, "|") - 2; n > 0; n--) row = row "|---"
+    print row "|"
+}
+
 FILENAME == ARGV[1] {
     goals[$1 "|" $2] = $3
     next
@@ -95,10 +111,22 @@ $1 == "call" {
 
 { keep($2 "|" $3, $1 "|" $2 "|" $3) }
 
-# What is of one name stands together.
 END {
-    for (n = 1; n <= count_of_calls; n++) row_of_call(calls[n])
+    titles = "| 16 MiB of |"
+    for (n = 1; n <= count_of_columns; n++) titles = titles " `" columns[n] "` |"
+    head(titles " units in a second | KiB |")
+    for (n = 1; n <= count_of_inputs; n++) row_of_input(inputs[n])
+    print ""
+    head("| call | input | seconds | units or lines in a second | KiB |")
+    for (n = 1; n <= count_of_others; n++) row_of_call(others[n])
+    print ""
+    head("| coder | letters in error | µs | libfec, GNU Radio | ratio |")
     for (n = 1; n <= count_of_names; n++) {
-        for (i = 1; i <= rows; i++) if (part[order[i]] == names[n]) row_of_coder(order[i])
+        is_first = 1
+        for (i = 1; i <= rows; i++) {
+            if (part[order[i]] != names[n]) continue
+            row_of_coder(order[i], is_first)
+            is_first = 0
+        }
     }
 }
