@@ -1,4 +1,4 @@
--- The words of the low speed data (LSD) are the only ones that begin with their information. And the sizes of the outer codes.
+-- The low speed data (LSD) codewords are determined by their information. And the sizes of the outer codes.
 use Rattle.std.proofs.Common.{◌≡◌, Bool, List, length, refl, sym, ◌∙◌, lit≤, lit<}
 use Rattle.p25_code.specs.Words.{IsEncoding}
 use Rattle.p25_hamming.specs.{Lsd16.{IsLsd16, lsd16_word}, Lsd16Laws.{lsd16_code}}

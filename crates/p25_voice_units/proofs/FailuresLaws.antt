@@ -1,4 +1,4 @@
--- A voice unit that is refused has a field that fails: by its kind, and by what was read of each of its fields.
+-- A refused voice data unit has a field that fails: by its type, and by the decoding of each of its fields.
 use Rattle.std.proofs.Common.{◌≡◌, ℕ, ◌<◌, Bool, List, ◌∷◌, length, Option, Some, None, Result, Ok, Err, refl, sym, ◌∙◌, subst, arith}
 use Rattle.std.specs.Prelude.{IfErr}
 use Rattle.p25_status.specs.{declared.fields.Field.{Field}, declared.fields.Field.TheVariants.{LinkControl as LinkField, EncryptionSync as SyncField}}

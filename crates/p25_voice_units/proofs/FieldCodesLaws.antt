@@ -1,5 +1,5 @@
--- The layouts of the coded fields are read as their codes read: each by the laws of its inner and its outer code; and where the words
--- of a field stand within a unit.
+-- The decodings of the layouts of the coded fields are those of their codes, each by the laws of its inner and its outer code. And the positions of
+-- the words of a field within a data unit.
 use Rattle.std.proofs.Common.{◌≡◌, ◌+◌, ◌≤◌, Bool, List, length, All, refl, arith}
 use Rattle.p25_golay.specs.{Golay18.{IsGolay18}, Golay18Laws.{golay18_code, golay18_reading_of}, Golay24.{IsGolay24}, Golay24Laws.{golay24_code, golay24_reading_of}}
 use Rattle.p25_hamming.specs.{Hamming10.{IsHamming10}, Hamming10Laws.{hamming10_code, hamming10_reading_of}}

@@ -1,5 +1,5 @@
--- The inner words of a coded field, by recursion on the rows of its layout: where each row has its piece, the words at all places carry
--- the groups of symbols in order; and where they do, each row has its piece.
+-- The inner words of a coded field, by recursion on the rows of its layout: if each row has its part, the words at all positions carry the groups of
+-- symbols in order; and if they do, each row has its part.
 use Rattle.std.proofs.Common.{◌≡◌, ℕ, suc, ◌+◌, ◌-◌, ◌*◌, ◌<◌, ◌≤◌, Bool, true, eqb, ◌&&◌, List, [], ◌∷◌, ◌++◌, length, get_or, All, refl, ap, sym, ◌∙◌, inl, inr, arith, length-append}
 use Rattle.std.proofs.{Math.Nat.{mul-add}, lemmas.Bool.{and_parts, eqb-true, leb-true, cases_lt}, lemmas.List.{get_or_append_left}, Math.Seq.{get_or-append_right}, lemmas.List.Concat.{flat_map-cons}}
 use Rattle.std.proofs.lemmas.List.Elements.{All-nil, All-cons}

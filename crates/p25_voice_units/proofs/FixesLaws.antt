@@ -1,5 +1,5 @@
--- Fixes place by place: the bits at places joined differ in as many bits as those at each place together; the distance of two runs is
--- the weight of the exclusive or of the numbers that they write.
+-- Fixes position by position: the bits at positions joined differ in as many bits as those at each position together. The distance of two runs is the
+-- weight of the exclusive or of the numbers that they write.
 use Rattle.std.proofs.Common.{◌≡◌, ℕ, suc, ◌+◌, ◌*◌, ◌≤◌, Bool, List, [], ◌∷◌, ◌++◌, length, map, get_or, sum_by, All, bit_xor, ap, ap₂, sym, ◌∙◌, arith, length-append}
 use Rattle.std.proofs.{Math.Nat.{mul_comm, mul-le-mul_left}, lemmas.List.Concat.{flat_map-append}, lemmas.List.Sums.{sum_by-cons, sum_by-le}}
 use Rattle.std.specs.{List.{flat_map}, Int.RustNames.{count_ones}, Bool.{beq}}

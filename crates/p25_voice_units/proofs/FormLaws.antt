@@ -1,5 +1,5 @@
--- A unit's bits by its places: a unit is laid out and carries its coded field exactly where its bits are its front and the pieces of its
--- rows. One way goes from the words of the field to the pieces and then to the whole, the other way back.
+-- A data unit's bits by its positions: bits have its layout and carry its coded field if and only if they are sync and NID and the parts of its rows.
+-- One way goes from the words of the field to the parts and then to the whole, the other way back.
 use Rattle.std.proofs.Common.{◌≡◌, ◌↔◌, ℕ, ◌+◌, ◌*◌, ◌<◌, ◌≤◌, Bool, true, List, ◌++◌, length, take, get_or, All, ap, ap₂, sym, subst, ◌∙◌, arith, length-append, take-append-drop, Option, Some}
 use Rattle.std.proofs.{lemmas.Bool.{leb-true}, lemmas.List.Sums.{AllPass-from_list_all}, lemmas.List.{get_or_default, take_at}}
 use Rattle.std.specs.{List.{list_all}, Prelude.{nat_le}}

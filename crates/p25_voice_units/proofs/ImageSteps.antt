@@ -1,4 +1,4 @@
--- The steps of the writer of voice units: a piece, by what it is, the octets of a voice frame, and one more piece after the others.
+-- The steps of the encoder of voice data units: a part by its case, the octets of a voice frame, and one more part after the others.
 use Rattle.std.proofs.Common.{◌≡◌, ℕ, zero, suc, append-nil, append_assoc, ◌+◌, ◌*◌, ◌<◌, ◌≤◌, Bool, true, false, List, [], ◌++◌, length, take, drop, get_or, replicate, refl, sym, length-drop, take-append-drop, arith}
 use Rattle.std.proofs.{lemmas.Bool.{leb-true}, lemmas.Nat.Bits.{bit_at-zero}, lemmas.List.{drop-drop, flat_map_more, take_all, take_more}}
 use Rattle.p25_bits.specs.{Bits.{bits_of, octet_bits}, Numbers.{number_bits}}

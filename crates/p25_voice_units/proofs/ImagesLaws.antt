@@ -1,5 +1,5 @@
--- The images of voice units, by their kinds: what each carries suits its rows, as tests of the layouts say, so a unit's bits are those
--- that stand as its layout says and carry its field.
+-- The images of voice data units, by their types. The contents of each suit its rows, as tests of the layouts show, so a data unit's bits are those
+-- that its layout has and carry its field.
 use Rattle.std.proofs.{Common.{◌≡◌, ◌↔◌, ℕ, Bool, List, [], length, Some, refl, ap, ap₂, sym, ◌∙◌, arith, lit≤}, lemmas.List.Elements.{All-nil}}
 use Rattle.p25_hamming.specs.{Hamming10.{IsHamming10}, Hamming10Laws.{hamming10_code, hamming10_reading_of}}
 use Rattle.p25_golay.specs.{Golay18.{IsGolay18}, Golay18Laws.{golay18_code, golay18_reading_of}, Golay24.{IsGolay24}, Golay24Laws.{golay24_code, golay24_reading_of}}

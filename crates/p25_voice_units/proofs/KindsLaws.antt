@@ -1,5 +1,5 @@
--- The readings of voice units, kind by kind: at the DUID of a kind the definition computes to that kind's; and a unit with voice by which
--- of its parts were read.
+-- The decodings of voice data units, type by type: at the DUID of a type the definition computes to that type's, and a data unit with voice by which
+-- of its parts were decoded.
 use Rattle.std.proofs.Common.{◌≡◌, ℕ, Bool, List, [], Option, Some, None, option_map, ◌∷◌, ap₂, Ok, Err, Result, refl, ap, sym, ◌∙◌, ◌++◌, false, replicate}
 use Rattle.p25_status.specs.{Outcomes.{read_or}, declared.fields.Field.{Field}, declared.read_outcome.ReadOutcome.{ReadOutcome}}
 use Rattle.p25_unit_front.specs.Front.{unit_front}

@@ -1,4 +1,4 @@
--- How many bits the kinds of voice units have, each by its data unit identifier.
+-- The number of bits of the types of voice data units, each by its data unit identifier.
 use Rattle.std.proofs.{Common.{◌≡◌, ◌≢◌, ℕ, ◌%◌, ◌≤◌, eqb, cond, Some, None, refl, sym, subst, ◌∙◌, inl, inr, lit≤}, lemmas.Bool.{cond-false, ne_eqb, cases_eq}}
 use Rattle.std.specs.Option.{unwrap_or}
 use Rattle.p25_voice_units.specs.{declared.unit.VoiceUnit.{VoiceUnit}, declared.unit.VoiceUnit.TheVariants.{Header}, Lengths.{voice_duid, voice_length_of}}

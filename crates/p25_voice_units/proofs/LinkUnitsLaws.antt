@@ -1,4 +1,4 @@
--- Units with voice, LDU1 and LDU2: what both kinds have in common gives their readings and their fixes.
+-- Data units with voice, LDU1 and LDU2: the common part of both types gives their decodings and their fixes.
 use Rattle.std.proofs.Common.{◌≡◌, ℕ, ◌+◌, ◌≤◌, Bool, List, ◌++◌, length, slice_index, option_map, refl, ap, sym, ◌∙◌, arith}
 use Rattle.p25_gf64.specs.declared.symbol.Sym.{Sym}
 use Rattle.p25_hamming.specs.Hamming10Laws.{hamming10_reading_of}

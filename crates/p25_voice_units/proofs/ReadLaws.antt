@@ -1,4 +1,4 @@
--- The reader of voice units: each part that was read is the part that the definition names, by what the reader of the part answers.
+-- The decoder of voice data units: each decoded part is the part that the definition names, by the result of the part's decoder.
 use Rattle.std.proofs.Common.{◌≡◌, ℕ, zero, suc, ◌+◌, ◌/◌, ◌%◌, ◌^◌, ◌<◌, ◌≤◌, Bool, true, false, List, [], ◌∷◌, ◌++◌, length, take, map, set, slice_index, Option, Some, None, IfSome, option_map, refl, sym, arith, lit≤}
 use Rattle.std.proofs.lemmas.List.{append-nil, map_more, take_all, take_more_set}
 use Rattle.std.specs.Option.{is_some}

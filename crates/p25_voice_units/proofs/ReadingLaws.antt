@@ -1,5 +1,5 @@
--- What voice units are read as: a unit that was read is of the kind of its DUID, and keeps what its type keeps, since each part is made
--- of so many bits.
+-- The decoding of voice data units: a decoded data unit has the type of its DUID, and the invariant of its type, because each part is made of the
+-- right number of bits.
 use Rattle.std.proofs.Common.{◌≡◌, ℕ, ◌<◌, Bool, List, [], ◌∷◌, length, take, drop, slice_index, get_or, Option, Some, None, option_map, Ok, Err, Result, All, refl, ◌∙◌, subst}
 use Rattle.std.proofs.{lemmas.List.{length-map}, lemmas.List.Elements.{All-nil, All-cons, All-map}}
 use Rattle.p25_bits.specs.{Bits.{field_of, part}, Numbers.{numbers_from}}

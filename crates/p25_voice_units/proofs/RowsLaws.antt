@@ -1,5 +1,5 @@
--- Pieces that stand end to end, by recursion on the rows of a layout: joined they have each piece at its place, and what has each piece
--- at its place is the pieces joined.
+-- Parts end to end, by recursion on the rows of a layout: joined they have each part at its position, and bits with each part at its position are the
+-- parts joined.
 use Rattle.std.proofs.Common.{◌≡◌, ℕ, suc, ◌+◌, ◌*◌, ◌≤◌, Bool, true, false, eqb, ◌&&◌, List, [], ◌∷◌, ◌++◌, length, take, drop, get_or, All, refl, ap, ap₂, sym, ◌∙◌, arith, append_assoc, length-append, take-append-drop}
 use Rattle.std.proofs.{lemmas.Bool.{and_parts, eqb-true, leb-true, ltb-true}, lemmas.List.{drop_all, drop-drop, length-replicate}, lemmas.List.Concat.{flat_map-cons}}
 use Rattle.std.proofs.lemmas.List.Elements.{All-nil, All-cons}

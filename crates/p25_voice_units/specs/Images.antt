@@ -1,4 +1,4 @@
--- The bits of voice units (HDU, LDU1, LDU2, TDU and TDULC) without status symbols, as one list.
+-- The bits of voice data units (HDU, LDU1, LDU2, TDU and TDULC) without status symbols, as one list.
 use Rattle.std.specs.{Prelude.{ℕ, ◌*◌, Bool, false, List, [], ◌++◌, replicate, slice_index, slice_index_or}, List.{flat_map}}
 use Rattle.p25_bits.specs.Bits.{bits_of, octet_bits, part}
 use Rattle.p25_gf64.specs.declared.symbol.Sym.{Sym}
@@ -13,8 +13,8 @@ use Rattle.p25_voice_units.specs.{declared.voice.VoiceFrame.{VoiceFrame}, declar
 use Rattle.p25_voice_units.specs.{declared.unit.VoiceUnit.TheVariants.{Header, Link1, Link2, End, EndLink}, Layouts.{hdu_rows, ldu_rows, tdu_rows, tdulc_rows}}
 use Rattle.p25_voice_units.specs.Lengths.{voice_duid}
 
--- what a unit carries: the code of its inner words and how many symbols one of them has, the symbols of its outer word, two octets of
--- low speed data (LSD), and nine voice frames
+-- the contents of a data unit: the code of its inner words and the number of symbols of each, the symbols of its outer word, two octets of low speed
+-- data (LSD), and nine voice frames
 pub record Contents : Type 0 where
   pub encoding : List Bool → List Bool
   pub each : ℕ
@@ -29,7 +29,7 @@ contents encoding each symbols low voice = record { encoding = encoding; each = 
 abbrev pub frame_at : List VoiceFrame → ℕ → VoiceFrame
 frame_at voice i = let blank : VoiceFrame = record { 0 = [] } in slice_index_or voice i blank
 
--- the bits of a piece of a unit
+-- the bits of a part of a data unit
 unfoldable pub piece_bits : Contents → Piece → List Bool
 piece_bits carried (Words first count) =
     field_bits carried.encoding carried.each count (part (carried.each * first) (carried.each * count) carried.symbols)
@@ -37,11 +37,11 @@ piece_bits carried (Frame i) = octet_bits (frame_at carried.voice i).0
 piece_bits carried (LowSpeed i) = lsd16_word (bits_of 8 (slice_index carried.low i))
 piece_bits carried (Nulls count) = replicate count false
 
--- the pieces of rows, one after the other
+-- the parts of rows, one after the other
 unfoldable pub rows_bits : Contents → List (ℕ × Piece) → List Bool
 rows_bits carried rows = flat_map (λ row. piece_bits carried row.1) rows
 
--- the bits after the front of an HDU, an LDU1, an LDU2, a TDU or a TDULC
+-- the bits after sync and NID of an HDU, an LDU1, an LDU2, a TDU or a TDULC
 unfoldable pub voice_body : VoiceUnit → List Bool
 voice_body (Header word) = rows_bits (contents golay18_word 1 (rs_word 36 20 (header_symbols word)) [] []) hdu_rows
 voice_body (Link1 link low voice) = rows_bits (contents hamming10_word 1 (rs_word 24 12 (link_symbols link)) low voice) ldu_rows
@@ -49,6 +49,6 @@ voice_body (Link2 sync low voice) = rows_bits (contents hamming10_word 1 (rs_wor
 voice_body End = rows_bits (contents golay18_word 1 [] [] []) tdu_rows
 voice_body (EndLink link) = rows_bits (contents golay24_word 2 (rs_word 24 12 (link_symbols link)) [] []) tdulc_rows
 
--- the bits of a unit
+-- the bits of a data unit
 unfoldable pub voice_image_of : ℕ → VoiceUnit → List Bool
 voice_image_of nac unit = unit_front nac (voice_duid unit) ++ voice_body unit

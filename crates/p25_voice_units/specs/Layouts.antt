@@ -1,5 +1,5 @@
--- Where the parts of voice units stand after their front, without status symbols, as the standard has it. A row is a place, counted
--- from the first sync bit, and what stands there.
+-- The positions of the parts of voice data units after sync and NID, without status symbols, as in the standard. A row is a position, counted from
+-- the first sync bit, and the part at it.
 use Rattle.std.specs.Prelude.{ℕ, List, [], ◌∷◌}
 use Rattle.p25_voice_units.specs.{declared.layout.Piece.{Piece}, declared.layout.Piece.TheVariants.{Words, Frame, LowSpeed, Nulls}}
 
@@ -7,8 +7,7 @@ use Rattle.p25_voice_units.specs.{declared.layout.Piece.{Piece}, declared.layout
 abbrev pub hdu_rows : List (ℕ × Piece)
 hdu_rows = (112, Words 0 36) ∷ (760, Nulls 10) ∷ []
 
--- an LDU1 or an LDU2, voice with link control or encryption sync: nine frames, 24 inner words of the coded field, and two low
--- speed words
+-- an LDU1 or an LDU2, voice with link control or encryption sync: nine frames, 24 inner words of the coded field, and two low speed data words
 abbrev pub ldu_rows : List (ℕ × Piece)
 ldu_rows =
     (112, Frame 0)

@@ -1,4 +1,4 @@
--- What voice units keep by their types.
+-- The invariants of voice data units by their types.
 use Rattle.std.specs.Prelude.{◌≡◌, ℕ, ◌<◌, List, length, All}
 use Rattle.p25_link.specs.{Words.{IsHeaderWord, IsLinkControl, IsEncryptionSync}, declared.link_control.LinkControl.{LinkControl}}
 use Rattle.p25_link.specs.declared.encryption.EncryptionSync.{EncryptionSync}
@@ -17,17 +17,17 @@ pub record IsSpeech (low : List ℕ) (voice : List VoiceFrame) : Type 0 where
   pub nine : length voice ≡ 9
   pub frames : All IsVoiceFrame voice
 
--- what an LDU1, voice with link control, keeps
+-- the invariant of an LDU1, voice with link control
 pub record IsSendableLink1 (link : LinkControl) (low : List ℕ) (voice : List VoiceFrame) : Type 0 where
   pub word : IsLinkControl link
   pub speech : IsSpeech low voice
 
--- what an LDU2, voice with encryption sync, keeps
+-- the invariant of an LDU2, voice with encryption sync
 pub record IsSendableLink2 (sync : EncryptionSync) (low : List ℕ) (voice : List VoiceFrame) : Type 0 where
   pub word : IsEncryptionSync sync
   pub speech : IsSpeech low voice
 
--- what every voice unit (HDU, LDU1, LDU2, TDU or TDULC) keeps
+-- the invariant of every voice data unit (HDU, LDU1, LDU2, TDU or TDULC)
 unfoldable pub IsSendableVoice : VoiceUnit → Type 0
 IsSendableVoice (Header word) = IsHeaderWord word
 IsSendableVoice (Link1 link low voice) = IsSendableLink1 link low voice

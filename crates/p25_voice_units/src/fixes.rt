@@ -1,4 +1,5 @@
-//! In how many places received voice units (HDU, LDU1, LDU2, TDU and TDULC) differ from what was sent.
+//! The number of positions in which received voice data units (HDU, LDU1, LDU2, TDU and TDULC) differ from the
+//! transmitted ones.
 
 ghost use Rattle.std.specs.Prelude.{◌≡◌, ◌+◌, ◌*◌, ◌≤◌, All, Some, length};
 ghost use Rattle.p25_bits.specs.Distance.{distance_of};
@@ -9,8 +10,9 @@ use crate::places::{HDU_WORDS, LDU_WORDS, LOW_WORDS, TDULC_WORDS};
 use crate::unit::VoiceUnit;
 use p25_bits::BitBuf;
 
-/// Answers in how many of a unit's looked-at places after its front received bits differ from the unit's image, both
-/// without status symbols: in its inner words and its low speed words. TIA-102.BAAA, Voice Data Units.
+/// Returns the number of examined positions, after sync and NID, in which the received bits differ from the data unit's
+/// image. Both are without status symbols; the positions are those of its inner words and its low speed data words.
+/// TIA-102.BAAA, Voice Data Units.
 #[tactic(auto, unfolding(crate::specs::Fixes::voice_fixes_of, crate::specs::Fixes::voice_looked, crate::specs::Lengths::voice_length_of))]
 pub fn voice_fixes(unit: &VoiceUnit, received: &BitBuf, image: &BitBuf) -> u32
     requires received { voice_length_of (voice_duid unit.now) ≡ Some (length received.now) }
@@ -18,7 +20,7 @@ pub fn voice_fixes(unit: &VoiceUnit, received: &BitBuf, image: &BitBuf) -> u32
     ensures value { result ≡ voice_fixes_of unit.now received.now image.now }
     ensures most { result ≤ 1680 }
 {
-    // For the prover: the places of the words are those of the layouts.
+    // For the prover: the positions of the words are those of the layouts.
     part_places();
     match unit {
         VoiceUnit::Header(_) => differing(&HDU_WORDS, 18, received, image),
@@ -30,7 +32,7 @@ pub fn voice_fixes(unit: &VoiceUnit, received: &BitBuf, image: &BitBuf) -> u32
     }
 }
 
-// Counts the bits in which two lists differ within the `width` bits at each of the places.
+// Counts the bits in which two lists differ within the `width` bits at each of the positions.
 fn differing(places: &[usize], width: u32, received: &BitBuf, image: &BitBuf) -> u32
     requires width { width ≤ 24 }
     requires few { length places.now ≤ 36 }

@@ -1,4 +1,4 @@
-//! Voice units (HDU, LDU1, LDU2, TDU and TDULC) as bits.
+//! Voice data units (HDU, LDU1, LDU2, TDU and TDULC) as bits.
 
 ghost use Rattle.std.specs.{Prelude.{◌≡◌, ◌+◌, ◌/◌, ◌<◌, ◌≤◌, ◌++◌, Ok, Some, true, length, sum_by}, List.{list_all}};
 ghost use Rattle.p25_bits.specs.Bits.{octet_bits};
@@ -33,7 +33,7 @@ fn put_frame(octets: &[u8; 18], out: &mut BitBuf)
     out.put_numbers(&octets[16..], 8);
 }
 
-// Appends a piece of a unit, whose inner words carry the symbols.
+// Appends a part of a data unit, whose inner codewords carry the symbols.
 fn put_piece<I: NumberCode>(
     piece: Piece,
     symbols: &[Sym],
@@ -62,7 +62,7 @@ fn put_piece<I: NumberCode>(
     }
 }
 
-// Appends the pieces of the rows of a layout, in order.
+// Appends the parts of the rows of a layout, in order.
 fn put_rows<I: NumberCode>(
     rows: &[(usize, Piece)],
     symbols: &[Sym],
@@ -81,7 +81,7 @@ fn put_rows<I: NumberCode>(
     }
 }
 
-// Appends the pieces of the rows of a layout, whose inner words carry the outer word of some information.
+// Appends the parts of the rows of a layout, whose inner codewords carry the outer codeword of an information.
 fn put_coded_rows<I: NumberCode, const N: usize, const K: usize>(
     rows: &[(usize, Piece)],
     information: &[Sym],
@@ -102,7 +102,7 @@ fn put_coded_rows<I: NumberCode, const N: usize, const K: usize>(
     put_rows::<I>(rows, &symbols, low, frames, out);
 }
 
-// For the prover: the octets of low speed data (LSD) and of voice frames are below 256. Nothing is done.
+// For the prover: the octets of low speed data (LSD) and of voice frames are below 256. The function has no effect.
 fn fit_speech(low: &[u8; 2], voice: &Voice)
     ensures { IsSpeech low.now voice.now }
 {
@@ -112,7 +112,7 @@ fn fit_speech(low: &[u8; 2], voice: &Voice)
     }
 }
 
-// Appends what stands after the front of a unit: the pieces of its layout.
+// Appends the bits after sync and NID: the parts of the data unit's layout.
 fn put_body(unit: &VoiceUnit, out: &mut BitBuf)
     requires { length out.old ≡ 112 }
     ensures list { out.new ≡ out.old ++ voice_body unit.now }
@@ -140,8 +140,9 @@ fn put_body(unit: &VoiceUnit, out: &mut BitBuf)
     }
 }
 
-/// Sets `out` to the bits of a voice unit (HDU, LDU1, LDU2, TDU or TDULC) without status symbols, first to last: its front, with a
-/// network access code below 4,096, and the pieces of its layout. TIA-102.BAAA, Voice Data Units.
+/// Encodes a voice data unit (HDU, LDU1, LDU2, TDU or TDULC): writes to `out` its bits without status symbols, first to
+/// last. They are sync and NID and the parts of its layout. It requires a network access code below 4,096.
+/// TIA-102.BAAA, Voice Data Units.
 pub fn voice_image(nac: u16, unit: &VoiceUnit, out: &mut BitBuf)
     requires { nac < 4096 }
     ensures list { out.new ≡ voice_image_of nac unit.now }

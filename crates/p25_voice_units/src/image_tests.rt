@@ -1,4 +1,4 @@
-//! The bits of units of each kind, HDU, LDU1, LDU2, TDU and TDULC, computed apart from this code.
+//! The bits of data units of each type, HDU, LDU1, LDU2, TDU and TDULC, computed apart from this code.
 
 use super::{Voice, VoiceFrame, VoiceUnit, voice_image, voice_length};
 use p25_bits::BitBuf;
@@ -89,7 +89,7 @@ const COUNTED_LDU1_BITS: [u64; 27] = [
     0xA0A1,
 ];
 
-// The bits of an LDU1 where all bits of what it carries are 1.
+// The bits of an LDU1 with all its information bits 1.
 const ONES_LDU1_BITS: [u64; 27] = [
     0x5575_F5FF_77FF_FFF5,
     0x4A57_1CC5_9417_FFFF,
@@ -199,7 +199,7 @@ fn is_image(nac: u16, unit: &VoiceUnit, words: &[u64]) -> bool {
         && are_bits(&bare, words)
 }
 
-// An HDU whose header word has these.
+// An HDU with these values in its header word.
 fn hdu(mi: [u8; 9], mfid: u8, algid: u8, kid: u16, tgid: u16) -> VoiceUnit {
     VoiceUnit::Header(HeaderWord {
         mi,

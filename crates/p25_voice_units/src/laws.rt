@@ -1,5 +1,5 @@
-//! The laws of the images, of the readings and of the layouts of voice units (HDU, LDU1, LDU2, TDU and TDULC). Each function states
-//! what is proved, and makes no call.
+//! The laws of the images, of the decodings and of the layouts of voice data units (HDU, LDU1, LDU2, TDU and TDULC).
+//! Each function states what is proved, and makes no call.
 
 ghost use Rattle.std.specs.Prelude.{◌≡◌, ◌↔◌, ◌%◌, ◌≤◌, ℕ, Bool, List, Some, length, Ok};
 ghost use Rattle.p25_voice_units.specs.{declared.unit.VoiceUnit.{VoiceUnit}, Layouts.{hdu_rows, ldu_rows, tdu_rows, tdulc_rows}, FieldLayouts.{word_places}};
@@ -12,11 +12,11 @@ use crate::{
     HDU_ROWS, HDU_WORDS, LDU_ROWS, LDU_WORDS, LOW_WORDS, TDU_ROWS, TDULC_ROWS, TDULC_WORDS,
 };
 
-/// **Theorem.** The laws of the bits of voice units.
+/// **Theorem.** The laws of the bits of voice data units.
 ///
-/// - `form`: a unit's bits are exactly those that stand as its kind says by places.
-/// - `fills`: a unit's bits are as many as its kind has.
-/// - `lengths`: a unit of each kind has at least its front, at most 1,680 bits, and fills blocks of 70.
+/// - `form`: a data unit's bits are exactly those that its type has by positions.
+/// - `fills`: a data unit has as many bits as its type has.
+/// - `lengths`: a data unit of each type has at least sync and NID, at most 1,680 bits, and fills blocks of 70.
 pub fn image_laws()
     ensures form { (nac : ℕ) (unit : VoiceUnit) (bare : List Bool) → IsSendableVoice unit
         → IsVoiceImage nac unit bare ↔ (bare ≡ voice_image_of nac unit) }
@@ -24,16 +24,18 @@ pub fn image_laws()
     ensures lengths { (duid count : ℕ) → voice_length_of duid ≡ Some count → (112 ≤ count) × (count ≤ 1680) × (count % 70 ≡ 0) }
 {}
 
-/// **Theorem.** The laws of what voice units are read as.
+/// **Theorem.** The laws of decoding voice data units.
 ///
-/// - `kind`: what is read for a DUID is a unit of that DUID.
-/// - `sendable`: what is read keeps what its type keeps.
-/// - `within`: bits within radius of a unit's own are read as the unit, with its voice frames as received.
-/// - `words`: bits are within radius where at most as many symbols of the coded field as its outer code's radius stand in
-///   inner words with more wrong bits than the inner code's radius, and at most two bits of each low speed word are wrong.
-/// - `undamaged`: a unit's own bits are within radius.
-/// - `again`: and are read as the unit.
-/// - `whole`: bits are within radius of the own bits of what they are read as.
+/// - `kind`: the data unit decoded for a DUID has that DUID.
+/// - `sendable`: it has the invariants of its type.
+/// - `within`: bits within the correction radius of a data unit's own decode to the data unit, with its voice frames as
+///   received.
+/// - `words`: bits are within the correction radius under two conditions. At most as many symbols of the coded field as
+///   its outer code's correction radius are in inner words with more bit errors than the inner code's correction
+///   radius. Each low speed data word has at most two bit errors.
+/// - `undamaged`: a data unit's own bits are within the correction radius.
+/// - `again`: they decode to the data unit.
+/// - `whole`: bits are within the correction radius of the own bits of the data unit that they decode to.
 pub fn radius_laws()
     ensures kind { (duid : ℕ) (bare : List Bool) (unit : VoiceUnit) → voice_reading_of duid bare ≡ Ok unit → voice_duid unit ≡ duid }
     ensures sendable { (duid : ℕ) (bare : List Bool) (unit : VoiceUnit) → voice_reading_of duid bare ≡ Ok unit → IsSendableVoice unit }
@@ -55,7 +57,7 @@ pub fn layouts()
     ensures tdulc { TDULC_ROWS ≡ tdulc_rows }
 {}
 
-/// **Theorem.** The places are those of the layouts.
+/// **Theorem.** The positions are those of the layouts.
 pub fn part_places()
     ensures header { HDU_WORDS ≡ word_places 18 hdu_rows }
     ensures link { LDU_WORDS ≡ word_places 10 ldu_rows }

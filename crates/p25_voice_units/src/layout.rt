@@ -1,24 +1,26 @@
-//! Where the parts of voice units (HDU, LDU1, LDU2, TDU and TDULC) stand after their front, without status symbols. TIA-102.BAAA,
-//! Voice Data Units.
+//! The positions of the parts of voice data units (HDU, LDU1, LDU2, TDU and TDULC) after sync and NID, without status
+//! symbols. TIA-102.BAAA, Voice Data Units.
 
-/// What stands at a place of a voice unit.
+/// The part of a voice data unit at a position.
 #[derive(Clone, Copy, Debug, PartialEq, Eq)]
 pub enum Piece {
-    /// Inner words of the unit's coded field, one after the other: the number of the first among all, from 0, and how many.
+    /// Inner codewords of the data unit's coded field, one after the other: the index of the first among all, from 0,
+    /// and their number.
     Words(usize, usize),
-    /// The voice frame of a number, from 0.
+    /// The voice frame of an index, from 0.
     Frame(usize),
-    /// The low speed data (LSD) word of a number, from 0.
+    /// The low speed data (LSD) word of an index, from 0.
     LowSpeed(usize),
-    /// So many nulls, bits that are 0.
+    /// A number of nulls, which are bits 0.
     Nulls(usize),
 }
 
-/// The layout of an HDU, a header: a place, counted from the first sync bit, and what stands there. Its inner words are Golay
-/// (18,6) words.
+/// The layout of an HDU, a header: a position, counted from the first sync bit, and the part at it. Its inner codewords
+/// are those of Golay (18,6).
 pub const HDU_ROWS: [(usize, Piece); 2] = [(112, Piece::Words(0, 36)), (760, Piece::Nulls(10))];
 
-/// The layout of an LDU1 or an LDU2, voice with link control or with encryption sync. Its inner words are Hamming (10,6) words.
+/// The layout of an LDU1 or an LDU2, voice with link control or with encryption sync. Its inner codewords are those of
+/// Hamming (10,6).
 pub const LDU_ROWS: [(usize, Piece); 17] = [
     (112, Piece::Frame(0)),
     (256, Piece::Frame(1)),
@@ -42,5 +44,5 @@ pub const LDU_ROWS: [(usize, Piece); 17] = [
 /// The layout of a TDU, a terminator.
 pub const TDU_ROWS: [(usize, Piece); 1] = [(112, Piece::Nulls(28))];
 
-/// The layout of a TDULC, a terminator with link control. Its inner words are Golay (24,12) words.
+/// The layout of a TDULC, a terminator with link control. Its inner codewords are those of Golay (24,12).
 pub const TDULC_ROWS: [(usize, Piece); 2] = [(112, Piece::Words(0, 12)), (400, Piece::Nulls(20))];

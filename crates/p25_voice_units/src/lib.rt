@@ -1,19 +1,19 @@
-//! Voice units, which are HDU, LDU1, LDU2, TDU and TDULC: their bits without status symbols, written and read (TIA-102.BAAA,
-//! Voice Data Units).
+//! Voice data units, which are HDU, LDU1, LDU2, TDU and TDULC: encoding and decoding of their bits without status
+//! symbols (TIA-102.BAAA, Voice Data Units).
 //!
-//! The first bit of a list is the first that is sent. A voice unit begins with its front, the frame sync and the network
-//! identifier (NID), whose DUID tells its kind:
+//! The first bit of a list is transmitted first. A voice data unit begins with the frame sync and the network
+//! identifier (NID), whose DUID determines its type:
 //!
-//! | DUID | kind | bits | after the front |
+//! | DUID | type | bits | after sync and NID |
 //! |---|---|---|---|
-//! | 0 | HDU: header | 770 | the header word, 36 symbols in as many Golay (18,6) words; nulls |
-//! | 5 | LDU1: voice with link control (LC) | 1,680 | nine voice frames; LC, 24 symbols in as many Hamming (10,6) words; two words of LSD |
+//! | 0 | HDU: header | 770 | the header word, 36 symbols in as many Golay (18,6) codewords; nulls |
+//! | 5 | LDU1: voice with link control (LC) | 1,680 | nine voice frames; LC, 24 symbols in as many Hamming (10,6) codewords; two words of LSD |
 //! | A hex | LDU2: voice with encryption sync (ES) | 1,680 | the same with ES |
 //! | 3 | TDU: terminator | 140 | nulls |
-//! | F hex | TDULC: terminator with link control | 420 | LC, 24 symbols in twelve Golay (24,12) words; nulls |
+//! | F hex | TDULC: terminator with link control | 420 | LC, 24 symbols in twelve Golay (24,12) codewords; nulls |
 //!
-//! LSD is low speed data. Where each part stands is a table for each kind, as `LDU_ROWS`. Voice frames are carried as they are
-//! and not decoded.
+//! LSD is low speed data. The position of each part is in a table for each type, as `LDU_ROWS`. Voice frames are
+//! carried unchanged and not decoded.
 //!
 //! ```
 //! let link = LinkControl([7; 9]);
@@ -25,9 +25,9 @@
 //! assert!(rt; read == unit && outcome == ReadOutcome::Read { wrong: 0 });
 //! ```
 //!
-//! Contracts see a unit's bits as `voice_image_of` and what is read as `voice_reading_of`. `image_laws` says that these bits
-//! are the only ones that stand as `IsVoiceImage` says by places, and `radius_laws` that all bits within radius of them are
-//! read as their unit.
+//! Contracts see a data unit's bits as `voice_image_of` and its decoding as `voice_reading_of`. `image_laws` states
+//! that these bits are the only ones that meet `IsVoiceImage`, the form by positions. `radius_laws` states that all
+//! bits within the correction radius of them decode to their data unit.
 #![tactic(auto)]
 
 mod fixes;

@@ -1,4 +1,4 @@
-//! Voice units (HDU, LDU1, LDU2, TDU and TDULC) read from bits.
+//! Decoding of voice data units (HDU, LDU1, LDU2, TDU and TDULC) from bits.
 
 ghost use Rattle.std.specs.Prelude.{◌≡◌, ◌⊎◌, ◌+◌, ◌*◌, ◌/◌, ◌<◌, ◌≤◌, ◌++◌, All, List, Some, IfErr, IfSome, length, option_map, slice_index, ℕ};
 ghost use Rattle.p25_gf64.specs.declared.symbol.Sym.{Sym as symbol};
@@ -27,8 +27,8 @@ use p25_link::{EncryptionSync, HeaderWord, LinkControl};
 use p25_reed_solomon::Rs;
 use p25_status::{Field, FieldList, ReadOutcome};
 
-// Reads a coded field, whose inner words stand at the places, into the symbols of its information. Answers how many bits of its inner
-// words were put right; None comes exactly where the field fails.
+// Decodes a coded field, whose inner words are at the positions, to the symbols of its information. Returns the number
+// of corrected bits of its inner words, or `None` if and only if the field fails.
 fn read_symbols<I: NumberCode, const N: usize, const K: usize>(
     bare: &BitBuf,
     places: &[usize],
@@ -56,8 +56,8 @@ fn read_symbols<I: NumberCode, const N: usize, const K: usize>(
     }
 }
 
-// Reads the low speed data (LSD) word of a number of an LDU1 or an LDU2 into its octet. Answers how many of its bits were put right;
-// None comes exactly where no word lies within 2 bits.
+// Decodes the low speed data (LSD) word of an index of an LDU1 or an LDU2 to its octet. Returns the number of its
+// corrected bits, or `None` if and only if no codeword lies within 2 bits.
 fn read_low(bare: &BitBuf, i: usize, octet: &mut u8) -> Option<u32>
     requires i { i < 2 }
     requires there { 1680 ≤ length bare.now }
@@ -75,7 +75,7 @@ fn read_low(bare: &BitBuf, i: usize, octet: &mut u8) -> Option<u32>
     }
 }
 
-// The nine voice frames of an LDU1 or an LDU2.
+// Returns the nine voice frames of an LDU1 or an LDU2.
 fn read_frames(bare: &BitBuf) -> Voice
     requires { 1680 ≤ length bare.now }
     ensures { result ≡ voice_in bare.now }
@@ -89,7 +89,7 @@ fn read_frames(bare: &BitBuf) -> Voice
     Voice::new(frames)
 }
 
-// Appends a field, if it was not read.
+// Appends a field, if it is uncorrectable.
 fn note(fields: &mut FieldList, field: Field, part: Option<u32>)
     requires { length fields.old < 127 }
     ensures list { fields.new ≡ fields.old ++ missing field part }
@@ -100,7 +100,7 @@ fn note(fields: &mut FieldList, field: Field, part: Option<u32>)
     }
 }
 
-// The failing fields of an LDU1 or an LDU2, in order.
+// Returns the failing fields of an LDU1 or an LDU2, in order.
 fn failing_of(field: Field, word: Option<u32>, first: Option<u32>, second: Option<u32>) -> FieldList
     ensures { result ≡ failing field word first second }
 {
@@ -111,8 +111,8 @@ fn failing_of(field: Field, word: Option<u32>, first: Option<u32>, second: Optio
     fields
 }
 
-// Reads the coded field of an LDU1 or an LDU2 into the symbols of its information, and the low speed data (LSD) words into their octets.
-// `field` is the one that fails where no outer word is read.
+// Decodes the coded field of an LDU1 or an LDU2 to the symbols of its information, and the low speed data (LSD) words
+// to their octets. `field` fails if the outer word is uncorrectable.
 fn read_ldu<const K: usize>(
     bare: &BitBuf,
     field: Field,
@@ -144,7 +144,7 @@ fn read_ldu<const K: usize>(
     }
 }
 
-// Sets `unit` to an HDU, a header.
+// Decodes an HDU, a header, into `unit`.
 fn read_hdu(bare: &BitBuf, unit: &mut VoiceUnit) -> ReadOutcome
     requires { 770 ≤ length bare.now }
     ensures value { read_or result unit.new ≡ header_from (header_in bare.now) }
@@ -161,7 +161,7 @@ fn read_hdu(bare: &BitBuf, unit: &mut VoiceUnit) -> ReadOutcome
     }
 }
 
-// Sets `unit` to a TDULC, a terminator with link control (LC).
+// Decodes a TDULC, a terminator with link control (LC), into `unit`.
 fn read_tdulc(bare: &BitBuf, unit: &mut VoiceUnit) -> ReadOutcome
     requires { 420 ≤ length bare.now }
     ensures value { read_or result unit.new ≡ tdulc_from (link_in tdulc_layout bare.now) }
@@ -180,7 +180,7 @@ fn read_tdulc(bare: &BitBuf, unit: &mut VoiceUnit) -> ReadOutcome
     }
 }
 
-// Sets `unit` to a logical link data unit: by its data unit identifier (DUID) an LDU1 or an LDU2.
+// Decodes a logical link data unit into `unit`: by its data unit identifier (DUID) an LDU1 or an LDU2.
 fn read_logical_link(duid: u8, bare: &BitBuf, unit: &mut VoiceUnit) -> ReadOutcome
     requires kind { (duid ≡ duid_ldu1) ⊎ (duid ≡ duid_ldu2) }
     requires there { 1680 ≤ length bare.now }
@@ -207,14 +207,14 @@ fn read_logical_link(duid: u8, bare: &BitBuf, unit: &mut VoiceUnit) -> ReadOutco
     outcome
 }
 
-/// Answers the voice unit (HDU, LDU1, LDU2, TDU or TDULC) of a data unit identifier (DUID) that bits without status symbols read
-/// as. There are as many bits as a unit of that kind has. Each field is read by its own codes: the header word, the link control
-/// and the encryption sync as `read_field` does, each low speed word where one of its code lies within 2 bits. Voice frames are
-/// answered as received; the bits of the front and nulls are not looked at.
+/// Decodes bits without status symbols to the voice data unit (HDU, LDU1, LDU2, TDU or TDULC) of a data unit identifier
+/// (DUID). It requires as many bits as a data unit of that type has. Each field is decoded by its own codes: the header
+/// word, the link control and the encryption sync as `read_field` does, each low speed data word if a codeword lies
+/// within 2 bits. Voice frames are returned as received; the bits of sync and NID and the nulls are ignored.
 ///
-/// The refusal is the list of exactly the fields that fail, in order, and never empty: of an HDU HeaderWord; of an LDU1
-/// LinkControl, LowSpeed1 and LowSpeed2; of an LDU2 EncryptionSync, LowSpeed1 and LowSpeed2; of a TDULC LinkControl. Of a TDU
-/// none fails. TIA-102.BAAA, Voice Data Units.
+/// The error is the list of exactly the fields that fail, in order, and never empty: for an HDU `HeaderWord`; for an
+/// LDU1 `LinkControl`, `LowSpeed1` and `LowSpeed2`; for an LDU2 `EncryptionSync`, `LowSpeed1` and `LowSpeed2`; for a
+/// TDULC `LinkControl`. A TDU has no field that fails. TIA-102.BAAA, Voice Data Units.
 pub fn read_voice(duid: u8, bare: &BitBuf) -> Result<VoiceUnit, FieldList>
     requires { voice_length_of duid ≡ Some (length bare.now) }
     ensures reading { result ≡ voice_reading_of duid bare.now }
@@ -227,9 +227,10 @@ pub fn read_voice(duid: u8, bare: &BitBuf) -> Result<VoiceUnit, FieldList>
     }
 }
 
-/// Sets `unit` to the voice unit that `read_voice` answers. The outcome is `Failing` exactly where that refuses, with the same
-/// fields; else it is `Read` with what `voice_fixes` answers for the unit, whatever network access code its image has: the
-/// number of wrong bits in its inner words and its low speed words. No image is made.
+/// Decodes bits into `unit`, to the voice data unit that `read_voice` returns. The outcome is `Failing` if and only if
+/// that call refuses, with the same fields. Otherwise it is `Read` with the number of bit errors in the inner words and
+/// the low speed data words. `voice_fixes` returns the same number for the data unit, whatever network access code its
+/// image has. No image is made.
 pub fn read_voice_in(duid: u8, bare: &BitBuf, unit: &mut VoiceUnit) -> ReadOutcome
     requires { voice_length_of duid ≡ Some (length bare.now) }
     ensures value { read_or result unit.new ≡ voice_reading_of duid bare.now }

@@ -1,4 +1,5 @@
-//! Units of each kind, HDU, LDU1, LDU2, TDU and TDULC, with damage: read with so many fixes, or refused with the fields that fail.
+//! Data units of each type, HDU, LDU1, LDU2, TDU and TDULC, with damage: decoded with a number of fixes, or refused
+//! with the fields that fail.
 
 use super::{
     Voice, VoiceFrame, VoiceUnit, read_voice, read_voice_in, voice_fixes, voice_image, voice_length,
@@ -18,7 +19,8 @@ fn the_example_of_the_head(rt: HostRuntime) {
     assert!(rt; read == unit && outcome == ReadOutcome::Read { wrong: 0 });
 }
 
-// Bits that are inverted: the first place, a step, how many places lie such steps apart, and how many bits from each of them on.
+// Inverted bits: the first position, a step, the number of positions that are such steps apart, and the number of bits
+// from each of them on.
 type Damage = (usize, usize, u32, usize);
 
 fn invert(bits: &mut BitBuf, at: usize, count: usize) {
@@ -39,7 +41,8 @@ fn spoil(bits: &mut BitBuf, all: &[Damage]) {
     }
 }
 
-// Whether a unit is read as another after damage with so many fixes, or where there are fields, exactly these fail.
+// Whether a data unit decodes to another after damage with a number of fixes, or, if fields are given, exactly these
+// fail.
 fn is_read_as(
     unit: &VoiceUnit,
     all: &[Damage],
@@ -71,7 +74,7 @@ fn is_read_as(
     }
 }
 
-// Whether a unit is read in spite of the damage of each row, with so many fixes.
+// Whether a data unit is decoded in spite of the damage of each row, with its number of fixes.
 fn are_read(unit: &VoiceUnit, rows: &[(&[Damage], u32)]) -> bool {
     for (all, fixes) in rows {
         if !is_read_as(unit, all, unit, *fixes, &[]) {
@@ -81,7 +84,7 @@ fn are_read(unit: &VoiceUnit, rows: &[(&[Damage], u32)]) -> bool {
     true
 }
 
-// Whether a unit is refused after the damage of each row, with its fields.
+// Whether a data unit is refused after the damage of each row, with its fields.
 fn are_failing(unit: &VoiceUnit, rows: &[(&[Damage], &[Field])]) -> bool {
     for (all, fields) in rows {
         if !is_read_as(unit, all, unit, 0, fields) {
@@ -133,8 +136,8 @@ fn tdulc() -> VoiceUnit {
     }
 }
 
-// An HDU undamaged; its nulls; three bits of each word; eight words inverted and three bits of the others; sixteen words that are not
-// read; fourteen of them, and another word in one place.
+// An HDU undamaged; its nulls; three bits of each word; eight words inverted and three bits of the others; sixteen
+// uncorrectable words; fourteen of them, and another codeword in one position.
 const HDU_READ: [(&[Damage], u32); 6] = [
     (&[], 0),
     (&[(760, 0, 1, 10)], 0),
@@ -153,7 +156,7 @@ const HDU_READ: [(&[Damage], u32); 6] = [
     ),
 ];
 
-// Seventeen words of an HDU that are not read; sixteen, and another word.
+// Seventeen uncorrectable words of an HDU; sixteen, and another codeword.
 const HDU_FAILING: [(&[Damage], &[Field]); 2] = [
     (&[(112, 18, 17, 4)], &[Field::HeaderWord]),
     (
@@ -169,13 +172,13 @@ const HDU_FAILING: [(&[Damage], &[Field]); 2] = [
     ),
 ];
 
-// Three bits of the first low speed data (LSD) word that bring no word within 2 bits.
+// Three bits of the first low speed data (LSD) word such that no codeword is within 2 bits.
 const LOW_1: [Damage; 2] = [(1516, 0, 1, 1), (1518, 0, 1, 2)];
 
 // Three such bits of the second.
 const LOW_2: [Damage; 2] = [(1532, 0, 1, 1), (1534, 0, 1, 2)];
 
-// An LDU1 undamaged; one bit of each Hamming word; two bits of each low speed word; twelve words that are not read.
+// An LDU1 undamaged; one bit of each Hamming word; two bits of each low speed data word; twelve uncorrectable words.
 const LDU1_READ: [(&[Damage], u32); 4] = [
     (&[], 0),
     (
@@ -193,7 +196,7 @@ const LDU1_READ: [(&[Damage], u32); 4] = [
     (&LINK_WORDS, 120),
 ];
 
-// Twelve words of an LDU1 that are not read.
+// Twelve uncorrectable words of an LDU1.
 const LINK_WORDS: [Damage; 3] = [(400, 10, 4, 10), (584, 10, 4, 10), (768, 10, 4, 10)];
 
 // These, and one more.
@@ -204,7 +207,7 @@ const LINK_BEYOND: [Damage; 4] = [
     (952, 0, 1, 10),
 ];
 
-// Each field of an LDU1 beyond by itself, and all together.
+// Each field of an LDU1 uncorrectable by itself, and all together.
 const LDU1_FAILING: [(&[Damage], &[Field]); 4] = [
     (&LINK_BEYOND, &[Field::LinkControl]),
     (&LOW_1, &[Field::LowSpeed1]),
@@ -224,7 +227,7 @@ const LDU1_FAILING: [(&[Damage], &[Field]); 4] = [
     ),
 ];
 
-// Eight words of an LDU2 that are not read, with two bits of each low speed word.
+// Eight uncorrectable words of an LDU2, with two bits of each low speed data word.
 const LDU2_READ: [(&[Damage], u32); 2] = [
     (&[], 0),
     (
@@ -233,10 +236,10 @@ const LDU2_READ: [(&[Damage], u32); 2] = [
     ),
 ];
 
-// Nine words of an LDU2 that are not read.
+// Nine uncorrectable words of an LDU2.
 const SYNC_BEYOND: [Damage; 3] = [(1136, 10, 4, 10), (1320, 10, 4, 10), (430, 0, 1, 10)];
 
-// Each field of an LDU2 beyond by itself, and all together.
+// Each field of an LDU2 uncorrectable by itself, and all together.
 const LDU2_FAILING: [(&[Damage], &[Field]); 4] = [
     (&SYNC_BEYOND, &[Field::EncryptionSync]),
     (&LOW_1, &[Field::LowSpeed1]),
@@ -255,8 +258,8 @@ const LDU2_FAILING: [(&[Damage], &[Field]); 4] = [
     ),
 ];
 
-// A TDULC undamaged; three bits of each word, and the zeros after them; three words inverted to other ones; six words that are not
-// read.
+// A TDULC undamaged; three bits of each word, and the zeros after them; three words inverted to other ones; six
+// uncorrectable words.
 const TDULC_READ: [(&[Damage], u32); 4] = [
     (&[], 0),
     (&[(112, 24, 12, 3), (400, 0, 1, 20)], 36),
@@ -264,7 +267,7 @@ const TDULC_READ: [(&[Damage], u32); 4] = [
     (&[(116, 24, 6, 4)], 24),
 ];
 
-// Seven words of a TDULC that are not read.
+// Seven uncorrectable words of a TDULC.
 const TDULC_FAILING: [(&[Damage], &[Field]); 1] = [(&[(116, 24, 7, 4)], &[Field::LinkControl])];
 
 #[test]

@@ -1,4 +1,4 @@
-//! The kinds of voice units: HDU, LDU1, LDU2, TDU and TDULC.
+//! The types of voice data units: HDU, LDU1, LDU2, TDU and TDULC.
 
 ghost use Rattle.std.specs.Prelude.{◌≡◌, ◌≤◌, Some};
 ghost use Rattle.p25_voice_units.specs.Lengths.{voice_duid, voice_length_of};
@@ -7,7 +7,7 @@ use crate::voice::Voice;
 use p25_bch_nid::{HDU, LDU1, LDU2, TDU, TDULC};
 use p25_link::{EncryptionSync, HeaderWord, LinkControl};
 
-// How many bits a unit of each kind has without status symbols: an HDU, an LDU1 or an LDU2, a TDU, and a TDULC.
+// The number of bits without status symbols of each type: an HDU, an LDU1 or an LDU2, a TDU, and a TDULC.
 const HDU_LENGTH: usize = 770;
 
 const LDU_LENGTH: usize = 1680;
@@ -16,7 +16,8 @@ const TDU_LENGTH: usize = 140;
 
 const TDULC_LENGTH: usize = 420;
 
-/// A voice unit, of one of the kinds HDU, LDU1, LDU2, TDU and TDULC, without its network access code (NAC) and status symbols.
+/// A voice data unit, of one of the types HDU, LDU1, LDU2, TDU and TDULC, without its network access code (NAC) and
+/// status symbols.
 #[derive(Clone, Debug, Drop, PartialEq, Eq)]
 pub enum VoiceUnit {
     /// HDU: a header, with which a call begins (TIA-102.BAAA, Header Data Unit).
@@ -39,7 +40,7 @@ pub enum VoiceUnit {
         /// The voice frames.
         voice: Voice,
     },
-    /// TDU: a terminator (TIA-102.BAAA, Simple Terminator Data Unit): nulls alone stand after its identifier.
+    /// TDU: a terminator (TIA-102.BAAA, Simple Terminator Data Unit): only nulls follow its NID.
     End,
     /// TDULC: a terminator with link control (TIA-102.BAAA, Expanded Terminator Data Unit).
     EndLink {
@@ -49,7 +50,7 @@ pub enum VoiceUnit {
 }
 
 impl VoiceUnit {
-    /// Answers the data unit identifier (DUID) of the unit's kind: that of HDU, LDU1, LDU2, TDU or TDULC.
+    /// Returns the data unit identifier (DUID) of the data unit's type: that of HDU, LDU1, LDU2, TDU or TDULC.
     pub fn duid(&self) -> u8
         ensures value { result ≡ voice_duid self.now }
         ensures fits { result ≤ 15 }
@@ -63,7 +64,7 @@ impl VoiceUnit {
         }
     }
 
-    /// Answers how many bits the unit has without status symbols.
+    /// Returns the number of bits of the data unit without status symbols.
     #[tactic(auto, unfolding(crate::specs::Lengths::voice_length_of))]
     pub fn length(&self) -> usize
         ensures value { voice_length_of (voice_duid self.now) ≡ Some result }
@@ -78,9 +79,9 @@ impl VoiceUnit {
     }
 }
 
-/// Answers how many bits a voice unit with a data unit identifier (DUID) has without status symbols: 770 for an HDU (0), 1,680
-/// for an LDU1 (5) or an LDU2 (A hex), 140 for a TDU (3), and 420 for a TDULC (F hex). `None` comes exactly where the
-/// identifier is that of no voice unit.
+/// Returns the number of bits without status symbols of the voice data unit of a data unit identifier (DUID): 770 for
+/// an HDU (0), 1,680 for an LDU1 (5) or an LDU2 (A hex), 140 for a TDU (3), and 420 for a TDULC (F hex). `None` is
+/// returned if and only if the DUID is that of no voice data unit.
 #[tactic(auto, unfolding(crate::specs::Lengths::voice_length_of))]
 pub fn voice_length(duid: u8) -> Option<usize>
     ensures { result ≡ voice_length_of duid }

@@ -4,12 +4,12 @@ ghost use Rattle.std.specs.Prelude.{◌≡◌, ◌<◌, length, slice_get, Some}
 
 use std::marker::Model;
 
-/// The 144 bits of a voice frame as eighteen octets, each octet's most significant bit first. They are carried as received
-/// and not decoded. TIA-102.BAAA, Voice Code Words.
+/// The 144 bits of a voice frame as eighteen octets, each octet's most significant bit first. They are carried as
+/// received and not decoded. TIA-102.BAAA, Voice Code Words.
 #[derive(Clone, Copy, Debug, PartialEq, Eq)]
 pub struct VoiceFrame(pub [u8; 18]);
 
-/// The nine voice frames of a logical link data unit, LDU1 or LDU2, in the order of sending.
+/// The nine voice frames of a logical link data unit, LDU1 or LDU2, in the order of transmission.
 #[derive(Clone, Copy, Debug, PartialEq, Eq)]
 pub struct Voice {
     frames: [VoiceFrame; 9],
@@ -29,7 +29,7 @@ impl Model for Voice {
 }
 
 impl Voice {
-    /// Answers the list of nine frames.
+    /// Returns the list of nine frames.
     pub fn new(frames: [VoiceFrame; 9]) -> Voice
         ensures list { result ≡ frames }
         ensures len { length result ≡ 9 }
@@ -37,7 +37,7 @@ impl Voice {
         Voice { frames }
     }
 
-    /// Answers frame `i`, counted from 0.
+    /// Returns frame `i`, counted from 0.
     pub fn get(&self, i: usize) -> VoiceFrame
         requires { i < 9 }
         ensures { slice_get self.now i ≡ Some result }
@@ -45,7 +45,7 @@ impl Voice {
         self.frames[i]
     }
 
-    /// Answers all nine frames, in order.
+    /// Returns all nine frames, in order.
     pub fn frames(&self) -> &[VoiceFrame; 9]
         ensures value { result.now ≡ self.now }
         ensures len { length self.now ≡ 9 }
