@@ -1,4 +1,4 @@
--- Blocks against what they read as: the block of the octets that were read differs from the received bits as the nearest path does.
+-- Blocks and their decodings: the block of the decoded octets differs from the received bits as the nearest path does.
 use Rattle.std.proofs.Common.{◌≡◌, ℕ, zero, suc, ◌+◌, ◌*◌, ◌<◌, ◌≤◌, inl, inr, Bool, eqb, List, ◌++◌, length, refl, ap, sym, ◌∙◌, arith, add-one, append_assoc, length-append}
 use Rattle.std.proofs.lemmas.Bool.{cond-true, eq-eqb}
 use Rattle.std.specs.Bool.{beq}

@@ -1,4 +1,4 @@
--- Flags as octets and back: each case of the definitions by its length, and that reading undoes making.
+-- Flags as octets and back: each case of the definitions by its length, and that decoding inverts encoding.
 use Rattle.std.proofs.Common.{◌≡◌, ◌≢◌, ℕ, ◌+◌, ◌*◌, ◌⊎◌, inl, inr, Bool, List, [], ◌∷◌, ◌++◌, length, take, Some, None, eqb, refl, ap, sym, ◌∙◌, arith, length-append, append-nil}
 use Rattle.std.proofs.{lemmas.Bool.{ne_eqb, cond-false}, lemmas.List.{take_at, take_all}}
 use Rattle.p25_bits.specs.{Bits.{octet_bits}, Numbers.{octets_from}}

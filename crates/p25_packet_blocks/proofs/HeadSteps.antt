@@ -1,4 +1,4 @@
--- What the makers of headers need: a flag in front of seven bits, and an LLID as three octets. By remainders.
+-- The needs of the calls that make headers: a flag before seven bits, and an LLID as three octets. By remainders.
 use Rattle.std.proofs.Common.{◌≡◌, ℕ, ◌+◌, ◌*◌, ◌/◌, ◌<◌, Bool, true, false, cond, eqb, arith}
 use Rattle.p25_bits.specs.Numbers.{triple_at}
 use Rattle.p25_packet_blocks.specs.Heads.{llid_octets}

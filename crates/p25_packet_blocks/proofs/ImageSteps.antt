@@ -1,4 +1,4 @@
--- The steps of the writers: the octets of a number as they are put, and one more block of a loop.
+-- The steps of the encoders: the octets of a number as they are appended, and one more block of a loop.
 use Rattle.std.proofs.Common.{◌≡◌, ℕ, ◌+◌, ◌/◌, ◌%◌, ◌^◌, ◌<◌, Bool, List, [], ◌∷◌, ◌++◌, get_or, slice_get, Some, subst, arith, inl, inr, append_assoc, append-nil}
 use Rattle.std.proofs.{Math.Nat.{mod-eq_of_lt}, lemmas.Bool.{cases_lt}, lemmas.Option.{get_or_from_slice_get}}
 use Rattle.p25_bits.specs.Numbers.{joined_below}

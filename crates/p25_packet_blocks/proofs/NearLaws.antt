@@ -1,4 +1,4 @@
--- Blocks of both rates with few wrong bits read as sent: the laws of all rates at the two tables.
+-- Blocks of both rates with few bit errors decode to the transmitted octets: the laws of all rates at the two tables.
 use Rattle.std.proofs.Common.{refl, arith}
 use Rattle.p25_trellis.specs.{Nearest.{nearest_octets, nearest_distance, half_block, three_quarter_block}, Tables.{half_point, three_quarter_point}}
 use Rattle.p25_trellis.specs.TableLaws.{half_parted, half_is_rate, three_quarter_parted, three_quarter_is_rate}

@@ -1,5 +1,5 @@
--- What the reading of a packet answers: the blocks that fail are those whose slots are Bad, and where none fails the number of wrong bits
--- is that of the packet's fixes. By cases of the packet and of the format.
+-- The outcome of decoding a packet: the blocks that fail are those whose slots are `Bad`, and if none fails the number of bit errors is that of the
+-- packet's fixes. By cases of the packet and of the format.
 use Rattle.std.proofs.Common.{◌≡◌, ◌≢◌, ℕ, zero, suc, ◌+◌, ◌*◌, ◌<◌, ◌≤◌, inl, inr, Bool, List, [], ◌∷◌, ◌++◌, length, get_or, Result, Ok, Err, refl, ap, sym, ◌∙◌, arith, add-one}
 use Rattle.std.proofs.lemmas.Bool.{cases_eq}
 use Rattle.std.specs.Prelude.{IfOk}

@@ -1,5 +1,5 @@
--- The fixes of a packet that was read and is whole are the distances of its blocks' nearest paths: each block is sent as the octets that the
--- nearest path to the received one carries. By its kind.
+-- The fixes of a decoded packet without a failing block are the distances of its blocks' nearest paths: each block is transmitted as the octets that
+-- the nearest path to the received one carries. By its type.
 use Rattle.std.proofs.Common.{◌≡◌, ℕ, ◌+◌, ◌*◌, ◌<◌, ◌≤◌, Bool, List, length, Ok, ap, sym, subst, ◌∙◌}
 use Rattle.p25_bits.specs.Distance.{distance_of}
 use Rattle.p25_unit_front.specs.Front.{unit_front}

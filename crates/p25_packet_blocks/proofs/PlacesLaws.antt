@@ -1,5 +1,5 @@
--- The image by its places: the list has what the standard says at each place, and nothing else has. Each place of the list
--- is found by the lengths of what stands before it; a list is put together again from its parts that touch.
+-- The image by its positions: the list has the standard's part at each position, and no other list has. Each position of the list is found by the
+-- lengths of the parts before it; a list is joined again from its parts that touch.
 use Rattle.std.proofs.Common.{◌≡◌, ℕ, ◌+◌, ◌-◌, ◌*◌, ◌<◌, ◌≤◌, Bool, false, List, ◌++◌, length, take, drop, get_or, replicate, slice_get, Some, refl, sym, subst, ◌∙◌, arith, length-append, length-drop, All, append_assoc, take-append-drop}
 use Rattle.std.proofs.{lemmas.List.{take_at, get_or-append_right, get_or-replicate, get_or-drop, same_lists, length-replicate}, lemmas.Option.{slice_get-get_or, get_or_from_slice_get}}
 use Rattle.p25_bits.specs.{Bits.{part}, Numbers.{joined_below}}

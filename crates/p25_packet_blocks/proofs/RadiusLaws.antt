@@ -1,5 +1,5 @@
--- Received bits within radius of a packet read as that packet: each block reads as the octets that were sent, their checks
--- agree, and so every step of the reading gives what the packet has.
+-- Received bits within the correction radius of a packet decode to that packet: each block decodes to the transmitted octets, their checks agree, and
+-- so every step of the decoding gives the value in the packet.
 use Rattle.std.proofs.Common.{◌≡◌, ℕ, ◌+◌, ◌-◌, ◌*◌, ◌/◌, ◌%◌, ◌<◌, ◌≤◌, inl, inr, Bool, List, ◌∷◌, length, take, drop, get_or, Ok, ap, sym, ◌∙◌, arith}
 use Rattle.std.proofs.{lemmas.Bool.{cases_eq, eq-eqb}, lemmas.List.{take_at, drop_at, take_all, take-take}}
 use Rattle.p25_bits.specs.{Bits.{part}, Distance.{distance_of}, Numbers.{octets_number, number_after}}

@@ -1,4 +1,4 @@
--- The readings by their cases: each arm of a definition with the facts that choose it, and the lengths of what is read.
+-- The decodings by their cases: each arm of a definition with the facts that choose it, and the lengths of the results.
 use Rattle.std.proofs.Common.{◌≡◌, ◌≢◌, ℕ, ◌+◌, ◌-◌, ◌*◌, ◌/◌, ◌%◌, ◌≤◌, inl, inr, Bool, true, false, ◌||◌, eqb, List, [], ◌∷◌, ◌++◌, length, take, drop, slice_index, Ok, Err, refl, sym, ◌∙◌}
 use Rattle.std.proofs.lemmas.Bool.{cond-true, cond-false, eq-eqb, ne_eqb}
 use Rattle.p25_bits.specs.Numbers.{octets_number}

@@ -1,4 +1,4 @@
--- The steps of the readers: numbers of the last octets by their places, and one more block of a loop.
+-- The steps of the decoders: numbers of the last octets by their positions, and one more block of a loop.
 use Rattle.std.proofs.{Common.{◌≡◌, ℕ, suc, ◌+◌, ◌-◌, ◌*◌, ◌≤◌, List, [], ◌∷◌, ◌++◌, length, take, drop, get_or, ap, ◌∙◌, arith, add-one}, Math.Seq.{drop-cons}, lemmas.List.{drop_all}}
 use Rattle.std.proofs.lemmas.Slice.{take-put_mid}
 use borrow.Rule.Slice.PartMut.{put_mid}

@@ -1,4 +1,4 @@
--- What packets that can be sent keep: their header, and the octets of each block to follow.
+-- The invariants of sendable packets: their header, and the octets of each block to follow.
 use Rattle.std.proofs.{Common.{◌≡◌, ℕ, ◌*◌, ◌<◌, length, drop, arith}, lemmas.List.Elements.{All-take, All-drop}}
 use Rattle.p25_bits.specs.Bits.{part}
 use Rattle.p25_bits.proofs.PartLaws.{length-part}

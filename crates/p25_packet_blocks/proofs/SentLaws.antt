@@ -1,5 +1,5 @@
--- A sent unit of a packet: its header block between status symbols, and that it reads as the packet within radius. The front
--- is read by the laws of fronts, the rest without status symbols.
+-- A transmitted data unit of a packet: its header block between status symbols, and that it decodes to the packet within the correction radius. Sync
+-- and NID are decoded by their laws, the rest without status symbols.
 use Rattle.std.proofs.{Common.{◌≡◌, ℕ, ◌*◌, ◌≤◌, Bool, List, ◌++◌, length, take, Ok, refl, ap, sym, subst, ◌∙◌, arith}, lemmas.List.{take_all}}
 use Rattle.p25_bits.specs.{Distance.{distance_of}}
 use Rattle.p25_bits.proofs.{PartLaws.{part_add}, DistanceLaws.{distance_of-same}}

@@ -1,4 +1,4 @@
--- The packet answer of a sent unit by its cases: each arm with the facts that choose it.
+-- The packet of a transmitted data unit by its cases: each arm with the facts that choose it.
 use Rattle.std.proofs.Common.{◌≡◌, ◌≢◌, ℕ, ◌<◌, ◌≤◌, Bool, true, false, eqb, leb, List, ◌++◌, length, take, Ok, Err, Some, None, refl, sym, ◌∙◌, arith}
 use Rattle.std.proofs.{lemmas.Bool.{cond-true, cond-false, eq-eqb, ne_eqb, le-leb, false_from_ne_true, leb-true}, lemmas.List.{take-append-le}}
 use Rattle.p25_bits.specs.Bits.{part}

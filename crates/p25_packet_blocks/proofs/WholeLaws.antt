@@ -1,5 +1,5 @@
--- A packet that was read and in which no slot is Bad can be sent, and is what the first nearest paths carry. By cases of what
--- was read: where the checks agree, the octets that were read are those that are written.
+-- A decoded packet in which no slot is `Bad` is sendable, and the first nearest paths carry it. By cases of the decoding: if the checks agree, the
+-- decoded octets are the encoded ones.
 use Rattle.std.proofs.Common.{◌≡◌, ◌≢◌, ℕ, ◌+◌, ◌-◌, ◌*◌, ◌/◌, ◌%◌, ◌<◌, ◌^◌, inl, inr, Bool, true, false, ◌||◌, eqb, List, [], ◌∷◌, ◌++◌, length, take, drop, get_or, Result, Ok, Err, refl, ap, ap₂, sym, subst, ◌∙◌, arith, length-drop, take-append-drop}
 use Rattle.std.proofs.{lemmas.Bool.{cases_Bool, cases_eq, eqb-true, ne_eqb}, lemmas.List.{length-take-le}, lemmas.List.Elements.{All-head, All-tail, All-take, All-drop}}
 use Rattle.p25_bits.specs.{Bits.{part}, Numbers.{octets_number, number_after}}

@@ -1,4 +1,4 @@
--- What contracts see of a confirmed packet (PDU): its parts alone.
+-- The parts of a confirmed packet (PDU), which are all that contracts see of it.
 use Rattle.std.specs.Prelude.{List}
 use Rattle.p25_packet_blocks.specs.{declared.head.PacketHead.{PacketHead}, declared.block.Slot.{Slot}}
 

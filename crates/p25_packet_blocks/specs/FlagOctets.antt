@@ -2,8 +2,7 @@
 use Rattle.std.specs.Prelude.{ℕ, ◌/◌, Bool, ◌==◌, List, [], ◌∷◌, ◌++◌, length, take, Option, Some, None, if◌then◌else◌}
 use Rattle.p25_bits.specs.{Bits.{octet_bits}, Numbers.{octets_from}}
 
--- the octets of 64 or of 128 flags: the first flag is the most significant bit of the first octet, and after 128 flags
--- stand four octets of 0
+-- the octets of 64 or of 128 flags: the first flag is the most significant bit of the first octet, and four octets of 0 follow 128 flags
 unfoldable pub flag_octets : List Bool → List ℕ
 flag_octets flags = octets_from (length flags / 8) flags ++ (if length flags == 128 then 0 ∷ 0 ∷ 0 ∷ 0 ∷ [] else [])
 

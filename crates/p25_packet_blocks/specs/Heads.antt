@@ -3,7 +3,7 @@ use Rattle.std.specs.Prelude.{ℕ, ◌+◌, ◌*◌, ◌/◌, ◌%◌, Bool, if�
 use Rattle.p25_bits.specs.Numbers.{triple_at}
 use Rattle.p25_packet_blocks.specs.declared.head.PacketHead.{PacketHead}
 
--- the formats: of a confirmed packet, of an unconfirmed one and of a response
+-- the formats: that of a confirmed packet, of an unconfirmed one and of a response
 abbrev pub confirmed_format : ℕ
 confirmed_format = 0x16
 
@@ -41,15 +41,15 @@ head_syn head = slice_index head.0 8 / 128 == 1
 unfoldable pub head_number : PacketHead → ℕ
 head_number head = slice_index head.0 8 / 16 % 8
 
--- of a response its class: the first two bits of octet 1
+-- the class of a response: the first two bits of octet 1
 unfoldable pub response_class : PacketHead → ℕ
 response_class head = slice_index head.0 1 / 64
 
--- of a response its type: the three bits of octet 1 after the class
+-- the type of a response: the three bits of octet 1 after the class
 unfoldable pub response_kind : PacketHead → ℕ
 response_kind head = slice_index head.0 1 / 8 % 8
 
--- of a response its status: the last three bits of octet 1
+-- the status of a response: the last three bits of octet 1
 unfoldable pub response_status : PacketHead → ℕ
 response_status head = slice_index head.0 1 % 8
 

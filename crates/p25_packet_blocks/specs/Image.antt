@@ -1,4 +1,4 @@
--- The image of a packet (PDU): the bits of its unit without status symbols, as one list.
+-- The image of a packet (PDU): the bits of its data unit without status symbols, as one list.
 use Rattle.std.specs.Prelude.{ℕ, ◌+◌, ◌-◌, ◌*◌, ◌/◌, ◌%◌, ◌^◌, Bool, false, List, [], ◌∷◌, ◌++◌, replicate, slice_index_or}
 use Rattle.p25_bits.specs.{Bits.{part}, Numbers.{joined_below}}
 use Rattle.p25_bch_nid.specs.Duids.{duid_pdu}
@@ -26,7 +26,7 @@ header_octets head = head.0 ++ two_octets (crc16_of head.0)
 unfoldable pub confirmed_octets : Block → List ℕ
 confirmed_octets block = two_octets (512 * block.serial + crc9_of block.serial block.octets) ++ block.octets
 
--- the bits of a slot; a slot that is Bad has none
+-- the bits of a slot; a `Bad` slot has none
 unfoldable pub slot_bits : Slot → List Bool
 slot_bits (Good block) = three_quarter_block (confirmed_octets block)
 slot_bits Bad = []
@@ -35,16 +35,16 @@ slot_bits Bad = []
 unfoldable pub checked_octets : List ℕ → List ℕ
 checked_octets octets = octets ++ four_octets (crc32_of octets)
 
--- the bits of the block at place j after the header block
+-- the bits of the block at position j after the header block
 unfoldable pub body_block : Packet → ℕ → List Bool
 body_block (Confirmed packet) j = slot_bits (slice_index_or packet.slots j Bad)
 body_block (Plain packet) j = half_block (part (12 * j) 12 (checked_octets packet.octets))
 
--- nulls up to the length of a unit with n blocks to follow
+-- nulls up to the length of a data unit with n blocks to follow
 unfoldable pub packet_nulls : ℕ → List Bool
 packet_nulls n = replicate (packet_bare_length n - packet_bits n) false
 
--- the image of a packet (PDU): the front of a unit of DUID C, the header block, the blocks to follow in order, and nulls
+-- the image of a packet (PDU): sync and NID of a data unit of DUID C, the header block, the blocks to follow in order, and nulls
 unfoldable pub packet_image_of : ℕ → Packet → List Bool
 packet_image_of nac packet =
     let n = head_blocks (packet_head packet) in

@@ -1,4 +1,4 @@
--- What contracts see of a block, and of a packet (PDU) that is not confirmed: their parts alone.
+-- The parts of a block, and those of an unconfirmed packet (PDU), which are all that contracts see of them.
 use Rattle.std.specs.Prelude.{ℕ, List}
 use Rattle.p25_packet_blocks.specs.declared.head.PacketHead.{PacketHead}
 
@@ -7,7 +7,7 @@ pub record BlockParts : Type 0 where
   pub serial : ℕ
   pub octets : List ℕ
 
--- the header of a packet that is not confirmed, and its octets before the packet CRC
+-- the header of an unconfirmed packet, and its octets before the packet CRC
 pub record PlainParts : Type 0 where
   pub head : PacketHead
   pub octets : List ℕ

@@ -1,4 +1,4 @@
--- The image of a packet (PDU) by its places, as the standard says it.
+-- The image of a packet (PDU) by its positions, as in the standard.
 use Rattle.std.specs.Prelude.{◌≡◌, ℕ, ◌*◌, ◌<◌, ◌≤◌, Bool, false, List, length, take, slice_get, slice_index_or, Some}
 use Rattle.p25_bits.specs.Bits.{part}
 use Rattle.p25_bch_nid.specs.Duids.{duid_pdu}
@@ -9,15 +9,15 @@ use Rattle.p25_packet_blocks.specs.{declared.packet.Packet.TheVariants.{Confirme
 use Rattle.p25_packet_blocks.specs.{Lengths.{packet_bits, packet_bare_length}, Reading.{header_bits, block_bits}}
 use Rattle.p25_packet_blocks.specs.Image.{header_octets, confirmed_octets, checked_octets}
 
--- bits are those of the block at place j: at three-quarter rate the serial number, the CRC-9 and the octets of the slot's
--- block; at half rate the twelve octets from place 12·j of all octets and their packet CRC
+-- bits are those of the block at position j: at three-quarter rate the serial number, the CRC-9 and the octets of the slot's
+-- block; at half rate the twelve octets from position 12·j of all octets and their packet CRC
 unfoldable pub IsBodyBlock : Packet → ℕ → List Bool → Type 0
 IsBodyBlock (Confirmed packet) j bits =
     (block : Block) × (slice_index_or packet.slots j Bad ≡ Good block) × IsBlock 8 3 three_quarter_point (confirmed_octets block) bits
 IsBodyBlock (Plain packet) j bits = IsBlock 4 2 half_point (part (12 * j) 12 (checked_octets packet.octets)) bits
 
--- bits are the image of a packet (PDU): bits 0 to 111 the front of DUID C, the 196 bits from 112 the header block at half rate,
--- the 196 bits from 308 + 196·j block j, and every other bit 0
+-- bits are the image of a packet (PDU): bits 0 to 111 are sync and NID of DUID C, the 196 bits from 112 the header block at half rate, the 196 bits
+-- from 308 + 196·j block j, and every other bit is 0
 pub record IsPacketImage (nac : ℕ) (packet : Packet) (bits : List Bool) : Type 0 where
   pub long : length bits ≡ packet_bare_length (head_blocks (packet_head packet))
   pub front : IsFront nac duid_pdu (take 112 bits)

@@ -1,5 +1,5 @@
--- The packet answer of a unit (PDU) as it is sent, with its status symbols: the tests Sync, Nid, Duid, PacketHeader and Length, in
--- this order, and then the packet answer.
+-- The packet of a transmitted data unit (PDU), with its status symbols: the tests Sync, Nid, Duid, PacketHeader and Length, in this order, and then
+-- the packet.
 use Rattle.std.specs.Prelude.{ℕ, Bool, List, ◌==◌, nat_le, length, take, ◌++◌, Result, Ok, Err, Option, Some, None, if◌then◌else◌}
 use Rattle.p25_bits.specs.Bits.{part}
 use Rattle.p25_bch_nid.specs.Duids.{duid_pdu}
@@ -9,19 +9,19 @@ use Rattle.p25_trellis.specs.Nearest.{half_octets}
 use Rattle.p25_packet_blocks.specs.{declared.head.PacketHead.{PacketHead}, declared.head.ReadHead.{ReadHead}, declared.packet.Packet.{Packet}}
 use Rattle.p25_packet_blocks.specs.{Heads.{head_blocks}, Lengths.{packet_sent_length}, Reading.{head_from, read_head_of, packet_of_head}}
 
--- the bits of the header block of a unit as it is sent: those without status symbols from place 112 on
+-- the bits of the header block of a transmitted data unit: those without status symbols from position 112 on
 unfoldable pub sent_header_bits : List Bool → List Bool
 sent_header_bits sent = part 114 28 sent ++ part 144 70 sent ++ part 216 70 sent ++ part 288 28 sent
 
--- the header of a unit as it is sent
+-- the header of a transmitted data unit
 unfoldable pub sent_head_of : List Bool → Result PacketHead Field
 sent_head_of sent = head_from (half_octets (sent_header_bits sent))
 
--- the header of a unit as it is sent, and how many bits of its block were wrong
+-- the header of a transmitted data unit, and the number of bit errors of its block
 unfoldable pub sent_read_of : List Bool → Result ReadHead Field
 sent_read_of sent = read_head_of (sent_header_bits sent)
 
--- the packet of a unit as it is sent, from its header on
+-- the packet of a transmitted data unit, from its header on
 unfoldable pub sent_from : Result PacketHead Field → List Bool → Result Packet Field
 sent_from (Err field) sent = Err field
 sent_from (Ok head) sent =
@@ -41,6 +41,6 @@ unfoldable pub identified_packet_of : Option (ℕ × ℕ) → List Bool → Resu
 identified_packet_of None sent = Err Nid
 identified_packet_of (Some nid) sent = if nid.1 == duid_pdu then with_nac nid.0 (sent_packet_of sent) else Err Duid
 
--- the packet answer of a unit (PDU) as it is sent
+-- the packet of a transmitted data unit (PDU)
 unfoldable pub packet_unit_of : List Bool → Result (ℕ × Packet) Field
 packet_unit_of sent = if has_sync sent then identified_packet_of (identifier_of sent) sent else Err Sync

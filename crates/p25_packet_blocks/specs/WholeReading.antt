@@ -1,4 +1,4 @@
--- What a packet (PDU) that was read says of what was received: its checks agree, and it is what the first nearest paths carry.
+-- The relation of a decoded packet (PDU) to the received bits: its checks agree, and the first nearest paths carry it.
 use Rattle.std.specs.Prelude.{◌≡◌, ℕ, ◌*◌, ◌<◌, Bool, List, slice_index_or}
 use Rattle.p25_bits.specs.Bits.{part}
 use Rattle.p25_trellis.specs.Nearest.{half_octets, three_quarter_octets}
@@ -6,7 +6,7 @@ use Rattle.p25_packet_blocks.specs.{declared.block.Block.{Block}, declared.block
 use Rattle.p25_packet_blocks.specs.{declared.packet.Packet.TheVariants.{Confirmed, Plain}, Heads.{head_blocks}, Whole.{packet_head}}
 use Rattle.p25_packet_blocks.specs.{Reading.{header_bits, block_bits}, Image.{header_octets, confirmed_octets, checked_octets}}
 
--- the first nearest path to received bits carries the block at place j: the serial number, the CRC-9 and the octets of the
+-- the first nearest path to received bits carries the block at position j: the serial number, the CRC-9 and the octets of the
 -- slot's block, or the twelve octets from 12·j of all octets and their packet CRC
 unfoldable pub IsBlockRead : Packet → ℕ → List Bool → Type 0
 IsBlockRead (Confirmed packet) j bits =

@@ -27,7 +27,7 @@ impl Model for Block {
 }
 
 impl Block {
-    /// Answers the block of a serial number, at most 127, and sixteen octets.
+    /// Returns the block of a serial number, at most 127, and sixteen octets.
     pub fn new(serial: u8, octets: [u8; 16]) -> Block
         requires { serial < 128 }
         ensures { result ≡ record { serial = serial; octets = octets } }
@@ -35,7 +35,7 @@ impl Block {
         Block { serial, octets }
     }
 
-    /// Answers the serial number.
+    /// Returns the serial number.
     pub fn serial(&self) -> u8
         ensures value { result ≡ self.now.serial }
         ensures below { result < 128 }
@@ -43,7 +43,7 @@ impl Block {
         self.serial
     }
 
-    /// Answers the sixteen octets.
+    /// Returns the sixteen octets.
     pub fn octets(&self) -> &[u8; 16]
         ensures value { result.now ≡ self.now.octets }
         ensures len { length self.now.octets ≡ 16 }
@@ -52,8 +52,8 @@ impl Block {
     }
 }
 
-/// What stands for a block of a confirmed packet (PDU) that was received: the block, or that its CRC-9 does not agree. The default,
-/// which fills the unused entries of a list, means nothing. TIA-102.BAAA, Packet Data, Confirmed Data Block.
+/// A received block of a confirmed packet (PDU): the block, or the fact that its CRC-9 does not agree. The default,
+/// which fills the unused entries of a list, has no meaning. TIA-102.BAAA, Packet Data, Confirmed Data Block.
 #[derive(Clone, Copy, Debug, PartialEq, Eq, Default)]
 pub enum Slot {
     /// The block.
@@ -63,6 +63,6 @@ pub enum Slot {
     Bad,
 }
 
-/// A list of at most 127 slots, one for each block to follow of a confirmed packet (PDU), in the order of sending. TIA-102.BAAA, Packet
-/// Data.
+/// A list of at most 127 slots, one for each block to follow of a confirmed packet (PDU), in the order of transmission.
+/// TIA-102.BAAA, Packet Data.
 pub type Slots = BoundedList<Slot, 127>;

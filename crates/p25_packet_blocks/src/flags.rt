@@ -28,7 +28,7 @@ impl Model for Flags {
 }
 
 impl Flags {
-    /// Answers flags that are all false. Their number is 64 or 128.
+    /// Returns flags that are all false. It requires a count of 64 or 128.
     pub fn new(count: usize) -> Flags
         requires { (count ≡ 64) ⊎ (count ≡ 128) }
         ensures { result ≡ replicate count false }
@@ -39,7 +39,7 @@ impl Flags {
         }
     }
 
-    /// Answers the number of flags.
+    /// Returns the number of flags.
     pub fn len(&self) -> usize
         ensures value { result ≡ length self.now }
         ensures counts { (result ≡ 64) ⊎ (result ≡ 128) }
@@ -47,7 +47,7 @@ impl Flags {
         self.count
     }
 
-    /// Answers all flags, in order.
+    /// Returns all flags, in order.
     pub fn as_slice(&self) -> &[bool]
         ensures value { result.now ≡ self.now }
         ensures counts { (length self.now ≡ 64) ⊎ (length self.now ≡ 128) }
@@ -55,7 +55,7 @@ impl Flags {
         &self.flags[..self.count]
     }
 
-    /// Answers flag `i`, counted from 0 and below the number of them.
+    /// Returns flag `i`, counted from 0. It requires `i` below their number.
     pub fn get(&self, i: usize) -> bool
         requires { i < length self.now }
         ensures { slice_get self.now i ≡ Some result }
@@ -63,7 +63,7 @@ impl Flags {
         self.flags[i]
     }
 
-    /// Sets flag `i`, counted from 0 and below the number of them.
+    /// Writes flag `i`, counted from 0. It requires `i` below their number.
     pub fn set(&mut self, i: usize, flag: bool)
         requires { i < length self.old }
         ensures { self.new ≡ slice_set self.old i flag }
@@ -72,7 +72,7 @@ impl Flags {
     }
 }
 
-/// Flags are equal where they are as many, and one by one the same.
+/// Flags are equal if there are equally many and each is the same.
 impl PartialEq for Flags {
     ghost eq = { pointwise beq };
 
@@ -87,9 +87,9 @@ impl Eq for Flags {
     ghost laws = { lists_equiv bool_eq_equiv };
 }
 
-/// Answers the octets that a selective retry carries for flags, before its packet CRC: 8 octets of 64 flags, and 20 of
-/// 128 flags, of which the last four are 0. The first flag is the most significant bit of the first octet. TIA-102.BAAA, Packet
-/// Data.
+/// Encodes flags: returns the octets that a selective retry carries for them before its packet CRC. They are 8 octets
+/// for 64 flags, and 20 for 128 flags, with four octets of 0 at the end. The first flag is the most significant bit of
+/// the first octet. TIA-102.BAAA, Packet Data.
 pub fn flags_make(flags: &Flags) -> Octets
     ensures octets { result ≡ flag_octets flags.now }
     ensures read { flags_of_octets result ≡ Some flags.now }
@@ -106,7 +106,7 @@ pub fn flags_make(flags: &Flags) -> Octets
     octets
 }
 
-// The flags that octets write, eight an octet.
+// Returns the flags that octets write, eight an octet.
 fn flags_in(octets: &[u8]) -> Flags
     requires { (length octets.now ≡ 8) ⊎ (length octets.now ≡ 16) }
     ensures { result ≡ octet_bits octets.now }
@@ -120,8 +120,9 @@ fn flags_in(octets: &[u8]) -> Flags
     flags
 }
 
-/// Answers the flags of the octets that a selective retry carried before its packet CRC: 64 of 8 octets, or 128 of the
-/// first 16 of 20 octets. None comes exactly where there are neither 8 nor 20 octets. TIA-102.BAAA, Packet Data.
+/// Decodes the octets that a selective retry carried before its packet CRC: 64 flags from 8 octets, or 128 from the
+/// first 16 of 20 octets. `None` is returned if and only if there are neither 8 nor 20 octets. TIA-102.BAAA, Packet
+/// Data.
 pub fn flags_read(octets: &Octets) -> Option<Flags>
     ensures flags { result ≡ flags_of_octets octets.now }
     ensures there { IsSome result ↔ ((length octets.now ≡ 8) ⊎ (length octets.now ≡ 20)) }

@@ -14,23 +14,23 @@ pub const PLAIN_FORMAT: u8 = 0x15;
 /// The format of a response (PDU). TIA-102.BAAA, Packet Data, Header Block.
 pub const RESPONSE_FORMAT: u8 = 0x03;
 
-/// The ten octets of the header of a packet (PDU), without its CRC. All are kept as they are; only the fields that are read below
-/// mean something here. TIA-102.BAAA, Packet Data, Header Block.
+/// The ten octets of the header of a packet (PDU), without its CRC. All are kept unchanged; only the fields returned by
+/// the methods below have a meaning here. TIA-102.BAAA, Packet Data, Header Block.
 #[derive(Clone, Copy, Debug, PartialEq, Eq)]
 pub struct PacketHead(pub [u8; 10]);
 
-/// The header of a packet (PDU) as it was read.
+/// A decoded header of a packet (PDU) with its number of bit errors.
 #[derive(Clone, Copy, Debug, PartialEq, Eq)]
 pub struct ReadHead {
     /// The header.
     pub head: PacketHead,
-    /// In how many bits the header block was received otherwise than the nearest block is sent: so many were put right.
+    /// The number of bits in which the received header block differs from the nearest block: the corrected bit errors.
     pub wrong: u32,
 }
 
 impl PacketHead {
-    /// Answers the format, five bits: 16 hex of a confirmed packet, 15 hex of an unconfirmed one and 03 hex of a response.
-    /// TIA-102.BAAA, Packet Data, Header Block.
+    /// Returns the format, five bits: 16 hex for a confirmed packet, 15 hex for an unconfirmed one and 03 hex for a
+    /// response. TIA-102.BAAA, Packet Data, Header Block.
     #[tactic(auto, unfolding(crate::specs::Heads::head_format))]
     pub fn format(&self) -> u8
         ensures value { result ≡ head_format self.now }
@@ -39,7 +39,7 @@ impl PacketHead {
         self.0[0] % 32
     }
 
-    /// Answers the full message flag. TIA-102.BAAA, Packet Data, Header Block.
+    /// Returns the full message flag. TIA-102.BAAA, Packet Data, Header Block.
     #[tactic(auto, unfolding(crate::specs::Heads::head_is_full))]
     pub fn is_full(&self) -> bool
         ensures { result ≡ head_is_full self.now }
@@ -47,7 +47,7 @@ impl PacketHead {
         self.0[6] / 128 == 1
     }
 
-    /// Answers the number of blocks to follow, seven bits. TIA-102.BAAA, Packet Data, Header Block.
+    /// Returns the number of blocks to follow, seven bits. TIA-102.BAAA, Packet Data, Header Block.
     #[tactic(auto, unfolding(crate::specs::Heads::head_blocks))]
     pub fn blocks(&self) -> u8
         ensures value { result ≡ head_blocks self.now }
@@ -56,7 +56,7 @@ impl PacketHead {
         self.0[6] % 128
     }
 
-    /// Answers the number of pad octets, five bits. TIA-102.BAAA, Packet Data, Header Block.
+    /// Returns the number of pad octets, five bits. TIA-102.BAAA, Packet Data, Header Block.
     #[tactic(auto, unfolding(crate::specs::Heads::head_pad))]
     pub fn pad(&self) -> u8
         ensures value { result ≡ head_pad self.now }
@@ -65,7 +65,7 @@ impl PacketHead {
         self.0[7] % 32
     }
 
-    /// Answers the number N(S) of a confirmed packet, three bits. TIA-102.BAAA, Packet Data, Header Block.
+    /// Returns the number N(S) of a confirmed packet, three bits. TIA-102.BAAA, Packet Data, Header Block.
     #[tactic(auto, unfolding(crate::specs::Heads::head_number))]
     pub fn number(&self) -> u8
         ensures value { result ≡ head_number self.now }
@@ -74,7 +74,7 @@ impl PacketHead {
         self.0[8] / 16 % 8
     }
 
-    /// Answers Syn, the flag of a confirmed packet that opens a session. TIA-102.BAAA, Packet Data, Header Block.
+    /// Returns Syn, the flag of a confirmed packet that opens a session. TIA-102.BAAA, Packet Data, Header Block.
     #[tactic(auto, unfolding(crate::specs::Heads::head_syn))]
     pub fn syn(&self) -> bool
         ensures { result ≡ head_syn self.now }
@@ -82,7 +82,7 @@ impl PacketHead {
         self.0[8] / 128 == 1
     }
 
-    /// Answers the logical link identifier, LLID, 24 bits. TIA-102.BAAA, Packet Data, Header Block.
+    /// Returns the logical link identifier, LLID, 24 bits. TIA-102.BAAA, Packet Data, Header Block.
     #[tactic(auto, unfolding(crate::specs::Heads::head_llid))]
     pub fn llid(&self) -> u32
         ensures value { result ≡ head_llid self.now }
@@ -91,7 +91,7 @@ impl PacketHead {
         triple_at(&self.0, 3)
     }
 
-    /// Answers the class of a response, two bits. TIA-102.BAAA, Packet Data, Header Block.
+    /// Returns the class of a response, two bits. TIA-102.BAAA, Packet Data, Header Block.
     #[tactic(auto, unfolding(crate::specs::Heads::response_class))]
     pub fn class(&self) -> u8
         ensures value { result ≡ response_class self.now }
@@ -100,7 +100,7 @@ impl PacketHead {
         self.0[1] / 64
     }
 
-    /// Answers the type of a response, three bits. TIA-102.BAAA, Packet Data, Header Block.
+    /// Returns the type of a response, three bits. TIA-102.BAAA, Packet Data, Header Block.
     #[tactic(auto, unfolding(crate::specs::Heads::response_kind))]
     pub fn kind(&self) -> u8
         ensures value { result ≡ response_kind self.now }
@@ -109,7 +109,7 @@ impl PacketHead {
         self.0[1] / 8 % 8
     }
 
-    /// Answers the status of a response, three bits. TIA-102.BAAA, Packet Data, Header Block.
+    /// Returns the status of a response, three bits. TIA-102.BAAA, Packet Data, Header Block.
     #[tactic(auto, unfolding(crate::specs::Heads::response_status))]
     pub fn status(&self) -> u8
         ensures value { result ≡ response_status self.now }
@@ -120,7 +120,7 @@ impl PacketHead {
 }
 
 impl PacketHead {
-    /// Answers the header of a confirmed packet of data: format 16 hex, and Syn 0. TIA-102.BAAA, Packet Data, Header Block.
+    /// Returns the header of a confirmed packet of data: format 16 hex, and Syn 0. TIA-102.BAAA, Packet Data, Header Block.
     pub fn confirmed(llid: u32, full: bool, blocks: u8, pad: u8, number: u8) -> PacketHead
         requires llid { llid < 2 ^ 24 }
         requires blocks { blocks < 128 }
@@ -139,7 +139,7 @@ impl PacketHead {
         head_by_octets(0x56, 0xC0, llid, seventh, pad, 16 * number + 8)
     }
 
-    /// Answers the header of an unconfirmed packet of data: format 15 hex, with the full message flag. TIA-102.BAAA, Packet Data,
+    /// Returns the header of an unconfirmed packet of data: format 15 hex, with the full message flag. TIA-102.BAAA, Packet Data,
     /// Header Block.
     pub fn plain(llid: u32, blocks: u8, pad: u8) -> PacketHead
         requires llid { llid < 2 ^ 24 }
@@ -155,7 +155,7 @@ impl PacketHead {
         head_by_octets(0x35, 0xC0, llid, 128 + blocks, pad, 0)
     }
 
-    /// Answers the header of a response: format 03 hex, with the full message flag. TIA-102.BAAA, Packet Data, Header Block.
+    /// Returns the header of a response: format 03 hex, with the full message flag. TIA-102.BAAA, Packet Data, Header Block.
     pub fn response(llid: u32, class: u8, kind: u8, status: u8, blocks: u8) -> PacketHead
         requires llid { llid < 2 ^ 24 }
         requires class { class < 4 }
@@ -175,7 +175,7 @@ impl PacketHead {
         head_by_octets(0x23, second, llid, 128 + blocks, 0, 0)
     }
 
-    /// Answers the header of the packet that opens a session anew: a confirmed packet of no blocks with Syn 1. TIA-102.BAAA,
+    /// Returns the header of the packet that opens a session anew: a confirmed packet of no blocks with Syn 1. TIA-102.BAAA,
     /// Packet Data, Header Block.
     pub fn opening(llid: u32, number: u8) -> PacketHead
         requires llid { llid < 2 ^ 24 }
@@ -193,7 +193,7 @@ impl PacketHead {
     }
 }
 
-// The header of ten octets: two, a 0, the LLID, the highest first, three more, and a 0.
+// Returns the header of ten octets: two, a 0, the LLID, the highest first, three more, and a 0.
 fn head_by_octets(
     first: u8,
     second: u8,

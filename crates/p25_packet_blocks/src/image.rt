@@ -1,4 +1,4 @@
-//! Units of packets (PDU) written, without their status symbols.
+//! Encoding of packets (PDU) as data units without status symbols.
 
 ghost use Rattle.std.specs.Prelude.{◌≡◌, ◌+◌, ◌*◌, ◌<◌, ◌≤◌, ◌++◌, length};
 ghost use Rattle.p25_bits.specs.Numbers.{joined_below};
@@ -20,8 +20,9 @@ use p25_status::{BARE_BLOCK_LENGTH, BoundedList, SENT_BLOCK_LENGTH};
 use p25_trellis::{Half, ThreeQuarter, encode_block};
 use p25_unit_front::put_front;
 
-/// Answers the length of the unit of a packet (PDU) as it is sent, by the blocks to follow of its header: 112 bits, 196 for each
-/// block and the header block, filled to a multiple of 70, and two status bits for each 70. TIA-102.BAAA, Packet Data, Status Symbols.
+/// Returns the length of the transmitted data unit of a packet (PDU), by the blocks to follow of its header: 112 bits,
+/// 196 for each block and the header block, filled to a multiple of 70, and two status bits for each 70. TIA-102.BAAA,
+/// Packet Data, Status Symbols.
 pub fn packet_length(head: &PacketHead) -> usize
     ensures value { result ≡ packet_sent_length (head_blocks head.now) }
     ensures least { 360 ≤ result }
@@ -30,7 +31,7 @@ pub fn packet_length(head: &PacketHead) -> usize
     SENT_BLOCK_LENGTH * parts(head)
 }
 
-// How many times 70 bits the unit of a packet (PDU) fills.
+// Returns the number of groups of 70 bits that the data unit of a packet (PDU) fills.
 fn parts(head: &PacketHead) -> usize
     ensures parts { 70 * result ≡ packet_bare_length (head_blocks head.now) }
     ensures sent { 72 * result ≡ packet_sent_length (head_blocks head.now) }
@@ -75,7 +76,7 @@ fn put_confirmed(packet: &Confirmed, out: &mut BitBuf)
     }
 }
 
-// Appends the blocks to follow of a packet (PDU) that is not confirmed.
+// Appends the blocks to follow of an unconfirmed packet (PDU).
 fn put_plain(packet: &Plain, out: &mut BitBuf)
     requires { length out.old + 196 * head_blocks packet.now.head ≤ 25928 }
     ensures list { out.new ≡ out.old ++ joined_below (head_blocks packet.now.head) (body_block (plain_packet packet.now)) }
@@ -107,9 +108,9 @@ fn put_body(packet: &Packet, out: &mut BitBuf)
     }
 }
 
-/// Sets `out` to the unit of a packet (PDU) without status symbols, from its sync on: the front of DUID C with a network access
-/// code below 4,096, the header block, the blocks to follow in order, and nulls up to a multiple of 70 bits. No slot of the
-/// packet is Bad. TIA-102.BAAA, Packet Data.
+/// Encodes a packet (PDU): writes to `out` its data unit without status symbols, from its sync on. It consists of sync
+/// and NID with DUID C, the header block, the blocks to follow in order, and nulls up to a multiple of 70 bits. It
+/// requires a network access code below 4,096 and no slot that is `Bad`. TIA-102.BAAA, Packet Data.
 pub fn packet_image(nac: u16, packet: &Packet, out: &mut BitBuf)
     requires nac { nac < 4096 }
     requires whole { IsWholePacket packet.now }

@@ -1,5 +1,5 @@
-//! What the image of a packet (PDU) is by its places, and what received bits within radius of it read as. Each function states
-//! what is proved, and makes no call but of the theorems that it stands on.
+//! The image of a packet (PDU) by its positions, and the decoding of received bits within the correction radius of it.
+//! Each function states what is proved, and calls no function but the theorems that it needs.
 
 ghost use Rattle.std.specs.Prelude.{◌≡◌, ℕ, ◌↔◌, Bool, List, Ok};
 ghost use Rattle.p25_packet_blocks.specs.{declared.packet.Packet.{Packet as packet_type}, Image.{packet_image_of}, Sendable.{IsSendable}};
@@ -10,8 +10,8 @@ ghost use Rattle.p25_status.specs.declared.symbols.Status.{Status as status_type
 use crate::{BLOCK_LENGTH, BLOCKS_AT, CONFIRMED_FORMAT, HEADER_AT, PLAIN_FORMAT, RESPONSE_FORMAT};
 use p25_trellis::laws::{half_rate_near, three_quarter_rate_near};
 
-/// **Theorem.** Bits are the image of a packet that can be sent exactly where they stand as `IsPacketImage` says. So each such packet has
-/// exactly one image.
+/// **Theorem.** Bits are the image of a sendable packet if and only if they meet `IsPacketImage`. So each such packet
+/// has exactly one image.
 pub fn one_image()
     ensures { (nac : ℕ) (packet : packet_type) (bits : List Bool)
         → IsSendable packet → IsPacketImage nac packet bits ↔ (bits ≡ packet_image_of nac packet) }
@@ -19,11 +19,11 @@ pub fn one_image()
 
 /// **Theorem.** The laws of damaged packets (PDU).
 ///
-/// - `plain`: a unit without status symbols with at most two wrong bits in the header block and in each half-rate block, and
-///   at most one in each three-quarter-rate block, reads as the packet.
-/// - `sent`: a sent unit with no more wrong bits than those, four in the sync and eleven in the identifier reads as the
-///   network access code and the packet, whatever its status symbols are.
-/// - `undamaged`: a sent unit reads as its network access code and packet.
+/// - `plain`: a data unit without status symbols decodes to the packet if it has at most two bit errors in the header
+///   block and in each half-rate block, and at most one in each three-quarter-rate block.
+/// - `sent`: a transmitted data unit with no more bit errors than those, at most four in the sync and at most eleven in
+///   the NID decodes to the network access code and the packet, whatever its status symbols are.
+/// - `undamaged`: a transmitted data unit decodes to its network access code and packet.
 pub fn packet_radius()
     ensures plain { (nac : ℕ) (packet : packet_type) (received : List Bool)
         → IsSendable packet → AreBlocksWithin packet (packet_image_of nac packet) received
@@ -38,8 +38,8 @@ pub fn packet_radius()
     three_quarter_rate_near();
 }
 
-/// **Theorem.** The formats of packets (PDU) as numbers, and the places of the header block and of the blocks to follow: those of
-/// the definitions.
+/// **Theorem.** The formats of packets (PDU) as numbers, and the positions of the header block and of the blocks to
+/// follow: those of the definitions.
 pub fn numbers()
     ensures confirmed { CONFIRMED_FORMAT ≡ 0x16 }
     ensures plain { PLAIN_FORMAT ≡ 0x15 }

@@ -1,11 +1,13 @@
-//! Packets of data (PDU): their header, their blocks, what a unit reads as, and the unit of a packet (TIA-102.BAAA, Packet Data).
+//! Packets of data (PDU): their header, their blocks, the decoding of a data unit, and the data unit of a packet
+//! (TIA-102.BAAA, Packet Data).
 //!
-//! The first bit of a list is the first that is sent. Octets stand in the order in which they are sent, and of each octet the
-//! most significant bit comes first. A packet is a header of ten octets and what follows it: of a confirmed packet a slot for
-//! each block, in the order of sending, and of another packet all octets before the packet CRC. A unit without status symbols
-//! has its front in bits 0 to 111, the header block at half rate in the 196 bits from 112, block j in the 196 bits from
-//! 308 + 196 · j, at three-quarter rate where the packet is confirmed and at half rate else, and then nulls up to a multiple
-//! of 70.
+//! The first bit of a list is transmitted first. Octets are in the order of transmission, the most significant bit of
+//! each first. A packet is a header of ten octets and its body: for a confirmed packet a slot for each block, in the
+//! order of transmission, and for another packet all octets before the packet CRC.
+//!
+//! A data unit without status symbols has sync and NID in bits 0 to 111, the header block at half rate in the 196 bits
+//! from 112, and block j in the 196 bits from 308 + 196 · j. Its blocks are at three-quarter rate if the packet is
+//! confirmed and otherwise at half rate. Nulls follow up to a multiple of 70.
 //!
 //! ```
 //! let head = PacketHead::confirmed(1, true, 1, 0, 0);
@@ -16,9 +18,10 @@
 //! assert!(rt; is_whole(&packet) && packet_length(&head) == 576 && again == packet);
 //! ```
 //!
-//! Contracts see a list as a list, and a packet, a block and the two kinds of packets as records of their parts. What a unit
-//! reads as is a function, `packet_reading_of` or `packet_unit_of`, and so is its image, `packet_image_of`; `one_image` says
-//! where each part of the image stands, and `packet_radius` how many wrong bits do no harm.
+//! Contracts see a list as a list, and a packet, a block and the two types of packets as records of their parts. The
+//! decoding of a data unit is a function, `packet_reading_of` or `packet_unit_of`, and so is its image,
+//! `packet_image_of`. `one_image` states the position of each part of the image, and `packet_radius` how many bit
+//! errors are corrected.
 #![tactic(auto)]
 
 mod block;

@@ -1,4 +1,4 @@
-//! The packets (PDU) by their formats: confirmed, not confirmed and responses.
+//! The packets (PDU) by their formats: confirmed packets, unconfirmed packets and responses.
 
 ghost use Rattle.std.specs.Prelude.{◌≡◌, ℕ, ◌+◌, ◌-◌, ◌*◌, ◌≤◌, [], length, Ok, IfOk};
 ghost use Rattle.p25_packet_blocks.specs.{Fixes.{half_distance, packet_fixes_of}, Heads.{head_format, head_blocks, response_head}, Kinds.{IsPlainFormat}};
@@ -14,7 +14,7 @@ use p25_status::{BoundedList, Field, FieldList, ReadOutcome};
 use p25_trellis::{Half, read_block};
 use std::marker::Model;
 
-/// A list of at most 1,520 octets, as many as a packet (PDU) of 127 blocks that is not confirmed has before its CRC.
+/// A list of at most 1,520 octets, as many as an unconfirmed packet (PDU) of 127 blocks has before its CRC.
 pub type Octets = BoundedList<u8, 1520>;
 
 /// A confirmed packet (PDU): a header of format 16 hex, and a slot for each block to follow. TIA-102.BAAA, Packet Data.
@@ -39,7 +39,7 @@ impl Model for Confirmed {
 impl Confirmed {
     ghost use Rattle.p25_packet_blocks.specs.Kinds.{IsConfirmed};
 
-    /// Answers the confirmed packet of a header and its slots: the format is 16 hex, and there are as many slots as blocks
+    /// Returns the confirmed packet of a header and its slots. It requires format 16 hex, and as many slots as blocks
     /// to follow.
     pub fn new(head: PacketHead, slots: Slots) -> Confirmed
         requires { IsConfirmed (record { head = head; slots = slots }) }
@@ -48,7 +48,7 @@ impl Confirmed {
         Confirmed { head, slots }
     }
 
-    /// Answers the header.
+    /// Returns the header.
     pub fn head(&self) -> PacketHead
         ensures value { result ≡ self.now.head }
         ensures kind { IsConfirmed self.now }
@@ -56,7 +56,7 @@ impl Confirmed {
         self.head
     }
 
-    /// Answers the slots, in the order of sending.
+    /// Returns the slots, in the order of transmission.
     pub fn slots(&self) -> &Slots
         ensures value { result.now ≡ self.now.slots }
         ensures kind { IsConfirmed self.now }
@@ -65,8 +65,9 @@ impl Confirmed {
     }
 }
 
-/// A packet (PDU) that is not confirmed, or a response: a header of format 15 or 03 hex, and its octets before the packet CRC,
-/// twelve for each block to follow less those four, or none where there is no block to follow. TIA-102.BAAA, Packet Data.
+/// An unconfirmed packet (PDU) or a response: a header of format 15 or 03 hex, and its octets before the packet CRC.
+/// These are twelve for each block to follow less four, or none if there is no block to follow. TIA-102.BAAA, Packet
+/// Data.
 #[derive(Clone, Debug, Drop, PartialEq, Eq)]
 pub struct Plain {
     head: PacketHead,
@@ -88,8 +89,8 @@ impl Model for Plain {
 impl Plain {
     ghost use Rattle.p25_packet_blocks.specs.Kinds.{IsPlain};
 
-    /// Answers the packet of a header and its octets: the format is 15 or 03 hex, and there are twelve octets for each
-    /// block to follow less four, or none where there is no block to follow.
+    /// Returns the packet of a header and its octets. It requires format 15 or 03 hex, and twelve octets for each block
+    /// to follow less four, or none if there is no block to follow.
     pub fn new(head: PacketHead, octets: Octets) -> Plain
         requires { IsPlain (record { head = head; octets = octets }) }
         ensures { result ≡ record { head = head; octets = octets } }
@@ -97,7 +98,7 @@ impl Plain {
         Plain { head, octets }
     }
 
-    /// Answers the header.
+    /// Returns the header.
     pub fn head(&self) -> PacketHead
         ensures value { result ≡ self.now.head }
         ensures kind { IsPlain self.now }
@@ -105,7 +106,7 @@ impl Plain {
         self.head
     }
 
-    /// Answers the octets before the packet CRC, in order.
+    /// Returns the octets before the packet CRC, in order.
     pub fn octets(&self) -> &Octets
         ensures value { result.now ≡ self.now.octets }
         ensures kind { IsPlain self.now }
@@ -114,27 +115,28 @@ impl Plain {
     }
 }
 
-/// A packet (PDU), by the way in which it is sent. TIA-102.BAAA, Packet Data.
+/// A packet (PDU), confirmed or not. TIA-102.BAAA, Packet Data.
 #[derive(Clone, Debug, Drop, PartialEq, Eq)]
 pub enum Packet {
     /// A packet whose blocks are confirmed one by one.
     Confirmed(Confirmed),
-    /// A packet that is not confirmed, or a response.
+    /// An unconfirmed packet or a response.
     Plain(Plain),
 }
 
 impl Packet {
-    /// Answers a response of no blocks: room for a packet that is to be read.
+    /// Returns a response of no blocks, as a buffer into which a packet is decoded.
     pub fn empty() -> Packet
         ensures { result ≡ plain_by_parts (response_head 0 0 0 0 0) [] }
     {
         Packet::Plain(Plain::new(PacketHead::response(0, 0, 0, 0, 0), Octets::new()))
     }
 
-    /// Sets the packet (PDU) to that of a unit without status symbols whose header was read, and answers which fields of it fail, or
-    /// how many bits of its header block and its other blocks were put right. Format and PacketCrc come as in `read_packet`, alone;
-    /// else a block fails exactly where its slot is Bad, and the packet is set still. A packet is large: set in place it is not
-    /// moved. TIA-102.BAAA, Packet Data.
+    /// Decodes a data unit without status symbols, whose header was decoded before, into this packet (PDU). Returns the
+    /// fields of it that fail, or the number of corrected bits of its header block and its other blocks. `Format` and
+    /// `PacketCrc` are returned as by `read_packet`, alone. Otherwise a block fails if and only if its slot is `Bad`,
+    /// and the packet is written nevertheless. A packet is large, so it is written in its buffer and not moved.
+    /// TIA-102.BAAA, Packet Data.
     pub fn read(&mut self, read: ReadHead, bare: &BitBuf) -> ReadOutcome
         requires head { read_head_of (header_bits bare.now) ≡ Ok read }
         requires there { 308 + 196 * head_blocks read.head ≤ length bare.now }
@@ -148,7 +150,8 @@ impl Packet {
         }
     }
 
-    // What the reading of the packet (PDU) answers, where so many bits were wrong: a block fails for each slot that is Bad.
+    // Returns the outcome of decoding the packet (PDU) with `wrong` bit errors: a block fails for each slot that is
+    // `Bad`.
     fn outcome(&self, wrong: u32) -> ReadOutcome
         ensures { result ≡ outcome_of (failing_blocks_of self.now) wrong }
     {
@@ -165,8 +168,8 @@ impl Packet {
         ReadOutcome::of(failing, wrong)
     }
 
-    // Becomes the packet of a header that was read and of its unit, and answers how many bits were wrong, or for which field there is
-    // no packet: Format or PacketCrc. Where it was such a packet, no room is moved.
+    // Decodes the blocks of a data unit whose header was decoded. Returns the number of bit errors, or the field for
+    // which there is no packet: `Format` or `PacketCrc`. If the packet was of the same type before, no buffer is moved.
     pub(crate) fn read_blocks(&mut self, read: ReadHead, bare: &BitBuf) -> Result<u32, Field>
         requires few { read.wrong ≤ 196 }
         requires there { 308 + 196 * head_blocks read.head ≤ length bare.now }
@@ -194,8 +197,8 @@ impl Packet {
         }
     }
 
-    // Becomes the packet of a header that is not confirmed and of the blocks to follow in its unit, as `read_blocks` says. The last four
-    // octets of its blocks are the packet CRC of the others; where there is no block, there is none.
+    // Decodes the blocks to follow of an unconfirmed packet, as `read_blocks` does. The last four octets of its blocks
+    // are the packet CRC of the others; if there is no block, there is none.
     fn read_plain(&mut self, read: ReadHead, bare: &BitBuf) -> Result<u32, Field>
         requires format { IsPlainFormat (head_format read.head) }
         requires few { read.wrong ≤ 196 }
@@ -222,7 +225,7 @@ impl Packet {
         Ok(read.wrong + wrong)
     }
 
-    // Becomes the packet of a header that is not confirmed and its octets. Where it was one, no room is moved.
+    // Becomes the packet of an unconfirmed header and its octets. If it was one before, no buffer is moved.
     fn set_plain(&mut self, head: PacketHead, octets: &[u8])
         requires format { IsPlainFormat (head_format head) }
         requires count { length octets.now ≡ 12 * head_blocks head - 4 }

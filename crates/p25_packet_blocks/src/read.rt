@@ -1,4 +1,4 @@
-//! Units of packets (PDU) read, without their status symbols.
+//! Decoding of packets (PDU) from data units without status symbols.
 
 ghost use Rattle.std.specs.Prelude.{◌≡◌, ◌+◌, ◌*◌, ◌≤◌, ◌==◌, length, take, drop, IfOk};
 ghost use Rattle.p25_bits.specs.{Bits.{part}, Numbers.{octets_number}};
@@ -14,16 +14,18 @@ use p25_crc::{crc9, crc16, crc32};
 use p25_status::Field;
 use p25_trellis::{Half, ThreeQuarter, read_block};
 
-/// Where the header block begins in the unit of a packet (PDU) without status symbols: after the front. TIA-102.BAAA, Packet Data.
+/// The position of the header block in the data unit of a packet (PDU) without status symbols, after sync and NID.
+/// TIA-102.BAAA, Packet Data.
 pub const HEADER_AT: usize = 112;
 
-/// Where the blocks to follow begin in the unit of a packet (PDU) without status symbols. TIA-102.BAAA, Packet Data.
+/// The position of the blocks to follow in the data unit of a packet (PDU) without status symbols. TIA-102.BAAA, Packet
+/// Data.
 pub const BLOCKS_AT: usize = 308;
 
-/// How many bits a block of a packet (PDU) has: 98 dibits. TIA-102.BAAA, Trellis Coding.
+/// The number of bits of a block of a packet (PDU): 98 dibits. TIA-102.BAAA, Trellis Coding.
 pub const BLOCK_LENGTH: usize = 196;
 
-// The header that the block at a place holds, and how many bits of the block were wrong.
+// Returns the header in the block at a position, and the number of bit errors of the block.
 pub(crate) fn read_header(bits: &BitBuf, at: usize) -> Result<ReadHead, Field>
     requires { at + 196 ≤ length bits.now }
     ensures read { result ≡ read_head_of (part at 196 bits.now) }
@@ -43,9 +45,9 @@ pub(crate) fn read_header(bits: &BitBuf, at: usize) -> Result<ReadHead, Field>
     }
 }
 
-/// Answers the header that the header block of the unit of a packet (PDU) holds. `bare` has at least the 308 bits of the unit's
-/// front and its header block, without status symbols. PacketHeader comes exactly where the last two octets of the block are not
-/// the header CRC of the others. TIA-102.BAAA, Packet Data, Header Block.
+/// Decodes the header of a packet (PDU) from the header block of its data unit. It requires in `bare` at least the 308
+/// bits of sync, NID and header block, without status symbols. `PacketHeader` is returned if and only if the last two
+/// octets of the block are not the header CRC of the others. TIA-102.BAAA, Packet Data, Header Block.
 pub fn read_head(bare: &BitBuf) -> Result<PacketHead, Field>
     requires { 308 ≤ length bare.now }
     ensures { result ≡ head_reading_of bare.now }
@@ -53,7 +55,7 @@ pub fn read_head(bare: &BitBuf) -> Result<PacketHead, Field>
     Ok(read_header(bare, HEADER_AT)?.head)
 }
 
-// The slot that the octets of a block of a confirmed packet (PDU) are.
+// Returns the slot of the octets of a block of a confirmed packet (PDU).
 fn slot_in(octets: &[u8; 18]) -> Slot
     ensures { result ≡ slot_from octets.now }
 {
@@ -68,7 +70,8 @@ fn slot_in(octets: &[u8; 18]) -> Slot
     }
 }
 
-// Sets `slots` to those of the blocks to follow of a confirmed packet (PDU), and answers how many bits of the blocks were wrong.
+// Decodes the blocks to follow of a confirmed packet (PDU) into `slots`, and returns the number of bit errors of the
+// blocks.
 pub(crate) fn read_slots(bare: &BitBuf, blocks: usize, slots: &mut Slots) -> u32
     requires blocks { blocks ≤ 127 }
     requires there { 308 + 196 * blocks ≤ length bare.now }
@@ -87,7 +90,7 @@ pub(crate) fn read_slots(bare: &BitBuf, blocks: usize, slots: &mut Slots) -> u32
     wrong
 }
 
-// Whether the last four octets of a packet (PDU) are the packet CRC of the others.
+// Returns whether the last four octets of a packet (PDU) are the packet CRC of the others.
 pub(crate) fn check_agrees(octets: &[u8], count: usize) -> bool
     requires { length octets.now ≡ count + 4 }
     ensures { result ≡ (octets_number (drop count octets.now) == crc32_of (take count octets.now)) }
@@ -97,11 +100,15 @@ pub(crate) fn check_agrees(octets: &[u8], count: usize) -> bool
     u32::from_be_bytes(check) == crc32(&octets[..count])
 }
 
-/// Answers the packet (PDU) that a unit holds. `bare` is the unit without status symbols, from its front on: it has at least 308
-/// bits, and where its header is read at least as many as the blocks to follow ask for. In this order PacketHeader comes
-/// exactly where the header CRC does not agree, Format exactly where the format is none of 16, 15 and 03 hex, and PacketCrc
-/// exactly where the format is 15 or 03 hex, there are blocks to follow and the packet CRC does not agree. The slot of a
-/// confirmed block is Bad exactly where its CRC-9 does not agree. TIA-102.BAAA, Packet Data.
+/// Decodes the packet (PDU) of a data unit without status symbols, from its sync on. It requires at least 308 bits and,
+/// if the header is decoded, at least as many bits as the blocks to follow need. The errors are tested in this order:
+///
+/// - `PacketHeader` is returned if and only if the header CRC does not agree.
+/// - `Format` is returned if and only if the format is none of 16, 15 and 03 hex.
+/// - `PacketCrc` is returned if and only if the format is 15 or 03 hex, there are blocks to follow and the packet CRC
+///   does not agree.
+///
+/// The slot of a confirmed block is `Bad` if and only if its CRC-9 does not agree. TIA-102.BAAA, Packet Data.
 pub fn read_packet(bare: &BitBuf) -> Result<Packet, Field>
     requires header { 308 ≤ length bare.now }
     requires blocks { HasItsLength bare.now }

@@ -1,4 +1,4 @@
-//! Units of packets (PDU) made by a program apart from this code, and each call once.
+//! Data units of packets (PDU) made by a program apart from this code, and each call once.
 
 mod rows;
 
@@ -24,8 +24,8 @@ fn the_example_of_the_head(rt: HostRuntime) -> Result<(), Fail> {
     Ok(())
 }
 
-// The first bits of some words, of which others stand from a place on in place of them, the most significant bit first, and then
-// bits 0.
+// The first bits of some words, with others in their positions from a given one on, the most significant bit first, and
+// then bits 0.
 fn unit(words: &[u64], len: usize, from: usize, others: &[u64]) -> BitBuf {
     let mut bits = BitBuf::new();
     for i in 0..11_usize {
@@ -39,7 +39,7 @@ fn unit(words: &[u64], len: usize, from: usize, others: &[u64]) -> BitBuf {
     bare
 }
 
-// A unit as it is sent, with the status symbol 0 throughout.
+// A transmitted data unit, with the status symbol 0 throughout.
 fn sent(bare: &BitBuf) -> BitBuf {
     let mut statuses = Statuses::new();
     for _block in 0..bare.len() / 70 {
@@ -54,7 +54,7 @@ fn sent(bare: &BitBuf) -> BitBuf {
     out
 }
 
-// The packet of a unit without status symbols that has its length.
+// The packet of a data unit without status symbols that has its length.
 fn read_whole(bare: &BitBuf) -> Result<Packet, Field> {
     if bare.len() < 308 {
         return Err(Field::Length);
@@ -66,7 +66,7 @@ fn read_whole(bare: &BitBuf) -> Result<Packet, Field> {
     read_packet(bare)
 }
 
-// Asserts that a packet is written as the bits that it was read from.
+// Asserts that the encoding of a packet is the bits from which it was decoded.
 fn assert_written(rt: &impl Abort, nac: u16, packet: &Packet, bare: &BitBuf) {
     assert!(rt; is_whole(packet));
     assert!(rt; nac < 4096);
@@ -76,7 +76,7 @@ fn assert_written(rt: &impl Abort, nac: u16, packet: &Packet, bare: &BitBuf) {
     assert_eq!(rt; BitBuf::distance(&written, bare), 0);
 }
 
-// Asserts the network access code and the header that a unit is read with as it is sent.
+// Asserts the network access code and the header of a decoded transmitted data unit.
 fn assert_unit(rt: &impl Abort, nac: u16, head: PacketHead, bits: &BitBuf) {
     assert!(rt; bits.len() >= 360);
     match read_head_at(bits, 0) {

@@ -1,4 +1,4 @@
-//! Units of packets (PDU) read as they are sent, with their status symbols.
+//! Decoding of packets (PDU) from transmitted data units with their status symbols.
 
 ghost use Rattle.std.specs.Prelude.{◌≡◌, ◌+◌, ◌≤◌, length, drop, IfOk};
 ghost use Rattle.p25_packet_blocks.specs.UnitReading.{sent_read_of, packet_unit_of};
@@ -12,15 +12,16 @@ use p25_bits::BitBuf;
 use p25_status::{BARE_BLOCK_LENGTH, Field, SENT_BLOCK_LENGTH, Statuses, is_sync, unweave};
 use p25_unit_front::{SENT_FRONT_LENGTH, read_front};
 
-/// Answers the header of the packet (PDU) whose unit as it is sent begins at place `at`, and how many bits of its block were wrong. The
-/// 316 bits with its front and its header block are there. PacketHeader comes exactly where the last two octets of the block are
-/// not the header CRC of the others. TIA-102.BAAA, Packet Data, Header Block.
+/// Decodes the header of the packet (PDU) whose transmitted data unit begins at position `at`, and returns it with the
+/// number of bit errors of its block. It requires the 316 bits of sync, NID and header block. `PacketHeader` is
+/// returned if and only if the last two octets of the block are not the header CRC of the others. TIA-102.BAAA, Packet
+/// Data, Header Block.
 pub fn read_head_at(bits: &BitBuf, at: usize) -> Result<ReadHead, Field>
     requires { at + 316 ≤ length bits.now }
     ensures read { result ≡ sent_read_of (drop at bits.now) }
     ensures few { IfOk result (λ read. read.wrong ≤ 196) }
 {
-    // For the prover: the number of bits held bounds every place below.
+    // For the prover: the number of bits held bounds every position below.
     let _ = bits.len();
     // The 196 bits of the header block, without the status symbols among them.
     let mut header = BitBuf::new();
@@ -31,11 +32,18 @@ pub fn read_head_at(bits: &BitBuf, at: usize) -> Result<ReadHead, Field>
     read_header(&header, 0)
 }
 
-/// Answers the network access code (NAC) and the packet (PDU) of the unit that begins at place 0, as it is sent, with its status
-/// symbols. There are at least 360 bits, as many as the shortest unit has; bits after the unit are not looked at. In this order
-/// Sync comes exactly where more than four bits of the sync are wrong, Nid exactly where no identifier lies within 11 bits, Duid
-/// exactly where the DUID is not C, PacketHeader exactly where the header CRC does not agree, Length exactly where the header
-/// asks for more bits than there are, and Format and PacketCrc as in `read_packet`. TIA-102.BAAA, Packet Data.
+/// Decodes the data unit that begins at position 0, as transmitted, with its status symbols, and returns its network
+/// access code (NAC) and packet (PDU). It requires at least 360 bits, as many as the shortest data unit has; bits after
+/// the data unit are ignored. The errors are tested in this order:
+///
+/// - `Sync` is returned if and only if more than four bits of the sync are wrong.
+/// - `Nid` is returned if and only if no NID lies within 11 bits.
+/// - `Duid` is returned if and only if the DUID is not C.
+/// - `PacketHeader` is returned if and only if the header CRC does not agree.
+/// - `Length` is returned if and only if the header requires more bits than there are.
+/// - `Format` and `PacketCrc` are returned as by `read_packet`.
+///
+/// TIA-102.BAAA, Packet Data.
 pub fn read_packet_unit(bits: &BitBuf) -> Result<(u16, Packet), Field>
     requires { 360 ≤ length bits.now }
     ensures { result ≡ packet_unit_of bits.now }

@@ -8,7 +8,7 @@ use crate::head::PacketHead;
 use crate::packet::Packet;
 
 impl Packet {
-    /// Answers the header of the packet (PDU).
+    /// Returns the header of the packet (PDU).
     pub fn head(&self) -> PacketHead
         ensures { result ≡ packet_head self.now }
     {
@@ -19,7 +19,7 @@ impl Packet {
     }
 }
 
-/// Answers whether no slot of a packet (PDU) is Bad: true of each one that is not confirmed.
+/// Returns whether no slot of a packet (PDU) is `Bad`, which holds for each unconfirmed one.
 #[tactic(auto, unfolding(crate::specs::Whole::IsWholePacket))]
 pub fn is_whole(packet: &Packet) -> bool
     ensures { IsTrue result ↔ IsWholePacket packet.now }

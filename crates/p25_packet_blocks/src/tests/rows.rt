@@ -1,9 +1,9 @@
-//! Units of packets (PDU) before their status symbols are woven in, by their words of 64 bits, the most significant bit first;
-//! bits 0 follow.
+//! Data units of packets (PDU) before their status symbols are inserted, by their words of 64 bits, the most
+//! significant bit first; bits 0 follow.
 
 use p25_status::Field;
 
-// Units of packets (PDU) that are read and written: the network access code, the length in bits, the words.
+// Data units of packets (PDU) that are decoded and encoded: the network access code, the length in bits, the words.
 pub(super) const UNITS: [(u16, usize, &[u64]); 4] = [
     (
         0x293,
@@ -66,8 +66,8 @@ pub(super) const UNITS: [(u16, usize, &[u64]); 4] = [
     ),
 ];
 
-// Damaged units of packets (PDU): the field that fails; which of the units it is, and the words that stand in it from a place on
-// in place of its own.
+// Damaged data units of packets (PDU): the field that fails; the index of the data unit, and the words that replace its
+// own from a position on.
 pub(super) const DAMAGED: [(Option<Field>, usize, usize, &[u64]); 8] = [
     // confirmed blocks zeroed
     (
@@ -83,7 +83,7 @@ pub(super) const DAMAGED: [(Option<Field>, usize, usize, &[u64]); 8] = [
             0x2222_2222_2222_2220,
         ],
     ),
-    // a plain block zeroed
+    // an unconfirmed block zeroed
     (
         Some(Field::PacketCrc),
         0,
@@ -131,9 +131,9 @@ pub(super) const DAMAGED: [(Option<Field>, usize, usize, &[u64]); 8] = [
             0x2222_2220_0000_0000,
         ],
     ),
-    // five wrong bits of the sync
+    // five bit errors of the sync
     (Some(Field::Sync), 1, 0, &[0xAD75_F5FF_77FF_293C]),
-    // twelve wrong bits of the identifier
+    // twelve bit errors of the NID
     (Some(Field::Nid), 1, 0, &[0x5575_F5FF_77FF_D6CC]),
     // DUID 3, that of a TDU
     (
