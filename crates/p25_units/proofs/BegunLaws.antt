@@ -1,4 +1,4 @@
--- What was read of a unit is true of its bits, and stays so.
+-- The decoded parts of a data unit are true of its bits, and stay true.
 use Rattle.std.proofs.Common.{◌≡◌, ◌≤◌, Bool, List, ◌++◌, length, Option, Some, None, IfSome, Ok, option_map, sym, ◌∙◌, subst, arith, length-append}
 use Rattle.p25_bch_nid.specs.declared.nid.ReadNid.{ReadNid}
 use Rattle.p25_unit_front.specs.Front.{front_fixes_of, identifier_of}

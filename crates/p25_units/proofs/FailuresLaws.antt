@@ -1,4 +1,4 @@
--- A unit that is refused has a field that fails: by its kind, and by what was read of each of its fields.
+-- A refused data unit has a field that fails: by its type, and by the decoding of each of its fields.
 use Rattle.std.proofs.Common.{◌≡◌, ℕ, ◌%◌, ◌<◌, inl, inr, Bool, List, [], ◌∷◌, length, take, Some, Result, Ok, Err, refl, ap, sym, ◌∙◌, arith}
 use Rattle.std.specs.Prelude.{IfErr}
 use Rattle.p25_status.specs.{Woven.{bare_of, statuses_of}, declared.fields.Field.{Field}}

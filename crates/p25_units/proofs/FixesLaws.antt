@@ -1,4 +1,4 @@
--- The fixes of a frame are those of its front and those after it, by cutting the lists of looked-at bits.
+-- The fixes of a frame are those of sync and NID and those after them, by splitting the lists of examined bits.
 use Rattle.std.proofs.Common.{◌≡◌, ℕ, zero, suc, ◌+◌, ◌*◌, ◌≤◌, Bool, List, [], ◌∷◌, ◌++◌, length, take, drop, refl, ap, ap₂, sym, ◌∙◌, arith, append-nil, append_assoc, length-drop}
 use Rattle.std.proofs.lemmas.List.{take-take, length-take-le}
 use Rattle.std.specs.Bool.{beq}

@@ -1,4 +1,5 @@
--- Bits by places are the image: those of a unit by the laws of its kind, and with status symbols since they stand in one way only.
+-- Bits in the form by positions are the image: those of a data unit by the laws of its type, and with status symbols because there is one way to
+-- insert them.
 use Rattle.std.proofs.Common.{◌≡◌, ℕ, ◌*◌, ◌↔◌, Bool, List, length, refl, ap, sym, subst, ◌∙◌}
 use Rattle.p25_status.specs.Woven.{woven}
 use Rattle.p25_status.proofs.PlacesSteps.{woven-places, StandsByPlaces-unique}

@@ -1,4 +1,4 @@
--- The items of units whose identifiers were read, by what they are read as.
+-- The items of data units with a decoded NID, by their decoding.
 use Rattle.std.proofs.{Common.{◌≡◌, ℕ, ◌≤◌, Bool, List, length, drop, Some, Result, Ok, Err, ap, sym, ◌∙◌, arith, length-drop}, lemmas.List.{length-take-le}}
 use Rattle.p25_bits.specs.Bits.{part}
 use Rattle.p25_status.specs.declared.fields.Field.{Field}

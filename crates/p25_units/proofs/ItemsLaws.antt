@@ -1,4 +1,4 @@
--- The item of a unit covers its bits, begins at its place, is sound and is no gap: by cases of its identifier and reading.
+-- The item of a data unit covers its bits, begins at its position, is sound and is no gap: by cases of its NID and decoding.
 use Rattle.std.proofs.{Common.{◌≡◌, ℕ, ◌%◌, ◌<◌, ◌≤◌, Bool, List, length, take, Option, Some, None, Result, Ok, Err, refl, ap, sym, ◌∙◌, subst, arith}, lemmas.List.{length-take-le}}
 use Rattle.p25_status.specs.declared.fields.Field.{Field}
 use Rattle.p25_unit_front.specs.Front.{identifier_of}

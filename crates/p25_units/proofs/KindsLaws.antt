@@ -1,4 +1,4 @@
--- The bits of a unit whose length is known, by its kind: what its DUID or its header tells of its length.
+-- The bits of a data unit with a known length, by its type: the length that its DUID or its header determines.
 use Rattle.std.proofs.Common.{◌≡◌, ◌≢◌, ℕ, ◌*◌, ◌/◌, ◌%◌, ◌<◌, ◌≤◌, ◌⊎◌, inl, inr, Bool, List, length, take, Option, Some, None, Result, Ok, Err, refl, ap, sym, ◌∙◌, subst, arith}
 use Rattle.std.proofs.{lemmas.Bool.{cases_eq, cases_lt}, lemmas.List.{length-take-le}}
 use Rattle.p25_status.specs.{Woven.{bare_of}, declared.fields.Field.{Field}, declared.fields.Field.TheVariants.{Duid}}

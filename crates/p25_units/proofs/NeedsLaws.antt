@@ -1,5 +1,5 @@
--- What the bits from a place on need: the laws of one kind of unit at a time, joined where the identifier was read. A kind
--- that is added has to meet `IsHead` and nothing else.
+-- The needs of the bits from a position on: the laws of one type of data unit at a time, joined after the decoding of the NID. An added type has to
+-- meet `IsHead` and nothing else.
 use Rattle.std.proofs.Common.{◌≡◌, ◌≢◌, ℕ, ◌%◌, ◌<◌, ◌≤◌, inl, inr, Bool, true, false, cond, eqb, ltb, List, ◌++◌, length, Option, Some, None, Result, Ok, Err, refl, ap, sym, ◌∙◌, subst, arith, length-append}
 use Rattle.std.proofs.lemmas.Bool.{cases_Bool, cases_eq, cases_lt, lt-ltb, le-ltb, ne_eqb, cond-true, cond-false}
 use Rattle.p25_status.specs.{Sync.{has_sync}, declared.fields.Field.{Field}, declared.fields.Field.TheVariants.{Nid, Duid}}

@@ -1,5 +1,5 @@
--- What a reading sets in its place: a body by its voice unit or its packet, a frame by its body, an item by its frame. By cases of the
--- outcome.
+-- The results that decoding writes to its buffers: a body by its voice data unit or its packet, a frame by its body, an item by its frame. By cases
+-- of the outcome.
 use Rattle.std.proofs.Common.{◌≡◌, ℕ, ◌≤◌, Bool, List, [], ◌∷◌, length, refl, sym, ◌∙◌, arith, ◌+◌, ◌*◌, drop, Result, Ok, Err, ap, length-drop, length-take}
 use Rattle.p25_status.specs.{Outcomes.{IfRead, outcome_of, read_or}, declared.fields.Field.{Field}, declared.read_outcome.ReadOutcome.{ReadOutcome}}
 use Rattle.p25_status.specs.declared.read_outcome.ReadOutcome.TheVariants.{Read, Failing}

@@ -1,4 +1,4 @@
--- The frame of a unit that was read: its fixes are those of its front and those after it.
+-- The frame of a decoded data unit: its fixes are those of sync and NID and those after them.
 use Rattle.std.proofs.Common.{◌≡◌, ℕ, ◌+◌, ◌≤◌, Bool, List, length, drop, Some, Result, Ok, Err, refl, ap, sym, subst, ◌∙◌, arith}
 use Rattle.p25_bits.specs.Bits.{part}
 use Rattle.p25_status.specs.{Woven.{bare_of, statuses_of}, Outcomes.{IfRead, read_or}, declared.fields.Field.{Field}, declared.read_outcome.ReadOutcome.{ReadOutcome}}

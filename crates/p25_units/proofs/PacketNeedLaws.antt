@@ -1,4 +1,5 @@
--- The bits of a packet need no more by themselves than among others: its identifier and its header are read from them, and they are as many as it tells.
+-- The need of a packet is the same for its bits alone and among others: its NID and its header are decoded from them, and they are as many as it
+-- requires.
 use Rattle.std.proofs.{Common.{◌≡◌, ℕ, ◌≤◌, inl, inr, Bool, true, List, length, take, ap, sym, ◌∙◌, arith, Some, Result, Ok, Err}, lemmas.Bool.{cases_lt}, lemmas.List.{length-take-le}}
 use Rattle.p25_status.specs.{Sync.{has_sync}, declared.fields.Field.{Field}}
 use Rattle.p25_status.proofs.SyncLaws.{has_sync-take}

@@ -1,5 +1,5 @@
--- What units are read as: a frame that was read is sound, can be sent and is as long as its bits, and bits that have few wrong
--- ones read as the frame. By cases of what it carries.
+-- The decoding of data units: a decoded frame is sound, sendable and as long as its bits, and bits with few bit errors decode to the frame. By cases
+-- of its body.
 use Rattle.std.proofs.Common.{◌≡◌, ◌≢◌, ℕ, ◌*◌, inl, inr, Bool, eqb, List, [], ◌∷◌, length, Option, Some, Result, Ok, Err, refl, ap, sym, ◌∙◌, subst, arith}
 use Rattle.std.proofs.lemmas.Bool.{cases_eq, cond-false, ne_eqb}
 use Rattle.std.specs.Option.{unwrap_or}

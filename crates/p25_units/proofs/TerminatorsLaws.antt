@@ -1,5 +1,5 @@
--- Terminators: their frames are sound, their bits are those that are sent, and bits begin with one exactly where the first 144
--- lie within radius of its frame. By the laws of all units, at a length of two blocks.
+-- Terminators: their frames are sound, their bits are the transmitted ones, and bits begin with one if and only if the first 144 lie within the
+-- correction radius of its frame. By the laws of all data units, at a length of two blocks.
 use Rattle.std.proofs.{Common.{◌≡◌, ℕ, ◌+◌, ◌*◌, ◌<◌, ◌≤◌, Bool, List, length, take, refl, ap, ap₂, sym, ◌∙◌, subst, arith}, lemmas.List.{length-take-le, take-take}}
 use Rattle.p25_bits.specs.Distance.{distance_of}
 use Rattle.p25_status.specs.{Sync.{sync_bits, sync_slack}, Woven.{woven, bare_of, statuses_of}, declared.symbols.Status.{Status}}

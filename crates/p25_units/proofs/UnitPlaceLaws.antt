@@ -1,5 +1,4 @@
--- What the readers of units answer: the bits of a unit among others, its kind by its length, and each answer as a case of
--- the reading.
+-- The results of the decoders of data units: the bits of a data unit among others, its type by its length, and each result as a case of the decoding.
 use Rattle.std.proofs.Common.{◌≡◌, ◌≢◌, ℕ, ◌+◌, ◌-◌, ◌*◌, ◌/◌, ◌%◌, inl, inr, ◌<◌, ◌≤◌, Bool, List, length, drop, Some, None, option_map, Result, Ok, Err, refl, ap, ap₂, sym, ◌∙◌, arith, length-drop}
 use Rattle.std.proofs.{lemmas.List.{length-take-le}, lemmas.Bool.{cases_lt}}
 use Rattle.p25_bits.specs.{Bits.{part}, Distance.{distance_of}}

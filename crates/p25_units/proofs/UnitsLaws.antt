@@ -1,4 +1,4 @@
--- The bits of units: each kind has its length and begins with its front.
+-- The bits of data units: each type has its length and begins with sync and NID.
 use Rattle.std.proofs.{Common.{◌≡◌, List, ℕ, ◌*◌, ◌/◌, ◌%◌, ◌<◌, ◌≤◌, length, take, Some, ap, sym, ◌∙◌, arith}, lemmas.List.{take_at}}
 use Rattle.std.specs.Option.{unwrap_or}
 use Rattle.p25_status.specs.{Woven.{bare_of, statuses_of}, declared.symbols.Status.{Status}}

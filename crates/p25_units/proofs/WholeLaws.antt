@@ -1,5 +1,5 @@
--- The item of a unit is whole only where its bits read as its frame, those of its front within radius: by what was read of its
--- identifier.
+-- The item of a data unit is whole only if its bits decode to its frame, and those of sync and NID lie within the correction radius: by the decoding
+-- of its NID.
 use Rattle.std.proofs.Common.{◌≡◌, ℕ, ◌%◌, ◌<◌, ◌≤◌, Bool, true, List, length, take, Some, Result, Ok, Err, refl, ap, ap₂, sym, ◌∙◌, subst, arith}
 use Rattle.p25_bits.specs.Distance.{distance_of}
 use Rattle.p25_status.specs.{Sync.{sync_slack, has_sync}, declared.fields.Field.{Field}}

@@ -1,4 +1,4 @@
--- Bits within radius of a frame's image have its sync, its identifier and its length, and read as the frame.
+-- Bits within the correction radius of a frame's image have its sync, its NID and its length, and decode to the frame.
 use Rattle.std.proofs.Common.{◌≡◌, ℕ, ◌*◌, ◌≤◌, Bool, true, List, ◌++◌, length, take, Some, Ok, refl, ap, ap₂, sym, ◌∙◌, subst, arith, length-append}
 use Rattle.p25_bits.specs.Distance.{distance_of}
 use Rattle.p25_bits.proofs.DistanceLaws.{distance_of-same}

@@ -1,4 +1,4 @@
-//! What was read of a unit whose last bits are not there yet.
+//! The decoded parts of a data unit whose last bits have not arrived.
 
 ghost use Rattle.std.specs.Prelude.{◌≡◌, ◌+◌, ◌≤◌, Bool, IfSome, List, length, drop, option_map};
 ghost use Rattle.p25_unit_front.specs.Front.{front_fixes_of, identifier_of};
@@ -11,9 +11,10 @@ use p25_packet_blocks::{ReadHead, read_head_at};
 use p25_status::Field;
 use p25_unit_front::read_front;
 
-/// What was read of the unit at a place with a sync, so that nothing is read twice while its bits come: its network identifier
-/// (NID) with the number of wrong bits of its front and, of a packet (PDU), its header with the number of wrong bits of its block, or
-/// nothing yet. Contracts see by `IsBegun` that it is true of the bits from that place on.
+/// The decoded parts of the data unit at a position with a sync, so that nothing is decoded twice while its bits
+/// arrive. They are its network identifier (NID) with the number of bit errors of sync and NID, and for a packet (PDU)
+/// its header with the number of bit errors of its block, or nothing yet. Contracts state by `IsBegun` that it is true
+/// of the bits from that position on.
 #[derive(Clone, Copy, Debug, PartialEq, Eq)]
 pub struct Begun {
     nid: Option<ReadNid>,
@@ -21,7 +22,7 @@ pub struct Begun {
 }
 
 impl Begun {
-    /// Answers that nothing was read.
+    /// Returns the state in which nothing is decoded.
     pub fn new() -> Begun
         ensures { (bits : List Bool) → IsBegun result bits }
     {
@@ -31,7 +32,8 @@ impl Begun {
         }
     }
 
-    // The network identifier (NID) of the unit at a place, which is read where it was not, and how many bits of its front were wrong.
+    // Returns the network identifier (NID) of the data unit at a position, and the number of bit errors of sync and
+    // NID. Decodes it if it was not decoded before.
     pub(crate) fn identify(&mut self, bits: &BitBuf, at: usize) -> Option<ReadNid>
         requires there { at + 114 ≤ length bits.now }
         requires begun { IsBegun self.old (drop at bits.now) }
@@ -49,7 +51,8 @@ impl Begun {
         }
     }
 
-    // The header of the packet (PDU) at a place, which is read where it was not, and how many bits of its block were wrong.
+    // Returns the header of the packet (PDU) at a position, and the number of bit errors of its block. Decodes it if it
+    // was not decoded before.
     pub(crate) fn read_head(&mut self, bits: &BitBuf, at: usize) -> Result<ReadHead, Field>
         requires there { at + 316 ≤ length bits.now }
         requires begun { IsBegun self.old (drop at bits.now) }

@@ -1,4 +1,4 @@
-//! In how many bits a unit was received otherwise than its frame is sent.
+//! The number of bits in which a received data unit differs from its transmitted frame.
 
 ghost use Rattle.std.specs.Prelude.{◌≡◌, ◌+◌, ◌≤◌, length};
 ghost use Rattle.p25_bits.specs.{Bits.{part}, Distance.{distance_of}};
@@ -14,8 +14,9 @@ use p25_status::{Statuses, unweave};
 use p25_unit_front::front_fixes;
 use p25_voice_units::voice_fixes;
 
-/// Answers in how many looked-at places the sent bits from place `at` on differ from the image of a frame: of its sync, of
-/// the first 63 bits of its network identifier (NID), and of its code words and blocks. A sound frame's bits are there.
+/// Returns the number of examined positions in which the transmitted bits from position `at` on differ from the image
+/// of a frame: those of its sync, of the first 63 bits of its network identifier (NID), and of its codewords and
+/// blocks. It requires that a sound frame's bits are there.
 pub fn fixes(bits: &BitBuf, at: usize, frame: &Frame) -> u32
     requires there { at + frame_length_of frame.now.unit ≤ length bits.now }
     requires sound { IsSoundFrame frame.now }
@@ -33,8 +34,8 @@ pub fn fixes(bits: &BitBuf, at: usize, frame: &Frame) -> u32
     front_fixes(bits, at, &nid) + body_fixes(&bare, &image, &frame.unit)
 }
 
-// Counts the wrong bits at the places after the front that a reader looks at, by the bits without status symbols that were received
-// and that are sent.
+// Counts the bit errors at the positions after sync and NID that a decoder examines, from the received and the
+// transmitted bits without status symbols.
 fn body_fixes(bare: &BitBuf, image: &BitBuf, unit: &Unit) -> u32
     requires long { length bare.now ≡ length image.now }
     requires image { image.now ≡ unit_image_of unit.now }
@@ -51,7 +52,7 @@ fn body_fixes(bare: &BitBuf, image: &BitBuf, unit: &Unit) -> u32
     }
 }
 
-// In how many of the `count` places from `at` on two lists differ.
+// Returns the number of the `count` positions from `at` on in which two lists differ.
 fn part_distance(a: &BitBuf, b: &BitBuf, at: usize, count: usize) -> u32
     requires first { at + count ≤ length a.now }
     requires second { at + count ≤ length b.now }

@@ -1,4 +1,4 @@
-//! What a stream is divided into.
+//! The items into which a stream is divided.
 
 ghost use Rattle.std.specs.Prelude.{◌≡◌, ◌^◌, ◌<◌, ◌≤◌, ℕ, length, drop};
 ghost use Rattle.p25_bits.specs.Bits.{part};
@@ -12,17 +12,18 @@ use p25_bch_nid::Nid;
 use p25_bits::BitBuf;
 use p25_status::{Field, FieldList, ReadOutcome};
 
-/// A stretch of a stream. Places count bits from the beginning of the stream.
+/// A part of a stream. Positions count bits from the beginning of the stream.
 #[derive(Clone, Debug, Drop, PartialEq, Eq)]
 pub enum Item {
-    /// A unit none of whose fields fails, and its fixes.
+    /// A data unit without a failing field, and its fixes.
     Whole {
         place: u64,
         frame: Frame,
         fixes: u32,
     },
-    /// A unit of `length` bits, its network identifier (NID), and exactly the fields that fail, in order: those of a voice unit,
-    /// or of a packet (PDU) its format or its packet CRC alone, or each of its blocks whose CRC-9 does not agree.
+    /// A data unit of `length` bits, its network identifier (NID), and exactly the fields that fail, in order: those of
+    /// a voice data unit, or for a packet (PDU) its format or its packet CRC alone, or each of its blocks whose CRC-9
+    /// does not agree.
     Broken {
         place: u64,
         length: u32,
@@ -30,12 +31,12 @@ pub enum Item {
         duid: u8,
         fields: FieldList,
     },
-    /// One bit that a sync begins with, but no unit, since a field that tells its length fails.
+    /// One bit at which a sync begins, but no data unit, because a field that determines its length fails.
     NoUnit {
         place: u64,
         field: Field,
     },
-    /// Bits with none of which a sync begins.
+    /// Bits at none of which a sync begins.
     Gap {
         place: u64,
         length: u32,
@@ -48,14 +49,14 @@ pub enum Item {
 }
 
 impl Item {
-    /// Answers an item of no bits: room for an item that is to be read.
+    /// Returns an item of no bits, as a buffer into which an item is decoded.
     pub fn empty() -> Item
         ensures { result ≡ Cut 0 0 }
     {
         Item::Cut { place: 0, have: 0 }
     }
 
-    /// Answers how many bits the item covers.
+    /// Returns the number of bits that the item covers.
     pub fn covered(&self) -> u64
         ensures value { result ≡ covered self.now }
         ensures short { result < 2 ^ 32 }
@@ -69,7 +70,7 @@ impl Item {
         }
     }
 
-    /// Answers at which bit of the stream the item begins.
+    /// Returns the position in the stream at which the item begins.
     pub fn place(&self) -> u64
         ensures { result ≡ place_of self.now }
     {
@@ -82,7 +83,8 @@ impl Item {
         }
     }
 
-    // Makes it a whole unit, unless it is one: room into which a unit is read. It is large, so it is made apart from its caller.
+    // Makes it a whole data unit, unless it is one, as a buffer into which a data unit is decoded. It is large, so it
+    // is made apart from its caller.
     #[inline(never)]
     fn make_whole(&mut self)
         ensures { (place : ℕ) × (frame : Frame) × (fixes : ℕ) × (self.new ≡ Whole place frame fixes) }
@@ -99,7 +101,7 @@ impl Item {
         }
     }
 
-    // Makes it a broken unit. It is large, so it is made apart from its caller.
+    // Makes it a broken data unit. It is large, so it is made apart from its caller.
     #[inline(never)]
     fn make_broken(&mut self, place: u64, length: u32, nid: &Nid, fields: FieldList)
         ensures { self.new ≡ Broken place length nid.now.nac nid.now.duid fields }
@@ -114,9 +116,9 @@ impl Item {
     }
 }
 
-/// Answers the item of the unit whose `count` sent bits begin at place `at`, where `need` answers that length there and
-/// `begun` holds what was read of it; `place` counts from the beginning of the stream. It is `Whole` where no field
-/// fails, and `Broken` where one does.
+/// Returns the item of the data unit whose `count` transmitted bits begin at position `at`; `place` counts from the
+/// beginning of the stream. It requires that `need` returns that length there, and that `begun` is true of the data
+/// unit. The item is `Whole` if no field fails, and otherwise `Broken`.
 pub fn unit_item(bits: &BitBuf, at: usize, count: usize, begun: Begun, place: u64) -> Item
     requires there { at ≤ length bits.now }
     requires needed { need_of (drop at bits.now) ≡ Length count }
@@ -129,9 +131,9 @@ pub fn unit_item(bits: &BitBuf, at: usize, count: usize, begun: Begun, place: u6
     item
 }
 
-/// Sets `item` to the item that `unit_item` answers. An item is large: set in place it is not moved, and where a voice unit
-/// follows a voice unit, only that is written. `room` takes the unit's bits without status symbols; what it holds before and
-/// after the call means nothing.
+/// Writes to `item` the item that `unit_item` returns. An item is large, so it is written in its buffer and not moved;
+/// if a voice data unit replaces a voice data unit, only that is written. `room` is a buffer for the data unit's bits
+/// without status symbols; its contents before and after the call have no meaning.
 pub fn unit_item_in(
     bits: &BitBuf,
     at: usize,

@@ -1,5 +1,5 @@
-//! All that a scanner has to know of units, what is read from a unit, and what terminators are among all units. Each function
-//! states what is proved, and makes no call.
+//! All laws of data units that a scanner needs, the decoding of a data unit, and terminators among all data units. Each
+//! function states what is proved, and makes no call.
 
 ghost use Rattle.std.specs.Prelude.{◌≡◌, ℕ, ◌<◌, Bool, List, ◌++◌, Ok, Err, length, take, ◌↔◌};
 ghost use Rattle.p25_status.specs.{declared.fields.Field.{Field}, declared.symbols.Status.{Status}};
@@ -9,13 +9,13 @@ ghost use Rattle.p25_units.specs.{Needs.{need_of}, Readings.{unit_reading_of}, U
 ghost use Rattle.p25_units.specs.{WithinRadius.{IsWithinRadius, received_frame}, declared.frame.Frame.{Frame}, declared.needs.Need.TheVariants.{Length}};
 ghost use Rattle.p25_units.specs.{declared.item.Item.TheVariants.{Whole}, Terminators.{ErrorsAreFixes, TerminatorIsNear, terminator, terminator_bits}};
 
-/// **Theorem.** All that a scanner has to know of units.
+/// **Theorem.** All laws of data units that a scanner needs.
 ///
-/// - `seen`, `stays`, `waits`: at a place with a sync, what is known stays whatever bits come later, and a number of bits
-///   that is waited for stays the same until it is there.
-/// - `few`, `there`: more bits are asked for only where they are not there, and the bits of a unit are there.
-/// - `covers`, `place`, `sound`, `no_gap`: what the item of a unit is.
-/// - `begun`: what was read of a unit stays true.
+/// - `seen`, `stays`, `waits`: at a position with a sync, known facts stay whatever bits come later, and a number of
+///   required bits stays the same until that many are there.
+/// - `few`, `there`: more bits are required only if they are not there, and the bits of a data unit are there.
+/// - `covers`, `place`, `sound`, `no_gap`: the item of a data unit.
+/// - `begun`: the decoded parts of a data unit stay true.
 pub fn need_laws()
     ensures seen { SyncIsSeen }
     ensures stays { KnownStays }
@@ -29,16 +29,19 @@ pub fn need_laws()
     ensures begun { BegunStays }
 {}
 
-/// **Theorem.** What units are sent as, and what they read as.
+/// **Theorem.** The transmitted bits of data units, and their decoding.
 ///
-/// - `form`: bits are the image of a sound frame that can be sent exactly where they stand as `IsImage` says by places. So each such
-///   frame has exactly one image.
-/// - `length`, `near`, `item`: bits within radius of the image of a sound frame that can be sent have its length, whatever bits
-///   follow, and read as the frame, with the voice frames and the status symbols that were received; their item is `Whole`.
-/// - `undamaged`, `again`, `none`: an image is within its own radius, reads as its frame, and has no fixes.
-/// - `fails`: a unit whose length is known is read, or some field of it fails.
-/// - `whole_is_read`: a unit at a sync is `Whole` only where its bits read as its frame: those of its front and of its voice
-///   words lie within radius, and of a packet the first nearest paths carry it, with all its checks.
+/// - `form`: bits are the image of a sound and sendable frame if and only if they meet `IsImage`, the form by
+///   positions. So each such frame has exactly one image.
+/// - `length`, `near`, `item`: bits within the correction radius of the image of a sound and sendable frame have its
+///   length, whatever bits follow. They decode to the frame, with the received voice frames and status symbols, and
+///   their item is `Whole`.
+/// - `undamaged`, `again`, `none`: an image is within its own correction radius, decodes to its frame, and has no
+///   fixes.
+/// - `fails`: a data unit with a known length is decoded, or some field of it fails.
+/// - `whole_is_read`: a data unit at a sync is `Whole` only if its bits decode to its frame. Those of sync, NID and
+///   voice codewords lie within the correction radius, and a packet is carried by the first nearest paths, with all its
+///   checks.
 pub fn unit_laws()
     ensures form { (frame : Frame) (sent : List Bool) → IsSoundFrame frame → IsSendableUnit frame.unit
         → IsImage frame sent ↔ (sent ≡ image_of frame) }
@@ -56,12 +59,12 @@ pub fn unit_laws()
     ensures whole_is_read { WholeUnitIsRead }
 {}
 
-/// **Theorem.** What terminators (TDU) are among all units.
+/// **Theorem.** Terminators (TDU) among all data units.
 ///
-/// - `sound`: the frame of a terminator is sound exactly where it has two status symbols.
-/// - `sent`: its bits as they are sent are the sync, the identifier, 28 nulls and the status symbols.
-/// - `near`: bits begin with a terminator exactly where the first 144 lie within radius of its frame.
-/// - `fixes`: its fixes are the wrong bits of its sync and of the first 63 of its identifier.
+/// - `sound`: the frame of a terminator is sound if and only if it has two status symbols.
+/// - `sent`: its transmitted bits are the sync, the NID, 28 nulls and the status symbols.
+/// - `near`: bits begin with a terminator if and only if the first 144 lie within the correction radius of its frame.
+/// - `fixes`: its fixes are the bit errors of its sync and of the first 63 bits of its NID.
 pub fn terminator_laws()
     ensures sound { (nac : ℕ) (statuses : List Status) → IsSoundFrame (terminator nac statuses) ↔ (length statuses ≡ 2) }
     ensures sent { (nac : ℕ) (statuses : List Status) → image_of (terminator nac statuses) ≡ terminator_bits nac statuses }

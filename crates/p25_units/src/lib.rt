@@ -1,7 +1,7 @@
-//! Units (HDU, LDU1, LDU2, TDU, TDULC and PDU) as they are sent: written, found at a place and read.
+//! Transmitted data units (HDU, LDU1, LDU2, TDU, TDULC and PDU): encoding, detection at a position and decoding.
 //!
-//! The first bit of a list is the first that is sent. A sent unit has a status symbol of two bits after every 70 of its
-//! bits; all places and lengths here count it in.
+//! The first bit of a list is transmitted first. A transmitted data unit has a status symbol of two bits after every 70
+//! of its bits; all positions and lengths here count it.
 //!
 //! ```
 //! let unit = Unit::new(0x293, Body::Voice(VoiceUnit::End));
@@ -12,10 +12,10 @@
 //! assert_eq!(rt; need(&sent, 0), Need::Length(144));
 //! ```
 //!
-//! Contracts see what the bits from a place on need as `need_of`, what a unit's bits read as as `unit_reading_of`, its bits
-//! as `image_of`, and its item as `unit_item_of`. `need_laws` says all that a scanner has to know of units, and
-//! `unit_laws` what is read from a unit, undamaged or with few wrong bits. Each kind of unit is a case in each of
-//! `body_length`, `body_image_of`, `body_looked`, `kind_need` and `body_reading_of`.
+//! Contracts see what the bits from a position on need as `need_of`, the decoding of a data unit's bits as
+//! `unit_reading_of`, its bits as `image_of`, and its item as `unit_item_of`. `need_laws` states all laws of data units
+//! that a scanner needs, and `unit_laws` the decoding of a data unit, undamaged or with few bit errors. Each type of
+//! data unit is a case in each of `body_length`, `body_image_of`, `body_looked`, `kind_need` and `body_reading_of`.
 #![tactic(auto)]
 
 mod begun;

@@ -1,16 +1,16 @@
-//! What is needed at a place.
+//! The needs of the bits at a position.
 
 use p25_status::Field;
 
-/// What the bits from a place on need.
+/// The result of examining the bits from a position on.
 #[derive(Clone, Copy, Debug, PartialEq, Eq)]
 pub enum Need {
-    /// The place has no sync.
+    /// There is no sync at the position.
     NoSync,
-    /// So many bits have to be there, and fewer are.
+    /// This number of bits is required, and fewer are there.
     More(usize),
-    /// A unit of so many bits is there.
+    /// A data unit of this number of bits is there.
     Length(usize),
-    /// No unit is there, since a field of it that tells its length fails.
+    /// No data unit is there, because a field of it that determines its length fails.
     NoLength(Field),
 }

@@ -1,4 +1,4 @@
-//! Units read from their sent bits.
+//! Decoding of data units from their transmitted bits.
 
 ghost use Rattle.std.specs.Prelude.{◌≡◌, ◌+◌, ◌<◌, ◌≤◌, ℕ, IfErr, List, Some, length, drop};
 ghost use Rattle.p25_bits.specs.Bits.{part};
@@ -14,9 +14,9 @@ use p25_bch_nid::{PDU, ReadNid};
 use p25_bits::BitBuf;
 use p25_status::{FieldList, ReadOutcome, unweave};
 
-/// Answers the frame that the `count` sent bits from place `at` on read as, where `need` answers that length there. The
-/// refusal is the list of exactly the fields that fail, in order, and is never empty: those of a voice unit, or of a packet (PDU)
-/// its format or its packet CRC alone, or each block whose CRC-9 does not agree.
+/// Decodes the `count` transmitted bits from position `at` on to a frame. It requires that `need` returns that length
+/// there. The error is the list of exactly the fields that fail, in order, and is never empty: those of a voice data
+/// unit, or for a packet (PDU) its format or its packet CRC alone, or each block whose CRC-9 does not agree.
 pub fn read_unit(bits: &BitBuf, at: usize, count: usize) -> Result<Frame, FieldList>
     requires there { at ≤ length bits.now }
     requires needed { need_of (drop at bits.now) ≡ Length count }
@@ -30,8 +30,8 @@ pub fn read_unit(bits: &BitBuf, at: usize, count: usize) -> Result<Frame, FieldL
     }
 }
 
-// Sets `frame` to that of a unit whose network identifier (NID) was read; `begun` holds what else was. `room` takes its bits without
-// status symbols.
+// Decodes into `frame` the frame of a data unit whose network identifier (NID) was decoded; `begun` holds its other
+// decoded parts. `room` is a buffer for its bits without status symbols.
 pub(crate) fn read_frame(
     bits: &BitBuf,
     at: usize,
@@ -59,7 +59,7 @@ pub(crate) fn read_frame(
     }
 }
 
-// The outcome of a unit by that of what stands after its front, with the wrong bits of the front.
+// Returns the outcome of a data unit by that of the bits after sync and NID, with the bit errors of sync and NID.
 fn with_front(outcome: ReadOutcome, front: u32) -> ReadOutcome
     requires few { IfRead outcome (λ wrong. wrong ≤ 25200) }
     requires front { front ≤ 111 }

@@ -1,4 +1,4 @@
-//! What the bits from a place on say of a unit there.
+//! The data unit at a position, as far as the bits from there on determine it.
 
 ghost use Rattle.std.specs.Prelude.{◌≡◌, ◌≤◌, true, length, drop};
 ghost use Rattle.p25_status.specs.Sync.{has_sync};
@@ -13,13 +13,19 @@ use p25_status::{BARE_BLOCK_LENGTH, Field, SENT_BLOCK_LENGTH, is_sync};
 use p25_unit_front::SENT_FRONT_LENGTH;
 use p25_voice_units::voice_length;
 
-// The bits from which the header of a packet (PDU) can be read: those up to the last of its block, with four status symbols.
+// The number of bits from which the header of a packet (PDU) can be decoded: those up to the last of its block, with
+// four status symbols.
 const HEADED: usize = 316;
 
-/// Answers what the bits from place `at` on need, the first that is wanting: 48 bits; a sync (`NoSync`); 114 bits; a network
-/// identifier (NID) that can be read (`NoLength` of `Nid`) and is that of a known unit (`NoLength` of `Duid`); of a packet (PDU)
-/// 316 bits, and a header whose CRC agrees (`NoLength` of `PacketHeader`); all bits of that unit. `More` tells how many bits
-/// have to be there from the place on.
+/// Returns the first missing requirement for a data unit at position `at`. The requirements are, in this order:
+///
+/// - 48 bits, and a sync in them (`NoSync` without one).
+/// - 114 bits, and a correctable network identifier (NID) in them (`NoLength` of `Nid`), which is that of a known type
+///   (`NoLength` of `Duid`).
+/// - For a packet (PDU) 316 bits, and a header whose CRC agrees (`NoLength` of `PacketHeader`).
+/// - All bits of that data unit.
+///
+/// `More` has the number of bits that are required from the position on. If nothing is missing, `Length` is returned.
 pub fn need(bits: &BitBuf, at: usize) -> Need
     requires { at ≤ length bits.now }
     ensures { result ≡ need_of (drop at bits.now) }
@@ -27,8 +33,8 @@ pub fn need(bits: &BitBuf, at: usize) -> Need
     need_with(bits, at, &mut Begun::new())
 }
 
-/// Answers what the bits from place `at` on need, where `begun` holds what was read at this place before. Replaces it by what has
-/// been read now.
+/// Returns what `need` returns for position `at`, given the parts in `begun` that were decoded at this position before.
+/// Replaces `begun` by the parts that are decoded now.
 pub fn need_with(bits: &BitBuf, at: usize, begun: &mut Begun) -> Need
     requires there { at ≤ length bits.now }
     requires begun { IsBegun begun.old (drop at bits.now) }
@@ -44,7 +50,7 @@ pub fn need_with(bits: &BitBuf, at: usize, begun: &mut Begun) -> Need
     need_synced(bits, at, begun)
 }
 
-/// Answers what `need_with` answers, where a sync was found at place `at` before.
+/// Returns what `need_with` returns. It requires that a sync was detected at position `at` before.
 pub fn need_synced(bits: &BitBuf, at: usize, begun: &mut Begun) -> Need
     requires there { at ≤ length bits.now }
     requires synced { has_sync (drop at bits.now) ≡ true }
@@ -74,7 +80,7 @@ pub fn need_synced(bits: &BitBuf, at: usize, begun: &mut Begun) -> Need
     }
 }
 
-// What a unit of a known length needs where so many bits are there.
+// Returns the need of a data unit of a known length if `have` bits are there.
 fn need_of_length(length: usize, have: usize) -> Need
     ensures { result ≡ length_need length have }
 {

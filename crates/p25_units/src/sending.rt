@@ -1,4 +1,4 @@
-//! Units as they are sent.
+//! Data units as transmitted.
 
 ghost use Rattle.std.specs.Prelude.{◌≡◌, ◌<◌, Ok, length};
 ghost use Rattle.p25_units.specs.Readings.{unit_reading_of};
@@ -11,9 +11,9 @@ use p25_packet_blocks::packet_image;
 use p25_status::{Statuses, weave};
 use p25_voice_units::voice_image;
 
-/// Sets `out` to the sent bits of a frame, first to last: those of its unit with a status symbol after every 70. No slot of a
-/// packet is Bad, and there is a status symbol for each 72 of the bits.
-/// TIA-102.BAAA, Status Symbols.
+/// Encodes a frame: writes to `out` its transmitted bits, first to last, those of its data unit with a status symbol
+/// after every 70. It requires that no slot of a packet is `Bad`, and that there is a status symbol for each 72 of the
+/// bits. TIA-102.BAAA, Status Symbols.
 pub fn image(frame: &Frame, out: &mut BitBuf)
     requires { IsSoundFrame frame.now }
     ensures list { out.new ≡ image_of frame.now }
@@ -26,8 +26,8 @@ pub fn image(frame: &Frame, out: &mut BitBuf)
     weave(&bare, &frame.statuses, out);
 }
 
-/// Sets `out` to the sent bits of a frame's unit under another network access code, with other status symbols, as many as
-/// the frame has.
+/// Writes to `out` the transmitted bits of a frame's data unit under another network access code, with other status
+/// symbols, as many as the frame has.
 pub fn image_as(frame: &Frame, nac: u16, statuses: &Statuses, out: &mut BitBuf)
     requires sound { IsSoundFrame frame.now }
     requires nac { nac < 4096 }
@@ -37,7 +37,8 @@ pub fn image_as(frame: &Frame, nac: u16, statuses: &Statuses, out: &mut BitBuf)
     image_as_in(frame, nac, statuses, &mut BitBuf::new(), out);
 }
 
-/// Sets `out` as `image_as` does. `room` takes the frame's bits without status symbols: what it holds before and after means nothing.
+/// Writes to `out` as `image_as` does. `room` is a buffer for the frame's bits without status symbols; its contents
+/// before and after have no meaning.
 pub fn image_as_in(
     frame: &Frame,
     nac: u16,
@@ -54,7 +55,8 @@ pub fn image_as_in(
     weave(room, statuses, out);
 }
 
-/// Sets `out` to the bits of a unit without status symbols, first to last. No slot of a packet is Bad.
+/// Encodes a data unit: writes to `out` its bits without status symbols, first to last. It requires that no slot of a
+/// packet is `Bad`.
 pub fn unit_image(unit: &Unit, out: &mut BitBuf)
     requires { IsWholeBody unit.now.body }
     ensures list { out.new ≡ unit_image_of unit.now }
@@ -64,7 +66,7 @@ pub fn unit_image(unit: &Unit, out: &mut BitBuf)
     body_image(unit.nac(), unit.body(), out)
 }
 
-// Sets `out` to a unit's bits without status symbols, by what it carries.
+// Writes to `out` a data unit's bits without status symbols, by its body.
 fn body_image(nac: u16, body: &Body, out: &mut BitBuf)
     requires nac { nac < 4096 }
     requires whole { IsWholeBody body.now }

@@ -1,5 +1,5 @@
-//! Units (HDU, LDU1, LDU2, TDU, TDULC and PDU) that a program apart from this code made: what they need at each number of bits,
-//! what they read as, damaged and not, and that they are written as the same bits.
+//! Data units (HDU, LDU1, LDU2, TDU, TDULC and PDU) that a program apart from this code made: their needs at each
+//! number of bits, their decoding, damaged and not, and their encoding to the same bits.
 
 ghost use Rattle.p25_units.specs.{Items.{IsSoundItem}, Units.{IsSoundFrame}};
 
@@ -25,7 +25,7 @@ fn the_example_of_the_head(rt: HostRuntime) {
     assert_eq!(rt; need(&sent, 0), Need::Length(144));
 }
 
-// The first bits of some words, of which the last goes on, with the status symbol 0 throughout.
+// The first bits of some words, the last of which is repeated, with the status symbol 0 throughout.
 fn sent(words: &[u64], len: usize) -> BitBuf {
     let mut bare = BitBuf::new();
     for place in 0..len {
@@ -42,7 +42,7 @@ fn sent(words: &[u64], len: usize) -> BitBuf {
     out
 }
 
-// Asserts with how many bits of a unit what is needed.
+// Asserts the need at a number of bits of a data unit.
 fn assert_needs(rt: &impl Abort, whole: &BitBuf, needs: &[(usize, Need)]) {
     for (have, needed) in needs {
         assert!(rt; *have <= whole.len());
@@ -59,7 +59,7 @@ fn needs(rt: HostRuntime) {
     }
 }
 
-// A unit with some of its sent bits inverted.
+// A data unit with some of its transmitted bits inverted.
 fn damaged(words: &[u64], len: usize, places: &[usize]) -> BitBuf {
     let mut bits = sent(words, len);
     for place in places {
@@ -70,7 +70,7 @@ fn damaged(words: &[u64], len: usize, places: &[usize]) -> BitBuf {
     bits
 }
 
-// Asserts that an item is whole with so many fixes, or that exactly these fields fail.
+// Asserts that an item is whole with a number of fixes, or that exactly these fields fail.
 fn assert_item(rt: &impl Abort, item: &Item, wrong: u32, fields: &[Field]) {
     match item {
         Item::Whole { fixes, .. } => assert!(rt; *fixes == wrong && fields.len() == 0),
@@ -82,7 +82,7 @@ fn assert_item(rt: &impl Abort, item: &Item, wrong: u32, fields: &[Field]) {
     }
 }
 
-// The item of a unit that is all there.
+// The item of a complete data unit.
 fn item_of(bits: &BitBuf) -> Item
     ensures { IsSoundItem result }
 {
@@ -103,7 +103,7 @@ fn readings(rt: HostRuntime) {
     }
 }
 
-// Asserts that a frame is written as some bits.
+// Asserts that a frame is encoded as some bits.
 fn assert_written(rt: &impl Abort, frame: &Frame, bits: &BitBuf)
     requires { IsSoundFrame frame.now }
 {
@@ -113,7 +113,7 @@ fn assert_written(rt: &impl Abort, frame: &Frame, bits: &BitBuf)
     assert!(rt; BitBuf::distance(&made, bits) == 0 && fixes(bits, 0, frame) == 0);
 }
 
-// Asserts that a frame is written under another network access code (NAC) with that code.
+// Asserts that a frame encoded under another network access code (NAC) has that code.
 fn assert_code(rt: &impl Abort, frame: &Frame)
     requires { IsSoundFrame frame.now }
 {

@@ -1,4 +1,4 @@
-//! A unit: whose it is, and what it carries.
+//! A data unit: its network and its body.
 
 ghost use Rattle.std.specs.Prelude.{◌≡◌, ◌<◌, ◌≤◌, Ok, Some, length};
 ghost use Rattle.p25_status.specs.Outcomes.{IfRead, read_or};
@@ -13,17 +13,17 @@ use p25_status::ReadOutcome;
 use p25_voice_units::{VoiceUnit, read_voice_in};
 use std::marker::Model;
 
-/// What a unit carries, by its kind.
+/// The body of a data unit, by its type.
 #[derive(Clone, Debug, Drop, PartialEq, Eq)]
 pub enum Body {
-    /// A voice unit: an HDU, an LDU1, an LDU2, a TDU or a TDULC.
+    /// A voice data unit: an HDU, an LDU1, an LDU2, a TDU or a TDULC.
     Voice(VoiceUnit),
     /// A packet of data (PDU).
     Packet(Packet),
 }
 
 impl Body {
-    /// Answers the data unit identifier (DUID) of the unit's kind: that of HDU, LDU1, LDU2, TDU, TDULC or PDU.
+    /// Returns the data unit identifier (DUID) of the data unit's type: that of HDU, LDU1, LDU2, TDU, TDULC or PDU.
     pub fn duid(&self) -> u8
         ensures value { result ≡ body_duid self.now }
         ensures fits { result ≤ 15 }
@@ -35,7 +35,7 @@ impl Body {
     }
 }
 
-/// A unit: its network access code (NAC), which is below 4,096, and what it carries.
+/// A data unit: its network access code (NAC), which is below 4,096, and its body.
 #[derive(Clone, Debug, Drop, PartialEq, Eq)]
 pub struct Unit {
     nac: u16,
@@ -56,7 +56,7 @@ impl Model for Unit {
 }
 
 impl Unit {
-    /// Answers the unit of a network access code (NAC) and a body.
+    /// Returns the data unit of a network access code (NAC) and a body.
     pub fn new(nac: u16, body: Body) -> Unit
         requires { nac < 4096 }
         ensures { result ≡ record { nac = nac; body = body } }
@@ -64,8 +64,8 @@ impl Unit {
         Unit { nac, body }
     }
 
-    // Becomes the voice unit (HDU, LDU1, LDU2, TDU or TDULC) of a network identifier (NID) that bits without status symbols read as. Where
-    // it was one, no room for a packet is moved.
+    // Decodes bits without status symbols into the voice data unit (HDU, LDU1, LDU2, TDU or TDULC) of a network
+    // identifier (NID). If it was a voice data unit before, no buffer for a packet is moved.
     pub(crate) fn read_voice(&mut self, nid: &Nid, bare: &BitBuf) -> ReadOutcome
         requires { voice_length_of nid.now.duid ≡ Some (length bare.now) }
         ensures nac { self.new.nac ≡ nid.now.nac }
@@ -83,7 +83,8 @@ impl Unit {
         }
     }
 
-    // Makes it carry a voice unit: room into which one is read. A body takes room, which is cleared, so it is made apart from its caller.
+    // Makes it carry a voice data unit, as a buffer into which one is decoded. A body is large and its buffer is
+    // cleared, so it is made apart from its caller.
     #[inline(never)]
     fn make_voice(&mut self)
         ensures { self.new ≡ record self.old { body = Voice End } }
@@ -91,8 +92,9 @@ impl Unit {
         self.body = Body::Voice(VoiceUnit::End);
     }
 
-    // Becomes the packet (PDU) of a unit without status symbols whose header was read, under a network access code, and answers what
-    // `Packet::read` does. Where it was a packet, no room is moved. A packet takes room, so it is read apart from voice units.
+    // Decodes a data unit without status symbols, whose header was decoded, into a packet (PDU) under a network access
+    // code, and returns what `Packet::read` does. If it was a packet before, no buffer is moved. A packet is large, so
+    // it is decoded apart from voice data units.
     #[inline(never)]
     pub(crate) fn read_packet(&mut self, nac: u16, read: ReadHead, bare: &BitBuf) -> ReadOutcome
         requires nac { nac < 4096 }
@@ -115,7 +117,7 @@ impl Unit {
         }
     }
 
-    /// Answers the network access code (NAC).
+    /// Returns the network access code (NAC).
     pub fn nac(&self) -> u16
         ensures value { result ≡ self.now.nac }
         ensures fits { result < 4096 }
@@ -123,7 +125,7 @@ impl Unit {
         self.nac
     }
 
-    /// Answers what the unit carries.
+    /// Returns the body of the data unit.
     pub fn body(&self) -> &Body
         ensures { result.now ≡ self.now.body }
     {

@@ -1,9 +1,9 @@
-//! Units before their status symbols are woven in, by their words of 64 bits, the most significant bit first, which a program apart
-//! from this code made; and what they need.
+//! Data units before their status symbols are inserted, by their words of 64 bits, the most significant bit first,
+//! which a program apart from this code made; and their needs.
 
 use crate::{Field, Need};
 
-// The front of the network access code (NAC) 293 hex and of the packets (PDU) below.
+// Sync and NID of the network access code (NAC) 293 hex and of the packets (PDU) below.
 const FRONT: u64 = 0x5575_F5FF_77FF_293C;
 
 // A response without blocks (PDU).
@@ -72,15 +72,15 @@ pub(super) const LARGEST: [u64; 6] = [
     0x2222_2222_2222_2222,
 ];
 
-// A terminator (TDU); one whose sync has five wrong bits; one whose network identifier (NID) is more than eleven bits away from
-// each.
+// A terminator (TDU); one whose sync has five bit errors; one whose network identifier (NID) is more than eleven bits
+// away from each codeword.
 const TERMINATOR: [u64; 3] = [0x5575_F5FF_77FF_0003, 0x364C_2F74_ECAC_0000, 0];
 
 const NO_SYNC: [u64; 3] = [0x5575_F5FF_77E0_0003, 0x364C_2F74_ECAC_0000, 0];
 
 const FAR: [u64; 3] = [0x5575_F5FF_77FF_0003, 0x682D_4527_4B06_0000, 0];
 
-// Voice units whose fields and frames are zeros: an HDU, an LDU1, an LDU2 and a TDULC.
+// Voice data units whose fields and frames are zeros: an HDU, an LDU1, an LDU2 and a TDULC.
 const HEADER: [u64; 2] = [0x5575_F5FF_77FF_0000, 0];
 
 const LINK_1: [u64; 3] = [0x5575_F5FF_77FF_2935, 0x55EF_2C65_3437_0000, 0];
@@ -89,7 +89,7 @@ const LINK_2: [u64; 3] = [0x5575_F5FF_77FF_293A, 0xBA93_BEC2_6A2B_0000, 0];
 
 const END_LINK: [u64; 3] = [0x5575_F5FF_77FF_FFFF, 0xFFFF_FFFF_FFFE_0000, 0];
 
-// With how many sent bits a response without blocks needs what.
+// The need at each number of transmitted bits of a response without blocks.
 const RESPONSE_NEEDS: [(usize, Need); 5] = [
     (113, Need::More(114)),
     (114, Need::More(316)),
@@ -98,7 +98,7 @@ const RESPONSE_NEEDS: [(usize, Need); 5] = [
     (360, Need::Length(360)),
 ];
 
-// What the first bits of the confirmed packet of one block need.
+// The needs of the first bits of the confirmed packet of one block.
 const CONFIRMED_NEEDS: [(usize, Need); 5] = [
     (47, Need::More(48)),
     (315, Need::More(316)),
@@ -154,7 +154,7 @@ const TERMINATOR_NEEDS: [(usize, Need); 7] = [
     (144, Need::Length(144)),
 ];
 
-// Units, their number of bits, and with how many sent bits they need what.
+// Data units, their number of bits, and the need at each number of transmitted bits.
 pub(super) const NEEDS: [(&[u64], usize, &[(usize, Need)]); 14] = [
     (&RESPONSE, 350, &RESPONSE_NEEDS),
     (&CONFIRMED, 560, &CONFIRMED_NEEDS),
@@ -209,13 +209,13 @@ pub(super) const NEEDS: [(&[u64], usize, &[(usize, Need)]); 14] = [
     ),
 ];
 
-// Four bits of the sync, eleven of the network identifier (NID), and its last bit, P, which is not looked at.
+// Four bits of the sync, eleven of the network identifier (NID), and its last bit, P, which is ignored.
 const AT_RADIUS: [usize; 16] = [0, 1, 2, 3, 48, 53, 58, 63, 68, 75, 80, 85, 90, 95, 100, 113];
 
-// Units, their number of bits, the sent bits that are inverted, the fixes, and the fields that fail.
+// Data units, their number of bits, the inverted transmitted bits, the fixes, and the fields that fail.
 pub(super) const READINGS: [(&[u64], usize, &[usize], u32, &[Field]); 17] = [
     (&RESPONSE, 350, &[], 0, &[]),
-    // a bit of the sync, of the identifier and two of the header block; a status symbol, P and a null are not looked at
+    // a bit of the sync, of the NID and two of the header block; a status symbol, P and a null are ignored
     (&RESPONSE, 350, &[0, 50, 70, 113, 120, 250, 340], 4, &[]),
     (&CONFIRMED, 560, &[115, 284, 318], 3, &[]),
     (&NO_BLOCKS, 700, &[], 0, &[Field::Block(0), Field::Block(1)]),
@@ -240,7 +240,7 @@ pub(super) const READINGS: [(&[u64], usize, &[usize], u32, &[Field]); 17] = [
     (&LINK_1, 1_680, &[114, 263, 264, 409], 0, &[]),
     // two bits of each low speed data (LSD) word of an LDU1
     (&LINK_1, 1_680, &[1_546, 1_547, 1_562, 1_563], 4, &[]),
-    // both low speed data (LSD) words beyond
+    // both low speed data (LSD) words uncorrectable
     (
         &LINK_2,
         1_680,
@@ -248,7 +248,7 @@ pub(super) const READINGS: [(&[u64], usize, &[usize], u32, &[Field]); 17] = [
         0,
         &[Field::LowSpeed1, Field::LowSpeed2],
     ),
-    // three bits of the first word of a TDULC and of the last
+    // three bits of the first codeword of a TDULC and of the last
     (&END_LINK, 420, &[114, 115, 116, 386, 387, 388], 6, &[]),
     (&LINK_2, 1_680, &[], 0, &[]),
 ];
