@@ -1,4 +1,4 @@
--- How many bits of each word are inverted, as a list that grows a word at a time; what is damaged and counted grows with it.
+-- The number of inverted bits of each codeword, as a list that grows one codeword at a time; the damage and its count grow with it.
 use Rattle.std.proofs.{Common.{◌≡◌, ℕ, ◌+◌, ◌-◌, ◌%◌, ◌<◌, ◌≤◌, inl, inr, Bool, cond, nat_lt, List, [], ◌∷◌, ◌++◌, length, take, map, get_or, sum, refl, ap, ap₂, sym, ◌∙◌, arith}, Math.Nat.{mod-lt}}
 use Rattle.std.proofs.{lemmas.Bool.{cases_lt}, lemmas.Bool.Decides.{nat_tests}, lemmas.List.{take_more, map-append, length-map, get_or-map, length-take-le}}
 use Rattle.std.proofs.lemmas.List.Sums.{sum_by_push, sum_by-append, sum_by-cons}

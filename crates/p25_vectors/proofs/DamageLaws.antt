@@ -1,5 +1,5 @@
--- What the damage of words leaves of a list of bits: where the words lie apart, each differs in no more bits than are inverted of
--- it, and what lies outside them is unchanged. By recursion on the words: a later word begins after an earlier one.
+-- The effect of the damage of codewords on a list of bits: if the codewords are disjoint, each differs in at most as many bits as are inverted, and
+-- the bits outside them are unchanged. By recursion on the codewords: a later one begins after an earlier one.
 use Rattle.std.proofs.Common.{◌≡◌, ℕ, zero, suc, ◌+◌, ◌<◌, ◌≤◌, ◌⊎◌, inl, inr, Bool, true, ◌&&◌, nat_le, List, [], ◌∷◌, ◌++◌, length, take, drop, get_or, refl, ap, sym, subst, ◌∙◌, arith}
 use Rattle.std.proofs.lemmas.Bool.{and_parts, leb-true}
 use Rattle.p25_bits.specs.{Bits.{part, flipped}, Distance.{distance_of}}

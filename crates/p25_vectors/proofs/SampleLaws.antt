@@ -1,5 +1,5 @@
--- Damaged sample units lie within radius of their frames and read as them: what is damaged lies in words that are read by their codes,
--- so the voice frames and the status symbols come as they were sent.
+-- Damaged sample data units lie within the correction radius of their frames and decode to them. The damage is in codewords that their codes correct,
+-- so the voice frames and the status symbols are as transmitted.
 use Rattle.std.proofs.Common.{◌≡◌, ℕ, zero, suc, ◌+◌, ◌*◌, ◌/◌, ◌%◌, ◌<◌, ◌≤◌, ◌⊎◌, inl, inr, ◌&&◌, ◌||◌, Bool, true, nat_le, List, [], ◌∷◌, ◌++◌, length, take, drop, map, replicate, sum, Ok, refl, ap, ap₂, sym, subst, ◌∙◌, arith, length-drop, get_or}
 use Rattle.std.proofs.{lemmas.Bool.{and_parts, or_cases, leb-true}, lemmas.List.{length-replicate, length-take-le, take_at, drop_at, take-take, append-nil}, lemmas.List.Sums.{sum_by_push}}
 use Rattle.std.specs.{List.{list_all}, Option.{unwrap_or}}

@@ -1,5 +1,5 @@
--- The damage of sample units lies within radius: each word differs in no more bits than are inverted of it. The inner words that are
--- inverted whole are the only ones with more wrong bits than the radius, and there are so few that the outer code undoes them.
+-- The damage of sample data units lies within the correction radius: each codeword differs in at most as many bits as are inverted. Only the inner
+-- codewords that are inverted whole have more bit errors than the correction radius, and they are so few that the outer code corrects them.
 use Rattle.std.proofs.Common.{◌≡◌, ℕ, zero, suc, ◌+◌, ◌*◌, ◌%◌, ◌<◌, ◌≤◌, Bool, true, false, cond, nat_le, List, [], ◌∷◌, ◌++◌, length, get_or, sum_by, refl, ap, sym, subst, ◌∙◌, arith, length-append}
 use Rattle.std.proofs.{Math.Nat.{mod-lt}, lemmas.Bool.{cond-true, le-leb}, lemmas.List.{get_or_append_left, get_or_default}, lemmas.List.Sums.{sum_by-cons}}
 use Rattle.p25_bits.specs.{Bits.{part}, Distance.{distance_of}, Numbers.{each_below}}

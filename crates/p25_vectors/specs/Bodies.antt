@@ -1,4 +1,4 @@
--- What sample units carry: their kinds in turn, and what each has of the draws after a state.
+-- The contents of sample data units: their types in turn, and the draws of each after a state.
 use Rattle.std.specs.Prelude.{ℕ, ◌+◌, ◌-◌, ◌*◌, ◌%◌, true, List, [], ◌∷◌, take, slice_index, slice_index_or}
 use Rattle.p25_bits.specs.Numbers.{each_below, pair_at, triple_at}
 use Rattle.p25_link.specs.{declared.link_control.LinkControl.{LinkControl}, declared.encryption.EncryptionSync.{EncryptionSync}}
@@ -11,11 +11,11 @@ use Rattle.p25_units.specs.{declared.unit.Body.{Body}, declared.unit.Body.TheVar
 use Rattle.p25_vectors.specs.{Draws.{Drawing, and_then, draw, drawn, octets_drawn, octets_next, state_after}, declared.bodies.Kind.{Kind}}
 use Rattle.p25_vectors.specs.declared.bodies.Kind.TheVariants.{End, Header, EndLink, Link1, Link2, Confirmed, Plain, Response}
 
--- the kinds, in turn
+-- the types, in turn
 unfoldable pub kinds : List Kind
 kinds = End ∷ Header ∷ EndLink ∷ Link1 ∷ Link2 ∷ Confirmed ∷ Plain ∷ Response ∷ []
 
--- the kind of the unit of a number, from 0
+-- the type of the data unit of an index, from 0
 unfoldable pub kind_of : ℕ → Kind
 kind_of i = slice_index_or kinds (i % 8) End
 
@@ -41,7 +41,7 @@ link_of octets = record { 0 = octets }
 abbrev pub voice_frame_of : List ℕ → VoiceFrame
 voice_frame_of octets = record { 0 = octets }
 
--- so many voice frames, of an LDU1 or an LDU2
+-- a number of voice frames, of an LDU1 or an LDU2
 unfoldable pub voice_drawn : ℕ → ℕ → List VoiceFrame
 voice_drawn count state = each_below count (λ i. voice_frame_of (octets_drawn 18 (state_after (18 * i) state)))
 
@@ -66,14 +66,14 @@ blocks_next = λ state. (blocks_drawn state, state_after 1 state)
 abbrev pub block_of : ℕ → List ℕ → Slot
 block_of serial octets = Good (record { serial = serial; octets = octets })
 
--- so many blocks of a confirmed packet (PDU)
+-- a number of blocks of a confirmed packet (PDU)
 unfoldable pub slots_drawn : ℕ → ℕ → List Slot
 slots_drawn blocks state = each_below blocks (λ j. block_of j (octets_drawn 16 (state_after (16 * j) state)))
 
 abbrev pub slots_next : ℕ → Drawing (List Slot)
 slots_next blocks = λ state. (slots_drawn blocks state, state_after (16 * blocks) state)
 
--- what a unit of a kind carries, its parts drawn one after the other
+-- the contents of a data unit of a type, its parts drawn one after the other
 unfoldable pub body_next : Kind → Drawing Body
 body_next End = drawn (Voice end_unit)
 body_next Header = and_then (octets_next 15) (λ octets. drawn (Voice (header_unit (header_of octets))))

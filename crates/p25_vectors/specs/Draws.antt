@@ -1,4 +1,4 @@
--- Numbers that look drawn by lot, and are the same on every run: each draw replaces a state below 2^32.
+-- Pseudorandom numbers, the same on every run: each draw replaces a state below 2^32.
 use Rattle.std.specs.Prelude.{ℕ, zero, suc, ◌+◌, ◌*◌, ◌/◌, ◌%◌, ◌^◌, List}
 use Rattle.p25_bits.specs.Numbers.{each_below}
 
@@ -6,20 +6,20 @@ use Rattle.p25_bits.specs.Numbers.{each_below}
 unfoldable pub state_behind : ℕ → ℕ
 state_behind state = (1664525 * state + 1013904223) % 2 ^ 32
 
--- the state that so many draws leave
+-- the state after a number of draws
 unfoldable pub state_after : ℕ → ℕ → ℕ
 state_after zero state = state
 state_after (suc count) state = state_behind (state_after count state)
 
--- the draw after so many others: the higher half of the state that it leaves
+-- the draw after a number of others: the higher half of the state after it
 unfoldable pub draw : ℕ → ℕ → ℕ
 draw count state = state_after (suc count) state / 65536
 
--- so many octets, each the lowest eight bits of a draw
+-- a number of octets, each the lowest eight bits of a draw
 unfoldable pub octets_drawn : ℕ → ℕ → List ℕ
 octets_drawn count state = each_below count (λ k. draw k state % 256)
 
--- what is drawn from a state on, and the state that the draws leave
+-- a value drawn from a state on, and the state after the draws
 abbrev pub Drawing : Type 0 → Type 0
 Drawing X = ℕ → X × ℕ
 
@@ -31,10 +31,10 @@ drawn x = λ state. (x, state)
 abbrev pub number_next : Drawing ℕ
 number_next = λ state. (draw 0 state, state_after 1 state)
 
--- so many octets
+-- a number of octets
 abbrev pub octets_next : ℕ → Drawing (List ℕ)
 octets_next count = λ state. (octets_drawn count state, state_after count state)
 
--- first the one, and then what is drawn by that
+-- first the one, and then the drawing that its value gives
 abbrev pub and_then : {X Y : Type 0} → Drawing X → (X → Drawing Y) → Drawing Y
 and_then first next = λ state. next (first state).0 (first state).1

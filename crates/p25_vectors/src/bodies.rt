@@ -1,4 +1,4 @@
-//! The kinds of sample units, and what each carries.
+//! The types of sample data units, and the contents of each.
 
 ghost use Rattle.std.specs.Prelude.{◌≡◌, ◌*◌, ◌^◌, ◌<◌, ◌≤◌, length, take};
 ghost use Rattle.p25_vectors.specs.Draws.{octets_drawn, state_after};
@@ -13,7 +13,7 @@ use p25_packet_blocks::{Block, Confirmed, Octets, Packet, PacketHead, Plain, Slo
 use p25_units::Body;
 use p25_voice_units::{Voice, VoiceFrame, VoiceUnit};
 
-// What a sample unit is.
+// The type of a sample data unit.
 #[derive(Clone, Copy, Debug, PartialEq, Eq)]
 pub(crate) enum Kind {
     // A TDU: a terminator without link control.
@@ -28,13 +28,13 @@ pub(crate) enum Kind {
     Link2,
     // A confirmed packet (PDU).
     Confirmed,
-    // A packet (PDU) that is not confirmed.
+    // An unconfirmed packet (PDU).
     Plain,
     // A response to a packet (PDU).
     Response,
 }
 
-// The kinds, in turn.
+// The types, in turn.
 const KINDS: [Kind; 8] = [
     Kind::End,
     Kind::Header,
@@ -46,14 +46,14 @@ const KINDS: [Kind; 8] = [
     Kind::Response,
 ];
 
-// The kind of the unit of a number, from 0.
+// Returns the type of the data unit of an index, from 0.
 pub(crate) fn kind_at(number: u32) -> Kind
     ensures { result ≡ kind_of number }
 {
     KINDS[number as usize % KINDS.len()]
 }
 
-// The first nine octets.
+// Returns the first nine octets.
 fn nine<const N: usize>(octets: &[u8; N]) -> [u8; 9]
     requires { 9 ≤ N }
     ensures { result ≡ take 9 octets.now }
@@ -103,7 +103,7 @@ fn draw_voice(draws: &mut Draws) -> Voice
     Voice::new(frames)
 }
 
-// The number of blocks to follow, from 1 to 4.
+// Draws the number of blocks to follow, from 1 to 4.
 fn draw_blocks(draws: &mut Draws) -> u8
     ensures value { result ≡ blocks_drawn draws.old }
     ensures few { result ≤ 4 }
@@ -171,7 +171,7 @@ fn draw_plain(draws: &mut Draws) -> Packet
     Packet::Plain(Plain::new(head, octets))
 }
 
-// What a unit of a kind carries.
+// Draws the contents of a data unit of a type.
 #[tactic(auto, unfolding(crate::specs::Bodies::body_next))]
 pub(crate) fn draw_body(kind: Kind, draws: &mut Draws) -> Body
     ensures body { result ≡ (body_next kind draws.old).0 }

@@ -1,4 +1,4 @@
-//! The damage of sample units: the first bits of each of their words are inverted, as the draws say.
+//! The damage of sample data units: the first bits of each of their codewords are inverted, a drawn number of them.
 
 ghost use Rattle.std.specs.Prelude.{◌≡◌, ◌+◌, ◌-◌, ◌*◌, ◌%◌, ◌<◌, ◌≤◌, All, length, sum};
 ghost use Rattle.p25_bits.specs.Numbers.{each_below};
@@ -16,20 +16,20 @@ use p25_units::Body;
 use p25_voice_units::laws::part_places;
 use p25_voice_units::{HDU_WORDS, LDU_WORDS, LOW_WORDS, TDULC_WORDS, VoiceUnit};
 
-// Inverts so many bits from a place on.
+// Inverts a number of bits from a position on.
 fn invert(at: usize, count: usize, bits: &mut BitBuf)
     requires { at + count ≤ length bits.old }
     ensures list { bits.new ≡ inverted at count bits.old }
     ensures len { length bits.new ≡ length bits.old }
 {
-    // For the prover: the number of bits held bounds every place below.
+    // For the prover: the number of bits held bounds every position below.
     let _ = bits.len();
     for k in 0..count {
         bits.flip(at + k);
     }
 }
 
-// Code words of one code: how many bits each has, and how many wrong ones the code corrects.
+// Codewords of one code: the number of bits of each, and the number of bit errors that the code corrects.
 #[derive(Clone, Copy)]
 struct Words {
     size: usize,
@@ -56,7 +56,7 @@ const LOW_SPEED: Words = Words {
     radius: 2,
 };
 
-// Inverts the first bits of a word, at most so many, as a draw says, and answers how many.
+// Inverts the first bits of a codeword, at most `most`, by a draw, and returns their number.
 fn damage_word(at: usize, most: usize, draws: &mut Draws, bits: &mut BitBuf) -> u32
     requires few { most ≤ 24 }
     requires there { at + most ≤ length bits.old }
@@ -71,7 +71,7 @@ fn damage_word(at: usize, most: usize, draws: &mut Draws, bits: &mut BitBuf) -> 
     count
 }
 
-// Inverts the first words whole, and the first bits of each later one as draws say, and answers how many bits.
+// Inverts the first codewords whole, and the first bits of each later one by draws, and returns the number of bits.
 fn damage_words(
     places: &[usize],
     words: Words,
@@ -103,7 +103,7 @@ fn damage_words(
     flips
 }
 
-// Damages the inner words of a coded field, where a draw says how many are inverted whole, at most so many.
+// Damages the inner codewords of a coded field. A draw determines how many are inverted whole, up to a maximum.
 fn damage_field(
     places: &[usize],
     words: Words,
@@ -127,7 +127,7 @@ fn damage_field(
     damage_words(places, words, whole, draws, bits)
 }
 
-// Damages the inner words of an LDU1 or an LDU2, and the words of its low speed data (LSD).
+// Damages the inner codewords of an LDU1 or an LDU2, and the codewords of its low speed data (LSD).
 fn damage_link(most: usize, draws: &mut Draws, bits: &mut BitBuf) -> u32
     requires most { most ≤ 24 }
     requires long { length bits.old ≡ 1680 }
@@ -137,13 +137,14 @@ fn damage_link(most: usize, draws: &mut Draws, bits: &mut BitBuf) -> u32
     ensures few { result ≤ 864 }
     ensures state { draws.new ≡ state_after (field_draws 24 most draws.old + 2) draws.old }
 {
-    // For the prover, here and below: the places of the words are those of the layouts.
+    // For the prover, here and below: the positions of the words are those of the layouts.
     part_places();
     let field = damage_field(&LDU_WORDS, HAMMING10, most, draws, bits);
     field + damage_words(&LOW_WORDS, LOW_SPEED, 0, draws, bits)
 }
 
-// Damages the words of a voice unit after its front: of an HDU, a TDULC, an LDU1 or an LDU2. A TDU has none.
+// Damages the codewords of a voice data unit after sync and NID: those of an HDU, a TDULC, an LDU1 or an LDU2. A TDU
+// has none.
 #[tactic(auto, unfolding(crate::specs::Damage::body_counts, crate::specs::Damage::body_damage_draws, p25_voice_units::specs::Fixes::voice_looked, p25_voice_units::specs::Lengths::voice_length_of))]
 fn damage_voice(voice: &VoiceUnit, draws: &mut Draws, bits: &mut BitBuf) -> u32
     requires { length bits.old ≡ body_length (voice_in voice.now) }
@@ -163,7 +164,8 @@ fn damage_voice(voice: &VoiceUnit, draws: &mut Draws, bits: &mut BitBuf) -> u32
     }
 }
 
-// Inverts the first bits of each of so many blocks of a packet (PDU) after its header block, as draws say, and answers how many.
+// Inverts the first bits of each of a number of blocks of a packet (PDU) after its header block, by draws, and returns
+// the number of bits.
 fn damage_blocks(count: usize, radius: usize, draws: &mut Draws, bits: &mut BitBuf) -> u32
     requires few { count < 128 }
     requires radius { radius ≤ 2 }
@@ -196,7 +198,7 @@ fn damage_packet(packet: &Packet, draws: &mut Draws, bits: &mut BitBuf) -> u32
     header + damage_blocks(count, radius_of(packet), draws, bits)
 }
 
-// How many wrong bits of a block to follow do no harm.
+// Returns the number of bit errors of a block to follow that are corrected.
 fn radius_of(packet: &Packet) -> usize
     ensures value { result ≡ block_radius packet.now }
     ensures few { result ≤ 2 }
@@ -207,8 +209,8 @@ fn radius_of(packet: &Packet) -> usize
     }
 }
 
-// Inverts bits of a unit without status symbols, as draws say, and answers how many: the first ones of its sync, of its
-// network identifier (NID), and of each of its code words and blocks.
+// Inverts bits of a data unit without status symbols, by draws, and returns their number: the first ones of its sync,
+// of its network identifier (NID), and of each of its codewords and blocks.
 pub(crate) fn damage(body: &Body, draws: &mut Draws, bits: &mut BitBuf) -> u32
     requires { length bits.old ≡ body_length body.now }
     ensures list { bits.new ≡ damaged (damaged_words body.now) (damage_counts body.now draws.old) bits.old }
@@ -221,7 +223,7 @@ pub(crate) fn damage(body: &Body, draws: &mut Draws, bits: &mut BitBuf) -> u32
     sync + identifier + damage_body(body, draws, bits)
 }
 
-// Damages what stands after the front.
+// Damages the bits after sync and NID.
 fn damage_body(body: &Body, draws: &mut Draws, bits: &mut BitBuf) -> u32
     requires { length bits.old ≡ body_length body.now }
     ensures list { bits.new ≡ damaged (body_looked body.now) (body_counts body.now draws.old) bits.old }

@@ -1,11 +1,11 @@
-//! Numbers that look drawn by lot, and are the same on every run.
+//! Pseudorandom numbers, the same on every run.
 
 ghost use Rattle.std.specs.Prelude.{◌≡◌, ◌%◌, ◌<◌, length};
 ghost use Rattle.p25_vectors.specs.Draws.{draw, octets_drawn, state_after};
 
 use std::marker::Model;
 
-// Draws, one after the other: contracts see the state before the next one.
+// Draws, one after the other. Contracts see the state before the next one.
 #[derive(Clone, Debug, Drop)]
 pub(crate) struct Draws {
     state: u64,
@@ -22,14 +22,14 @@ impl Model for Draws {
 }
 
 impl Draws {
-    // Before the first draw.
+    // Returns the state before the first draw.
     pub(crate) fn new() -> Draws
         ensures { result ≡ 0 }
     {
         Draws { state: 0 }
     }
 
-    // Draws a number and answers it modulo another.
+    // Draws a number and returns it modulo another.
     pub(crate) fn below(&mut self, modulus: u64) -> u64
         requires { 0 < modulus }
         ensures value { result ≡ draw 0 self.old % modulus }

@@ -1,4 +1,4 @@
-//! A report on sample units.
+//! A report on sample data units.
 
 ghost use Rattle.std.specs.Prelude.{◌≡◌, ◌≤◌, Ok, length, true};
 ghost use Rattle.p25_units.specs.{Needs.{need_of}, Readings.{unit_reading_of}, Units.{IsSoundFrame}, declared.needs.Need.TheVariants.{Length}};
@@ -8,19 +8,19 @@ use crate::sampler::Sampler;
 use p25_bits::BitBuf;
 use p25_units::{Frame, Need, need, read_unit};
 
-/// What was counted of sample units.
+/// The counts of a series of sample data units.
 #[derive(Clone, Copy, Debug, PartialEq, Eq)]
 pub struct SampleReport {
-    /// How many there were.
+    /// The number of data units.
     pub units: u64,
-    /// How many bits were inverted.
+    /// The number of inverted bits.
     pub flips: u64,
-    /// How many of them, damaged, read as their own frames.
+    /// The number of damaged data units that decode to their own frames.
     pub exact: u64,
 }
 
-/// Answers the report on the first `n` sample units, of which there are 1 to 10,000. Each is damaged and read: all read as
-/// their own frames.
+/// Decodes the first `n` sample data units after damaging each, and returns the report. It requires `n` from 1 to
+/// 10,000. All decode to their own frames.
 pub fn sample(n: u64) -> SampleReport
     requires some { 1 ≤ n }
     requires most { n ≤ 10000 }
@@ -44,7 +44,8 @@ pub fn sample(n: u64) -> SampleReport
     report
 }
 
-// Whether bits read as a frame. Those of the series always do, as is proved, so no other answer comes; `sample` reads them nevertheless, and counts.
+// Returns whether bits decode to a frame. Those of the series always do, as is proved, so the result is always true;
+// `sample` decodes them nevertheless, and counts.
 fn reads_as(bits: &BitBuf, frame: &Frame) -> bool
     requires length { need_of bits.now ≡ Length (length bits.now) }
     requires sound { IsSoundFrame frame.now }

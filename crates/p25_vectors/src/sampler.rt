@@ -1,4 +1,4 @@
-//! The sample units, one after the other.
+//! The sample data units, one after the other.
 
 ghost use Rattle.std.specs.Prelude.{◌≡◌, ◌+◌, ◌<◌, Ok, length, sum};
 ghost use Rattle.p25_units.specs.{Needs.{need_of}, Readings.{unit_reading_of}, Units.{IsSendableUnit, IsSoundFrame}, WithinRadius.{IsWithinRadius}};
@@ -14,27 +14,28 @@ use p25_status::{Status, weave};
 use p25_units::{Frame, Unit, unit_image};
 use std::marker::Model;
 
-/// A sample unit.
+/// A sample data unit.
 #[derive(Drop)]
 pub struct SampleUnit {
     /// The frame, undamaged.
     pub frame: Frame,
-    /// How many of its sent bits are inverted.
+    /// The number of its transmitted bits that are inverted.
     pub flips: u32,
 }
 
-/// The sample units from the first one on. This project's rule of them:
+/// The sample data units from the first one on. This is the project's own rule for them:
 ///
-/// - A draw replaces a state below 2^32, which starts at 0, by 1664525 times it plus 1013904223, modulo 2^32; the number drawn is
-///   the new state by 65,536, and an octet is a number drawn modulo 256.
-/// - Of each unit are drawn, in this order: its network access code (NAC), modulo 4,096; its status symbol, modulo 4, the same
-///   everywhere; its fields, octet by octet in the order of sending, of a packet (PDU) with blocks first their number, 1 and a
-///   number modulo 4, and then the LLID; and its damage.
-/// - The damage is how many first bits are inverted: of the sync, modulo 5; of the network identifier (NID), modulo 12; then how
-///   many inner words of the coded field are inverted whole, modulo 9, 4, 7 and 5 of a header (HDU), a terminator with link
-///   control (TDULC), voice with link control (LDU1) and voice with encryption sync (LDU2); then of each later inner word, modulo
-///   4 in a Golay word and 2 in a Hamming word; then of each word of low speed data (LSD), modulo 3; of the header block and each
-///   half-rate block of a packet, modulo 3, and of each three-quarter-rate block, modulo 2.
+/// - A draw replaces a state below 2^32, which starts at 0, by 1664525 times it plus 1013904223, modulo 2^32. The
+///   number drawn is the new state divided by 65,536, and an octet is a number drawn modulo 256.
+/// - The draws of each data unit are, in this order: its network access code (NAC), modulo 4,096; its status symbol,
+///   modulo 4, the same everywhere; its fields, octet by octet in the order of transmission; and its damage. For a
+///   packet (PDU) with blocks their number, 1 plus a number modulo 4, comes first, and then the LLID.
+/// - The damage is the number of first bits that are inverted. The draws are, for the sync, modulo 5, and for the
+///   network identifier (NID), modulo 12. Then comes the number of inner codewords of the coded field that are inverted
+///   whole: modulo 9 for a header (HDU), 4 for a terminator with link control (TDULC), 7 for voice with link control
+///   (LDU1) and 5 for voice with encryption sync (LDU2). Then come each later inner codeword, modulo 4 for Golay and 2
+///   for Hamming, and each codeword of low speed data (LSD), modulo 3. The header block and each half-rate block of a
+///   packet are drawn modulo 3, and each three-quarter-rate block modulo 2.
 #[derive(Clone, Debug, Drop)]
 pub struct Sampler {
     draws: Draws,
@@ -53,7 +54,7 @@ impl Model for Sampler {
 }
 
 impl Sampler {
-    /// Answers the sampler before unit 0.
+    /// Returns the sampler before data unit 0.
     pub fn new() -> Sampler
         ensures { result ≡ 0 }
     {
@@ -63,9 +64,9 @@ impl Sampler {
         }
     }
 
-    /// Answers the next unit, with its undamaged frame and how many bits are inverted in it, and sets `bits` to its damaged
-    /// bits as they are sent, first to last. They lie within radius of the frame's own, and read as the frame. Fewer than
-    /// 10,000 units were given.
+    /// Returns the next data unit, with its undamaged frame and the number of its inverted bits, and writes to `bits`
+    /// its damaged bits as transmitted, first to last. They lie within the correction radius of the frame's own bits,
+    /// and decode to the frame. It requires that fewer than 10,000 data units were returned.
     pub fn next(&mut self, bits: &mut BitBuf) -> SampleUnit
         requires { self.old < 10000 }
         ensures given { self.new ≡ self.old + 1 }
@@ -85,7 +86,7 @@ impl Sampler {
     }
 }
 
-/// The sampler before unit 0.
+/// Returns the sampler before data unit 0.
 impl Default for Sampler {
     ghost is_default = { λ sampler. sampler ≡ 0 };
 
@@ -94,7 +95,7 @@ impl Default for Sampler {
     }
 }
 
-// Draws the frame of a kind.
+// Draws the frame of a type.
 fn draw_frame(kind: Kind, draws: &mut Draws) -> Frame
     ensures frame { result ≡ (frame_next kind draws.old).0 }
     ensures sound { IsSoundFrame result }
@@ -106,7 +107,7 @@ fn draw_frame(kind: Kind, draws: &mut Draws) -> Frame
     Frame::filled(unit, status)
 }
 
-// Sets `bits` to the bits of a frame as they are sent, damaged as draws say, and answers how many are inverted.
+// Writes to `bits` the transmitted bits of a frame, damaged by draws, and returns the number of inverted bits.
 fn put_damaged(frame: &Frame, draws: &mut Draws, bits: &mut BitBuf) -> u32
     requires { IsSoundFrame frame.now }
     ensures bits { bits.new ≡ damaged_image frame.now draws.old }

@@ -1,4 +1,4 @@
-//! What the first sample units are, against values from outside.
+//! The first sample data units, against values from outside.
 
 use super::{SampleReport, Sampler, sample};
 use p25_bits::BitBuf;
@@ -12,7 +12,7 @@ fn first_unit(rt: HostRuntime) {
     assert_eq!(rt; (bits.len(), unit.flips), (144, 8));
 }
 
-// The first unit, a TDU, and what is counted of the first thousand.
+// The first data unit, a TDU, and the counts of the first thousand.
 #[test]
 fn reports(rt: HostRuntime) {
     for (units, flips) in [(1, 8), (1_000, 39_735)] {
