@@ -1,5 +1,5 @@
--- Units end to end are whole, by induction on their list: each is decided by its own bits. A unit after other bits is found there, by
--- induction on the number of those bits: the first item of them ends before it, or it is a unit that covers its first bit.
+-- Data units end to end are whole, by induction on their list: each is decided by its own bits. A data unit after other bits is found there, by
+-- induction on the number of those bits. The first item of them ends before it, or it is a data unit that covers its first bit.
 use Rattle.std.proofs.Common.{◌≡◌, ℕ, zero, suc, ◌+◌, ◌<◌, ◌≤◌, ◌⊎◌, inl, inr, Bool, true, false, List, [], ◌∷◌, ◌++◌, length, drop, refl, ap, sym, ◌∙◌, arith, append_assoc, append-nil, length-append, length-drop, sum_by}
 use Rattle.std.proofs.{lemmas.Bool.{cases_lt}, Math.Nat.{add-zero}, lemmas.List.{drop-append-le, drop_all, drop_at}, lemmas.List.Elements.{All-head, All-tail}, lemmas.List.Sums.{sum_by-cons}}
 use Rattle.p25_status.specs.Sync.{has_sync}

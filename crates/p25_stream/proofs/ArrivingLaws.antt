@@ -1,4 +1,4 @@
--- The bits of the first octet that comes.
+-- The bits of the first octet that arrives.
 use Rattle.std.proofs.Common.{◌≡◌, ℕ, ◌<◌, Bool, List, [], ◌∷◌, ◌++◌, length, take, get_or, ap, sym, ◌∙◌, arith, append-nil}
 use Rattle.p25_bits.specs.Bits.{bits_of, octet_bits}
 use Rattle.p25_bits.proofs.BitsLaws.{octet_bits-cons, octet_bits-nil}

@@ -1,5 +1,5 @@
--- Two counts of ones tell that eight or 16 places have no sync: where a sync stands at a place, the ones of a mask that lies within its
--- ones are missed in no more places than it is wrong in. By induction on lists of bits.
+-- Two population counts show that eight or 16 positions have no sync. If a sync is at a position, the ones of a mask that lies within its ones are
+-- missing in at most as many positions as it has bit errors. By induction on lists of bits.
 use Rattle.std.proofs.Common.{◌≡◌, ℕ, zero, suc, ◌+◌, ◌*◌, ◌/◌, ◌^◌, ◌<◌, ◌≤◌, inl, inr, Bool, true, false, not, cond, ◌||◌, ◌&&◌, List, [], ◌∷◌, ◌++◌, length, take, drop, bit_and, refl, ap, ap₂, sym, ◌∙◌, subst, arith, mod-eq_of_lt, length-append, length-drop}
 use Rattle.std.proofs.{lemmas.Bool.{cases_Bool, cases_lt, and_from, and_parts}, Math.Seq.{take-length}, lemmas.List.{length-take-le, take-append-drop}, lemmas.Nat.{and_block, and_le_l, ones_cat}}
 use Rattle.std.specs.{Bool.{beq}, Int.RustNames.{count_ones}}

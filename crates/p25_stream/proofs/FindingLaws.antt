@@ -1,5 +1,5 @@
--- Octets that are taken from a place on until the first item is known: the bits held and those left are the bits from there on, and so
--- the first item of those held is the first of all.
+-- Octets that are taken from a position on until the first item is known: the bits held and those left are the bits from there on, so the first item
+-- of those held is the first of all.
 use Rattle.std.proofs.Common.{◌≡◌, ℕ, ◌+◌, ◌-◌, ◌*◌, ◌/◌, ◌%◌, ◌<◌, ◌≤◌, Bool, true, false, ◌||◌, inl, inr, List, [], ◌∷◌, ◌++◌, length, take, drop, get_or, ap, ◌∙◌, arith, append_assoc, append-nil, length-append, length-take, add-one}
 use Rattle.std.proofs.{Math.Seq.{drop-cons, take-add}, lemmas.Bool.{cases_Bool}, lemmas.List.{drop-append-le, drop_all, take-append-drop, take_rest}}
 use Rattle.p25_bits.specs.Bits.{bits_of, octet_bits}

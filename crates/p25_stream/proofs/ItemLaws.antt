@@ -1,4 +1,4 @@
--- The laws of items: an item among others is the first of what those before it leave, and a step of the walk says the rest.
+-- The laws of items: an item among others is the first of the bits that those before it leave, and a step of the walk gives the rest.
 use Rattle.std.proofs.Common.{◌≡◌, ℕ, zero, suc, ◌+◌, ◌<◌, ◌≤◌, inl, inr, Bool, true, List, [], ◌∷◌, ◌++◌, length, take, drop, refl, ap, sym, ◌∙◌, subst, add_assoc, arith, length-drop}
 use Rattle.std.proofs.{lemmas.Bool.{cases_lt}, lemmas.List.{drop-drop, take-append-le}, Math.Nat.{add-zero}, Math.Seq.{take-length}, lemmas.List.Sums.{sum_by-cons}}
 use Rattle.std.specs.List.{sum_by}

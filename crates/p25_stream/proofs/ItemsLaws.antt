@@ -1,5 +1,5 @@
--- The items of a stream: the cases of the first item, the walk a step at a time, and what stays under more bits. All that is
--- known of units are the laws that p25_units gives a scanner.
+-- The items of a stream: the cases of the first item, the walk one step at a time, and stability under more bits. The only facts about data units are
+-- the laws that p25_units gives a scanner.
 use Rattle.std.proofs.Common.{◌≡◌, ℕ, zero, suc, ◌+◌, ◌<◌, ◌≤◌, inl, inr, Bool, true, false, ◌||◌, cond, min, List, [], ◌∷◌, ◌++◌, length, take, drop, refl, ap, sym, ◌∙◌, subst, arith, length-append, length-drop}
 use Rattle.std.proofs.{lemmas.Bool.{cases_Bool, cases_lt, le-leb, leb-true, cond-true, cond-false, or_right}, lemmas.List.{take-append-le, drop-append-le}}
 use Rattle.p25_status.specs.{Sync.{has_sync}, declared.fields.Field.{Field}}

@@ -1,4 +1,4 @@
--- What a scanner remembers says what the first item is and whether it is decided, and stays true as bits come.
+-- The knowledge of a scanner determines the first item and whether it is decided, and stays true as bits arrive.
 use Rattle.std.proofs.Common.{◌≡◌, ℕ, ◌+◌, ◌-◌, ◌<◌, ◌≤◌, inl, inr, Bool, true, false, min, List, ◌++◌, length, drop, ap, sym, ◌∙◌, subst, arith, length-append}
 use Rattle.std.proofs.lemmas.Bool.{cases_Bool, cases_lt, le-leb, lt-leb, leb-true, ltb-true}
 use Rattle.p25_status.specs.{Sync.{has_sync}, declared.fields.Field.{Field}}

@@ -1,5 +1,4 @@
--- What the functions that judge bits need at each step: the windows of one number, and each answer as a case of what is
--- remembered.
+-- The needs of the functions that test bits at each step: the windows of one number, and each result as a case of the knowledge.
 use Rattle.std.proofs.Common.{◌≡◌, ℕ, zero, suc, ◌+◌, ◌-◌, ◌/◌, ◌%◌, ◌^◌, ◌<◌, ◌≤◌, inl, inr, Bool, true, false, List, length, take, drop, ap, sym, ◌∙◌, arith, append_assoc, length-drop}
 use Rattle.std.proofs.{lemmas.Bool.{cases_lt}, Math.Seq.{take-length}}
 use Rattle.p25_bits.specs.{Bits.{bits_of, field_of, part}, Distance.{distance_of}}

@@ -8,7 +8,7 @@ pub record IsFirst (ended : Bool) (place : ℕ) (bits : List Bool) (item : Item)
   pub items : items_by ended place bits ≡ item ∷ items_by ended (place + covered item) (drop (covered item) bits)
   pub there : covered item ≤ length bits
 
--- bits were appended: all that were to come, where the first item is not known
+-- bits were appended: all of them if the first item is not known
 pub record IsFilled (before bits held : List Bool) (judged : Judged) : Type 0 where
   pub more : List Bool
   pub joined : before ++ bits ≡ held ++ more

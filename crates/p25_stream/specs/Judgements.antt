@@ -1,4 +1,4 @@
--- What a scanner remembers of the item that the bits it holds begin with.
+-- The knowledge that a scanner keeps of the item with which its bits begin.
 use Rattle.std.specs.Prelude.{◌≡◌, ℕ, ◌-◌, ◌<◌, ◌≤◌, Bool, true, false, nat_le, nat_lt, List, ◌++◌, length}
 use Rattle.p25_status.specs.Sync.{has_sync}
 use Rattle.p25_units.specs.{Begins.{IsBegun}, Needs.{need_of}, declared.begun.Begun.{Begun}, declared.needs.Need.{Need}}
@@ -6,18 +6,18 @@ use Rattle.p25_units.specs.declared.needs.Need.TheVariants.{More, Length, NoLeng
 use Rattle.p25_stream.specs.{Items.{sync_place, gap_of, gap_known}, declared.judged.Judged.{Judged}}
 use Rattle.p25_stream.specs.declared.judged.Judged.TheVariants.{Searching, Waiting, Gap, Ready, NoUnit}
 
--- bits that begin with a sync, what is needed there, and what was read of the unit
+-- bits that begin with a sync, the need there, and the decoded parts of the data unit
 pub record Needs (bits : List Bool) (need : Need) (begun : Begun) : Type 0 where
   pub synced : has_sync bits ≡ true
   pub needs : need_of bits ≡ need
   pub read : IsBegun begun bits
 
--- bits that begin with a sync, but no unit
+-- bits that begin with a sync, but no data unit
 pub record HasNoUnit (bits : List Bool) (need : Need) : Type 0 where
   pub synced : has_sync bits ≡ true
   pub needs : need_of bits ≡ need
 
--- bits that begin with a place without a sync, all of whose places with 48 bits have none
+-- bits that begin with a position without a sync, all of whose positions with 48 bits have none
 pub record IsSearched (bits : List Bool) (clear : ℕ) : Type 0 where
   pub few : clear < 4096
   pub all : clear ≡ length bits - 47
@@ -37,7 +37,7 @@ is_settled (Gap count) = true
 is_settled (Ready count begun) = true
 is_settled (NoUnit field) = true
 
--- so many bits are too few for more to be known
+-- a number of bits is too small for more to be known
 abbrev pub waits : Judged → ℕ → Bool
 waits (Searching clear) have = nat_le (have - 47) clear
 waits (Waiting count begun) have = nat_lt have count
@@ -45,7 +45,7 @@ waits (Gap count) have = false
 waits (Ready count begun) have = false
 waits (NoUnit field) have = false
 
--- what was judged is true of the bits that are held
+-- the knowledge is true of the bits that are held
 unfoldable pub IsJudged : Judged → List Bool → Type 0
 IsJudged (Searching clear) bits = IsSearched bits clear
 IsJudged (Waiting count begun) bits = Needs bits (More count) begun
@@ -53,7 +53,7 @@ IsJudged (Gap count) bits = IsKnownGap bits count
 IsJudged (Ready count begun) bits = Needs bits (Length count) begun
 IsJudged (NoUnit field) bits = HasNoUnit bits (NoLength field)
 
--- it was true before some bits came
+-- it was true before some bits arrived
 pub record WasJudged (judged : Judged) (bits : List Bool) : Type 0 where
   pub before : List Bool
   pub more : List Bool

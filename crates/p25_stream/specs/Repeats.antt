@@ -1,10 +1,10 @@
--- Items that are sent again.
+-- Retransmission of items.
 use Rattle.std.specs.Prelude.{ℕ, Bool, true, false, List, length, replicate}
 use Rattle.p25_status.specs.declared.symbols.Status.{Status}
 use Rattle.p25_units.specs.{Units.{frame_as, image_of}, declared.frame.Frame.{Frame}, declared.item.Item.{Item}}
 use Rattle.p25_units.specs.declared.item.Item.TheVariants.{Whole, Broken, NoUnit, Gap, Cut}
 
--- the bits of an item, repaired: those of the frame of a whole unit, and all other bits as they are
+-- the bits of an item, repaired: those of the frame of a whole data unit, and all other bits unchanged
 abbrev pub repaired : Item → List Bool → List Bool
 repaired (Whole place frame fixes) raw = image_of frame
 repaired (Broken place count nac duid fields) raw = raw
@@ -12,11 +12,11 @@ repaired (NoUnit place field) raw = raw
 repaired (Gap place count) raw = raw
 repaired (Cut place have) raw = raw
 
--- a frame with another network access code (NAC) and one status symbol in place of all
+-- a frame with another network access code (NAC) and one status symbol instead of all
 abbrev pub bridged_frame : ℕ → Status → Frame → Frame
 bridged_frame nac status frame = frame_as nac (replicate (length frame.statuses) status) frame
 
--- what a bridge sends for an item: the bits of a whole unit's frame, changed so, and what was there before for all others
+-- the bits that a bridge transmits for an item: those of a whole data unit's frame with these changes, and the former output for all others
 abbrev pub bridged : ℕ → Status → Item → List Bool → List Bool
 bridged nac status (Whole place frame fixes) before = image_of (bridged_frame nac status frame)
 bridged nac status (Broken place count ours duid fields) before = before
@@ -24,7 +24,7 @@ bridged nac status (NoUnit place field) before = before
 bridged nac status (Gap place count) before = before
 bridged nac status (Cut place have) before = before
 
--- whether it sends something
+-- whether it transmits something
 abbrev pub is_whole_item : Item → Bool
 is_whole_item (Whole place frame fixes) = true
 is_whole_item (Broken place count nac duid fields) = false

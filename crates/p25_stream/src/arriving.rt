@@ -1,4 +1,4 @@
-//! Octets as they come, eight at once.
+//! Octets as they arrive, eight at once.
 
 ghost use Rattle.std.specs.Prelude.{◌≡◌, ◌+◌, ◌*◌, ◌<◌, ◌≤◌, ◌++◌, length, take};
 ghost use Rattle.p25_bits.specs.Bits.{octet_bits};
@@ -6,11 +6,11 @@ ghost use Rattle.p25_stream.specs.Scan.{octets_taken};
 
 use p25_bits::BitBuf;
 
-// The most bits that are held.
+// The most bits that a scanner holds.
 const HELD_MOST: usize = 25_927;
 
-// Appends the bits of some octets, from the first on, and answers of how many: of eight where there are so many and room for
-// them, and else of one.
+// Appends the bits of some octets, from the first on, and returns the number of these octets: eight if there are that
+// many and capacity for them, otherwise one.
 #[inline]
 #[tactic(auto, using(std::proofs::lemmas::Bool::Decides::nat_tests))]
 pub(crate) fn put_some(octets: &[u8], held: &mut BitBuf) -> usize

@@ -11,26 +11,26 @@ use crate::judging::{judged_anew, set_item, settle};
 use p25_bits::BitBuf;
 use p25_units::Item;
 
-// How many bits are taken before any is judged: those of the shortest unit, a TDU, so that it is judged once.
+// The number of bits that are taken before any test: those of the shortest data unit, a TDU, so that it is tested once.
 const SHORTEST: usize = 144;
 
-/// Sets `item` to the first item of the bits of some octets from bit `at` on, and answers true. `place` is where that bit
-/// stands in the stream, and `ended` says that no octets come after these. False comes exactly where there is no item: where
-/// the bits decide none, or where there are none; then `item` stays as it is. It looks at
-/// 3,241 octets at most, from the one that holds bit `at` on: so many always decide an item (`item_laws`, clause `enough`).
+/// Writes to `item` the first item of the bits of some octets from bit `at` on, and returns true. `place` is the
+/// position of that bit in the stream; if `ended` is true, no octets follow. False is returned if and only if there is
+/// no item, because the bits decide none or because there are none; then `item` is unchanged. At most 3,241 octets are
+/// read, from the one that holds bit `at` on: that many always decide an item (`item_laws`, clause `enough`).
 pub fn find_item(octets: &[u8], at: usize, place: u64, ended: bool, item: &mut Item) -> bool
     ensures first { result ≡ true → IsFirst ended place (drop at (octet_bits octets.now)) item.new }
     ensures none { result ≡ false → (items_by ended place (drop at (octet_bits octets.now)) ≡ []) × (item.new ≡ item.old) }
     ensures sound { result ≡ true → IsSoundItem item.new }
 {
-    // Both are made here, side by side, so that each is set once.
+    // Both are made here, side by side, so that each is written once.
     let mut held = BitBuf::new();
     let mut room = BitBuf::new();
     find_item_in(octets, at, place, ended, &mut held, &mut room, item)
 }
 
-/// Does what `find_item` does, in two lists of the caller: so no room is cleared where many items are found one after the other. What
-/// `held` and `room` hold before and after the call means nothing.
+/// Does what `find_item` does, in two lists of the caller, so no buffer is cleared if many items are found one after
+/// the other. The contents of `held` and `room` before and after the call have no meaning.
 pub fn find_item_in(
     octets: &[u8],
     at: usize,
@@ -59,7 +59,7 @@ pub fn find_item_in(
     true
 }
 
-// Appends the bits of octets until the first item is known, or of all, and answers what is known then.
+// Appends the bits of octets until the first item is known, or of all, and returns what is known then.
 fn fill(octets: &[u8], held: &mut BitBuf) -> Judged
     requires few { length held.old ≤ 8 }
     ensures { IsFilled held.old (octet_bits octets.now) held.new result }
@@ -74,7 +74,7 @@ fn fill(octets: &[u8], held: &mut BitBuf) -> Judged
     judged
 }
 
-// How many bits have to be there before it is worth while to judge again, where so many are.
+// Returns the number of bits at which the next test is useful, if `have` are there.
 fn wanted(judged: &Judged, have: usize) -> usize
     requires { have < 25920 }
     ensures more { have < result }
@@ -86,7 +86,8 @@ fn wanted(judged: &Judged, have: usize) -> usize
     }
 }
 
-// Appends the bits of octets, from the first on, until so many bits are held, or of all, and answers of how many.
+// Appends the bits of octets, from the first on, until `wanted` bits are held, or of all, and returns the number of
+// these octets.
 fn put_until(octets: &[u8], wanted: usize, held: &mut BitBuf) -> usize
     requires few { wanted ≤ 25920 }
     requires room { length held.old ≤ 25927 }

@@ -1,30 +1,30 @@
-//! What is known of the item that some bits begin with.
+//! The knowledge of the item with which some bits begin.
 
 ghost use Rattle.std.specs.Prelude.{◌≡◌};
 ghost use Rattle.p25_stream.specs.Judgements.{is_settled, waits};
 
 use p25_units::{Begun, Field};
 
-// How many bits after a place are needed to judge it.
+// The number of bits after a position that are needed to test it for a sync.
 pub(crate) const BEHIND: usize = 47;
 
-/// What a scanner remembers of the item that the bits it holds begin with.
+/// The knowledge that a scanner keeps of the item with which its bits begin.
 #[derive(Clone, Copy)]
 pub enum Judged {
-    /// Nothing is known: the first so many places have no sync, and no others can be judged yet.
+    /// Nothing is known: this number of first positions have no sync, and no others can be tested yet.
     Searching(usize),
-    /// A sync, after which so many bits have to be there, and what was read of a unit.
+    /// A sync, the number of bits that are required from it on, and the decoded parts of its data unit.
     Waiting(usize, Begun),
-    /// A gap of so many bits.
+    /// A gap of this number of bits.
     Gap(usize),
-    /// A unit of so many bits, and what was read of it.
+    /// A data unit of this number of bits, and its decoded parts.
     Ready(usize, Begun),
-    /// A sync, but no unit, since this field fails.
+    /// A sync, but no data unit, because this field fails.
     NoUnit(Field),
 }
 
 impl Judged {
-    // Whether so many bits are too few for more to be known.
+    // Returns whether `have` bits are too few for more to be known.
     #[inline]
     pub(crate) fn waits(&self, have: usize) -> bool
         ensures { result ≡ waits self.now have }
@@ -36,7 +36,7 @@ impl Judged {
         }
     }
 
-    // Whether the first item is known.
+    // Returns whether the first item is known.
     pub(crate) fn is_settled(&self) -> bool
         ensures { result ≡ is_settled self.now }
     {

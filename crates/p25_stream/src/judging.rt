@@ -1,4 +1,4 @@
-//! The item that some bits begin with.
+//! The item with which some bits begin.
 
 ghost use Rattle.std.specs.Prelude.{◌≡◌, ◌+◌, ◌-◌, ◌*◌, ◌^◌, ◌<◌, ◌≤◌, ℕ, true, false, length};
 ghost use Rattle.p25_bits.specs.Bits.{bits_of, part};
@@ -14,26 +14,26 @@ use p25_units::{Begun, Field, Item, Need, need_synced, unit_item_in};
 // The most bits of a gap.
 const GAP_MOST: usize = 4_096;
 
-// How many places the bits of one number judge.
+// The number of positions that the bits of one number test.
 const AT_ONCE: usize = 8;
 
-// Every second bit of a sync is 1. Of the 55 bits from eight places on, these stand at such bits of the places 0, 2, 4
-// and 6 alike, and those below at such bits of the places 1, 3, 5 and 7.
+// Every second bit of a sync is 1. Of the 55 bits from eight positions on, these are at such bits of the positions 0,
+// 2, 4 and 6 alike, and those below at such bits of the positions 1, 3, 5 and 7.
 const ONES_AT_EVEN: u64 = 0xAAAA_AAAA_AA80;
 
 const ONES_AT_ODD: u64 = 0x5555_5555_5540;
 
-// How many of these 21 bits are 1 at least where at most four bits of a sync are wrong.
+// The least number of these 21 bits that are 1 if at most four bits of a sync are wrong.
 const ONES_LEAST: u32 = 17;
 
-// The same of the 63 bits from 16 places on: 17 bits that are 1 at the even places, and 17 at the odd ones.
+// The same for the 63 bits from 16 positions on: 17 bits that are 1 at the even positions, and 17 at the odd ones.
 const WIDE_ONES_AT_EVEN: u64 = 0xAAAA_AAAA_8000;
 
 const WIDE_ONES_AT_ODD: u64 = 0x5555_5555_4000;
 
 const WIDE_ONES_LEAST: u32 = 13;
 
-// What is known of bits of which nothing is known yet.
+// Returns the knowledge of bits that were not tested before.
 #[inline]
 pub(crate) fn judged_anew(held: &BitBuf) -> Judged
     ensures { IsJudged result held.now }
@@ -45,7 +45,7 @@ pub(crate) fn judged_anew(held: &BitBuf) -> Judged
     }
 }
 
-// What is known of bits whose first `clear` places have no sync.
+// Returns the knowledge of bits whose first `clear` positions have no sync.
 fn judged_from(held: &BitBuf, clear: usize) -> Judged
     requires clear { clear ≤ sync_place held.now }
     requires judged { clear ≤ length held.now - 47 }
@@ -73,7 +73,7 @@ fn judged_from(held: &BitBuf, clear: usize) -> Judged
     }
 }
 
-// How many of the first `count` places of a number's bits have no sync.
+// Returns the number of the first `count` positions of a number's bits that have no sync.
 fn places_before_sync(number: u64, count: usize) -> usize
     requires some { 0 < count }
     requires many { count ≤ 17 }
@@ -93,7 +93,7 @@ fn places_before_sync(number: u64, count: usize) -> usize
     count
 }
 
-// Whether two counts of ones tell that none of the first eight places of 55 bits has a sync.
+// Returns whether two population counts show that none of the first eight positions of 55 bits has a sync.
 fn none_of_eight(number: u64) -> bool
     requires fits { number < 2 ^ 55 }
     ensures { result ≡ true → (place : ℕ) → place < 8 → has_sync (part place 48 (bits_of 55 number)) ≡ false }
@@ -102,8 +102,8 @@ fn none_of_eight(number: u64) -> bool
         && (number & ONES_AT_ODD).count_ones() < ONES_LEAST
 }
 
-// Whether counts of ones tell that none of the first 16 places of 63 bits has a sync: two, or where they do not tell, those of each eight
-// places.
+// Returns whether population counts show that none of the first 16 positions of 63 bits has a sync: two counts or, if
+// these do not show it, those of each eight positions.
 fn none_of_sixteen(number: u64) -> bool
     requires fits { number < 2 ^ 63 }
     ensures { result ≡ true → (place : ℕ) → place < 16 → has_sync (part place 48 (bits_of 63 number)) ≡ false }
@@ -116,7 +116,7 @@ fn none_of_sixteen(number: u64) -> bool
     none_of_eight(number >> AT_ONCE) && none_of_eight(number % (1 << (BEHIND + AT_ONCE)))
 }
 
-// What is known of bits that begin with a sync.
+// Returns the knowledge of bits that begin with a sync.
 fn judged_at_sync(held: &BitBuf, begun: Begun) -> Judged
     requires synced { has_sync held.now ≡ true }
     requires begun { IsBegun begun held.now }
@@ -131,7 +131,7 @@ fn judged_at_sync(held: &BitBuf, begun: Begun) -> Judged
     }
 }
 
-// Sets what is known once more bits have come, where the first item was not known before.
+// Updates the knowledge after more bits have arrived, if the first item was not known before.
 #[inline]
 pub(crate) fn settle(judged: &mut Judged, held: &BitBuf)
     requires was { WasJudged judged.old held.now }
@@ -143,8 +143,8 @@ pub(crate) fn settle(judged: &mut Judged, held: &BitBuf)
     }
 }
 
-// Notes, where counts tell it, that the places that can be judged now have no sync: mostly they have none where octets have
-// come. Answers whether it did.
+// Records that the positions that can be tested now have no sync, if population counts show it; usually they do.
+// Returns whether it did.
 #[inline]
 fn passes(judged: &mut Judged, held: &BitBuf) -> bool
     requires { WasJudged judged.old held.now }
@@ -166,14 +166,15 @@ fn passes(judged: &mut Judged, held: &BitBuf) -> bool
     false
 }
 
-// Whether counts of ones tell that none of the places from one on has a sync, eight times `count` of them.
+// Returns whether population counts show that none of the positions from one on has a sync, eight times `count` of
+// them.
 #[inline]
 fn none_of_many(held: &BitBuf, from: usize, count: usize) -> bool
     requires there { from + 8 * count + 47 ≤ length held.now }
     requires before { from ≤ sync_place held.now }
     ensures { result ≡ true → from + 8 * count ≤ sync_place held.now }
 {
-    // For the prover: the number of bits held bounds every place below.
+    // For the prover: the number of bits held bounds every position below.
     let _ = held.len();
     for k in 0..count / 2 {
         let at = from + 2 * AT_ONCE * k;
@@ -188,7 +189,7 @@ fn none_of_many(held: &BitBuf, from: usize, count: usize) -> bool
     none_of_eight(held.field(at, (BEHIND + AT_ONCE) as u32))
 }
 
-// Judges by all that is there to be read, apart from the caller.
+// Tests by all bits that are there, apart from the caller.
 #[inline(never)]
 fn judge_more(judged: &mut Judged, held: &BitBuf)
     requires was { WasJudged judged.old held.now }
@@ -206,8 +207,8 @@ fn judge_more(judged: &mut Judged, held: &BitBuf)
     }
 }
 
-// Sets `item` to the first item of some bits; where it is not known, they are all there are. An item is large, so it is set in
-// place, apart from the caller.
+// Writes to `item` the first item of some bits; if it is not known, they are all bits. An item is large, so it is
+// written in its buffer, apart from the caller.
 #[inline(never)]
 pub(crate) fn set_item(
     judged: Judged,

@@ -1,9 +1,9 @@
-//! Streams of bits, divided into items: whole units (HDU, LDU1, LDU2, TDU, TDULC and PDU), broken ones, places where a unit begins
-//! but cannot be read, and gaps.
+//! Streams of bits, divided into items: whole data units (HDU, LDU1, LDU2, TDU, TDULC and PDU), broken ones, positions
+//! at which a data unit begins but cannot be decoded, and gaps.
 //!
-//! Octets are taken in order, each octet's most significant bit first; places count bits from the first one. Items lie
-//! end to end and cover every bit. A `Scanner` gives each of them once the bits are there by which it is judged, of a gap 48 from
-//! each of its places on; what follows then changes nothing in it:
+//! Octets are taken in order, the most significant bit of each first; positions count bits from the first one. Items
+//! lie end to end and cover every bit. A `Scanner` returns each of them once the bits are there that decide it; a gap
+//! needs 48 bits from each of its positions on. Later bits then change nothing in it:
 //!
 //! ```text
 //! let mut scanner = Scanner::new();
@@ -15,14 +15,14 @@
 //! assert_eq!(rt; (raw.len(), scanner.held()), (8, 0));
 //! ```
 //!
-//! All items are taken before the next octet goes in. What only the end decides comes when you ask again after `finish`: here a
-//! gap of 8 bits. `push_some` takes several octets at once, and `repair_item` replaces the bits of an item by those that were
-//! sent. `next_item` is for a caller that does not look at the bits: they are not copied. `next_in` and `next_item_in` give an item
-//! without moving it.
+//! All items must be taken before the next octet is pushed. Items that only the end decides are returned after
+//! `finish`: here a gap of 8 bits. `push_some` takes several octets at once, and `repair_item` replaces the bits of an
+//! item by the transmitted ones. `next_item` is for a caller that does not use the bits: they are not copied. `next_in`
+//! and `next_item_in` return an item without moving it.
 //!
-//! Contracts see a scanner as a `Scan`, the bits that it holds with their place, and the items that it can give as `given`.
-//! `items_by` is the definition of a stream's items, one walk over its bits; `item_laws` says what is true of it, and
-//! `arrival_laws` where units that were sent are found again.
+//! Contracts see a scanner as a `Scan`, the bits that it holds with their position, and the items that it can return as
+//! `given`. `items_by` is the definition of a stream's items, one walk over its bits; `item_laws` states its laws, and
+//! `arrival_laws` the positions of transmitted data units.
 #![tactic(auto)]
 
 mod arriving;

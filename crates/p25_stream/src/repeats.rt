@@ -1,4 +1,4 @@
-//! Items that are sent again, repaired or under another network access code (NAC).
+//! Retransmission of items, repaired or under another network access code (NAC).
 
 ghost use Rattle.std.specs.Prelude.{◌≡◌, ◌<◌};
 ghost use Rattle.p25_units.specs.Items.{IsSoundItem};
@@ -8,9 +8,9 @@ use p25_bits::BitBuf;
 use p25_status::weave;
 use p25_units::{Item, Status, Statuses, image_as_in, unit_image};
 
-/// Replaces the bits that an item covers by those of its frame where it is `Whole`, so that no wrong bit is left in its
-/// sync, its network identifier (NID) and its code words; its status symbols and the bits without a code stay as received. The
-/// bits of every other item stay as they are.
+/// Replaces the bits of a `Whole` item by those of its frame, so that no bit error is left in its sync, its network
+/// identifier (NID) and its codewords. Its status symbols and the bits without a code stay as received. The bits of
+/// every other item are unchanged.
 pub fn repair_item(item: &Item, raw: &mut BitBuf)
     requires { IsSoundItem item.now }
     ensures { raw.new ≡ repaired item.now raw.old }
@@ -18,8 +18,8 @@ pub fn repair_item(item: &Item, raw: &mut BitBuf)
     repair_item_in(item, &mut BitBuf::new(), raw);
 }
 
-/// Sets the bits of an item as `repair_item` does. `room` takes the frame's bits without status symbols, so that no buffer has to
-/// be made; what it holds before and after the call means nothing.
+/// Replaces the bits of an item as `repair_item` does. `room` is a buffer for the frame's bits without status symbols,
+/// so that none has to be made; its contents before and after the call have no meaning.
 pub fn repair_item_in(item: &Item, room: &mut BitBuf, raw: &mut BitBuf)
     requires { IsSoundItem item.now }
     ensures { raw.new ≡ repaired item.now raw.old }
@@ -33,8 +33,8 @@ pub fn repair_item_in(item: &Item, room: &mut BitBuf, raw: &mut BitBuf)
     }
 }
 
-/// Sets `out` to the bits of a `Whole` item's frame, with another network access code (NAC) and with one status symbol in place
-/// of all, and answers true. For every other item it answers false, and `out` stays as it is.
+/// Writes to `out` the bits of a `Whole` item's frame, with another network access code (NAC) and with one status
+/// symbol instead of all, and returns true. For every other item it returns false, and `out` is unchanged.
 pub fn bridge_item(item: &Item, nac: u16, status: Status, out: &mut BitBuf) -> bool
     requires sound { IsSoundItem item.now }
     requires nac { nac < 4096 }
@@ -44,7 +44,8 @@ pub fn bridge_item(item: &Item, nac: u16, status: Status, out: &mut BitBuf) -> b
     bridge_item_in(item, nac, status, &mut BitBuf::new(), out)
 }
 
-/// Sets `out` and answers as `bridge_item` does. `room` takes the frame's bits without status symbols, as in `repair_item_in`.
+/// Writes to `out` and returns as `bridge_item` does. `room` is a buffer for the frame's bits without status symbols,
+/// as in `repair_item_in`.
 pub fn bridge_item_in(
     item: &Item,
     nac: u16,

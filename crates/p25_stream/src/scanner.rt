@@ -1,4 +1,4 @@
-//! A scanner of bits that come octet by octet.
+//! A scanner of bits that arrive octet by octet.
 
 ghost use Rattle.std.specs.Prelude.{◌≡◌, ◌+◌, ◌^◌, ◌<◌, ◌≤◌, ◌↔◌, ◌++◌, [], true, false, length, take, drop, IsTrue, IfSome, MatchOption};
 ghost use Rattle.p25_bits.specs.Bits.{bits_of, octet_bits};
@@ -12,12 +12,12 @@ use p25_bits::BitBuf;
 use p25_units::Item;
 use std::marker::Model;
 
-/// A scanner: it holds the bits that no item given so far covers, at most 25,927, and the place of the first of them. It
-/// remembers what it knows of the item there, so that no place is judged and no identifier is read again at each octet.
+/// A scanner: it holds the bits that no returned item covers, at most 25,927, and the position of the first of them. It
+/// keeps its knowledge of the item there, so that no position is tested and no NID is decoded again at each octet.
 #[derive(Drop)]
 pub struct Scanner {
     held: BitBuf,
-    // Where a unit is read: what it holds means nothing.
+    // The buffer into which a data unit is decoded. Its contents have no meaning.
     room: BitBuf,
     place: u64,
     finished: bool,
@@ -35,7 +35,7 @@ impl Model for Scanner {
     ghost invariant = { λ s. IsJudged s.judged s.held × (length s.held ≤ 25927) × (s.place + length s.held < 2 ^ 61) };
 }
 
-/// The scanner at place 0 that holds nothing.
+/// Returns the scanner at position 0 that holds nothing.
 impl Default for Scanner {
     ghost is_default = { λ scanner. scanner ≡ record { place = 0; held = []; finished = false } };
 
@@ -45,7 +45,7 @@ impl Default for Scanner {
 }
 
 impl Scanner {
-    /// Answers a scanner at place 0 that holds nothing and has no item to give.
+    /// Returns a scanner at position 0 that holds nothing and has no item.
     pub fn new() -> Scanner
         ensures value { result ≡ record { place = 0; held = []; finished = false } }
         ensures drained { given result ≡ [] }
@@ -61,8 +61,8 @@ impl Scanner {
         }
     }
 
-    /// Appends the bits of an octet, the most significant first. No item is left to give, the stream is not finished, and
-    /// fewer than 2^60 bits were taken.
+    /// Appends the bits of an octet, the most significant first. It requires that no item is left, that the stream is
+    /// not finished, and that fewer than 2^60 bits were taken.
     pub fn push(&mut self, octet: u8)
         requires drained { given self.old ≡ [] }
         requires going { self.old.finished ≡ false }
@@ -73,9 +73,9 @@ impl Scanner {
         settle(&mut self.judged, &self.held);
     }
 
-    /// Appends the bits of some octets, from the first of these on, and answers of how many: of eight where there are so many
-    /// and 25,863 bits at most are held, and else of one. No item is left to give, the stream is not finished, and fewer than 2^60 bits were
-    /// taken.
+    /// Appends the bits of some octets, from the first on, and returns the number of these octets: eight if there are
+    /// that many and at most 25,863 bits are held, otherwise one. It requires that no item is left, that the stream is
+    /// not finished, and that fewer than 2^60 bits were taken.
     #[inline]
     pub fn push_some(&mut self, octets: &[u8]) -> usize
         requires some { 0 < length octets.now }
@@ -92,14 +92,14 @@ impl Scanner {
         count
     }
 
-    /// Sets that no more bits come: what is held is divided to its end.
+    /// Ends the stream: no more bits come, and the bits held are divided to their end.
     pub fn finish(&mut self)
         ensures { self.new ≡ record self.old { finished = true } }
     {
         self.finished = true;
     }
 
-    /// Answers whether `next` would answer `None`.
+    /// Returns whether `next` would return `None`.
     pub fn is_drained(&self) -> bool
         ensures { IsTrue result ↔ (given self.now ≡ []) }
     {
@@ -110,7 +110,7 @@ impl Scanner {
         }
     }
 
-    /// Answers how many bits are held: those taken that no item given so far covers.
+    /// Returns the number of bits held: those taken that no returned item covers.
     pub fn held(&self) -> usize
         ensures value { result ≡ length self.now.held }
         ensures most { result ≤ 25927 }
@@ -118,9 +118,9 @@ impl Scanner {
         self.held.len()
     }
 
-    /// Answers the next item and sets `raw` to the bits that it covers, which are held no longer. `None` comes exactly
-    /// where the bits so far decide no further item, or where the stream is finished and all bits are given; then the bits
-    /// held and `raw` stay as they are.
+    /// Returns the next item and writes to `raw` the bits that it covers, which are no longer held. `None` is returned
+    /// if and only if the bits so far decide no further item, or the stream is finished and all bits are covered. Then
+    /// the bits held and `raw` are unchanged.
     pub fn next(&mut self, raw: &mut BitBuf) -> Option<Item>
         ensures given { MatchOption result ((given self.old ≡ []) × (self.new ≡ self.old) × (raw.new ≡ raw.old)) (λ item. Gave self.old item raw.new self.new) }
         ensures sound { IfSome result IsSoundItem }
@@ -133,8 +133,9 @@ impl Scanner {
         }
     }
 
-    /// Sets `item` to the next item and `raw` to the bits that it covers, which are held no longer, and answers true. False
-    /// comes exactly where `next` would answer `None`; then all stays as it is. An item is large: so it is not moved.
+    /// Writes to `item` the next item and to `raw` the bits that it covers, which are no longer held, and returns true.
+    /// False is returned if and only if `next` would return `None`; then nothing changes. An item is large, so it is
+    /// not moved.
     pub fn next_in(&mut self, raw: &mut BitBuf, item: &mut Item) -> bool
         ensures given { result ≡ true → Gave self.old item.new raw.new self.new }
         ensures none { result ≡ false → (given self.old ≡ []) × (self.new ≡ self.old) × (raw.new ≡ raw.old) × (item.new ≡ item.old) }
@@ -151,8 +152,8 @@ impl Scanner {
         true
     }
 
-    /// Answers the next item, whose bits are held no longer, for a caller that does not look at its bits. `None` comes exactly
-    /// where `next` would answer it; then all stays as it is.
+    /// Returns the next item, whose bits are no longer held, for a caller that does not use its bits. `None` is
+    /// returned if and only if `next` would return it; then nothing changes.
     pub fn next_item(&mut self) -> Option<Item>
         ensures given { MatchOption result ((given self.old ≡ []) × (self.new ≡ self.old))
             (λ item. Gave self.old item (take (covered item) self.old.held) self.new) }
@@ -166,8 +167,9 @@ impl Scanner {
         }
     }
 
-    /// Sets `item` to the next item, whose bits are held no longer, and answers true. Its bits are not copied. False comes
-    /// exactly where `next` would answer `None`; then all stays as it is. An item is large: so it is not moved.
+    /// Writes to `item` the next item, whose bits are no longer held, and returns true. Its bits are not copied. False
+    /// is returned if and only if `next` would return `None`; then nothing changes. An item is large, so it is not
+    /// moved.
     pub fn next_item_in(&mut self, item: &mut Item) -> bool
         ensures given { result ≡ true → Gave self.old item.new (take (covered item.new) self.old.held) self.new }
         ensures none { result ≡ false → (given self.old ≡ []) × (self.new ≡ self.old) × (item.new ≡ item.old) }
@@ -181,7 +183,7 @@ impl Scanner {
         true
     }
 
-    // Holds the first bits no longer, so many.
+    // Drops the first `count` bits.
     fn let_go(&mut self, count: u64)
         requires { count ≤ length self.old.held }
         ensures { self.new ≡ record self.old { place = self.old.place + count; held = drop count self.old.held } }

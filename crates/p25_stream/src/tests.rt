@@ -9,7 +9,7 @@ use super::{Item, Scanner, bridge_item, repair_item, repair_item_in};
 use p25_bits::BitBuf;
 use p25_units::{Body, Frame, Status, Statuses, Unit, VoiceUnit, frame_length};
 
-// Whether an item is a gap of so many bits at a place.
+// Whether an item is a gap of this number of bits at a position.
 fn is_gap(item: &Item, at: u64, long: u32) -> bool {
     matches!(item, Item::Gap { place, length } if *place == at && *length == long)
 }
@@ -50,7 +50,7 @@ fn items_as_they_come(rt: HostRuntime) {
     assert_eq!(rt; (raw.len(), scanner.held()), (8, 0));
 }
 
-// Whether an octet without a sync comes as a gap without its bits, once.
+// Whether an octet without a sync is returned as a gap without its bits, once.
 fn gap_comes_without_its_bits() -> bool {
     let mut scanner = Scanner::new();
     if scanner.is_drained() {
@@ -73,7 +73,7 @@ fn items_without_their_bits(rt: HostRuntime) {
     assert!(rt; gap_comes_without_its_bits());
 }
 
-// Whether eight of nine octets are taken at once, and the ninth then.
+// Whether eight of nine octets are taken at once, and then the ninth.
 fn nine_octets_are_taken() -> bool {
     let mut scanner = Scanner::new();
     let octets = [0; 9];
@@ -92,7 +92,7 @@ fn octets_as_many_as_there_are(rt: HostRuntime) {
     assert!(rt; nine_octets_are_taken());
 }
 
-// What a terminator (TDU) carries: nothing of it fails.
+// The body of a terminator (TDU), in which nothing fails.
 #[tactic(auto, unfolding(p25_units::specs::Units::IsWholeBody))]
 fn terminator() -> Body
     ensures { IsWholeBody result }
@@ -100,7 +100,7 @@ fn terminator() -> Body
     Body::Voice(VoiceUnit::End)
 }
 
-// Whether a terminator (TDU) is written as it was sent, and under another code (NAC) with other status symbols.
+// Whether a terminator (TDU) is encoded as it was transmitted, and under another code (NAC) with other status symbols.
 fn terminator_is_sent_again(one: Status, three: Status) -> bool {
     let mut statuses = Statuses::new();
     statuses.push(one);
@@ -127,7 +127,7 @@ fn terminator_is_sent_again(one: Status, three: Status) -> bool {
         && out.field(142, 2) == 3
 }
 
-// Whether the bits of a unit that was cut off stay, and it is not written under another code.
+// Whether the bits of a truncated data unit are unchanged, and it is not encoded under another code.
 fn cut_unit_is_left(status: Status) -> bool {
     let cut = Item::Cut { place: 7, have: 48 };
     let (mut raw, mut out) = (BitBuf::new(), BitBuf::new());

@@ -1,21 +1,21 @@
-//! Units as their octets come.
+//! Data units as their octets arrive.
 
 use crate::{Item, Scanner};
 use p25_bits::BitBuf;
 use p25_units::Field;
 
-// 16 bits of a gap, and a terminator (TDU) of NAC 0 with the status symbol 1, with one wrong bit in its sync.
+// 16 bits of a gap, and a terminator (TDU) of NAC 0 with the status symbol 1, with one bit error in its sync.
 const OCTETS: [u8; 20] = [
     0x12, 0x34, 0x55, 0x75, 0xF5, 0xFF, 0x77, 0xFE, 0x00, 0x03, 0x35, 0x93, 0x0B, 0xDD, 0x3B, 0x2B,
     0x00, 0x00, 0x00, 0x01,
 ];
 
-// A sync, and an identifier that is far from each word of its code.
+// A sync, and a NID that is far from each codeword.
 const FAR: [u8; 16] = [
     0x55, 0x75, 0xF5, 0xFF, 0x77, 0xFF, 0x00, 0x03, 0x69, 0x0B, 0x51, 0x49, 0xD2, 0xC1, 0x80, 0x00,
 ];
 
-// Whether the gap is given with its bits as soon as a sync comes after it, and the others stay, from their place on.
+// Whether the gap is returned with its bits as soon as a sync follows it, and the others stay, from their position on.
 fn gap_comes() -> bool {
     let mut scanner = Scanner::new();
     let mut raw = BitBuf::new();
@@ -35,7 +35,7 @@ fn gap_comes() -> bool {
     }
 }
 
-// Whether the terminator is given with its bits as they came, once its last octet is there and not before.
+// Whether the terminator is returned with its bits as they arrived, once its last octet is there and not before.
 fn terminator_comes() -> bool {
     let mut scanner = Scanner::new();
     let mut raw = BitBuf::new();
@@ -63,8 +63,8 @@ fn terminator_comes() -> bool {
     }
 }
 
-// Whether a sync without a unit is given with one bit, the first, in place of those that were there, and the bits after it, which begin
-// within an octet, as a gap from there on.
+// Whether a sync without a data unit is returned with one bit, the first, instead of those that were there, and the
+// bits after it, which begin within an octet, as a gap from there on.
 fn sync_alone_comes() -> bool {
     let mut scanner = Scanner::new();
     let mut raw = BitBuf::new();
