@@ -1,4 +1,5 @@
--- After a unit of fewer than 316 bits nothing is expected, since it is a TDU or a unit that is cut: so the 316 bits from where a unit begins come out as they are. By induction on the items.
+-- After a data unit of fewer than 316 bits nothing is expected, because it is a TDU or a data unit that is cut. So the 316 bits from the beginning of
+-- a data unit on are unchanged. By induction on the items.
 use Rattle.std.proofs.Common.{◌≡◌, ◌≢◌, ℕ, ◌+◌, ◌<◌, ◌≤◌, Bool, true, false, cond, ◌&&◌, inl, inr, List, [], ◌++◌, length, take, drop, Option, Some, None, Result, Ok, Err, refl, sym, ap, subst, ◌∙◌, arith, append_assoc, append-nil, length-append}
 use Rattle.std.proofs.{lemmas.Bool.{cases_eq, cases_lt, ne_eqb}, lemmas.List.{length-take-le, take-append-drop, take-append-le}}
 use Rattle.std.specs.{Prelude.{nat_eq, nat_lt}, Option.{option_or}}

@@ -1,4 +1,4 @@
--- What is read of a unit behind its front is the same whatever front stands there: all that is looked at stands at place 112 or behind it.
+-- The decoding of a data unit after sync and NID is the same whatever these are: all examined bits are at position 112 or after it.
 use Rattle.std.proofs.Common.{◌≡◌, ℕ, ◌+◌, ◌*◌, ◌≤◌, Bool, true, ◌&&◌, nat_le, List, [], ◌∷◌, map, take, drop, Option, Result, Ok, Err, refl, ap, arith}
 use Rattle.std.proofs.lemmas.Bool.Decides.{nat_tests}
 use Rattle.std.specs.{Prelude.{option_map, slice_index}, List.{flat_map}}

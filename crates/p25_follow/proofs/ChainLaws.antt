@@ -1,4 +1,5 @@
--- A chain a step at a time, and what is settled of it: that comes first, and what is left is written after it, whatever bits come. By induction on the bits, which each step makes fewer.
+-- A chain one step at a time, and its decided part: that comes first, and the output for the remaining bits follows it, whatever bits come. By
+-- induction on the bits, which each step makes fewer.
 use Rattle.std.proofs.Common.{◌≡◌, ℕ, zero, suc, ◌+◌, ◌<◌, ◌≤◌, Bool, true, false, cond, ◌||◌, inl, inr, List, [], ◌∷◌, ◌++◌, length, take, drop, Option, Some, None, refl, ◌∙◌, arith, append_assoc, length-append, length-drop}
 use Rattle.std.proofs.{lemmas.Bool.{cases_lt, le-leb, lt-leb, or_right}, lemmas.List.{drop-append-le, take-append-le}}
 use Rattle.std.specs.Prelude.{nat_le}

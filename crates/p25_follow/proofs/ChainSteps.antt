@@ -1,4 +1,4 @@
--- A chain as it is written step by step: what is written so far and what is still to be written are the same all the time.
+-- A chain as it is written step by step: the output so far together with the output still to come is always the same.
 use Rattle.std.proofs.Common.{◌≡◌, ℕ, ◌≤◌, Bool, true, false, ◌||◌, List, ◌++◌, length, take, drop, Option, Some, None, sym, ◌∙◌, append_assoc, append-nil}
 use Rattle.std.proofs.lemmas.Bool.{leb-false, leb-true, or_parts}
 use Rattle.std.specs.Prelude.{nat_le}

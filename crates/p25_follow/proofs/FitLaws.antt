@@ -1,4 +1,4 @@
--- Items of a scan have as many bits as their kinds need: by the cases of a first item, and for those that come later by where they begin.
+-- Items of a scan have as many bits as their types need: by the cases of a first item, and for later ones by their positions.
 use Rattle.std.proofs.Common.{◌≡◌, ℕ, ◌%◌, ◌≤◌, Bool, List, length, take, Option, Some, None, Result, Ok, Err, sym, subst, arith, length-take}
 use Rattle.p25_status.specs.declared.fields.Field.{Field}
 use Rattle.p25_unit_front.specs.Front.{identifier_of}

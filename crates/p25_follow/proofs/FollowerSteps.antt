@@ -1,4 +1,4 @@
--- What a follower does at an item and at the end, by what it keeps.
+-- The effect of an item and of the end on a follower, by its state.
 use Rattle.std.proofs.{Common.{◌≡◌, ℕ, Bool, true, false, List, [], ◌++◌, length, Option, None}, Math.Seq.{take-length}}
 use Rattle.p25_bits.specs.Bits.{part}
 use Rattle.p25_units.specs.declared.item.Item.{Item}

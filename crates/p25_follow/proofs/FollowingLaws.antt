@@ -1,4 +1,4 @@
--- What a follower writes of items is what follows: what is settled comes first, by induction on the items.
+-- The output of a follower for items is the output for their bits: the decided part comes first, by induction on the items.
 use Rattle.std.proofs.Common.{◌≡◌, ℕ, zero, suc, ◌+◌, ◌<◌, ◌≤◌, Bool, true, false, cond, inl, inr, List, [], ◌∷◌, ◌++◌, length, take, drop, Option, Some, None, refl, sym, ◌∙◌, arith, append_assoc, append-nil, length-drop}
 use Rattle.std.proofs.lemmas.Bool.{cases_Bool, cases_lt}
 use Rattle.p25_units.specs.{Items.{covered}, declared.item.Item.{Item}}

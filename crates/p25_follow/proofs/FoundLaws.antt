@@ -1,4 +1,5 @@
--- Where a front is written a unit begins for the scan, of this name and this length: the bits of its sync and of its identifier stand where the scan reads them.
+-- If sync and NID are written, a data unit of this name and this length begins there for the scan: the bits of its sync and of its NID are at the
+-- positions at which the scan reads them.
 use Rattle.std.proofs.Common.{◌≡◌, ℕ, ◌<◌, ◌≤◌, Bool, true, false, List, ◌++◌, length, take, drop, Option, Some, None, Result, Ok, Err, refl, ap, ◌∙◌, arith, append_assoc, length-append, length-drop}
 use Rattle.std.proofs.lemmas.List.{drop-drop, length-take-le, take-append-drop, take-append-le, take-take, take_at}
 use Rattle.std.specs.Option.{unwrap_or}

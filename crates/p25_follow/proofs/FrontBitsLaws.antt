@@ -1,4 +1,5 @@
--- What is written differs from the recording in front bits alone, of units whose fronts are written, which lie in stretches. Place by place, along the units of a chain and along the items.
+-- The output differs from the recording only in bits of sync and NID, of data units for which they are written, which lie in stretches. Position by
+-- position, along the data units of a chain and along the items.
 use Rattle.std.proofs.Common.{◌≡◌, ℕ, ◌+◌, ◌-◌, ◌<◌, ◌≤◌, Bool, true, false, inl, inr, ◌⊎◌, List, [], ◌∷◌, ◌++◌, length, take, drop, Option, Some, None, refl, sym, ap, ◌∙◌, arith, append_assoc, append-nil, length-append}
 use Rattle.std.proofs.{lemmas.Bool.{cases_lt}, lemmas.List.{length-take-le, take-append-drop}, Math.ListN.{drop_of_length-le}, Math.Nat.{zero-add}}
 use Rattle.p25_bits.specs.Bits.{part}

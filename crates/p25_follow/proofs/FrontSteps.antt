@@ -1,4 +1,4 @@
--- The bits of a front written in pieces.
+-- The bits of sync and NID written in parts.
 use Rattle.std.proofs.Common.{◌≡◌, ℕ, ◌+◌, ◌-◌, ◌/◌, ◌%◌, ◌^◌, ◌≤◌, Bool, List, ◌++◌, take, drop, refl, arith, append_assoc, length-append, length-drop}
 use Rattle.std.proofs.{lemmas.List.{drop-drop, drop-take, drop_at, take_all, take_at}}
 use Rattle.p25_bits.specs.Bits.{bits_of, part}

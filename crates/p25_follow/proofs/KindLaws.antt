@@ -1,4 +1,4 @@
--- What is true of the kinds that are expected: each is one of the five kinds of voice units. By cases of the kind before.
+-- The expected types: each is one of the five types of voice data units. By cases of the type before.
 use Rattle.std.proofs.{Common.{◌≡◌, ℕ, ◌≤◌, true, false, cond, inl, inr, ◌⊎◌, List, [], ◌∷◌, Some, None, refl, sym, subst, arith, lit≤}, lemmas.Bool.{eqb-true, or_cases}}
 use Rattle.std.specs.{Prelude.{nat_eq}, List.{list_any}}
 use Rattle.p25_voice_units.specs.Lengths.{voice_length_of}

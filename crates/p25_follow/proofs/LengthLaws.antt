@@ -1,4 +1,4 @@
--- As many bits are written as are there. Along the units of a chain, and along the items.
+-- The output has as many bits as the input. Along the data units of a chain, and along the items.
 use Rattle.std.proofs.Common.{◌≡◌, ℕ, ◌+◌, ◌≤◌, Bool, true, List, [], length, take, drop, Option, None, refl, arith, length-append, length-drop}
 use Rattle.std.proofs.lemmas.List.{length-take-le}
 use Rattle.p25_unit_front.specs.Front.{unit_front}

@@ -1,4 +1,5 @@
--- What a look at a front tells, with whether its identifier reads, is what the front tells. An identifier that reads is that of a kind that may come only where the nearest of them is within 11 bits.
+-- The detection before decoding, with whether the NID is correctable, gives the detection. A correctable NID is that of a type that may follow only
+-- if the nearest of them is within 11 bits.
 use Rattle.std.proofs.Common.{◌≡◌, ℕ, ◌<◌, ◌≤◌, Bool, true, false, cond, ◌&&◌, inl, inr, List, [], ◌∷◌, length, take, Option, Some, None, refl, sym, ◌∙◌, arith}
 use Rattle.std.proofs.{lemmas.Bool.{and_from, cases_Bool, cases_lt, eq-eqb, eqb-true, le-leb, le-ltb, lt-leb, lt-ltb, or_right}, lemmas.List.{length-take-le}}
 use Rattle.std.specs.{Prelude.{nat_eq, nat_lt}, List.{list_any}}

@@ -1,4 +1,4 @@
--- A step, and what is sure, by a look: where a unit fits the look the identifier tells, and where nothing is told the links do.
+-- A step, and certainty, by the detection before decoding: if a data unit fits it the NID decides, and if nothing is detected the links do.
 use Rattle.std.proofs.Common.{◌≡◌, ℕ, zero, suc, ◌-◌, ◌<◌, ◌≤◌, Bool, true, false, cond, ◌&&◌, ◌||◌, List, [], length, drop, Option, Some, None, refl, ◌∙◌, arith}
 use Rattle.std.proofs.lemmas.Bool.{le-leb, lt-leb, lt-ltb}
 use Rattle.std.specs.{Prelude.{nat_le}, Option.{is_some, option_or}}

@@ -1,5 +1,5 @@
--- What the scan finds in what is written: the units of the recording, and one more for each front; and so a second time changes nothing. Both are one fact of what is written, which is
--- moved from term to term: along the units of a stretch, and along the items.
+-- The data units that the scan finds in the output: those of the recording, and one more for each sync and NID written; so a second application
+-- changes nothing. Both are one fact about the output, which is moved from term to term: along the data units of a stretch, and along the items.
 use Rattle.std.proofs.Common.{◌≡◌, ℕ, ◌+◌, ◌-◌, ◌<◌, ◌≤◌, Bool, true, false, inl, inr, ◌⊎◌, List, [], ◌∷◌, ◌++◌, length, take, drop, Option, Some, None, refl, sym, ◌∙◌, arith, append_assoc, append-nil, length-append, length-drop}
 use Rattle.std.proofs.{lemmas.Bool.{cases_Bool, cases_lt}, lemmas.List.{drop-append-le, drop-drop, drop_at, length-take-le, take-append-drop, take_at}}
 use Rattle.std.proofs.Math.Seq.{drop-append-add, drop-append_seam, take-append_seam}

@@ -1,4 +1,5 @@
--- Whether a unit begins at a place hangs on 316 bits alone: on the sync, the identifier and the header of a packet. By the cases of what is needed there.
+-- Whether a data unit begins at a position depends on 316 bits alone: on the sync, the NID and the header of a packet. By the cases of the need
+-- there.
 use Rattle.std.proofs.Common.{◌≡◌, ℕ, ◌≤◌, Bool, true, false, cond, inl, inr, List, length, take, Option, Some, None, Result, Ok, Err, refl, ap, arith}
 use Rattle.std.proofs.lemmas.Bool.{cases_Bool, eqb-false, eqb-true}
 use Rattle.std.specs.Prelude.{nat_eq}

@@ -1,4 +1,4 @@
--- How a broken unit is written anew: what was taken apart, with another front and other status symbols, put together again.
+-- A broken data unit is written anew: its status symbols are removed, and with another sync and NID and other status symbols it is joined again.
 use Rattle.std.proofs.{Common.{◌≡◌, ℕ, ◌-◌, Bool, List, [], ◌++◌, length, drop, replicate, ap, ap₂, ◌∙◌, arith, length-drop}, lemmas.List.{take_all}}
 use Rattle.p25_bits.specs.Bits.{part}
 use Rattle.p25_status.specs.{Woven.{bare_of, statuses_of, woven}, declared.symbols.Status.{Status}}

@@ -1,4 +1,4 @@
--- What is forwarded of an item has as many bits as it covers, and the scan finds it again: by the cases of a first item.
+-- The output for an item has as many bits as it covers, and the scan finds it again: by the cases of a first item.
 use Rattle.std.proofs.Common.{◌≡◌, ℕ, ◌+◌, ◌-◌, ◌*◌, ◌<◌, ◌≤◌, ◌⊎◌, inl, inr, Bool, true, List, ◌++◌, length, take, drop, replicate, Some, Result, Ok, Err, refl, sym, ap, ap₂, ◌∙◌, arith, length-append, length-drop}
 use Rattle.std.proofs.{lemmas.List.{drop-drop, length-replicate, length-take-le, take_at}, Math.Seq.{drop-append-add}}
 use Rattle.p25_bits.specs.Distance.{distance_of}

@@ -1,4 +1,4 @@
--- What is forwarded of a recording: each item in its place, and each unit is found again, or lies within a unit that begins before it.
+-- The output for a recording: each item at its position, and each data unit is found again, or lies within a data unit that begins before it.
 use Rattle.std.proofs.Common.{◌≡◌, ℕ, ◌+◌, inl, inr, true, false, ◌∷◌, ◌++◌, take, drop, Some, refl, arith}
 use Rattle.p25_status.specs.{Sync.{has_sync}, declared.symbols.Status.{Status}}
 use Rattle.p25_status.proofs.SyncLaws.{has_sync-length}

@@ -1,5 +1,5 @@
--- Where nothing begins in what is forwarded of the stretches, the scan finds in what is forwarded the units of the recording, one by one. By induction on the items: a unit is found in its place,
--- and over a stretch the scan comes to the place after it.
+-- If nothing begins in the output for the stretches, the scan finds in the output the data units of the recording, one by one. By induction on the
+-- items: a data unit is found at its position, and over a stretch the scan comes to the position after it.
 use Rattle.std.proofs.Common.{◌≡◌, ℕ, ◌+◌, ◌<◌, ◌≤◌, inl, inr, Bool, true, false, List, [], ◌∷◌, ◌++◌, length, take, drop, map, Option, Some, None, Result, Ok, Err, refl, sym, ap, ap₂, ◌∙◌, arith, append_assoc, append-nil, length-append}
 use Rattle.std.proofs.{Math.Nat.{add-zero}, Math.Seq.{take-length}, lemmas.Bool.{and_from, cases_Bool, cases_lt, cond-false}, lemmas.List.{drop-drop, drop_all, drop_at}, lemmas.List.Sums.{sum_by_push}}
 use Rattle.p25_status.specs.{declared.fields.Field.{Field}, declared.symbols.Status.{Status}}

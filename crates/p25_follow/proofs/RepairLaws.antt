@@ -1,4 +1,5 @@
--- Where a repair leaves the items, it changes nothing of what comes after it: the stretches are the same, and so is what is written of them. Along the units of a chain, and along the items.
+-- If a repair leaves the items, it does not change the output: the stretches are the same, and so is the output for them. Along the data units of a
+-- chain, and along the items.
 use Rattle.std.proofs.Common.{◌≡◌, ℕ, ◌+◌, ◌<◌, Bool, true, false, List, [], ◌∷◌, ◌++◌, length, take, drop, Option, Some, None, refl, ap, ◌∙◌, arith, append_assoc, length-append, length-drop}
 use Rattle.std.proofs.{lemmas.List.{drop_at, length-take-le, take_at}, Math.Seq.{drop-append_seam, take-append_seam}}
 use Rattle.p25_units.specs.{Items.{covered, unit_item_of}, declared.item.Item.{Item}, declared.item.Item.TheVariants.{Whole}}

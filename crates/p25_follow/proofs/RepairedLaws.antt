@@ -1,4 +1,4 @@
--- What a repair writes of a first item and after it, and of a stretch its bits.
+-- The output of a repair for a first item and after it; for a stretch it is the stretch's bits.
 use Rattle.std.proofs.Common.{◌≡◌, ℕ, ◌+◌, ◌<◌, ◌≤◌, Bool, true, List, [], ◌∷◌, ◌++◌, length, take, drop, refl, arith, append_assoc}
 use Rattle.p25_units.specs.{Items.{covered}, declared.item.Item.{Item}, declared.item.Item.TheVariants.{Whole, Broken, NoUnit, Gap, Cut}}
 use Rattle.p25_stream.specs.{Items.{first_item, items_of}, Repeats.{repaired}}

@@ -1,5 +1,5 @@
--- Wherever in a stretch the scan begins, it comes to the same units after it: at none of the stretch's places does a unit begin, and no gap reaches past a sync. By induction on the
--- places that are left, and on the items of the stretch.
+-- Wherever in a stretch the scan begins, it comes to the same data units after it: at none of the stretch's positions does a data unit begin, and no
+-- gap reaches past a sync. By induction on the positions that are left, and on the items of the stretch.
 use Rattle.std.proofs.Common.{◌≡◌, ℕ, zero, suc, ◌+◌, ◌-◌, ◌<◌, ◌≤◌, Bool, true, false, inl, inr, ◌⊎◌, List, [], ◌∷◌, ◌++◌, length, take, drop, refl, sym, ap, ◌∙◌, add_assoc, append_assoc, append-nil, arith, length-drop}
 use Rattle.std.proofs.{lemmas.Bool.{cases_Bool, cases_lt}, Math.Nat.{add-zero}, lemmas.List.{drop-drop}, lemmas.List.Sums.{sum_by-cons}, Math.Seq.{take-add}}
 use Rattle.p25_status.specs.Sync.{has_sync}

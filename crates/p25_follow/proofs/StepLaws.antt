@@ -1,4 +1,5 @@
--- A step looks at no more bits than its reach: what comes after them changes nothing, nor does the end. By the links, with what is told of the first 114 bits.
+-- A step examines no more bits than its reach: bits after them change nothing, nor does the end. By the links, with the detection from the first 114
+-- bits.
 use Rattle.std.proofs.Common.{◌≡◌, ℕ, zero, suc, ◌+◌, ◌-◌, ◌*◌, ◌<◌, ◌≤◌, Bool, true, false, cond, ◌&&◌, ◌||◌, inl, inr, List, [], ◌++◌, length, drop, Option, Some, None, refl, subst, arith, append-nil, length-append, length-drop}
 use Rattle.std.proofs.{lemmas.Bool.{cases_lt, le-leb, leb-true, lt-leb, lt-ltb, ltb-true}, lemmas.List.{drop-append-le, drop-drop}}
 use Rattle.std.specs.{Prelude.{nat_le, nat_lt}, Option.{is_some, option_or}}

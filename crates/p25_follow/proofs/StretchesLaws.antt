@@ -1,4 +1,5 @@
--- What comes out of a recording, stretch by stretch: the bits of a unit as they are, and those of a stretch after it as its chain. By induction on the items before them.
+-- The output for a recording, stretch by stretch: the bits of a data unit unchanged, and those of a stretch after it as its chain. By induction on
+-- the items before them.
 use Rattle.std.proofs.Common.{◌≡◌, ℕ, ◌+◌, ◌≤◌, Bool, true, false, inl, inr, List, [], ◌∷◌, ◌++◌, length, take, drop, Option, None, sym, ◌∙◌, add_assoc, arith, append_assoc, append-nil, length-append, length-drop}
 use Rattle.std.proofs.{lemmas.Bool.{cases_Bool}, lemmas.List.{drop-drop, length-take-le}, lemmas.List.Sums.{sum_by-cons}, Math.Nat.{zero-add}, Math.Seq.{take-add}}
 use Rattle.p25_bits.proofs.PartLaws.{part_joined}

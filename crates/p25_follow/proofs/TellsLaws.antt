@@ -1,4 +1,5 @@
--- What a front has to tell where it is written: an identifier that reads is the one that is written, and a unit that may come and whose identifier reads as its own is written.
+-- The detection for a sync and NID that are written: a correctable NID is the one that is written, and a data unit that may follow and whose NID
+-- decodes to its own is written.
 use Rattle.std.proofs.Common.{◌≡◌, ℕ, ◌<◌, ◌≤◌, Bool, true, false, cond, ◌&&◌, inl, inr, List, length, Option, Some, None, refl, sym, subst, ◌∙◌, arith}
 use Rattle.std.proofs.lemmas.Bool.{and_from, cases_Bool, eq-eqb, ltb-true}
 use Rattle.std.specs.{Prelude.{nat_eq, nat_lt}, Option.{option_or}}

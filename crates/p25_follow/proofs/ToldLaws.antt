@@ -1,4 +1,4 @@
--- What is told hangs on the first 114 bits alone, and a kind that is told is one that is expected. By the cases of the identifier.
+-- The detection depends on the first 114 bits alone, and a detected type is an expected one. By the cases of the NID.
 use Rattle.std.proofs.Common.{◌≡◌, ℕ, ◌+◌, ◌<◌, ◌≤◌, Bool, true, false, cond, ◌&&◌, inl, inr, List, [], ◌∷◌, ◌++◌, length, take, Option, Some, None, refl, sym, subst, ◌∙◌, arith, length-append}
 use Rattle.std.proofs.{lemmas.Bool.{cases_Bool, cases_lt, eqb-true, le-ltb, lt-ltb}, lemmas.List.{take-append-le, take-take}}
 use Rattle.std.specs.Prelude.{nat_eq, nat_le, nat_lt}

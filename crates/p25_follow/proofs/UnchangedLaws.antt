@@ -1,4 +1,5 @@
--- Where no stretch comes after a unit all comes as it is, and where a front is written all else of its unit. Along the items, and by cutting lists at known lengths.
+-- If no stretch follows a data unit, all bits are unchanged, and if sync and NID are written, so is all else of the data unit. Along the items, and
+-- by splitting lists at known lengths.
 use Rattle.std.proofs.Common.{◌≡◌, ℕ, ◌≤◌, Bool, true, false, inl, inr, ◌⊎◌, List, [], ◌∷◌, ◌++◌, length, take, drop, Option, Some, None, refl, arith, append_assoc, append-nil, length-append, length-drop}
 use Rattle.std.proofs.lemmas.List.{drop_at, length-take-le, take-append-drop}
 use Rattle.std.specs.Option.{is_none}

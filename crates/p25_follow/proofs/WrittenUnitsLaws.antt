@@ -1,4 +1,5 @@
--- The units whose fronts are written, a step at a time, and what lies before and after a stretch in which no unit begins. By induction on the bits, which each step makes fewer.
+-- The data units whose sync and NID are written, one step at a time, and the bits before and after a stretch in which no data unit begins. By
+-- induction on the bits, which each step makes fewer.
 use Rattle.std.proofs.Common.{◌≡◌, ℕ, zero, suc, ◌+◌, ◌≤◌, Bool, true, false, List, [], ◌∷◌, ◌++◌, length, take, drop, Option, Some, None, refl, arith, length-drop}
 use Rattle.p25_units.specs.{Items.{covered, unit_item_of}, declared.item.Item.{Item}}
 use Rattle.p25_stream.specs.Items.{items_of}

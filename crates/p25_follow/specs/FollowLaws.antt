@@ -1,4 +1,4 @@
--- What is true of what is written of a recording, over all bits, and that a follower writes it.
+-- The laws of the output for a recording, over all bits, and that a follower gives it.
 use Rattle.std.specs.Prelude.{◌≡◌, ℕ, ◌<◌, ◌≤◌, Bool, true, List, ◌++◌, length, take, drop, Option, Some, None}
 use Rattle.p25_bits.specs.Bits.{part}
 use Rattle.p25_unit_front.specs.Front.{identifier_of}
@@ -8,11 +8,11 @@ use Rattle.p25_follow.specs.{Chains.{chain_by, chain_of, settled_of, with_front}
 use Rattle.p25_follow.specs.{Followed.{follow_of, followed_by, has_no_stretch, unit_name}, Following.{IsFollow, Follow, left_of, written_by}, Steps.{step_of}}
 use Rattle.p25_follow.specs.Told.{name_errors_of}
 
--- as many bits are written as are there
+-- the output has as many bits as the input
 abbrev pub LengthIsKept : Type 0
 LengthIsKept = (bits : List Bool) → length (follow_of bits) ≡ length bits
 
--- a chain is no bits where a unit is not known, and else the unit with its front and the chain after it
+-- a chain is the bits unchanged if no data unit is known, and otherwise the data unit with its sync and NID and the chain after it
 abbrev pub ChainsUnfold : Type 0
 ChainsUnfold =
     ((bits : List Bool) (end : Option (ℕ × ℕ)) → chain_of None bits end ≡ bits)
@@ -21,25 +21,25 @@ ChainsUnfold =
     → chain_of (Some before) bits end
     ≡ with_front (before.0, kind) (take (kind_length kind) bits) ++ chain_of (Some (before.0, kind)) (drop (kind_length kind) bits) end)
 
--- the bits of the unit of a step are there
+-- the bits of the data unit of a step are there
 abbrev pub StepIsThere : Type 0
 StepIsThere =
     (before : ℕ × ℕ) (bits : List Bool) (end : Option (ℕ × ℕ)) (kind : ℕ) → step_of before bits end ≡ Some kind
     → (144 ≤ kind_length kind) × (kind_length kind ≤ length bits)
 
--- a step looks at no more than 6,912 bits: neither those after them nor the end change it
+-- a step examines at most 6,912 bits: neither those after them nor the end change it
 abbrev pub StepLooksAtFew : Type 0
 StepLooksAtFew =
     (before : ℕ × ℕ) (bits more : List Bool) (end other : Option (ℕ × ℕ)) → 6912 ≤ length bits → step_of before (bits ++ more) end ≡ step_of before bits other
 
--- an identifier that reads is not replaced by another
+-- a correctable NID is not replaced by another
 abbrev pub NameStays : Type 0
 NameStays =
     (before : ℕ × ℕ) (bits : List Bool) (end : Option (ℕ × ℕ)) (kind : ℕ) (name : ℕ × ℕ)
     → step_of before bits end ≡ Some kind → identifier_of bits ≡ Some name → name ≡ (before.0, kind)
 
--- where the bits of a unit lie after one of its network, of a kind that may come, and at most 11 of its identifier are wrong, its
--- front is written, whatever its sync is
+-- if bits of a data unit follow one of its network, it is of a type that may follow, and at most 11 bits of its NID are wrong, its sync and NID are
+-- written, whatever its sync is
 abbrev pub NearIsWritten : Type 0
 NearIsWritten =
     (nac before kind : ℕ) (bits : List Bool) (end : Option (ℕ × ℕ)) → nac < 4096 → kind < 16 → is_expected before kind ≡ true → kind_length kind ≤ length bits
@@ -47,20 +47,20 @@ NearIsWritten =
     → chain_of (Some (nac, before)) bits end
     ≡ with_front (nac, kind) (take (kind_length kind) bits) ++ chain_of (Some (nac, kind)) (drop (kind_length kind) bits) end
 
--- what is settled of bits comes first, whatever bits come after them, and what is left of them is written after it
+-- the decided output for bits comes first, whatever bits come after them, and the output for the remaining bits follows it
 abbrev pub SettledStays : Type 0
 SettledStays =
     (ended : Bool) (before : Option (ℕ × ℕ)) (bits more : List Bool) (end : Option (ℕ × ℕ))
     → chain_by ended before (bits ++ more) end
     ≡ settled_of before bits ++ chain_by ended (left_of before bits).before ((left_of before bits).stretch ++ more) end
 
--- what a follower writes of items that lie end to end over some bits is what follows after what it keeps
+-- the output of a follower for items that lie end to end over some bits is the output for those bits after the state that it keeps
 abbrev pub FollowerWrites : Type 0
 FollowerWrites =
     (ended : Bool) (kept : Follow) (items : List Item) (bits : List Bool) → IsFollow kept
     → written_by ended kept items bits ≡ followed_by ended kept.before kept.stretch items bits
 
--- where the front of a voice unit is written and an item begins, that item is a unit of this name, whole or broken, whatever bits
+-- if sync and NID of a voice data unit are written at the beginning of an item, that item is a data unit of this name, whole or broken, whatever bits
 -- follow; it covers exactly its bits, and is decided
 abbrev pub WrittenIsFound : Type 0
 WrittenIsFound =
@@ -69,12 +69,12 @@ WrittenIsFound =
     × (covered (first_item place (with_front (nac, kind) bits ++ more)) ≡ kind_length kind)
     × (is_decided (with_front (nac, kind) bits ++ more) ≡ true)
 
--- of a unit whose front is written the status symbol within the front stays, and all that comes after it
+-- in a data unit whose sync and NID are written, the status symbol within them and all bits after them stay
 abbrev pub FrontAlone : Type 0
 FrontAlone =
     (name : ℕ × ℕ) (bits : List Bool) → 114 ≤ length bits
     → (part 70 2 (with_front name bits) ≡ part 70 2 bits) × (drop 114 (with_front name bits) ≡ drop 114 bits)
 
--- where no stretch comes after a unit, all bits come as they are
+-- if no stretch follows a data unit, all bits are unchanged
 abbrev pub NoStretchNoChange : Type 0
 NoStretchNoChange = (bits : List Bool) → has_no_stretch None (items_of 0 bits) ≡ true → follow_of bits ≡ bits

@@ -1,4 +1,4 @@
--- What is true of what is written of a whole recording.
+-- The laws of the output for a whole recording.
 use Rattle.std.specs.Prelude.{◌≡◌, ℕ, ◌+◌, ◌<◌, ◌≤◌, ◌⊎◌, Bool, true, false, List, [], ◌∷◌, ◌++◌, drop, Some, None}
 use Rattle.p25_bits.specs.Bits.{part}
 use Rattle.p25_units.specs.{Items.{covered}, declared.item.Item.{Item}}
@@ -7,27 +7,27 @@ use Rattle.p25_follow.specs.{Chains.{chain_of, with_front}, Expected.{is_expecte
 use Rattle.p25_follow.specs.FollowedUnits.{IsFrontBit, IsInStretch, IsMerged, IsWrittenUpTo, end_name, fronts_by, units_by}
 use Rattle.p25_follow.specs.{Repaired.{AreFoundAgain, repair_of}, StretchLaws.{all_rest, begins_rest, bits_in, units_among}, Told.{name_errors_of}}
 
--- the units that the scan finds in what is written, a unit that is cut among them, are those that it finds in the recording, the same
--- item for item and at the same places, and one more for each front that is written
+-- the data units that the scan finds in the output, a data unit that is cut among them, are those that it finds in the recording, the same item for
+-- item and at the same positions, and one more for each sync and NID written
 abbrev pub NeverWorse : Type 0
 NeverWorse =
     (bits : List Bool)
     → (units_among (items_of 0 (follow_of bits)) ≡ units_by 0 None [] (items_of 0 bits) bits)
     × IsMerged (units_among (items_of 0 bits)) (fronts_by 0 None [] (items_of 0 bits) bits) (units_by 0 None [] (items_of 0 bits) bits)
 
--- what is written of what is written is the same
+-- the output for the output is the same
 abbrev pub SecondChangesNothing : Type 0
 SecondChangesNothing = (bits : List Bool) → follow_of (follow_of bits) ≡ follow_of bits
 
--- where what is written differs from the recording, at a place, that is a front bit of a unit whose front is written, in a stretch
+-- if the output differs from the recording at a position, that is a bit of sync or NID of a data unit for which they are written, in a stretch
 abbrev pub FrontBitsAlone : Type 0
 FrontBitsAlone =
     (bits : List Bool) (place : ℕ)
     → (part place 1 (follow_of bits) ≡ part place 1 bits)
     ⊎ (IsFrontBit place (fronts_by 0 None [] (items_of 0 bits) bits) × IsInStretch place 0 (items_of 0 bits))
 
--- of a recording the bits of each unit, and of a unit that is cut, come as they are, and those of a stretch after it as its chain, which
--- reaches to the unit after it, or to the end
+-- in the output for a recording the bits of each data unit, and of one that is cut, are unchanged, and those of a stretch after it are its chain,
+-- which reaches to the data unit after it, or to the end
 abbrev pub StretchByStretch : Type 0
 StretchByStretch =
     (bits : List Bool) (first : List Item) (unit : Item) (stretch after : List Item)
@@ -36,8 +36,8 @@ StretchByStretch =
     × (part (bits_in first + covered unit) (bits_in stretch) (follow_of bits)
     ≡ chain_of (unit_name unit) (part (bits_in first + covered unit) (bits_in stretch) bits) (end_name after))
 
--- in a stretch of a recording, directly after the unit before it or one whose front is written, a unit of its network, of a kind that
--- may come, at most 11 of the bits of whose identifier are wrong, comes out with its front, whatever its sync is
+-- in a stretch of a recording, directly after the data unit before it or one whose sync and NID are written, a data unit of its network, of a type
+-- that may follow, with at most 11 bit errors in its NID, is output with its sync and NID, whatever its sync is
 abbrev pub CompleteInStretches : Type 0
 CompleteInStretches =
     (bits : List Bool) (first : List Item) (unit : Item) (stretch after : List Item)
@@ -49,7 +49,7 @@ CompleteInStretches =
     → part (bits_in first + covered unit + place) (kind_length kind) (follow_of bits)
     ≡ with_front (nac, kind) (part (bits_in first + covered unit + place) (kind_length kind) bits)
 
--- where the scan finds in a recording that was repaired the same items, a repair before comes to the same as one after alone
+-- if the scan finds the same items in a repaired recording, a repair before gives the same as one after alone
 abbrev pub RepairBefore : Type 0
 RepairBefore =
     (bits : List Bool) → AreFoundAgain (items_of 0 bits) (items_of 0 (repair_of bits)) → repair_of (follow_of (repair_of bits)) ≡ repair_of (follow_of bits)

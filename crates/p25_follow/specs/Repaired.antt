@@ -3,15 +3,15 @@ use Rattle.std.specs.Prelude.{◌≡◌, ℕ, Bool, List, [], ◌∷◌}
 use Rattle.p25_units.specs.{declared.item.Item.{Item}, declared.item.Item.TheVariants.{Whole}}
 use Rattle.p25_stream.specs.{Items.{items_of}, Repeats.{repaired}, Written.{written}}
 
--- what a repair writes of bits that begin at a place of a recording
+-- the output of a repair for bits that begin at a position of a recording
 unfoldable pub repaired_from : ℕ → List Bool → List Bool
 repaired_from at bits = written repaired (items_of at bits) bits
 
--- what a repair writes of a recording
+-- the output of a repair for a recording
 abbrev pub repair_of : List Bool → List Bool
 repair_of = repaired_from 0
 
--- an item is found again after a repair: a whole unit with any fixes, and each other item as it is
+-- an item is found again after a repair: a whole data unit with any fixes, and each other item unchanged
 unfoldable pub IsFoundAgain : Item → Item → Type 0
 IsFoundAgain (Whole place frame fixes) other = (left : ℕ) × (other ≡ Whole place frame left)
 IsFoundAgain item other = other ≡ item

@@ -1,4 +1,4 @@
-//! The units that lie end to end from a place on, with their fronts written.
+//! Data units that lie end to end from a position on, with sync and NID written.
 
 ghost use Rattle.std.specs.Prelude.{◌≡◌, ◌||◌, nat_le, ◌+◌, ◌≤◌, ◌++◌, IfSome, [], drop, false, true, length, take};
 ghost use Rattle.p25_follow.specs.{Chains.{chain_by, with_front}, Expected.{name_of, names_of}, Following.{follow, left_of}};
@@ -11,10 +11,10 @@ use p25_bits::BitBuf;
 use p25_status::{BARE_BLOCK_LENGTH, SENT_BLOCK_LENGTH, SYNC};
 use p25_unit_front::{AFTER_STATUS, BEFORE_STATUS, SENT_FRONT_LENGTH};
 
-/// How many bits a step looks at, at most: those of four logical link units.
+/// The most bits that a step examines: those of four logical link data units.
 pub const STEP_REACH: usize = 6912;
 
-// Appends bits from a place on, so many, with the front of a name written.
+// Appends `count` bits from a position on, with sync and NID of a name written.
 fn put_with_front(name: &Nid, bits: &BitBuf, at: usize, count: usize, out: &mut BitBuf)
     requires some { 114 ≤ count }
     requires there { at + count ≤ length bits.now }
@@ -22,7 +22,7 @@ fn put_with_front(name: &Nid, bits: &BitBuf, at: usize, count: usize, out: &mut 
     ensures list { out.new ≡ out.old ++ with_front (name_of name.now) (take count (drop at bits.now)) }
     ensures len { length out.new ≡ length out.old + count }
 {
-    // For the prover: the number of bits held bounds every place below.
+    // For the prover: the number of bits held bounds every position below.
     let _ = bits.len();
     let identifier = nid_bits(name);
     out.put_field(SYNC, 48);
@@ -36,22 +36,22 @@ fn put_with_front(name: &Nid, bits: &BitBuf, at: usize, count: usize, out: &mut 
     out.append(bits, at + SENT_FRONT_LENGTH, count - SENT_FRONT_LENGTH);
 }
 
-// Whether a step can be made over so many bits: they are whole, or all that it looks at is there.
+// Returns whether a step can be made over a number of bits: they are whole, or all bits that it examines are there.
 fn can_step(whole: bool, count: usize) -> bool
     ensures { result ≡ (whole || nat_le 6912 count) }
 {
     whole || count >= STEP_REACH
 }
 
-// Where the units end that are written, and the name of the last one: none where no unit is known there.
+// The end of the data units that are written, and the name of the last one: none if no data unit is known there.
 #[derive(Clone, Copy)]
 struct Reached {
     before: Option<Nid>,
     at: usize,
 }
 
-// Appends the units that bits begin with, end to end, after a unit with a name or after none: as many as are known. Where more bits may
-// come, it stops where a step can not be made.
+// Appends the data units with which bits begin, end to end, after a data unit with a name or after none: as many as are
+// known. If more bits may come, it stops at the first step that cannot be made.
 fn put_units(
     whole: bool,
     before: Option<Nid>,
@@ -87,7 +87,7 @@ fn put_units(
     Reached { before: None, at }
 }
 
-// Takes the first bits away, so many.
+// Removes the first `count` bits.
 fn drop_written(count: usize, bits: &mut BitBuf)
     requires { count ≤ length bits.old }
     ensures { bits.new ≡ drop count bits.old }
@@ -97,10 +97,10 @@ fn drop_written(count: usize, bits: &mut BitBuf)
     }
 }
 
-/// Appends what is written of `bits`: the units that follow one another there, each with its front, and the other bits as they are.
-/// `before` names the unit before them, if there is one. If they are `whole`, all of them are written, and `end` names the unit after
-/// them, if there is one. Else it stops where a step might need more bits. The bits that were not written stay in `bits`, and it
-/// answers the name of the unit before these.
+/// Appends the output for `bits`: the data units that follow one another there, each with sync and NID, and the other
+/// bits unchanged. `before` names the data unit before them, if there is one. If the bits are `whole`, all of them are
+/// written, and `end` names the data unit after them, if there is one. Otherwise the call stops when a step might need
+/// more bits. The remaining bits stay in `bits`, and the call returns the name of the data unit before them.
 pub fn put_chain(
     whole: bool,
     before: Option<Nid>,

@@ -1,4 +1,4 @@
-//! What may come after a unit, by kind.
+//! The types of data unit that may follow a data unit, by its type.
 
 ghost use Rattle.std.specs.Prelude.{◌≡◌, ◌≤◌, IfSome, MatchOption, [], ◌∷◌};
 ghost use Rattle.p25_bch_nid.specs.Duids.{duid_tdu, duid_tdulc};
@@ -9,13 +9,14 @@ use p25_status::{BARE_BLOCK_LENGTH, SENT_BLOCK_LENGTH};
 use p25_voice_units::laws::image_laws;
 use p25_voice_units::voice_length;
 
-/// Answers how many bits are sent for a voice unit of a kind (HDU, LDU1, LDU2, TDU or TDULC): none where it is another kind.
+/// Returns the number of transmitted bits of a voice data unit of a type (HDU, LDU1, LDU2, TDU or TDULC), or none for
+/// another type.
 #[tactic(auto, unfolding(crate::specs::Expected::kind_length))]
 pub fn kind_length(kind: u8) -> usize
     ensures value { result ≡ kind_length kind }
     ensures most { result ≤ 1728 }
 {
-    // For the prover: voice units are as long as their kinds say.
+    // For the prover: voice data units have the length of their types.
     image_laws();
     match voice_length(kind) {
         Some(bare) => bare / BARE_BLOCK_LENGTH * SENT_BLOCK_LENGTH,
@@ -23,8 +24,8 @@ pub fn kind_length(kind: u8) -> usize
     }
 }
 
-/// Answers the kind that is tried first after a unit of a kind; a TDULC and a TDU are tried after it. `None` comes exactly where no
-/// kind is expected.
+/// Returns the type that is tried first after a data unit of a type; a TDULC and a TDU are tried after it. `None` is
+/// returned if and only if no type is expected.
 #[tactic(auto, unfolding(crate::specs::Expected::expected_after))]
 pub fn first_expected(before: u8) -> Option<u8>
     ensures list { MatchOption result (expected_after before ≡ []) (λ kind. expected_after before ≡ kind ∷ duid_tdulc ∷ duid_tdu ∷ []) }
@@ -38,7 +39,7 @@ pub fn first_expected(before: u8) -> Option<u8>
     }
 }
 
-/// Answers whether a kind may come after a unit of a kind.
+/// Returns whether a type may follow a data unit of a type.
 #[tactic(auto, unfolding(crate::specs::Expected::is_expected))]
 pub fn is_expected(before: u8, kind: u8) -> bool
     ensures { result ≡ is_expected before kind }
@@ -49,7 +50,8 @@ pub fn is_expected(before: u8, kind: u8) -> bool
     }
 }
 
-/// Answers the logical link unit (LDU1 or LDU2) that comes next after a unit of a kind. `None` comes exactly where none does.
+/// Returns the logical link data unit (LDU1 or LDU2) that is next after a data unit of a type. `None` is returned if
+/// and only if there is none.
 #[tactic(auto, unfolding(crate::specs::Expected::next_link))]
 pub fn next_link(kind: u8) -> Option<u8>
     ensures value { result ≡ next_link kind }

@@ -11,8 +11,8 @@ use p25_bits::BitBuf;
 use p25_units::Item;
 use std::marker::Model;
 
-/// What is kept between the items of a stream: the name of the last unit, and the bits of the stretch after it of which nothing is
-/// settled, fewer than 6,912.
+/// The state between the items of a stream: the name of the last data unit, and the undecided bits of the stretch after
+/// it, fewer than 6,912.
 #[derive(Drop)]
 pub struct Follower {
     before: Option<Nid>,
@@ -29,7 +29,7 @@ impl Model for Follower {
     ghost invariant = { λ s. IsFollow (follow (names_of s.before) s.stretch) };
 }
 
-/// The follower that no item was taken by.
+/// Returns the follower before the first item.
 impl Default for Follower {
     ghost is_default = { λ follower. follower ≡ fresh_follow };
 
@@ -39,7 +39,7 @@ impl Default for Follower {
 }
 
 impl Follower {
-    /// Answers a follower that no item was taken by.
+    /// Returns a follower before the first item.
     pub fn new() -> Follower
         ensures { result ≡ fresh_follow }
     {
@@ -49,8 +49,9 @@ impl Follower {
         }
     }
 
-    /// Answers a follower by what is kept: the name of the unit before, and the bits of the stretch after it, fewer than 6,912 and none
-    /// where no unit was before them. So what is kept between the items can be held in another form.
+    /// Returns a follower from its state: the name of the data unit before, and the bits of the stretch after it. It
+    /// requires fewer than 6,912 bits, and none if no data unit was before them. So a caller can keep the state in
+    /// another form.
     pub fn of(before: Option<Nid>, stretch: BitBuf) -> Follower
         requires { IsFollow (follow (names_of before) stretch) }
         ensures { result ≡ follow (names_of before) stretch }
@@ -58,14 +59,14 @@ impl Follower {
         Follower { before, stretch }
     }
 
-    /// Answers the name of the unit before what is kept, or none.
+    /// Returns the name of the data unit before the bits that are kept, or none.
     pub fn before(&self) -> Option<Nid>
         ensures { names_of result ≡ self.now.before }
     {
         self.before
     }
 
-    /// Answers the bits that are kept, fewer than 6,912.
+    /// Returns the bits that are kept, fewer than 6,912.
     pub fn stretch(&self) -> &BitBuf
         ensures bits { result.now ≡ self.now.stretch }
         ensures few { length result.now < 6912 }
@@ -73,11 +74,12 @@ impl Follower {
         &self.stretch
     }
 
-    /// Takes an item and the bits that it covers. Sets `out` to the bits that are to be written before the item's own: where a unit
-    /// comes, or a sync with too few bits after it (`Cut`), all that is left of the stretch before it, and else what is settled of the
-    /// stretch with the item's bits. The item's own bits are to be written after them where it is a unit or `Cut`, and else not.
+    /// Takes an item and the bits that it covers, and writes to `out` the bits to output before the item's own. If the
+    /// item is a data unit, or a sync with too few bits after it (`Cut`), they are all that is left of the stretch
+    /// before it. Otherwise they are the decided part of the stretch with the item's bits. The item's own bits follow
+    /// them in the output if and only if it is a data unit or `Cut`.
     ///
-    /// An item that is neither covers at most 4,096 bits.
+    /// It requires that any other item covers at most 4,096 bits.
     pub fn take(&mut self, item: &Item, raw: &BitBuf, out: &mut BitBuf)
         requires sound { IsSoundItem item.now }
         requires short { is_rest item.now ≡ true → length raw.now ≤ 4096 }
@@ -87,7 +89,7 @@ impl Follower {
     {
         out.clear();
         if is_rest(item) {
-            // Nothing is kept of a stretch that no unit is before.
+            // Nothing is kept of a stretch without a data unit before it.
             if self.before.is_none() {
                 out.append(raw, 0, raw.len());
                 return;
@@ -101,7 +103,7 @@ impl Follower {
         }
     }
 
-    /// Sets `out` to the bits that are to be written at the end of the stream: all that is left of a stretch there.
+    /// Writes to `out` the bits to output at the end of the stream: all that is left of a stretch there.
     pub fn finish(&self, out: &mut BitBuf)
         ensures { out.new ≡ written_end self.now }
     {
@@ -112,7 +114,7 @@ impl Follower {
     }
 }
 
-/// Answers whether an item belongs to a stretch: no unit is there, nor a sync with too few bits after it.
+/// Returns whether an item belongs to a stretch: it is neither a data unit nor a sync with too few bits after it.
 pub fn is_rest(item: &Item) -> bool
     ensures { result ≡ is_rest item.now }
 {
@@ -122,7 +124,7 @@ pub fn is_rest(item: &Item) -> bool
     }
 }
 
-// The name of a unit, whole or broken.
+// Returns the name of a data unit, whole or broken.
 fn unit_name(item: &Item) -> Option<Nid>
     requires { IsSoundItem item.now }
     ensures { names_of result ≡ unit_name item.now }

@@ -1,10 +1,10 @@
-//! Units found by rhythm, where the scan finds no sync; and recordings forwarded in place.
+//! Data units found by rhythm, when the scan finds no sync; and recordings forwarded in place.
 //!
-//! Units lie end to end, so after a unit it is known where the next one begins and which kinds may come: after a header (HDU) an LDU1,
-//! after an LDU1 an LDU2, after an LDU2 an LDU1, after a terminator with link control (TDULC) a header, and after each of them a
-//! terminator (TDULC or TDU). A `Follower` takes the items of a stream one after the other and answers their bits, with the fronts of
-//! such units written: the 48 bits of the sync and the 64 of the network identifier (NID). All other bits come as they are, as many as
-//! are taken.
+//! Data units lie end to end, so after a data unit the position of the next one and its possible types are known. An
+//! LDU1 follows a header (HDU), an LDU2 an LDU1, an LDU1 an LDU2, and a header a terminator with link control (TDULC);
+//! a terminator (TDULC or TDU) may follow each of them. A `Follower` takes the items of a stream one after the other
+//! and returns their bits, with sync and NID of such data units written: the 48 bits of the sync and the 64 of the
+//! network identifier (NID). All other bits are unchanged, and there are as many as were taken.
 //!
 //! ```text
 //! let mut follower = Follower::new();
@@ -26,16 +26,17 @@
 //! assert!(rt; out == terminator);
 //! ```
 //!
-//! Here `lost` are the bits of a terminator with five wrong bits in its sync, and `terminator` those that were sent. `take` sets `out`
-//! to the bits that come before the item's own; these are to be written after them where the item is a unit, or one that is cut.
+//! Here `lost` are the bits of a terminator with five bit errors in its sync, and `terminator` those that were
+//! transmitted. `take` writes to `out` the bits that come before the item's own; these follow them in the output if the
+//! item is a data unit, or one that is cut.
 //!
-//! The first bit of a list is the first that is sent. Contracts see a stretch, bits between units in which the scan finds none, as
-//! what is written of it: `chain_of`. `follow_of` is what is written of a whole recording. `follow_laws` says what is true of it, and
-//! that a follower writes it, however the items come.
+//! The first bit of a list is transmitted first. Contracts see a stretch, bits between data units in which the scan
+//! finds none, as its output: `chain_of`. `follow_of` is the output for a whole recording. `follow_laws` states its
+//! laws, and that a follower gives it, however the items arrive.
 //!
-//! `relay_item` makes of the bits of an item those that are forwarded in their place, under another network access code (NAC) and with
-//! one status symbol everywhere: a whole unit as it was sent, a broken one with its front written, and all else as it came. `relay_of`
-//! is what is forwarded of a whole recording.
+//! `relay_item` replaces the bits of an item by those that are forwarded at their position, under another network
+//! access code (NAC) and with one status symbol everywhere. A whole data unit is forwarded as it was transmitted, a
+//! broken one with its sync and NID written, and all else as received. `relay_of` is the output for a whole recording.
 #![tactic(auto)]
 
 mod chain;

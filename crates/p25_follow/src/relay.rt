@@ -11,11 +11,12 @@ use p25_stream::bridge_item_in;
 use p25_unit_front::{FRONT_LENGTH, put_front};
 use p25_units::Item;
 
-/// Replaces the bits that an item covers by those that are forwarded in their place, as many.
+/// Replaces the bits that an item covers by equally many that are forwarded at their position.
 ///
-/// Those of a `Whole` item are what `bridge_item` makes of it. A `Broken` one keeps all its bits but its sync and its network identifier
-/// (NID), which become those of the network access code and of its kind, and its status symbols, which become `status`. The bits of every
-/// other item stay as they are. The item and its bits are as a scan gives them.
+/// The bits of a `Whole` item are those of `bridge_item`. A `Broken` one keeps all its bits but its sync and its
+/// network identifier (NID), which become those of the network access code and of its type, and its status symbols,
+/// which become `status`. The bits of every other item are unchanged. It requires an item and its bits as a scan
+/// returns them.
 pub fn relay_item(item: &Item, nac: u16, status: Status, raw: &mut BitBuf)
     requires sound { IsSoundItem item.now }
     requires fits { IsFitItem item.now }
@@ -26,8 +27,8 @@ pub fn relay_item(item: &Item, nac: u16, status: Status, raw: &mut BitBuf)
     relay_item_in(item, nac, status, &mut BitBuf::new(), raw);
 }
 
-/// Replaces the bits that an item covers as `relay_item` does. `room` takes the bits of a whole unit without status symbols, so that
-/// no buffer has to be made; what it holds before and after the call means nothing.
+/// Replaces the bits that an item covers as `relay_item` does. `room` is a buffer for the bits of a whole data unit
+/// without status symbols, so that none has to be made; its contents before and after the call have no meaning.
 pub fn relay_item_in(item: &Item, nac: u16, status: Status, room: &mut BitBuf, raw: &mut BitBuf)
     requires sound { IsSoundItem item.now }
     requires fits { IsFitItem item.now }
@@ -45,7 +46,8 @@ pub fn relay_item_in(item: &Item, nac: u16, status: Status, room: &mut BitBuf, r
     }
 }
 
-// Writes the front of a network access code (NAC) and a kind over that of a broken unit, and a status symbol over all of its own.
+// Writes sync and NID of a network access code (NAC) and a type over those of a broken data unit, and a status symbol
+// over all of its own.
 fn relay_broken(nac: u16, duid: u8, status: Status, raw: &mut BitBuf)
     requires nac { nac < 4096 }
     requires duid { duid < 16 }

@@ -1,4 +1,4 @@
-//! Which unit lies where bits begin, after a unit with a name.
+//! The data unit with which bits begin, after a data unit with a name.
 
 ghost use Rattle.std.specs.Prelude.{◌≡◌, ◌≤◌, drop, length};
 ghost use Rattle.p25_follow.specs.{Expected.{name_of, names_of}, Steps.{fits_by, is_end, is_sure, step_of}, Told.{is_nothing}};
@@ -8,14 +8,14 @@ use crate::told::{Told, look_at, told_at, with_kind};
 use p25_bch_nid::Nid;
 use p25_bits::BitBuf;
 
-/// Over how many logical link units of which nothing is told it may be sure that units lie end to end. That number is this project's
-/// choice.
+/// The most logical link data units without a detection over which the alignment may be certain. This number is this
+/// project's choice.
 pub const LINKS_MOST: u32 = 3;
 
-/// How many bits are sent for a logical link unit (LDU1 or LDU2).
+/// The number of transmitted bits of a logical link data unit (LDU1 or LDU2).
 pub const LINK_LENGTH: usize = 1728;
 
-// A kind that is told, where the bits of such a unit are there.
+// Returns a detected type, if the bits of such a data unit are there.
 #[tactic(auto, unfolding(crate::specs::Steps::fits_by))]
 fn if_fits(told: Told, bits: &BitBuf, at: usize) -> Option<u8>
     requires { at ≤ length bits.now }
@@ -27,7 +27,7 @@ fn if_fits(told: Told, bits: &BitBuf, at: usize) -> Option<u8>
     }
 }
 
-// Whether a unit that ends the bits may come after one with a name.
+// Returns whether the data unit at the end of the bits may follow one with a name.
 #[tactic(auto, unfolding(crate::specs::Steps::is_end))]
 fn is_end(before: &Nid, end: &Option<Nid>) -> bool
     ensures { result ≡ is_end (name_of before.now) (names_of end.now) }
@@ -38,15 +38,15 @@ fn is_end(before: &Nid, end: &Option<Nid>) -> bool
     }
 }
 
-// Whether nothing is told.
+// Returns whether nothing is detected.
 fn is_nothing(told: Told) -> bool
     ensures { result ≡ is_nothing told }
 {
     matches!(&told, Told::Nothing)
 }
 
-// Whether it is sure that units lie end to end from a place on, over at most so many logical link units of which nothing is told. What
-// takes longest is asked last: whether an identifier reads.
+// Returns whether it is certain that data units lie end to end from a position on, over at most `links` logical link
+// data units without a detection. The slowest test is last: whether a NID is correctable.
 fn is_sure(links: u32, before: &Nid, bits: &BitBuf, at: usize, end: &Option<Nid>) -> bool
     requires { at ≤ length bits.now }
     ensures { result ≡ is_sure links (name_of before.now) (drop at bits.now) (names_of end.now) }
@@ -76,8 +76,9 @@ fn is_sure(links: u32, before: &Nid, bits: &BitBuf, at: usize, end: &Option<Nid>
     }
 }
 
-/// Answers the kind of the unit that begins at place `at`. The unit before it has the name `before`, and `end` is the name of the unit
-/// after the stretch, if there is one. `None` comes exactly where no such unit is known. The bits of the unit are there.
+/// Returns the type of the data unit that begins at position `at`. The data unit before it has the name `before`, and
+/// `end` is the name of the data unit after the stretch, if there is one. `None` is returned if and only if no such
+/// data unit is known. The bits of a returned data unit are there.
 pub fn step(before: &Nid, bits: &BitBuf, at: usize, end: &Option<Nid>) -> Option<u8>
     requires { at ≤ length bits.now }
     ensures value { result ≡ step_of (name_of before.now) (drop at bits.now) (names_of end.now) }

@@ -1,4 +1,4 @@
-//! Recordings with fronts that the scan does not find, and what comes out.
+//! Recordings with sync and NID that the scan does not find, and the output.
 
 ghost use Rattle.std.specs.Prelude.{◌≤◌};
 ghost use Rattle.p25_units.specs.Units.{IsWholeBody};
@@ -24,13 +24,13 @@ const SENT_TDU: [u8; 18] = [
     0x00, 0x01,
 ];
 
-// The terminator with five wrong bits in its sync.
+// The terminator with five bit errors in its sync.
 const FIVE_WRONG: [u8; 18] = [
     0xAD, 0x75, 0xF5, 0xFF, 0x77, 0xFF, 0x00, 0x03, 0x35, 0x93, 0x0B, 0xDD, 0x3B, 0x2B, 0x00, 0x00,
     0x00, 0x01,
 ];
 
-// Appends the bits of octets, where there is room.
+// Appends the bits of octets, if there is capacity.
 fn put_octets(octets: &[u8], bits: &mut BitBuf) {
     for octet in octets {
         if bits.len() < BITS_MOST - 8 {
@@ -39,14 +39,14 @@ fn put_octets(octets: &[u8], bits: &mut BitBuf) {
     }
 }
 
-// Appends bits, where there is room.
+// Appends bits, if there is capacity.
 fn put_bits(more: &BitBuf, bits: &mut BitBuf) {
     if bits.len() + more.len() <= BITS_MOST {
         bits.append(more, 0, more.len());
     }
 }
 
-// What a follower makes of the items of some octets, or what a repair does.
+// The output of a follower for the items of some octets, or of a repair.
 fn made_of(octets: &[u8], repairs: bool) -> BitBuf {
     let mut bits = BitBuf::new();
     put_octets(octets, &mut bits);
@@ -82,7 +82,7 @@ fn made_of(octets: &[u8], repairs: bool) -> BitBuf {
     all
 }
 
-// What comes of octets after a terminator with link control (TDULC), so many of them, are those of the second list after it.
+// The output for `count` octets after a terminator with link control (TDULC) is those of the second list after it.
 fn comes_out(after: &[u8; 18], count: usize, written: &[u8; 18]) -> bool
     requires { count ≤ 18 }
 {
@@ -97,7 +97,7 @@ fn comes_out(after: &[u8; 18], count: usize, written: &[u8; 18]) -> bool
 
 #[test]
 fn fronts_after_a_terminator_with_link_control(rt: HostRuntime) {
-    // Rows: the octets after it, and what comes out.
+    // Rows: the octets after it, and the output.
     let rows: [([u8; 18], [u8; 18]); 6] = [
         (FIVE_WRONG, SENT_TDU),
         // All 48 bits of the sync are wrong.
@@ -108,7 +108,7 @@ fn fronts_after_a_terminator_with_link_control(rt: HostRuntime) {
             ],
             SENT_TDU,
         ),
-        // Of the sync 14, and of the identifier 16.
+        // 14 bits of the sync are wrong, and 16 of the NID.
         (
             [
                 0xAA, 0x89, 0xF5, 0xFF, 0x77, 0xFF, 0xAA, 0xA9, 0x9D, 0x1B, 0x83, 0x5D, 0x3B, 0x2B,
@@ -116,7 +116,7 @@ fn fronts_after_a_terminator_with_link_control(rt: HostRuntime) {
             ],
             SENT_TDU,
         ),
-        // Of the sync 15, and of the identifier 16.
+        // 15 bits of the sync are wrong, and 16 of the NID.
         (
             [
                 0xAA, 0x8B, 0xF5, 0xFF, 0x77, 0xFF, 0xAA, 0xA9, 0x9D, 0x1B, 0x83, 0x5D, 0x3B, 0x2B,
@@ -127,7 +127,7 @@ fn fronts_after_a_terminator_with_link_control(rt: HostRuntime) {
                 0x00, 0x00, 0x00, 0x01,
             ],
         ),
-        // Of the sync 5, and of the identifier 17.
+        // 5 bits of the sync are wrong, and 17 of the NID.
         (
             [
                 0xAD, 0x75, 0xF5, 0xFF, 0x77, 0xFF, 0xAA, 0xA9, 0x9D, 0x1B, 0x83, 0x55, 0x3B, 0x2B,
@@ -138,7 +138,7 @@ fn fronts_after_a_terminator_with_link_control(rt: HostRuntime) {
                 0x00, 0x00, 0x00, 0x01,
             ],
         ),
-        // Five of the sync, of another network.
+        // Five bits of the sync are wrong, under another NAC.
         (
             [
                 0xAD, 0x75, 0xF5, 0xFF, 0x77, 0xFF, 0x00, 0x13, 0x05, 0xF2, 0x66, 0x27, 0x43, 0xA2,
@@ -198,7 +198,7 @@ fn nothing_is_expected_after_a_terminator(rt: HostRuntime) {
     assert!(rt; made_of(&octets, false) == expected);
 }
 
-// What a voice unit carries: nothing of it fails.
+// The body of a voice data unit, in which nothing fails.
 #[tactic(auto, unfolding(p25_units::specs::Units::IsWholeBody))]
 fn carried(voice: VoiceUnit) -> Body
     ensures { IsWholeBody result }
@@ -206,7 +206,7 @@ fn carried(voice: VoiceUnit) -> Body
     Body::Voice(voice)
 }
 
-// Appends the bits of a voice unit of NAC 0 as it is sent, so many of 72, with the status symbol 1.
+// Appends the transmitted bits of a voice data unit of NAC 0, `blocks` times 72, with the status symbol 1.
 fn put_unit(voice: VoiceUnit, blocks: usize, bits: &mut BitBuf)
     requires { blocks ≤ 24 }
 {
@@ -241,7 +241,7 @@ fn ldu2() -> VoiceUnit {
     }
 }
 
-// How many octets a header, two of each logical link unit and a terminator with link control are.
+// The number of octets of a header, two of each logical link data unit and a terminator with link control.
 const CALL_OCTETS: usize = 1_017;
 
 // The octets of a call of NAC 0: a header, an LDU1, an LDU2, an LDU1, an LDU2 and a TDULC, all of zeros.
@@ -278,11 +278,11 @@ fn call_octets() -> [u8; CALL_OCTETS] {
     octets
 }
 
-// The octets of a call in which the fronts of the first logical link units are lost, so many.
+// The octets of a call in which sync and NID of the first `count` logical link data units are destroyed.
 fn lost(octets: &[u8; CALL_OCTETS], count: usize) -> [u8; CALL_OCTETS]
     requires { count ≤ 4 }
 {
-    // The front of an LDU1 or an LDU2 with 24 wrong bits of its sync and all of its identifier.
+    // Sync and NID of an LDU1 or an LDU2 with 24 bit errors in the sync and all bits of the NID wrong.
     let fronts: [[u8; 10]; 2] = [
         [0xAA, 0x8A, 0x0A, 0x00, 0x88, 0xFF, 0xFF, 0xFA, 0xA5, 0x4A],
         [0xAA, 0x8A, 0x0A, 0x00, 0x88, 0xFF, 0xFF, 0xF5, 0x49, 0x95],
@@ -296,7 +296,7 @@ fn lost(octets: &[u8; CALL_OCTETS], count: usize) -> [u8; CALL_OCTETS]
     octets
 }
 
-// Whether what follows from the first octets of a list, so many, are those of another.
+// Whether the output for the first `count` octets of a list is those of another.
 fn comes_out_as(octets: &[u8; CALL_OCTETS], written: &[u8; CALL_OCTETS], count: usize) -> bool
     requires { count ≤ 1017 }
 {
@@ -347,7 +347,8 @@ fn octets_of(bits: &BitBuf) -> [u8; AFTER_PACKET] {
 
 #[test]
 fn a_repair_can_take_the_unit_before(rt: HostRuntime) {
-    // The terminator with link control has four wrong bits in its sync: with them the header of the packet does not read.
+    // The terminator with link control has four bit errors in its sync: with them the header of the packet is
+    // uncorrectable.
     let mut octets = [0; AFTER_PACKET];
     octets[..38].copy_from_slice(&PACKET_BEGUN);
     octets[38..92].copy_from_slice(&SENT_TDULC);
@@ -362,7 +363,8 @@ fn a_repair_can_take_the_unit_before(rt: HostRuntime) {
     let mut found = BitBuf::new();
     put_octets(&clean, &mut found);
     assert!(rt; made_of(&octets_of(&made_of(&octets, false)), true) == found);
-    // After a repair it reads, and the packet covers the unit after which the terminator would be expected.
+    // After a repair it is correctable, and the packet covers the data unit after which the terminator would be
+    // expected.
     let first = octets_of(&made_of(&octets, true));
     assert!(rt; made_of(&octets_of(&made_of(&first, false)), true) == lost);
 }

@@ -1,4 +1,5 @@
-//! What the front of bits after a unit tells of the unit there. Its identifier is read last, since that takes longest.
+//! Detection of a data unit by its sync and NID, after another data unit. Its NID is decoded last, because that is
+//! slowest.
 
 ghost use Rattle.std.specs.Prelude.{◌≡◌, ◌+◌, ◌≤◌, ◌∷◌, [], drop, if◌then◌else◌, length, nat_le, nat_lt, ◌&&◌};
 ghost use Rattle.p25_bch_nid.specs.Duids.{duid_tdu, duid_tdulc};
@@ -12,36 +13,38 @@ use p25_bits::BitBuf;
 use p25_status::{SYNC_LENGTH, sync_distance};
 use p25_unit_front::{SENT_FRONT_LENGTH, front_fixes, read_front};
 
-/// What is told of a unit by its front.
+/// The detection of a data unit by its sync and NID.
 #[derive(Clone, Copy, Debug, PartialEq, Eq)]
 pub enum Told {
-    /// It is of a kind that may come.
+    /// It is of a type that may follow.
     Expected(u8),
-    /// Its identifier reads as that of a unit that may not come here.
+    /// Its NID decodes to that of a data unit that may not follow here.
     Other,
-    /// Its front is too far from those of all kinds that may come, no kind may come, or fewer than 114 bits are there.
+    /// Its sync and NID are too far from those of all types that may follow, no type may follow, or fewer than 114 bits
+    /// are there.
     Nothing,
 }
 
-/// What a look at a front tells, before its identifier is read.
+/// The detection by sync and NID before the NID is decoded.
 #[derive(Clone, Copy, Debug, PartialEq, Eq)]
 pub struct Look {
-    /// What is told where no identifier reads.
+    /// The detection if the NID is uncorrectable.
     pub told: Told,
-    /// Whether that is told where one reads too.
+    /// Whether that is the detection also if the NID is correctable.
     pub clear: bool,
 }
 
-/// In how many of the first 63 bits of its identifier a unit that is expected may be wrong. That number is this project's choice.
+/// The most bit errors among the first 63 bits of the NID of an expected data unit. This number is this project's
+/// choice.
 pub const IDENTIFIER_SLACK: u32 = 16;
 
-/// In how many of the 48 bits of its sync and these 63 it may be wrong. That number is this project's choice.
+/// The most bit errors among the 48 bits of its sync and these 63. This number is this project's choice.
 pub const FRONT_SLACK: u32 = 30;
 
-// In how many of these 63 it may be wrong for the code to read it.
+// The most bit errors among these 63 that the code corrects.
 const IDENTIFIER_RADIUS: u32 = 11;
 
-// In how many bits the sync is wrong of the unit whose sent bits begin at a place.
+// Returns the number of bit errors in the sync of the data unit whose transmitted bits begin at a position.
 fn sync_errors(bits: &BitBuf, at: usize) -> u32
     requires { at + 114 ≤ length bits.now }
     ensures value { result ≡ sync_errors_of (part at 114 bits.now) }
@@ -50,14 +53,15 @@ fn sync_errors(bits: &BitBuf, at: usize) -> u32
     sync_distance(bits.field(at, SYNC_LENGTH as u32))
 }
 
-// A kind that may come, and in how many of its first 63 bits the identifier differs from that of such a unit.
+// A type that may follow, and the number of bits in which the first 63 bits of the NID differ from those of such a data
+// unit.
 #[derive(Clone, Copy)]
 struct Near {
     kind: u8,
     wrong: u32,
 }
 
-// How near a unit of a kind is, after one with a name. So many bits of its sync are wrong.
+// Returns the distance of a data unit of a type, after one with a name, by the bit errors of its sync.
 fn nearness(before: &Nid, bits: &BitBuf, at: usize, sync: u32, kind: u8) -> Near
     requires there { at + 114 ≤ length bits.now }
     requires sync { sync ≡ sync_errors_of (part at 114 bits.now) }
@@ -71,7 +75,7 @@ fn nearness(before: &Nid, bits: &BitBuf, at: usize, sync: u32, kind: u8) -> Near
     }
 }
 
-// The nearer one of two kinds: the second only where fewer bits differ from it.
+// Returns the nearer of two types: the second only if it differs in fewer bits.
 fn nearer(first: Near, next: Near) -> Near
     ensures { result ≡ (if nat_lt next.wrong first.wrong then next else first) }
 {
@@ -82,7 +86,7 @@ fn nearer(first: Near, next: Near) -> Near
     }
 }
 
-// The nearest of the kinds that may come after a unit with a name, the first of which is given.
+// Returns the nearest of the types that may follow a data unit with a name, given the first.
 fn nearest(before: &Nid, bits: &BitBuf, at: usize, sync: u32, kind: u8) -> Near
     requires there { at + 114 ≤ length bits.now }
     requires sync { sync ≡ sync_errors_of (part at 114 bits.now) }
@@ -96,7 +100,7 @@ fn nearest(before: &Nid, bits: &BitBuf, at: usize, sync: u32, kind: u8) -> Near
     nearer(nearer(first, second), third)
 }
 
-// What a kind tells that the bits are near, where so many of its sync are wrong.
+// Returns the detection of the nearest type, by the bit errors of the sync.
 fn told_near(sync: u32, near: Near) -> Told
     requires { sync ≤ 48 }
     ensures { result ≡ (if nat_le near.wrong 16 && nat_le (sync + near.wrong) 30 then Expected near.kind else Nothing) }
@@ -108,7 +112,8 @@ fn told_near(sync: u32, near: Near) -> Told
     }
 }
 
-// A look at the bits from a place on, after a unit with a name, where some kinds may come, the first of which is given.
+// Returns the detection before decoding, for the bits from a position on after a data unit with a name, if some types
+// may follow, given the first.
 fn look_among(before: &Nid, bits: &BitBuf, at: usize, kind: u8) -> Look
     requires there { at + 114 ≤ length bits.now }
     requires list { expected_after before.now.duid ≡ kind ∷ duid_tdulc ∷ duid_tdu ∷ [] }
@@ -130,7 +135,7 @@ fn look_among(before: &Nid, bits: &BitBuf, at: usize, kind: u8) -> Look
     }
 }
 
-/// Answers what a look at the bits from place `at` on tells of a unit there, after a unit with a name.
+/// Returns the detection before decoding, for the bits from position `at` on after a data unit with a name.
 pub fn look_at(before: &Nid, bits: &BitBuf, at: usize) -> Look
     requires { at ≤ length bits.now }
     ensures { told_of (name_of before.now) (drop at bits.now) ≡ told_by_look result (is_read (drop at bits.now)) }
@@ -150,7 +155,8 @@ pub fn look_at(before: &Nid, bits: &BitBuf, at: usize) -> Look
     }
 }
 
-/// Answers what the bits from place `at` on tell at which a look was taken. Their identifier is read only where the look leaves it open.
+/// Returns the detection for the bits from position `at` on, given that before decoding. Their NID is decoded only if
+/// that leaves it open.
 pub fn told_at(look: Look, bits: &BitBuf, at: usize) -> Told
     requires { at ≤ length bits.now }
     ensures { result ≡ told_by_look look (is_read (drop at bits.now)) }
@@ -165,7 +171,7 @@ pub fn told_at(look: Look, bits: &BitBuf, at: usize) -> Told
     }
 }
 
-// Whether the identifier reads of the unit whose sent bits begin at a place.
+// Returns whether the NID is correctable of the data unit whose transmitted bits begin at a position.
 fn is_read(bits: &BitBuf, at: usize) -> bool
     requires { at ≤ length bits.now }
     ensures { result ≡ is_read (drop at bits.now) }
@@ -179,7 +185,7 @@ fn is_read(bits: &BitBuf, at: usize) -> bool
     }
 }
 
-/// Answers the name of a unit of the same network and of a kind.
+/// Returns the name of a data unit of the same network and of a type.
 pub fn with_kind(name: &Nid, kind: u8) -> Nid
     requires { kind ≤ 15 }
     ensures network { result.nac ≡ name.now.nac }
