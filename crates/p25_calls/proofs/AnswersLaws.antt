@@ -1,4 +1,4 @@
--- What each item is answered by, from what all items are: the answers to joined items are taken apart at the join, by induction on the first ones.
+-- The result for each item, from the results for all items: the results for joined items are split at the join, by induction on the first ones.
 use Rattle.std.proofs.Common.{◌≡◌, ℕ, ◌+◌, true, false, List, [], ◌∷◌, ◌++◌, refl, sym, ap, ap₂, ◌∙◌, append_assoc, append-nil}
 use Rattle.std.specs.Prelude.{option_to_list}
 use Rattle.p25_units.specs.{Items.{covered}, declared.item.Item.{Item}}

@@ -1,4 +1,4 @@
--- Runs as calls: a run with one unit more, and which runs are calls. Counts and first ones of joined lists are taken apart at the join.
+-- Runs as calls: a run with one more data unit, and which runs are calls. Counts and first values of joined lists are split at the join.
 use Rattle.std.proofs.{Common.{◌≡◌, ℕ, ◌+◌, Bool, true, false, cond, ◌&&◌, ◌||◌, List, [], ◌∷◌, ◌++◌, map, Option, Some, None, refl, sym, ap, ◌∙◌, arith}, lemmas.Bool.{cond-false, lt-ltb}}
 use Rattle.std.proofs.lemmas.List.Sums.{fold-append, sum_by_from}
 use Rattle.std.specs.{Prelude.{count_by, filter, nat_lt, option_to_list}, List.{list_all, list_any}, Option.{option_or}}

@@ -1,5 +1,5 @@
--- What a caller keeps: the run that is open ends where the last item does at the latest, has no more units than there were items, and a network access code of 12 bits. By the cases of a
--- run that is open and a unit that joins it.
+-- The invariant of a caller: the open run ends at or before the end of the last item, has no more data units than there were items, and a network
+-- access code of 12 bits. By the cases of an open run and a data unit that joins it.
 use Rattle.std.proofs.Common.{◌≡◌, ℕ, ◌+◌, ◌<◌, ◌≤◌, Bool, true, false, cond, not, ◌&&◌, Option, Some, None, sym, ap, subst, ◌∙◌, arith}
 use Rattle.std.specs.{Prelude.{IfSome, nat_lt}, Option.{option_or}}
 use Rattle.p25_units.specs.{Items.{covered, place_of}, declared.item.Item.{Item}, declared.item.Item.TheVariants.{Whole, Broken}}

@@ -1,4 +1,5 @@
--- A closed run stays a run, whatever units come later. By induction on the units: a unit put before runs, and before those with more units after, makes the same runs up to the last.
+-- A closed run stays a run, whatever data units come later. By induction on the data units: a data unit before runs, and before those with more data
+-- units after, makes the same runs up to the last.
 use Rattle.std.proofs.{Common.{◌≡◌, Bool, true, false, List, [], ◌∷◌, ◌++◌, refl, sym, ap, ◌∙◌}}
 use Rattle.p25_calls.specs.{declared.seen.UnitSeen.{UnitSeen}, Seen.{is_break, is_terminator}, Runs.{Run, closed_runs, last_of, last_unit, run_from, runs_of, units_in, with_unit}}
 use Rattle.p25_calls.specs.CallLaws.{ClosedStay}

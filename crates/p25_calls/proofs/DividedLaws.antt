@@ -1,4 +1,5 @@
--- The runs of some units are the units, divided where there is a break. Each law by induction on the units, with what it says of all runs as a recursion on them.
+-- The runs of some data units are the data units, divided at the breaks. Each law by induction on the data units, with its statement about all runs
+-- as a recursion on them.
 use Rattle.std.proofs.Common.{◌≡◌, Bool, true, false, cond, List, [], ◌∷◌, ◌++◌, flat_map, refl, ap, subst, ◌∙◌}
 use Rattle.p25_calls.specs.{declared.seen.UnitSeen.{UnitSeen}, Seen.{is_break}, Runs.{Run, last_of, last_unit, run_from, runs_of, units_in, with_unit}}
 use Rattle.p25_calls.specs.CallLaws.{RunsJoin, NoBreakInside, BreakBetween}

@@ -1,4 +1,5 @@
--- What a unit ends and leaves: a run that a terminator closes, a packet that is a run by itself and no call, and a run that stays open. By whether there is a break after the unit.
+-- The run that a data unit ends and the one that it leaves: a run that a terminator closes, a packet that is a run by itself and no call, and a run
+-- that stays open. By whether there is a break after the data unit.
 use Rattle.std.proofs.Common.{◌≡◌, ℕ, ◌+◌, Bool, true, false, not, ◌||◌, List, [], ◌∷◌, ◌++◌, Option, Some, None, refl, inl, inr, ◌⊎◌, arith}
 use Rattle.std.proofs.lemmas.Bool.{eqb-true, or_cases, not-false}
 use Rattle.std.specs.{Prelude.{nat_eq, nat_lt, option_to_list}, Option.{option_or}}

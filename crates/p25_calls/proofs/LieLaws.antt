@@ -1,4 +1,4 @@
--- Items lie end to end where each begins where those before it end. By induction on the items.
+-- Items lie end to end if each begins at the end of those before it. By induction on the items.
 use Rattle.std.proofs.{Common.{◌≡◌, ℕ, ◌+◌, List, [], ◌∷◌, ◌++◌, refl, ap, ◌∙◌, arith}, lemmas.List.Sums.{sum_by_from}}
 use Rattle.std.specs.List.{sum_by}
 use Rattle.p25_units.specs.{Items.{covered, place_of}, declared.item.Item.{Item}}

@@ -1,4 +1,4 @@
--- Runs of units: how they begin, and that units divide where there is a break. By induction on the units, and by the two cases of a break.
+-- Runs of data units: their beginnings, and that data units divide at the breaks. By induction on the data units, and by the two cases of a break.
 use Rattle.std.proofs.{Common.{◌≡◌, Bool, true, false, cond, List, [], ◌∷◌, ◌++◌, refl, sym, ap, ◌∙◌}, lemmas.Bool.{cond-true, cond-false}}
 use Rattle.p25_calls.specs.{declared.seen.UnitSeen.{UnitSeen}, Seen.{is_break}, Runs.{Run, last_of, last_unit, run_from, runs_of, units_in, with_unit}}
 

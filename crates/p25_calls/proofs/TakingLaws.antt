@@ -1,4 +1,5 @@
--- What a caller answers are the calls: it holds the run that a further unit may still join. By induction on the items, with what each unit ends and leaves.
+-- The results of a caller are the calls: it holds the run that a further data unit may still join. By induction on the items, with the run that each
+-- data unit ends and the one that it leaves.
 use Rattle.std.proofs.{Common.{◌≡◌, ℕ, ◌+◌, ◌≤◌, Bool, true, false, cond, List, [], ◌∷◌, ◌++◌, Option, Some, None, refl, sym, ap, subst, ◌∙◌, arith, append-nil}, lemmas.Bool.{cond-false}}
 use Rattle.std.specs.{Prelude.{option_to_list}, List.{cons_option}}
 use Rattle.p25_units.specs.{Items.{covered, place_of}, declared.item.Item.{Item}, declared.item.Item.TheVariants.{Whole, Broken}}

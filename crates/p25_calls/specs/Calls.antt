@@ -7,16 +7,16 @@ use Rattle.p25_calls.specs.{declared.call.Call.{Call}, declared.call.CallEnd.{Ca
 use Rattle.p25_calls.specs.{declared.seen.UnitSeen.{UnitSeen}, Seen.{is_header, is_link_unit, is_voice, unit_end, units_of}}
 use Rattle.p25_calls.specs.Runs.{Run, last_unit, runs_by, units_in}
 
--- how a call ends by its last unit: with a terminator without or with link control (TDU or TDULC), or with none
+-- the end of a call by its last data unit: with a terminator without or with link control (TDU or TDULC), or with none
 abbrev pub end_of : UnitSeen → CallEnd
 end_of unit = if unit.duid == duid_tdu then Tdu else if unit.duid == duid_tdulc then Tdulc else Open
 
--- what the first unit that has something has
+-- the value of the first data unit that has one
 abbrev pub first_had : {X : Type 0} → (UnitSeen → Option X) → List UnitSeen → Option X
 first_had had [] = None
 first_had had (unit ∷ units) = option_or (had unit) (first_had had units)
 
--- a run as a call: it reaches from the place of its first unit to the end of its last one
+-- a run as a call: it reaches from the position of its first data unit to the end of its last one
 unfoldable pub call_of : Run → Call
 call_of run = record {
   place = run.first.place;
@@ -30,7 +30,7 @@ call_of run = record {
   algid = first_had (λ unit. unit.algid) (units_in run);
 }
 
--- a run is a call where it has voice units alone, and a link unit (LDU1 or LDU2) among them
+-- a run is a call if it has voice data units alone, and a link data unit (LDU1 or LDU2) among them
 abbrev pub is_call : Run → Bool
 is_call run = list_all is_voice (units_in run) && list_any is_link_unit (units_in run)
 
@@ -38,7 +38,7 @@ is_call run = list_all is_voice (units_in run) && list_any is_link_unit (units_i
 abbrev pub calls_among : List Run → List Call
 calls_among runs = map call_of (filter is_call runs)
 
--- the calls of a list of items, after which no more come, or of which only those count that no further item can change
+-- the calls of a list of items that no others follow, or only those that no further item can change
 unfoldable pub calls_by : Bool → List Item → List Call
 calls_by ended items = calls_among (runs_by ended (units_of items))
 

@@ -1,12 +1,11 @@
--- What a caller holds, and what it answers to an item.
+-- The state of a caller, and its result for an item.
 use Rattle.std.specs.Prelude.{ℕ, ◌+◌, ◌-◌, ◌<◌, ◌≤◌, Bool, not, ◌&&◌, if◌then◌else◌, ◌==◌, nat_le, nat_lt, List, [], ◌∷◌, ◌++◌, Option, Some, None, IfSome, option_to_list}
 use Rattle.std.specs.Option.{option_or}
 use Rattle.p25_units.specs.{Items.{covered, place_of}, declared.item.Item.{Item}}
 use Rattle.p25_calls.specs.{declared.call.Call.{Call}, declared.seen.UnitSeen.{UnitSeen}}
 use Rattle.p25_calls.specs.{Seen.{is_header, is_link_unit, is_terminator, is_voice, unit_end, unit_of}, Runs.{run_from}, Calls.{call_of, end_of}}
 
--- what a grouper of calls knows: the bit after the last item that it took, how many items it took, and the call that the next unit may
--- still join, or none
+-- the state of a caller: the bit after the last item that it took, the number of items, and the call that the next data unit may still join, or none
 pub record CallerParts : Type 0 where
   pub reached : ℕ
   pub taken : ℕ
@@ -16,15 +15,15 @@ pub record CallerParts : Type 0 where
 abbrev pub fresh_caller : CallerParts
 fresh_caller = record { reached = 0; taken = 0; pending = None }
 
--- there is no break between the last unit of a run and a unit
+-- there is no break between the last data unit of a run and a data unit
 abbrev pub goes_on : Call → UnitSeen → Bool
 goes_on call unit = is_voice unit && call.nac == unit.nac && not (is_header unit) && nat_le unit.place (call.place + call.bits + 3456)
 
--- a run of one unit, as a call
+-- a run of one data unit, as a call
 abbrev pub call_of_one : UnitSeen → Call
 call_of_one unit = call_of (run_from unit [])
 
--- a run with one unit more, as a call
+-- a run with one more data unit, as a call
 abbrev pub extended : Call → UnitSeen → Call
 extended call unit = record call {
   bits = unit_end unit - call.place;
@@ -35,47 +34,47 @@ extended call unit = record call {
   algid = option_or call.algid unit.algid;
 }
 
--- the run that a unit is the last of, as a call
+-- the run whose last data unit is the given one, as a call
 abbrev pub run_with : Option Call → UnitSeen → Call
 run_with None unit = call_of_one unit
 run_with (Some call) unit = if goes_on call unit then extended call unit else call_of_one unit
 
--- a run is a call where it has a link unit
+-- a run is a call if it has a link data unit
 abbrev pub if_linked : Call → Option Call
 if_linked call = if nat_lt 0 call.links then Some call else None
 
--- the call that ends with the unit before a unit, since there is a break between them
+-- the call that ends with the data unit before a given one, because there is a break between them
 abbrev pub broken_off : Option Call → UnitSeen → Option Call
 broken_off None unit = None
 broken_off (Some call) unit = if goes_on call unit then None else if_linked call
 
--- the call that ends with the last unit of a run, since it is its terminator (TDU or TDULC)
+-- the call that ends with the last data unit of a run, because it is its terminator (TDU or TDULC)
 abbrev pub terminated : Call → UnitSeen → Option Call
 terminated run unit = if is_terminator unit then if_linked run else None
 
--- the call that a unit ends
+-- the call that a data unit ends
 abbrev pub ended_call : Option Call → UnitSeen → Option Call
 ended_call pending unit = option_or (broken_off pending unit) (terminated (run_with pending unit) unit)
 
--- a run that a further unit may still join, by its last unit
+-- a run that a further data unit may still join, by its last data unit
 abbrev pub pending_run : Call → UnitSeen → Option Call
 pending_run run unit = if is_voice unit && not (is_terminator unit) then Some run else None
 
--- what a caller answers to a unit, where an item is one
+-- the result of a caller for a data unit, if an item is one
 abbrev pub unit_answer : Option Call → Option UnitSeen → Option Call
 unit_answer pending None = None
 unit_answer pending (Some unit) = ended_call pending unit
 
--- the run that is open after a unit, where an item is one
+-- the run that is open after a data unit, if an item is one
 abbrev pub unit_pending : Option Call → Option UnitSeen → Option Call
 unit_pending pending None = pending
 unit_pending pending (Some unit) = pending_run (run_with pending unit) unit
 
--- what a caller answers to an item: the call that ends with it, or that ended with the unit before
+-- the result of a caller for an item: the call that ends with it, or that ended with the data unit before
 unfoldable pub answer_to : CallerParts → Item → Option Call
 answer_to caller item = unit_answer caller.pending (unit_of item)
 
--- what a caller holds after an item
+-- the state of a caller after an item
 unfoldable pub behind_item : CallerParts → Item → CallerParts
 behind_item caller item = record {
   reached = place_of item + covered item;
@@ -91,26 +90,26 @@ linked_pending (Some call) = if_linked call
 unfoldable pub open_call : CallerParts → Option Call
 open_call caller = linked_pending caller.pending
 
--- what is answered to items, one after the other, and at the end, where it has come
+-- the results for items, one after the other, and at the end, if it has come
 unfoldable pub answers_by : Bool → CallerParts → List Item → List Call
 answers_by ended caller [] = if ended then option_to_list (open_call caller) else []
 answers_by ended caller (item ∷ items) = option_to_list (answer_to caller item) ++ answers_by ended (behind_item caller item) items
 
--- what a caller holds after items
+-- the state of a caller after items
 unfoldable pub behind_items : CallerParts → List Item → CallerParts
 behind_items caller [] = caller
 behind_items caller (item ∷ items) = behind_items (behind_item caller item) items
 
--- the run that is open ends where the last item does at the latest, and has no more units than items were taken
+-- the open run ends at or before the end of the last item, and has no more data units than items were taken
 pub record IsPending (reached taken : ℕ) (call : Call) : Type 0 where
   pub before : call.place + call.bits ≤ reached
   pub links : call.links ≤ taken
   pub broken : call.broken ≤ taken
 
--- what every caller keeps
+-- the invariant of a caller
 abbrev pub IsCaller : CallerParts → Type 0
 IsCaller caller = IfSome caller.pending (IsPending caller.reached caller.taken)
 
--- the network access code (NAC) of the run that is open has 12 bits
+-- the network access code (NAC) of the open run has 12 bits
 abbrev pub HasSoundPending : CallerParts → Type 0
 HasSoundPending caller = IfSome caller.pending (λ call. call.nac < 4096)

@@ -1,4 +1,4 @@
-//! A call, and how it grows with its units.
+//! A call, and its growth with its data units.
 
 ghost use Rattle.std.specs.Prelude.{◌≡◌, ◌+◌, ◌^◌, ◌<◌, ◌≤◌};
 ghost use Rattle.p25_calls.specs.{Calls.{end_of}, Seen.{unit_end}, Taking.{call_of_one, extended, goes_on, if_linked}};
@@ -6,10 +6,10 @@ ghost use Rattle.p25_calls.specs.{Calls.{end_of}, Seen.{unit_end}, Taking.{call_
 use crate::seen::UnitSeen;
 use p25_link::LinkControl;
 
-// The most bits between two units of a call: as many as an LDU1 and an LDU2 have.
+// The most bits between two data units of a call: as many as an LDU1 and an LDU2 have.
 const SILENCE_MOST: u64 = 3_456;
 
-/// How a call ends.
+/// The end of a call.
 #[derive(Clone, Copy, Debug, PartialEq, Eq)]
 pub enum CallEnd {
     /// With a TDU: a terminator without link control.
@@ -20,31 +20,31 @@ pub enum CallEnd {
     Open,
 }
 
-/// A call: a longest run of voice units without a break inside, which holds a link unit (LDU1 or LDU2).
+/// A call: a longest run of voice data units without a break inside, which includes a link data unit (LDU1 or LDU2).
 #[derive(Clone, Copy, Debug, PartialEq, Eq)]
 pub struct Call {
-    /// The place of the first unit.
+    /// The position of the first data unit.
     pub place: u64,
-    /// How many bits there are from there to the end of the last unit.
+    /// The number of bits from there to the end of the last data unit.
     pub bits: u64,
-    /// The network access code (NAC) of its units.
+    /// The network access code (NAC) of its data units.
     pub nac: u16,
     /// Whether it begins without a header (HDU).
     pub late: bool,
-    /// How it ends.
+    /// The end of the call.
     pub end: CallEnd,
-    /// How many link units (LDU1 or LDU2) it has.
+    /// The number of its link data units (LDU1 or LDU2).
     pub links: u32,
-    /// How many of its units are broken.
+    /// The number of its broken data units.
     pub broken: u32,
-    /// The link control (LC) of the first whole unit that carries one.
+    /// The link control (LC) of the first whole data unit that carries one.
     pub link: Option<LinkControl>,
-    /// The algorithm of the first whole unit that names one.
+    /// The algorithm of the first whole data unit that has one.
     pub algid: Option<u8>,
 }
 
 impl Call {
-    // The run of one unit.
+    // Returns the run of one data unit.
     #[tactic(auto, unfolding(crate::specs::Calls::call_of, crate::specs::Runs::last_of))]
     pub(crate) fn of_one(unit: &UnitSeen) -> Call
         ensures { result ≡ call_of_one unit.now }
@@ -62,7 +62,7 @@ impl Call {
         }
     }
 
-    // The run with one unit more.
+    // Returns the run with one more data unit.
     pub(crate) fn extended(&self, unit: &UnitSeen) -> Call
         requires links { self.now.links + 1 < 2 ^ 32 }
         requires broken { self.now.broken + 1 < 2 ^ 32 }
@@ -83,7 +83,7 @@ impl Call {
         }
     }
 
-    // Whether there is no break between the last unit and a unit.
+    // Returns whether there is no break between the last data unit and a data unit.
     pub(crate) fn goes_on(&self, unit: &UnitSeen) -> bool
         requires { self.now.place + self.now.bits < 2 ^ 61 }
         ensures { result ≡ goes_on self.now unit.now }
@@ -94,7 +94,7 @@ impl Call {
             && unit.place <= self.place + self.bits + SILENCE_MOST
     }
 
-    /// Answers the call that a run is. `None` comes exactly where it has no link unit.
+    /// Returns the call of a run. `None` is returned if and only if it has no link data unit.
     pub fn if_linked(&self) -> Option<Call>
         ensures { result ≡ if_linked self.now }
     {
@@ -102,7 +102,7 @@ impl Call {
     }
 }
 
-// How a call ends by its last unit.
+// Returns the end of a call by its last data unit.
 fn end_with(unit: &UnitSeen) -> CallEnd
     ensures { result ≡ end_of unit.now }
 {

@@ -1,4 +1,4 @@
-//! A caller, which groups the units among items into calls.
+//! A caller, which groups the data units among items into calls.
 
 ghost use Rattle.std.specs.Prelude.{◌≡◌, ◌-◌, ◌^◌, ◌<◌, IfSome};
 ghost use Rattle.p25_calls.specs.Taking.{HasSoundPending, answer_to, behind_item, fresh_caller, open_call};
@@ -10,8 +10,8 @@ use crate::seen::{item_end, seen_unit};
 use p25_units::Item;
 use std::marker::Model;
 
-/// What is held between the items of a stream: where the last one ended, how many there were, and the run of voice units that
-/// a further unit may still join.
+/// The state between the items of a stream: the end of the last one, their number, and the run of voice data units that
+/// a further data unit may still join.
 #[derive(Clone, Copy, Debug, PartialEq, Eq)]
 pub struct Caller {
     reached: u64,
@@ -31,7 +31,7 @@ impl Model for Caller {
     ghost inverse = { λ parts. record { reached = parts.reached; taken = parts.taken; pending = parts.pending } };
 }
 
-/// The caller that no item was taken by.
+/// Returns the caller before the first item.
 impl Default for Caller {
     ghost is_default = { λ caller. caller ≡ fresh_caller };
 
@@ -41,7 +41,7 @@ impl Default for Caller {
 }
 
 impl Caller {
-    /// Answers a caller that no item was taken by.
+    /// Returns a caller before the first item.
     pub fn new() -> Caller
         ensures { result ≡ fresh_caller }
     {
@@ -52,11 +52,12 @@ impl Caller {
         }
     }
 
-    /// Takes an item. It begins where the last one ended, or at place 0 where none was taken; places are below 2^60, and fewer
-    /// than 2^32 − 1 items were taken.
+    /// Takes an item. It requires that the item begins at the end of the last one, or at position 0 if none was taken,
+    /// that positions are below 2^60, and that fewer than 2^32 − 1 items were taken.
     ///
-    /// Answers the call that ends with this item, since it is its terminator (TDU or TDULC), or the call that ended with the unit
-    /// before, where that is no terminator, since there is a break before this one. `None` comes exactly where no call ends so.
+    /// Returns the call that ends with this item, because it is its terminator (TDU or TDULC), or the call that ended
+    /// with the data unit before, which is no terminator, because there is a break before this one. `None` is returned
+    /// if and only if no call ends so.
     pub fn take(&mut self, item: &Item) -> Option<Call>
         requires place { place_of item.now ≡ self.old.reached }
         requires below { place_of item.now < 2 ^ 60 }
@@ -71,7 +72,7 @@ impl Caller {
         take_unit(&mut self.pending, &seen_unit(item))
     }
 
-    /// Answers the call that is still open, and sets the caller as a new one. `None` comes exactly where no call is open.
+    /// Returns the call that is still open, and resets the caller. `None` is returned if and only if no call is open.
     #[tactic(auto, unfolding(crate::specs::Taking::open_call))]
     pub fn finish(&mut self) -> Option<Call>
         ensures answer { result ≡ open_call self.old }

@@ -1,9 +1,14 @@
-//! Voice units (HDU, LDU1, LDU2, TDU and TDULC) grouped into calls.
+//! Voice data units (HDU, LDU1, LDU2, TDU and TDULC) grouped into calls.
 //!
-//! The items of a stream are taken one after the other, as they lie end to end. A call is a longest run of voice units without
-//! a break inside that holds voice (LDU1 or LDU2); there is a break where a header (HDU) begins or a terminator (TDU or TDULC)
-//! ends, where the network access code (NAC) changes, where a packet (PDU) stands, and where a unit begins more than 3,456 bits
-//! after the one before it ends. Places and lengths count bits.
+//! The items of a stream are taken one after the other, as they lie end to end. A call is a longest run of voice data
+//! units without a break inside that has voice (LDU1 or LDU2). There is a break in each of these cases:
+//!
+//! - A header (HDU) begins or a terminator (TDU or TDULC) ends.
+//! - The network access code (NAC) changes.
+//! - There is a packet (PDU).
+//! - A data unit begins more than 3,456 bits after the end of the one before it.
+//!
+//! Positions and lengths count bits.
 //!
 //! ```text
 //! let mut caller = Caller::new();
@@ -18,12 +23,12 @@
 //! assert_eq!(rt; call.map(|call| call.bits), Some(1_728));
 //! ```
 //!
-//! Every item is taken, gaps too; `take` answers a call where it ends, and `finish` the one that is still open.
+//! Every item is taken, gaps too; `take` returns a call when it ends, and `finish` the one that is still open.
 //!
-//! Contracts see the calls of a list of items as `calls_of`: its units, divided into runs at the breaks between neighbours.
-//! They see a caller as what it holds, what it answers to an item as `answer_to`, and what it holds then as `behind_item`.
-//! `call_laws` says that the answers to all items and at the end are the calls of the items. The text of a call is
-//! `call_text_of call`, which `call_text` writes.
+//! Contracts see the calls of a list of items as `calls_of`: its data units, divided into runs at the breaks between
+//! neighbours. They see a caller as its state, its result for an item as `answer_to`, and its state afterwards as
+//! `behind_item`. `call_laws` states that the results for all items and at the end are the calls of the items. The text
+//! of a call is `call_text_of call`, which `call_text` writes.
 #![tactic(auto)]
 
 mod call;

@@ -1,4 +1,4 @@
-//! What a call takes from an item.
+//! The values that a call takes from an item.
 
 ghost use Rattle.std.specs.Prelude.{◌≡◌, ◌+◌, ◌^◌, ◌<◌, ◌==◌, IfSome};
 ghost use Rattle.p25_bch_nid.specs.Duids.{duid_tdulc};
@@ -9,12 +9,12 @@ use p25_bch_nid::{HDU, LDU1, LDU2, PDU, TDU, TDULC};
 use p25_link::LinkControl;
 use p25_units::{Body, Item, VoiceUnit, frame_length};
 
-/// A unit, as a call sees it.
+/// A data unit, as a call sees it.
 #[derive(Clone, Copy, Debug, PartialEq, Eq)]
 pub struct UnitSeen {
-    /// The place of its first bit.
+    /// The position of its first bit.
     pub place: u64,
-    /// How many bits it has.
+    /// The number of its bits.
     pub bits: u64,
     /// Its network access code (NAC).
     pub nac: u16,
@@ -22,49 +22,49 @@ pub struct UnitSeen {
     pub duid: u8,
     /// Whether some field of it fails.
     pub broken: bool,
-    /// Its link control (LC), where it carries one and no field fails.
+    /// Its link control (LC), if it carries one and no field fails.
     pub link: Option<LinkControl>,
-    /// Its algorithm, where it names one and no field fails.
+    /// Its algorithm, if it has one and no field fails.
     pub algid: Option<u8>,
 }
 
 impl UnitSeen {
-    /// Answers whether it is a voice unit: any but a packet (PDU).
+    /// Returns whether it is a voice data unit: any but a packet (PDU).
     pub fn is_voice(&self) -> bool
         ensures { result ≡ is_voice self.now }
     {
         self.duid != PDU
     }
 
-    /// Answers whether it is a header data unit (HDU).
+    /// Returns whether it is a header data unit (HDU).
     pub fn is_header(&self) -> bool
         ensures { result ≡ is_header self.now }
     {
         self.duid == HDU
     }
 
-    /// Answers whether it is a link unit: an LDU1 or an LDU2, which carry voice.
+    /// Returns whether it is a link data unit: an LDU1 or an LDU2, which carry voice.
     pub fn is_link_unit(&self) -> bool
         ensures { result ≡ is_link_unit self.now }
     {
         self.duid == LDU1 || self.duid == LDU2
     }
 
-    /// Answers whether it is a terminator, with link control (TDULC) or without (TDU).
+    /// Returns whether it is a terminator, with link control (TDULC) or without (TDU).
     pub fn is_terminator(&self) -> bool
         ensures { result ≡ is_terminator self.now }
     {
         self.duid == TDU || self.duid == TDULC
     }
 
-    /// Answers whether it is a terminator with link control (TDULC).
+    /// Returns whether it is a terminator with link control (TDULC).
     pub fn has_tdulc(&self) -> bool
         ensures { result ≡ (self.now.duid == duid_tdulc) }
     {
         self.duid == TDULC
     }
 
-    /// Answers the place after its last bit.
+    /// Returns the position after its last bit.
     pub fn end(&self) -> u64
         requires { unit_end self.now < 2 ^ 61 }
         ensures { result ≡ unit_end self.now }
@@ -73,7 +73,8 @@ impl UnitSeen {
     }
 }
 
-/// Answers the unit that an item is. `None` comes exactly where it is neither a whole nor a broken unit.
+/// Returns the data unit of an item. `None` is returned if and only if the item is neither a whole nor a broken data
+/// unit.
 pub fn seen_unit(item: &Item) -> Option<UnitSeen>
     requires { place_of item.now < 2 ^ 60 }
     ensures unit { result ≡ unit_of item.now }
@@ -110,7 +111,7 @@ pub fn seen_unit(item: &Item) -> Option<UnitSeen>
     }
 }
 
-// The link control (LC) that a unit carries, where it is an LDU1 or a TDULC.
+// Returns the link control (LC) of a data unit, if it is an LDU1 or a TDULC.
 fn link_in(body: &Body) -> Option<LinkControl>
     ensures { result ≡ link_in body.now }
 {
@@ -121,7 +122,7 @@ fn link_in(body: &Body) -> Option<LinkControl>
     }
 }
 
-// The algorithm that a unit names, where it is an HDU or an LDU2.
+// Returns the algorithm of a data unit, if it is an HDU or an LDU2.
 fn algid_in(body: &Body) -> Option<u8>
     ensures { result ≡ algid_in body.now }
 {
@@ -133,7 +134,7 @@ fn algid_in(body: &Body) -> Option<u8>
     }
 }
 
-/// Answers the place after the last bit of an item.
+/// Returns the position after the last bit of an item.
 pub fn item_end(item: &Item) -> u64
     requires { place_of item.now < 2 ^ 60 }
     ensures value { result ≡ place_of item.now + covered item.now }

@@ -1,4 +1,4 @@
-//! Rows of units with the calls among them.
+//! Rows of data units with the calls among them.
 
 ghost use Rattle.std.specs.Prelude.{◌≡◌, ◌≤◌};
 ghost use Rattle.p25_units.specs.Items.{place_of};
@@ -12,7 +12,7 @@ use p25_units::{Body, FieldList, Frame, Statuses, Unit, VoiceUnit};
 use p25_voice_units::{Voice, VoiceFrame};
 use std::process::Abort;
 
-// A caller with the calls that it answered, of which the first four are kept.
+// A caller with the calls that it returned, of which the first four are kept.
 #[derive(Drop)]
 struct Heard {
     caller: Caller,
@@ -36,7 +36,7 @@ impl Heard {
         }
     }
 
-    // Keeps a call, where there is one.
+    // Keeps a call, if there is one.
     fn keep(&mut self, call: Option<Call>) {
         if call.is_some() && self.found < 4 {
             self.calls[self.found] = call;
@@ -114,7 +114,7 @@ fn call_of_one_unit(rt: HostRuntime) {
     assert_eq!(rt; call.map(|call| call.bits), Some(1_728));
 }
 
-// What is heard of broken units, each after so many bits of a gap.
+// The calls of broken data units, each after a number of bits of a gap.
 fn heard_of(units: &[(u32, u16, u8)]) -> Heard {
     let mut heard = Heard::new();
     for (gap, nac, duid) in units {
@@ -125,7 +125,7 @@ fn heard_of(units: &[(u32, u16, u8)]) -> Heard {
     heard
 }
 
-// The calls that were heard have these places and so many bits.
+// The returned calls have these positions and numbers of bits.
 fn have_spans(rt: &impl Abort, calls: &[Option<Call>], spans: &[(u64, u64)]) {
     assert_eq!(rt; calls.len(), spans.len());
     for (call, span) in calls.iter().zip(spans) {
@@ -136,8 +136,8 @@ fn have_spans(rt: &impl Abort, calls: &[Option<Call>], spans: &[(u64, u64)]) {
 #[test]
 fn breaks_divide_calls(rt: HostRuntime) {
     call_laws();
-    // Each row: how many bits of a gap stand before a unit, its network access code (NAC) and its data unit identifier
-    // (DUID); and the place and the bits of each call.
+    // Each row: the bits of a gap before a data unit, its network access code (NAC) and its data unit identifier
+    // (DUID); and the position and the bits of each call.
     let rows: [(&[(u32, u16, u8)], &[(u64, u64)]); 14] = [
         (&[(0, 0x293, 5), (3_456, 0x293, 10)], &[(0, 6912)]),
         (
@@ -145,7 +145,7 @@ fn breaks_divide_calls(rt: HostRuntime) {
             &[(0, 1728), (5185, 1728)],
         ),
         (&[(0, 0x293, 5), (0, 0x294, 10)], &[(0, 1728), (1728, 1728)]),
-        // A terminator (TDU, and then TDULC), a header (HDU) and a packet (PDU) between two units.
+        // A terminator (TDU, and then TDULC), a header (HDU) and a packet (PDU) between two data units.
         (
             &[(0, 1, 5), (0, 1, 3), (0, 1, 5)],
             &[(0, 3456), (3456, 1728)],
@@ -165,7 +165,7 @@ fn breaks_divide_calls(rt: HostRuntime) {
         ),
         (&[(7, 0, 0), (0, 0, 10)], &[(7, 3456)]),
         (&[(0, 1, 5), (0, 1, 7)], &[(0, 3456)]),
-        // No link unit: neither an LDU1 nor an LDU2.
+        // No link data unit: neither an LDU1 nor an LDU2.
         (&[(0, 1, 0), (0, 1, 3)], &[]),
         (&[(0, 1, 3), (0, 1, 15)], &[]),
         (&[(0, 1, 12)], &[]),
