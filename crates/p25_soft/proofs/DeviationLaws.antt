@@ -1,4 +1,4 @@
--- How far the nominal levels of bits lie from those of others, and from levels: dibit by dibit.
+-- The distance of the nominal levels of bits from those of others, and from levels: dibit by dibit.
 use Rattle.std.proofs.Common.{◌≡◌, ℕ, zero, suc, ◌+◌, ◌-◌, ◌*◌, ◌≤◌, inl, inr, Bool, true, false, cond, leb, List, [], ◌∷◌, ◌++◌, length, refl, ap, ap₂, arith, map, ℤ, ◌-ℤ◌}
 use Rattle.std.proofs.{Math.Nat.{mul-le-mul, mul-add, add-mul, mul_comm}, lemmas.Bool.{cases_lt, leb-true}, lemmas.Int.{ints}}
 use Rattle.std.specs.{Prelude.{unsigned_abs}, Bool.{beq}}

@@ -1,4 +1,4 @@
--- Levels and the bits that they are read as: two bits for each level.
+-- Levels and their hard bits: two bits for each level.
 use Rattle.std.proofs.Common.{◌≡◌, ℕ, ◌+◌, ◌*◌, ◌≤◌, List, Bool, [], ◌∷◌, ◌++◌, length, length-drop, take, drop, map, refl, ap, ◌∙◌, arith, ℤ}
 use Rattle.std.proofs.lemmas.List.{length-map, map-append, take-map, drop-map}
 use Rattle.p25_bits.specs.{Bits.{bits_of, part}, Numbers.{number_bits}}

@@ -1,4 +1,5 @@
--- What is known of a broken packet that its bits are divided into: its header was read, and it has the length that it tells. And what is made of each item.
+-- The facts about a broken packet into which its bits are divided: its header was decoded, and it has the length that the header states. And the
+-- result for each item.
 use Rattle.std.proofs.Common.{◌≡◌, ◌≢◌, ℕ, ◌≤◌, inl, inr, Bool, true, List, length, take, refl, ap, sym, ◌∙◌, arith, ℤ, Some, Result, Ok, Err, eq-eqb}
 use Rattle.std.proofs.{lemmas.Bool.{cases_lt, ne_eqb}, lemmas.List.{length-take-le, take_all}}
 use Rattle.p25_status.specs.{Sync.{has_sync}, declared.fields.Field.{Field}}

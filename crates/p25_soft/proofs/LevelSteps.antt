@@ -1,4 +1,4 @@
--- The dibit of a level by its tests, and the square of how far apart two levels are, as it is computed.
+-- The dibit of a level by its tests, and the computed square of the difference of two levels.
 use Rattle.std.proofs.{Common.{◌≡◌, ℕ, ◌≤◌, Bool, true, false, ap, sym, ◌∙◌, arith, ℤ, pos, ◌-ℤ◌, FitsSigned, to_z, of_z, w8, w32}, lemmas.Bool.{cond-true, cond-false}, lemmas.Int.{to_z-of_z, ints}}
 use Rattle.std.specs.Prelude.{negsuc, int_le, unsigned_abs}
 use Rattle.p25_soft.specs.Levels.{hard_dibit}

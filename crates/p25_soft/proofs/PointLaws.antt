@@ -1,4 +1,5 @@
--- What a path costs in the table of points is what its sent bits deviate from the levels: step by step along the path, then in the order of sending.
+-- The cost of a path in the table of points is the deviation of its transmitted bits from the levels: step by step along the path, then in the order
+-- of transmission.
 use Rattle.std.proofs.Common.{◌≡◌, ◌≢◌, ℕ, suc, ◌+◌, ◌*◌, ◌/◌, ◌%◌, ◌<◌, ◌&&◌, Bool, true, eqb, List, [], ◌∷◌, ◌++◌, length, drop, get_or, set, refl, ap, ap₂, sym, ◌∙◌, arith, All, below_more, get_or-set_same, get_or-set_other, ℤ, pos}
 use Rattle.std.proofs.{lemmas.Bool.{eqb-true, and_parts}, lemmas.List.{drop_more}, lemmas.List.Elements.{All-head, All-tail, All-from_get_or}}
 use Rattle.std.specs.Int.{bit_at}

@@ -1,4 +1,4 @@
--- The soft path as a function is the first least path, and what is read by it follows. Levels near a path have it as their soft path, since the nominal
+-- The soft path as a function is the first least path, and its octets follow. Levels near a path have it as their soft path, because the nominal
 -- levels of another deviate too far.
 use Rattle.std.proofs.{Common.{◌≡◌, ℕ, ◌+◌, ◌*◌, ◌^◌, ◌<◌, ◌≤◌, Bool, List, length, take, refl, ap, sym, subst, ◌∙◌, arith, All, ℤ}, lemmas.List.{length-map}}
 use Rattle.p25_bits.specs.{Distance.{distance_of}, Numbers.{number_bits, octets_from}}

@@ -1,4 +1,4 @@
--- The blocks of a broken packet with some replaced: one by one after the header block, and then all as they are sent.
+-- The blocks of a broken packet with some replaced: one by one after the header block, and then all as transmitted.
 use Rattle.std.proofs.Common.{◌≡◌, ◌≢◌, ℕ, zero, suc, ◌+◌, ◌-◌, ◌*◌, ◌/◌, ◌<◌, ◌≤◌, ◌||◌, Bool, true, false, cond, List, [], ◌++◌, length, take, drop, get_or, set, refl, ap, ap₂, sym, ◌∙◌, arith, append_assoc, add-one, below_more, get_or-set_same, get_or-set_other, ℤ, pos}
 use Rattle.std.proofs.{lemmas.Bool.{cond-true, cond-false}, lemmas.List.{take_all, take-append-drop, drop-drop}}
 use Rattle.p25_bits.specs.{Bits.{part}, Numbers.{joined_below}}

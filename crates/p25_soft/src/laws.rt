@@ -1,4 +1,5 @@
-//! Laws of levels: which are read as what was sent. Each function states what is proved, and calls at most other theorems.
+//! Laws of levels (soft symbols): which of them decode to the transmitted block. Each function states what is proved,
+//! and calls at most other theorems.
 
 ghost use Rattle.std.specs.Prelude.{◌≡◌, ℕ, ◌*◌, ◌<◌, List, ℤ, All, length};
 ghost use Rattle.p25_trellis.specs.Nearest.{block_from, half_block, half_octets, three_quarter_block, three_quarter_octets};
@@ -8,12 +9,12 @@ ghost use Rattle.p25_soft.specs.{Levels.{bits_deviation, hard_bits, nominal_leve
 use p25_trellis::laws::{nearest_laws, paths_apart};
 use p25_trellis::{Half, Rate, ThreeQuarter};
 
-/// **Theorem.** What levels read as.
+/// **Theorem.** The decoding of levels.
 ///
 /// - `reading`: the octets and the cost that `soft_octets` and `soft_path` give are those of the first least path.
-/// - `near`: levels that deviate from a block by a sum of squares below 1,024 times the least number of bits in which two
-///   paths differ read as its octets. For two paths that differ in b bits have nominal levels that deviate by 4,096 · b at
-///   least, and the square of a sum is at most twice the sum of the squares.
+/// - `near`: levels decode to the octets of a block if the sum of their squared deviations from it is below 1,024 times
+///   the least number of bits in which two paths differ. Two paths that differ in b bits have nominal levels that
+///   deviate by at least 4,096 · b, and the square of a sum is at most twice the sum of the squares.
 pub fn soft_laws<R: Rate>()
     ensures reading { (levels : List ℤ)
         → IsFirstLeastReading R.STATES R.BITS_PER_SYMBOL (soft_cost R.point_of levels) (soft_octets R.STATES R.BITS_PER_SYMBOL R.point_of levels)
@@ -25,9 +26,9 @@ pub fn soft_laws<R: Rate>()
     paths_apart::<R>()
 }
 
-/// **Theorem.** What levels read as at half rate. Those that deviate from a block by a sum of squares below
-/// 5,120 read as its octets. The nominal levels of a block have its bits as hard bits, and read as its octets by `read_soft`
-/// as the bits do by `read_block`.
+/// **Theorem.** The decoding of levels at half rate. Levels whose squared deviations from a block have a sum below
+/// 5,120 decode to its octets. The nominal levels of a block have its bits as hard bits, and `read_soft` decodes them
+/// to its octets as `read_block` does the bits.
 pub fn half_rate_soft()
     ensures near { (octets : List ℕ) (levels : List ℤ) → length octets ≡ 12 → All (λ octet. octet < 256) octets → length levels ≡ 98
         → bits_deviation (half_block octets) levels < 5120 → soft_octets 4 2 half_point levels ≡ octets }

@@ -1,12 +1,12 @@
-//! Levels, and the dibits that they stand for.
+//! Levels (soft symbols), and the dibits that they represent.
 
 ghost use Rattle.std.specs.Prelude.{◌≡◌, ◌*◌, ◌<◌, ◌≤◌, length};
 ghost use Rattle.p25_soft.specs.Levels.{hard_bits, hard_dibit, nominal_level, squared_deviation};
 
 use p25_bits::BitBuf;
 
-/// Answers the level that stands for a dibit, which is below 4: 96 for 01, 32 for 00, -32 for 10 and -96 for 11. The levels
-/// are this project's own.
+/// Returns the level that represents a dibit: 96 for 01, 32 for 00, -32 for 10 and -96 for 11. It requires a dibit
+/// below 4. The levels are this project's own.
 pub fn nominal(dibit: u8) -> i8
     requires { dibit < 4 }
     ensures { result ≡ nominal_level dibit }
@@ -19,7 +19,8 @@ pub fn nominal(dibit: u8) -> i8
     }
 }
 
-/// Answers the dibit whose level a level is nearest to: 01 from 64 up, 00 from 0 to 63, 10 from -64 to -1 and 11 below -64.
+/// Returns the dibit whose nominal level is nearest to a level (hard decision): 01 from 64 up, 00 from 0 to 63, 10 from
+/// -64 to -1 and 11 below -64.
 pub fn hard(level: i8) -> u8
     ensures dibit { result ≡ hard_dibit level }
     ensures below { result < 4 }
@@ -35,7 +36,8 @@ pub fn hard(level: i8) -> u8
     }
 }
 
-/// Answers the bits of the dibits that at most 12,960 levels are nearest to.
+/// Returns the bits of the dibits whose nominal levels are nearest to the given ones. It requires at most 12,960
+/// levels.
 pub fn hard_bits_of(levels: &[i8]) -> BitBuf
     requires { length levels.now ≤ 12960 }
     ensures list { result ≡ hard_bits levels.now }
@@ -48,7 +50,7 @@ pub fn hard_bits_of(levels: &[i8]) -> BitBuf
     bits
 }
 
-// The square of how far a level is from that of a dibit.
+// Returns the square of the difference between a level and that of a dibit.
 pub(crate) fn deviation(dibit: u8, level: i8) -> u32
     requires { dibit < 4 }
     ensures square { result ≡ squared_deviation dibit level }

@@ -1,4 +1,4 @@
-//! Blocks read from levels.
+//! Decoding of blocks from levels.
 
 ghost use Rattle.std.specs.Prelude.{◌≡◌, ℕ, ◌^◌, ◌<◌, ◌≤◌, All, length, slice_index};
 ghost use Rattle.p25_trellis.specs.{Interleave.{interleaved}, Trellis.{IsFirstLeastReading}};
@@ -13,7 +13,8 @@ pub(crate) const BLOCK_LEVELS: usize = 98;
 // The number of points of a block, of two levels each.
 const BLOCK_POINTS: usize = 49;
 
-// What a nibble costs that is sent as the point at a place: its two dibits are sent one after the other.
+// Returns the cost of a nibble that is transmitted as the point at a position: its two dibits are transmitted one after
+// the other.
 fn point_cost(levels: &[i8], place: usize, nibble: u8) -> u32
     requires levels { length levels.now ≡ 98 }
     requires place { place < 49 }
@@ -24,7 +25,7 @@ fn point_cost(levels: &[i8], place: usize, nibble: u8) -> u32
     deviation(nibble / 4, levels[2 * place]) + deviation(nibble % 4, levels[2 * place + 1])
 }
 
-// At which place the point of each step of a path is sent.
+// Returns the position at which the point of each step of a path is transmitted.
 fn sent_places() -> [u8; BLOCK_POINTS]
     ensures in_order { (k : ℕ) → k < 49 → slice_index (interleaved result) k ≡ k }
     ensures below { All (λ place. place < 49) result }
@@ -37,7 +38,7 @@ fn sent_places() -> [u8; BLOCK_POINTS]
     gather(&in_order)
 }
 
-// The table of what each nibble costs at each step of a path.
+// Returns the table of the cost of each nibble at each step of a path.
 fn level_costs(levels: &[i8]) -> [u32; BLOCK_COSTS]
     requires { length levels.now ≡ 98 }
     ensures costs { IsPointTable levels.now result }
@@ -55,11 +56,11 @@ fn level_costs(levels: &[i8]) -> [u32; BLOCK_COSTS]
     costs
 }
 
-/// Sets `octets` to those of the soft path of a block's 98 levels, and answers what that path costs: the sum, over the 98
-/// dibits of its sent bits, of the square of level minus nominal level. No path costs less, and of several that cost as
-/// little it is the first in dictionary order of symbols. The levels are in the order of sending, as the bits of `read_block`
-/// are; there are 12 octets at half rate and 18 at three-quarter rate. The measure is this project's own; the paths are those
-/// of TIA-102.BAAA, Trellis Coding.
+/// Decodes a block's 98 levels: writes to `octets` those of the soft path, and returns the cost of that path. The cost
+/// is the sum, over the 98 dibits of its transmitted bits, of the square of level minus nominal level. No path costs
+/// less; if several cost the same, it is the first in dictionary order of symbols. It requires the levels in the order
+/// of transmission, as the bits of `read_block`, and 12 octets at half rate or 18 at three-quarter rate. The measure is
+/// this project's own; the paths are those of TIA-102.BAAA, Trellis Coding.
 pub fn read_soft<R: Rate>(levels: &[i8], octets: &mut [u8]) -> u32
     requires levels { length levels.now ≡ 98 }
     requires octets { length octets.old ≡ R.OCTETS }

@@ -1,4 +1,4 @@
-//! The blocks of broken packets (PDU), read again from their levels.
+//! The blocks of broken packets (PDU), decoded again from their levels.
 
 ghost use Rattle.std.specs.Prelude.{◌≡◌, ◌+◌, ◌*◌, ◌<◌, ◌≤◌, ◌||◌, ◌++◌, length, if◌then◌else◌};
 ghost use Rattle.p25_bits.specs.Numbers.{joined_below};
@@ -14,10 +14,11 @@ use p25_status::{Field, FieldList, Statuses, unweave, weave};
 use p25_trellis::{Half, Rate, ThreeQuarter, encode_block};
 use p25_units::Item;
 
-// How many dibits of a unit stand before each of its status symbols.
+// The number of dibits of a data unit before each of its status symbols.
 const BARE_DIBITS: usize = 35;
 
-// The number of blocks to follow that the header of a packet (PDU) tells: none where the header is not read.
+// Returns the number of blocks to follow that the header of a packet (PDU) states, or none if the header is
+// uncorrectable.
 fn told_blocks(sent: &BitBuf) -> usize
     requires { 316 ≤ length sent.now }
     ensures value { result ≡ blocks_to_follow sent.now }
@@ -29,7 +30,7 @@ fn told_blocks(sent: &BitBuf) -> usize
     }
 }
 
-// Whether the packet CRC is among the fields that fail.
+// Returns whether the packet CRC is among the fields that fail.
 fn fails_whole(fields: &FieldList) -> bool
     ensures { result ≡ names_all fields.now }
 {
@@ -42,7 +43,7 @@ fn fails_whole(fields: &FieldList) -> bool
     false
 }
 
-// Whether a field is the block at a place.
+// Returns whether a field is the block at a position.
 fn is_block(field: Field, j: u8) -> bool
     ensures { result ≡ is_block j field }
 {
@@ -52,7 +53,7 @@ fn is_block(field: Field, j: u8) -> bool
     }
 }
 
-// Whether the block at a place is among the fields that fail.
+// Returns whether the block at a position is among the fields that fail.
 fn fails_block(fields: &FieldList, j: u8) -> bool
     ensures { result ≡ names_block fields.now j }
 {
@@ -64,7 +65,7 @@ fn fails_block(fields: &FieldList, j: u8) -> bool
     false
 }
 
-// The levels of the block at a place after the header block.
+// Returns the levels of the block at a position after the header block.
 fn levels_of(levels: &[i8], j: usize) -> [i8; BLOCK_LEVELS]
     requires place { j ≤ 126 }
     requires there { sent_dibit (154 + 98 * j + 97) < length levels.now }
@@ -80,7 +81,7 @@ fn levels_of(levels: &[i8], j: usize) -> [i8; BLOCK_LEVELS]
     block
 }
 
-// Appends the sent bits of the soft path of a block's levels.
+// Appends the transmitted bits of the soft path of a block's levels.
 fn append_soft<R: Rate>(levels: &[i8], out: &mut BitBuf)
     requires levels { length levels.now ≡ 98 }
     requires room { length out.old + 196 ≤ 25928 }
@@ -93,8 +94,8 @@ fn append_soft<R: Rate>(levels: &[i8], out: &mut BitBuf)
     encode_block::<R>(octets, out);
 }
 
-// Appends the block at a place, read from its levels where it fails or the packet CRC does, and answers how many blocks were
-// read so, 1 or 0.
+// Appends the block at a position, decoded from its levels if it fails or the packet CRC does, and returns the number
+// of blocks decoded so, 1 or 0.
 fn append_block(fields: &FieldList, levels: &[i8], bare: &BitBuf, j: u8, out: &mut BitBuf) -> u32
     requires place { j ≤ 126 }
     requires levels { sent_dibit (154 + 98 * j + 97) < length levels.now }
@@ -118,7 +119,7 @@ fn append_block(fields: &FieldList, levels: &[i8], bare: &BitBuf, j: u8, out: &m
     0
 }
 
-// Appends the first blocks, and answers how many of them were read from levels.
+// Appends the first blocks, and returns the number of them that were decoded from levels.
 fn append_blocks(
     fields: &FieldList,
     levels: &[i8],
@@ -163,13 +164,15 @@ fn soften_packet(fields: &FieldList, levels: &[i8], raw: &mut BitBuf) -> u32
     count
 }
 
-/// Replaces the bits of the blocks of a broken packet (PDU) that fail by the sent bits of their soft paths, and answers how many
-/// blocks were replaced. `raw` has the bits that the item covers, `levels` the levels that they were read from, one for each
-/// two bits, and a broken item is the one that these bits are divided into.
+/// Replaces the bits of the failing blocks of a broken packet (PDU) by the transmitted bits of their soft paths, and
+/// returns the number of replaced blocks. It requires in `raw` the bits that the item covers, in `levels` the levels
+/// from which they were decided, one for each two bits, and that a broken item is the one into which these bits are
+/// divided.
 ///
-/// Of a packet with failing blocks each of these is read at three-quarter rate, and of one whose packet CRC fails every block
-/// to follow at half rate. Each other bit stays as it is, and so do all bits of every other item, and of a packet whose format
-/// fails; then the answer is 0. A replaced block is not judged again. This project's own.
+/// In a packet with failing blocks each of these is decoded at three-quarter rate, and in one whose packet CRC fails
+/// every block to follow at half rate. Each other bit is unchanged. All bits of every other item are unchanged, and
+/// those of a packet whose format fails; then the result is 0. A replaced block is not checked again. This is the
+/// project's own rule.
 pub fn soften(item: &Item, levels: &[i8], raw: &mut BitBuf) -> u32
     requires { IsHeard item.now levels.now raw.old }
     ensures bits { raw.new ≡ softened item.now levels.now raw.old }

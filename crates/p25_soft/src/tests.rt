@@ -1,4 +1,5 @@
-//! Levels, blocks read from them, and broken packets (PDU) of header blocks that a program apart from this code made.
+//! Levels, blocks decoded from them, and broken packets (PDU) of header blocks that a program apart from this code
+//! made.
 
 ghost use Rattle.std.specs.Prelude.{◌≡◌, length};
 ghost use Rattle.p25_soft.specs.Levels.{hard_bits};
@@ -24,8 +25,8 @@ const FORMAT_17: [u8; 12] = [0x17, 0xC0, 0, 0, 0, 1, 0x80, 0, 0, 0, 0xE0, 0x91];
 // A confirmed block of zeros with its check.
 const GOOD: [u8; 18] = [1, 0xFF, 0, 0, 0, 0, 0, 0, 0, 0, 0, 0, 0, 0, 0, 0, 0, 0];
 
-// A packet (PDU) of at most two blocks under the network access code (NAC) 293 hex as it is sent, with the status symbol 0
-// throughout, by the octets of its header block and of its blocks. A block of zeros is the same at either rate.
+// A transmitted packet (PDU) of at most two blocks under the network access code (NAC) 293 hex, with the status symbol
+// 0 throughout, by the octets of its header block and of its blocks. A block of zeros is the same at either rate.
 fn sent(header: &[u8; 12], blocks: &[[u8; 18]]) -> BitBuf {
     let mut bare = BitBuf::new();
     bare.put_field(0x5575_F5FF_77FF, 48);
@@ -62,7 +63,7 @@ fn levels_of(bits: &BitBuf) -> [i8; 360]
     levels
 }
 
-// Softens the unit that levels are, and answers how many blocks were replaced, or none where they are no unit.
+// Softens the data unit of some levels, and returns the number of replaced blocks, or none if they are no data unit.
 fn soften_unit(levels: &[i8], raw: &mut BitBuf) -> Option<u32>
     requires { raw.old ≡ hard_bits levels.now }
 {
@@ -80,7 +81,7 @@ fn soften_unit(levels: &[i8], raw: &mut BitBuf) -> Option<u32>
 
 #[test]
 fn broken_packets(rt: HostRuntime) {
-    // Rows: a header block, the blocks to follow, levels of the packet that are others, and how many blocks are replaced.
+    // Rows: a header block, the blocks to follow, levels of the packet that differ, and the number of replaced blocks.
     let rows: [(&[u8; 12], &[[u8; 18]], &[(usize, i8)], u32); 5] = [
         (&CONFIRMED, &[GOOD], &[], 0),
         (&CONFIRMED, &[GOOD], &[(164, -1), (165, 0)], 1),
@@ -151,7 +152,7 @@ fn levels_and_dibits(rt: HostRuntime) {
     for (dibit, level) in [(0, 32), (1, 96), (2, -32), (3, -96)] {
         assert_eq!(rt; nominal(dibit), level);
     }
-    // Rows: a level, and the dibit that it is read as.
+    // Rows: a level, and the dibit that it decodes to.
     let rows: [(i8, u8); 10] = [
         (127, 1),
         (64, 1),
