@@ -198,7 +198,7 @@ class Call:
 
     __slots__ = (
         *("at", "end_at", "nac", "base", "entry", "end", "links", "voice", "broken", "lc", "alg", "units", "looked", "wrong"),
-        *("votes", "ciphers", "group", "goes_on", "heard"),
+        *("votes", "ciphers", "group", "goes_on", "heard", "in_step"),
     )
 
     def __init__(self, at, nac, base=0, keeps=False):
@@ -209,6 +209,7 @@ class Call:
         self.links = self.voice = self.broken = self.units = 0
         self.lc = self.alg = self.group = None
         self.looked = self.wrong = 0
+        self.in_step = True    # whether each voice unit lies where its kind does after the header
         self.votes = {}    # each link control that was read, and how often; the first of the call first
         self.ciphers = {}    # each algorithm with its key, likewise
         self.goes_on = None    # the call of which this one may be a part
@@ -221,6 +222,8 @@ class Call:
         if item.unit in LINK_UNITS:
             self.links += 1
             self.voice += item.kind == "unit"
+            step = (item.at - self.at - LENGTHS["hdu"]) % (2 * LENGTHS["ldu1"])
+            self.in_step = self.in_step and step == (0 if item.unit == "ldu1" else LENGTHS["ldu1"])
         elif item.unit in TERMINATORS:
             self.end = item.unit
         elif item.unit == "hdu":
@@ -259,7 +262,8 @@ class Call:
     def sent(self):
         """How many voice units its length has capacity for, at least those that were heard, and whether this is exact.
 
-        It is exact if both ends were heard and all words tell the same talk.
+        It is exact if both ends were heard, whole voice units fill what is between them, each where its kind is in turn, and no word
+        tells another talk or cipher: else a part of the length may be of another call.
         """
         bits = self.bits
         if self.entry == "header":
@@ -268,7 +272,16 @@ class Call:
             bits -= LENGTHS[self.end]
         # To the nearest whole number, a half up.
         sent = (2 * bits + LENGTHS["ldu1"]) // (2 * LENGTHS["ldu1"])
-        return max(sent, self.links), self.entry == "header" and self.end != "open" and not told(self).others
+        return max(sent, self.links), not self.doubts()
+
+    def doubts(self):
+        """Why the number of voice units that were sent is not exact."""
+        if self.entry == "late" or self.end == "open":
+            return ["beginning not heard"] * (self.entry == "late") + ["end not heard"] * (self.end == "open")
+        if told(self).others:
+            return ["more than one talker is told"]
+        is_one = self.in_step and (self.bits - LENGTHS["hdu"] - LENGTHS[self.end]) % LENGTHS["ldu1"] == 0 and len(self.ciphers) < 2
+        return [] if is_one else ["perhaps two calls"]
 
     def line(self, more=False):
         """The line that p25 calls prints of it; with `more` what only p25 show tells stands after that."""
@@ -493,16 +506,63 @@ def front_of(nac, unit):
     return SYNC << 63 | word | rest
 
 
+def front_bits(octets, at):
+    """The 111 bits at which a front would begin, without the status symbol between the 22nd and the 23rd bit of its identifier."""
+    first, last = at // 8, (at + 113 + 7) // 8
+    bits = int.from_bytes(octets[first:last], "big") >> (8 * last - at - 113)
+    return (bits >> 43 & (1 << 70) - 1) << 41 | bits & (1 << 41) - 1
+
+
 def front_errors(octets, item):
     """The bit errors of the sync and of the identifier of a unit in the octets of a recording, or None if they are not all in it."""
-    first, last = item.at // 8, (item.at + 113 + 7) // 8
-    if last > len(octets):
+    if item.at + 113 > 8 * len(octets):
         return None
-    bits = int.from_bytes(octets[first:last], "big") >> (8 * last - item.at - 113)
-    # Two bits of a status symbol are between the 22nd and the 23rd of the identifier.
-    came = (bits >> 43 & (1 << 70) - 1) << 41 | bits & (1 << 41) - 1
-    wrong = came ^ front_of(item.nac, item.unit)
+    wrong = front_bits(octets, item.at) ^ front_of(item.nac, item.unit)
     return bin(wrong >> 63).count("1"), bin(wrong & (1 << 63) - 1).count("1")
+
+
+class Hidden:
+    """The fronts of a recording that p25 does not find, since too many of their bits are wrong.
+
+    Each is that of a unit of a network that has a whole unit before, but for at most 12 bits of its sync and 26 of its 111 bits. At a
+    bit error rate of 15 % so are 97 % of the fronts, at 20 % 77 %, and in an hour of noise one place for each network.
+    """
+
+    def __init__(self, octets):
+        self.octets, self.words, self.edge = octets, {}, 0    # the fronts of each network; what is before the edge was looked at
+
+    def take(self, item):
+        """Yields the position and the bit errors of those before the next item, or within it if it is no unit."""
+        if item.kind == "unit" and item.nac not in self.words:
+            self.words[item.nac] = [front_of(item.nac, unit) for unit in KINDS.values()]
+        end = item.end if item.nac is None else item.at
+        if self.words:
+            yield from self.look(max(self.edge, end - NEAR), min(end, 8 * len(self.octets)))
+            self.edge = max(self.edge, end - 112)
+        if item.nac is not None:
+            self.edge = item.end
+
+    def look(self, begin, end):
+        """Looks at all positions of some bits."""
+        count, last = end - begin - 112, -(-end // 8)
+        if count <= 0:
+            return
+        bits, every = int.from_bytes(self.octets[begin // 8 : last], "big") >> 8 * last - end, (1 << count) - 1
+        # The errors of the sync at all positions are counted at once: each of these numbers has one binary digit of every count.
+        digits = [0] * 6
+        for place in range(48):
+            wrong = bits >> 112 - place & every ^ (every if SYNC >> 47 - place & 1 else 0)
+            for digit in range(6):
+                digits[digit], wrong = digits[digit] ^ wrong, digits[digit] & wrong
+        few = every & ~(digits[5] | digits[4] | digits[3] & digits[2] & (digits[1] | digits[0]))
+        while few:
+            place = few.bit_length() - 1
+            few ^= 1 << place
+            at = begin + count - 1 - place
+            came = front_bits(self.octets, at)
+            least = min(bin(came ^ word).count("1") for words in self.words.values() for word in words)
+            if least <= 26:
+                yield at, least
 
 
 class Network:

@@ -11,6 +11,7 @@ import time
 
 import pytest
 from conftest import LC, RECORDINGS, SAMPLES, SCRIPTS, TOP, UNITS, ZEROS, hdu, ldu1, ldu2, need, tdulc
+from test_files import noise
 from test_forms import CALLS, control_channel
 
 # -- Bit errors.
@@ -99,7 +100,13 @@ def test_rate_of_fronts(room, long):
     room.put("fades.bin", bytes(octets))
     everything, front = total(room, room.octets("p25 follow < fades.bin | p25 show"), "--recording fades.bin")
     truth = 100 * bin(bits(bytes(octets)) ^ bits(long[:36000])).count("1") / (8 * 36000)
-    assert abs(float(front[4]) - truth) < 0.7 * abs(float(everything[4]) - truth)
+    assert abs(float(front[4]) - truth) < 0.25 * abs(float(everything[4]) - truth)
+    # By time all of them are counted too.
+    rows = [line.split(",") for line in room.lines("p25 follow < fades.bin | p25 show | p25-rate -t 7 -c --recording fades.bin")][1:]
+    assert [sum(int(row[place]) for row in rows) for place in (11, 12)] == [int(front[1]), int(front[3])]
+    # Noise has none.
+    room.put("more.bin", bytes(octets) + noise(1200 * 120))
+    assert int(total(room, room.octets("p25 follow < more.bin | p25 show"), "--recording more.bin")[1][1]) < int(front[1]) + 3
 
 
 @pytest.mark.parametrize("seconds", ["0.1", "0.3333", "1", "7", "3.14159", "0.0003", "1000", "86400"])

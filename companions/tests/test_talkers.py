@@ -3,6 +3,7 @@
 import datetime
 import json
 import os
+import re
 import signal
 import subprocess
 import time
@@ -118,6 +119,26 @@ def test_exact_only_if_no_word_disagrees(room, words, is_exact):
     # So does a header of another group.
     (line,) = told(room, [hdu(101), *pairs(2, A), "tdu nac=293"])
     assert "at least 4 sent, 4 heard, 0 broken; more than one talker is told" in line
+
+
+@pytest.mark.parametrize(
+    "units",
+    [
+        # A terminator and a header were lost: what is between the voice units is no multiple of one.
+        [*pairs(1, A), 117, *pairs(1, UPDATE)],
+        [*pairs(1, A), 18, *pairs(1, UPDATE), 198, *pairs(1, UPDATE)],
+        # Two units of a kind follow one another, or units of another cipher.
+        [*pairs(1, A), ldu2()],
+        [*pairs(1, A), 216, ldu1(UPDATE), ldu2()],
+        [*pairs(1, A), *pairs(1, UPDATE, "84", "0001")],
+    ],
+)
+def test_exact_only_if_the_units_are_of_one_call(room, units):
+    (line,) = told(room, [hdu(100), *units, "tdu nac=293"])
+    assert re.search("voice units at least [0-9]+ sent, [0-9]+ heard, 0 broken; perhaps two calls; 0 of ", line)
+    # Lost units in the turn of their kinds are none.
+    (line,) = told(room, [hdu(100), *pairs(1, A), 432, *pairs(1, UPDATE), "tdu nac=293"])
+    assert "voice units 6 sent, 4 heard, 2 lost; 0 of " in line
 
 
 def test_most_ciphers_tell(room):
