@@ -155,11 +155,10 @@ fn long_messages_of_a_list(rt: HostRuntime) {
 fn places(more: Option<u16>) -> Flips {
     let mut flips = Flips::new();
     flips.push(3);
-    if let Some(place) = more
-        && place > 3
-        && place < 25_920
-    {
-        flips.push(place);
+    if let Some(place) = more {
+        if place > 3 && place < 25_920 {
+            flips.push(place);
+        }
     }
     flips
 }
