@@ -128,7 +128,7 @@ impl<M: LineMachine> LineFilter<M> {
     // Answers what is still to be given of the text.
     fn rest(&self) -> &[u8]
         ensures list { result.now ≡ self.now.left }
-        ensures most { length result.now ≤ 24576 }
+        ensures most { length result.now ≤ 16384 }
     {
         &self.text.octets()[self.given..]
     }
@@ -137,9 +137,9 @@ impl<M: LineMachine> LineFilter<M> {
     fn give(&mut self, out: &mut Line)
         ensures out { out.new ≡ take 8192 self.old.left }
         ensures left { self.new ≡ record self.old { left = drop (length out.new) self.old.left } }
-        ensures most { length self.old.left ≤ 24576 }
+        ensures most { length self.old.left ≤ 16384 }
     {
-        // For the prover: a text has at most 24,576 octets.
+        // For the prover: a text has at most 16,384 octets.
         let _ = self.text.octets();
         let rest = self.rest();
         let count = rest.len().min(LINE_MOST);
@@ -160,7 +160,7 @@ impl<M: LineMachine> Filter for LineFilter<M> {
     ghost IsDrained = { λ s. (texts_of s.phase ≡ 0) × (s.left ≡ []) };
 
     // A text that is given in pieces of at least one octet has as many pieces as octets, at most; and one may be empty.
-    ghost pieces_left = { λ s. 24577 * texts_of s.phase + length s.left };
+    ghost pieces_left = { λ s. 16385 * texts_of s.phase + length s.left };
 
     ghost size = { λ s. s.lines + lines_ready s.phase };
 

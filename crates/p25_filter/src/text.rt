@@ -5,10 +5,10 @@ ghost use Rattle.std.specs.Prelude.{◌≡◌, ◌+◌, ◌≤◌, ◌++◌, [],
 use arrayvec::ArrayVec;
 use std::marker::Model;
 
-/// A text of at most 24,576 octets: three times as many as a line has at most.
+/// A text of at most 16,384 octets: twice as many as a line has at most.
 #[derive(Drop)]
 pub struct Text {
-    octets: ArrayVec<u8, 24_576>,
+    octets: ArrayVec<u8, 16_384>,
 }
 
 impl Model for Text {
@@ -36,17 +36,17 @@ impl Text {
         self.octets.clear();
     }
 
-    /// Returns the octets of the text, at most 24,576.
+    /// Returns the octets of the text, at most 16,384.
     pub fn octets(&self) -> &[u8]
         ensures value { result.now ≡ self.now }
-        ensures most { length result.now ≤ 24576 }
+        ensures most { length result.now ≤ 16384 }
     {
         self.octets.as_slice()
     }
 
     /// Appends octets.
     pub fn put(&mut self, text: &[u8])
-        requires { length self.old + length text.now ≤ 24576 }
+        requires { length self.old + length text.now ≤ 16384 }
         ensures { self.new ≡ self.old ++ text.now }
     {
         self.octets.try_extend_from_slice(text).unwrap();

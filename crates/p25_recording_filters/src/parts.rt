@@ -1,3 +1,3 @@
 //! What stands here is public only for the crates beside this one. A program needs none of it.
 
-pub use super::reports::put_octets;
+pub use super::reports::{put_behind, put_octets};

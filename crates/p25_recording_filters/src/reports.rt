@@ -7,8 +7,7 @@ mod followed;
 mod show;
 
 pub use calls::Calls;
-pub(crate) use changed::put_behind;
-pub use changed::{Change, Changed, put_octets};
+pub use changed::{Change, Changed, put_behind, put_octets};
 pub use check::Check;
 pub use followed::Followed;
 pub use show::Show;

@@ -11,6 +11,7 @@ mod refusals;
 mod relay;
 mod rows;
 mod samples;
+mod scripts;
 mod size;
 mod soft;
 mod voice;

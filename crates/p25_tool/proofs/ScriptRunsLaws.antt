@@ -14,7 +14,7 @@ use Rattle.p25_duplex.specs.DuplexSteps.{DuplexState, first_duplex, duplex_step}
 use Rattle.p25_filter.specs.{declared.ending.Ending.{Ending}, declared.ending.Ending.TheVariants.{BadLine}, Lines.{closing_by, lines_ending, lines_future, lines_in, read_of, refusal_in, texts_before}}
 use Rattle.p25_filter.specs.{LineRules.{LineRules, LinesTaken, first_taken, lines_taken, written_for}, LineFilters.{first_line, line_future}}
 use Rattle.p25_filter.proofs.{LinesLaws.{each_behind-none}, SameLaws.{same-future}}
-use Rattle.p25_tool.specs.{declared.build.Build.{Build}, declared.command.Command.TheVariants.{Build as BuildIt, Stations, Fragments, Duplex}}
+use Rattle.p25_tool.specs.{declared.command.Command.TheVariants.{Build as BuildIt, Stations, Fragments, Duplex}}
 use Rattle.p25_tool.specs.{Machines.{DuplexAt, LongAt, StationsAt, build_rules, script_rules, taken_by}, Outputs.{command_future, duplex_step_line, long_closing_line, step_line}}
 
 concat_texts : {S : Type 0} (text : S → List ℕ) (steps : List S) → concat (map text steps) ≡ flat_map text steps
@@ -79,8 +79,8 @@ unfolding steps_by building
 units-told none [] = refl
 units-told none (unit ∷ units) = ap (λ us. unit ∷ us) (units-told none units)
 
-pub build-alike : (status : Status) (made : Build) → made ≡ record { status = status } → line_future build_rules (first_line made) ≡ command_future (BuildIt status)
+pub build-alike : (status made : Status) → made ≡ status → line_future build_rules (first_line made) ≡ command_future (BuildIt status)
 unfolding building
 build-alike status made same =
-    ap (λ (b : Build). line_future build_rules (first_line b)) same
-    ∙ alike build_rules (λ none. record { status = status }) read_line_of building (image_octets status) (λ none line. refl) tt tt _ _ (units-told tt) (λ units. refl) refl
+    ap (λ s. line_future build_rules (first_line s)) same
+    ∙ alike build_rules (λ none. status) read_line_of building (image_octets status) (λ none line. refl) tt tt _ _ (units-told tt) (λ units. refl) refl

@@ -1,6 +1,7 @@
 -- The machines of the commands over lines: what comes of each line, and what is written at the end.
 use Rattle.std.specs.{Prelude.{ℕ, true, false, List, [], Result}, Result.{result_map_both}}
 use Rattle.p25_line.specs.declared.fault.LineFault.{LineFault}
+use Rattle.p25_status.specs.declared.status.Status.{Status}
 use Rattle.p25_text.specs.Grammar.{read_line_of}
 use Rattle.p25_units.specs.Units.{image_octets}
 use Rattle.p25_stations.specs.{Steps.{world_step}, WorldState.{WorldState}}
@@ -8,15 +9,15 @@ use Rattle.p25_script.specs.{Script.{event_of}, LongScript.{long_event_of}, Long
 use Rattle.p25_fragments.specs.{LongState.{LongState}, LongSteps.{long_step}}
 use Rattle.p25_duplex.specs.DuplexSteps.{DuplexState, duplex_step}
 use Rattle.p25_filter.specs.LineRules.{LineRules}
-use Rattle.p25_tool.specs.{declared.build.Build.{Build}, declared.scripts.ScriptWorld.{ScriptWorld}}
+use Rattle.p25_tool.specs.{declared.scripts.ScriptWorld.{ScriptWorld}}
 use Rattle.p25_tool.specs.declared.scripts.ScriptWorld.TheVariants.{Stations, Long, Duplex}
 use Rattle.p25_tool.specs.Outputs.{closing_line, duplex_closing_lines, duplex_step_line, long_closing_line, step_line}
 
--- `build`: the octets of the unit that a line describes; nothing closes them, and no memory is wanted
-abbrev pub build_rules : LineRules Build
+-- `build`: the octets of the unit that a line describes, with one status symbol; nothing closes them, and no memory is wanted
+abbrev pub build_rules : LineRules Status
 build_rules = record {
-  take = λ build line. result_map_both (λ unit. (build, image_octets build.status unit)) (λ fault. fault) (read_line_of line);
-  closing = λ build. [];
+  take = λ status line. result_map_both (λ unit. (status, image_octets status unit)) (λ fault. fault) (read_line_of line);
+  closing = λ status. [];
   wants = false;
 }
 

@@ -10,11 +10,33 @@ use p25_recording_filters::parts::put_octets;
 use p25_status::Status;
 use p25_text::read_line;
 use p25_units::{Frame, Unit, image};
+use std::marker::Model;
 
-// The units that the lines of an input describe, with one status symbol everywhere.
+// The units that the lines of an input describe, with one status symbol everywhere, and a buffer for the octets of a unit.
 #[derive(Drop)]
 pub(crate) struct Build {
-    pub(crate) status: Status,
+    status: Status,
+    out: Line,
+}
+
+impl Model for Build {
+    ghost use Rattle.p25_status.specs.declared.status.Status.{Status};
+
+    ghost Value = { Status };
+
+    ghost view = { λ b. b.status };
+}
+
+impl Build {
+    // Returns the machine that gives each unit this status symbol everywhere.
+    pub(crate) fn new(status: Status) -> Build
+        ensures { result ≡ status }
+    {
+        Build {
+            status,
+            out: Line::new(),
+        }
+    }
 }
 
 impl LineMachine for Build {
@@ -26,22 +48,23 @@ impl LineMachine for Build {
 
     fn take(&mut self, line: &[u8], text: &mut Text) -> Result<(), LineRefusal> {
         let unit = read_line(line).map_err(LineRefusal::Fault)?;
-        put_image(unit, self.status, text);
+        put_image(unit, self.status, &mut self.out, text);
         Ok(())
     }
 
     fn close(&self, _text: &mut Text) {}
 }
 
-// Puts the octets of a unit's image with one status symbol everywhere into an empty text. No slot of a packet (PDU) is Bad.
-fn put_image(unit: Unit, status: Status, text: &mut Text)
+// Writes the octets of a unit's image with one status symbol everywhere into an empty text, through a buffer. No slot of a packet (PDU)
+// is Bad.
+fn put_image(unit: Unit, status: Status, out: &mut Line, text: &mut Text)
     requires sendable { IsSendableBody unit.body }
     requires empty { text.old ≡ [] }
     ensures { text.new ≡ image_octets status unit }
 {
     let mut bits = BitBuf::new();
     image(&Frame::filled(unit, status), &mut bits);
-    let mut octets = Line::new();
-    put_octets(&bits, 0, &mut octets);
-    text.put(octets.octets());
+    out.clear();
+    put_octets(&bits, 0, out);
+    text.put(out.octets());
 }

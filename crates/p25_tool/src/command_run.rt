@@ -82,7 +82,7 @@ pub fn run_on<P: Port>(alloc: Global, words: &Words, port: &mut P) -> Outcome
             run_report(Changed::new(Change::Relayed { nac, status }), port)
         }
         Command::Follow => run_report(Followed::new(), port),
-        Command::Build { status } => run_lines(Build { status }, port),
+        Command::Build { status } => run_lines(Build::new(status), port),
         Command::Stations => run_stations(alloc, port),
         Command::Calls => run_report(Calls::new(), port),
         Command::Duplex => run_duplex(alloc, port),

@@ -2,17 +2,18 @@
 
 ghost use Rattle.std.specs.Prelude.{◌≡◌, ◌++◌, []};
 ghost use Rattle.p25_filter.specs.LineRules.{IsLineTaken};
-ghost use Rattle.p25_tool.specs.{Machines.{DuplexAt, LongAt, StationsAt, script_rules, state_of}, Outputs.{duplex_closing_lines}};
+ghost use Rattle.p25_tool.specs.{Machines.{DuplexAt, LongAt, StationsAt, script_rules, state_of}, Outputs.{duplex_closing_lines, duplex_step_line, step_line}};
+ghost use Rattle.p25_script.specs.LongTexts.{long_step_text_of};
 
-use p25_duplex::{DuplexEvent, DuplexWorld, Side};
+use p25_duplex::{DuplexEvent, DuplexStep, DuplexWorld, Side};
 use p25_filter::{LineMachine, LineRefusal, Text};
-use p25_fragments::{LongEvent, LongWorld};
+use p25_fragments::{LongEvent, LongStep, LongWorld};
 use p25_line::{Line, LineWords};
 use p25_script::{
     ScriptEvent, closing_text, duplex_closing, duplex_step_text, long_closing_text, long_step_text,
     step_text,
 };
-use p25_stations::{Event, World};
+use p25_stations::{Event, Step, World};
 use std::marker::Model;
 
 // The world in which the events of a script happen.
@@ -23,12 +24,10 @@ pub(crate) enum ScriptWorld {
     Duplex(DuplexWorld),
 }
 
-// The machine over the lines of a script, with room for the two parts of the text of a step.
+// The machine over the lines of a script.
 #[derive(Drop)]
 pub(crate) struct Script {
     world: ScriptWorld,
-    out: Line,
-    behind: Line,
 }
 
 impl Model for Script {
@@ -44,11 +43,7 @@ impl Script {
     pub(crate) fn new(world: ScriptWorld) -> Script
         ensures { result ≡ state_of world }
     {
-        Script {
-            world,
-            out: Line::new(),
-            behind: Line::new(),
-        }
+        Script { world }
     }
 }
 
@@ -61,11 +56,9 @@ impl LineMachine for Script {
 
     fn take(&mut self, line: &[u8], text: &mut Text) -> Result<(), LineRefusal> {
         match &mut self.world {
-            ScriptWorld::Stations(world) => take_event(world, line, &mut self.out, text),
-            ScriptWorld::Long(world) => {
-                take_long(world, line, &mut self.out, &mut self.behind, text)
-            }
-            ScriptWorld::Duplex(world) => take_duplex(world, line, &mut self.out, text),
+            ScriptWorld::Stations(world) => take_event(world, line, text),
+            ScriptWorld::Long(world) => take_long(world, line, text),
+            ScriptWorld::Duplex(world) => take_duplex(world, line, text),
         }
     }
 
@@ -92,47 +85,62 @@ fn put_line(line: &Line, text: &mut Text)
     text.put(line.octets());
 }
 
-// Puts two lines into an empty text, one after the other.
-fn put_parts(out: &Line, behind: &Line, text: &mut Text)
+// Writes the line of a step of `stations` into an empty text. Here and in the next two the lines are in no frame in which a world works.
+#[inline(never)]
+fn put_step(step: &Step, text: &mut Text)
     requires { text.old ≡ [] }
-    ensures { text.new ≡ out.now ++ behind.now }
+    ensures { text.new ≡ step_line step.now }
 {
+    let mut out = Line::new();
+    step_text(step, &mut out);
+    out.put(b"\n");
+    put_line(&out, text);
+}
+
+// Writes the lines of a step of `fragments` into an empty text.
+#[inline(never)]
+fn put_long_step(step: &LongStep, text: &mut Text)
+    requires { text.old ≡ [] }
+    ensures { text.new ≡ long_step_text_of step.now }
+{
+    let mut out = Line::new();
+    let mut more = Line::new();
+    long_step_text(step, &mut out, &mut more);
     // For the prover: a line has at most 8,192 octets.
-    let _ = (out.len(), behind.len());
+    let _ = (out.len(), more.len());
     text.put(out.octets());
-    text.put(behind.octets());
+    text.put(more.octets());
+}
+
+// Writes the line of a step of `duplex` into an empty text.
+#[inline(never)]
+fn put_duplex_step(step: &DuplexStep, text: &mut Text)
+    requires { text.old ≡ [] }
+    ensures { text.new ≡ duplex_step_line step.now }
+{
+    let mut out = Line::new();
+    duplex_step_text(step, &mut out);
+    out.put(b"\n");
+    put_line(&out, text);
 }
 
 // Takes a line of `stations`. Events and steps are large: so those of a script are apart from those of the others.
 #[inline(never)]
 #[tactic(auto, unfolding(p25_line::specs::LineReadings::line_read))]
-fn take_event(
-    world: &mut World,
-    line: &[u8],
-    out: &mut Line,
-    text: &mut Text,
-) -> Result<(), LineRefusal>
+fn take_event(world: &mut World, line: &[u8], text: &mut Text) -> Result<(), LineRefusal>
     requires { text.old ≡ [] }
     ensures { IsLineTaken script_rules (StationsAt world.old.state) line.now result text.new (StationsAt world.new.state) }
 {
     let words = LineWords::read(line).map_err(LineRefusal::Fault)?;
     let event = Event::read_words(&words).map_err(LineRefusal::Fault)?;
-    step_text(&world.step(&event).map_err(|_| LineRefusal::Memory)?, out);
-    out.put(b"\n");
-    put_line(out, text);
+    put_step(&world.step(&event).map_err(|_| LineRefusal::Memory)?, text);
     Ok(())
 }
 
 // Takes a line of `fragments`.
 #[inline(never)]
 #[tactic(auto, unfolding(p25_line::specs::LineReadings::line_read))]
-fn take_long(
-    world: &mut LongWorld,
-    line: &[u8],
-    out: &mut Line,
-    behind: &mut Line,
-    text: &mut Text,
-) -> Result<(), LineRefusal>
+fn take_long(world: &mut LongWorld, line: &[u8], text: &mut Text) -> Result<(), LineRefusal>
     requires { text.old ≡ [] }
     ensures { IsLineTaken script_rules (LongAt world.old.state) line.now result text.new (LongAt world.new.state) }
 {
@@ -143,8 +151,7 @@ fn take_long(
             let Ok(step) = &world.step(event) else {
                 return Err(LineRefusal::Memory);
             };
-            long_step_text(step, out, behind);
-            put_parts(out, behind, text);
+            put_long_step(step, text);
             Ok(())
         }
     }
@@ -153,12 +160,7 @@ fn take_long(
 // Takes a line of `duplex`.
 #[inline(never)]
 #[tactic(auto, unfolding(p25_line::specs::LineReadings::line_read))]
-fn take_duplex(
-    world: &mut DuplexWorld,
-    line: &[u8],
-    out: &mut Line,
-    text: &mut Text,
-) -> Result<(), LineRefusal>
+fn take_duplex(world: &mut DuplexWorld, line: &[u8], text: &mut Text) -> Result<(), LineRefusal>
     requires { text.old ≡ [] }
     ensures { IsLineTaken script_rules (DuplexAt world.old.state) line.now result text.new (DuplexAt world.new.state) }
 {
@@ -168,9 +170,7 @@ fn take_duplex(
         Ok(event) => match &world.step(event) {
             Err(_) => Err(LineRefusal::Memory),
             Ok(step) => {
-                duplex_step_text(step, out);
-                out.put(b"\n");
-                put_line(out, text);
+                put_duplex_step(step, text);
                 Ok(())
             }
         },

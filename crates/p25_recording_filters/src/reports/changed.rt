@@ -106,8 +106,8 @@ fn change_item(change: Change, item: &Item, room: &mut BitBuf, raw: &mut BitBuf)
     }
 }
 
-// Sets `out` to the octets that kept bits and those after them fill, and keeps the bits that are left.
-pub(crate) fn put_behind(kept: &mut BitBuf, bits: &BitBuf, out: &mut Line)
+/// Writes the octets that kept bits and the bits after them fill into `out`, and keeps the bits that are left, fewer than eight.
+pub fn put_behind(kept: &mut BitBuf, bits: &BitBuf, out: &mut Line)
     requires { length kept.old < 8 }
     ensures octets { out.new ≡ whole_octets (kept.old ++ bits.now) }
     ensures kept { kept.new ≡ unfilled (kept.old ++ bits.now) }

@@ -26,7 +26,7 @@ returns-clause-called g c =
           rw (w.port-is, w.end-is) (alike-run moves _ _ _ (Relay w.in-Relay.nac w.in-Relay.status) _ _ w.in-Relay.is
           (changed-alike (Relayed w.in-Relay.nac w.in-Relay.status) _ w.new-in-Relay.ensures) (λ count is. cc) w.run_report-end-in-Relay.ensures)
       | in-Follow w ↦ rw (w.port-is, w.end-is) (alike-run moves _ _ _ Follow _ _ w.in-Follow.is (follow-alike _ w.new-in-Follow.ensures) (λ count is. cc) w.run_report-end-in-Follow.ensures)
-      | in-Build w ↦ rw (w.port-is, w.end-is) (alike-run moves _ _ _ (Build w.in-Build.status) _ _ w.in-Build.is (build-alike w.in-Build.status _ refl) (λ count is. cc) w.run_lines-end.ensures)
+      | in-Build w ↦ rw (w.port-is, w.end-is) (alike-run moves _ _ _ (Build w.in-Build.status) _ _ w.in-Build.is (build-alike w.in-Build.status _ w.new-in-Build.ensures) (λ count is. cc) w.run_lines-end.ensures)
       | in-Stations w ↦ rw (w.port-is, w.end-is) (alike-run moves _ _ _ Stations _ _ w.in-Stations.is refl (λ count is. cc) w.run_stations-end.ensures)
       | in-Calls w ↦ rw (w.port-is, w.end-is) (alike-run moves _ _ _ Calls _ _ w.in-Calls.is (calls-alike _ w.new-in-Calls.ensures) (λ count is. cc) w.run_report-end-in-Calls.ensures)
       | in-Duplex w ↦ rw (w.port-is, w.end-is) (alike-run moves _ _ _ Duplex _ _ w.in-Duplex.is refl (λ count is. cc) w.run_duplex-end.ensures)

@@ -1,4 +1,4 @@
-//! Values from outside: whole scripts through `run`, and reads and writes that fail.
+//! Values from outside: whole scripts of stations through `run`, and reads and writes that fail.
 
 mod duplex;
 mod faults;
