@@ -5,8 +5,9 @@ use Rattle.std.proofs.{Math.Nat.{mod-eq_of_lt}, lemmas.Nat.Bits.{bit_at_xor, bit
 use Rattle.std.specs.{Bool.{beq}, Int.{bit_at}, Int.RustNames.{count_ones}, Int.Bits.{xor_zero_r}}
 use Rattle.p25_code.specs.Readings.{IsReadAs}
 use Rattle.p25_code.proofs.ReadingLaws.{one_reading}
-use Rattle.p25_bch_nid.specs.{Bch63Laws.{bch63_is_code}, Bch63Readings.{bch63_reading_of, bch63_reads_as}, Nid.{generator}, BitValueLaws.{bit_coefficient}}
-use Rattle.p25_bch_nid.specs.{RemainderValueLaws.{number_value-suc}, Bch63.{IsBch63, symbols_of}, Bch63SymbolLaws.{distance_of_symbols, IsCode-63_41, IsWord-symbols_of}}
+use Rattle.p25_bch_nid.specs.{Bch63Laws.{bch63_is_code}, Bch63Readings.{bch63_reading_of, bch63_reads_as}, Nid.{generator}}
+use Rattle.p25_reed_solomon.{specs.BitValues.{bit_coefficient}, proofs.RemainderValuesLaws.{number_value-suc}}
+use Rattle.p25_bch_nid.specs.{Bch63.{IsBch63, symbols_of}, Bch63SymbolLaws.{distance_of_symbols, IsCode-63_41, IsWord-symbols_of}}
 use Rattle.p25_bch_nid.specs.Bch63FormLaws.{value_of-symbols, to_divisible, from_divisible}
 use Rattle.p25_bits.specs.{Bits.{bits_of, field_of}, Distance.{distance_of}, Divisible.{IsDivisible, IsRemainder}}
 use Rattle.p25_bits.proofs.{BitsLaws.{bits_of-field_of, field_of-lt, get_or-bits_of, length-bits_of, field_of-bits_of}, DistanceLaws.{ones-xor}, DivisibleLaws.{divisible_from_remainder}}

@@ -6,7 +6,7 @@ use Rattle.p25_bits.specs.Bits.{bits_of}
 use Rattle.p25_bits.proofs.{BitsLaws.{length-bits_of, bits_of-joined}, DivisibleLaws.{xor_apart}}
 use Rattle.p25_gf64.specs.{Field.{power}, Product.{product, product_by, product_power, times_x}, ProductLaws.{all_below, all_below_at}, Symbol.{number, alpha}, Gf64.{gf64}, declared.symbol.Sym.{Sym}}
 use Rattle.p25_gf64.proofs.{FieldLaws.{add_zero, zero_add, zero_mul}, SymbolLaws.{number_zero, number_alpha, number-add, number-mul, number-power}}
-use Rattle.p25_bch_nid.specs.{BitValueLaws.{bit_value, bit_value-append}, RemainderValueLaws.{number_value, number_value-suc, number_value-zero, number_value-xor}}
+use Rattle.p25_reed_solomon.{specs.BitValues.{bit_value, number_value}, proofs.{BitValuesLaws.{bit_value-append}, RemainderValuesLaws.{number_value-suc, number_value-zero, number_value-xor}}}
 use Rattle.p25_bch_nid.specs.{Bch63FormLaws.{horner, horner-value}, declared.syndromes.TheConstants.{VALUES}}
 
 -- the value of a word of 64 bits at a power of α

@@ -2,7 +2,7 @@
 use Rattle.std.specs.Prelude.{◌≡◌, ℕ, ◌≤◌, Bool, List, length, map}
 use Rattle.p25_gf64.specs.{declared.symbol.Sym.{Sym}, Gf64.{gf64}}
 use Rattle.p25_reed_solomon.specs.Words.{value_of}
-use Rattle.p25_bch_nid.specs.BitValueLaws.{bit_coefficient}
+use Rattle.p25_reed_solomon.specs.BitValues.{bit_coefficient}
 
 -- bits as the symbols 0 and 1
 abbrev pub symbols_of : List Bool → List Sym

@@ -15,9 +15,9 @@ use Rattle.p25_gf64.proofs.SymbolLaws.{number_zero, number_one, number_alpha, nu
 use Rattle.p25_algebra.specs.{Sums.{AreApart}, Series.{coefficient}}
 use Rattle.p25_algebra.proofs.SumLaws.{sum_same}
 use Rattle.p25_bch_nid.specs.Nid.{generator}
-use Rattle.p25_bch_nid.specs.BitValueLaws.{bit_coefficient, bit_value, bit_value-nil, bit_value-cons, bit_value-square, bit_value-places, no_coefficient}
-use Rattle.p25_bch_nid.specs.{RemainderValueLaws.{number_value, number_value-zero, word_value}, Bch63.{IsBch63, symbols_of}}
-use Rattle.p25_reed_solomon.specs.Words.{value_of}
+use Rattle.p25_reed_solomon.specs.{BitValues.{bit_coefficient, bit_value, number_value}, Words.{value_of}}
+use Rattle.p25_reed_solomon.proofs.{BitValuesLaws.{bit_value-nil, bit_value-cons, bit_value-square, bit_value-places, no_coefficient}, RemainderValuesLaws.{number_value-zero, word_value}}
+use Rattle.p25_bch_nid.specs.Bch63.{IsBch63, symbols_of}
 
 -- the generator has degree 47
 pub generator_degree : HasDegree generator 47

@@ -4,7 +4,8 @@ use Rattle.std.proofs.{Common.{ap, sym, ◌∙◌, lit≤, lit<}, lemmas.Bool.{f
 use Rattle.p25_bits.specs.Distance.{distance_by, distance_of}
 use Rattle.p25_gf64.specs.{declared.symbol.Sym.{Sym}, Symbol.{number}, Gf64.{gf64}}
 use Rattle.p25_gf64.proofs.SymbolLaws.{number_zero, number_one, same_from_eq}
-use Rattle.p25_bch_nid.specs.{BitValueLaws.{bit_coefficient}, Bch63.{IsBch63, symbols_of}}
+use Rattle.p25_reed_solomon.specs.BitValues.{bit_coefficient}
+use Rattle.p25_bch_nid.specs.Bch63.{IsBch63, symbols_of}
 use Rattle.p25_reed_solomon.specs.{Words.{IsCode, IsWord, same_symbols}, DistanceLaws.{same_symbols-same}}
 
 -- symbols as bits: 1 is 1, and every other is 0

@@ -5,8 +5,6 @@ pub mod Bch63Readings
 pub mod NidReading
 pub mod NidWord
 -- laws of impls, with no definition to trust
-pub mod BitValueLaws
-pub mod RemainderValueLaws
 pub mod Bch63FormLaws
 pub mod Bch63SymbolLaws
 pub mod Bch63Laws

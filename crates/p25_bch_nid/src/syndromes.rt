@@ -3,7 +3,7 @@
 ghost use Rattle.std.specs.Prelude.{◌≡◌, ℕ, ◌+◌, ◌*◌, ◌/◌, ◌%◌, ◌^◌, ◌<◌, length};
 ghost use Rattle.p25_gf64.specs.{Field.{power}, Symbol.{alpha, number}, Gf64.{gf64}};
 ghost use Rattle.p25_algebra.specs.Series.{coefficient};
-ghost use Rattle.p25_bch_nid.specs.RemainderValueLaws.{number_value};
+ghost use Rattle.p25_reed_solomon.specs.BitValues.{number_value};
 
 use p25_bits::sums;
 use p25_gf64::Sym;

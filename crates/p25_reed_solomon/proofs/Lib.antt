@@ -12,3 +12,5 @@ pub mod PackedSteps
 pub mod WrongLaws
 pub mod TurnedLaws
 pub mod EncodingLaws
+pub mod BitValuesLaws
+pub mod RemainderValuesLaws

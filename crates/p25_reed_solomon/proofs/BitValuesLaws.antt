@@ -7,18 +7,9 @@ use Rattle.p25_code.proofs.WeightLaws.{sum_of_words, length-sum_of_words}
 use Rattle.p25_gf64.specs.Field.{Field, power}
 use Rattle.p25_gf64.proofs.FieldLaws.{add_assoc, add_zero, zero_add, add_self, add_twice, add_swap, mul_comm, mul_assoc, mul_left_comm, mul_one, mul_add, add_mul, zero_mul}
 use Rattle.p25_gf64.proofs.PowerLaws.{power-add, power_of_mul}
+use Rattle.p25_reed_solomon.specs.BitValues.{bit_coefficient, bit_value}
 use Rattle.p25_algebra.specs.{Sums.{sum_below, AreApart}, Series.{coefficient, value_at}}
 use Rattle.p25_algebra.proofs.{SumLaws.{sum-none, sum_first, sum_same, sum_reverse}, ValueLaws.{few_zeros}}
-
--- a bit as a coefficient
-abbrev pub bit_coefficient : {F : Type 0} → Field F → Bool → F
-bit_coefficient K true = K.one
-bit_coefficient K false = K.zero
-
--- the value at x of the polynomial whose coefficients are the bits, the first the highest
-unfoldable pub bit_value : {F : Type 0} → Field F → F → List Bool → F
-bit_value K x [] = K.zero
-bit_value K x (bit ∷ bits) = K.add (K.mul (bit_coefficient K bit) (power K x (length bits))) (bit_value K x bits)
 
 module _ {F : Type 0} (K : Field F) where
   open K use {zero as 𝟘, one as 𝟙, add as ◌⊕◌, mul as ◌⊗◌}
