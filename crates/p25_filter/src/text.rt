@@ -5,7 +5,7 @@ ghost use Rattle.std.specs.Prelude.{◌≡◌, ◌+◌, ◌≤◌, ◌++◌, [],
 use arrayvec::ArrayVec;
 use std::marker::Model;
 
-/// A text of at most 24,576 octets: three times as many as a line has at most.
+/// A text of at most 24,576 octets: three times the most of a line.
 #[derive(Drop)]
 pub struct Text {
     octets: ArrayVec<u8, 24_576>,
