@@ -1,4 +1,4 @@
-//! The work of `build`: each line of the input as the unit that it describes.
+//! The work of `build`: each line of the input as the data unit that it describes.
 
 ghost use Rattle.std.specs.Prelude.{◌≡◌, []};
 ghost use Rattle.p25_units.specs.Units.{IsSendableBody, image_octets};
@@ -11,7 +11,7 @@ use p25_status::Status;
 use p25_text::read_line;
 use p25_units::{Frame, Unit, image};
 
-// The units that the lines of an input describe, with one status symbol everywhere.
+// The data units that the lines of an input describe, with one status symbol everywhere.
 #[derive(Drop)]
 pub(crate) struct Build {
     pub(crate) status: Status,
@@ -33,7 +33,8 @@ impl LineMachine for Build {
     fn close(&self, _text: &mut Text) {}
 }
 
-// Puts the octets of a unit's image with one status symbol everywhere into an empty text. No slot of a packet (PDU) is Bad.
+// Writes to an empty text the octets of a data unit's image with one status symbol everywhere. It requires that no slot
+// of a packet (PDU) is `Bad`.
 fn put_image(unit: Unit, status: Status, text: &mut Text)
     requires sendable { IsSendableBody unit.body }
     requires empty { text.old ≡ [] }

@@ -1,4 +1,4 @@
-//! The work of `stations`, `fragments` and `duplex`: each line of the input as the event of a world of stations that it tells of.
+//! The work of `stations`, `fragments` and `duplex`: each line of the input is an event of a world of stations.
 
 ghost use Rattle.std.specs.Prelude.{◌≡◌, ◌++◌, []};
 ghost use Rattle.p25_filter.specs.LineRules.{IsLineTaken};
@@ -23,7 +23,7 @@ pub(crate) enum ScriptWorld {
     Duplex(DuplexWorld),
 }
 
-// The machine over the lines of a script, with room for the two parts of the text of a step.
+// The machine over the lines of a script, with capacity for the two parts of the text of a step.
 #[derive(Drop)]
 pub(crate) struct Script {
     world: ScriptWorld,
@@ -40,7 +40,7 @@ impl Model for Script {
 }
 
 impl Script {
-    // Answers the machine over the lines of a script whose events happen in this world.
+    // Returns the machine over the lines of a script whose events happen in this world.
     pub(crate) fn new(world: ScriptWorld) -> Script
         ensures { result ≡ state_of world }
     {
@@ -82,7 +82,7 @@ impl LineMachine for Script {
     }
 }
 
-// Puts a line into an empty text.
+// Writes a line to an empty text.
 fn put_line(line: &Line, text: &mut Text)
     requires { text.old ≡ [] }
     ensures { text.new ≡ line.now }
@@ -92,7 +92,7 @@ fn put_line(line: &Line, text: &mut Text)
     text.put(line.octets());
 }
 
-// Puts two lines into an empty text, one after the other.
+// Writes two lines to an empty text, one after the other.
 fn put_parts(out: &Line, behind: &Line, text: &mut Text)
     requires { text.old ≡ [] }
     ensures { text.new ≡ out.now ++ behind.now }
@@ -103,7 +103,7 @@ fn put_parts(out: &Line, behind: &Line, text: &mut Text)
     text.put(behind.octets());
 }
 
-// Takes a line of `stations`. Events and steps are large: so those of a script are apart from those of the others.
+// Takes a line of `stations`. Events and steps are large, so those of a script are apart from those of the others.
 #[inline(never)]
 #[tactic(auto, unfolding(p25_line::specs::LineReadings::line_read))]
 fn take_event(
@@ -177,7 +177,7 @@ fn take_duplex(
     }
 }
 
-// Puts the lines that close a run into an empty text: one of each side, and one with the number of false passes.
+// Writes to an empty text the lines that close a run: one of each side, and one with the number of false passes.
 #[tactic(auto, unfolding(crate::specs::Outputs::duplex_closing_lines))]
 fn put_closing_lines(world: &DuplexWorld, text: &mut Text)
     requires { text.old ≡ [] }
