@@ -1,4 +1,4 @@
--- Bits that are written, one piece after the other, are those of the recording.
+-- Bits that are written, one chunk after the other, are those of the recording.
 use Rattle.std.proofs.Common.{◌≡◌, ℕ, ◌+◌, ◌-◌, ◌*◌, ◌/◌, ◌^◌, ◌<◌, ◌≤◌, Bool, true, false, List, [], ◌++◌, length, take, drop, Option, Some, None, refl, ap, ◌∙◌, arith, append_assoc, append-nil, length-append, length-drop}
 use Rattle.std.proofs.{KnownBytes.{Appends-nil, Appends-trans}, Math.Seq.{take-add}, lemmas.List.{drop-append-le, drop-drop, take-append-le, take_all, take_rest}}
 use Rattle.std.specs.{Prelude.{IfSome}, Io.KnownBytes.{Appends, Consumes, IsAtEnd}}

@@ -1,8 +1,9 @@
-//! Writes the recording on standard input under another network access code (NAC): each whole unit in its place, with that code
-//! and repaired, and all other bits as they came.
+//! Writes the recording on standard input under another network access code (NAC): each whole data unit at its
+//! position, with that code and repaired, and all other bits as received.
 //!
-//! What this program shows is how a unit is changed and sent again. An item comes with its bits; those of a whole unit are
-//! replaced by the image of its frame under the other code. No item changes its length, so each stays where it was.
+//! This program shows how a data unit is changed and retransmitted. An item arrives with its bits; those of a whole
+//! data unit are replaced by the image of its frame under the other code. No item changes its length, so each keeps its
+//! position.
 #![tactic(auto)]
 
 ghost use Rattle.std.specs.{Prelude.{◌≡◌, ◌+◌, ◌-◌, ◌*◌, ◌^◌, ◌<◌, ◌++◌, [], false, length, IfSome, OnOk}, Io.KnownBytes.{Appends}};
@@ -20,10 +21,10 @@ use std::io::{Read, Write};
 #[cfg(test)]
 mod tests;
 
-/// The network access code (NAC) under which units are sent again.
+/// The network access code (NAC) under which data units are retransmitted.
 const NETWORK: u16 = 0x2A1;
 
-/// How many bits are written at once, at most.
+/// The most bits that are written at once.
 const PIECE: usize = 4_096;
 
 fn main(rt: HostRuntime) -> io::Result<()> {
@@ -32,8 +33,8 @@ fn main(rt: HostRuntime) -> io::Result<()> {
     repeat_recording(&mut input, &mut output)
 }
 
-// Writes a recording again, item by item as it comes: of fewer octets than there are reads, where the reader tells what is left and the
-// writer what it holds, exactly the octets of its bits that are sent again.
+// Writes a recording again, item by item as it arrives. If there are fewer octets than reads, the reader exposes its
+// remaining octets and the writer its contents, the output is exactly the octets of its retransmitted bits.
 fn repeat_recording<R: Read, W: Write>(input: &mut R, output: &mut W) -> io::Result<()>
     ensures { OnOk result (IfSome (R.remaining input.old) (λ octets. length octets < 2 ^ 32 - 1
         → Appends (W.contents output.old) (W.contents output.new) (recording_repeated octets))) }
@@ -41,7 +42,7 @@ fn repeat_recording<R: Read, W: Write>(input: &mut R, output: &mut W) -> io::Res
     let mut scanner = Scanner::new();
     let mut page = BitBuf::new();
     let mut octets = [0; 4_096];
-    // A scanner takes up to 2^60 bits: so many reads give fewer than 2^47.
+    // A scanner takes up to 2^60 bits, and this number of reads returns fewer than 2^47.
     for _ in 0..u32::MAX {
         let count = input.read(&mut octets)?;
         if count == 0 {
@@ -52,7 +53,7 @@ fn repeat_recording<R: Read, W: Write>(input: &mut R, output: &mut W) -> io::Res
     write_last(&mut scanner, &mut page, output)
 }
 
-// Pushes octets, a few at a time, and writes what each few decide.
+// Pushes octets, a few at a time, and writes the output that each few decide.
 fn scan<W: Write>(
     octets: &[u8],
     scanner: &mut Scanner,
@@ -78,7 +79,7 @@ fn scan<W: Write>(
     Ok(())
 }
 
-// Says that no octet comes after those so far, and writes what that decides. Bits that fill no octet stay on the page.
+// Ends the input, and writes the output that the end decides. Bits that fill no octet stay on the page.
 fn write_last<W: Write>(scanner: &mut Scanner, page: &mut BitBuf, output: &mut W) -> io::Result<()>
     requires { length page.old < 8 }
     ensures { OnOk result (AreWritten (W.contents output.old) (page.old ++ bits_due scanner.old []) (W.contents output.new) page.new) }
@@ -87,7 +88,7 @@ fn write_last<W: Write>(scanner: &mut Scanner, page: &mut BitBuf, output: &mut W
     write_items(scanner, page, output)
 }
 
-// Writes the bits of each item that the scanner can give, until it can give no more. Fewer than eight bits stay on the page.
+// Writes the bits of each item that the scanner can return, until none is left. Fewer than eight bits stay on the page.
 fn write_items<W: Write>(scanner: &mut Scanner, page: &mut BitBuf, output: &mut W) -> io::Result<()>
     requires { length page.old < 8 }
     ensures drained { OnOk result (given scanner.new ≡ []) }
@@ -104,7 +105,7 @@ fn write_items<W: Write>(scanner: &mut Scanner, page: &mut BitBuf, output: &mut 
     Ok(())
 }
 
-// Sets the bits of an item to those that are sent again.
+// Replaces the bits of an item by those that are retransmitted.
 fn repeat(item: &Item, raw: &mut BitBuf)
     requires { IsSoundItem item.now }
     ensures { raw.new ≡ repeated item.now raw.old }

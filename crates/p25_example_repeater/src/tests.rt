@@ -4,13 +4,13 @@ use super::{repeat, write_bits};
 use p25_bits::BitBuf;
 use p25_stream::{Item, Scanner};
 
-// A terminator (TDU) of NAC 293 hex with the status symbol 1, with one wrong bit in its sync.
+// A terminator (TDU) of NAC 293 hex with the status symbol 1, with one bit error in its sync.
 const TERMINATOR: [u8; 18] = [
     0x55, 0x75, 0xF5, 0xFF, 0x77, 0xFE, 0x29, 0x33, 0x39, 0x5D, 0xDC, 0xA3, 0x3B, 0x5B, 0x80, 0x00,
     0x00, 0x01,
 ];
 
-// Whether the item of the terminator is sent again repaired, under the code 2A1 hex and with its status symbols.
+// Whether the item of the terminator is retransmitted repaired, under the code 2A1 hex and with its status symbols.
 fn is_repeated() -> bool {
     let mut scanner = Scanner::new();
     let mut raw = BitBuf::new();
@@ -42,7 +42,7 @@ fn a_terminator_is_repeated(rt: HostRuntime) {
     assert!(rt; is_repeated());
 }
 
-// Whether the bits of a gap stay as they are.
+// Whether the bits of a gap are unchanged.
 fn is_left() -> bool {
     let mut raw = BitBuf::new();
     raw.put_field(5, 3);
@@ -61,7 +61,7 @@ fn a_gap_is_left(rt: HostRuntime) {
     assert!(rt; is_left());
 }
 
-// So many bits 1.
+// This number of bits 1.
 fn ones(count: usize) -> BitBuf {
     let mut bits = BitBuf::new();
     for _bit in 0..count {
@@ -72,8 +72,8 @@ fn ones(count: usize) -> BitBuf {
     bits
 }
 
-// How many octets are written of so many bits 1 behind those on the page, and how many bits stay there; none where a bit is
-// changed.
+// The number of octets written for `count` bits 1 after those on the page, and the number of bits that stay there; none
+// if a bit is changed.
 fn written(before: usize, count: usize) -> Option<(usize, usize)> {
     let (mut page, bits) = (ones(before), ones(count));
     if page.len() >= 8 {
@@ -92,7 +92,7 @@ fn written(before: usize, count: usize) -> Option<(usize, usize)> {
     Some((count, page.len()))
 }
 
-// Bits on the page and behind them, the octets that are written, and the bits that stay.
+// Bits on the page and after them, the octets that are written, and the bits that stay.
 const ROWS: [(usize, usize, usize, usize); 6] = [
     (0, 0, 0, 0),
     (0, 20, 2, 4),
