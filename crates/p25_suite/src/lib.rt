@@ -1,4 +1,4 @@
-//! Tests of the whole tool, over recordings and lines of every kind of unit. There is nothing here but tests.
+//! Tests of the whole tool, over recordings and lines of every type of data unit. This crate contains only tests.
 #![tactic(auto)]
 
 #[cfg(test)]
