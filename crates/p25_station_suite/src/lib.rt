@@ -1,4 +1,5 @@
-//! Tests of the stations: whole scripts of each command, and reads and writes that fail. There is nothing here but tests.
+//! Tests of the stations: whole scripts of each command, and reads and writes that fail. This crate contains only
+//! tests.
 #![tactic(auto)]
 
 #[cfg(test)]
