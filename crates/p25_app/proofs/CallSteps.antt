@@ -1,4 +1,4 @@
--- The end of a line, by whether there is a line; and what was told, by whether the write failed.
+-- The end of a line, by whether there is a line; and the written text, by whether the write failed.
 use Rattle.std.proofs.{Common.{false, ◌==◌, ◌≡◌, ℕ, ◌<◌, ◌≤◌, List, [], ◌∷◌, ◌++◌, length, Result, inl, inr, Ok, Err, refl, sym, subst, arith}, lemmas.List.{take_all}}
 use Rattle.std.specs.Prelude.{OnOk, OnErr}
 use Rattle.p25_io.specs.{Events.{Event, Wrote, WriteFailed}, declared.failed.Failed.{Failed}}

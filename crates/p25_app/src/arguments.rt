@@ -9,10 +9,10 @@ use std::env::Args;
 use std::io;
 use std::io::ErrorKind;
 
-/// Answers the words of a call: its arguments but the first, which is the program's own name.
+/// Returns the words of a call: its arguments but the first, which is the program's own name.
 ///
-/// Arguments that cannot be read are the one word `?`, which names no command. `None` comes where there was not enough memory for the
-/// arguments.
+/// Arguments that cannot be read are the one word `?`, which names no command. `None` is returned if the allocation for
+/// the arguments failed.
 pub fn words_of(arguments: io::Result<Args>) -> Option<Words>
     ensures { result ≡ words_given arguments }
 {
@@ -25,7 +25,7 @@ pub fn words_of(arguments: io::Result<Args>) -> Option<Words>
     }
 }
 
-// The arguments without the first.
+// Returns the arguments without the first.
 fn without_name(mut arguments: Args) -> Args
     ensures { into_iter_items result ≡ drop 1 (into_iter_items arguments) }
 {
@@ -33,7 +33,7 @@ fn without_name(mut arguments: Args) -> Args
     arguments
 }
 
-// The words that arguments are.
+// Returns the words of arguments.
 fn words_from(arguments: Args) -> Words
     ensures { result ≡ fold added [] (map string_bytes (into_iter_items arguments)) }
 {
@@ -44,7 +44,7 @@ fn words_from(arguments: Args) -> Words
     words
 }
 
-// The words of arguments that cannot be read.
+// Returns the words for arguments that cannot be read.
 fn unreadable_words() -> Words
     ensures { result ≡ codes "?" ∷ [] }
 {

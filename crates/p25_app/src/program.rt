@@ -16,12 +16,13 @@ use std::env::Args;
 use std::io;
 use std::io::{Read, Write};
 
-/// Makes one call of the program, and answers its end.
+/// Makes one call of the program, and returns its end.
 ///
-/// The words are the arguments but the first. The events that stand on the streams afterwards, in their order and with nothing beside
-/// them, are those of one run of these words, as `run_on` of p25_tool has it; where there was not enough memory for the arguments there
-/// are none. What they come to is `stream_laws` of p25_tool. One event is made on `errors`: a write of the line of the outcome, which is
-/// whole and flushed, or failed. The end has the status of the outcome. No event was made on the streams or on `errors` before.
+/// The words are the arguments but the first. The events on the streams afterwards, in their order and with no others,
+/// are those of one run of these words, by `run_on` of p25_tool; if the allocation for the arguments failed there are
+/// none. `stream_laws` of p25_tool states their consequences. One event is made on `errors`: a write of the line of the
+/// outcome, which is whole and flushed, or failed. The end has the status of the outcome. It requires that no event was
+/// made on the streams or on `errors` before.
 pub fn call<R: Read, W: Write, N: Read, E: ErrorWriter>(
     alloc: Global,
     arguments: io::Result<Args>,

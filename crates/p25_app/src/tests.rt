@@ -1,4 +1,4 @@
-//! The end of a call whose arguments cannot be read, and the line of errors of each outcome.
+//! The end of a call whose arguments cannot be read, and the error line of each outcome.
 
 use super::arguments::words_of;
 use super::error_line::{ErrorWriter, tell};
@@ -12,7 +12,7 @@ use std::process::{ExitCode, Termination};
 
 impl ErrorWriter for &mut Vec<u8> {}
 
-// Whether this is the line of errors of an outcome.
+// Whether this is the error line of an outcome.
 fn is_told(alloc: Global, outcome: &Outcome, text: &[u8]) -> bool {
     let mut written = Vec::new(alloc);
     let mut errors = Streams::new(b"".as_slice(), &mut written);
@@ -40,7 +40,7 @@ fn arguments_that_cannot_be_read(rt: HostRuntime) {
     assert!(rt; words_of(Err(io::Error::from(ErrorKind::InvalidData))).is_some());
 }
 
-// A call without arguments that can be read: its line of errors, its status, and an input that nobody reads.
+// A call without readable arguments: its error line, its status, and an input that is not read.
 #[test]
 fn ends_of_calls(rt: HostRuntime) {
     let rows: [(ErrorKind, &[u8], u8); 2] = [

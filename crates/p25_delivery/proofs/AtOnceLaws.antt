@@ -1,4 +1,4 @@
--- Packets that are heard as they were sent: the whole packet of a message delivers it, and an ACK is heard. By the rules.
+-- Packets that are received as transmitted: the whole packet of a message delivers it, and an ACK is received. By the rules.
 use Rattle.std.proofs.Common.{◌≡◌, ℕ, zero, suc, ◌+◌, ◌%◌, ◌<◌, ◌≤◌, ◌⊎◌, inl, inr, true, false, eqb, List, [], ◌∷◌, ◌++◌, length, map, Option, Some, None, refl, ap, ap₂, sym, ◌∙◌, subst, arith}
 use Rattle.std.proofs.{lemmas.List.{map-append}, lemmas.Bool.{cases_lt, cond-true, cond-false, and_from, eq-eqb, ne_eqb}}
 use Rattle.p25_bits.specs.Numbers.{each_below}

@@ -1,4 +1,4 @@
--- An offer, a timeout and a reopening keep a delivery in a phase: each phase in turn, by what the sender answers there.
+-- An offer, a timeout and a reopening keep a delivery in a phase: each phase in turn, by the result of the sender there.
 use Rattle.std.proofs.{Common.{◌≡◌, ℕ, ◌+◌, ◌%◌, ◌<◌, ◌≤◌, ◌⊎◌, inl, inr, Bool, true, false, List, [], ◌∷◌, ◌++◌, length, Option, Some, refl, ap, sym, ◌∙◌, subst, arith}, lemmas.Option.{IfSome_then}}
 use Rattle.std.specs.Prelude.{IfSome}
 use Rattle.p25_packet_blocks.specs.declared.packet.Packet.{Packet}

@@ -1,5 +1,5 @@
--- A message is read back of its blocks, in whatever order they come. By recursion on the slots: a block that is put stays,
--- as only the same block can come to its place again.
+-- A message is read back from its blocks, in whatever order they arrive. By recursion on the slots: a stored block stays, because only the same block
+-- can come to its entry again.
 use Rattle.std.proofs.Common.{◌≡◌, ℕ, zero, suc, ◌+◌, ◌-◌, ◌*◌, ◌<◌, ◌≤◌, inl, inr, Bool, true, false, cond, List, [], ◌∷◌, ◌++◌, length, take, drop, get_or, set, replicate, Option, Some, None, refl, ap, sym, ◌∙◌, arith, length-append, zero-add}
 use Rattle.std.proofs.lemmas.List.{get_or-set_same, get_or-set_other, ext_get_or, take_at, drop_at, length-replicate, take-append-le, append-nil}
 use Rattle.std.proofs.lemmas.Bool.{cases_eq, cond-true, and_from, eq-eqb, le-leb, lt-ltb}

@@ -1,4 +1,4 @@
--- The counts of sessions in any run: by what is outstanding, each event keeps the numbers sent and acknowledged together.
+-- The counts of sessions in any run: by the outstanding packet, each event keeps the relation of the numbers sent and acknowledged.
 use Rattle.std.proofs.{Common.{◌≡◌, ℕ, ◌+◌, ◌⊎◌, inl, inr, Bool, true, false, cond, List, [], ◌∷◌, ◌++◌, length, refl, ap, sym, subst, arith, length-append}, lemmas.List.Elements.{All-push}}
 use Rattle.p25_packet_blocks.specs.declared.packet.Packet.{Packet}
 use Rattle.p25_delivery.specs.{MessageBlocks.{block_count}, SentPackets.{message_packet, opening_packet}, Halves.{Sending}}

@@ -1,5 +1,5 @@
--- A packet that is heard and true to the one sent keeps a delivery in a phase: each phase in turn, by what the station answers
--- there. And so does every event of a clean run.
+-- A received packet that is true to the transmitted one keeps a delivery in a phase: each phase in turn, by the result of the station there. And so
+-- does every event of a clean run.
 use Rattle.std.proofs.Common.{◌≡◌, ℕ, ◌+◌, ◌%◌, ◌<◌, ◌≤◌, ◌⊎◌, inl, inr, Bool, true, List, [], ◌∷◌, length, Option, Some, None, refl, ap, sym, ◌∙◌, subst, arith, length-append}
 use Rattle.std.proofs.lemmas.Option.{IfSome_then, same_Some}
 use Rattle.std.specs.Prelude.{IfSome}

@@ -1,4 +1,4 @@
--- Whatever happens at a delivery, each session that ends was the present one. By the rules, each answer in turn.
+-- Whatever happens in a delivery, each session that ends was the present one. By the rules, each result in turn.
 use Rattle.std.proofs.Common.{Bool, false, List, ℕ, length, true}
 use Rattle.p25_delivery.specs.{Halves.{Sending, Receiving}, SenderRules.{offered, timed_out, sender_heard, reopened, is_opening}, ReceiverRules.{receiver_heard}}
 use Rattle.p25_delivery.specs.HalfRules.{after_offer, after_timeout, after_reopening, after_data, after_answer}

@@ -1,5 +1,5 @@
--- Each call keeps what a half of a station keeps, and what it sends can be sent. By what is outstanding, each answer of the
--- sender or the receiver in turn.
+-- Each call keeps the invariant of a half of a station, and its transmissions are sendable. By the outstanding packet, each result of the sender or
+-- the receiver in turn.
 use Rattle.std.proofs.Common.{◌≡◌, ℕ, ◌+◌, ◌<◌, ◌≤◌, inl, inr, true, false, List, [], ◌∷◌, ◌++◌, length, Option, refl, ap, sym, subst, ◌∙◌, arith, length-append}
 use Rattle.std.specs.Prelude.{IfSome}
 use Rattle.p25_packet_blocks.specs.{declared.packet.Packet.{Packet}, Sendable.{IsSendable}}

@@ -1,4 +1,4 @@
--- The fields of the headers that stations send. By arithmetic on their octets.
+-- The fields of the headers that stations transmit. By arithmetic on their octets.
 use Rattle.std.proofs.Common.{◌≡◌, ℕ, ◌+◌, ◌*◌, ◌/◌, ◌<◌, Bool, true, false, eqb, refl, ap, arith}
 use Rattle.p25_packet_blocks.specs.Heads.{head_is_full, head_blocks, head_pad, head_format, head_llid, head_syn, head_number, response_class, response_kind, response_status, confirmed_head, response_head, opening_head}
 

@@ -1,5 +1,5 @@
--- The phases of a session: nothing is outstanding; a message is, and has not arrived or has; the opening packet is. And that the
--- session is orderly in each. s stands for the present session, and b for the number of its first message.
+-- The phases of a session: nothing is outstanding; a message is, and was not received or was; the opening packet is. And that the session is orderly
+-- in each. s represents the present session, and b the number of its first message.
 use Rattle.std.proofs.Common.{◌≡◌, ℕ, ◌+◌, ◌%◌, ◌<◌, ◌≤◌, ◌⊎◌, inl, inr, Bool, false, List, [], ◌∷◌, ◌++◌, length, Option, Some, None, ap, sym, ◌∙◌, subst, arith, length-append}
 use Rattle.std.proofs.{lemmas.List.{append-nil}, lemmas.List.Elements.{All-push}}
 use Rattle.std.specs.Prelude.{IfSome}

@@ -1,5 +1,4 @@
--- Blocks in their places: what slots one after another put there, and the octets of all. By recursion on the slots and on
--- the places.
+-- Blocks in their entries: those that slots one after another store there, and the octets of all. By recursion on the slots and on the entries.
 use Rattle.std.proofs.{Common.{◌≡◌, ℕ, suc, ◌+◌, Bool, true, false, cond, List, [], ◌∷◌, ◌++◌, length, take, Option, Some, None, refl, ap, sym, ◌∙◌, append_assoc}, lemmas.List.{append-nil}}
 use Rattle.std.proofs.Math.ListN.{length-set}
 use Rattle.std.specs.Prelude.{slice_get, slice_set, nat_lt}

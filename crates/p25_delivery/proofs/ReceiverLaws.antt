@@ -1,4 +1,4 @@
--- What a receiver answers to the packets of a clean delivery. By the rules, each test decided by what the packet carries.
+-- The responses of a receiver to the packets of a clean delivery. By the rules, each test decided by the contents of the packet.
 use Rattle.std.proofs.Common.{◌≡◌, ℕ, ◌+◌, ◌%◌, ◌<◌, ◌⊎◌, inl, inr, Bool, true, false, cond, eqb, ◌&&◌, List, [], ◌∷◌, length, get_or, Option, Some, None, refl, ap, ap₂, sym, ◌∙◌, subst, arith}
 use Rattle.std.proofs.{lemmas.List.{get_or-replicate, length-replicate}, lemmas.Option.{slice_get-get_or}, lemmas.Bool.{cases_eq, cond-true, cond-false, and_from, eq-eqb, ne_eqb}}
 use Rattle.std.specs.Prelude.{slice_get, IfSome}

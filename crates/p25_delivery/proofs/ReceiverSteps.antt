@@ -1,4 +1,4 @@
--- What a receiver does once the blocks of a packet are in their places. By the definitions.
+-- The results of a receiver after the blocks of a packet are stored in their entries. By the definitions.
 use Rattle.std.proofs.Common.{◌≡◌, ℕ, List, Option, Some, None, refl, ap, sym, ◌∙◌}
 use Rattle.p25_packet_blocks.specs.{Parts.{BlockParts}, Heads.{head_number}, ConfirmedParts.{ConfirmedParts}, declared.block.Slot.{Slot}}
 use Rattle.p25_delivery.specs.{MessageBlocks.{unpadded}, Places.{put_slots, all_octets}, Halves.{Keeping, Receiving}, ReceiverRules.{finished, completed, filled}}

@@ -1,5 +1,5 @@
--- What a receiver keeps and answers, whatever it hears: V(R) has three bits, at most 127 blocks are kept, and its answer can be
--- sent. By the rules, each test taken both ways.
+-- The state and the results of a receiver, whatever it receives: V(R) has three bits, at most 127 blocks are kept, and its response is sendable. By
+-- the rules, each test taken both ways.
 use Rattle.std.proofs.Common.{◌≡◌, ℕ, ◌+◌, ◌-◌, ◌%◌, ◌<◌, ◌≤◌, ◌⊎◌, inl, inr, Bool, true, false, cond, eqb, ◌&&◌, List, ◌++◌, length, map, replicate, Option, Some, None, ap₂, ◌∙◌, arith, length-append}
 use Rattle.std.proofs.{lemmas.List.{length-map, length-replicate}, lemmas.Bool.{cases_lt, cond-true, cond-false, le-leb, leb-true, false_from_ne_true}}
 use Rattle.std.specs.Prelude.{nat_le, is_some, IfSome}

@@ -1,4 +1,4 @@
--- Runs of a machine, and what holds of each entry of a list. One entry after the other.
+-- Runs of a state machine, and properties of each entry of a list. One entry after the other.
 use Rattle.std.proofs.{Common.{◌≡◌, List, [], ◌∷◌, ◌++◌, refl, ap}, lemmas.List.Elements.{All-head, All-tail}}
 use Rattle.std.specs.Prelude.{All}
 use Rattle.p25_delivery.specs.Runs.{run_by, steps_by, MeetAt, EachIs}

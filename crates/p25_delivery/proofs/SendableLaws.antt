@@ -1,5 +1,5 @@
--- The packets that stations send can be sent: their headers have ten octets, and each slot holds a block. By the laws of lists
--- by their places.
+-- The packets that stations transmit are sendable: their headers have ten octets, and each slot holds a block. By the laws of lists by their
+-- positions.
 use Rattle.std.proofs.Common.{◌≡◌, ℕ, zero, suc, ◌+◌, ◌-◌, ◌*◌, ◌/◌, ◌%◌, ◌<◌, ◌≤◌, ◌⊎◌, inl, inr, Bool, true, false, cond, eqb, List, [], ◌∷◌, ◌++◌, length, map, get_or, drop, replicate, refl, ap, sym, ◌∙◌, arith, length-append}
 use Rattle.std.proofs.{lemmas.List.{length-map}, lemmas.Bool.{cond-true, cond-false, le-leb, leb-true, false_from_ne_true}}
 use Rattle.std.proofs.lemmas.List.Elements.{All-nil, All-cons, All-append, All-replicate, All-get_or, All-map, All-take, All-drop}

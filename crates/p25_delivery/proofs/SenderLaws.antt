@@ -1,4 +1,4 @@
--- What a sender answers, by what is outstanding. By the rules, each test taken both ways.
+-- The results of a sender, by its outstanding packet. By the rules, each test taken both ways.
 use Rattle.std.proofs.Common.{◌≡◌, ℕ, ◌+◌, ◌<◌, ◌⊎◌, inl, inr, Bool, true, false, cond, ◌&&◌, List, length, take, Option, Some, None, refl, ap, sym, ◌∙◌, subst, arith}
 use Rattle.std.proofs.lemmas.Bool.{cond-true, cond-false, and_parts, eqb-true}
 use Rattle.std.specs.{Prelude.{nat_le, not}, List.{list_any}}

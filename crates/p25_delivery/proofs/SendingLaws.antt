@@ -1,4 +1,4 @@
--- A sender keeps what every sender keeps, whatever it hears. By the rules, each test taken both ways.
+-- A sender keeps its invariant, whatever it receives. By the rules, each test taken both ways.
 use Rattle.std.proofs.{Common.{◌≡◌, ℕ, ◌+◌, ◌<◌, Bool, true, false, cond, List, length, refl, arith}, lemmas.Bool.Decides.{nat_tests}}
 use Rattle.p25_packet_blocks.specs.{Parts.{PlainParts}, declared.packet.Packet.{Packet}, declared.packet.Packet.TheVariants.{Confirmed, Plain}}
 use Rattle.p25_delivery.specs.{MessageBlocks.{block_count}, SentPackets.{message_packet, blocks_packet, opening_packet}, Halves.{Sending, IsNumbered, IsSending}, Asked.{is_response, is_ack, asked_of}}

@@ -1,4 +1,4 @@
--- The slots of a message's packets, one more block, and the packets made of them. By the laws of lists by their places.
+-- The slots of a message's packets, one more block, and the packets made of them. By the laws of lists by their positions.
 use Rattle.std.proofs.Common.{◌≡◌, ℕ, ◌+◌, ◌-◌, ◌*◌, ◌/◌, ◌<◌, ◌≤◌, ◌⊎◌, inl, inr, Bool, true, false, cond, eqb, List, [], ◌∷◌, ◌++◌, length, map, ap, ap₂, sym, ◌∙◌, arith, length-append}
 use Rattle.std.proofs.{lemmas.List.{map-append, append-nil}, lemmas.Option.{get_or_from_slice_get}}
 use Rattle.std.specs.Prelude.{slice_get, slice_index_or, Some}

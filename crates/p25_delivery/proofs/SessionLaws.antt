@@ -1,5 +1,4 @@
--- The sessions of a delivery: what one more message does to them, and what a mark does. By the parts of lists between marks that lie
--- within them.
+-- The sessions of a delivery: the effect of one more message on them, and that of a mark. By the parts of lists between marks that lie within them.
 use Rattle.std.proofs.{Common.{◌≡◌, ℕ, ◌+◌, ◌-◌, ◌%◌, ◌≤◌, List, [], ◌∷◌, ◌++◌, length, refl, ap, ap₂, sym, ◌∙◌, subst, arith, length-append}, lemmas.List.{drop-append-le, drop_all}}
 use Rattle.std.proofs.lemmas.List.Elements.{All-nil, All-head, All-tail, All-push, All-weaker}
 use Rattle.std.specs.Prelude.{All}

@@ -1,4 +1,4 @@
--- The sessions of a delivery are the whole of its lists: in every run the marks stand in order, and so the parts between them end to end.
+-- The sessions of a delivery make up its lists: in every run the marks are in order, so the parts between them are end to end.
 use Rattle.std.proofs.{Common.{◌≡◌, ℕ, ◌+◌, ◌-◌, ◌≤◌, Bool, false, List, [], ◌∷◌, ◌++◌, length, ap, ◌∙◌, arith, length-append, append-nil, true}, lemmas.List.Sums.{sum_by-cons}}
 use Rattle.std.specs.{Prelude.{sum_by}, List.{flat_map}}
 use Rattle.p25_bits.specs.Bits.{part}

@@ -1,4 +1,4 @@
--- What a response asks of a sender.
+-- The request of a response to a sender.
 use Rattle.std.specs.Prelude.{ℕ, ◌-◌, ◌&&◌, Bool, false, ◌==◌, nat_le, not, List, ◌++◌, length, take, map, replicate, Option, Some, None, if◌then◌else◌}
 use Rattle.std.specs.List.{list_any}
 use Rattle.p25_packet_blocks.specs.Heads.{response_format, head_format, head_llid, response_class, response_kind, response_status}
@@ -22,17 +22,17 @@ is_crc_nack head number = response_class head == crc_nack.0 && response_kind hea
 unfoldable pub is_retry : PacketHead → ℕ → Bool
 is_retry head number = response_class head == retry_class && response_status head == number
 
--- of the blocks of a message, those that have not come, with as many flags as the response has
+-- the blocks of a message that were not received, with as many flags as the response has
 unfoldable pub wanted_flags : ℕ → List Bool → List Bool
 wanted_flags blocks flags = map not (take blocks flags) ++ replicate (length flags - blocks) false
 
--- what flags ask for: nothing where there are fewer of them than blocks, or all blocks have come
+-- the request of flags: nothing if there are fewer of them than blocks, or all blocks were received
 unfoldable pub asked_by_flags : ℕ → Option (List Bool) → Asked
 asked_by_flags blocks None = Nothing
 asked_by_flags blocks (Some flags) =
     if nat_le blocks (length flags) && list_any not (take blocks flags) then Blocks (wanted_flags blocks flags) else Nothing
 
--- what a response asks for while a message with a number and so many blocks is outstanding
+-- the request of a response while a message with a number and a number of blocks is outstanding
 unfoldable pub asked_of : ℕ → ℕ → PlainParts → Asked
 asked_of number blocks response =
     if is_ack response.head number

@@ -1,12 +1,12 @@
--- A delivery of two stations: the half of the one that sends, the half of the other that receives, and the newest transmission of
--- each direction. What each event makes of it, and the sessions of its messages.
+-- A delivery between two stations: the half of the one that sends, the half of the other that receives, and the newest transmission of each
+-- direction. The effect of each event on it, and the sessions of its messages.
 use Rattle.std.specs.Prelude.{ℕ, ◌+◌, ◌*◌, ◌-◌, ◌%◌, List, [], ◌∷◌, length, Option, Some, None}
 use Rattle.p25_bits.specs.Bits.{part}
 use Rattle.p25_delivery.specs.{SenderRules.{offered, timed_out, sender_heard, reopened, is_opening}, ReceiverRules.{receiver_heard}, Runs.{run_by}}
 use Rattle.p25_delivery.specs.Halves.{Outgoing, Incoming, first_outgoing, first_incoming, Mark}
 use Rattle.p25_delivery.specs.HalfRules.{mark_of, after_offer, after_timeout, after_reopening, after_data, after_answer, Packet, StepKind}
 
--- what happens at a delivery: a message is offered, time is up, the session is opened again, or a station hears a packet
+-- an event of a delivery: a message is offered, a timeout, the session is reopened, or a station receives a packet
 pub data Happening : Type 0 where
   Offering : (message : List ℕ) → Happening
   Time_up : Happening
@@ -21,23 +21,23 @@ pub record Delivery : Type 0 where
   pub packet_sent : Option Packet
   pub answer : Option Packet
 
--- a delivery before anything happens
+-- a delivery before the first event
 abbrev pub first_delivery : Delivery
 first_delivery = record { outbound = first_outgoing; inbound = first_incoming; packet_sent = None; answer = None }
 
--- the newest transmission of a direction after a call: what the call sends, or else what it was before
+-- the newest transmission of a direction after a call: that of the call, or otherwise the former one
 unfoldable pub newest_after : Option Packet → Option Packet → Option Packet
 newest_after (Some packet) newest = Some packet
 newest_after None newest = newest
 
--- a delivery after a call of its sending half, or of its receiving half, and what happened
+-- a delivery after a call of its sending half, or of its receiving half, and the type of step
 unfoldable pub with_outbound : Delivery → Outgoing × (StepKind × Option Packet) → Delivery × StepKind
 with_outbound w (o, (kind, packet)) = (record w { outbound = o; packet_sent = newest_after packet w.packet_sent }, kind)
 
 unfoldable pub with_inbound : Delivery → Incoming × (StepKind × Option Packet) → Delivery × StepKind
 with_inbound w (i, (kind, packet)) = (record w { inbound = i; answer = newest_after packet w.answer }, kind)
 
--- the delivery after what happens, and the kind of step that this was
+-- the delivery after an event, and the type of its step
 unfoldable pub happens : Delivery → Happening → Delivery × StepKind
 happens w (Offering message) = with_outbound w (after_offer w.outbound message (offered w.outbound.sender message))
 happens w Time_up = with_outbound w (after_timeout w.outbound (timed_out w.outbound.sender))
@@ -46,7 +46,7 @@ happens w Opening_again =
 happens w (Data_heard packet) = with_inbound w (after_data w.inbound (receiver_heard w.inbound.receiver packet))
 happens w (Answer_heard packet) = with_outbound w (after_answer w.outbound (sender_heard w.outbound.sender packet))
 
--- all that happens, in order
+-- all events, in order
 abbrev pub delivery_run : Delivery → List Happening → Delivery
 delivery_run w events = run_by happens w events
 
@@ -76,7 +76,7 @@ session_between from to w =
       acknowledged = to.acknowledged - from.acknowledged;
     }
 
--- the sessions of a delivery from a mark on: each lies between two marks that are neighbors, and the last after all marks
+-- the sessions of a delivery from a mark on: each is between two neighbouring marks, and the last after all marks
 unfoldable pub sessions_from : Mark → List Mark → Delivery → List Session
 sessions_from from [] w = session_between from (present_mark w) w ∷ []
 sessions_from from (mark ∷ marks) w = session_between from mark w ∷ sessions_from mark marks w
@@ -90,11 +90,11 @@ unfoldable pub last_mark : Mark → List Mark → Mark
 last_mark from [] = from
 last_mark from (mark ∷ marks) = last_mark mark marks
 
--- the present session: what was sent, delivered and acknowledged after the last mark
+-- the present session: the messages sent, delivered and acknowledged after the last mark
 abbrev pub present_session : Delivery → Session
 present_session w = session_between (last_mark first_mark w.outbound.marks) (present_mark w) w
 
--- the number of the first message of the present session: each message that was acknowledged in a session before took one
--- number, and each session that ended took five, from that of the message given up to that of the opening packet
+-- the number of the first message of the present session: each message that was acknowledged in a session before took one number, and each session
+-- that ended took five, from that of the message given up to that of the opening packet
 abbrev pub first_number : Delivery → ℕ
 first_number w = ((last_mark first_mark w.outbound.marks).acknowledged + 5 * length w.outbound.marks) % 8

@@ -5,11 +5,11 @@ use Rattle.p25_crc.specs.Values.{crc32_of}
 use Rattle.p25_packet_blocks.specs.Image.{checked_octets}
 pub use Rattle.p25_packet_blocks.specs.Parts.{BlockParts}
 
--- how many blocks of 16 octets carry so many octets and the four of the packet CRC
+-- the number of blocks of 16 octets that carry a number of octets and the four of the packet CRC
 abbrev pub block_count : ℕ → ℕ
 block_count octets = (octets + 19) / 16
 
--- how many octets of 0 stand between a message of so many octets and its packet CRC
+-- the number of octets of 0 between a message of a number of octets and its packet CRC
 abbrev pub pad_count : ℕ → ℕ
 pad_count octets = 16 * block_count octets - 4 - octets
 
@@ -29,8 +29,8 @@ message_block message serial = record { serial = serial; octets = part (16 * ser
 unfoldable pub message_blocks : List ℕ → List BlockParts
 message_blocks message = each_below (block_count (length message)) (message_block message)
 
--- the message in all octets of its blocks, without `pad` pad octets and the packet CRC, the last four: none where that is not the CRC of
--- the others, or the others are fewer than `pad`
+-- the message in all octets of its blocks, without `pad` pad octets and the packet CRC, the last four: none if that is not the CRC of the others, or
+-- the others are fewer than `pad`
 unfoldable pub unpadded : List ℕ → ℕ → Option (List ℕ)
 unpadded octets pad =
     let count = length octets - 4 in

@@ -1,4 +1,4 @@
--- Runs of a machine whose step makes of a state and an event the next state, and tells something.
+-- Runs of a state machine whose step maps a state and an event to the next state and an output.
 use Rattle.std.specs.Prelude.{List, [], ◌∷◌}
 
 -- the state after a list of events
@@ -6,7 +6,7 @@ unfoldable pub run_by : {W E S : Type 0} → (W → E → W × S) → W → List
 run_by step w [] = w
 run_by step w (event ∷ events) = run_by step (step w event).0 events
 
--- what the steps of a list of events tell, in order
+-- the outputs of the steps of a list of events, in order
 unfoldable pub steps_by : {W E S : Type 0} → (W → E → W × S) → W → List E → List S
 steps_by step w [] = []
 steps_by step w (event ∷ events) = (step w event).1 ∷ steps_by step (step w event).0 events

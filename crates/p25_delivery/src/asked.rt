@@ -1,4 +1,4 @@
-//! What a response asks of the sender that waits for it.
+//! The request of a response to the sender that waits for it.
 
 #![tactic(auto, unfolding(crate::specs::Asked::is_response, crate::specs::Asked::is_ack, crate::specs::Asked::asked_by_flags))]
 
@@ -10,12 +10,12 @@ use crate::LLID;
 use crate::sent::{ACK, CRC_NACK, RETRY_CLASS};
 use p25_packet_blocks::{Flags, PacketHead, Plain, RESPONSE_FORMAT, flags_read};
 
-// What a response asks of a sender with a message outstanding.
+// The request of a response to a sender with an outstanding message.
 #[derive(Drop)]
 pub enum Asked {
-    // Nothing, as it is no answer to that message.
+    // Nothing, because it is not a response to that message.
     Nothing,
-    // The message has come: the next one.
+    // The message was received: the next one.
     NextMessage,
     // The whole message again.
     WholeMessage,
@@ -23,21 +23,21 @@ pub enum Asked {
     Blocks(Flags),
 }
 
-// Whether a header is that of a response with the LLID.
+// Returns whether a header is that of a response with the LLID of the stations.
 pub(crate) fn answers(head: PacketHead) -> bool
     ensures { result ≡ is_response head }
 {
     head.format() == RESPONSE_FORMAT && head.llid() == LLID
 }
 
-// Whether a response is the ACK of a number.
+// Returns whether a response is the ACK of a number.
 pub(crate) fn acknowledges(head: PacketHead, number: u8) -> bool
     ensures { result ≡ is_ack head number }
 {
     (head.class(), head.kind()) == ACK && head.status() == number
 }
 
-// What a response asks for while the message with a number and so many blocks is outstanding.
+// Returns the request of a response while the message with a number and `blocks` blocks is outstanding.
 #[tactic(auto, unfolding(crate::specs::Asked::asked_of, crate::specs::Asked::is_ack, crate::specs::Asked::is_retry, crate::specs::Asked::is_crc_nack))]
 pub(crate) fn asked_by(response: &Plain, number: u8, blocks: u8) -> Asked
     requires { blocks ≤ 127 }
@@ -56,7 +56,7 @@ pub(crate) fn asked_by(response: &Plain, number: u8, blocks: u8) -> Asked
     }
 }
 
-// What the flags of a selective retry ask for.
+// Returns the request of the flags of a selective retry.
 fn asked_by_octets(response: &Plain, blocks: u8) -> Asked
     requires { blocks ≤ 127 }
     ensures asked { result ≡ asked_by_flags blocks (flags_of_octets response.now.octets) }
@@ -70,14 +70,14 @@ fn asked_by_octets(response: &Plain, blocks: u8) -> Asked
     }
 }
 
-// Whether there is a flag for each of so many blocks, and one of these is false.
+// Returns whether there is a flag for each of `blocks` blocks, and one of these is false.
 fn misses_a_block(flags: &Flags, blocks: usize) -> bool
     ensures { result ≡ (nat_le blocks (length flags.now) && list_any not (take blocks flags.now)) }
 {
     blocks <= flags.len() && flags.as_slice()[..blocks].contains(&false)
 }
 
-// As many flags, true for each of so many blocks whose flag is false.
+// Returns equally many flags, true for each of `blocks` blocks whose flag is false.
 #[tactic(auto, unfolding(crate::specs::Asked::wanted_flags))]
 fn wanted(flags: &Flags, blocks: usize) -> Flags
     requires { blocks ≤ length flags.now }

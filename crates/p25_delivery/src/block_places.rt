@@ -8,7 +8,8 @@ use arrayvec::ArrayVec;
 use p25_packet_blocks::{Block, Flags, Slot, Slots};
 use std::marker::Model;
 
-// The places of a message's blocks, from 1 to 127 of them, each empty or with its block, and the number of pad octets.
+// The entries for a message's blocks, from 1 to 127 of them, each empty or with its block, and the number of pad
+// octets.
 #[derive(Clone, Debug, PartialEq, Eq, Drop)]
 pub(crate) struct BlockPlaces {
     places: ArrayVec<Option<Block>, 127>,
@@ -26,7 +27,7 @@ impl Model for BlockPlaces {
 }
 
 impl BlockPlaces {
-    // So many empty places, and a pad.
+    // Returns `blocks` empty entries, and a pad.
     pub(crate) fn new(blocks: u8, pad: u8) -> BlockPlaces
         requires some { 0 < blocks }
         requires most { blocks ≤ 127 }
@@ -39,14 +40,14 @@ impl BlockPlaces {
         BlockPlaces { places, pad }
     }
 
-    // Whether there are so many places and this pad.
+    // Returns whether there are this number of entries and this pad.
     pub(crate) fn is_of(&self, blocks: u8, pad: u8) -> bool
         ensures { result ≡ (length self.now.places == blocks && self.now.pad == pad) }
     {
         self.places.len() == blocks as usize && self.pad == pad
     }
 
-    // Puts the Good blocks of slots in their places.
+    // Stores the `Good` blocks of slots in their entries.
     pub(crate) fn put(&mut self, slots: &Slots)
         ensures places { self.new.places ≡ put_slots self.old.places slots.now }
         ensures pad { self.new.pad ≡ self.old.pad }
@@ -58,7 +59,7 @@ impl BlockPlaces {
         }
     }
 
-    // The octets of all blocks, or None where a place is empty.
+    // Returns the octets of all blocks, or `None` if an entry is empty.
     pub(crate) fn octets(&self) -> Option<MessageOctets>
         ensures octets { result ≡ all_octets self.now.places }
         ensures some { IfSome result (λ octets. 16 ≤ length octets) }
@@ -66,14 +67,14 @@ impl BlockPlaces {
         MessageOctets::joined(self.places.as_slice())
     }
 
-    // The number of pad octets.
+    // Returns the number of pad octets.
     pub(crate) fn pad(&self) -> u8
         ensures { result ≡ self.now.pad }
     {
         self.pad
     }
 
-    // A flag for each place, true where a block is held.
+    // Returns a flag for each entry, true if its block is held.
     #[tactic(auto, unfolding(crate::specs::Places::held_flags))]
     pub(crate) fn flags(&self) -> Flags
         ensures { result ≡ held_flags self.now.places }
@@ -87,7 +88,7 @@ impl BlockPlaces {
     }
 }
 
-// Puts a block at the place of its serial number, where there is such a place.
+// Stores a block in the entry of its serial number, if there is such an entry.
 #[tactic(auto, unfolding(crate::specs::Places::put_block))]
 fn put_at(places: &mut ArrayVec<Option<Block>, 127>, block: Block)
     ensures { places.new.items ≡ put_block places.old.items block }

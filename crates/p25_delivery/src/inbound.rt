@@ -10,7 +10,7 @@ use p25_packet_blocks::Packet;
 use std::alloc::{AllocError, Global};
 use std::marker::Model;
 
-/// The half of a station that receives: its receiver, and the messages that were delivered to it.
+/// The half of a station that receives: its receiver, and the messages that it delivered.
 #[derive(Debug, Drop)]
 pub struct Inbound {
     receiver: Receiver,
@@ -30,7 +30,7 @@ impl Model for Inbound {
 }
 
 impl Inbound {
-    /// Answers a half before the first message. It takes no memory.
+    /// Returns a half before the first message, without an allocation.
     pub fn new(alloc: Global) -> Inbound
         ensures { result.state ≡ first_incoming }
     {
@@ -40,15 +40,15 @@ impl Inbound {
         }
     }
 
-    /// Answers the messages that were delivered to it, in order.
+    /// Returns the messages that it delivered, in order.
     pub fn received(&self) -> &MessageList
         ensures { result.now.list ≡ self.now.state.received }
     {
         &self.received
     }
 
-    /// Makes room for 1 to 16 more calls. Answers AllocError exactly where there is not enough memory, which comes only where
-    /// there was no such room; what it keeps stays as it was, and no room is lost.
+    /// Reserves capacity for 1 to 16 more calls. `AllocError` is returned if and only if the allocation fails, which
+    /// can happen only if there was no such capacity; the state and the capacity are unchanged.
     pub fn reserve(&mut self, calls: u32) -> Result<(), AllocError>
         requires some { 0 < calls }
         requires most { calls ≤ 16 }
@@ -60,8 +60,8 @@ impl Inbound {
         self.received.reserve(calls)
     }
 
-    /// Answers what comes of a packet (PDU) that its receiver hears, and the response to send, where there is one: it becomes the
-    /// newest transmission. There is room for a call.
+    /// Passes a packet (PDU) to its receiver, and returns the type of step and the response to transmit, if there is
+    /// one: it becomes the newest transmission. It requires capacity for a call.
     #[tactic(auto, unfolding(crate::specs::HalfRules::after_data))]
     pub fn hear(&mut self, packet: &Packet) -> (StepKind, Option<Packet>)
         requires { 0 < self.old.spare }

@@ -1,10 +1,11 @@
-//! Delivery of messages in confirmed packets (PDU), as a machine: a sender and a receiver, which only answer calls; the two halves
-//! of a station over them; and the laws of a delivery of two halves. What they send is a value, and the air is the caller's.
+//! Delivery of messages in confirmed packets (PDU), as a state machine: a sender and a receiver, which act only when
+//! called; the two halves of a station over them; and the laws of a delivery between two halves. Their transmissions
+//! are values, and the channel belongs to the caller.
 //!
-//! A sender has one message outstanding at most. Its packets carry a number N(S) of three bits, 0 to 7 and then 0 again;
-//! the receiver keeps V(R), the number of the last message that it delivered, and puts the blocks of the next one in their
-//! places until all are there and the packet CRC agrees. All octets stand in the order in which they are sent.
-//! TIA-102.BAAA, Packet Data, Confirmed Delivery; the rules that the standard leaves open are this project's.
+//! A sender has at most one outstanding message. Its packets carry a number N(S) of three bits, 0 to 7 and then 0
+//! again. The receiver keeps V(R), the number of the last message that it delivered. It stores the blocks of the next
+//! one until all are there and the packet CRC agrees. All octets are in the order of transmission. TIA-102.BAAA, Packet
+//! Data, Confirmed Delivery; the rules that the standard leaves open are this project's.
 //!
 //! ```
 //! let mut sender = Sender::new();
@@ -12,8 +13,8 @@
 //! assert!(rt; matches!(&offer, Offer::Taken { blocks: 1, .. }));
 //! ```
 //!
-//! Contracts see a sender, a receiver and the halves as what they keep, and each call as a function of `SenderRules`,
-//! `ReceiverRules` or `HalfRules` that gives the state after it and its answer.
+//! Contracts see a sender, a receiver and the halves as their states, and each call as a function of `SenderRules`,
+//! `ReceiverRules` or `HalfRules` that returns the state after it and its result.
 #![tactic(auto)]
 
 mod asked;

@@ -10,7 +10,7 @@ use p25_messages::Message;
 use p25_packet_blocks::Block;
 use std::marker::Model;
 
-// How many blocks carry a message.
+// Returns the number of blocks that carry a message.
 pub(crate) fn blocks_for(message: &Message) -> u8
     ensures value { result ≡ block_count (length message.now) }
     ensures some { 0 < result }
@@ -19,7 +19,7 @@ pub(crate) fn blocks_for(message: &Message) -> u8
     ((message.octets().len() + 19) / 16) as u8
 }
 
-// How many pad octets stand after a message.
+// Returns the number of pad octets after a message.
 pub(crate) fn pad_for(message: &Message) -> u8
     ensures value { result ≡ pad_count (length message.now) }
     ensures most { result < 16 }
@@ -28,7 +28,8 @@ pub(crate) fn pad_for(message: &Message) -> u8
     (16 * ((count + 19) / 16) - 4 - count) as u8
 }
 
-// The octets that the blocks of a message carry, at most 16 for each of 127: the message, its pad octets of 0, and the packet CRC.
+// The octets that the blocks of a message carry, at most 16 for each of 127: the message, its pad octets of 0, and the
+// packet CRC.
 #[derive(Drop)]
 pub(crate) struct MessageOctets {
     items: ArrayVec<u8, 2032>,
@@ -41,7 +42,7 @@ impl Model for MessageOctets {
 }
 
 impl MessageOctets {
-    // The octets for a message.
+    // Returns the octets for a message.
     #[tactic(auto, unfolding(crate::specs::MessageBlocks::message_octets, p25_packet_blocks::specs::Image::checked_octets))]
     pub(crate) fn of(message: &Message) -> MessageOctets
         ensures list { result ≡ message_octets message.now }
@@ -56,7 +57,7 @@ impl MessageOctets {
         MessageOctets { items }
     }
 
-    // The octets of blocks in their places, or None where a place is empty.
+    // Returns the octets of blocks in their entries, or `None` if an entry is empty.
     pub(crate) fn joined(places: &[Option<Block>]) -> Option<MessageOctets>
         requires { length places.now ≤ 127 }
         ensures octets { result ≡ all_octets places.now }
@@ -70,7 +71,7 @@ impl MessageOctets {
         Some(MessageOctets { items })
     }
 
-    // The block with a serial number.
+    // Returns the block with a serial number.
     pub(crate) fn block(&self, serial: u8) -> Block
         requires serial { serial < 128 }
         requires there { 16 * serial + 16 ≤ length self.now }
@@ -82,7 +83,8 @@ impl MessageOctets {
         Block::new(serial, octets)
     }
 
-    // The message of these octets, where so many are pad octets: None where the packet CRC does not agree, or there are fewer octets.
+    // Returns the message of these octets without `pad` pad octets, or `None` if the packet CRC does not agree or there
+    // are fewer octets.
     #[tactic(auto, unfolding(crate::specs::MessageBlocks::unpadded))]
     pub(crate) fn message(&self, pad: u8) -> Option<Message>
         requires { 4 ≤ length self.now }
@@ -97,7 +99,7 @@ impl MessageOctets {
     }
 }
 
-// The number that four octets write.
+// Returns the number that four octets write.
 fn number_in(octets: &[u8]) -> u32
     requires { length octets.now ≡ 4 }
     ensures { result ≡ octets_number octets.now }

@@ -14,21 +14,21 @@ use p25_packet_blocks::Packet;
 use std::alloc::{AllocError, Global};
 use std::marker::Model;
 
-/// The end of a session: how many messages were sent, delivered and acknowledged up to it.
+/// The end of a session: the numbers of messages sent, delivered and acknowledged up to it.
 #[derive(Clone, Copy, Debug, PartialEq, Eq)]
 pub struct Mark {
-    /// How many messages were sent.
+    /// The number of messages sent.
     pub sent: u64,
-    /// How many messages were delivered.
+    /// The number of messages delivered.
     pub delivered: u64,
-    /// How many messages were acknowledged.
+    /// The number of messages acknowledged.
     pub acknowledged: u64,
 }
 
-/// The half of a station that sends: its sender, the messages that it sent, how many of them were acknowledged, and the ends
-/// of their sessions before the present one.
+/// The half of a station that sends: its sender, the messages that it sent, the number of them that were acknowledged,
+/// and the ends of the sessions before the present one.
 ///
-/// Each call answers what happened, and the packet to send, where there is one: it becomes the newest transmission.
+/// Each call returns the type of step, and the packet to transmit, if there is one: it becomes the newest transmission.
 #[derive(Debug, Drop)]
 pub struct Outbound {
     sender: Sender,
@@ -50,7 +50,7 @@ impl Model for Outbound {
 }
 
 impl Outbound {
-    /// Answers a half before its first message. It takes no memory.
+    /// Returns a half before its first message, without an allocation.
     pub fn new(alloc: Global) -> Outbound
         ensures { result.state ≡ first_outgoing }
     {
@@ -62,29 +62,29 @@ impl Outbound {
         }
     }
 
-    /// Answers the messages that it sent, in order.
+    /// Returns the messages that it sent, in order.
     pub fn sent(&self) -> &MessageList
         ensures { result.now.list ≡ self.now.state.sent }
     {
         &self.sent
     }
 
-    /// Answers how many of its messages were acknowledged.
+    /// Returns the number of its messages that were acknowledged.
     pub fn acknowledged(&self) -> u64
         ensures { result ≡ self.now.state.acknowledged }
     {
         self.acknowledged
     }
 
-    /// Answers the number of sessions of its messages: one more than the number of messages that were given up.
+    /// Returns the number of sessions of its messages: one more than the number of messages that were given up.
     pub fn sessions(&self) -> u64
         ensures { result ≡ length self.now.state.marks + 1 }
     {
         self.marks.len() as u64 + 1
     }
 
-    /// Makes room for 1 to 16 more calls. Answers AllocError exactly where there is not enough memory, which comes only where
-    /// there was no such room; what it keeps stays as it was, and no room is lost.
+    /// Reserves capacity for 1 to 16 more calls. `AllocError` is returned if and only if the allocation fails, which
+    /// can happen only if there was no such capacity; the state and the capacity are unchanged.
     pub fn reserve(&mut self, calls: u32) -> Result<(), AllocError>
         requires some { 0 < calls }
         requires most { calls ≤ 16 }
@@ -97,8 +97,8 @@ impl Outbound {
         self.marks.reserve(calls as usize)
     }
 
-    /// Answers what comes of a message that is offered to its sender: where nothing is outstanding it is taken, and its packet is
-    /// to be sent. There is room for a call.
+    /// Offers a message to its sender, and returns the result: if nothing is outstanding the message is taken, and its
+    /// packet is to be transmitted. It requires capacity for a call.
     pub fn offer(&mut self, message: &Message) -> (StepKind, Option<Packet>)
         requires { 0 < self.old.spare }
         ensures step { (self.new.state, result) ≡ after_offer self.old.state message.now (offered self.old.state.sender message.now) }
@@ -114,8 +114,8 @@ impl Outbound {
         offer.into()
     }
 
-    /// Answers what comes of a timeout: what is outstanding is to be sent again, or the sender is down once 16 transmissions were
-    /// made. It needs no room.
+    /// Passes a timeout to its sender, and returns the result: the outstanding packet is to be transmitted again, or
+    /// the sender is down after 16 transmissions. It needs no capacity.
     pub fn time_out(&mut self) -> (StepKind, Option<Packet>)
         ensures step { (self.new.state, result) ≡ after_timeout self.old.state (timed_out self.old.state.sender) }
         ensures sendable { IfSome result.1 IsSendable }
@@ -124,8 +124,9 @@ impl Outbound {
         self.sender.timeout().into()
     }
 
-    /// Answers what comes of a reopening while so many of its messages were delivered: where the sender is down, the opening
-    /// packet is to be sent, and the session of a message that is given up ends. There is room for a call.
+    /// Reopens the session, and returns the result. `delivered` is the number of its messages that were delivered. If
+    /// the sender is down, the opening packet is to be transmitted, and the session of a message that is given up ends.
+    /// It requires capacity for a call.
     #[tactic(auto, unfolding(crate::specs::HalfRules::after_reopening))]
     pub fn reopen(&mut self, delivered: u64) -> (StepKind, Option<Packet>)
         requires { 0 < self.old.spare }
@@ -150,7 +151,7 @@ impl Outbound {
         reopen.into()
     }
 
-    /// Answers what comes of a packet (PDU) that its sender hears. It needs no room.
+    /// Passes a packet (PDU) to its sender, and returns the result. It needs no capacity.
     pub fn hear(&mut self, packet: &Packet) -> (StepKind, Option<Packet>)
         ensures step { (self.new.state, result) ≡ after_answer self.old.state (sender_heard self.old.state.sender packet.now) }
         ensures sendable { IfSome result.1 IsSendable }
@@ -158,7 +159,7 @@ impl Outbound {
     {
         let heard = self.sender.hear(packet);
         if let SenderHeard::Acknowledged { .. } = heard {
-            // For the prover: no more are acknowledged than were sent, whose number fits.
+            // For the prover: at most as many messages are acknowledged as were sent, and their number fits.
             let _ = self.sent.len();
             self.acknowledged += 1;
         }

@@ -1,4 +1,4 @@
-//! The receiver of confirmed delivery: its state, and its answer to each packet.
+//! The receiver of confirmed delivery: its state, and its response to each packet.
 
 #![tactic(auto, unfolding(crate::specs::ReceiverRules::opening_heard, crate::specs::ReceiverRules::data_heard, crate::specs::ReceiverRules::finished))]
 
@@ -15,7 +15,7 @@ use std::marker::Model;
 /// A receiver of messages.
 #[derive(Clone, Debug, PartialEq, Eq, Drop)]
 pub struct Receiver {
-    // V(R), the number of the last message that was delivered
+    // V(R), the number of the last delivered message
     last: u8,
     kept: Option<BlockPlaces>,
 }
@@ -31,7 +31,7 @@ impl Model for Receiver {
 }
 
 impl Receiver {
-    /// Answers a receiver before its first message: V(R) is 7.
+    /// Returns a receiver before its first message: V(R) is 7.
     pub fn new() -> Receiver
         ensures { result ≡ first_receiving }
     {
@@ -41,8 +41,8 @@ impl Receiver {
         }
     }
 
-    /// Takes a packet that was heard, and answers what came of it, with the response to send. Each answer comes exactly
-    /// where the rule on Syn or one of the rules on numbers, places and the packet CRC says so.
+    /// Receives a packet, and returns the result, with the response to transmit. Each result is determined by the rule
+    /// on Syn or one of the rules on numbers, blocks and the packet CRC.
     #[tactic(auto, unfolding(crate::specs::ReceiverRules::receiver_heard))]
     pub fn hear(&mut self, packet: &Packet) -> Heard
         ensures { (self.new, result) ≡ receiver_heard self.old packet.now }
@@ -59,7 +59,7 @@ impl Receiver {
         }
     }
 
-    // Takes a packet with Syn.
+    // Receives a packet with Syn.
     fn hear_opening(&mut self, head: PacketHead) -> Heard
         ensures { (self.new, result) ≡ opening_heard self.old head }
     {
@@ -75,7 +75,7 @@ impl Receiver {
         }
     }
 
-    // Takes a packet without Syn.
+    // Receives a packet without Syn.
     fn hear_data(&mut self, packet: &Confirmed) -> Heard
         ensures { (self.new, result) ≡ data_heard self.old packet.now }
     {
@@ -96,7 +96,7 @@ impl Receiver {
         }
     }
 
-    // Takes a packet of the next message.
+    // Receives a packet of the next message.
     #[tactic(auto, unfolding(crate::specs::ReceiverRules::filled, crate::specs::ReceiverRules::completed))]
     fn fill(&mut self, packet: &Confirmed) -> Heard
         ensures { (self.new, result) ≡ filled self.old packet.now (keeping_for self.old.kept packet.now.head) }
@@ -121,8 +121,8 @@ impl Receiver {
         }
     }
 
-    // What is kept while a packet of the next message is heard, taken out; or None where the packet is ignored, and then
-    // nothing is taken out.
+    // Takes out the blocks that are kept while a packet of the next message is received. Returns `None` if the packet
+    // is ignored, and then nothing is taken out.
     #[tactic(auto, unfolding(crate::specs::ReceiverRules::keeping_for, crate::specs::ReceiverRules::keeping_full))]
     fn take_kept(&mut self, head: PacketHead) -> Option<BlockPlaces>
         ensures kept { result ≡ keeping_for self.old.kept head }

@@ -1,4 +1,4 @@
-//! The sender of confirmed delivery: its state, and what it sends at each event.
+//! The sender of confirmed delivery: its state, and its transmission at each event.
 
 #![tactic(auto, unfolding(crate::specs::Halves::IsNumbered, crate::specs::SenderRules::resent, crate::specs::SenderRules::retried))]
 
@@ -13,7 +13,7 @@ use p25_messages::{Message, Offer, Reopen, Resend, SenderHeard};
 use p25_packet_blocks::{Flags, Packet, Plain};
 use std::marker::Model;
 
-/// What a sender waits for an answer to.
+/// The outstanding packet of a sender, for which it waits for a response.
 #[derive(Clone, Debug, PartialEq, Eq, Drop)]
 pub enum Outstanding {
     /// Nothing: a message may be offered.
@@ -24,16 +24,16 @@ pub enum Outstanding {
     Opening(u8),
 }
 
-/// How often a message or an opening packet is sent at most.
+/// The most transmissions of a message or an opening packet.
 const MOST_TRIES: u8 = 16;
 
-/// A sender of messages, of which one is outstanding at most.
+/// A sender of messages, at most one of which is outstanding.
 #[derive(Clone, Debug, PartialEq, Eq, Drop)]
 pub struct Sender {
-    // the number of the next message, or of the one that is outstanding
+    // the number of the next message, or of the outstanding one
     next: u8,
     outstanding: Outstanding,
-    // how often what is outstanding was sent
+    // the number of transmissions of the outstanding packet
     tries: u8,
     down: bool,
 }
@@ -49,7 +49,7 @@ impl Model for Sender {
 }
 
 impl Sender {
-    /// Answers a sender before its first message, whose number is 0.
+    /// Returns a sender before its first message, whose number is 0.
     pub fn new() -> Sender
         ensures { result ≡ first_sending }
     {
@@ -61,8 +61,8 @@ impl Sender {
         }
     }
 
-    /// Takes a message, and answers its first packet. Down comes exactly where the sender is down, and Busy exactly where
-    /// it is not, but a message or the opening packet is outstanding; then nothing changes.
+    /// Takes a message, and returns its first packet. `Down` is returned if and only if the sender is down, and `Busy`
+    /// if and only if it is not down, but a message or the opening packet is outstanding. Then nothing changes.
     #[tactic(auto, unfolding(crate::specs::SenderRules::offered, crate::specs::SenderRules::offered_beside, crate::specs::Halves::IsNumbered))]
     pub fn offer(&mut self, message: &Message) -> Offer
         ensures { (self.new, result) ≡ offered self.old message.now }
@@ -82,8 +82,9 @@ impl Sender {
         }
     }
 
-    /// Answers the packet of what is outstanding, to be sent again whole. Down comes exactly where the sender is down or
-    /// 16 transmissions were made, and then it is down; Idle comes exactly where it is not down and nothing is outstanding.
+    /// Returns the outstanding packet, to be transmitted again whole. `Down` is returned if and only if the sender is
+    /// down or 16 transmissions were made, and then it is down. `Idle` is returned if and only if it is not down and
+    /// nothing is outstanding.
     #[tactic(auto, unfolding(crate::specs::SenderRules::timed_out, crate::specs::SenderRules::timed_out_with, crate::specs::Halves::IsNumbered))]
     pub fn timeout(&mut self) -> Resend
         ensures { (self.new, result) ≡ timed_out self.old }
@@ -104,9 +105,9 @@ impl Sender {
         }
     }
 
-    /// Takes a packet that was heard, and answers what came of it. Down comes exactly where a response asks for a
-    /// transmission and 16 were made; Ignored exactly where the packet is no response with this LLID, the sender is down
-    /// or nothing is outstanding, or the response asks for nothing of what is outstanding.
+    /// Receives a packet, and returns the result. `Down` is returned if and only if a response requires a transmission
+    /// and 16 were made. `Ignored` is returned if and only if the packet is not a response with this LLID, the sender
+    /// is down or nothing is outstanding, or the response requires nothing of the outstanding packet.
     #[tactic(auto, unfolding(crate::specs::SenderRules::sender_heard))]
     pub fn hear(&mut self, packet: &Packet) -> SenderHeard
         ensures { (self.new, result) ≡ sender_heard self.old packet.now }
@@ -119,8 +120,9 @@ impl Sender {
         }
     }
 
-    /// Opens the session again, and answers the opening packet: numbered four more than the message that is given up, or the
-    /// one that was sent before. Up comes exactly where the sender is not down, and then nothing changes.
+    /// Opens the session again, and returns the opening packet: its number is four more than that of the message that
+    /// is given up, or it is the opening packet that was transmitted before. `Up` is returned if and only if the sender
+    /// is not down, and then nothing changes.
     #[tactic(auto, unfolding(crate::specs::SenderRules::reopened, crate::specs::SenderRules::opening_number, crate::specs::Halves::IsNumbered))]
     pub fn reopen(&mut self) -> Reopen
         ensures { (self.new, result) ≡ reopened self.old }
@@ -141,14 +143,14 @@ impl Sender {
         }
     }
 
-    /// Answers whether the opening packet is outstanding.
+    /// Returns whether the opening packet is outstanding.
     pub fn is_opening(&self) -> bool
         ensures { result ≡ is_opening self.now.outstanding }
     {
         matches!(&self.outstanding, Outstanding::Opening(_))
     }
 
-    // Counts one more transmission, or is down where 16 were made. Answers whether there is one more.
+    // Counts one more transmission, or goes down if 16 were made. Returns whether there is one more.
     fn count(&mut self) -> bool
         ensures more { result ≡ may_send self.old }
         ensures state { self.new ≡ (if may_send self.old then tried self.old else fallen self.old) }
@@ -162,7 +164,7 @@ impl Sender {
         }
     }
 
-    // Sends a packet again at a timeout.
+    // Transmits a packet again at a timeout.
     fn resend(&mut self, number: u8, packet: Packet) -> Resend
         ensures { (self.new, result) ≡ resent self.old number packet }
     {
@@ -176,7 +178,7 @@ impl Sender {
         }
     }
 
-    // Takes a response.
+    // Receives a response.
     #[tactic(auto, unfolding(crate::specs::SenderRules::response_heard, crate::specs::SenderRules::answered, crate::specs::Halves::IsNumbered))]
     fn hear_response(&mut self, response: &Plain) -> SenderHeard
         ensures { (self.new, result) ≡ response_heard self.old.outstanding self.old response.now }
@@ -209,7 +211,7 @@ impl Sender {
         }
     }
 
-    // Sends the whole message again.
+    // Transmits the whole message again.
     #[tactic(auto, unfolding(crate::specs::SenderRules::repeated))]
     fn repeat(&mut self, packet: Packet) -> SenderHeard
         ensures { (self.new, result) ≡ repeated self.old packet }
@@ -224,7 +226,7 @@ impl Sender {
         }
     }
 
-    // Sends some blocks of the message again.
+    // Transmits some blocks of the message again.
     fn retry(&mut self, wanted: Flags, packet: Packet) -> SenderHeard
         ensures { (self.new, result) ≡ retried self.old wanted packet }
     {
@@ -239,7 +241,7 @@ impl Sender {
         }
     }
 
-    // Has nothing outstanding any more.
+    // Clears the outstanding packet.
     fn go_on_after(&mut self, number: u8)
         requires { number < 8 }
         ensures { self.new ≡ sending_after number }

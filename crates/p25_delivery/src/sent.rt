@@ -1,4 +1,4 @@
-//! The packets (PDU) that stations send.
+//! The packets (PDU) that stations transmit.
 #![tactic(auto, unfolding(crate::specs::SentPackets::opening_packet, crate::specs::SentPackets::short_response, crate::specs::SentPackets::retry_packet))]
 
 ghost use Rattle.std.specs.Prelude.{◌≡◌, ◌<◌, ◌≤◌, length};
@@ -11,7 +11,7 @@ use p25_packet_blocks::{
     Confirmed, Flags, Octets, Packet, PacketHead, Plain, Slot, Slots, flags_make,
 };
 
-// The whole packet (PDU) of a message.
+// Returns the whole packet (PDU) of a message.
 pub(crate) fn message(number: u8, message: &Message) -> Packet
     requires { number < 8 }
     ensures { result ≡ message_packet number message.now }
@@ -26,7 +26,7 @@ pub(crate) fn message(number: u8, message: &Message) -> Packet
     Packet::Confirmed(Confirmed::new(head, slots))
 }
 
-// The packet (PDU) of the blocks of a message that are wanted, in the order of their serial numbers.
+// Returns the packet (PDU) of the requested blocks of a message, in the order of their serial numbers.
 pub(crate) fn blocks(number: u8, message: &Message, wanted: &Flags) -> Packet
     requires number { number < 8 }
     requires flags { block_count (length message.now) ≤ length wanted.now }
@@ -43,7 +43,7 @@ pub(crate) fn blocks(number: u8, message: &Message, wanted: &Flags) -> Packet
     Packet::Confirmed(Confirmed::new(head, slots))
 }
 
-// The packet (PDU) that opens the session anew.
+// Returns the packet (PDU) that opens the session anew.
 pub(crate) fn opening(number: u8) -> Packet
     requires { number < 8 }
     ensures { result ≡ opening_packet number }
@@ -51,7 +51,7 @@ pub(crate) fn opening(number: u8) -> Packet
     Packet::Confirmed(Confirmed::new(PacketHead::opening(LLID, number), Slots::new()))
 }
 
-// The class and the type of ACK; of NACK, as the packet CRC does not agree; and of NACK, out of sequence.
+// The class and the type of ACK; of NACK for a wrong packet CRC; and of NACK for a number out of sequence.
 pub(crate) const ACK: (u8, u8) = (0, 1);
 
 pub(crate) const CRC_NACK: (u8, u8) = (1, 1);
@@ -61,7 +61,7 @@ pub(crate) const ORDER_NACK: (u8, u8) = (1, 5);
 // The class of selective retry.
 pub(crate) const RETRY_CLASS: u8 = 2;
 
-// A response of no blocks, by its class and its type.
+// Returns a response of no blocks, by its class and its type.
 pub(crate) fn short(kind: (u8, u8), status: u8) -> Packet
     requires class { kind.0 < 4 }
     requires kind { kind.1 < 8 }
@@ -72,7 +72,7 @@ pub(crate) fn short(kind: (u8, u8), status: u8) -> Packet
     Packet::Plain(Plain::new(head, Octets::new()))
 }
 
-// Selective retry, with the flags of the blocks that have come.
+// Returns a selective retry, with the flags of the received blocks.
 pub(crate) fn retry(status: u8, flags: &Flags) -> Packet
     requires { status < 8 }
     ensures { result ≡ retry_packet status flags.now }

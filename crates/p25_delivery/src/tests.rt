@@ -22,10 +22,10 @@ const BLOCK: [u8; 16] = [
     0x61, 0x62, 0, 0, 0, 0, 0, 0, 0, 0, 0, 0, 0xCA, 0x67, 0x1F, 0x72,
 ];
 
-// What comes of a call: a word, and the numbers that go with it.
+// The result of a call: a word, and the numbers that go with it.
 type Told = (&'static str, u8, u8);
 
-// What a sender makes of a packet (PDU) that it hears.
+// The result of a packet (PDU) that a sender receives.
 fn told(sender: &mut Sender, packet: &Packet) -> Told {
     match sender.hear(packet) {
         SenderHeard::Acknowledged { number } => ("acknowledged", number, 0),
@@ -69,7 +69,7 @@ fn reopen(sender: &mut Sender) -> Told {
     }
 }
 
-// A response by its class, kind and status, and what a sender of message 0 makes of it.
+// A response by its class, type and status, and its result for a sender of message 0.
 const RESPONSES: [(u8, u8, u8, Told); 8] = [
     (0, 1, 0, ("acknowledged", 0, 0)),
     (0, 1, 1, ("ignored", 0, 0)),
@@ -81,7 +81,7 @@ const RESPONSES: [(u8, u8, u8, Told); 8] = [
     (3, 1, 0, ("ignored", 0, 0)),
 ];
 
-// Whether a sender ignores a response before it is offered a message, and then makes of it what its row says.
+// Whether a sender ignores a response before it is offered a message, and then returns the result of its row.
 fn is_answered(row: &(u8, u8, u8, Told)) -> bool {
     let (class, kind, status, expected) = *row;
     let packet = response(class, kind, status);
@@ -99,7 +99,7 @@ fn answers_to_responses(rt: HostRuntime) {
     }
 }
 
-// A packet (PDU) that is not confirmed, if it has the octets of a response with so many blocks.
+// An unconfirmed packet (PDU), if it has the octets of a response with this number of blocks.
 fn plain(head: PacketHead, octets: Octets) -> Option<Packet> {
     if head.format() != 0x03 || octets.len() + 4 != 12 * head.blocks() as usize {
         return None;
@@ -107,7 +107,7 @@ fn plain(head: PacketHead, octets: Octets) -> Option<Packet> {
     Some(Packet::Plain(Plain::new(head, octets)))
 }
 
-// A selective retry of number 0 with 64 flags or 128, of which those from one place on up to another are false.
+// A selective retry of number 0 with 64 flags or 128; those from one index up to another are false.
 fn retry(is_long: bool, from: usize, to: usize) -> Option<Packet> {
     let (count, blocks) = if is_long { (128, 2) } else { (64, 1) };
     let mut flags = Flags::new(count);
@@ -120,8 +120,8 @@ fn retry(is_long: bool, from: usize, to: usize) -> Option<Packet> {
     )
 }
 
-// What a sender of a message makes of such a retry: how many flags and blocks it asks for, and whether the packet has the full
-// message flag; or None where it is ignored.
+// The result of such a retry for a sender of a message: the numbers of flags and blocks that it transmits again, and
+// whether the packet has the full message flag; or `None` if it is ignored.
 fn sent_again(octets: &[u8], packet: &Packet) -> Option<(usize, u8, bool)> {
     let message = Message::new(octets)?;
     let mut sender = Sender::new();
@@ -139,7 +139,8 @@ fn sent_again(octets: &[u8], packet: &Packet) -> Option<(usize, u8, bool)> {
     ))
 }
 
-// The octets of the message, whether there are 128 flags, the places of those that are false, and what is sent again.
+// The octets of the message, whether there are 128 flags, the indices of those that are false, and what is transmitted
+// again.
 const RETRIES: [(usize, bool, usize, usize, Option<(usize, u8, bool)>); 9] = [
     (2, false, 0, 1, Some((64, 1, false))),
     (2, false, 1, 2, None),
@@ -167,7 +168,7 @@ fn flags_of_a_selective_retry(rt: HostRuntime) {
     }
 }
 
-// What is done to a sender; a message is offered, or a response heard by its class, kind and status.
+// An event of a sender: a message is offered, or a response received by its class, type and status.
 #[derive(Clone, Copy)]
 enum Act {
     Offer,
@@ -234,7 +235,7 @@ fn offered(sender: &mut Sender) -> Option<(Packet, u8)> {
     }
 }
 
-// The answer to a packet whose message is delivered as it was offered.
+// The response to a packet whose message is delivered as it was offered.
 fn delivered(receiver: &mut Receiver, packet: &Packet) -> Option<Packet> {
     match receiver.hear(packet) {
         Heard::Delivered {
@@ -278,7 +279,7 @@ fn answer(receiver: &mut Receiver, packet: &Packet) -> &'static str {
     }
 }
 
-// What stands after a header: nothing, a slot that is bad, or a block by its serial number and its first octet.
+// What follows a header: nothing, a bad slot, or a block by its serial number and its first octet.
 #[derive(Clone, Copy)]
 enum Behind {
     Nothing,
@@ -302,7 +303,7 @@ fn slots(behind: Behind) -> Slots
     slots
 }
 
-// A confirmed packet (PDU), if the header is one of so many blocks.
+// A confirmed packet (PDU), if the header has this number of blocks.
 fn packet(head: PacketHead, slots: Slots) -> Option<Packet> {
     if head.format() != 0x16 || head.blocks() as usize != slots.len() {
         return None;
@@ -310,7 +311,7 @@ fn packet(head: PacketHead, slots: Slots) -> Option<Packet> {
     Some(Packet::Confirmed(Confirmed::new(head, slots)))
 }
 
-// A packet (PDU) of data by its LLID, the full message flag, its pad, its number and what stands after its header.
+// A packet (PDU) of data by its LLID, the full message flag, its pad, its number and what follows its header.
 type Data = (u32, bool, u8, u8, Behind);
 
 fn data(row: Data) -> Option<Packet> {
@@ -325,7 +326,7 @@ fn data(row: Data) -> Option<Packet> {
 
 const WHOLE: Data = (LLID, true, 10, 0, Behind::Block(0, 0x61));
 
-// What a receiver makes of a packet (PDU) before its first message.
+// The result of a packet (PDU) for a receiver before its first message.
 const PACKETS: [(Data, &str); 9] = [
     ((LLID, true, 10, 7, Behind::Block(0, 0x61)), "again"),
     ((LLID, true, 10, 1, Behind::Block(0, 0x61)), "refused order"),
@@ -338,7 +339,7 @@ const PACKETS: [(Data, &str); 9] = [
     ((2, true, 0, 7, Behind::Nothing), "ignored"),
 ];
 
-// Whether there is a packet (PDU), and a receiver makes this of it.
+// Whether there is a packet (PDU), and it has this result for a receiver.
 fn hears(receiver: &mut Receiver, packet: Option<Packet>, expected: &str) -> bool {
     match packet {
         Some(packet) => answer(receiver, &packet) == expected,

@@ -1,4 +1,4 @@
--- None is counted exactly where a run is clean, since each step of the duplex world counts its own false pass.
+-- None is counted if and only if a run is clean, because each step of the duplex world counts its own false pass.
 use Rattle.std.proofs.Common.{◌≡◌, ℕ, Bool, List, refl}
 use Rattle.p25_stations.proofs.CountedLaws.{Counts, none-counted, none-from}
 use Rattle.p25_duplex.specs.{declared.event.DuplexEvent.{DuplexEvent}, declared.event.DuplexStep.{DuplexStep}, DuplexSteps.{DuplexState, first_duplex, duplex_step}}

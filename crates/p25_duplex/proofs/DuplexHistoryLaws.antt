@@ -1,4 +1,4 @@
--- Each step of a duplex world makes its history one event longer; and what its history says of it.
+-- Each step of a duplex world makes its history one event longer; and the consequences of its history.
 use Rattle.std.proofs.Common.{◌≡◌, ℕ, List, [], ◌∷◌, ◌++◌, refl, sym, ap, subst, ◌∙◌}
 use Rattle.p25_delivery.specs.{Delivery.{sessions_of}, SoundHalves.{IsMessage}, Orderly.{AreOrderly, AreWhole}, Runs.{run_by, EachIs}}
 use Rattle.p25_delivery.proofs.RunLaws.{run-append}

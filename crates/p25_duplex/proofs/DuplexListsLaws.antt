@@ -1,5 +1,5 @@
--- Each step adds to the lists of the side at which it stands the message that it tells of, and counts one acknowledged where it is
--- Acknowledged: by cases on what the halves of that station answer; and a run by induction.
+-- Each step adds its message to the lists of its side, and counts one acknowledged if it is Acknowledged: by cases on the results of the halves of
+-- that station; and a run by induction.
 use Rattle.std.proofs.Common.{◌≡◌, ℕ, ◌+◌, Bool, true, false, ◌&&◌, cond, List, [], ◌∷◌, ◌++◌, length, Option, Some, None, refl, ap, sym, ◌∙◌, arith, append_assoc, append-nil}
 use Rattle.std.proofs.lemmas.List.Sums.{sum_by-cons}
 use Rattle.p25_packet_blocks.specs.declared.packet.Packet.{Packet}

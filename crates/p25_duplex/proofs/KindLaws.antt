@@ -1,5 +1,5 @@
--- What a delivery sends is data in one direction and an answer in the other, by the facts that it keeps. And a packet that is true to
--- another is of its kind.
+-- The transmissions of a delivery are data in one direction and responses in the other, by the facts that it keeps. And a packet that is true to
+-- another is of its type.
 use Rattle.std.proofs.Common.{◌≡◌, ℕ, ◌+◌, ◌%◌, inl, inr, Bool, true, false, List, Option, Some, refl, ap, sym, subst}
 use Rattle.std.specs.Prelude.{IfSome, eqb}
 use Rattle.p25_packet_blocks.specs.{declared.packet.Packet.{Packet}, declared.packet.Packet.TheVariants.{Confirmed, Plain}, declared.head.PacketHead.{PacketHead}}

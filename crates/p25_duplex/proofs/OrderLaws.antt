@@ -1,5 +1,5 @@
--- The sessions of each side's messages are the whole of its lists: in every run, clean or not, the marks of both deliveries stand in
--- order. An event happens at one of the two deliveries, and leaves the marks and the lists of the other as they are.
+-- The sessions of each side's messages make up its lists: in every run, clean or not, the marks of both deliveries are in order. An event happens at
+-- one of the two deliveries, and leaves the marks and the lists of the other unchanged.
 use Rattle.std.proofs.Common.{◌≡◌, Bool, true, false, List, Result, Ok, Err}
 use Rattle.p25_packet_blocks.specs.declared.packet.Packet.{Packet}
 use Rattle.p25_messages.specs.declared.step_kind.{StepKind.{StepKind}, Way.TheVariants.{Packets}}

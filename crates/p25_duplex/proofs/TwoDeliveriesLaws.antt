@@ -1,5 +1,5 @@
--- What an event at a station makes of the deliveries of both stations' messages, where it is no false pass: at one of them at most
--- something happens, and it is clean. By what is called, and what it sends.
+-- The effect of an event at a station on the deliveries of both stations' messages, if it is no false pass: it is an event of at most one of them,
+-- and it is clean. By the call, and its transmission.
 use Rattle.std.proofs.Common.{◌≡◌, ℕ, Bool, true, false, List, [], ◌∷◌, ◌++◌, length, Option, Some, None, refl, ap, sym, ◌∙◌, subst}
 use Rattle.std.specs.Prelude.{if◌then◌else◌}
 use Rattle.p25_packet_blocks.specs.declared.packet.Packet.{Packet}

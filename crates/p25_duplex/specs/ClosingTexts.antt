@@ -3,8 +3,8 @@ use Rattle.std.specs.Prelude.{ℕ, ◌+◌, List, ◌++◌, length, codes, decim
 use Rattle.p25_stations.specs.SessionTexts.{sessions_text}
 use Rattle.p25_duplex.specs.DuplexSteps.{Side, side_word, DuplexState, delivery_at}
 
--- how many messages a side sent, how many of them were delivered and acknowledged, and how many sessions there were, where
--- there was more than one; without the end of the line
+-- the numbers of messages that a side sent and of those that were delivered and acknowledged, and the number of sessions, if there was more than one;
+-- without the end of the line
 unfoldable pub duplex_closing_of : Side → DuplexState → List ℕ
 duplex_closing_of side d =
     side_word side ++ codes " sent=" ++ decimal (length (delivery_at side d).outbound.sent)

@@ -6,7 +6,7 @@ use Rattle.p25_stations.specs.Runs.{delivered_by, is_acknowledged}
 pub use Rattle.p25_duplex.specs.DuplexSteps.{DuplexState, first_duplex, station_at, delivery_at, Side, A, B, other_side, side_of}
 pub use Rattle.p25_duplex.specs.DuplexSteps.{Packet, is_answer, DuplexEvent, Send, DuplexStep, duplex_step}
 
--- what every event keeps: what is sent is a message of at most 2,028 octets
+-- the invariant of an event: a sent message has at most 2,028 octets
 unfoldable pub IsDuplexEvent : DuplexEvent → Type 0
 IsDuplexEvent (Send side message) = IsMessage message
 IsDuplexEvent other = Unit {0}
@@ -21,17 +21,17 @@ duplex_run d events = run_by duplex_step d events
 abbrev pub duplex_steps : DuplexState → List DuplexEvent → List DuplexStep
 duplex_steps d events = steps_by duplex_step d events
 
--- a duplex world to which some list of events came from the first one
+-- a duplex world to which some list of events leads from the first one
 pub record HasDuplexHistory (d : DuplexState) : Type 0 where
   pub events : List DuplexEvent
   pub kept : AreDuplexEvents events
   pub run : duplex_run first_duplex events ≡ d
 
--- a run is clean where none of its steps is a false pass, in neither direction
+-- a run is clean if none of its steps is a false pass, in either direction
 abbrev pub IsCleanDuplex : List DuplexEvent → Type 0
 IsCleanDuplex events = EachIs (λ step. step.step.false_pass ≡ false) (duplex_steps first_duplex events)
 
--- of the newest transmission of a direction what is data, and what is an answer
+-- the newest transmission of a direction if it is data, and if it is a response
 abbrev pub data_in : Option Packet → Option Packet
 data_in None = None
 data_in (Some packet) = if is_answer packet then None else Some packet
@@ -40,14 +40,14 @@ abbrev pub answer_in : Option Packet → Option Packet
 answer_in None = None
 answer_in (Some packet) = if is_answer packet then Some packet else None
 
--- the newest transmission of one of these kinds that a side's direction carried up to the end of a run, by that before the run
+-- the newest transmission of one of these types that a side's direction carried up to the end of a run, by that before the run
 unfoldable pub newest_in : (Option Packet → Option Packet) → Side → Option Packet → DuplexState → List DuplexEvent → Option Packet
 newest_in kind side newest d [] = newest
 newest_in kind side newest d (event ∷ events) =
     let next = (duplex_step d event).0 in
     newest_in kind side (newest_after (kind (station_at side next).newest) newest) next events
 
--- the delivery of a side's messages after a list of events, with the newest data of its direction and the newest answer of the other's
+-- the delivery of a side's messages after a list of events, with the newest data of its direction and the newest response of the other's
 abbrev pub delivery_after : Side → List DuplexEvent → Delivery
 delivery_after side events =
     record (delivery_at side (duplex_run first_duplex events)) {
@@ -55,7 +55,7 @@ delivery_after side events =
       answer = newest_in answer_in (other_side side) None first_duplex events;
     }
 
--- there is a delivery with the same two halves of which the facts hold
+-- there is a delivery with the same two halves for which the facts hold
 pub record HasFacts (w : Delivery) : Type 0 where
   pub delivery : Delivery
   pub facts : DeliveryFacts delivery
@@ -68,7 +68,7 @@ is_side A A = true
 is_side B B = true
 is_side side other = false
 
--- the message of a step in which a side hears one that is delivered, and none of any other
+-- the message of a step in which a side receives one that is delivered, and none of any other
 abbrev pub side_heard_by : Side → DuplexStep → List (List ℕ)
 side_heard_by side step = if is_side side step.side then delivered_by step.step.kind else []
 
@@ -80,7 +80,7 @@ offered_by event kind = []
 abbrev pub side_sent_by : Side → DuplexEvent → DuplexStep → List (List ℕ)
 side_sent_by side event step = if is_side side (side_of event) then offered_by event step.step.kind else []
 
--- the messages of the Delivered steps of a side, in order: those that it hears
+-- the messages of the Delivered steps of a side, in order: those that it receives
 unfoldable pub side_heard_in : Side → List DuplexStep → List (List ℕ)
 side_heard_in side [] = []
 side_heard_in side (step ∷ steps) = side_heard_by side step ++ side_heard_in side steps

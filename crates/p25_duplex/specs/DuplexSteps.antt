@@ -1,4 +1,4 @@
--- The two stations of a duplex world, each with a half that sends and one that receives; what each event makes of them, and its step.
+-- The two stations of a duplex world, each with a half that sends and one that receives; the effect of each event on them, and its step.
 use Rattle.std.specs.Prelude.{ℕ, List, codes, Option, None, Bool, true, false, ◌==◌, Result, Ok, Err}
 pub use Rattle.p25_duplex.specs.declared.side.Side.{Side, TheVariants.{A, B}}
 pub use Rattle.p25_packet_blocks.specs.declared.packet.Packet.{Packet}
@@ -18,13 +18,13 @@ abbrev pub side_word : Side → List ℕ
 side_word A = codes "a"
 side_word B = codes "b"
 
--- a station: both halves, and the newest transmission of its direction, which is data or an answer
+-- a station: both halves, and the newest transmission of its direction, which is data or a response
 pub record StationState : Type 0 where
   pub outbound : Outgoing
   pub inbound : Incoming
   pub newest : Option Packet
 
--- both stations, and how many false passes there were
+-- both stations, and the number of false passes
 pub record DuplexState : Type 0 where
   pub a : StationState
   pub b : StationState
@@ -56,40 +56,40 @@ delivery_between own other =
 abbrev pub delivery_at : Side → DuplexState → Delivery
 delivery_at side d = delivery_between (station_at side d) (station_at (other_side side) d)
 
--- a station after a call of its half that sends, which happens at the delivery of its own messages
+-- a station after a call of its half that sends, which is an event of the delivery of its own messages
 abbrev pub after_sending : StationState → Delivery × StepKind → StationState × StepKind
 after_sending own (delivery, kind) = (record own { outbound = delivery.outbound; newest = delivery.packet_sent }, kind)
 
--- a station after a call of its half that receives, which happens at the delivery of the other's messages
+-- a station after a call of its half that receives, which is an event of the delivery of the other's messages
 abbrev pub after_receiving : StationState → Delivery × StepKind → StationState × StepKind
 after_receiving own (delivery, kind) = (record own { inbound = delivery.inbound; newest = delivery.answer }, kind)
 
--- an answer is a packet (PDU) of format 03 hex; every other is data
+-- a response is a packet (PDU) of format 03 hex; every other is data
 abbrev pub is_answer : Packet → Bool
 is_answer packet = head_format (packet_head packet) == response_format
 
--- a station hears a packet (PDU): an answer by its half that sends, data by its half that receives
+-- a station receives a packet (PDU): a response by its half that sends, data by its half that receives
 abbrev pub heard_as : Bool → StationState → StationState → Packet → StationState × StepKind
 heard_as true own other packet = after_sending own (happens (delivery_between own other) (Answer_heard packet))
 heard_as false own other packet = after_receiving own (happens (delivery_between other own) (Data_heard packet))
 
--- a step of a station, by what it was and whether it was a false pass
+-- a step of a station, by its type and whether it was a false pass
 abbrev pub station_told : Bool → StationState × StepKind → StationState × Step
 station_told false_pass (station, kind) = (station, record { kind = kind; false_pass = false_pass })
 
--- what is delivered comes to a station
+-- a delivered packet arrives at a station
 abbrev pub delivered_at : StationState → StationState → Result (Packet × Bool) StepKind → StationState × Step
 delivered_at own other (Err kind) = station_told false (own, kind)
 delivered_at own other (Ok (packet, false_pass)) = station_told false_pass (heard_as (is_answer packet) own other packet)
 
--- the side at which an event happens: that which acts or hears
+-- the side of an event: that which acts or receives
 abbrev pub side_of : DuplexEvent → Side
 side_of (Send side message) = side
 side_of (Timeout side) = side
 side_of (Reopen side) = side
 side_of (Deliver to flips) = to
 
--- what an event makes of the station at which it happens, beside the other, and the step of that station
+-- the effect of an event on the station at which it happens, beside the other, and the step of that station
 abbrev pub station_step : StationState → StationState → DuplexEvent → StationState × Step
 station_step own other (Send side message) = station_told false (after_sending own (happens (delivery_between own other) (Offering message)))
 station_step own other (Timeout side) = station_told false (after_sending own (happens (delivery_between own other) Time_up))
@@ -101,7 +101,7 @@ abbrev pub after_step : Side → DuplexState → StationState × Step → Duplex
 after_step side d (station, step) =
     (record (with_station side station d) { false_passes = counted_when step.false_pass d.false_passes }, record { side = side; step = step })
 
--- what an event makes of the duplex world, and its step
+-- the effect of an event on the duplex world, and its step
 unfoldable pub duplex_step : DuplexState → DuplexEvent → DuplexState × DuplexStep
 duplex_step d event =
     let side = side_of event in

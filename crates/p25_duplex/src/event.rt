@@ -7,26 +7,26 @@ use crate::side::Side;
 use p25_messages::{Flips, Message};
 use p25_stations::Step;
 
-/// Something that happens at one of the two stations, or on the air between them.
+/// An event of one of the two stations, or of the channel between them.
 #[derive(Clone, Debug, PartialEq, Eq, Drop)]
 pub enum DuplexEvent {
     /// A message is offered to the sender of a station.
     Send(Side, Message),
-    /// The time of a station's sender is up.
+    /// The timeout of a station's sender.
     Timeout(Side),
-    /// A station's sender is to open its session again.
+    /// The session of a station's sender is to be reopened.
     Reopen(Side),
-    /// The newest transmission of the other station comes to a station, with the bits at these places inverted.
+    /// The newest transmission of the other station arrives at a station, with the bits at these positions inverted.
     Deliver {
-        /// The station that hears it.
+        /// The station that receives it.
         to: Side,
-        /// The places of the inverted bits.
+        /// The positions of the inverted bits.
         flips: Flips,
     },
 }
 
 impl DuplexEvent {
-    /// Answers the station at which it happens: that which acts or hears.
+    /// Returns the station of the event: that which acts or receives.
     pub fn side(&self) -> Side
         ensures { result ≡ side_of self.now }
     {
@@ -41,8 +41,8 @@ impl DuplexEvent {
 /// A step of the duplex world.
 #[derive(Clone, Debug, PartialEq, Eq, Drop)]
 pub struct DuplexStep {
-    /// The station that acts or hears.
+    /// The station that acts or receives.
     pub side: Side,
-    /// What the step was. A delivery of which nothing is heard has the way of data.
+    /// The step. A delivery in which nothing is received has the direction of data.
     pub step: Step,
 }

@@ -1,7 +1,8 @@
-//! The duplex world: two packet stations that both send messages and acknowledge those of the other, and the air between them.
+//! The duplex world: two packet stations that both send messages and acknowledge those of the other, and the channel
+//! between them.
 //!
-//! Stations a and b each have a half that sends messages and a half that receives those of the other. The direction of a
-//! station carries whatever it sends, data or an answer, and keeps the newest transmission alone. Events and steps are those of
+//! Stations a and b each have a half that sends messages and a half that receives those of the other. The direction of
+//! a station carries its transmissions, data or responses, and keeps only the newest one. Events and steps are those of
 //! p25_stations, at one of the two sides.
 //!
 //! ```
@@ -10,9 +11,9 @@
 //! assert_eq!(rt; world.sent(Side::A).len(), 1);
 //! ```
 //!
-//! Contracts see each step as the function `duplex_step`, and the messages of a side as the delivery `delivery_at`: the half of that
-//! side that sends, and the half of the other that receives. Each world is the run of some events (`HasDuplexHistory`):
-//! `DuplexWorld::facts`. The text that closes a run is `duplex_closing_of` of a side.
+//! Contracts see each step as the function `duplex_step`, and the messages of a side as the delivery `delivery_at`: the
+//! half of that side that sends, and the half of the other that receives. Each world is the run of some events
+//! (`HasDuplexHistory`): `DuplexWorld::facts`. The text that closes a run is `duplex_closing_of` of a side.
 #![tactic(auto)]
 
 mod closing;

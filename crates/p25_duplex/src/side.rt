@@ -13,7 +13,7 @@ pub enum Side {
 }
 
 impl Side {
-    /// Answers the other station.
+    /// Returns the other station.
     pub fn other(self) -> Side
         ensures { result ≡ other_side self }
     {
@@ -23,7 +23,7 @@ impl Side {
         }
     }
 
-    /// Answers the word for the station in scripts and texts: its letter.
+    /// Returns the word for the station in scripts and texts: its letter.
     pub fn word(self) -> &'static [u8]
         ensures word { result.now ≡ side_word self }
         ensures len { length result.now ≡ 1 }

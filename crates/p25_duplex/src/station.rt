@@ -12,7 +12,7 @@ use p25_stations::{Newest, Step};
 use std::alloc::{AllocError, Global};
 use std::marker::Model;
 
-/// A station that sends messages and answers those of the other, with the newest transmission of its direction.
+/// A station that sends messages and responds to those of the other, with the newest transmission of its direction.
 #[derive(Debug, Drop)]
 pub(crate) struct Station {
     pub(crate) outbound: Outbound,
@@ -34,7 +34,7 @@ impl Model for Station {
 }
 
 impl Station {
-    // Answers a station before its first step. It takes no memory.
+    // Returns a station before its first step. It allocates no memory.
     pub(crate) fn new(alloc: Global) -> Station
         ensures { result.state ≡ first_station }
     {
@@ -45,8 +45,8 @@ impl Station {
         }
     }
 
-    // Makes room for one more step. Answers AllocError where there is not enough memory, which comes only where no room was
-    // left; the station stays as it was, and no room is lost.
+    // Reserves capacity for one more step. `AllocError` is returned if the allocation fails, which can happen only if
+    // no capacity was left; the station and its capacity are unchanged.
     pub(crate) fn reserve(&mut self) -> Result<(), AllocError>
         ensures state { self.new.state ≡ self.old.state }
         ensures spare { self.old.spare ≤ self.new.spare }
@@ -57,7 +57,8 @@ impl Station {
         self.inbound.reserve(1)
     }
 
-    // Answers the step that an event of this station is, beside the other station, and has it happen. There is room for it.
+    // Makes the step of an event of this station, beside the other station, and returns it. It requires capacity for
+    // it.
     pub(crate) fn step(&mut self, event: &DuplexEvent, other: &Station) -> Step
         requires { 0 < self.old.spare }
         ensures { (self.new.state, result) ≡ station_step self.old.state other.now.state event.now }
@@ -81,7 +82,7 @@ impl Station {
         }
     }
 
-    // Hears a packet (PDU): an answer by the half that sends, data by the half that receives.
+    // Receives a packet (PDU): a response by the half that sends, data by the half that receives.
     fn hear(&mut self, packet: &Packet) -> StepKind
         requires { 0 < self.old.spare }
         ensures { (other : StationState) → (self.new.state, result) ≡ heard_as (is_answer packet.now) self.old.state other packet.now }

@@ -1,4 +1,4 @@
-//! Two stations that both send, and the air between them, without the history of their events.
+//! Two stations that both send, and the channel between them, without the history of their events.
 
 ghost use Rattle.std.specs.Prelude.{◌≡◌, ◌<◌};
 ghost use Rattle.p25_duplex.specs.DuplexSteps.{duplex_step, first_duplex, station_at};
@@ -9,7 +9,7 @@ use crate::station::Station;
 use std::alloc::Global;
 use std::marker::Model;
 
-/// The two stations of a duplex world and the air between them. What a world keeps of its history is not known here.
+/// The two stations of a duplex world and the channel between them. The history that a world keeps is not part of it.
 #[derive(Debug, Drop)]
 pub(crate) struct DuplexStations {
     pub(crate) a: Station,
@@ -31,7 +31,8 @@ impl Model for DuplexStations {
 }
 
 impl DuplexStations {
-    /// Answers a world before its first step: nothing was sent, and both receivers wait for the first message. It takes no memory.
+    /// Returns a world before its first step: nothing was sent, and both receivers wait for the first message. It
+    /// allocates no memory.
     pub(crate) fn new(alloc: Global) -> DuplexStations
         ensures { result.state ≡ first_duplex }
     {
@@ -42,7 +43,7 @@ impl DuplexStations {
         }
     }
 
-    /// Answers the station of a side.
+    /// Returns the station of a side.
     pub(crate) fn station(&self, side: Side) -> &Station
         ensures { result.now.state ≡ station_at side self.now.state }
     {
@@ -52,7 +53,7 @@ impl DuplexStations {
         }
     }
 
-    /// Answers the step that an event is, and has it happen. There is room for it.
+    /// Makes the step of an event, and returns it. It requires capacity for it.
     #[tactic(auto, unfolding(crate::specs::DuplexSteps::duplex_step))]
     pub(crate) fn step_ready(&mut self, event: &DuplexEvent) -> DuplexStep
         requires { 0 < self.old.spare }

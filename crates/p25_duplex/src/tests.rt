@@ -1,4 +1,4 @@
-//! A duplex world, step by step: whose step an event is, and what each side is told.
+//! A duplex world, step by step: the side of each event, and the lists of each side.
 
 use super::{DuplexEvent, DuplexStep, DuplexWorld, Side};
 use p25_messages::{Flips, Message, MessageList};
@@ -13,8 +13,8 @@ fn the_example_of_the_head(rt: HostRuntime) -> Result<(), Fail> {
     Ok(())
 }
 
-// Something that happens at a side: a message of this one octet is offered, a timeout that comes so many times, the session is
-// opened again, or the newest transmission of the other side comes.
+// An event of a side: a message of this one octet is offered, a number of timeouts, the session is reopened, or the
+// newest transmission of the other side arrives.
 #[derive(Clone, Copy)]
 enum Happening {
     Send(u8),
@@ -35,7 +35,7 @@ fn event_of(side: Side, happening: Happening) -> Option<DuplexEvent> {
     })
 }
 
-// Has something happen at a side, and answers its last step.
+// Makes an event happen at a side, and returns its last step.
 fn happened(world: &mut DuplexWorld, side: Side, happening: Happening) -> Option<DuplexStep> {
     let event = event_of(side, happening)?;
     let times = if let Happening::Timeouts(count) = happening {
@@ -50,7 +50,7 @@ fn happened(world: &mut DuplexWorld, side: Side, happening: Happening) -> Option
     last
 }
 
-// What a step was: a word, and a number where it has one.
+// A step: a word, and a number if it has one.
 fn told(kind: &StepKind) -> (&'static str, u8) {
     match kind {
         StepKind::Taken { number, .. } => ("taken", *number),
@@ -71,7 +71,8 @@ fn told(kind: &StepKind) -> (&'static str, u8) {
     }
 }
 
-// A message each way, of which the answer of a is left unheard; then a gives a message up, and opens its session again.
+// A message in each direction; the response of a is not delivered. Then a gives a message up, and opens its session
+// again.
 const HAPPENINGS: [(Side, Happening, &str, u8); 17] = [
     (Side::B, Happening::Deliver, "nothing", 0),
     (Side::B, Happening::Timeouts(1), "idle", 0),
@@ -92,7 +93,7 @@ const HAPPENINGS: [(Side, Happening, &str, u8); 17] = [
     (Side::A, Happening::Deliver, "open", 5),
 ];
 
-// Whether something that happens at a side is a step of that side, and this one.
+// Whether the event of a side is a step of that side, and this one.
 fn is_told(world: &mut DuplexWorld, row: &(Side, Happening, &str, u8)) -> bool {
     match happened(world, row.0, row.1) {
         Some(DuplexStep { side, step }) => side == row.0 && told(&step.kind) == (row.2, row.3),

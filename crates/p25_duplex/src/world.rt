@@ -12,8 +12,9 @@ use p25_stations::parts::message_fits;
 use std::alloc::{AllocError, Global};
 use std::marker::Model;
 
-/// Two packet stations that both send and acknowledge, and the air between them, which keeps the newest transmission of each.
-/// Whoever is handed a world knows that some list of events brought it there from its first state; `facts` says what follows.
+/// Two packet stations that both send and acknowledge, and the channel between them, which keeps the newest
+/// transmission of each. By its invariant, some list of events led to it from its first state; `facts` states the
+/// consequences.
 #[derive(Debug, Drop)]
 pub struct DuplexWorld {
     stations: DuplexStations,
@@ -30,7 +31,7 @@ impl Model for DuplexWorld {
     ghost invariant = { λ w. HasDuplexHistory w.stations.state };
 }
 
-// The laws of the duplex world speak of each event.
+// The laws of the duplex world hold for each event.
 fn is_event(event: &DuplexEvent)
     ensures { IsDuplexEvent event.now }
 {
@@ -40,7 +41,8 @@ fn is_event(event: &DuplexEvent)
 }
 
 impl DuplexWorld {
-    /// Answers a world before its first step: nothing was sent, and both receivers wait for the first message. It takes no memory.
+    /// Returns a world before its first step: nothing was sent, and both receivers wait for the first message. It
+    /// allocates no memory.
     #[tactic(auto, using(crate::proofs::DuplexHistoryLaws::history_first))]
     pub fn new(alloc: Global) -> DuplexWorld
         ensures { result.state ≡ first_duplex }
@@ -50,12 +52,12 @@ impl DuplexWorld {
         }
     }
 
-    /// Does nothing; its clauses say what holds of every duplex world. Some list of events brought it from its first state to this
-    /// one. Where it counts no false pass, the halves of each side's delivery are those of one that keeps the facts that
-    /// `DeliveryFacts` names, and each of its sessions is orderly: what was delivered is the beginning of what was sent, each
-    /// message once, every message that was acknowledged was delivered, and one at most was delivered that was not acknowledged. In
-    /// any case the sessions of a side are the whole of its lists: joined, their messages are all that were sent and all that were
-    /// delivered.
+    /// Does nothing; its clauses state the laws of every duplex world. Some list of events led from its first state to
+    /// this one. If it counts no false pass, the halves of each side's delivery are those of one that keeps the facts
+    /// that `DeliveryFacts` names, and each of its sessions is orderly: the delivered messages are the beginning of the
+    /// sent ones, each once, every acknowledged message was delivered, and at most one was delivered that was not
+    /// acknowledged. In any case the sessions of a side make up its lists: joined, their messages are all that were
+    /// sent and all that were delivered.
     pub fn facts(&self)
         ensures history { HasDuplexHistory self.now.state }
         ensures kept { (side : side_type) → self.now.state.false_passes ≡ 0 → HasFacts (delivery_at side self.now.state) }
@@ -65,43 +67,43 @@ impl DuplexWorld {
         let _ = &self.stations;
     }
 
-    /// Answers the messages that a side sent, in order.
+    /// Returns the messages that a side sent, in order.
     pub fn sent(&self, side: Side) -> &MessageList
         ensures { result.now.list ≡ (delivery_at side self.now.state).outbound.sent }
     {
         self.stations.station(side).outbound.sent()
     }
 
-    /// Answers the messages of a side that were delivered to the other, in order.
+    /// Returns the messages of a side that were delivered to the other, in order.
     pub fn delivered(&self, side: Side) -> &MessageList
         ensures { result.now.list ≡ (delivery_at side self.now.state).inbound.received }
     {
         self.stations.station(side.other()).inbound.received()
     }
 
-    /// Answers how many messages of a side were acknowledged.
+    /// Returns the number of acknowledged messages of a side.
     pub fn acknowledged(&self, side: Side) -> u64
         ensures { result ≡ (delivery_at side self.now.state).outbound.acknowledged }
     {
         self.stations.station(side).outbound.acknowledged()
     }
 
-    /// Answers the number of sessions of a side's messages: one more than it gave messages up.
+    /// Returns the number of sessions of a side's messages: one more than the messages that it gave up.
     pub fn sessions(&self, side: Side) -> u64
         ensures { result ≡ length (delivery_at side self.now.state).outbound.marks + 1 }
     {
         self.stations.station(side).outbound.sessions()
     }
 
-    /// Answers how many deliveries of either direction were false passes; the number stays at 2^64 - 1 once it stands there.
+    /// Returns the number of deliveries in either direction that were false passes; it saturates at 2^64 - 1.
     pub fn false_passes(&self) -> u64
         ensures { result ≡ self.now.state.false_passes }
     {
         self.stations.false_passes
     }
 
-    /// Answers the step that an event is, and has it happen. AllocError comes where there is not enough memory for it, and
-    /// only where no room was left; then the world stays as it was.
+    /// Makes the step of an event, and returns it. `AllocError` is returned if the allocation for it fails, which can
+    /// happen only if no capacity was left; then the world is unchanged.
     pub fn step(&mut self, event: &DuplexEvent) -> Result<DuplexStep, AllocError>
         ensures ok { IfOk result (λ step. (self.new.state, step) ≡ duplex_step self.old.state event.now) }
         ensures err { OnErr result (self.new.state ≡ self.old.state) }

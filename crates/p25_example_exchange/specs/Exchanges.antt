@@ -1,14 +1,14 @@
--- The events of an exchange, and what is printed of it.
+-- The events of an exchange, and the printed text.
 use Rattle.std.specs.{Prelude.{ℕ, List, [], ◌∷◌, ◌++◌, codes, decimal, length}, List.{flat_map}}
 use Rattle.p25_messages.specs.{declared.step_kind.StepKind.{StepKind}, declared.step_kind.StepKind.TheVariants.{Taken, Delivered, Acknowledged, Lost}}
 use Rattle.p25_stations.specs.{Runs.{steps_of, world_run}, WorldState.{WorldState, first_world}, declared.step.Event.{Event}}
 use Rattle.p25_stations.specs.{declared.step.Event.TheVariants.{Send, ToReceiver, ToSender}, declared.step.Step.{Step}}
 
--- a message is offered, comes with the bit at one place inverted, and its answer comes as it was sent
+-- a message is offered, arrives with the bit at one position inverted, and its response arrives as transmitted
 abbrev pub events_of : List ℕ → ℕ → List Event
 events_of message place = Send message ∷ ToReceiver (place ∷ []) ∷ ToSender [] ∷ []
 
--- what a step was, in words
+-- a step, in words
 abbrev pub told_text : StepKind → List ℕ
 told_text (Taken number blocks) = codes "sent: packet " ++ decimal number ++ codes ", blocks " ++ decimal blocks
 told_text (Delivered number message) = codes "delivered: packet " ++ decimal number ++ codes ", octets " ++ decimal (length message)
@@ -20,12 +20,12 @@ told_text kind = codes "something else"
 abbrev pub steps_text : List Step → List ℕ
 steps_text steps = flat_map (λ step. told_text step.kind ++ 10 ∷ []) steps
 
--- how many messages were sent, delivered and acknowledged
+-- the numbers of messages sent, delivered and acknowledged
 abbrev pub counts_text : WorldState → List ℕ
 counts_text world =
     codes "sent " ++ decimal (length world.delivery.outbound.sent) ++ codes ", delivered " ++ decimal (length world.delivery.inbound.received)
     ++ codes ", acknowledged " ++ decimal world.delivery.outbound.acknowledged ++ 10 ∷ []
 
--- what is printed of some events: the steps, and the counts of the world after them
+-- the printed text of some events: the steps, and the counts of the world after them
 abbrev pub exchange_text : List Event → List ℕ
 exchange_text events = steps_text (steps_of first_world events) ++ counts_text (world_run first_world events)

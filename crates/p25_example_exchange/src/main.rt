@@ -1,7 +1,8 @@
-//! Two stations, one message, and one bit that comes inverted: prints what each step is.
+//! Two stations, one message, and one inverted bit: prints each step.
 //!
 //! A `World` holds both stations and the newest transmission of each direction. Each event is one call of `step`, which
-//! answers what happened. Nothing is sent by itself: that a transmission comes to the other station is an event too.
+//! returns its result. Nothing is transmitted by itself: the arrival of a transmission at the other station is an event
+//! too.
 #![tactic(auto)]
 
 ghost use Rattle.std.specs.{Prelude.{◌≡◌, ◌<◌, [], ◌∷◌, Some, OnOk, IfOk, codes}, Io.KnownBytes.{Appends}};
@@ -21,13 +22,13 @@ fn main(rt: HostRuntime) -> io::Result<()> {
     print_exchange(rt.alloc(), &mut output)
 }
 
-// Prints the steps of one message, and the counts after them: exactly these lines, where the writer tells what it holds.
+// Prints the steps of one message, and the counts after them: exactly these lines, if the writer exposes its contents.
 fn print_exchange<W: Write>(alloc: Global, output: &mut W) -> io::Result<()>
     ensures { OnOk result (Appends (W.contents output.old) (W.contents output.new) (exchange_text (events_of (codes "meet at the gate") 400))) }
 {
     let mut world = World::new(alloc);
     let Some(message) = Message::new(b"meet at the gate") else {
-        // The contract of `new` says that so few octets are a message, so the check proves that no call comes here.
+        // By the contract of `new` this number of octets is a message, so the check proves that no call comes here.
         unreachable!();
     };
     let steps = exchange(&mut world, message, 400)?;
@@ -46,7 +47,7 @@ fn print_steps<W: Write>(steps: &[Step], output: &mut W) -> io::Result<()>
     Ok(())
 }
 
-// Prints how many messages were sent, delivered and acknowledged.
+// Prints the numbers of messages sent, delivered and acknowledged.
 fn print_counts<W: Write>(world: &World, output: &mut W) -> io::Result<()>
     ensures { OnOk result (Appends (W.contents output.old) (W.contents output.new) (counts_text world.now.state)) }
 {
@@ -59,9 +60,9 @@ fn print_counts<W: Write>(world: &World, output: &mut W) -> io::Result<()>
     )
 }
 
-// Offers a message to the sender of a new world, has its transmission come to the receiver with the bit at one place
-// inverted, and has the answer come back as it was sent. Answers the three steps. What is said of them here is what the
-// theorems in `p25_stations::laws` speak of: `steps_of` and `world_run` of a list of events.
+// Offers a message to the sender of a new world, delivers its transmission to the receiver with the bit at one position
+// inverted, and delivers the response as transmitted. Returns the three steps. The contract is in the terms of the
+// theorems in `p25_stations::laws`: `steps_of` and `world_run` of a list of events.
 fn exchange(world: &mut World, message: Message, place: u16) -> Result<[Step; 3], AllocError>
     requires first { world.old.state ≡ first_world }
     requires place { place < 25920 }
@@ -74,7 +75,7 @@ fn exchange(world: &mut World, message: Message, place: u16) -> Result<[Step; 3]
     Ok([offered, heard, answered])
 }
 
-// The list of one place.
+// Returns the list of one position.
 fn one_place(place: u16) -> Flips
     requires { place < 25920 }
     ensures { result ≡ place ∷ [] }
@@ -84,7 +85,7 @@ fn one_place(place: u16) -> Flips
     flips
 }
 
-/// What a step was, in words.
+/// A step in words.
 #[derive(Drop)]
 struct Told<'a>(&'a StepKind);
 

@@ -4,7 +4,7 @@ use super::{Told, exchange};
 use p25_stations::{Message, StepKind, World};
 use std::alloc::Global;
 
-// Whether a step is shown as this text.
+// Whether a step is displayed as this text.
 fn is_shown(alloc: Global, kind: &StepKind, text: &str) -> bool {
     match Told(kind).to_string(alloc) {
         Ok(shown) => shown.as_str() == text,
@@ -18,7 +18,7 @@ const TEXTS: [&str; 3] = [
     "acknowledged: packet 0",
 ];
 
-// Whether the steps of a message that comes with the bit at a place inverted have these texts.
+// Whether the steps of a message with the bit at a position inverted have these texts.
 fn are_shown(alloc: Global, place: u16, texts: &[&str; 3]) -> Option<bool> {
     let mut world = World::new(alloc);
     let steps = exchange(&mut world, Message::new(b"ab")?, place % 25_920).ok()?;

@@ -1,4 +1,4 @@
--- Who speaks to which group.
+-- The radio that transmits and the group that it calls.
 use Rattle.std.specs.Prelude.{ℕ, List, ◌++◌, Option, Some, None, codes, decimal}
 use Rattle.p25_link.specs.{Kinds.{link_kind_of}, declared.link_control.LinkKind.{LinkKind}}
 use Rattle.p25_link.specs.declared.link_control.LinkKind.TheVariants.{Group, Individual, Other}
@@ -11,13 +11,13 @@ use Rattle.p25_example_groups.specs.declared.Talk.{Talk}
 abbrev pub talk_text : Talk → List ℕ
 talk_text talk = codes "group " ++ decimal talk.group ++ codes " radio " ++ decimal talk.radio
 
--- what link control (LC) says, where it is that of a call to a group
+-- the talk of link control (LC), if it is that of a call to a group
 abbrev pub link_talk : LinkKind → Option Talk
 link_talk (Group mfid emergency group source) = Some (record { group = group; radio = source })
 link_talk (Individual mfid destination source) = None
 link_talk Other = None
 
--- what an LDU1, voice with link control (LC), says; no other unit says anything
+-- the talk of an LDU1, voice with link control (LC); no other data unit has one
 abbrev pub voice_talk : VoiceUnit → Option Talk
 voice_talk (Link1 link low voice) = link_talk (link_kind_of link)
 voice_talk unit = None
@@ -26,7 +26,7 @@ abbrev pub body_talk : Body → Option Talk
 body_talk (Voice unit) = voice_talk unit
 body_talk (Packet packet) = None
 
--- what an item says: a whole unit alone can
+-- the talk of an item: only a whole data unit can have one
 abbrev pub talk_of : Item → Option Talk
 talk_of (Whole place frame fixes) = body_talk frame.unit.body
 talk_of (Broken place count nac duid fields) = None

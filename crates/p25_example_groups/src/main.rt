@@ -1,7 +1,8 @@
-//! Prints the group and the radio of each LDU1, voice with link control (LC), on standard input, in decimal, as it comes.
+//! Prints the group and the radio of each LDU1, voice with link control (LC), on standard input, in decimal, as it
+//! arrives.
 //!
-//! The order of the calls is what this program shows. Push octets, take every item that they decide, and only then push
-//! more. At the end of the input call `finish`, and take items once more: the end decides what no octet decided.
+//! This program shows the order of the calls. Push octets, take every item that they decide, and only then push more.
+//! At the end of the input call `finish`, and take items once more: the end decides the items that no octet decided.
 #![tactic(auto)]
 
 ghost use Rattle.std.specs.{Prelude.{◌≡◌, ◌+◌, ◌-◌, ◌*◌, ◌^◌, ◌<◌, Some, [], false, length, IfSome, OnOk}, Io.KnownBytes.{Appends}};
@@ -18,7 +19,7 @@ use std::{fmt, io};
 #[cfg(test)]
 mod tests;
 
-/// Who speaks to which group.
+/// The radio that transmits and the group that it calls.
 #[derive(Clone, Copy, Debug, PartialEq, Eq)]
 struct Talk {
     group: u16,
@@ -40,15 +41,15 @@ fn main(rt: HostRuntime) -> io::Result<()> {
     print_groups(&mut input, &mut output)
 }
 
-// Prints the line of each talk of a recording, as it comes: of fewer octets than there are reads, where the reader tells what is left and
-// the writer what it holds, exactly those lines.
+// Prints the line of each talk of a recording, as it arrives. If there are fewer octets than reads, the reader exposes
+// its remaining octets and the writer its contents, the output is exactly those lines.
 fn print_groups<R: Read, W: Write>(input: &mut R, output: &mut W) -> io::Result<()>
     ensures { OnOk result (IfSome (R.remaining input.old) (λ octets. length octets < 2 ^ 32 - 1
         → Appends (W.contents output.old) (W.contents output.new) (lines_of octets))) }
 {
     let mut scanner = Scanner::new();
     let mut octets = [0; 4_096];
-    // A scanner takes up to 2^60 bits: so many reads give fewer than 2^47.
+    // A scanner takes up to 2^60 bits, and this number of reads returns fewer than 2^47.
     for _ in 0..u32::MAX {
         let count = input.read(&mut octets)?;
         if count == 0 {
@@ -59,8 +60,8 @@ fn print_groups<R: Read, W: Write>(input: &mut R, output: &mut W) -> io::Result<
     print_last(&mut scanner, output)
 }
 
-// Pushes octets, a few at a time, and prints what each few decide. A scanner takes octets only while it has no item to give,
-// which is what `drained` says.
+// Pushes octets, a few at a time, and prints the lines that each few decide. A scanner takes octets only while it has
+// no item left, which is what `drained` states.
 fn scan<W: Write>(octets: &[u8], scanner: &mut Scanner, output: &mut W) -> io::Result<()>
     requires drained { given scanner.old ≡ [] }
     requires going { scanner.old.finished ≡ false }
@@ -78,7 +79,7 @@ fn scan<W: Write>(octets: &[u8], scanner: &mut Scanner, output: &mut W) -> io::R
     Ok(())
 }
 
-// Prints a line for each talk among the items that the scanner can give, until it can give no more.
+// Prints a line for each talk among the items that the scanner can return, until none is left.
 fn print_talks<W: Write>(scanner: &mut Scanner, output: &mut W) -> io::Result<()>
     ensures drained { OnOk result (given scanner.new ≡ []) }
     ensures same { scanner.new.finished ≡ scanner.old.finished }
@@ -91,7 +92,7 @@ fn print_talks<W: Write>(scanner: &mut Scanner, output: &mut W) -> io::Result<()
     Ok(())
 }
 
-// Prints the line of a talk, where there is one.
+// Prints the line of a talk, if there is one.
 fn print_talk<W: Write>(talk: Option<Talk>, output: &mut W) -> io::Result<()>
     ensures { OnOk result (Appends (W.contents output.old) (W.contents output.new) (talk_line talk)) }
 {
@@ -101,7 +102,7 @@ fn print_talk<W: Write>(talk: Option<Talk>, output: &mut W) -> io::Result<()>
     }
 }
 
-// Says that no octet comes after those so far, and prints what that decides: the end decides what no octet decided.
+// Ends the input, and prints the lines that the end decides.
 fn print_last<W: Write>(scanner: &mut Scanner, output: &mut W) -> io::Result<()>
     ensures { OnOk result (Appends (W.contents output.old) (W.contents output.new) (lines_left scanner.old [])) }
 {
@@ -109,7 +110,7 @@ fn print_last<W: Write>(scanner: &mut Scanner, output: &mut W) -> io::Result<()>
     print_talks(scanner, output)
 }
 
-// Who speaks to which group, where the item is a whole LDU1 whose link control (LC) says it.
+// Returns the talk of an item, if the item is a whole LDU1 whose link control (LC) has one.
 fn read_talk(item: &Item) -> Option<Talk>
     ensures { result ≡ talk_of item.now }
 {

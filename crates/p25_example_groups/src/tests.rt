@@ -1,4 +1,4 @@
-//! Who speaks to which group, by link control words written by hand.
+//! Talks by link control words written by hand.
 
 use super::{Talk, read_talk};
 use p25_link::LinkControl;
@@ -24,7 +24,7 @@ fn item_of(link: LinkControl) -> Item {
     }
 }
 
-// What is printed of an item: nothing, or a text.
+// The printed text of an item: nothing, or a text.
 fn is_printed(alloc: Global, item: &Item, text: Option<&str>) -> bool {
     match (read_talk(item), text) {
         (None, None) => true,
@@ -36,7 +36,7 @@ fn is_printed(alloc: Global, item: &Item, text: Option<&str>) -> bool {
     }
 }
 
-// Link control words, and what is printed of an LDU1 with each: calls to groups, to a radio, and of another kind.
+// Link control words, and the printed text of an LDU1 with each: calls to groups, to a radio, and of another type.
 const ROWS: [([u8; 9], Option<&str>); 5] = [
     (
         [0, 0, 0, 0, 0, 100, 0, 0x10, 1],

@@ -1,5 +1,5 @@
--- Steps of the work: how one is made of a piece that is gathered and of a write, and how steps follow one another. Each law opens
--- where the work stands, and rewrites where the step before led.
+-- Steps of the work: how one is made of a gathered chunk and of a write, and how steps compose. Each law opens the state of the work, and rewrites
+-- the state to which the step before led.
 use Rattle.std.proofs.Common.{ℕ, ◌<◌, ◌≤◌, true, false, List, [], ◌∷◌, ◌++◌, length, refl, sym, ◌∙◌, append_assoc, append-nil}
 use Rattle.p25_io.specs.{Chains.{Chain}, Events.{Event, Wrote, WriteFailed}}
 use Rattle.p25_filter.specs.{declared.ending.FilterEnd.{FilterEnd}, declared.ending.FilterEnd.TheVariants.{Ended, Memory, WriteFault}, Futures.{Future, Progress}}

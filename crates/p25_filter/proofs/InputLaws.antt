@@ -1,5 +1,5 @@
--- The loop of the work on an input: what asking for a piece answers, and the work from its first event on, read after read. Each
--- law adds the events of a read or of a step to those so far.
+-- The loop of the work on an input: the result of the call for a chunk, and the work from its first event on, read after read. Each law adds the
+-- events of a read or of a step to those so far.
 use Rattle.std.proofs.Common.{◌≡◌, ℕ, ◌-◌, ◌<◌, ◌≤◌, Bool, true, false, List, [], ◌∷◌, ◌++◌, length, take, min, Some, None, Ok, Err, refl, ap, sym, ◌∙◌, arith, append_assoc, append-nil, length-take}
 use Rattle.std.proofs.lemmas.List.{take_all}
 use Rattle.p25_io.specs.{Chains.{Chain}, Events.{Event, Read, ReadFailed}}

@@ -1,5 +1,5 @@
--- How the work on lines goes on: octets come, a line is taken, a piece is given, the input ends. A line that is too long is
--- refused whatever its octets are, so what is kept of it serves as well as all of it: by induction on the octets that come.
+-- The progress of the work on lines: octets come, a line is taken, a chunk is returned, the input ends. A line that is too long is refused whatever
+-- its octets are, so its kept beginning serves as well as all of it. By induction on the octets that come.
 use Rattle.std.proofs.Common.{◌≡◌, ℕ, ◌+◌, ◌<◌, ◌≤◌, ◌-◌, min, Bool, true, false, cond, nat_eq, nat_lt, List, [], ◌∷◌, ◌++◌, length, take, drop, Some, Result, Ok, Err, refl, ap, ap₂, sym, subst, ◌∙◌, arith, append_assoc, append-nil, length-append, length-take}
 use Rattle.std.proofs.{lemmas.List.{take-append-drop, take_all, take_min}, Math.Seq.{take-append-add}, lemmas.Bool.Decides.{nat_tests}, lemmas.Bool.{cond-true, lt-ltb}}
 use Rattle.std.specs.{Prelude.{Contains, is_ok}, List.{concat}}

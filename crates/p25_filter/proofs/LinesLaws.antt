@@ -1,5 +1,5 @@
--- The lines after more octets, texts after one more, and what lines are read as, by what the first is read as: each by one
--- unfolding, or by induction on the octets or the texts.
+-- The lines after more octets, texts after one more, and the decodings of lines, by that of the first: each by one unfolding, or by induction on the
+-- octets or the texts.
 use Rattle.std.proofs.Common.{◌≡◌, ℕ, zero, suc, ◌+◌, ◌<◌, Bool, true, false, not, cond, nat_eq, List, [], ◌∷◌, ◌++◌, length, take, Some, None, Result, Ok, Err, refl, ap, sym, subst, ◌∙◌, arith, append_assoc, append-nil}
 use Rattle.std.proofs.{lemmas.Bool.Decides.{nat_tests}, lemmas.Bool.{cond-false}}
 use Rattle.std.specs.{Prelude.{Contains}, List.{position_or_len}}

@@ -1,5 +1,4 @@
--- The order in a live run of events: a read only while more octets may come and all that is decided is written, and nothing after
--- a fault.
+-- The order in a live run of events: a read only while more octets may come and all decided output is written, and nothing after a fault.
 use Rattle.std.proofs.Common.{◌≡◌, ℕ, false, List, [], ◌∷◌, ◌++◌, take, refl, sym, subst, ◌∙◌}
 use Rattle.p25_io.specs.Events.{Event, Read, ReadFailed, Wrote, WriteFailed}
 use Rattle.p25_filter.specs.{declared.ending.FilterEnd.{FilterEnd}, declared.ending.FilterEnd.TheVariants.{ReadFault, WriteFault, TooLong}, Futures.{Future}}

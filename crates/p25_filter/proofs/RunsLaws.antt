@@ -1,5 +1,5 @@
--- What stands when the work ends, by the events that were made: what was taken, what was written, and what the end says of both, by what is told of the
--- octets that the events read and wrote (`Went`).
+-- The state at the end of the work, by the events that were made: the octets taken, the text written, and the condition of the end on both, by the
+-- exposed octets that the events read and wrote (`Went`).
 use Rattle.std.proofs.Common.{◌≡◌, ℕ, ◌+◌, ◌<◌, ◌≤◌, Bool, true, false, cond, nat_lt, zero, suc, List, [], ◌∷◌, ◌++◌, length, take, Option, Some, None, refl, ap, sym, subst, ◌∙◌, arith, append_assoc, append-nil, length-append}
 use Rattle.std.proofs.{lemmas.List.{take_all}, lemmas.Bool.Decides.{nat_tests}, Math.Seq.{take-append-add}, lemmas.Bool.{ltb-false}}
 use Rattle.std.specs.Prelude.{Contains, IfSome}

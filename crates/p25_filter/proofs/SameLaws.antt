@@ -1,4 +1,5 @@
--- Two futures that write and end alike, with memory wanting after the same texts, are one: functions with the same values are.
+-- Two futures with the same output and ends, and with allocations that may fail after the same texts, are equal, because functions with the same
+-- values are.
 use Rattle.std.proofs.Common.{◌≡◌, ℕ, Bool, List}
 use Rattle.p25_filter.specs.Futures.{Future}
 

@@ -1,4 +1,4 @@
--- Live runs of events: what the first octets of an input are, and events after events.
+-- Live runs of events: the first octets of an input, and events after events.
 use Rattle.std.proofs.{Common.{◌≡◌, ℕ, ◌+◌, ◌-◌, ◌≤◌, List, [], ◌∷◌, ◌++◌, length, take, min, refl, ap, sym, ◌∙◌, arith, append_assoc, length-take}, lemmas.List.{take-take, take_min}, Math.Seq.{take-append-add}}
 use Rattle.p25_io.specs.Events.{Event}
 use Rattle.p25_filter.specs.{declared.ending.FilterEnd.{FilterEnd}, declared.ending.FilterEnd.TheVariants.{ReadFault, WriteFault}, Futures.{Future}, Runs.{input_most}}

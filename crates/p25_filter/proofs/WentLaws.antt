@@ -1,5 +1,5 @@
--- What a source and a sink, and streams that tell what they hold, tell of the events that they went through: one record for both, by an induction on the
--- events for each of a source and a sink, and at once for streams.
+-- The exposed octets of a source and a sink, and of streams, through some events: one record for both, by an induction on the events for each of a
+-- source and a sink, and at once for streams.
 use Rattle.std.proofs.Common.{◌≡◌, ℕ, ◌≤◌, zero, List, [], ◌∷◌, ◌++◌, length, Option, Some, None, refl, ap, sym, subst, arith, length-append}
 use Rattle.std.proofs.lemmas.List.{nil_from_length}
 use Rattle.std.specs.{Prelude.{Contains, IfSome}, Io.KnownBytes.{Appends, Consumes, IsAtEnd}}

@@ -1,18 +1,18 @@
--- Which reads and writes the work on an input makes, step by step. `Traces` states which event may come after which (`IsLive`), and how
--- a run of events ends (`EndsAs`). This file states how each function of `src/input.rt` and `src/page.rt` keeps to that.
+-- The reads and writes of the work on an input, step by step. `Traces` states which event may follow which (`IsLive`), and how a run of events
+-- ends (`EndsAs`). This file states how each function of `src/input.rt` and `src/page.rt` keeps to that.
 --
 --     run_on    a loop: read; `feed` the octets that were read, or at the end of the input `finish`, `drain` and `end_so`
---     feed      a loop: hand some octets to the command, then `drain`; at last `flush`
---     drain     a loop: ask the command for its next piece, and `gather` it; `end_so` if there is none for a cause
---     gather    put a piece on the page; `flush` before, if the page has no room for it
+--     feed      a loop: pass some octets to the command, then `drain`; at last `flush`
+--     drain     a loop: call the command for its next chunk, and `gather` it; `end_so` if there is none for a reason
+--     gather    append a chunk to the page; `flush` before, if the page has no capacity for it
 --     flush     write the page, if it is not empty: the only write of all
---     end_so    `flush`, and the cause of the end
+--     end_so    `flush`, and the reason of the end
 --
--- `Stands` relates octets, page and command between two events: what was written and what is on the page begin all that the command
--- gives for the octets that were read, and the rest is what the command at work gives for those that wait. `Goes` is a step after which the
--- work goes on: it holds of `gather`, `flush`, `drain` and `feed` if they return `Ok`. `Comes` is a step with which the work ends: it holds
--- of `end_so`, and of the others if they return an error. Both hold from wherever the work stood, so one step can follow another. `SoFar` is the work
--- from its first event on, and the invariant of the loop of `run_on`.
+-- `Stands` relates octets, page and command between two events. The text written and the page are a beginning of the command's output for the octets
+-- that were read, and the rest is the output of the running command for the octets that wait. `Goes` is a step after which the work goes on: it
+-- holds of `gather`, `flush`, `drain` and `feed` if they return `Ok`. `Comes` is a step that ends the work: it holds of `end_so`, and of the others
+-- if they return an error. Both hold from any state of the work, so one step can follow another. `SoFar` is the work from its first event on, and
+-- the invariant of the loop of `run_on`.
 use Rattle.std.specs.Prelude.{◌≡◌, ℕ, true, List, [], ◌++◌, take}
 use Rattle.p25_io.specs.Events.{Event}
 use Rattle.p25_filter.specs.{declared.ending.FilterEnd.{FilterEnd}, declared.ending.FilterEnd.TheVariants.{Ended, Memory}}
@@ -34,31 +34,31 @@ over octets future = record {
   pauses = λ ended more. future.pauses true octets;
 }
 
--- the future of the command at its beginning, once these octets were read, of which none past the most is looked at
+-- the future of the command at its beginning, after these octets were read, none of which past the most counts
 abbrev pub seen : Phase → List ℕ → Future → Future
 seen Over octets future = over octets future
 seen phase octets future = ahead (take input_most octets) future
 
--- what was written, what is on the page and what the command at work gives for the octets that wait is what its future at the
--- beginning gives for the octets that were read
+-- the text written, the page and the output of the running command for the waiting octets together are the output of its future at the beginning for
+-- the octets that were read
 pub record Stands (future : Future) (at : Standing) (page waiting : List ℕ) (now : Future) : Type 0 where
   pub whole : at.phase ≡ Broken → ⊥
   pub given : Progress (seen at.phase at.octets future) [] (at.text ++ page) (ahead waiting now)
 
--- the events from here on may come, and lead to where these octets were read, and page, waiting octets and command fit together
+-- the events from here on may come, and lead to a state in which these octets were read, and page, waiting octets and command fit together
 pub record Leads (future : Future) (at : Standing) (events : List Event) (phase : Phase) (octets page waiting : List ℕ) (now : Future) : Type 0 where
   pub text : List ℕ
   pub live : IsLive future at events
   pub after : after_all at events ≡ standing_at phase octets text
   pub stands : Stands future (standing_at phase octets text) page waiting now
 
--- the events from here on may come, and the work ends so after them
+-- the events from here on may come, and this is the end of the work after them
 pub record Finishes (future : Future) (at : Standing) (events : List Event) (end : FilterEnd) : Type 0 where
   pub live : IsLive future at events
   pub ends : EndsAs future events (after_all at events) end
 
--- a step from page and command to a later page and command: from wherever the work stood with these octets first among those that
--- wait, the events of the step, all of them writes, lead to where these octets wait no more
+-- a step from page and command to a later page and command: from any state of the work with these octets first among those that wait, the events of
+-- the step, all of them writes, lead to a state in which these octets no longer wait
 pub record Goes {P : Type 0} (moves : P → List Event → P → Type 0) (first : P) (page : List ℕ) (before : Future) (octets : List ℕ)
     (last : P) (kept : List ℕ) (now : Future) : Type 0 where
   pub events : List Event
@@ -66,7 +66,7 @@ pub record Goes {P : Type 0} (moves : P → List Event → P → Type 0) (first 
   pub leads : (future : Future) (at : Standing) (waiting : List ℕ) → Stands future at page (octets ++ waiting) before
       → Leads future at events at.phase at.octets kept waiting now
 
--- a step with which the work ends: from wherever it stood with these octets first among those that wait
+-- a step that ends the work: from any state with these octets first among those that wait
 pub record Comes {P : Type 0} (moves : P → List Event → P → Type 0) (first : P) (page : List ℕ) (before : Future) (octets : List ℕ)
     (end : FilterEnd) (last : P) : Type 0 where
   pub events : List Event
@@ -74,7 +74,7 @@ pub record Comes {P : Type 0} (moves : P → List Event → P → Type 0) (first
   pub finishes : (future : Future) (at : Standing) (waiting : List ℕ) → Stands future at page (octets ++ waiting) before
       → Finishes future at events end
 
--- the command gives no further piece for this cause: the input is refused or has ended, or memory is wanting
+-- the command returns no further chunk for this reason: the input is refused or has ended, or an allocation fails
 abbrev pub MayEnd : Future → FilterEnd → Type 0
 MayEnd now (Ended ending) = IsRefused now ending
 MayEnd now Memory = IsPausing now

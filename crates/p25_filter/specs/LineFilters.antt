@@ -1,4 +1,4 @@
--- The work on lines: what it still writes, for any octets that may still come.
+-- The work on lines: its remaining output, for any octets that may still come.
 use Rattle.std.specs.Prelude.{◌≡◌, ℕ, ◌+◌, Bool, true, false, ◌||◌, if◌then◌else◌, List, [], ◌∷◌, ◌++◌, Result, Ok, Err}
 use Rattle.p25_line.specs.declared.fault.LineFault.{LineFault}
 use Rattle.p25_filter.specs.{declared.ending.Ending.TheVariants.{BadLine}, declared.ending.Refusal.{Refusal}}
@@ -6,8 +6,8 @@ use Rattle.p25_filter.specs.{declared.ending.Refusal.TheVariants.{Ended, Memory}
 use Rattle.p25_filter.specs.{declared.line_filter.LinePhase.TheVariants.{Reading, Ready, ReadyLast, Closing, Closed}, Futures.{Future}}
 use Rattle.p25_filter.specs.{Lines.{each_behind, lines_ending, lines_in, texts_before}, LineRules.{IsWanting, LineRules, LinesTaken, lines_taken, written_for}}
 
--- the machine, the octets kept of the line that has begun or is there, how many lines were taken, what is still to be given of the
--- text for the last one, and how far the work has come
+-- the machine, the octets kept of the line that has begun or is ready, the number of lines taken, the rest of the text for the last one, and the
+-- phase of the work
 pub record LineFiltering (M : Type 0) : Type 0 where
   pub machine : M
   pub line : List ℕ
@@ -22,7 +22,7 @@ line_filtering machine line lines left phase = record { machine = machine; line 
 abbrev pub first_line : {M : Type 0} → M → LineFiltering M
 first_line machine = line_filtering machine [] 0 [] Reading
 
--- how many lines are there to be taken
+-- the number of lines that are ready to be taken
 abbrev pub lines_ready : LinePhase → ℕ
 lines_ready Ready = 1
 lines_ready ReadyLast = 1
@@ -44,7 +44,7 @@ lines_left ReadyLast line ended more = line ∷ []
 lines_left Closing line ended more = []
 lines_left Closed line ended more = []
 
--- whether the input has ended with these octets, and whether what is written at its end is still to be written
+-- whether the input has ended with these octets, and whether the output at its end is still to come
 abbrev pub ends_with : LinePhase → Bool → Bool
 ends_with phase ended = is_ended_phase phase || ended
 
@@ -55,15 +55,15 @@ closes_with ReadyLast ended = true
 closes_with Closing ended = true
 closes_with Closed ended = false
 
--- how many texts may still come: that for a line that is ready, and the one that closes the run
+-- the number of texts that may still come: that for a line that is ready, and the one that closes the run
 abbrev pub texts_of : LinePhase → ℕ
 texts_of phase = lines_ready phase + (if closes_with phase false then 1 else 0)
 
--- what comes of the lines that are still to be taken
+-- the result of the lines that are still to be taken
 abbrev pub taken_from : {M : Type 0} → LineRules M → LineFiltering M → Bool → List ℕ → LinesTaken M
 taken_from rules work ended more = lines_taken rules.take (work.lines + 1) work.machine (lines_left work.phase work.line ended more)
 
--- what is still written, how the call ends, and after which texts memory may be wanting, by the lines that are still to be taken
+-- the remaining output, the end of the call, and the texts after which an allocation may fail, by the lines that are still to be taken
 unfoldable pub line_future : {M : Type 0} → LineRules M → LineFiltering M → Future
 line_future rules work = record {
   writes = λ ended more. work.left ++ written_for rules (closes_with work.phase ended) (taken_from rules work ended more);
@@ -72,14 +72,14 @@ line_future rules work = record {
       if rules.wants then each_behind work.left (texts_before (taken_from rules work ended more).texts) else [];
 }
 
--- a line that is there was taken, and the text for it is to be given
+-- a line that was ready was taken, and the text for it is to be returned
 pub record IsTextReady {M : Type 0} (rules : LineRules M) (phase : LinePhase) (before now : LineFiltering M) : Type 0 where
   pub machine : M
   pub text : List ℕ
   pub taken : rules.take before.machine before.line ≡ Ok (machine, text)
   pub now_is : now ≡ line_filtering machine [] (before.lines + 1) text phase
 
--- a line that is there was taken, or it was not and all is as it was
+-- a line that was ready was taken, or it was not and nothing changed
 abbrev pub IsLineReady : {M : Type 0} → LineRules M → LinePhase → LineFiltering M → Result Bool Refusal → LineFiltering M → Type 0
 IsLineReady rules phase before (Ok answer) now = (answer ≡ true) × IsTextReady rules phase before now
 IsLineReady rules phase before (Err Memory) now = (now ≡ before) × IsWanting rules before.machine before.line

@@ -1,4 +1,4 @@
--- What the work on an input leaves, by how it ended.
+-- The state after the work on an input, by its end.
 use Rattle.std.specs.Prelude.{◌≡◌, ℕ, ◌+◌, ◌<◌, ◌≤◌, Bool, true, false, if◌then◌else◌, nat_lt, Option, Some, None, List, ◌++◌, length, take, Contains, IfSome}
 use Rattle.p25_io.specs.Octets.{Taken, Appended, AppendedBeginning}
 use Rattle.p25_filter.specs.{declared.ending.Ending.{Ending}, declared.ending.FilterEnd.{FilterEnd}}
@@ -11,12 +11,12 @@ input_most = 16777216
 abbrev pub read_most : ℕ
 read_most = 4096
 
--- all that is to be written for an input: for one that is too long, what its first octets decide
+-- all output for an input: for one that is too long, that of its first octets
 abbrev pub all_written : Future → List ℕ → List ℕ
 all_written future input = if nat_lt input_most (length input) then future.writes false (take input_most input) else future.writes true input
 
--- the work ended by what the input holds: at its end, or at a refusal within it, which stays whatever octets come later; no
--- octet past the most is looked at
+-- the work ended by the contents of the input: at its end, or at a refusal within it, which stays whatever octets come later; no octet past the most
+-- counts
 pub record IsFinal (told first last : Option (List ℕ)) (future : Future) (octets : List ℕ) (ending : Ending) : Type 0 where
   pub ended : Bool
   pub all : ended ≡ true → (length octets ≤ input_most) × IfSome told (λ input. input ≡ octets)
@@ -24,24 +24,24 @@ pub record IsFinal (told first last : Option (List ℕ)) (future : Future) (octe
   pub stays : ended ≡ false → (is : Bool) (more : List ℕ) → future.ends is (take input_most octets ++ more) ≡ Some ending
   pub wrote : Appended first (future.writes ended (take input_most octets)) last
 
--- a read failed: nothing refuses the octets taken, and what they decide is written
+-- a read failed: the octets taken cause no refusal, and the output that they determine is written
 pub record IsReadFault (first last : Option (List ℕ)) (future : Future) (octets : List ℕ) : Type 0 where
   pub few : length octets ≤ input_most
   pub ends : future.ends false octets ≡ None
   pub wrote : Appended first (future.writes false octets) last
 
--- the input is too long: nothing refuses its first octets, and what they decide is written
+-- the input is too long: its first octets cause no refusal, and the output that they determine is written
 pub record IsTooLong (first last : Option (List ℕ)) (future : Future) (octets : List ℕ) : Type 0 where
   pub many : input_most < length octets
   pub ends : future.ends false (take input_most octets) ≡ None
   pub wrote : Appended first (future.writes false (take input_most octets)) last
 
--- a write failed: the beginning of all that was to be written is written
+-- a write failed: a beginning of all the output is written
 pub record IsWriteFault (left first last : Option (List ℕ)) (future : Future) (octets : List ℕ) : Type 0 where
   pub beginning : (rest : List ℕ) → left ≡ Some rest → AppendedBeginning first (all_written future (octets ++ rest)) last
 
--- memory was wanting: what is written is a text after which it may be, by the octets taken, which are all or more may come;
--- no octet past the most is looked at
+-- an allocation failed: the text written is one after which it may fail, by the octets taken, which are all or more may come; no octet past the most
+-- counts
 pub record IsMemory (told first last : Option (List ℕ)) (future : Future) (octets : List ℕ) : Type 0 where
   pub ended : Bool
   pub all : ended ≡ true → (length octets ≤ input_most) × IfSome told (λ input. input ≡ octets)
@@ -49,7 +49,7 @@ pub record IsMemory (told first last : Option (List ℕ)) (future : Future) (oct
   pub pauses : Contains (future.pauses ended (take input_most octets)) text
   pub wrote : Appended first text last
 
--- what an end says of the octets taken and of what was written
+-- the condition of an end on the octets taken and on the text written
 abbrev pub Meets : (told left first last : Option (List ℕ)) → Future → List ℕ → FilterEnd → Type 0
 Meets told left first last future octets (Ended ending) = IsFinal told first last future octets ending
 Meets told left first last future octets ReadFault = IsReadFault first last future octets
@@ -57,7 +57,7 @@ Meets told left first last future octets WriteFault = IsWriteFault left first la
 Meets told left first last future octets TooLong = IsTooLong first last future octets
 Meets told left first last future octets Memory = IsMemory told first last future octets
 
--- some octets were taken from the source, at most one read more than the most of an input, and the end is met
+-- some octets were taken from the source, at most one read more than the most of an input, and the condition of the end is met
 pub record Filtered (told left first last : Option (List ℕ)) (future : Future) (end : FilterEnd) : Type 0 where
   pub octets : List ℕ
   pub taken : Taken told octets left

@@ -1,4 +1,4 @@
--- The order of reads and writes in the work on an input: which event may come after those before it, and how the work ends.
+-- The order of reads and writes in the work on an input: the events that may follow those before them, and the end of the work.
 use Rattle.std.specs.Prelude.{◌≡◌, ℕ, ◌<◌, ◌≤◌, Bool, true, false, List, [], ◌∷◌, ◌++◌, length, take, Contains, Some, None}
 use Rattle.p25_io.specs.Events.{Event, Read, ReadFailed, Wrote, WriteFailed}
 use Rattle.p25_filter.specs.{declared.ending.Ending.{Ending}, declared.ending.FilterEnd.{FilterEnd}}
@@ -11,7 +11,7 @@ pub data Phase : Type 0 where
   Over : Phase
   Broken : Phase
 
--- how far the work has come: the octets that were read and the text that was written
+-- the state of the work: the octets that were read and the text that was written
 pub record Standing : Type 0 where
   pub phase : Phase
   pub octets : List ℕ
@@ -24,12 +24,12 @@ standing_at phase octets text = record { phase = phase; octets = octets; text = 
 abbrev pub at_first : Standing
 at_first = standing_at Going [] []
 
--- a read that gives nothing is the end of the input
+-- a read that returns nothing is the end of the input
 abbrev pub phase_by : List ℕ → Phase
 phase_by [] = Over
 phase_by (octet ∷ octets) = Going
 
--- how far it has come after one more event, and after some
+-- the state after one more event, and after some
 abbrev pub standing_after : Standing → Event → Standing
 standing_after at (Read octets) = standing_at (phase_by octets) (at.octets ++ octets) at.text
 standing_after at ReadFailed = standing_at Broken at.octets at.text
@@ -45,26 +45,26 @@ pub record Begins (text whole : List ℕ) : Type 0 where
   pub rest : List ℕ
   pub is : whole ≡ text ++ rest
 
--- a text is decided: it is the beginning of what is written whatever octets come after those that were read, of which none past
--- the most is looked at; or of what is written for all of them
+-- a text is decided: it is a beginning of the output whatever octets come after those that were read, none of which past the most counts; or of the
+-- output for all of them
 abbrev pub IsDecided : Future → Phase → List ℕ → List ℕ → Type 0
 IsDecided future Going octets text = (ended : Bool) (more : List ℕ) → Begins text (future.writes ended (take input_most octets ++ more))
 IsDecided future Over octets text = Begins text (future.writes true octets)
 IsDecided future Broken octets text = ⊥
 
--- all that the octets read so far decide is written, they refuse nothing, and they are not too many
+-- all output that the octets read so far determine is written, they cause no refusal, and they are not too many
 pub record IsSettled (future : Future) (at : Standing) : Type 0 where
   pub going : at.phase ≡ Going
   pub few : length at.octets ≤ input_most
   pub ends : future.ends false at.octets ≡ None
   pub wrote : at.text ≡ future.writes false at.octets
 
--- a piece is not empty, and decided after the text that was written
+-- a chunk is not empty, and decided after the text that was written
 pub record IsDue (future : Future) (at : Standing) (piece : List ℕ) : Type 0 where
   pub some : 0 < length piece
   pub decided : IsDecided future at.phase at.octets (at.text ++ piece)
 
--- what may come next: a read only where all that is decided is written, a write only of what is decided, and nothing after a fault
+-- the event that may come next: a read only if all decided output is written, a write only of decided output, and nothing after a fault
 abbrev pub MayCome : Future → Standing → Event → Type 0
 MayCome future at (Read octets) = IsSettled future at × (length octets ≤ read_most)
 MayCome future at ReadFailed = IsSettled future at
@@ -76,7 +76,7 @@ abbrev pub IsLive : Future → Standing → List Event → Type 0
 IsLive future at [] = Unit {0}
 IsLive future at (event ∷ events) = MayCome future at event × IsLive future (standing_after at event) events
 
--- the input is refused, whatever octets come, and all before that is written; or it has ended, and all is written
+-- the input is refused, whatever octets come, and all output before that is written; or it has ended, and all output is written
 abbrev pub IsFinalAt : Future → Phase → List ℕ → List ℕ → Ending → Type 0
 IsFinalAt future Going octets text ending =
     ((ended : Bool) (more : List ℕ) → future.ends ended (take input_most octets ++ more) ≡ Some ending)
@@ -84,14 +84,14 @@ IsFinalAt future Going octets text ending =
 IsFinalAt future Over octets text ending = (future.ends true octets ≡ Some ending) × (text ≡ future.writes true octets)
 IsFinalAt future Broken octets text ending = ⊥
 
--- the input is too long: its first octets refuse nothing, and what they decide is written
+-- the input is too long: its first octets cause no refusal, and the output that they determine is written
 pub record IsTooLongAt (future : Future) (at : Standing) : Type 0 where
   pub going : at.phase ≡ Going
   pub many : input_most < length at.octets
   pub ends : future.ends false (take input_most at.octets) ≡ None
   pub wrote : at.text ≡ future.writes false (take input_most at.octets)
 
--- memory may be wanting after what is written
+-- an allocation may fail after the text written
 abbrev pub IsMemoryAt : Future → Phase → List ℕ → List ℕ → Type 0
 IsMemoryAt future Going octets text = Contains (future.pauses false (take input_most octets)) text
 IsMemoryAt future Over octets text = Contains (future.pauses true octets) text
@@ -124,7 +124,7 @@ AreReads (ReadFailed ∷ events) = AreReads events
 AreReads (Wrote piece ∷ events) = ⊥
 AreReads (WriteFailed piece count ∷ events) = ⊥
 
--- what an end says of the events, and of what was read and written
+-- the condition of an end on the events, and on the octets read and the text written
 abbrev pub EndsAs : Future → List Event → Standing → FilterEnd → Type 0
 EndsAs future events at (Ended ending) = IsFinalAt future at.phase at.octets at.text ending
 EndsAs future events at ReadFault = EndsWith events ReadFailed

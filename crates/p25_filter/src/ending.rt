@@ -1,21 +1,21 @@
-//! How the work on an input ends.
+//! The end of the work on an input.
 
 use p25_line::LineFault;
 use std::fmt;
 use thiserror::Error;
 
-/// How the work on an input ends by what the input holds.
+/// The end of the work on an input by its contents.
 #[derive(Clone, Copy, Debug, PartialEq, Eq)]
 pub enum Ending {
-    /// All was read and written.
+    /// The whole input was read and all output was written.
     Done,
-    /// A check found this many faults; all was read and written.
+    /// A check found this number of faults; the whole input was read and all output was written.
     Found { faults: u64 },
-    /// This line, counted from 1, is refused; all that the lines before it ask for is written.
+    /// This line, counted from 1, is refused; the output for the lines before it is written.
     BadLine { line: u64, fault: LineFault },
 }
 
-/// Shows an ending in the words of the program: `done`, `found 3` or `line 2: value`. No clause says so.
+/// Writes an ending in the words of the program: `done`, `found 3` or `line 2: value`. No contract states this.
 impl fmt::Display for Ending {
     fn fmt<W: fmt::Write>(&self, f: &mut fmt::Formatter<W>) -> fmt::Result {
         match self {
@@ -26,21 +26,22 @@ impl fmt::Display for Ending {
     }
 }
 
-/// Why a command at work gives no further piece. It is shown in the words of the program; no clause says so.
+/// The reason why a running command returns no further chunk. It is displayed in the words of the program; no contract
+/// states this.
 #[derive(Clone, Copy, Debug, PartialEq, Eq, Error)]
 pub enum Refusal {
-    /// The input is refused, and the call ends so.
+    /// The input is refused, and this is the end of the call.
     #[error("{0}")]
     Ended(Ending),
-    /// There is not enough memory.
+    /// Out of memory.
     #[error("out of memory")]
     Memory,
 }
 
-/// How the work on an input ended.
+/// The end of the work on an input.
 #[derive(Clone, Copy, Debug, PartialEq, Eq)]
 pub enum FilterEnd {
-    /// The input was read to its end or to a refusal, and all before that was written.
+    /// The input was read to its end or to a refusal, and all output before that was written.
     Ended(Ending),
     /// The source failed.
     ReadFault,
@@ -48,11 +49,11 @@ pub enum FilterEnd {
     WriteFault,
     /// The input has more than 16,777,216 octets.
     TooLong,
-    /// There was not enough memory, and all before that was written.
+    /// Out of memory; all output before that was written.
     Memory,
 }
 
-/// Shows how the work ended in the words of the program. No clause says so.
+/// Writes the end of the work in the words of the program. No contract states this.
 impl fmt::Display for FilterEnd {
     fn fmt<W: fmt::Write>(&self, f: &mut fmt::Formatter<W>) -> fmt::Result {
         match self {

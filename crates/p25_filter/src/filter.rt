@@ -1,4 +1,4 @@
-//! What a command does with the octets of its input, one after the other, apart from reading and writing.
+//! The effect of a command on the octets of its input, one after the other, apart from reading and writing.
 
 ghost use Rattle.std.specs.Prelude.{◌≡◌, ℕ, ◌+◌, ◌*◌, ◌^◌, ◌<◌, ◌≤◌, Bool, true, false, List, [], length, take};
 ghost use Rattle.p25_filter.specs.Futures.{Future, Progress, IsClosed, IsIdle, NextPiece};
@@ -6,27 +6,28 @@ ghost use Rattle.p25_filter.specs.Futures.{Future, Progress, IsClosed, IsIdle, N
 use super::ending::{Ending, Refusal};
 use p25_line::Line;
 
-/// A command at work: octets go in, and what it writes for them comes out in pieces.
+/// A running command: it takes octets and returns its output for them in chunks.
 ///
-/// Contracts see what it is still to write, how it ends, and where memory may be wanting, for any octets that may still
-/// come (its `future`).
+/// Contracts see the output that is still to come, the end of the call, and the points at which an allocation may fail,
+/// for any octets that may still come (its `future`).
 pub trait Filter {
-    // What it still writes, how it ends and where memory may be wanting, for each list of octets that may come.
+    // The remaining output, the end of the call and the points at which an allocation may fail, for each list of octets
+    // that may come.
     ghost future: { Self → Future };
 
     // No more octets come.
     ghost is_finished: { Self → Bool };
 
-    // It has no piece to give before another octet comes or the input ends.
+    // It has no chunk to return before another octet comes or the input ends.
     ghost IsDrained: { Self → Type 0 };
 
-    // How many pieces it can still give, at most, before it is drained.
+    // The most chunks that it can still return before it is drained.
     ghost pieces_left: { Self → ℕ };
 
-    // How large its counts have grown.
+    // The size of its counts.
     ghost size: { Self → ℕ };
 
-    /// Takes some of the next octets of the input, from the first of these on, and answers how many: at least one.
+    /// Takes some of the next octets of the input, from the first of these on, and returns their number: at least one.
     fn push_some(&mut self, octets: &[u8]) -> usize
         requires some { 0 < length octets.now }
         requires drained { IsDrained self.old }
@@ -38,7 +39,7 @@ pub trait Filter {
         ensures going { is_finished self.new ≡ false }
         ensures size { size self.new ≤ size self.old + 8 * result };
 
-    /// Is told that the input has ended.
+    /// Marks the end of the input.
     fn finish(&mut self)
         requires drained { IsDrained self.old }
         requires going { is_finished self.old ≡ false }
@@ -46,8 +47,8 @@ pub trait Filter {
         ensures closed { IsClosed (future self.old) (future self.new) }
         ensures finished { is_finished self.new ≡ true };
 
-    /// Sets `out` to the next piece and answers true, or answers false where it is drained. A refusal ends the call: the
-    /// input is refused, or there is not enough memory, which may be only where the `future` says so.
+    /// Writes to `out` the next chunk and returns true, or returns false if it is drained. A refusal ends the call: the
+    /// input is refused, or the allocation fails, which is possible only if the `future` allows it.
     fn next(&mut self, out: &mut Line) -> Result<bool, Refusal>
         ensures piece { NextPiece (future self.old) result out.new (future self.new) }
         ensures drained { result ≡ Ok false → IsDrained self.new }
@@ -56,7 +57,7 @@ pub trait Filter {
         ensures same { is_finished self.new ≡ is_finished self.old }
         ensures size { size self.new ≤ size self.old };
 
-    /// Answers how the call ends once the input has ended and all pieces are written.
+    /// Returns the end of the call after the input has ended and all chunks are written.
     fn ending(&self) -> Ending
         requires finished { is_finished self.now ≡ true }
         requires drained { IsDrained self.now }

@@ -1,4 +1,4 @@
-//! The work on an input: reading it in pieces, handing its octets to a command, and writing what the command gives.
+//! The work on an input: reading it in chunks, passing its octets to a command, and writing the command's output.
 
 ghost use Rattle.std.specs.Prelude.{◌≡◌, ◌+◌, ◌*◌, ◌^◌, ◌<◌, ◌≤◌, false, List, [], length, OnOk, IfErr};
 ghost use Rattle.p25_io.specs.Events.{Event};
@@ -13,7 +13,8 @@ use p25_line::Line;
 // The most octets of an input.
 const INPUT_MOST: usize = 16_777_216;
 
-// Writes the page, after which there is no further piece, and answers how the work ends: so, or by a write that fails.
+// Writes the page, after which there is no further chunk, and returns the end of the work: the given one, or that of a
+// write that fails.
 fn end_so<P: Port>(end: FilterEnd, page: &mut Line, port: &mut P) -> FilterEnd
     ensures { (now : Future) → MayEnd now end → Comes P.moves port.old page.old now [] result port.new }
 {
@@ -23,7 +24,7 @@ fn end_so<P: Port>(end: FilterEnd, page: &mut Line, port: &mut P) -> FilterEnd
     }
 }
 
-// Gathers all pieces that the command has to give.
+// Gathers all chunks that the command can return.
 fn drain<W: Filter, P: Port>(
     filter: &mut W,
     page: &mut Line,
@@ -53,7 +54,7 @@ fn drain<W: Filter, P: Port>(
     }
 }
 
-// Hands octets to the command, and writes all that it gives for them.
+// Passes octets to the command, and writes all its output for them.
 fn feed<W: Filter, P: Port>(
     filter: &mut W,
     octets: &[u8],
@@ -87,9 +88,9 @@ fn feed<W: Filter, P: Port>(
     }
 }
 
-/// Reads the port to the end of the input, at most 16,777,216 octets, hands the octets to the command and writes what it gives.
-/// All that the octets read so far decide is written before the next read, and nothing else; nothing is read or written after a
-/// fault. Where there is not enough memory, what came before is written.
+/// Reads the port to the end of the input, at most 16,777,216 octets, passes the octets to the command and writes its
+/// output. Before each read, all output that the octets read so far determine is written, and nothing else. After a
+/// fault nothing is read or written. If an allocation fails, the output before it is written.
 pub fn run_on<W: Filter, P: Port>(filter: &mut W, port: &mut P) -> FilterEnd
     requires drained { W.IsDrained filter.old }
     requires idle { IsIdle false (W.future filter.old) }

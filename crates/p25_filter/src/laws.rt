@@ -1,4 +1,5 @@
-//! What a live run of events comes to. Each law is a theorem: its contract is what is proved, and its body is empty.
+//! The consequences of a live run of events. Each law is a theorem: its contract is what is proved, and its body is
+//! empty.
 
 ghost use Rattle.p25_filter.specs.Orders.{
   AllIsWrittenFirst,
@@ -12,9 +13,9 @@ ghost use Rattle.p25_filter.specs.Orders.{
   WriteFaultIsTold,
 };
 
-/// **Theorem.** In a live run of events: at each read all that the octets read before decide was written, and they refuse
-/// nothing; of two reads with no write between them the first decided nothing; no read comes after the end of the input; no
-/// write is empty; and a fault is the last event, which the end tells.
+/// **Theorem.** The laws of a live run of events. At each read all output that the octets read before determine was
+/// written, and they cause no refusal. Of two reads with no write between them the first determined nothing. No read
+/// comes after the end of the input, and no write is empty. A fault is the last event, and the end states it.
 pub fn order_laws()
     ensures all_is_written_first { AllIsWrittenFirst }
     ensures no_read_after_refusal { NoReadAfterRefusal }

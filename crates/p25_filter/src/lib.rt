@@ -1,5 +1,5 @@
-//! The work on an input: octets are read in pieces from a source, handed in their order to a command, and what the
-//! command gives for them is written to a sink in few pieces.
+//! The work on an input: octets are read in chunks from a source and passed in their order to a command, and the
+//! command's output is written to a sink in few chunks.
 //!
 //! ```text
 //! let mut source = SteadySource::new(b"ab\ncd\n", 4);
@@ -10,18 +10,19 @@
 //! assert_eq!(rt; end, FilterEnd::Ended(Ending::Done));
 //! ```
 //!
-//! `Echo` is a machine over lines that gives each line back, without its end: so `abcd` is written.
+//! `Echo` is a machine over lines that returns each line unchanged, without its end: so `abcd` is written.
 //!
-//! A command is a `Filter`. Contracts see it by its `Future`: what it still writes, how the call ends, and after which texts
-//! memory may be wanting, for each list of octets that may still come.
+//! A command is a `Filter`. Contracts see it by its `Future`: its remaining output, the end of the call, and the texts
+//! after which an allocation may fail, for each list of octets that may still come.
 //!
-//! `run_on` does the work on any port, and reads to the end of the input, at most 16,777,216 octets. Its contract says which
-//! reads and writes it makes, and in which order: they are a live run of events (`IsRun`), in which all that the octets read so
-//! far decide is written before the next read, no write is empty, and nothing comes after a fault. `laws::order_laws` says what
-//! this comes to. Between a source and a sink (`Pair`), what stands after each way to end is `Filtered`.
+//! `run_on` does the work on any port, and reads to the end of the input, at most 16,777,216 octets. Its contract
+//! states the reads and writes that it makes, and their order: they are a live run of events (`IsRun`). All output that
+//! the octets read so far determine is written before the next read, no write is empty, and nothing comes after a
+//! fault. `laws::order_laws` states the consequences. Between a source and a sink (`Pair`), `Filtered` is the state
+//! after each possible end.
 //!
-//! A command over lines is a `LineMachine`, which answers each line with a text, and `LineFilter` is the filter that it makes.
-//! Contracts see it by its `LineRules`: the machine after a line and the text for it, or the line's fault.
+//! A command over lines is a `LineMachine`, which returns a text for each line, and `LineFilter` is the filter that it
+//! makes. Contracts see it by its `LineRules`: the machine after a line and the text for it, or the line's fault.
 #![tactic(auto)]
 
 mod ending;

@@ -11,21 +11,21 @@ use arrayvec::ArrayVec;
 use p25_line::{LINE_MOST, Line};
 use std::marker::Model;
 
-// The most octets that are kept of a line. A longer one is refused by them.
+// The most octets that are kept of a line. They suffice to refuse a longer one.
 const KEPT_MOST: usize = 8_193;
 
-// How far the work has come.
+// The state of the work.
 #[derive(Clone, Copy, Debug, PartialEq, Eq)]
 pub(crate) enum LinePhase {
     // A line has begun, or none; more octets may come.
     Reading,
-    // A line is there to be taken; more octets may come.
+    // A line is ready to be taken; more octets may come.
     Ready,
-    // The last line is there to be taken.
+    // The last line is ready to be taken.
     ReadyLast,
     // The input has ended, and all lines were taken.
     Closing,
-    // What is written at the end was given.
+    // The output at the end was returned.
     Closed,
 }
 
@@ -36,7 +36,7 @@ pub struct LineFilter<M: LineMachine> {
     machine: M,
     line: ArrayVec<u8, 8_193>,
     lines: u64,
-    // The text for the last line, and how many of its octets were given.
+    // The text for the last line, and the number of its octets that were returned.
     text: Text,
     given: usize,
     phase: LinePhase,
@@ -54,7 +54,7 @@ impl<M: LineMachine> Model for LineFilter<M> {
 }
 
 impl<M: LineMachine> LineFilter<M> {
-    /// Answers the work of a machine before the first octet.
+    /// Returns the work of a machine before the first octet.
     pub fn new(machine: M) -> LineFilter<M>
         ensures { result ≡ first_line machine }
     {
@@ -68,7 +68,7 @@ impl<M: LineMachine> LineFilter<M> {
         }
     }
 
-    // Keeps octets of the line that has begun, as many as are kept of a line, and goes on to a phase.
+    // Keeps octets of the line that has begun, as many as are kept of a line, and changes to a phase.
     fn keep(&mut self, octets: &[u8], phase: LinePhase)
         requires { self.old.lines + lines_ready phase ≤ 2 ^ 28 }
         ensures { self.new ≡ record self.old { line = take 8193 (self.old.line ++ octets.now); phase = phase } }
@@ -78,7 +78,8 @@ impl<M: LineMachine> LineFilter<M> {
         self.phase = phase;
     }
 
-    // Has the machine take the line that is there, keeps the text for it and goes on to a phase, or answers why the line was not taken.
+    // Passes the line that is ready to the machine, keeps the text for it and changes to a phase, or returns the reason
+    // why the line was not taken.
     fn take_line(&mut self, phase: LinePhase) -> Result<bool, Refusal>
         requires ready { lines_ready self.old.phase ≡ 1 }
         requires taken { lines_ready phase ≡ 0 }
@@ -102,7 +103,7 @@ impl<M: LineMachine> LineFilter<M> {
         }
     }
 
-    // Gets the next text ready to be given, and answers whether there is one.
+    // Prepares the next text, and returns whether there is one.
     fn ready(&mut self) -> Result<bool, Refusal>
         requires none { self.old.left ≡ [] }
         ensures piece { NextPiece (line_future M.rules self.old) result [] (line_future M.rules self.new) }
@@ -125,7 +126,7 @@ impl<M: LineMachine> LineFilter<M> {
         }
     }
 
-    // Answers what is still to be given of the text.
+    // Returns the rest of the text.
     fn rest(&self) -> &[u8]
         ensures list { result.now ≡ self.now.left }
         ensures most { length result.now ≤ 16384 }
@@ -133,7 +134,7 @@ impl<M: LineMachine> LineFilter<M> {
         &self.text.octets()[self.given..]
     }
 
-    // Sets `out` to what is still to be given of the text, or to as much of it as a line has room for.
+    // Writes to `out` the rest of the text, or as much of it as a line has capacity for.
     fn give(&mut self, out: &mut Line)
         ensures out { out.new ≡ take 8192 self.old.left }
         ensures left { self.new ≡ record self.old { left = drop (length out.new) self.old.left } }
@@ -159,13 +160,14 @@ impl<M: LineMachine> Filter for LineFilter<M> {
 
     ghost IsDrained = { λ s. (texts_of s.phase ≡ 0) × (s.left ≡ []) };
 
-    // A text that is given in pieces of at least one octet has as many pieces as octets, at most; and one may be empty.
+    // A text that is returned in chunks of at least one octet has at most as many chunks as octets; and one may be
+    // empty.
     ghost pieces_left = { λ s. 16385 * texts_of s.phase + length s.left };
 
     ghost size = { λ s. s.lines + lines_ready s.phase };
 
     fn push_some(&mut self, octets: &[u8]) -> usize {
-        // The octets before the first LF, or all of them where there is none.
+        // The octets before the first LF, or all of them if there is none.
         let count = octets
             .iter()
             .position(|octet| *octet == b'\n')

@@ -1,4 +1,4 @@
-//! What a command makes of the lines of its input, one after the other.
+//! The effect of a command on the lines of its input, one after the other.
 
 ghost use Rattle.std.specs.Prelude.{◌≡◌, ℕ, ◌<◌, List, [], length, Err};
 ghost use Rattle.p25_line.specs.declared.fault.LineFault.TheVariants.{Long};
@@ -8,32 +8,34 @@ use super::text::Text;
 use p25_line::LineFault;
 use thiserror::Error;
 
-/// Why a line was not taken. It is shown as the word of the fault, or as the program tells of memory; no clause says so.
+/// The reason why a line was not taken. It is displayed as the word of the fault, or as the program's word for out of
+/// memory; no contract states this.
 #[derive(Clone, Copy, Debug, PartialEq, Eq, Error)]
 pub enum LineRefusal {
-    /// The line is refused, for this cause.
+    /// The line is refused, for this reason.
     #[error("{0}")]
     Fault(LineFault),
-    /// The line has no fault, and there is not enough memory for it.
+    /// The line has no fault, but an allocation for it fails.
     #[error("out of memory")]
     Memory,
 }
 
-/// A machine over lines: it takes each line and answers it with a text, and writes a last text at the end of the input.
+/// A machine over lines: it takes each line and returns a text for it, and writes a last text at the end of the input.
 ///
-/// Contracts see what it answers as a function of the machine and the line (its `rules`).
+/// Contracts see its results as a function of the machine and the line (its `rules`).
 pub trait LineMachine {
-    // What the machine answers to a line, what it writes at the end of the input, and whether memory may be wanting for a line.
+    // The result of the machine for a line, its output at the end of the input, and whether an allocation may fail for
+    // a line.
     ghost rules: { LineRules Self };
 
-    /// Takes a line, without the LF that ends it, and puts the text for it into `text`, which is empty before. Or returns why the line
-    /// is not taken, and the machine is as before and `text` empty; memory is wanting only where it may be, and for a line without a
-    /// fault.
+    /// Takes a line, without the LF that ends it, and writes the text for it to `text`. It requires an empty `text`.
+    /// Otherwise it returns the reason why the line is not taken, and the machine and `text` are unchanged. Out of
+    /// memory is possible only if the rules allow it, and for a line without a fault.
     fn take(&mut self, line: &[u8], text: &mut Text) -> Result<(), LineRefusal>
         requires empty { text.old ≡ [] }
         ensures { IsLineTaken rules self.old line.now result text.new self.new };
 
-    /// Puts what is written at the end of the input into `text`, which is empty before.
+    /// Writes the output at the end of the input to `text`. It requires an empty `text`.
     fn close(&self, text: &mut Text)
         requires empty { text.old ≡ [] }
         ensures { text.new ≡ rules.closing self.now };

@@ -1,4 +1,4 @@
-//! Pieces of output gathered on a page, so that many of them are written at once.
+//! Chunks of output gathered on a page, so that many of them are written at once.
 
 ghost use Rattle.std.specs.Prelude.{◌≡◌, [], OnOk, OnErr};
 ghost use Rattle.p25_filter.specs.{declared.ending.FilterEnd.TheVariants.{WriteFault}, Futures.{Future, Progress}, Goings.{Comes, Goes}};
@@ -6,7 +6,7 @@ ghost use Rattle.p25_filter.specs.{declared.ending.FilterEnd.TheVariants.{WriteF
 use p25_io::{Failed, Port};
 use p25_line::{LINE_MOST, Line};
 
-// Writes what is on the page, and empties it. An empty page is not written.
+// Writes the page, and empties it. An empty page is not written.
 pub(crate) fn flush<P: Port>(page: &mut Line, port: &mut P) -> Result<(), Failed>
     ensures ok { OnOk result ((now : Future) → Goes P.moves port.old page.old now [] port.new [] now) }
     ensures empty { OnOk result (page.new ≡ []) }
@@ -20,7 +20,7 @@ pub(crate) fn flush<P: Port>(page: &mut Line, port: &mut P) -> Result<(), Failed
     Ok(())
 }
 
-// Puts a piece on the page. Where it has no room, what is on the page is written first.
+// Appends a chunk to the page. If the page has no capacity for it, the page is written first.
 pub(crate) fn gather<P: Port>(page: &mut Line, piece: &Line, port: &mut P) -> Result<(), Failed>
     ensures ok { OnOk result ((before now : Future) → Progress before [] piece.now now → Goes P.moves port.old page.old before [] port.new page.new now) }
     ensures err { OnErr result ((now : Future) → Comes P.moves port.old page.old now [] WriteFault port.new) }

@@ -1,12 +1,12 @@
-//! The order of reads and writes, as a tape tells it: of an input that is read to its end, of a line that is refused, and of a
-//! fault of each kind.
+//! The order of reads and writes, from a tape: for an input that is read to its end, for a line that is refused, and
+//! for a fault of each kind.
 
 use super::*;
 use p25_io::{Call, MemorySource, Pair, SliceSink, SteadySource, Tape};
 use p25_line::{Line, LineFault};
 use std::test::Fail;
 
-// Gives each line back, and refuses an empty one.
+// Returns each line unchanged, and refuses an empty one.
 #[derive(Drop)]
 struct Echo;
 
@@ -66,7 +66,7 @@ fn refusals_in_words(rt: HostRuntime) -> Result<(), Fail> {
     Ok(())
 }
 
-// A call by a letter and how many octets it read or was to write; a fault has a capital letter.
+// A call by a letter and the number of octets that it read or had to write; a fault has a capital letter.
 fn told(call: &Call) -> (u8, usize) {
     match call {
         Call::Read(octets) => (b'r', octets.len()),
@@ -76,8 +76,8 @@ fn told(call: &Call) -> (u8, usize) {
     }
 }
 
-// The input, the number of the read that fails, that of the write that fails, the calls, and the end. At most 4 octets come with
-// a read.
+// The input, the number of the read that fails, that of the write that fails, the calls, and the end. A read returns at
+// most 4 octets.
 const TAPES: [(&[u8], u64, u64, &[(u8, usize)], FilterEnd); 5] = [
     (
         b"ab\ncdefg\nij",

@@ -1,4 +1,4 @@
--- What a step means in a clean run, where the delivery keeps its facts before it and after it. By the counts of the facts.
+-- The meaning of a step in a clean run, if the delivery keeps its facts before it and after it. By the counts of the facts.
 use Rattle.std.proofs.{Common.{◌≡◌, ℕ, ◌+◌, ◌%◌, inl, inr, true, false, List, [], ◌∷◌, ◌++◌, length, take, get_or, refl, ap, sym, subst, ◌∙◌, arith, length-append}, Math.Seq.{get_or-append_seam}}
 use Rattle.std.proofs.lemmas.List.{take_all}
 use Rattle.p25_packet_blocks.specs.{declared.packet.Packet.TheVariants.{Confirmed}, ConfirmedParts.{ConfirmedParts}, Heads.{head_syn}}

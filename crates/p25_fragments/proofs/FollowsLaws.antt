@@ -1,5 +1,5 @@
--- What it means that the long messages follow a step: they match the delivery after it. And the steps that mean nothing for them, or
--- end a session, hear the opening packet or open the session. By what was outstanding.
+-- The relation of the long messages to the delivery after a step: they match it. And the steps without a meaning for them, or that end a session,
+-- receive the opening packet or open the session. By the outstanding packet.
 use Rattle.std.proofs.{Common.{◌≡◌, ◌≢◌, ℕ, ◌+◌, true, false, [], ◌∷◌, ◌++◌, length, Option, None, refl, ap, sym, subst, ◌∙◌, arith, length-append}, lemmas.Bool.{cond-true, cond-false}}
 use Rattle.std.proofs.lemmas.Bool.Decides.{nat_tests}
 use Rattle.std.specs.Prelude.{nat_lt}

@@ -1,5 +1,4 @@
--- The inner world of a run of long messages has a run of its own, whose steps are the inner steps. One event after the other, by
--- the rule that it takes.
+-- The inner world of a run of long messages has a run of its own, whose steps are the inner steps. One event after the other, by its rule.
 use Rattle.std.proofs.Common.{◌≡◌, ℕ, Bool, true, false, cond, List, [], ◌∷◌, ◌++◌, Option, Some, None, refl, ap, ap₂, sym, subst, ◌∙◌}
 use Rattle.std.specs.Prelude.{◌+◌, nat_lt, length}
 use Rattle.p25_messages.specs.{LongMessages.{part_count, part_of}, declared.step_kind.StepKind.{StepKind}, declared.step_kind.StepKind.TheVariants.{Acknowledged, Delivered, SynHeard}}

@@ -1,4 +1,4 @@
--- A joiner that is handed the parts of a long message in order. By the tests of a part, each at the part that comes.
+-- A joiner that takes the parts of a long message in order. By the tests of a part, each at the arriving part.
 use Rattle.std.proofs.{Common.{◌≡◌, ℕ, ◌+◌, ◌*◌, ◌%◌, ◌<◌, ◌≤◌, Bool, true, false, List, ◌∷◌, ◌++◌, length, take, drop, refl, ap, sym, ◌∙◌, arith, length-drop}, lemmas.Bool.{cond-true, cond-false}}
 use Rattle.std.proofs.{lemmas.Bool.Decides.{nat_tests}, lemmas.List.{take_all, length-take}, Math.Seq.{take-add}}
 use Rattle.std.specs.Prelude.{nat_le}

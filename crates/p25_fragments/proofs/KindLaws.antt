@@ -1,4 +1,4 @@
--- A step of the inner world that means nothing for the long messages. By its kind.
+-- A step of the inner world without a meaning for the long messages. By its type.
 use Rattle.std.proofs.Common.{◌≡◌, ℕ, List, refl}
 use Rattle.p25_messages.specs.{declared.step_kind.StepKind.{StepKind}, declared.step_kind.StepKind.TheVariants.{Acknowledged, Delivered, SynHeard}}
 use Rattle.p25_fragments.specs.{declared.long_step.Then.TheVariants.{Plain}, LongState.{LongState}, LongSteps.{after_kind}}

@@ -1,5 +1,5 @@
--- Each step adds to the lists of long messages the message that it tells of, and counts one acknowledged where it is Finished: by cases on
--- what follows a step of the inner world; and a run by induction.
+-- Each step adds its message to the lists of long messages, and counts one acknowledged if it is Finished: by cases on the meaning of a step of the
+-- inner world; and a run by induction.
 use Rattle.std.proofs.Common.{◌≡◌, ℕ, ◌+◌, Bool, true, false, cond, List, [], ◌∷◌, ◌++◌, length, Option, Some, None, refl, ap, sym, ◌∙◌, arith, append_assoc, append-nil}
 use Rattle.std.proofs.lemmas.List.Sums.{sum_by-cons}
 use Rattle.std.specs.Prelude.{nat_lt}

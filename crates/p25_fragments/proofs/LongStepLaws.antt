@@ -1,5 +1,5 @@
--- Each step of the inner world in a clean run keeps the long messages matched to the delivery, and refuses no part: also where a part is
--- delivered, or acknowledged. By what was outstanding.
+-- Each step of the inner world in a clean run keeps the long messages matched to the delivery, and refuses no part: also if a part is delivered, or
+-- acknowledged. By the outstanding packet.
 use Rattle.std.proofs.Common.{◌≡◌, ℕ, ◌+◌, ◌*◌, ◌<◌, ◌≤◌, ◌⊎◌, inl, inr, Bool, true, false, List, [], ◌∷◌, ◌++◌, length, drop, Option, Some, None, refl, ap, ap₂, sym, subst, ◌∙◌, arith, length-append}
 use Rattle.std.proofs.{lemmas.Bool.{cond-true, cond-false}, lemmas.Bool.Decides.{nat_tests}, lemmas.List.{length-take}}
 use Rattle.std.specs.Prelude.{nat_lt}

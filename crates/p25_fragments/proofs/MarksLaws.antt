@@ -1,5 +1,5 @@
--- In every run the world of long messages has as many marks as the inner world. By the steps of the inner world, each of which makes
--- one mark at most.
+-- In every run the world of long messages has as many marks as the inner world. By the steps of the inner world, each of which makes at most one
+-- mark.
 use Rattle.std.proofs.Common.{◌≡◌, ℕ, ◌+◌, ◌⊎◌, inl, inr, Bool, true, false, cond, List, [], ◌∷◌, ◌++◌, length, Option, Some, None, refl, ap, sym, subst, ◌∙◌, arith, length-append}
 use Rattle.std.specs.Prelude.{nat_lt}
 use Rattle.p25_messages.specs.{LongMessages.{part_count, part_of}, declared.answers.Offer.{Offer}, declared.answers.Offer.TheVariants.{Taken}, declared.step_kind.StepKind.{StepKind}}

@@ -1,5 +1,5 @@
--- What happens at a delivery, but an offer, does to it, by the kind of the step: to what is outstanding, to V(R), and to the lists. By
--- the rules of the stations, each answer in turn.
+-- The effect of an event of a delivery other than an offer, by the type of the step: on the outstanding packet, on V(R), and on the lists. By the
+-- rules of the stations, each result in turn.
 use Rattle.std.proofs.Common.{◌≡◌, ℕ, ◌+◌, ◌%◌, Bool, true, false, cond, eqb, List, length, Option, Some, None, refl, ap, sym, subst, ◌∙◌}
 use Rattle.p25_packet_blocks.specs.{declared.packet.Packet.{Packet}, declared.packet.Packet.TheVariants.{Confirmed, Plain}, ConfirmedParts.{ConfirmedParts}}
 use Rattle.p25_packet_blocks.specs.Heads.{head_blocks, head_llid, head_syn, head_number}

@@ -1,4 +1,4 @@
--- What the offer of part 0 tells of a long message. By the rules of the sender: whether it is down, and what is outstanding.
+-- The result of the offer of part 0 for a long message. By the rules of the sender: whether it is down, and its outstanding packet.
 use Rattle.std.proofs.{Common.{◌≡◌, ℕ, Bool, true, false, List, [], ◌∷◌, ◌++◌, length, Some, None, ap, ap₂, sym, subst, refl, ◌∙◌}, lemmas.Bool.{cond-true, cond-false}}
 use Rattle.p25_messages.specs.{LongMessages.{part_of}, declared.answers.Offer.{Offer}, declared.answers.Offer.TheVariants.{Down as DownAtOffer}}
 use Rattle.p25_messages.specs.declared.step_kind.StepKind.TheVariants.{Taken, Busy as BusyAtOffer, OfferDown}

@@ -1,5 +1,5 @@
--- The sessions of long messages are the whole of their lists: in every run, clean or not, the marks stand in order. By what an event
--- makes of the lists and of the marks.
+-- The sessions of long messages make up their lists: in every run, clean or not, the marks are in order. By the effect of an event on the lists and
+-- on the marks.
 use Rattle.std.proofs.Common.{◌≡◌, ℕ, ◌+◌, Bool, true, false, cond, nat_lt, List, [], ◌∷◌, length, Option, Some, None, arith, length-append}
 use Rattle.p25_messages.specs.{LongMessages.{part_count, part_of}, declared.step_kind.StepKind.{StepKind, TheVariants.{Acknowledged, Delivered}}}
 use Rattle.p25_delivery.specs.{Delivery.{first_mark, present_mark}, Orderly.{AreWhole}}

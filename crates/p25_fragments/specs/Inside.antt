@@ -1,4 +1,4 @@
--- What contracts see of the fields of a world of long messages.
+-- The fields of a world of long messages, as contracts see them.
 use Rattle.std.specs.Prelude.{ℕ, ◌-◌, ◌/◌, min, vec_len, vec_capacity}
 use Rattle.p25_fragments.specs.{declared.long_stations.LongStations.TheInside.{Inside}, LongState.{LongState, LongParts}}
 
@@ -15,11 +15,11 @@ state_of w =
       marks = w.marks.items;
     }
 
--- for how many long messages in each list, and marks, there is room
+-- the number of long messages in each list, and of marks, for which there is capacity
 abbrev pub own_spare_of : Inside → ℕ
 own_spare_of w = min (min w.taken.spare w.whole.spare) (vec_capacity w.marks - vec_len w.marks)
 
--- what contracts see of it: each step may be two of the inner world
+-- its parts as contracts see them: each step may be two of the inner world
 abbrev pub parts_of : Inside → LongParts
 parts_of w =
     record {

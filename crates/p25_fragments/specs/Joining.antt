@@ -1,8 +1,8 @@
--- What a joiner keeps, and what it makes of the messages that it is handed.
+-- The state of a joiner, and the results of the messages that it takes.
 use Rattle.std.specs.Prelude.{◌≡◌, ℕ, ◌+◌, ◌*◌, ◌%◌, ◌<◌, Bool, true, false, not, ◌&&◌, ◌||◌, ◌==◌, nat_lt, nat_le, List, [], ◌∷◌, ◌++◌, length, if◌then◌else◌}
 pub use Rattle.p25_fragments.specs.declared.joiner.Joined.{Joined, TheVariants.{Whole, Part, Refused}}
 
--- the number of the part that is expected, and the octets of the parts before it, joined
+-- the number of the expected part, and the octets of the parts before it, joined
 pub record Joining : Type 0 where
   pub next : ℕ
   pub octets : List ℕ
@@ -16,8 +16,8 @@ pub record IsJoining (j : Joining) : Type 0 where
   pub next : j.next < 8
   pub full : length j.octets ≡ 500 * j.next
 
--- the parts that are refused: one with another number than the one expected; the last with more than 500 octets, or with
--- none where it is not the only one; another with other than 500 octets, or with the number 7
+-- the parts that are refused: one with another number than the expected one; the last with more than 500 octets, or with none if it is not the only
+-- one; another with other than 500 octets, or with the number 7
 abbrev pub is_refused : ℕ → Bool → ℕ → ℕ → Bool
 is_refused next last number count =
     not (number == next) || (if last then nat_lt 500 count || (nat_lt 0 number && count == 0) else not (count == 500) || number == 7)
@@ -28,7 +28,7 @@ taken_as true last j number octets = (first_joining, Refused)
 taken_as false true j number octets = (first_joining, Whole (j.octets ++ octets))
 taken_as false false j number octets = (record { next = j.next + 1; octets = j.octets ++ octets }, Part number)
 
--- a part is the last where its first octet has 80 hex; its number is that octet without 80 hex
+-- a part is the last if its first octet has 80 hex; its number is that octet without 80 hex
 unfoldable pub part_taken : Bool → Joining → ℕ → List ℕ → Joining × Joined
 part_taken last j number octets = taken_as (is_refused j.next last number (length octets)) last j number octets
 

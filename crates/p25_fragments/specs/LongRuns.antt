@@ -1,4 +1,5 @@
--- Runs of a world of long messages: its state and its steps after a list of events, its sessions, and what is said of the steps of the inner world.
+-- Runs of a world of long messages: its state and its steps after a list of events, its sessions, and the terms of the laws for the steps of the
+-- inner world.
 use Rattle.std.specs.Prelude.{◌≡◌, ◌≢◌, ◌≤◌, ℕ, Bool, true, false, List, [], ◌∷◌, ◌++◌, length, count_by, Option, Some, None}
 use Rattle.p25_delivery.specs.{Runs.{run_by, steps_by, EachIs}, Delivery.{Session, sessions_of}}
 use Rattle.p25_stations.specs.{declared.step.Event.{Event, TheVariants.{Send}}, declared.step.Step.{Step}, Runs.{world_run, steps_of, AreClean}}
@@ -11,7 +12,7 @@ unfoldable pub IsNoOffer : Event → Type 0
 IsNoOffer (Send message) = ⊥
 IsNoOffer other = Unit {0}
 
--- what every event keeps: a long message has at most 4,000 octets, and no other message is offered
+-- the invariant of an event: a long message has at most 4,000 octets, and no other message is offered
 unfoldable pub IsLongEvent : LongEvent → Type 0
 IsLongEvent (Long message) = length message ≤ 4000
 IsLongEvent (Inner event) = IsNoOffer event
@@ -32,12 +33,12 @@ offers_beside (Long message) = false
 offers_beside (Inner (Send message)) = true
 offers_beside (Inner event) = false
 
--- an event that does not offer one to the inner world is one of which the laws speak
+-- an event that offers no message to the inner world is one for which the laws hold
 abbrev pub IsEventOf : Bool → LongEvent → Type 0
 IsEventOf true event = Unit {0}
 IsEventOf false event = IsLongEvent event
 
--- a world to which some list of events came from the first one; where none offered a message to the inner world, the laws speak of all
+-- a world to which some list of events leads from the first one; if none offered a message to the inner world, the laws hold for all
 pub record HasLongHistory (w : LongState) (beside : Bool) : Type 0 where
   pub events : List LongEvent
   pub kept : beside ≡ false → AreLongEvents events
@@ -56,13 +57,13 @@ unfoldable pub inner_steps : List LongStep → List Step
 inner_steps [] = []
 inner_steps (step ∷ steps) = (first_steps step.first ++ next_steps step.then) ++ inner_steps steps
 
--- some events of the inner world give a world and these steps
+-- some events of the inner world lead to a world with these steps
 pub record IsInnerRun (from to : WorldState) (inner : List Step) : Type 0 where
   pub events : List Event
   pub world : world_run from events ≡ to
   pub steps : steps_of from events ≡ inner
 
--- the inner run is clean where none of its steps is a false pass
+-- the inner run is clean if none of its steps is a false pass
 abbrev pub IsCleanLongRun : List LongEvent → Type 0
 IsCleanLongRun events = AreClean (inner_steps (long_steps_of first_long events))
 

@@ -7,21 +7,21 @@ use arrayvec::ArrayVec;
 use p25_messages::{LAST_PART, LongMessage, MOST_LONG, Message, PART_OCTETS};
 use std::marker::Model;
 
-/// What comes of a message that a joiner takes.
+/// The result of a message that a joiner takes.
 #[derive(Clone, Debug, PartialEq, Eq, Drop)]
 pub enum Joined {
     /// The last part of a long message, which is whole now.
     Whole(LongMessage),
-    /// Another part than the last, with this number.
+    /// A part other than the last, with this number.
     Part { number: u8 },
-    /// No part, or not the part that was expected.
+    /// Not a part, or not the expected part.
     Refused,
 }
 
-/// Joins the parts of long messages, which come in order.
+/// Joins the parts of long messages, which arrive in order.
 #[derive(Clone, Debug, PartialEq, Eq, Drop)]
 pub struct Joiner {
-    // the number of the part that is expected
+    // the number of the expected part
     next: u8,
     // the octets of the parts before it
     items: ArrayVec<u8, MOST_LONG>,
@@ -39,7 +39,7 @@ impl Model for Joiner {
     ghost inverse = { λ s. record { next = s.next; items = record { items = s.octets } } };
 }
 
-// Whether a part is refused: where so many octets stand after its first one.
+// Returns whether a part is refused, if `count` octets follow its first one.
 fn is_refused(next: u8, is_last: bool, number: u8, count: usize) -> bool
     ensures { result ≡ is_refused next is_last number count }
 {
@@ -55,7 +55,7 @@ fn is_refused(next: u8, is_last: bool, number: u8, count: usize) -> bool
 const MOST_NUMBER: u8 = 7;
 
 impl Joiner {
-    /// Answers a joiner that expects the part with number 0.
+    /// Returns a joiner that expects the part with number 0.
     pub fn new() -> Joiner
         ensures { result ≡ first_joining }
     {
@@ -65,7 +65,7 @@ impl Joiner {
         }
     }
 
-    /// Sets the joiner back: it expects the part with number 0, and holds nothing.
+    /// Resets the joiner: it expects the part with number 0, and holds nothing.
     pub fn reset(&mut self)
         ensures { self.new ≡ first_joining }
     {
@@ -73,11 +73,15 @@ impl Joiner {
         self.items.clear();
     }
 
-    /// Answers what a message is: the last part of a long message, which is whole then; another part; or refused. The first
-    /// octet is the number of the part, with 80 hex more where it is the last. Refused comes exactly where the message is
-    /// empty, where its number is not the one expected, where it is not the last and has other than 500 octets after the
-    /// first or the number 7, and where it is the last and has more than 500 octets after the first, or none though its
-    /// number is above 0. After a part the next number is expected, and else 0, with nothing held.
+    /// Takes a message, and returns the result: the last part of a long message, which is whole then; another part; or
+    /// `Refused`. The first octet is the number of the part, plus 80 hex for the last. `Refused` is returned in exactly
+    /// these cases:
+    ///
+    /// - The message is empty, or its number is not the expected one.
+    /// - It is not the last part, and has other than 500 octets after the first or the number 7.
+    /// - It is the last part, and has more than 500 octets after the first, or none although its number is above 0.
+    ///
+    /// After a part the next number is expected, and otherwise 0, with nothing held.
     #[tactic(auto, unfolding(crate::specs::Joining::message_taken))]
     pub fn take(&mut self, message: &Message) -> Joined
         ensures { (self.new, result) ≡ message_taken self.old message.now }

@@ -1,8 +1,8 @@
 //! Long messages over two packet stations: up to 4,000 octets over a delivery whose messages have at most 2,028.
 //!
-//! A long message is sent as parts, each a message of the stations: one octet with the number of the part, 80 hex more for
-//! the last, and then at most 500 octets, in the order in which they are sent. The head of the packet (PDU) stays as it is; the
-//! first octet of a part is this project's own.
+//! A long message is transmitted as parts, each a message of the stations: one octet with the number of the part, plus
+//! 80 hex for the last, and then at most 500 octets, in the order of transmission. The header of the packet (PDU) is
+//! unchanged; the first octet of a part is this project's own.
 //!
 //! ```
 //! let mut world = LongWorld::new(rt.alloc());
@@ -10,8 +10,8 @@
 //! assert_eq!(rt; world.taken().len(), 1);
 //! ```
 //!
-//! Contracts see a `Joiner` as the number that it expects and the octets that it holds, and each step of a `LongWorld` as the
-//! function `long_step`. Each world is the run of some events (`HasLongHistory`): `LongWorld::facts`.
+//! Contracts see a `Joiner` as the number that it expects and the octets that it holds, and each step of a `LongWorld`
+//! as the function `long_step`. Each world is the run of some events (`HasLongHistory`): `LongWorld::facts`.
 #![tactic(auto)]
 
 mod joiner;

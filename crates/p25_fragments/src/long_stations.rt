@@ -15,18 +15,19 @@ use p25_stations::{Event, Step, StepKind, World};
 use std::alloc::Global;
 use std::marker::Model;
 
-/// A part that is outstanding: its long message, and its number.
+/// An outstanding part: its long message, and its number.
 #[derive(Debug, Drop)]
 pub(crate) struct OutstandingPart {
     message: LongMessage,
     number: u8,
 }
 
-/// The world of two stations, and the long messages that it carries in parts. What a world keeps of its history is not known here.
+/// The world of two stations, and the long messages that it carries in parts. The history that a world keeps is not
+/// part of it.
 #[derive(Debug, Drop)]
 pub(crate) struct LongStations {
     pub(crate) inner: World,
-    // the long message of which a part is outstanding
+    // the long message with an outstanding part
     outstanding: Option<OutstandingPart>,
     joiner: Joiner,
     pub(crate) taken: LongList,
@@ -36,7 +37,7 @@ pub(crate) struct LongStations {
     pub(crate) marks: Vec<Mark>,
 }
 
-// A step in which nothing changes.
+// Returns a step in which nothing changes.
 fn unmoved(then: Then) -> LongStep
     ensures { result ≡ record { first = None; then = then } }
 {
@@ -56,7 +57,7 @@ impl Model for LongStations {
 }
 
 impl LongStations {
-    /// Answers a world before its first step: no long message was taken. It takes no memory.
+    /// Returns a world before its first step: no long message was taken. It allocates no memory.
     pub(crate) fn new(alloc: Global) -> LongStations
         ensures { result.state ≡ first_long }
     {
@@ -71,7 +72,7 @@ impl LongStations {
         }
     }
 
-    /// Answers the step that an event is, and has it happen. There is room for it, and it takes no memory.
+    /// Makes the step of an event, and returns it. It requires capacity for it, and allocates no memory.
     pub(crate) fn step_ready(&mut self, event: &LongEvent) -> LongStep
         requires { 0 < self.old.spare }
         ensures step { (self.new.state, result) ≡ long_step self.old.state event.now }
@@ -116,7 +117,7 @@ impl LongStations {
         }
     }
 
-    // Has an event of the inner world happen.
+    // Makes an event of the inner world happen.
     fn happen(&mut self, event: &Event) -> LongStep
         requires { 0 < self.old.spare }
         ensures step { (self.new.state, result) ≡ inner_happened self.old.state (world_step self.old.state.inner event.now) }
@@ -135,7 +136,7 @@ impl LongStations {
         }
     }
 
-    // Gives up the long message that is outstanding, where its session has ended.
+    // Gives up the outstanding long message, if its session has ended.
     fn end_session(&mut self) -> Then
         requires { 0 < self.old.own_spare }
         ensures step { (self.new.state, result) ≡ session_ended self.old.state }
@@ -152,7 +153,7 @@ impl LongStations {
         Then::Plain
     }
 
-    // Does what follows a step of the inner world of that kind.
+    // Makes the changes that follow a step of the inner world of that type.
     #[tactic(auto, using(crate::proofs::KindLaws::other_kind), unfolding(crate::specs::LongSteps::after_kind))]
     fn go_on(&mut self, kind: &StepKind) -> Then
         requires inner { 0 < self.old.inner_spare }
@@ -168,14 +169,14 @@ impl LongStations {
                 Then::Plain
             }
             _ => {
-                // For the prover: the joiner is sound, and its room stays.
+                // For the prover: the joiner is sound, and its capacity stays.
                 let _ = &self.joiner;
                 Then::Plain
             }
         }
     }
 
-    // Offers the part after the one that was acknowledged, or has its long message acknowledged.
+    // Offers the part after the acknowledged one, or counts its long message as acknowledged.
     #[tactic(auto, unfolding(crate::specs::LongSteps::after_acknowledged, crate::specs::LongSteps::next_offered))]
     fn acknowledge(&mut self) -> Then
         requires inner { 0 < self.old.inner_spare }
@@ -196,13 +197,13 @@ impl LongStations {
             });
             return Then::Next(step);
         }
-        // For the prover: no more are acknowledged than were taken, whose number fits.
+        // For the prover: at most as many are acknowledged as were taken, and their number fits.
         let _ = self.taken.len();
         self.acknowledged += 1;
         Then::Finished
     }
 
-    // Hands the joiner a message that was delivered, and keeps the long message that is whole with it.
+    // Passes a delivered message to the joiner, and keeps the long message that is whole with it.
     #[tactic(auto, unfolding(crate::specs::LongSteps::after_delivered))]
     fn deliver(&mut self, message: &Message) -> Then
         requires { 0 < self.old.own_spare }

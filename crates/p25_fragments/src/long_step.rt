@@ -3,16 +3,16 @@
 use p25_messages::LongMessage;
 use p25_stations::{Event, Step};
 
-/// Something that happens in a world of long messages.
+/// An event of a world of long messages.
 #[derive(Clone, Debug, PartialEq, Eq, Drop)]
 pub enum LongEvent {
     /// A long message is offered.
     Long(LongMessage),
-    /// An event of the two stations and the air between them, which is no `Event::Send`.
+    /// An event of the two stations and the channel between them, other than `Event::Send`.
     Inner(Event),
 }
 
-/// What a step means for the long messages.
+/// The meaning of a step for the long messages.
 #[derive(Clone, Debug, PartialEq, Eq, Drop)]
 pub enum Then {
     /// Nothing.
@@ -27,7 +27,7 @@ pub enum Then {
     Part { number: u8 },
     /// The last part was delivered: the long message is whole.
     Whole(LongMessage),
-    /// What was delivered is not the part that was expected.
+    /// The delivered message is not the expected part.
     Refused,
     /// A part was acknowledged, and this is the offer of the next.
     Next(Step),
@@ -38,8 +38,9 @@ pub enum Then {
 /// A step of a world of long messages.
 #[derive(Clone, Debug, PartialEq, Eq, Drop)]
 pub struct LongStep {
-    /// The step of the two stations: of the event, or of the offer of the first part; None for Busy and Down alone.
+    /// The step of the two stations: that of the event, or of the offer of the first part; `None` for `Busy` and `Down`
+    /// alone.
     pub first: Option<Step>,
-    /// What it means for the long messages.
+    /// Its meaning for the long messages.
     pub then: Then,
 }

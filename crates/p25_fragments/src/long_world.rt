@@ -12,12 +12,12 @@ use p25_stations::{Event, World};
 use std::alloc::{AllocError, Global};
 use std::marker::Model;
 
-/// Two packet stations, the air between them, and the long messages that they carry in parts. Whoever is handed a world knows that
-/// some list of events brought it there from its first state; `facts` says what follows.
+/// Two packet stations, the channel between them, and the long messages that they carry in parts. By its invariant,
+/// some list of events led to it from its first state; `facts` states the consequences.
 #[derive(Debug, Drop)]
 pub struct LongWorld {
     stations: LongStations,
-    // whether a message was offered to the inner world beside the parts
+    // whether a message was offered to the inner world besides the parts
     beside: bool,
 }
 
@@ -31,14 +31,14 @@ impl Model for LongWorld {
     ghost invariant = { λ w. HasLongHistory w.stations.state w.beside };
 }
 
-// Answers whether an event offers a message to the inner world.
+// Returns whether an event offers a message to the inner world.
 fn offers(event: &LongEvent) -> bool
     ensures { result ≡ offers_beside event.now }
 {
     matches!(event, LongEvent::Inner(Event::Send(_)))
 }
 
-// The laws of the world speak of each event that offers no message to the inner world.
+// The laws of the world hold for each event that offers no message to the inner world.
 fn event_fits(event: &LongEvent)
     ensures { IsEventOf (offers_beside event.now) event.now }
 {
@@ -49,7 +49,7 @@ fn event_fits(event: &LongEvent)
 }
 
 impl LongWorld {
-    /// Answers a world before its first step: no long message was taken. It takes no memory.
+    /// Returns a world before its first step: no long message was taken. It allocates no memory.
     #[tactic(auto, using(crate::proofs::LongHistoryLaws::history_first))]
     pub fn new(alloc: Global) -> LongWorld
         ensures state { result.state ≡ first_long }
@@ -61,11 +61,12 @@ impl LongWorld {
         }
     }
 
-    /// Does nothing; its clauses say what holds of every world. Some list of events brought it from its first state to this one.
-    /// Where no message was offered to the inner world beside the parts, and the inner world counts no false pass, each session is
-    /// orderly: the long messages whole are the beginning of those taken, in order and each once, every long message that was
-    /// acknowledged is whole, and one at most is whole that was not acknowledged. In any case the sessions are the whole of the lists:
-    /// joined, their long messages are all that were taken and all that came whole.
+    /// Does nothing; its clauses state the laws of every world. Some list of events led from its first state to this
+    /// one. Suppose that no message was offered to the inner world besides the parts, and the inner world counts no
+    /// false pass. Then each session is orderly: the whole long messages are the beginning of those taken, in order and
+    /// each once, every acknowledged long message is whole, and at most one is whole that was not acknowledged. In any
+    /// case the sessions make up the lists: joined, their long messages are all that were taken and all that were
+    /// received whole.
     pub fn facts(&self)
         ensures history { HasLongHistory self.now.state self.now.beside }
         ensures orderly { self.now.beside ≡ false → self.now.state.inner.false_passes ≡ 0 → AreOrderly (long_sessions_of self.now.state) }
@@ -74,45 +75,45 @@ impl LongWorld {
         let _ = &self.stations;
     }
 
-    /// Answers whether a message was offered to the inner world beside the parts, by an event `Inner(Send)`. Of such a world the laws
-    /// say less.
+    /// Returns whether a message was offered to the inner world besides the parts, by an event `Inner(Send)`. Fewer
+    /// laws hold of such a world.
     pub fn offered_beside(&self) -> bool
         ensures { result ≡ self.now.beside }
     {
         self.beside
     }
 
-    /// Answers the world of the two stations, whose messages are the parts.
+    /// Returns the world of the two stations, whose messages are the parts.
     pub fn inner(&self) -> &World
         ensures { result.now.state ≡ self.now.state.inner }
     {
         &self.stations.inner
     }
 
-    /// Answers the long messages that were taken, in order.
+    /// Returns the long messages that were taken, in order.
     pub fn taken(&self) -> &LongList
         ensures { result.now.list ≡ self.now.state.taken }
     {
         &self.stations.taken
     }
 
-    /// Answers the long messages of which all parts were delivered, in order.
+    /// Returns the long messages of which all parts were delivered, in order.
     pub fn whole(&self) -> &LongList
         ensures { result.now.list ≡ self.now.state.whole }
     {
         &self.stations.whole
     }
 
-    /// Answers how many long messages were acknowledged.
+    /// Returns the number of acknowledged long messages.
     pub fn acknowledged(&self) -> u64
         ensures { result ≡ self.now.state.acknowledged }
     {
         self.stations.acknowledged
     }
 
-    /// Makes room for 1 to 8 more steps: for each, two steps of the inner world, one long message in each list and one mark.
-    /// Answers AllocError where there is not enough memory, which comes only where there was no such room; the world stays as
-    /// it was, and no room is lost.
+    /// Reserves capacity for 1 to 8 more steps: for each, two steps of the inner world, one long message in each list
+    /// and one mark. `AllocError` is returned if the allocation fails, which can happen only if there was no such
+    /// capacity; the world and its capacity are unchanged.
     pub fn reserve(&mut self, steps: u32) -> Result<(), AllocError>
         requires some { 0 < steps }
         requires most { steps ≤ 8 }
@@ -128,8 +129,9 @@ impl LongWorld {
         self.stations.marks.reserve(steps as usize)
     }
 
-    /// Answers the step that an event is, and has it happen. There is room for it, and it takes no memory. A long message is Down where the
-    /// sender of the inner world is down, and else Busy where a part or the opening packet is outstanding; then nothing changes.
+    /// Makes the step of an event, and returns it. It requires capacity for it, and allocates no memory. A long message
+    /// is `Down` if the sender of the inner world is down, and otherwise `Busy` if a part or the opening packet is
+    /// outstanding; then nothing changes.
     pub fn step_ready(&mut self, event: &LongEvent) -> LongStep
         requires { 0 < self.old.spare }
         ensures step { (self.new.state, result) ≡ long_step self.old.state event.now }
@@ -141,8 +143,8 @@ impl LongWorld {
         self.stations.step_ready(event)
     }
 
-    /// Answers the step that an event is, and has it happen. AllocError comes where there is not enough memory for it, and
-    /// only where no room was left; then the world stays as it was.
+    /// Makes the step of an event, and returns it. `AllocError` is returned if the allocation for it fails, which can
+    /// happen only if no capacity was left; then the world is unchanged.
     pub fn step(&mut self, event: &LongEvent) -> Result<LongStep, AllocError>
         ensures ok { IfOk result (λ step. (self.new.state, step) ≡ long_step self.old.state event.now) }
         ensures spare { self.old.spare ≤ self.new.spare + 1 }

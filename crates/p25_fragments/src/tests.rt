@@ -1,4 +1,4 @@
-//! Each answer of a joiner, and a world of long messages, step by step.
+//! Each result of a joiner, and a world of long messages, step by step.
 
 use super::{Joined, Joiner, LongEvent, LongMessage, LongStep, LongWorld, Then};
 use p25_messages::{Flips, Message};
@@ -13,8 +13,7 @@ fn the_example_of_the_head(rt: HostRuntime) -> Result<(), Fail> {
     Ok(())
 }
 
-// What is done to a joiner: a part comes, by its first octet and the number of octets after it, or one of no octets; or it is set
-// back.
+// An event of a joiner: a part, by its first octet and the number of octets after it, or one of no octets; or a reset.
 #[derive(Clone, Copy)]
 enum Act {
     Part(u8, usize),
@@ -22,7 +21,7 @@ enum Act {
     Reset,
 }
 
-// What a joiner makes of a part: a letter, with the number of a part or the length of a whole message.
+// The result of a part for a joiner: a letter, with the number of a part or the length of a whole message.
 fn taken(joiner: &mut Joiner, octets: &[u8]) -> (char, usize) {
     let Some(part) = Message::new(octets) else {
         return ('?', 0);
@@ -49,7 +48,7 @@ fn done(joiner: &mut Joiner, act: Act) -> (char, usize) {
     }
 }
 
-// Parts that are refused; then eight parts at most, in their order; then a joiner that is set back.
+// Refused parts; then at most eight parts, in their order; then a joiner that is reset.
 const JOINED: [(Act, (char, usize)); 32] = [
     (Act::Empty, ('r', 0)),
     (Act::Part(1, 500), ('r', 0)),
@@ -93,7 +92,8 @@ fn answers_of_a_joiner(rt: HostRuntime) {
     }
 }
 
-// What a step means for the long messages: a letter, with the number of parts or of a part, or the length of a whole message.
+// The meaning of a step for the long messages: a letter, with the number of parts or of a part, or the length of a
+// whole message.
 fn meaning(step: &LongStep) -> (char, usize) {
     match &step.then {
         Then::Plain => ('-', 0),
@@ -108,8 +108,8 @@ fn meaning(step: &LongStep) -> (char, usize) {
     }
 }
 
-// Something that happens in a world: a long message of so many octets is offered, a delivery of data or of an answer, a timeout
-// that comes so many times, or the session is opened again.
+// An event of a world: a long message of a number of octets is offered, a delivery of data or of a response, a number
+// of timeouts, or the session is reopened.
 #[derive(Clone, Copy)]
 enum Happening {
     Long(usize),
@@ -132,7 +132,7 @@ fn event_of(happening: Happening) -> Option<LongEvent> {
     })
 }
 
-// Has something happen in a world, and answers what its last step means, and whether the stations made a step.
+// Makes an event happen in a world, and returns the meaning of its last step, and whether the stations made a step.
 fn happened(world: &mut LongWorld, happening: Happening) -> Option<((char, usize), bool)> {
     let event = event_of(happening)?;
     let times = if let Happening::Timeouts(count) = happening {
@@ -148,8 +148,8 @@ fn happened(world: &mut LongWorld, happening: Happening) -> Option<((char, usize
     told
 }
 
-// A message in two parts; one of no octets, and one that is offered meanwhile; one that is given up in its second part, and
-// one in another session.
+// A message in two parts; one of no octets, and one that is offered meanwhile; one that is given up in its second part,
+// and one in another session.
 const HAPPENINGS: [(Happening, (char, usize), bool); 22] = [
     (Happening::Data, ('-', 0), true),
     (Happening::Long(501), ('s', 2), true),

@@ -1,4 +1,4 @@
--- The pieces between ends: how many there are, where each lies, and one more at the end. By recursion on the ends.
+-- The segments between ends: their number, their positions, and one more at the end. By recursion on the ends.
 use Rattle.std.proofs.Common.{◌≡◌, ℕ, zero, suc, ◌+◌, ◌<◌, ◌≤◌, List, [], ◌∷◌, ◌++◌, length, get_or, drop, Some, refl, ap, ap₂, sym, ◌∙◌, arith, length-append}
 use Rattle.std.proofs.{Math.Nat.{add-mul, div-lt_iff_lt-mul, mod-lt}, lemmas.Nat.{div-add-mod'}, lemmas.List.{drop_at, take-append-le}, lemmas.Slice.{between_is, between_to_end}}
 use Rattle.std.specs.{Prelude.{◌*◌, ◌/◌, ◌%◌, slice_get, slice_range, vec_len}, Global.{Vec}}

@@ -1,4 +1,4 @@
--- The step that each answer of a sender or a receiver is: its kind, and the packet to send, where there is one.
+-- The step of each result of a sender or a receiver: its type, and the packet to transmit, if there is one.
 use Rattle.std.specs.Prelude.{Option, Some, None}
 use Rattle.p25_packet_blocks.specs.declared.packet.Packet.{Packet}
 use Rattle.p25_messages.specs.declared.answers.Offer.{Offer, TheVariants.{Taken as OfferTaken, Busy as OfferBusy, Down as DownAtOffer}}
@@ -15,18 +15,18 @@ offer_step (OfferTaken number blocks packet) = (Taken number blocks, Some packet
 offer_step OfferBusy = (Busy, None)
 offer_step DownAtOffer = (OfferDown, None)
 
--- time was up
+-- a timeout
 abbrev pub resend_step : Resend → StepKind × Option Packet
 resend_step (Sent number tries packet) = (Resent number tries, Some packet)
 resend_step ResendIdle = (Idle, None)
 resend_step DownAtTimeout = (TimeoutDown, None)
 
--- the session was to be opened again
+-- the session was to be reopened
 abbrev pub reopen_step : ReopenAnswer → StepKind × Option Packet
 reopen_step (ReopenSent number packet) = (Reopened number, Some packet)
 reopen_step ReopenUp = (Up, None)
 
--- a receiver heard a packet
+-- a receiver received a packet
 abbrev pub receiver_step : Heard → StepKind × Option Packet
 receiver_step (HeardDelivered number message answer) = (Delivered number message, Some answer)
 receiver_step (ReceiverOpened number answer) = (SynHeard number, Some answer)
@@ -36,7 +36,7 @@ receiver_step (HeardCrc number answer) = (RefusedCrc number, Some answer)
 receiver_step (HeardOrder last answer) = (RefusedOrder last, Some answer)
 receiver_step ReceiverIgnored = (Ignored Packets, None)
 
--- a sender heard an answer
+-- a sender received a response
 abbrev pub sender_step : SenderHeard → StepKind × Option Packet
 sender_step (HeardAck number) = (Acknowledged number, None)
 sender_step (SenderOpened number) = (LinkOpened number, None)

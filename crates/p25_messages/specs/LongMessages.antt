@@ -2,7 +2,7 @@
 use Rattle.std.specs.Prelude.{ℕ, ◌+◌, ◌*◌, ◌/◌, max, ◌==◌, List, ◌∷◌, length, if◌then◌else◌}
 use Rattle.p25_bits.specs.Bits.{part}
 
--- how many parts carry so many octets: 500 each, and one part for no octets
+-- the number of parts that carry a number of octets: 500 each, and one part for no octets
 abbrev pub part_count : ℕ → ℕ
 part_count octets = max 1 ((octets + 499) / 500)
 

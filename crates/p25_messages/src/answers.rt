@@ -1,4 +1,5 @@
-//! What a sender and a receiver answer, with the packet (PDU) to send where there is one; and the step that each answer is.
+//! The results of the calls of a sender and a receiver, with the packet (PDU) to transmit, if there is one; and the
+//! step of each result.
 
 ghost use Rattle.std.specs.Prelude.{◌≡◌};
 ghost use Rattle.p25_messages.specs.AnswerSteps.{offer_step, resend_step, sender_step, reopen_step, receiver_step};
@@ -7,10 +8,10 @@ use crate::message::Message;
 use crate::step_kind::{StepKind, Way};
 use p25_packet_blocks::{Flags, Packet};
 
-/// The answer to a message that is offered.
+/// The result of offering a message.
 #[derive(Clone, Debug, PartialEq, Eq, Drop)]
 pub enum Offer {
-    /// The message is outstanding: its number, the number of its blocks, and the packet to send.
+    /// The message is outstanding: its number, the number of its blocks, and the packet to transmit.
     Taken {
         number: u8,
         blocks: u8,
@@ -22,7 +23,7 @@ pub enum Offer {
     Down,
 }
 
-/// The step that the answer is, and the packet to send.
+/// Returns the step of the result, and the packet to transmit.
 impl From<Offer> for (StepKind, Option<Packet>) {
     ghost from_gives = { λ offer step. step ≡ offer_step offer };
 
@@ -39,10 +40,11 @@ impl From<Offer> for (StepKind, Option<Packet>) {
     }
 }
 
-/// The answer to a timeout.
+/// The result of a timeout.
 #[derive(Clone, Debug, PartialEq, Eq, Drop)]
 pub enum Resend {
-    /// What is outstanding is to be sent again: its number, how often it was sent with this time, and the packet.
+    /// The outstanding packet is to be transmitted again: its number, the number of transmissions including this one,
+    /// and the packet.
     Sent {
         number: u8,
         tries: u8,
@@ -50,11 +52,11 @@ pub enum Resend {
     },
     /// Nothing is outstanding.
     Idle,
-    /// The sender is down, or is down now, as 16 transmissions were made.
+    /// The sender is down, or goes down because 16 transmissions were made.
     Down,
 }
 
-/// The step that the answer is, and the packet to send.
+/// Returns the step of the result, and the packet to transmit.
 impl From<Resend> for (StepKind, Option<Packet>) {
     ghost from_gives = { λ resend step. step ≡ resend_step resend };
 
@@ -71,10 +73,10 @@ impl From<Resend> for (StepKind, Option<Packet>) {
     }
 }
 
-/// The answer to a packet (PDU) that a sender hears.
+/// The result of a packet (PDU) that a sender receives.
 #[derive(Clone, Debug, PartialEq, Eq, Drop)]
 pub enum SenderHeard {
-    /// The message with this number has come.
+    /// The message with this number was received by the other station.
     Acknowledged {
         number: u8,
     },
@@ -82,26 +84,26 @@ pub enum SenderHeard {
     Opened {
         number: u8,
     },
-    /// The blocks whose flags in `wanted` are true are to be sent again.
+    /// The blocks with a true flag in `wanted` are to be transmitted again.
     Retry {
         number: u8,
         wanted: Flags,
         tries: u8,
         packet: Packet,
     },
-    /// The whole message is to be sent again.
+    /// The whole message is to be transmitted again.
     Repeat {
         number: u8,
         tries: u8,
         packet: Packet,
     },
-    /// The packet is no response, or none to what is outstanding.
+    /// The packet is not a response, or is not a response to the outstanding packet.
     Ignored,
-    /// The response asks for a transmission, but 16 were made; the sender is down now.
+    /// The response requires a transmission, but 16 were made; the sender goes down.
     Down,
 }
 
-/// The step that the answer is, and the packet to send.
+/// Returns the step of the result, and the packet to transmit.
 impl From<SenderHeard> for (StepKind, Option<Packet>) {
     ghost from_gives = { λ heard step. step ≡ sender_step heard };
 
@@ -133,16 +135,16 @@ impl From<SenderHeard> for (StepKind, Option<Packet>) {
     }
 }
 
-/// The answer where the session is to be opened again.
+/// The result of reopening the session.
 #[derive(Clone, Debug, PartialEq, Eq, Drop)]
 pub enum Reopen {
-    /// The opening packet is to be sent.
+    /// The opening packet is to be transmitted.
     Sent { number: u8, packet: Packet },
     /// The sender is not down.
     Up,
 }
 
-/// The step that the answer is, and the packet to send.
+/// Returns the step of the result, and the packet to transmit.
 impl From<Reopen> for (StepKind, Option<Packet>) {
     ghost from_gives = { λ reopen step. step ≡ reopen_step reopen };
 
@@ -154,7 +156,7 @@ impl From<Reopen> for (StepKind, Option<Packet>) {
     }
 }
 
-/// The answer to a packet (PDU) that a receiver hears; `answer` is the response to send.
+/// The result of a packet (PDU) that a receiver receives; `answer` is the response to transmit.
 #[derive(Clone, Debug, PartialEq, Eq, Drop)]
 pub enum Heard {
     /// The message is whole, and delivered.
@@ -168,7 +170,7 @@ pub enum Heard {
         number: u8,
         answer: Packet,
     },
-    /// The last message came again.
+    /// The last message was received again.
     Again {
         number: u8,
         answer: Packet,
@@ -179,7 +181,7 @@ pub enum Heard {
         flags: Flags,
         answer: Packet,
     },
-    /// All blocks have come, but the packet CRC does not agree, or the pad is longer than the blocks.
+    /// All blocks were received, but the packet CRC does not agree, or the pad is longer than the blocks.
     RefusedCrc {
         number: u8,
         answer: Packet,
@@ -189,11 +191,11 @@ pub enum Heard {
         last: u8,
         answer: Packet,
     },
-    /// The packet is not confirmed, has another LLID, or tells nothing that can be kept.
+    /// The packet is not confirmed, has another LLID, or contains nothing that can be kept.
     Ignored,
 }
 
-/// The step that the answer is, and the response to send.
+/// Returns the step of the result, and the response to transmit.
 impl From<Heard> for (StepKind, Option<Packet>) {
     ghost from_gives = { λ heard step. step ≡ receiver_step heard };
 

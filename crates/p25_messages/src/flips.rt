@@ -1,4 +1,4 @@
-//! The offsets of the bit errors of a transmission.
+//! The positions of the bit errors of a transmission.
 
 ghost use Rattle.std.specs.Prelude.{◌≡◌, ℕ, ◌+◌, ◌<◌, ◌≤◌, ◌↔◌, IsTrue, Some, List, [], ◌∷◌, ◌++◌, length, slice_get, All};
 ghost use Rattle.std.specs.List.Sorted.{IsStrictlyIncreasing};
@@ -6,8 +6,8 @@ ghost use Rattle.std.specs.List.Sorted.{IsStrictlyIncreasing};
 use p25_status::BoundedList;
 use std::marker::Model;
 
-/// The places of wrong bits in a transmission: a strictly ascending list of at most 4,096 numbers below 25,920, the length
-/// of the longest unit as it is sent.
+/// The positions of bit errors in a transmission: a strictly ascending list of at most 4,096 numbers below 25,920, the
+/// length of the longest data unit as transmitted.
 #[derive(Clone, Debug, PartialEq, Eq, Drop)]
 pub struct Flips {
     places: BoundedList<u16, 4096>,
@@ -24,7 +24,7 @@ impl Model for Flips {
 }
 
 impl Flips {
-    /// Answers an empty list.
+    /// Returns an empty list.
     pub fn new() -> Flips
         ensures { result ≡ [] }
     {
@@ -33,7 +33,7 @@ impl Flips {
         }
     }
 
-    /// Answers the number of places held.
+    /// Returns the number of positions held.
     pub fn len(&self) -> usize
         ensures value { result ≡ length self.now }
         ensures most { result ≤ 4096 }
@@ -43,14 +43,14 @@ impl Flips {
         self.places.len()
     }
 
-    /// Answers whether the list holds no place.
+    /// Returns whether the list holds no position.
     pub fn is_empty(&self) -> bool
         ensures { IsTrue result ↔ (self.now ≡ []) }
     {
         self.len() == 0
     }
 
-    /// Answers all places, in order.
+    /// Returns all positions, in order.
     pub fn as_slice(&self) -> &[u16]
         ensures value { result.now ≡ self.now }
         ensures most { length self.now ≤ 4096 }
@@ -58,7 +58,7 @@ impl Flips {
         self.places.as_slice()
     }
 
-    /// Answers place `i` of the list.
+    /// Returns position `i` of the list.
     pub fn get(&self, i: usize) -> u16
         requires { i < length self.now }
         ensures place { slice_get self.now i ≡ Some result }
@@ -67,7 +67,7 @@ impl Flips {
         self.places.get(i)
     }
 
-    /// Appends a place, which is below 25,920 and above all places held.
+    /// Appends a position. It requires a position below 25,920 and above all positions held.
     pub fn push(&mut self, entry: u16)
         requires room { length self.old < 4096 }
         requires below { entry < 25920 }

@@ -1,4 +1,4 @@
-//! The numbers of public constants. The body is empty: the function states what is proved.
+//! The values of public constants. The body is empty: the function states what is proved.
 
 ghost use Rattle.std.specs.Prelude.{◌≡◌};
 

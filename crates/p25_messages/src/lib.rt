@@ -1,9 +1,10 @@
-//! What stations speak of: messages of packet data, long messages and their parts, lists of both, the places of wrong bits in a
-//! transmission, the answers of a sender and a receiver, and what a step was.
+//! The data of the station crates: messages of packet data, long messages and their parts, lists of both, the positions
+//! of bit errors in a transmission, the results of a sender and a receiver, and the types of steps.
 //!
-//! A message is a list of at most 2,028 octets, in the order in which they are sent: as many as the 127 blocks of a packet (PDU)
-//! carry beside the packet CRC. A long message is a list of at most 4,000, which is sent in parts, each a message. Both are
-//! a `MessageOf` so many octets, which contracts see as the octets, and their lists a `MessageListOf` so many.
+//! A message is a list of at most 2,028 octets, in the order of transmission: as many as the 127 blocks of a packet
+//! (PDU) carry besides the packet CRC. A long message is a list of at most 4,000, which is transmitted in parts, each a
+//! message. Both are a `MessageOf` a number of octets, which contracts see as the octets, and their lists a
+//! `MessageListOf` that number.
 //!
 //! ```
 //! let mut sent = MessageList::new(rt.alloc());

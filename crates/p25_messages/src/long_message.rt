@@ -10,22 +10,22 @@ use arrayvec::ArrayVec;
 /// The number of octets of the longest long message: eight parts of 500.
 pub const MOST_LONG: usize = 4000;
 
-/// The number of octets in each part but the last, beside its first octet.
+/// The number of octets in each part but the last, besides its first octet.
 pub const PART_OCTETS: usize = 500;
 
-/// What the first octet of the last part has beside its number.
+/// The bit that the first octet of the last part has in addition to its number.
 pub const LAST_PART: u8 = 0x80;
 
 // The number of octets of the longest part, with its first octet.
 const MOST_PART: usize = 501;
 
-/// A long message: a list of at most 4,000 octets, which is sent in parts, each a message.
+/// A long message: a list of at most 4,000 octets, which is transmitted in parts, each a message.
 pub type LongMessage = MessageOf<MOST_LONG>;
 
 /// A list of long messages.
 pub type LongList = MessageListOf<MOST_LONG>;
 
-// The first octet of a part, of so many parts.
+// Returns the first octet of a part, of `count` parts.
 fn mark_of(count: u8, number: u8) -> u8
     requires below { number < count }
     requires few { count ≤ 8 }
@@ -39,7 +39,7 @@ fn mark_of(count: u8, number: u8) -> u8
 }
 
 impl LongMessage {
-    /// Answers the number of parts, 1 to 8: as many as carry 500 octets each, and one for a message of no octets.
+    /// Returns the number of parts, 1 to 8: as many as carry 500 octets each, and one for a message of no octets.
     pub fn parts(&self) -> u8
         ensures parts { result ≡ part_count (length self.now) }
         ensures most { result ≤ 8 }
@@ -48,7 +48,7 @@ impl LongMessage {
         octets.div_ceil(PART_OCTETS).max(1) as u8
     }
 
-    /// Answers part `i`, counted from 0: one octet that is `i`, with 80 hex more for the last part, and then the octets from
+    /// Returns part `i`, counted from 0: one octet that is `i`, plus 80 hex for the last part, and then the octets from
     /// 500 times `i` on, at most 500.
     pub fn part(&self, i: u8) -> Message
         requires { i < part_count (length self.now) }

@@ -6,7 +6,7 @@ use arrayvec::ArrayVec;
 use std::alloc::AllocError;
 use std::marker::Model;
 
-/// A message: a list of at most 2,028 octets, as many as 127 blocks of 16 carry beside the four of the packet CRC.
+/// A message: a list of at most 2,028 octets, as many as 127 blocks of 16 carry besides the four of the packet CRC.
 pub type Message = MessageOf<2028>;
 
 /// A list of at most `MOST` octets.
@@ -24,7 +24,7 @@ impl<const MOST: usize> Model for MessageOf<MOST> {
 }
 
 impl<const MOST: usize> MessageOf<MOST> {
-    /// Answers the message of these octets, or None exactly where there are more than `MOST`.
+    /// Returns the message of these octets, or `None` if and only if there are more than `MOST`.
     pub fn new(octets: &[u8]) -> Option<MessageOf<MOST>>
         ensures fits { IsSome result ↔ (length octets.now ≤ MOST) }
         ensures message { IfSome result (λ message. message ≡ octets.now) }
@@ -34,7 +34,7 @@ impl<const MOST: usize> MessageOf<MOST> {
         })
     }
 
-    /// Answers the message of the first `count` octets, or of all where there are fewer. It is made of them in their place.
+    /// Returns the message of the first `count` octets, or of all if there are fewer. The octets are not moved.
     pub fn beginning_of(octets: [u8; MOST], count: usize) -> MessageOf<MOST>
         ensures { result ≡ take count octets.entry }
     {
@@ -43,7 +43,7 @@ impl<const MOST: usize> MessageOf<MOST> {
         MessageOf { items }
     }
 
-    /// Answers the octets of the message, in order.
+    /// Returns the octets of the message, in order.
     pub fn octets(&self) -> &[u8]
         ensures octets { result.now ≡ self.now }
         ensures most { length result.now ≤ MOST }
@@ -57,7 +57,7 @@ impl<const MOST: usize> Clone for MessageOf<MOST> {
 
     ghost is_infallible = { λ _. ⊤ };
 
-    // A copy of the octets, which takes no memory, so the answer is always Ok.
+    // Returns a copy of the octets. It allocates no memory, so the result is always `Ok`.
     fn clone(&self) -> Result<Self, AllocError> {
         Ok(MessageOf {
             items: ArrayVec::try_from(self.octets()).unwrap(),

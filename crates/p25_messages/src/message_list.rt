@@ -10,13 +10,13 @@ use std::marker::Model;
 /// A list of messages of at most 2,028 octets.
 pub type MessageList = MessageListOf<2028>;
 
-/// A list of messages of at most `MOST` octets. Contracts see it as the list, `list`, and the number of messages for which
-/// there is room, `spare`.
+/// A list of messages of at most `MOST` octets. Contracts see it as the list, `list`, and the number of messages for
+/// which there is capacity, `spare`.
 #[derive(Debug, Drop)]
 pub struct MessageListOf<const MOST: usize> {
     // the octets of all messages, one after another
     octets: Vec<u8>,
-    // the place after the last octet of each message
+    // the position after the last octet of each message
     ends: Vec<usize>,
 }
 
@@ -28,7 +28,7 @@ impl<const MOST: usize> Model for MessageListOf<MOST> {
     ghost invariant = { λ s. IsKept MOST s.ends.items (vec_len s.octets) };
 }
 
-// The place of the first octet of message `i`, which is the place after the message before it.
+// Returns the position of the first octet of message `i`, which is the position after the message before it.
 fn start(ends: &[usize], i: usize) -> usize
     requires { i ≤ length ends.now }
     ensures { result ≡ start_before 0 ends.now i }
@@ -37,7 +37,7 @@ fn start(ends: &[usize], i: usize) -> usize
 }
 
 impl<const MOST: usize> MessageListOf<MOST> {
-    /// Answers an empty list, which takes no memory. `MOST` is 1 to 2^32.
+    /// Returns an empty list, without an allocation. It requires `MOST` from 1 to 2^32.
     pub fn new(alloc: Global) -> MessageListOf<MOST>
         requires some { 0 < MOST }
         requires most { MOST ≤ 2 ^ 32 }
@@ -49,21 +49,21 @@ impl<const MOST: usize> MessageListOf<MOST> {
         }
     }
 
-    /// Answers the number of messages.
+    /// Returns the number of messages.
     pub fn len(&self) -> usize
         ensures { result ≡ length self.now.list }
     {
         self.ends.len()
     }
 
-    /// Answers whether the list holds no message.
+    /// Returns whether the list holds no message.
     pub fn is_empty(&self) -> bool
         ensures { IsTrue result ↔ (self.now.list ≡ []) }
     {
         self.len() == 0
     }
 
-    /// Answers the octets of message `i`, counted from 0.
+    /// Returns the octets of message `i`, counted from 0.
     pub fn get(&self, i: usize) -> &[u8]
         requires { i < length self.now.list }
         ensures { slice_get self.now.list i ≡ Some result.now }
@@ -72,8 +72,8 @@ impl<const MOST: usize> MessageListOf<MOST> {
         &self.octets.as_slice()[start(ends, i)..start(ends, i + 1)]
     }
 
-    /// Makes room for 1 to 16 more messages. Answers AllocError where there is not enough memory, which comes only where there
-    /// was no such room; the messages stay, and no room is lost.
+    /// Reserves capacity for 1 to 16 more messages. `AllocError` is returned if the allocation fails, which can happen
+    /// only if there was no such capacity; the messages and the capacity are unchanged.
     pub fn reserve(&mut self, messages: u32) -> Result<(), AllocError>
         requires some { 0 < messages }
         requires most { messages ≤ 16 }
@@ -86,7 +86,7 @@ impl<const MOST: usize> MessageListOf<MOST> {
         self.octets.reserve(MOST * messages as usize)
     }
 
-    /// Appends a message. It takes no memory.
+    /// Appends a message, without an allocation.
     pub fn push(&mut self, message: &MessageOf<MOST>)
         requires { 0 < self.old.spare }
         ensures list { self.new.list ≡ self.old.list ++ message.now ∷ [] }

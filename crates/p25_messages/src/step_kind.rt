@@ -1,10 +1,10 @@
-//! The direction of a transmission, and the kinds of steps.
+//! The direction of a transmission, and the types of steps.
 
 use crate::message::Message;
 use p25_packet_blocks::Flags;
 use p25_status::Field;
 
-/// A direction of the air.
+/// A direction of the channel.
 #[derive(Clone, Copy, Debug, PartialEq, Eq)]
 pub enum Way {
     /// From the sender to the receiver.
@@ -13,10 +13,11 @@ pub enum Way {
     Answers,
 }
 
-/// What a step was. Where a station answers, it has the name and the fields of that answer, but no packet.
+/// The type of a step. If it comes from the result of a station, it has the name and the fields of that result, but no
+/// packet.
 #[derive(Clone, Debug, PartialEq, Eq, Drop)]
 pub enum StepKind {
-    /// The message is outstanding, and its packet was sent.
+    /// The message is outstanding, and its packet was transmitted.
     Taken {
         number: u8,
         blocks: u8,
@@ -25,7 +26,7 @@ pub enum StepKind {
     Busy,
     /// The sender is down, so it takes no message.
     OfferDown,
-    /// What is outstanding was sent again: how often it was sent, with this time.
+    /// The outstanding packet was transmitted again: the number of transmissions, including this one.
     Resent {
         number: u8,
         tries: u8,
@@ -34,17 +35,17 @@ pub enum StepKind {
     Idle,
     /// The sender is down: 16 transmissions were made.
     TimeoutDown,
-    /// The opening packet was sent.
+    /// The opening packet was transmitted.
     Reopened {
         number: u8,
     },
-    /// The sender is not down, so nothing is to be opened.
+    /// The sender is not down, so nothing is to be reopened.
     Up,
-    /// Nothing was ever sent that way.
+    /// Nothing was transmitted in that direction before.
     Nothing {
         way: Way,
     },
-    /// The bits that came read as no packet (PDU): the first field that fails.
+    /// The received bits are not a decodable packet (PDU): the first field that fails.
     Lost {
         way: Way,
         field: Field,
@@ -53,16 +54,16 @@ pub enum StepKind {
     Ignored {
         way: Way,
     },
-    /// The message came whole.
+    /// The message was received whole.
     Delivered {
         number: u8,
         message: Message,
     },
-    /// The opening packet came.
+    /// The opening packet was received.
     SynHeard {
         number: u8,
     },
-    /// The last message came again.
+    /// The last message was received again.
     Again {
         number: u8,
     },
@@ -71,7 +72,7 @@ pub enum StepKind {
         number: u8,
         flags: Flags,
     },
-    /// All blocks have come, but they are no message.
+    /// All blocks were received, but they are not a message.
     RefusedCrc {
         number: u8,
     },
@@ -79,7 +80,7 @@ pub enum StepKind {
     RefusedOrder {
         last: u8,
     },
-    /// The outstanding message has come.
+    /// The outstanding message was received by the other station.
     Acknowledged {
         number: u8,
     },
@@ -87,17 +88,17 @@ pub enum StepKind {
     LinkOpened {
         number: u8,
     },
-    /// The blocks whose flags in `wanted` are true were sent again.
+    /// The blocks with a true flag in `wanted` were transmitted again.
     Retry {
         number: u8,
         wanted: Flags,
         tries: u8,
     },
-    /// The whole message was sent again.
+    /// The whole message was transmitted again.
     Repeat {
         number: u8,
         tries: u8,
     },
-    /// The answer asks for a transmission, but 16 were made; the sender is down now.
+    /// The response requires a transmission, but 16 were made; the sender goes down.
     AnswerDown,
 }

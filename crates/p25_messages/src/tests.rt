@@ -1,4 +1,5 @@
-//! Messages, long messages and their parts, lists of both, places of wrong bits, and how they are shown: each call once.
+//! Messages, long messages and their parts, lists of both, positions of bit errors, and how they are displayed: each
+//! call once.
 
 use super::{Flips, LongList, LongMessage, Message, MessageList, MessageOf, StepKind, Way};
 use std::alloc::Global;
@@ -14,14 +15,14 @@ fn the_example_of_the_head(rt: HostRuntime) -> Result<(), Fail> {
     Ok(())
 }
 
-// How many octets the message of some octets has, if they are a message.
+// The number of octets of the message of some octets, if they are a message.
 fn size(octets: &[u8]) -> Option<usize> {
     Some(Message::new(octets)?.octets().len())
 }
 
 #[test]
 fn messages_of_an_array(rt: HostRuntime) {
-    // Rows: how many octets of three are taken, and the message.
+    // Rows: the number of octets taken of three, and the message.
     for (count, octets) in [(0, b"".as_slice()), (2, b"ab"), (3, b"abc"), (4, b"abc")] {
         let message = MessageOf::<3>::beginning_of(*b"abc", count);
         assert!(rt; message.octets() == octets);
@@ -44,8 +45,8 @@ fn octets() -> [u8; 4001] {
     octets
 }
 
-// Whether octets are a long message of so many parts, the first and the last marked as they should, and the last has so many
-// octets with its mark, which are the last ones of the message.
+// Whether octets are a long message of this number of parts, the first and the last with the right marks, and the last
+// part has this number of octets with its mark, which are the last ones of the message.
 fn has_parts(octets: &[u8], parts: u8, size: usize) -> bool {
     let Some(message) = LongMessage::new(octets) else {
         return false;
@@ -77,7 +78,7 @@ fn parts_of_a_long_message(rt: HostRuntime) {
     assert!(rt; LongMessage::new(&octets).is_none());
 }
 
-// Whether octets are a long message, whose copy has them and is equal to it.
+// Whether octets are a long message, whose copy has the same octets and is equal to it.
 fn is_copied(octets: &[u8]) -> bool {
     let Some(message) = LongMessage::new(octets) else {
         return false;
@@ -93,7 +94,8 @@ fn copy_of_a_message(rt: HostRuntime) {
     assert!(rt; is_copied(b"ab"));
 }
 
-// Puts three messages into a list, and answers whether there is room for them, and the list is not empty with the first.
+// Appends three messages to a list, and returns whether there is capacity for them, and the list is not empty after the
+// first.
 fn are_put(list: &mut MessageList) -> bool {
     let Some(first) = Message::new(b"ab") else {
         return false;
@@ -129,7 +131,7 @@ fn messages_of_a_list(rt: HostRuntime) {
     assert!(rt; list.reserve(16).is_ok() && list.len() == 3);
 }
 
-// Puts two long messages into a list, and answers whether they are in it.
+// Appends two long messages to a list, and returns whether they are in it.
 fn are_listed(list: &mut LongList, first: &[u8], second: &[u8]) -> bool {
     let Some(one) = LongMessage::new(first) else {
         return false;
@@ -151,7 +153,7 @@ fn long_messages_of_a_list(rt: HostRuntime) {
     assert!(rt; are_listed(&mut LongList::new(rt.alloc()), b"", &octets[1..]));
 }
 
-// The places of some wrong bits, 3 the first of them.
+// The positions of some bit errors, 3 the first of them.
 fn places(more: Option<u16>) -> Flips {
     let mut flips = Flips::new();
     flips.push(3);
@@ -171,7 +173,7 @@ fn places_of_wrong_bits(rt: HostRuntime) {
     assert!(rt; Flips::new().is_empty() && !flips.is_empty());
 }
 
-// Whether a value is shown as this text.
+// Whether a value is displayed as this text.
 fn is_shown<T: Debug>(alloc: Global, value: &T, text: &str) -> bool {
     match format!(in alloc; "{value:?}") {
         Ok(shown) => shown.as_str() == text,

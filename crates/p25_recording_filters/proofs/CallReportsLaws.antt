@@ -1,4 +1,5 @@
--- What `calls` writes of items, by induction on the items: the lines of what a caller answers. Those of items that lie end to end are the calls among them.
+-- The output of `calls` for items, by induction on the items: the lines of the results of a caller. Those of items that lie end to end are the calls
+-- among them.
 use Rattle.std.proofs.Common.{◌≡◌, ℕ, ◌+◌, Bool, true, false, cond, List, [], ◌∷◌, ◌++◌, length, drop, refl, ap, ap₂, sym, ◌∙◌, arith, append_assoc, length-append}
 use Rattle.std.proofs.lemmas.List.Concat.{flat_map-append}
 use Rattle.std.specs.{List.{flat_map}, Prelude.{option_to_list}}

@@ -1,4 +1,4 @@
--- The octets that `follow` writes as an item comes: those that the bits before its own fill, and then its own.
+-- The octets that `follow` writes when an item arrives: those that the bits before its own fill, and then its own.
 use Rattle.std.proofs.Common.{◌≡◌, ℕ, ◌+◌, ◌*◌, ◌/◌, ◌≤◌, Bool, true, false, List, [], ◌++◌, length, drop, arith, append_assoc, append-nil, length-append, length-drop}
 use Rattle.std.proofs.lemmas.List.{drop-append-le, drop-drop}
 use Rattle.p25_units.specs.{Units.{whole_octets}, declared.item.Item.{Item}}

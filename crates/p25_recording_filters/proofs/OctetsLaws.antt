@@ -1,4 +1,4 @@
--- Whole octets of bits that are joined: those of the first bits, and then those of what is left of them and the others.
+-- Whole octets of joined bits: those of the first bits, and then those of the bits left of them and the others.
 use Rattle.std.proofs.Common.{◌≡◌, ℕ, zero, suc, ◌+◌, ◌-◌, ◌*◌, ◌/◌, ◌%◌, ◌^◌, ◌<◌, ◌≤◌, Bool, List, [], ◌∷◌, ◌++◌, length, take, drop, refl, ap, arith, append_assoc, append-nil, length-append, length-take, length-drop}
 use Rattle.std.proofs.{lemmas.List.{drop-append-le, drop-drop, drop_all, take-append-drop, take_all}, Math.Seq.{drop-append-add}}
 use Rattle.std.specs.Int.{w64, byte_at, bytes_high_first, to_be_bytes}

@@ -1,4 +1,4 @@
--- How a recording's work goes on: octets come, an item is given, the input ends. Each is one unfolding of what is reported.
+-- The progress of a recording's work: octets come, an item is returned, the input ends. Each is one unfolding of the definition of the output.
 use Rattle.std.proofs.Common.{◌≡◌, ◌≢◌, ℕ, Bool, true, false, List, [], ◌∷◌, ◌++◌, take, drop, Some, Ok, refl, ap, sym, ◌∙◌, append_assoc, append-nil}
 use Rattle.std.proofs.{Math.Nat.{add-zero}, lemmas.List.{take-append-le, drop-append-le}}
 use Rattle.p25_bits.specs.Bits.{octet_bits}

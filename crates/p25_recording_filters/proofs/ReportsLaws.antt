@@ -1,4 +1,4 @@
--- What the reports of the commands write of items, by induction on the items: the outputs that the commands are defined by.
+-- The output of the reports of the commands for items, by induction on the items: the outputs that define the commands.
 use Rattle.std.proofs.Common.{◌≡◌, ℕ, ◌+◌, ◌*◌, ◌/◌, ◌<◌, Bool, true, false, cond, List, [], ◌∷◌, ◌++◌, length, take, drop, refl, ap, ◌∙◌, arith, append_assoc, append-nil, length-drop, None}
 use Rattle.std.specs.List.{flat_map}
 use Rattle.p25_units.specs.{declared.item.Item.{Item}, Items.{covered}, Units.{whole_octets}}

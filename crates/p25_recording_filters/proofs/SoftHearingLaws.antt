@@ -1,4 +1,4 @@
--- What a scanner holds after one more level: the bits of the last group after those that it held, where the level fills one.
+-- The bits that a scanner holds after one more level: those of the last group after those that it held, if the level fills one.
 use Rattle.std.proofs.Common.{◌≡◌, ◌≢◌, ℕ, ◌+◌, ◌-◌, ◌*◌, ◌%◌, ◌^◌, ◌<◌, ◌≤◌, true, false, List, [], ◌∷◌, ◌++◌, length, drop, get_or, refl, ap, sym, ◌∙◌, arith, length-append, ℤ, pos}
 use Rattle.std.proofs.lemmas.List.{drop-append-le}
 use Rattle.p25_bits.specs.{Bits.{bits_of, part}}

@@ -1,4 +1,4 @@
--- Levels in whole groups of four: what is scanned of levels that are joined, and the bits of those of whole groups.
+-- Levels in whole groups of four: the scanned levels of joined levels, and the bits of those of whole groups.
 use Rattle.std.proofs.Common.{◌≡◌, ◌≢◌, ◌+◌, ◌-◌, ◌*◌, ◌/◌, ◌%◌, ◌<◌, ◌≤◌, Bool, true, false, List, [], ◌∷◌, ◌++◌, length, take, drop, replicate, refl, ap, ap₂, sym, ◌∙◌, arith, append_assoc, append-nil, length-append, length-drop, ℤ, pos}
 use Rattle.std.proofs.{Math.Seq.{take-append-add}, lemmas.List.{take-append-drop, length-take-le, length-replicate, take_all, take-append-le, drop_all}}
 use Rattle.p25_bits.specs.Bits.{part}

@@ -1,4 +1,4 @@
--- How the work on a soft recording goes on: levels come, an item is given, the input ends.
+-- The progress of the work on a soft recording: levels come, an item is returned, the input ends.
 use Rattle.std.proofs.Common.{◌≡◌, ℕ, ◌+◌, ◌-◌, ◌%◌, ◌<◌, Bool, true, false, List, [], ◌++◌, length, drop, map, Some, Ok, refl, ap, sym, subst, arith, append_assoc, append-nil, length-drop, ℤ}
 use Rattle.std.proofs.lemmas.List.{map-append}
 use Rattle.p25_units.specs.{declared.item.Item.{Item}, Items.{covered, place_of}, Units.{whole_octets}}

@@ -9,16 +9,16 @@ use Rattle.p25_recording_filters.specs.declared.reports.changed.Change.TheVarian
 use Rattle.p25_recording_filters.specs.{ItemOutputs.{shown, faulty, call_line, calls_line, check_line, check_ending}, Reports.{Reporting}}
 use Rattle.p25_calls.specs.Taking.{CallerParts, HasSoundPending, answer_to, behind_item, open_call}
 
--- what `show` reports: the line of each item
+-- the output of `show`: the line of each item
 abbrev pub show_reporting : Reporting Show
 show_reporting = record { piece = λ report item raw. shown item; behind = λ report item raw. report; closing = λ report. []; ending = λ report. Done }
 
--- how many items were whole units, and how many were not
+-- the number of items that were whole data units, and of those that were not
 pub record CheckParts : Type 0 where
   pub units : ℕ
   pub faults : ℕ
 
--- what `check` reports: the line of each item that is not a whole unit, and at the end how many were and were not
+-- the output of `check`: the line of each item that is not a whole data unit, and at the end the two numbers
 abbrev pub check_reporting : Reporting CheckParts
 check_reporting = record {
   piece = λ report item raw. faulty item;
@@ -64,11 +64,11 @@ pub record FollowedParts : Type 0 where
   pub follower : Follow
   pub kept : List Bool
 
--- the bits that `follow` writes as an item comes: those before its own, and its own
+-- the bits that `follow` writes when an item arrives: those before its own, and its own
 abbrev pub followed_item : Follow → Item → List Bool → List Bool
 followed_item follower item raw = written_before follower item raw ++ written_item item raw
 
--- what `follow` reports: the bits with the fronts written, and at the end those that are left
+-- the output of `follow`: the bits with sync and NID written, and at the end those that are left
 abbrev pub followed_reporting : Reporting FollowedParts
 followed_reporting = record {
   piece = λ report item raw. whole_octets (report.kept ++ followed_item report.follower item raw);
@@ -80,12 +80,12 @@ followed_reporting = record {
   ending = λ report. Done;
 }
 
--- a caller, and how many calls it has answered
+-- a caller, and the number of calls that it has returned
 pub record CallsParts : Type 0 where
   pub caller : CallerParts
   pub count : ℕ
 
--- it has answered no more calls than it took items, of which there are few, and the run that is open has a network access code (NAC)
+-- it has returned no more calls than it took items, of which there are few, and the open run has a network access code (NAC)
 pub record IsCalls (report : CallsParts) : Type 0 where
   pub sound : HasSoundPending report.caller
   pub fewer : report.count ≤ report.caller.taken

@@ -1,4 +1,4 @@
--- What is written of the items of a recording.
+-- The output for the items of a recording.
 use Rattle.std.specs.Prelude.{ℕ, ◌+◌, Bool, if◌then◌else◌, ◌==◌, List, [], ◌∷◌, ◌++◌, map, codes, decimal}
 use Rattle.p25_units.specs.{Units.{whole_octets}, declared.item.Item.{Item}}
 use Rattle.p25_stream.specs.{Items.{items_by}, Repeats.{is_whole_item}, Written.{written}}
@@ -12,11 +12,11 @@ use Rattle.p25_recording_filters.specs.SoftLevels.{item_softened, octet_level, s
 abbrev pub shown : Item → List ℕ
 shown item = item_text_of item ++ 10 ∷ []
 
--- the text of an item that is not a whole unit, and the end of its line
+-- the text of an item that is not a whole data unit, and the end of its line
 abbrev pub faulty : Item → List ℕ
 faulty item = if is_whole_item item then [] else shown item
 
--- how many items are whole units, and how many are not
+-- the number of items that are whole data units, and of those that are not
 unfoldable pub units_in : List Item → ℕ
 units_in [] = 0
 units_in (item ∷ items) = (if is_whole_item item then 1 else 0) + units_in items
@@ -29,7 +29,7 @@ faults_in (item ∷ items) = (if is_whole_item item then 0 else 1) + faults_in i
 abbrev pub check_line : ℕ → ℕ → List ℕ
 check_line units faults = codes "check units=" ++ decimal units ++ codes " faults=" ++ decimal faults ++ 10 ∷ []
 
--- how a check of some items ends
+-- the end of a check of some items
 abbrev pub check_ending : ℕ → Ending
 check_ending faults = if faults == 0 then Done else Found faults
 
@@ -41,12 +41,12 @@ changed_bits = written
 abbrev pub call_line : Call → List ℕ
 call_line call = call_text_of call ++ 10 ∷ []
 
--- how many calls there are
+-- the line of the number of calls
 abbrev pub calls_line : ℕ → List ℕ
 calls_line count = codes "calls=" ++ decimal count ++ 10 ∷ []
 
--- what `soft` writes for the octets of a soft recording, whether they are all or more may come: the bits of all items of the hard
--- bits of its levels, each broken packet (PDU) that begins at an even place softened
+-- the output of `soft` for the octets of a soft recording, whether they are all or more may come: the bits of all items of the hard bits of its
+-- levels, each broken packet (PDU) that begins at an even position softened
 unfoldable pub soft_output : Bool → List ℕ → List ℕ
 soft_output ended octets =
     let levels = scanned ended (map octet_level octets) in

@@ -1,4 +1,4 @@
--- The work of `soft`: what it still writes, for any levels that may still come.
+-- The work of `soft`: its remaining output, for any levels that may still come.
 use Rattle.std.specs.Prelude.{◌≡◌, ℕ, ◌+◌, ◌-◌, ◌*◌, ◌/◌, ◌%◌, ◌≤◌, Bool, true, false, ◌&&◌, if◌then◌else◌, ◌==◌, List, [], ◌++◌, length, drop, map, ℤ, Some, None}
 use Rattle.p25_bits.specs.Bits.{part}
 use Rattle.p25_bch_nid.specs.Duids.{duid_pdu}
@@ -18,11 +18,11 @@ pub record SoftParts : Type 0 where
 abbrev pub fresh_soft : SoftParts
 fresh_soft = record { scan = record { place = 0; held = []; finished = false }; levels = []; kept = [] }
 
--- the first level that is held, where a scanner holds the bits from a place on: that of the group of four of the place
+-- the first level that is held, if a scanner holds the bits from a position on: that of the group of four of the position
 abbrev pub first_level : ℕ → ℕ
 first_level place = 4 * (place / 8)
 
--- what is written of levels from the first one on, of which the bits from a place on are not written yet
+-- the output for levels from the first one on, if the bits from a position on are not written yet
 abbrev pub soft_written : Bool → ℕ → List ℤ → List Bool → List ℕ
 soft_written ended place levels kept =
     let all = scanned ended levels in
@@ -50,21 +50,21 @@ pub record IsHolding (scan : Scan) (levels : List ℤ) : Type 0 where
   pub placed : scan.place % 8 ≤ 2 * length (grouped levels)
   pub full : scan.finished ≡ true → length levels % 4 ≡ 0
 
--- an item is a broken packet (PDU) that begins at an even place
+-- an item is a broken packet (PDU) that begins at an even position
 abbrev pub is_even_packet : Item → Bool
 is_even_packet (Broken place count nac duid fields) = duid == duid_pdu && place % 2 == 0
 is_even_packet item = false
 
--- the levels of an item among those from the group of its place on
+-- the levels of an item among those from the group of its position on
 abbrev pub item_levels : Item → List ℤ → List ℤ
 item_levels item levels = part (place_of item % 8 / 2) (covered item / 2) levels
 
--- a broken packet (PDU) at an even place is heard from its levels
+-- a broken packet (PDU) at an even position is decided from its levels
 pub record IsHeardAmong (item : Item) (levels : List ℤ) (raw : List Bool) : Type 0 where
   pub there : place_of item % 8 / 2 + covered item / 2 ≤ length levels
   pub heard : IsHeard item (item_levels item levels) raw
 
--- the next item was given, its bits, softened, were put after those kept back, and the levels before those still held are gone
+-- the next item was returned, its bits, softened, were appended to those kept back, and the levels before those still held are dropped
 pub record PutSoftItem (before : SoftParts) (out : List ℕ) (now : SoftParts) : Type 0 where
   pub item : Item
   pub raw : List Bool

@@ -21,7 +21,7 @@ impl Model for HeldLevels {
 }
 
 impl HeldLevels {
-    // No levels.
+    // Returns an empty list.
     pub(crate) fn new() -> HeldLevels
         ensures { result ≡ [] }
     {
@@ -30,7 +30,7 @@ impl HeldLevels {
         }
     }
 
-    // How many there are.
+    // Returns the number of levels.
     pub(crate) fn len(&self) -> usize
         ensures { result ≡ length self.now }
     {
@@ -46,7 +46,7 @@ impl HeldLevels {
         self.levels.push(level);
     }
 
-    // The part of `count` levels from a place on.
+    // Returns the part of `count` levels from a position on.
     pub(crate) fn part(&self, at: usize, count: usize) -> &[i8]
         requires { at + count ≤ length self.now }
         ensures list { result.now ≡ part at count self.now }
@@ -55,7 +55,7 @@ impl HeldLevels {
         &self.levels.as_slice()[at..at + count]
     }
 
-    // Takes the first levels away.
+    // Removes the first levels.
     pub(crate) fn drop_front(&mut self, count: usize)
         requires { count ≤ length self.old }
         ensures { self.new ≡ drop count self.old }

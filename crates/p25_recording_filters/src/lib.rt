@@ -1,9 +1,10 @@
-//! The commands that read recordings, as filters: what `show`, `check`, `repair`, `bridge`, `relay`, `follow`, `calls` and `soft`
-//! write of the items of the octets that are pushed to them.
+//! The commands that read recordings, as filters: the output of `show`, `check`, `repair`, `bridge`, `relay`, `follow`,
+//! `calls` and `soft` for the items of the octets that are pushed to them.
 //!
-//! A recording is a list of bits, each octet's most significant bit first; one of levels has an octet for each two bits. A
-//! `Report` says what is written of each item, and at the end; `Recording` is the filter that scans the octets for it, and
-//! `Soft` that of a recording of levels. What they still write, whatever comes, is `recording_future` and `soft_future`.
+//! A recording is a list of bits, the most significant bit of each octet first; a soft recording has an octet for each
+//! two bits. A `Report` defines the output for each item, and at the end. `Recording` is the filter that scans the
+//! octets for it, and `Soft` the filter for a soft recording. Their remaining output, whatever comes, is
+//! `recording_future` and `soft_future`.
 //!
 //! ```text
 //! let mut check = Check::new();
@@ -14,7 +15,7 @@
 //! assert_eq!(rt; out.octets(), b"check units=0 faults=1\n".as_slice());
 //! ```
 //!
-//! `Recording::new(Check::new())` is the filter that takes octets, and `run_on` of p25_filter the work of it.
+//! `Recording::new(Check::new())` is the filter that takes octets, and `run_on` of p25_filter runs it.
 #![tactic(auto)]
 
 mod held_levels;

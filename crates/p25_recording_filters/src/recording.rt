@@ -1,4 +1,4 @@
-//! The work of a command on a recording: its items, as they are decided, and what a report writes of them.
+//! The work of a command on a recording: its items, as they are decided, and the output of a report for them.
 
 ghost use Rattle.std.specs.Prelude.{◌≡◌, []};
 ghost use Rattle.p25_stream.specs.Scan.{given};
@@ -13,23 +13,23 @@ use p25_stream::laws::item_laws;
 use p25_units::Item;
 use std::marker::Model;
 
-// How far the work has come.
+// The state of the work.
 #[derive(Clone, Copy, Debug, PartialEq, Eq)]
 pub(crate) enum Phase {
     // More octets may come.
     Reading,
     // The input has ended.
     Ended,
-    // What is written at the end was given.
+    // The output at the end was returned.
     Closed,
 }
 
-/// A report at work on a recording: a filter that scans the octets pushed to it and gives what the report writes.
+/// A running report on a recording: a filter that scans the octets pushed to it and returns the output of the report.
 #[derive(Drop)]
 pub struct Recording<R: Report> {
     report: R,
     scanner: Scanner,
-    // The last item, and its bits where the report looks at them.
+    // The last item, and its bits if the report uses them.
     item: Item,
     raw: BitBuf,
     phase: Phase,
@@ -51,7 +51,7 @@ impl<R: Report> Model for Recording<R> {
 }
 
 impl<R: Report> Recording<R> {
-    /// Answers a report before the first octet. It has counted nothing.
+    /// Returns a report before the first octet, with all counts 0.
     pub fn new(report: R) -> Recording<R>
         requires counted { R.counted report ≡ 0 }
         requires reached { R.HasReached report 0 }
@@ -66,7 +66,7 @@ impl<R: Report> Recording<R> {
         }
     }
 
-    // Sets `out` to what is written at the end of the input, once it has ended, and answers whether it did.
+    // Writes to `out` the output at the end of the input, once it has ended, and returns whether it did.
     fn close(&mut self, out: &mut Line) -> bool
         requires { given self.old.scan ≡ [] }
         ensures { IsClosing R.reporting self.old result out.new self.new }
@@ -107,13 +107,13 @@ impl<R: Report> Filter for Recording<R> {
     }
 
     fn next(&mut self, out: &mut Line) -> Result<bool, Refusal> {
-        // Mostly no item is decided: then no room is made for one.
+        // Usually no item is decided; then no buffer is made for one.
         if self.scanner.is_drained() {
             return Ok(self.close(out));
         }
         // For the prover: items lie end to end.
         item_laws();
-        // Bits that nobody looks at are not copied.
+        // Bits that nobody uses are not copied.
         let taken = if R::LOOKS_AT_BITS {
             self.scanner.next_in(&mut self.raw, &mut self.item)
         } else {

@@ -1,4 +1,5 @@
-//! The work of `soft` on a soft recording: its levels become bits, and the blocks of broken packets (PDU) are read again from them.
+//! The work of `soft` on a soft recording: its levels become bits, and the blocks of broken packets (PDU) are decoded
+//! again from them.
 
 ghost use Rattle.std.specs.Prelude.{◌≡◌, ◌≢◌, ◌+◌, ◌%◌, ◌^◌, ◌<◌, ◌≤◌, true, false, [], ◌∷◌, ◌++◌, length, take, map};
 ghost use Rattle.p25_bits.specs.Bits.{bits_of};
@@ -19,11 +20,11 @@ use p25_stream::laws::item_laws;
 use p25_stream::{Item, Scanner};
 use std::marker::Model;
 
-// The level with which the last group of four is filled.
+// The level that fills the last group of four.
 const FILLER: i8 = 32;
 
-/// A recording of levels at work: a filter that gives the bits of its items, in which failing blocks of packets (PDU) are read
-/// from the levels. At most seven bits that do not fill an octet are kept back.
+/// The work on a soft recording: a filter that returns the bits of its items, with failing blocks of packets (PDU)
+/// decoded from the levels. At most seven bits that do not fill an octet are kept back.
 #[derive(Drop)]
 pub struct Soft {
     scanner: Scanner,
@@ -45,7 +46,7 @@ impl Model for Soft {
         × (first_level s.scanner.place + length s.levels < 2 ^ 29) };
 }
 
-// The octet whose bits four levels are nearest to.
+// Returns the octet of the hard bits of four levels.
 fn group_octet(levels: &[i8]) -> u8
     requires { length levels.now ≡ 4 }
     ensures { bits_of 8 result ≡ hard_bits levels.now }
@@ -53,7 +54,7 @@ fn group_octet(levels: &[i8]) -> u8
     64 * hard(levels[0]) + 16 * hard(levels[1]) + 4 * hard(levels[2]) + hard(levels[3])
 }
 
-// Takes a level, and hands its group to the scanner where it is the last of four.
+// Takes a level, and passes its group to the scanner if it is the last of four.
 fn hear(levels: &mut HeldLevels, level: i8, scanner: &mut Scanner)
     requires drained { given scanner.old ≡ [] }
     requires going { scanner.old.finished ≡ false }
@@ -74,7 +75,8 @@ fn hear(levels: &mut HeldLevels, level: i8, scanner: &mut Scanner)
     }
 }
 
-// Takes levels, at most those that fill a group, which is handed to the scanner once it is whole, and answers how many.
+// Takes levels, at most those that fill a group, which is passed to the scanner once it is whole, and returns their
+// number.
 fn hear_some(levels: &mut HeldLevels, octets: &[u8], scanner: &mut Scanner) -> usize
     requires some { 0 < length octets.now }
     requires drained { given scanner.old ≡ [] }
@@ -95,7 +97,7 @@ fn hear_some(levels: &mut HeldLevels, octets: &[u8], scanner: &mut Scanner) -> u
     count
 }
 
-// Fills the last group, and hands it to the scanner.
+// Fills the last group, and passes it to the scanner.
 fn fill(levels: &mut HeldLevels, scanner: &mut Scanner)
     requires drained { given scanner.old ≡ [] }
     requires going { scanner.old.finished ≡ false }
@@ -114,7 +116,7 @@ fn fill(levels: &mut HeldLevels, scanner: &mut Scanner)
     }
 }
 
-// Whether an item is a broken packet (PDU) that begins at an even place.
+// Returns whether an item is a broken packet (PDU) that begins at an even position.
 fn is_even_packet(item: &Item) -> bool
     ensures { result ≡ is_even_packet item.now }
 {
@@ -124,7 +126,7 @@ fn is_even_packet(item: &Item) -> bool
     }
 }
 
-// Softens the bits of an item, with the levels from the group of its place on.
+// Softens the bits of an item, with the levels from the group of its position on.
 fn soften_item(item: &Item, levels: &HeldLevels, raw: &mut BitBuf)
     requires { is_even_packet item.now ≡ true → IsHeardAmong item.now levels.now raw.old }
     ensures list { raw.new ≡ item_softened (first_level (place_of item.now)) levels.now item.now raw.old }
@@ -139,7 +141,7 @@ fn soften_item(item: &Item, levels: &HeldLevels, raw: &mut BitBuf)
 }
 
 impl Soft {
-    /// Answers the work before the first octet.
+    /// Returns the work before the first octet.
     pub fn new() -> Soft
         ensures { result ≡ fresh_soft }
     {
@@ -151,8 +153,8 @@ impl Soft {
         }
     }
 
-    // Sets `out` to the octets that the bits of the next item fill after those kept back; there is such an item. Lets the levels go before
-    // the group of the place after it.
+    // Writes to `out` the octets that the bits of the next item fill after those kept back. It requires that there is
+    // such an item. Drops the levels before the group of the position after it.
     fn put_next(&mut self, out: &mut Line)
         requires { given self.old.scan ≢ [] }
         ensures { PutSoftItem self.old out.new self.new }

@@ -1,4 +1,4 @@
-//! What each command writes of a short recording, by octets and texts that are written by hand.
+//! The output of each command for a short recording, by octets and texts that are written by hand.
 
 ghost use Rattle.std.specs.Prelude.{◌≡◌, ◌≤◌};
 
@@ -21,13 +21,13 @@ fn the_example_of_the_head(rt: HostRuntime) {
     assert_eq!(rt; out.octets(), b"check units=0 faults=1\n".as_slice());
 }
 
-// Two terminators (TDU) of NAC 0 with the status symbol 1, 20 bits between them and four behind; the second has a wrong bit in
+// Two terminators (TDU) of NAC 0 with the status symbol 1, 20 bits between them and four after; the second has a bit error in
 // its sync.
 const RECORDING: &[u8; 39] =
     b"\x55\x75\xF5\xFF\x77\xFF\x00\x03\x35\x93\x0B\xDD\x3B\x2B\x00\x00\x00\x01\x12\x34\
     \x55\x57\x5F\x5F\xF7\x7F\xE0\x00\x33\x59\x30\xBD\xD3\xB2\xB0\x00\x00\x00\x10";
 
-// The same without the wrong bit.
+// The same without the bit error.
 const REPAIRED: &[u8] =
     b"\x55\x75\xF5\xFF\x77\xFF\x00\x03\x35\x93\x0B\xDD\x3B\x2B\x00\x00\x00\x01\x12\x34\
     \x55\x57\x5F\x5F\xF7\x7F\xF0\x00\x33\x59\x30\xBD\xD3\xB2\xB0\x00\x00\x00\x10";
@@ -41,7 +41,7 @@ const SHOWN: &[u8] = b"unit at=0 bits=144 fix=0 status=11 tdu nac=000\ngap at=14
 
 const CHECKED: &[u8] = b"gap at=144 bits=20\ngap at=308 bits=4\ncheck units=2 faults=2\n";
 
-// Octets, how many a read of them gives, and what is to be written of them.
+// Octets, the number that a read of them returns, and the output for them.
 #[derive(Clone, Copy)]
 struct Row<'a> {
     input: &'a [u8],
@@ -51,7 +51,7 @@ struct Row<'a> {
 
 const DONE: FilterEnd = FilterEnd::Ended(Ending::Done);
 
-// How a report of a row's octets ends, and whether it writes what the row says.
+// The end of a report on a row's octets, and whether its output is that of the row.
 fn run_report<R: Report + Drop>(report: R, row: &Row) -> (FilterEnd, bool)
     requires counted { R.counted report ≡ 0 }
     requires reached { R.HasReached report 0 }
@@ -65,7 +65,7 @@ fn run_report<R: Report + Drop>(report: R, row: &Row) -> (FilterEnd, bool)
     (end, sink.written() == row.output)
 }
 
-// The same of `soft`.
+// The same for `soft`.
 fn run_soft(row: &Row) -> (FilterEnd, bool) {
     let mut source = SteadySource::new(row.input, row.piece.max(1));
     let mut room = [0; 512];
@@ -141,7 +141,7 @@ fn levels() -> [u8; 156] {
     levels
 }
 
-// The last group of levels is filled with dibits 00, which the last of the recording are.
+// The last group of levels is filled with dibits 00, which are the last dibits of the recording.
 #[test]
 fn levels_of_terminators(rt: HostRuntime) {
     let levels = levels();
@@ -155,7 +155,7 @@ fn levels_of_terminators(rt: HostRuntime) {
     }
 }
 
-// Puts the octets of the unit of a line behind those before, and answers how many there are then.
+// Writes the octets of the data unit of a line after those before, and returns their number.
 fn put_unit(line: &[u8], at: usize, room: &mut [u8; 512]) -> usize
     requires { at ≤ 300 }
 {

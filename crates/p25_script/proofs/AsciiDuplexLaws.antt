@@ -1,4 +1,4 @@
--- The texts of steps of both stations, and of the end of a run for a side, have octets below 128 alone. By the texts that they are made of.
+-- The texts of steps of both stations, and of the end of a run for a side, have octets below 128 alone. By the texts of which they are made.
 use Rattle.std.proofs.Common.{◌≡◌, ◌+◌, ◌&&◌, true, [], ◌∷◌, length, refl, ap₂}
 use Rattle.std.specs.Prelude.{codes, decimal}
 use Rattle.p25_line.proofs.AsciiLaws.{ascii-decimal, ascii-joined, is_ascii}

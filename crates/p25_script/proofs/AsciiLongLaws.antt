@@ -1,4 +1,4 @@
--- The texts of steps of long messages, and of the end of a run, have octets below 128 alone. By the texts that they are made of.
+-- The texts of steps of long messages, and of the end of a run, have octets below 128 alone. By the texts of which they are made.
 use Rattle.std.proofs.Common.{◌≡◌, ℕ, ◌+◌, ◌&&◌, true, List, [], ◌∷◌, ◌++◌, length, Option, Some, None, refl, ap₂}
 use Rattle.std.specs.Prelude.{codes, decimal}
 use Rattle.p25_line.specs.Octets.{octets_text}

@@ -1,4 +1,4 @@
--- The texts of steps, and of the end of a run, have octets below 128 alone. By the texts that they are made of.
+-- The texts of steps, and of the end of a run, have octets below 128 alone. By the texts of which they are made.
 use Rattle.std.proofs.Common.{◌≡◌, ℕ, ◌+◌, ◌/◌, ◌&&◌, Bool, true, false, cond, List, [], ◌∷◌, ◌++◌, length, refl, ap₂}
 use Rattle.std.specs.Prelude.{codes, decimal, nat_lt}
 use Rattle.p25_bits.specs.Numbers.{octets_from}

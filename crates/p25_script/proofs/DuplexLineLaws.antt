@@ -1,4 +1,4 @@
--- The line of an event is read as that event, and a line that is read is the line of its event. By cases on what each step of the reading found.
+-- The line of an event decodes to that event, and a line that is read is the line of its event. By cases on the result of each step of reading.
 use Rattle.std.proofs.Common.{◌≡◌, ℕ, ◌<◌, ◌&&◌, true, List, [], ◌∷◌, length, Option, Some, None, Ok, refl, ap, ap₂, subst, ◌∙◌, arith}
 use Rattle.std.specs.List.{list_all}
 use Rattle.p25_line.specs.{LineReadings.{keyed_or_fault, value_or_fault}, Words.{is_word}}

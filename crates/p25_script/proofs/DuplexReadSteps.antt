@@ -1,4 +1,4 @@
--- What the reader of lines shows of the reading of words by the definition, where the first word names nothing.
+-- The relation of the reader of lines to the definition, if the first word names nothing.
 use Rattle.std.proofs.Common.{◌≡◌, ℕ, List, drop, slice_get, Some, None, Err, ap, ◌∙◌}
 use Rattle.p25_line.specs.{declared.fault.LineFault.TheVariants.{Kind as WrongKind}, LineReadings.{named_or_fault}}
 use Rattle.p25_line.proofs.LineWordsLaws.{first-others}

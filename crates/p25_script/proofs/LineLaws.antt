@@ -1,4 +1,4 @@
--- What each form of script lines has from the laws of its words: the kind that a first word names, and what the reader of a whole line tells.
+-- The laws of each form of script lines by those of its words: the type that a first word names, and the result of the reader of a whole line.
 use Rattle.std.proofs.Common.{◌≡◌, ℕ, ◌≤◌, List, [], ◌∷◌, length, Option, Some, None, Result, Ok, refl, sym, ap, subst, ◌∙◌}
 use Rattle.std.specs.{Prelude.{IfOk}, List.{find, join_with_byte}, Str.{bytes_eq}}
 use Rattle.p25_line.specs.{LineReadings.{line_read, named_or_fault}, declared.fault.LineFault.{LineFault}}

@@ -1,4 +1,4 @@
--- What each answer of the reader of lines of long messages shows of the reading of words by the definition.
+-- The relation of each result of the reader of lines of long messages to the definition.
 use Rattle.std.proofs.{Common.{◌≡◌, ℕ, suc, true, false, List, [], ◌∷◌, length, drop, slice_get, Some, Err, refl, ap, ◌∙◌}, lemmas.Bool.{cond-true, cond-false}}
 use Rattle.std.specs.{Prelude.{codes}, Str.{bytes_eq}}
 use Rattle.p25_line.specs.{declared.fault.LineFault.TheVariants.{Key}, LineReadings.{value_or_fault}}

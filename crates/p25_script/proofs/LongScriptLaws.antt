@@ -1,4 +1,4 @@
--- The words of an event are read as that event, and words that are read are those of their event. By the first word.
+-- The words of an event decode to that event, and words that are read are those of their event. By the first word.
 use Rattle.std.proofs.Common.{◌≡◌, ℕ, ◌<◌, ◌&&◌, true, false, List, [], ◌∷◌, length, Option, Some, None, Result, Err, Ok, inl, inr, refl, sym, ap, ap₂, subst, ◌∙◌, arith}
 use Rattle.std.proofs.{lemmas.Bool.{cases_Bool, cond-true, cond-false, false≢true}, lemmas.Slice.Eq.{bytes_eq-Decides}}
 use Rattle.std.specs.{Prelude.{codes}, List.{list_all}, Str.{bytes_eq}}

@@ -1,4 +1,4 @@
--- Ascending places: as the standard library has them, and with one more at the end. By induction on the places.
+-- Ascending positions: by the standard library, and with one more at the end. By induction on the positions.
 use Rattle.std.proofs.{Common.{◌≡◌, ℕ, zero, suc, ◌+◌, ◌<◌, ◌≤◌, ◌&&◌, true, List, [], ◌∷◌, ◌++◌, refl, ap₂, subst, slice_index, arith}, lemmas.Bool.{and_parts, lt-ltb, ltb-true}}
 use Rattle.std.proofs.lemmas.List.Elements.{All-nil, All-cons, All-head}
 use Rattle.std.specs.{Prelude.{nat_lt, All}, List.Sorted.{IsStrictlyIncreasing}}

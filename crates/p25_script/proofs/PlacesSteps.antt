@@ -1,4 +1,4 @@
--- Places that are read part by part, as the loop takes them. What was read so far is a beginning of all that the word lists.
+-- Positions that are read part by part in a loop. Those read so far are a beginning of all that the word lists.
 use Rattle.std.proofs.Common.{◌≡◌, ℕ, ◌<◌, true, false, List, [], ◌∷◌, ◌++◌, length, Option, Some, None, inl, inr, refl, sym, ap, ◌∙◌, arith, append_assoc}
 use Rattle.std.proofs.lemmas.Bool.{cases_Bool, cond-true, cond-false}
 use Rattle.std.specs.{Option.{option_map}, Str.{bytes_eq}}

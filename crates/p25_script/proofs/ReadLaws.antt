@@ -1,4 +1,4 @@
--- What each answer of the reader of script lines shows of the reading of words by the definition.
+-- The relation of each result of the reader of script lines to the definition.
 use Rattle.std.proofs.Common.{◌≡◌, ℕ, suc, List, [], ◌∷◌, length, drop, slice_get, Some, None, Err, refl, ap, ◌∙◌}
 use Rattle.p25_line.specs.{declared.fault.LineFault.TheVariants.{Key, Kind as WrongKind}, LineReadings.{named_or_fault}}
 use Rattle.p25_line.proofs.LineWordsLaws.{first-others}

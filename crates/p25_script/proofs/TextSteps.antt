@@ -1,4 +1,4 @@
--- The pieces of step texts: the octets of flags, and one serial number more. By the lists made place by place.
+-- The parts of step texts: the octets of flags, and one more serial number. By the lists made position by position.
 use Rattle.std.proofs.Common.{◌≡◌, ℕ, ◌+◌, ◌/◌, Bool, true, false, cond, List, [], ◌∷◌, ◌++◌, length, take, map, decimal, slice_get, Some, refl, sym, ap, ap₂, ◌∙◌, arith, append-nil, append_assoc}
 use Rattle.std.proofs.{lemmas.Bool.{cond-true, cond-false}, lemmas.List.{map_push, take_all, take-append-le}, lemmas.Option.{get_or_from_slice_get}}
 use Rattle.std.specs.{Prelude.{slice_index_or, eqb, if◌then◌else◌}, List.{join_with_byte}}

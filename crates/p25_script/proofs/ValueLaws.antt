@@ -1,4 +1,4 @@
--- Messages and places are read from their texts, and a word that is read as one is its text. By cases on what each test found.
+-- Messages and positions are read from their texts, and a word that decodes to one is its text. By cases on the result of each test.
 use Rattle.std.proofs.Common.{◌≡◌, ℕ, ◌+◌, ◌*◌, ◌^◌, ◌<◌, ◌≤◌, ◌==◌, ◌&&◌, ◌||◌, Bool, true, false, List, [], ◌∷◌, length, map, decimal, Option, Some, None, inl, inr, refl, sym, ap, ap₂, ◌∙◌, arith, length-append}
 use Rattle.std.proofs.{lemmas.Bool.{and_parts, cases_Bool, cond-true, cond-false, lt-ltb, true≢false}, lemmas.Fmt.{decimal_nonempty, digits_decimal, length-decimal-le}}
 use Rattle.std.proofs.{lemmas.List.Elements.{All-nil, All-cons, All-head, All-tail}, lemmas.List.Folds.{list_all-append}, lemmas.Slice.Eq.{bytes_eq-Decides}}

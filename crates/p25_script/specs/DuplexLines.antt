@@ -21,7 +21,7 @@ start_word Delivery = event_word DeliverLine
 abbrev pub duplex_starts : List DuplexStart
 duplex_starts = Acts A ∷ Acts B ∷ Delivery ∷ []
 
--- what a first word names
+-- the meaning of a first word
 abbrev pub start_named : List ℕ → Option DuplexStart
 start_named word = find (λ start. bytes_eq word (start_word start)) duplex_starts
 
@@ -30,13 +30,13 @@ abbrev pub direction_word : Side → List ℕ
 direction_word A = codes "ba"
 direction_word B = codes "ab"
 
--- the side to which a word tells the direction
+-- the side to which the direction of a word leads
 abbrev pub hearer_named : List ℕ → Option Side
 hearer_named word = find (λ to. bytes_eq word (direction_word to)) (A ∷ B ∷ [])
 
 -- ---- the line of an event
 
--- what a script can tell of: messages of at most 2,028 octets, and ascending places below 25,920
+-- events that a script can contain: messages of at most 2,028 octets, and ascending positions below 25,920
 abbrev pub IsDuplexScripted : DuplexEvent → Type 0
 IsDuplexScripted (Send side message) = IsMessage message
 IsDuplexScripted (Timeout side) = Unit {0}
@@ -63,7 +63,7 @@ event_of_side side (Some TimeoutLine) [] = Ok (Timeout side)
 event_of_side side (Some ReopenLine) [] = Ok (Reopen side)
 event_of_side side kind others = Err Key
 
--- the event of the words after the first, or the first cause for which they are refused
+-- the event of the words after the first, or the first reason for refusing them
 abbrev pub event_behind : DuplexStart → List (List ℕ) → Result DuplexEvent LineFault
 event_behind (Acts side) (word ∷ others) = event_of_side side (event_named word) others
 event_behind Delivery (direction ∷ places ∷ []) = keyed_or_fault Deliver (hearer_named direction) (places_in places)
@@ -73,6 +73,6 @@ event_behind start others = Err Key
 abbrev pub duplex_by_words : List (List ℕ) → Result DuplexEvent LineFault
 duplex_by_words words = read_by_kind start_named event_behind words
 
--- the event of a line, or the first cause for which the line is refused: Long, Form, Kind, Key, Value
+-- the event of a line, or the first reason for refusing the line: Long, Form, Kind, Key, Value
 abbrev pub duplex_event_of : List ℕ → Result DuplexEvent LineFault
 duplex_event_of line = line_read duplex_by_words line

@@ -1,4 +1,4 @@
--- No words of a script line of both stations are refused as a line that is too long. By cases of what they are read as.
+-- No words of a script line of both stations are refused as a line that is too long. By cases of their decoding.
 use Rattle.std.specs.Prelude.{◌≡◌, ◌≢◌, ℕ, List, [], ◌∷◌, Option, Some, Err}
 use Rattle.p25_line.specs.declared.fault.LineFault.TheVariants.{Long}
 use Rattle.p25_line.proofs.LineReadLaws.{keyed-not_long, named-not_long, value-not_long}

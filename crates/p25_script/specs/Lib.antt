@@ -4,7 +4,7 @@ pub mod LongScript
 pub mod DuplexLines
 pub mod StepTexts
 pub mod LongTexts
--- laws of impls: nothing to believe
+-- laws of impls, with no definition to trust
 pub mod ScriptReadLaws
 pub mod LongReadLaws
 pub mod DuplexReadLaws

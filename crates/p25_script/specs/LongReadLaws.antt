@@ -1,4 +1,4 @@
--- No words of a script line of long messages are refused as a line that is too long. By cases of what they are read as.
+-- No words of a script line of long messages are refused as a line that is too long. By cases of their decoding.
 use Rattle.std.specs.{Prelude.{◌≡◌, ◌≢◌, ℕ, Bool, true, false, if◌then◌else◌, List, [], ◌∷◌, codes, Result, Ok, Err}, Str.{bytes_eq}}
 use Rattle.std.proofs.Common.{refl}
 use Rattle.p25_line.specs.{declared.fault.LineFault.{LineFault}, declared.fault.LineFault.TheVariants.{Long, Kind as WrongKind}}

@@ -13,12 +13,12 @@ pub record IsLongMessage (message : List ℕ) : Type 0 where
   pub short : length message ≤ 4000
   pub octets : AllOctets message
 
--- an event of the inner world that a script can tell of
+-- an event of the inner world that a script can contain
 pub record IsInnerEvent (event : Event) : Type 0 where
   pub no_offer : IsNoOffer event
   pub scripted : IsScripted event
 
--- what a script of long messages can tell of
+-- an event that a script of long messages can contain
 unfoldable pub IsLongScripted : LongEvent → Type 0
 IsLongScripted (Long message) = IsLongMessage message
 IsLongScripted (Inner event) = IsInnerEvent event
@@ -56,11 +56,11 @@ other_event first others = if bytes_eq first (codes "send") then Err WrongKind e
 abbrev pub long_event_by : List ℕ → List (List ℕ) → Result LongEvent LineFault
 long_event_by first others = if bytes_eq first (codes "long") then long_in others else other_event first others
 
--- the event of the words of a line, of which there is one at least
+-- the event of the words of a line, at least one
 abbrev pub long_event_by_words : List (List ℕ) → Result LongEvent LineFault
 long_event_by_words (first ∷ others) = long_event_by first others
 long_event_by_words [] = Err Form
 
--- the event of a line, or the first cause for which the line is refused: Long, Form, Kind, Key, Value
+-- the event of a line, or the first reason for refusing the line: Long, Form, Kind, Key, Value
 abbrev pub long_event_of : List ℕ → Result LongEvent LineFault
 long_event_of line = line_read long_event_by_words line

@@ -11,7 +11,7 @@ use Rattle.p25_fragments.specs.declared.long_step.LongStep.{LongStep}
 abbrev pub ended_line : List ℕ → List ℕ
 ended_line text = text ++ 10 ∷ []
 
--- the line of the step of the inner world, where there is one
+-- the line of the step of the inner world, if there is one
 unfoldable pub first_line_of : Option Step → List ℕ
 first_line_of None = []
 first_line_of (Some step) = ended_line (step_text_of step)
@@ -21,7 +21,7 @@ unfoldable pub line_before : Then → List ℕ
 line_before (Started parts) = ended_line (codes "long taken parts=" ++ decimal parts)
 line_before other = []
 
--- the line after it, or in its place
+-- the line after it, or instead of it
 unfoldable pub line_behind : Then → List ℕ
 line_behind Plain = []
 line_behind (Started parts) = []

@@ -14,7 +14,7 @@ use Rattle.p25_script.specs.Script.{way_word}
 unfoldable pub flags_text : List Bool → List ℕ
 flags_text flags = encode_lower (octets_from (length flags / 8) flags)
 
--- the serial number of a block below so many, where its flag is true
+-- the serial number of a block below a bound, if its flag is true
 abbrev pub serial_at : List Bool → ℕ → List ℕ
 serial_at flags serial = if slice_index_or flags serial false then serial ∷ [] else []
 
@@ -22,7 +22,7 @@ serial_at flags serial = if slice_index_or flags serial false then serial ∷ []
 unfoldable pub serials_of : List Bool → List ℕ
 serials_of flags = joined_below (length flags) (serial_at flags)
 
--- the text of a kind of step
+-- the text of a type of step
 unfoldable pub kind_text : StepKind → List ℕ
 kind_text (Taken number blocks) = codes "send taken ns=" ++ decimal number ++ codes " blocks=" ++ decimal blocks
 kind_text Busy = codes "send busy"
@@ -48,7 +48,7 @@ kind_text (Retry number wanted tries) =
 kind_text (Repeat number tries) = codes "answer repeat ns=" ++ decimal number ++ codes " try=" ++ decimal tries
 kind_text AnswerDown = codes "answer down"
 
--- what follows the text of a delivery that is a false pass
+-- the text after that of a delivery that is a false pass
 abbrev pub false_text : Bool → List ℕ
 false_text true = codes " false"
 false_text false = []
@@ -57,7 +57,7 @@ false_text false = []
 unfoldable pub step_text_of : Step → List ℕ
 step_text_of step = kind_text step.kind ++ false_text step.false_pass
 
--- the text of a step of stations that both send, without the end of its line: the letter of the side that acts or hears, and what the step was
+-- the text of a step of stations that both send, without the end of its line: the letter of the side that acts or receives, and the text of the step
 unfoldable pub duplex_step_text_of : DuplexStep → List ℕ
 duplex_step_text_of step = side_word step.side ++ codes " " ++ step_text_of step.step
 

@@ -8,8 +8,9 @@ use p25_line::Line;
 use p25_stations::World;
 use p25_stations::parts::put_sessions;
 
-/// Sets `out` to the text that closes a run, without the end of its line: how many messages were sent, delivered and
-/// acknowledged, how many deliveries were false passes, and how many sessions there were, where there was more than one.
+/// Writes to `out` the text that closes a run, without the end of its line: the numbers of messages sent, delivered and
+/// acknowledged, the number of deliveries that were false passes, and the number of sessions, if there was more than
+/// one.
 #[tactic(auto, unfolding(crate::specs::StepTexts::closing_text_of))]
 pub fn closing_text(world: &World, out: &mut Line)
     ensures text { out.new ≡ closing_text_of world.now.state }
@@ -23,9 +24,9 @@ pub fn closing_text(world: &World, out: &mut Line)
     put_sessions(world.sessions(), out);
 }
 
-/// Sets `out` to the text that closes a run of long messages, without the end of its line: how many long messages were taken,
-/// whole and acknowledged, how many deliveries were false passes, and how many sessions there were, where there was more than
-/// one.
+/// Writes to `out` the text that closes a run of long messages, without the end of its line: the numbers of long
+/// messages taken, whole and acknowledged, the number of deliveries that were false passes, and the number of sessions,
+/// if there was more than one.
 #[tactic(auto, unfolding(crate::specs::LongTexts::long_closing_text_of))]
 pub fn long_closing_text(world: &LongWorld, out: &mut Line)
     ensures text { out.new ≡ long_closing_text_of world.now.state }

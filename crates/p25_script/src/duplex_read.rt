@@ -12,7 +12,7 @@ use super::values::{message_value, places_value};
 use p25_duplex::{DuplexEvent, Side};
 use p25_line::{LineFault, LineWords, read_whole};
 
-/// What the first word of a line tells.
+/// The meaning of the first word of a line.
 #[derive(Clone, Copy)]
 enum DuplexStart {
     /// A side acts.
@@ -21,7 +21,7 @@ enum DuplexStart {
     Delivery,
 }
 
-// All that a first word tells.
+// All meanings of a first word.
 const STARTS: [DuplexStart; 3] = [
     DuplexStart::Acts(Side::A),
     DuplexStart::Acts(Side::B),
@@ -29,14 +29,14 @@ const STARTS: [DuplexStart; 3] = [
 ];
 
 impl DuplexStart {
-    // Answers what the first word of a line tells. None comes exactly where it tells nothing.
+    // Returns the meaning of the first word of a line. `None` is returned if and only if it has none.
     fn named(word: &[u8]) -> Option<DuplexStart>
         ensures { result ≡ start_named word.now }
     {
         STARTS.iter().copied().find(|start| word == start.word())
     }
 
-    // Answers the word that tells it.
+    // Returns the word with this meaning.
     fn word(self) -> &'static [u8]
         ensures { result.now ≡ start_word self }
     {
@@ -47,7 +47,7 @@ impl DuplexStart {
     }
 }
 
-// The word for the direction to a side.
+// Returns the word for the direction to a side.
 fn direction(to: Side) -> &'static [u8]
     ensures { result.now ≡ direction_word to }
 {
@@ -57,11 +57,15 @@ fn direction(to: Side) -> &'static [u8]
     }
 }
 
-/// Answers the event whose line this is. Each line that is accepted is the line of its event, and the line of each event,
-/// where it is not too long, is accepted. The first of these causes that applies is answered: Long, above 8,192 octets; Form,
-/// not one or more words of octets 21 to 7E hex with single spaces between them; Kind, the first word is none of `a`, `b` and
-/// `deliver`; Key, the second word is none that may stand there, or the number of words is not that of the kind; Value, the
-/// message or the places are not of their form. The laws of the duplex world speak of each event that is read.
+/// Returns the event whose line this is. Each line that is accepted is the line of its event, and the line of each
+/// event is accepted if it is not too long. The laws of the duplex world hold for each event that is read. The error is
+/// the first of these reasons that applies:
+///
+/// - `Long`: the line has more than 8,192 octets.
+/// - `Form`: it is not one or more words of octets 21 to 7E hex with single spaces between them.
+/// - `Kind`: the first word is none of `a`, `b` and `deliver`.
+/// - `Key`: the second word is not one that may follow, or the number of words does not fit.
+/// - `Value`: the message or the positions do not have their form.
 pub fn read_duplex_event(line: &[u8]) -> Result<DuplexEvent, LineFault>
     ensures event { result ≡ duplex_event_of line.now }
     ensures long { (result ≡ Err Long) ↔ (8192 < length line.now) }
@@ -73,7 +77,7 @@ pub fn read_duplex_event(line: &[u8]) -> Result<DuplexEvent, LineFault>
     read_whole::<DuplexEventLine>(line)
 }
 
-// The message that a side sends.
+// Returns the event that a side sends a message.
 fn read_message(side: Side, second: &[u8], message: &[u8]) -> Result<DuplexEvent, LineFault>
     ensures { result ≡ event_behind (DuplexStart.Acts side) (second.now ∷ message.now ∷ []) }
 {
@@ -87,7 +91,7 @@ fn read_message(side: Side, second: &[u8], message: &[u8]) -> Result<DuplexEvent
     }
 }
 
-// The delivery of a direction and of places.
+// Returns the delivery of a direction and of positions.
 fn read_delivery(second: &[u8], places: &[u8]) -> Result<DuplexEvent, LineFault>
     requires { length places.now ≤ 8192 }
     ensures { result ≡ event_behind DuplexStart.Delivery (second.now ∷ places.now ∷ []) }

@@ -1,4 +1,5 @@
-//! Lines and events tell each other, and the texts are ASCII. The functions make no call: their contracts are the theorems.
+//! Lines and events determine each other, and the texts are ASCII. The functions make no call: their contracts are the
+//! theorems.
 
 ghost use Rattle.std.specs.Prelude.{◌≡◌, ◌≢◌, ℕ, ◌<◌, ◌≤◌, List, length, Ok, IsAscii};
 ghost use Rattle.p25_stations.specs.{Runs.{IsEvent}, WorldState.{WorldState}, declared.step.Event.{Event as event_type}};
@@ -10,10 +11,10 @@ ghost use Rattle.p25_fragments.specs.{LongState.{LongState}, declared.long_step.
 ghost use Rattle.p25_script.specs.{LongTexts.{long_closing_text_of, long_step_text_of}, Script.{IsScripted, event_of, event_text}, Values.{ArePlaces}};
 ghost use Rattle.p25_script.specs.StepTexts.{closing_text_of, duplex_step_text_of, step_text_of};
 
-/// **Theorem.** That lines and events tell each other. The line of each event that is not too long is
-/// read as that event; a line that is read is the line of its event, which a script can tell of, and no line is read as an
-/// event whose line is too long. Each message has a line that is not too long, and so have deliveries with at most 1,360
-/// places. And the laws of the world speak of all that a script can tell of.
+/// **Theorem.** Lines and events determine each other. The line of each event that is not too long decodes to that
+/// event. A line that is read is the line of its event, which a script can contain, and no line decodes to an event
+/// whose line is too long. Each message has a line that is not too long, and so have deliveries with at most 1,360
+/// positions. The laws of the world hold for all events that a script can contain.
 pub fn script_laws()
     ensures line { (event : event_type) → IsScripted event → length (event_text event) ≤ 8192 → event_of (event_text event) ≡ Ok event }
     ensures event { (line : List ℕ) (event : event_type) → event_of line ≡ Ok event → (event_text event ≡ line) × IsScripted event }
@@ -24,8 +25,8 @@ pub fn script_laws()
     ensures world { (event : event_type) → IsScripted event → IsEvent event }
 {}
 
-/// **Theorem.** Each octet of the text of a step, and of the text that closes a run, is below 128, whatever the step and the world
-/// are. So these texts are always UTF-8. The same holds of long messages and of stations that both send.
+/// **Theorem.** Each octet of the text of a step, and of the text that closes a run, is below 128, whatever the step
+/// and the world are. So these texts are always UTF-8. The same holds of long messages and of stations that both send.
 pub fn texts_are_ascii()
     ensures steps { (step : step_type) → IsAscii (step_text_of step) }
     ensures closing { (world : WorldState) → IsAscii (closing_text_of world) }

@@ -1,10 +1,10 @@
-//! Scripts of packet stations: lines read as events, and the texts of steps.
+//! Scripts of packet stations: lines that decode to events, and the texts of steps.
 //!
-//! A script line is words with single spaces between them: `send` with a message, `timeout`, `reopen`, or `deliver` with
-//! `data` or `answer` and the places of the bits that come inverted, counted from the first bit of the unit as it is sent.
-//! `event_of line` is what a line is read as, `event_text event` the line of an event, and each undoes the other. The text
-//! of a step is `step_text_of step`, and `closing_text_of` tells of a world at the end of a run. A `Line` is seen as the list
-//! of its octets, first to last.
+//! A script line is words with single spaces between them: `send` with a message, `timeout`, `reopen`, or `deliver`
+//! with `data` or `answer` and the positions of the inverted bits, counted from the first transmitted bit of the data
+//! unit. `event_of line` is the decoding of a line and `event_text event` the line of an event, and each inverts the
+//! other. The text of a step is `step_text_of step`, and `closing_text_of` is the text for a world at the end of a run.
+//! Contracts see a `Line` as the list of its octets, first to last.
 //!
 //! ```text
 //! let mut world = World::new(rt.alloc());
@@ -15,16 +15,18 @@
 //! assert_eq!(rt; line.octets(), b"send taken ns=0 blocks=1".as_slice());
 //! ```
 //!
-//! Two other forms of scripts have their words from this one, and their calls have the names of these beside `long` or `duplex`:
+//! Two other forms of scripts have their words from this one, and their calls have the names of these with `long` or
+//! `duplex`:
 //!
-//! - A script of long messages has `long` with a long message in place of `send`. The text of its step is one or two lines, each
-//!   with its end, in two pieces.
-//! - In a script in which both stations send, a line is a side, `a` or `b`, with what it does, or `deliver` with a direction, `ab` or
-//!   `ba`, and the places. The text of its step begins with the letter of the side that acts or hears.
+//! - A script of long messages has `long` with a long message instead of `send`. The text of its step is one or two
+//!   lines, each with its end, in two parts.
+//! - In a script in which both stations send, a line is a side, `a` or `b`, with its action, or `deliver` with a
+//!   direction, `ab` or `ba`, and the positions. The text of its step begins with the letter of the side that acts or
+//!   receives.
 //!
-//! A `StepText` is a step of any of the three forms, whose `{}` writes its text; an `EventLine` is an event that `parse` reads as
-//! `read_event` and its kin do. `LongStepText`, `DuplexStepText`, `LongEventLine` and `DuplexEventLine` are names of those of the other
-//! two forms.
+//! A `StepText` is a step of any of the three forms, whose `{}` writes its text. An `EventLine` is an event that
+//! `parse` decodes as `read_event` and its variants do. `LongStepText`, `DuplexStepText`, `LongEventLine` and
+//! `DuplexEventLine` are names for those of the other two forms.
 #![tactic(auto)]
 
 mod closing;

@@ -12,12 +12,15 @@ use p25_fragments::LongEvent;
 use p25_line::{LineFault, LineWords, read_whole};
 use p25_stations::Event;
 
-/// Answers the event whose line this is. Each line that is accepted is the line of its event, and the line of each event,
-/// where it is not too long, is accepted. The first of these causes that applies is answered: Long, above 8,192 octets; Form,
-/// not one or more words of octets 21 to 7E hex with single spaces between them; Kind, the first word is none of `long`,
-/// `timeout`, `reopen` and `deliver`; Key, the number of words is not that of the kind, or the second word of `deliver` is
-/// neither `data` nor `answer`; Value, the long message is neither `-` nor 2 to 8,000 lower-case hexadecimal digits, an even
-/// number, or the places are not of their form.
+/// Returns the event whose line this is. Each line that is accepted is the line of its event, and the line of each
+/// event is accepted if it is not too long. The error is the first of these reasons that applies:
+///
+/// - `Long`: the line has more than 8,192 octets.
+/// - `Form`: it is not one or more words of octets 21 to 7E hex with single spaces between them.
+/// - `Kind`: the first word is none of `long`, `timeout`, `reopen` and `deliver`.
+/// - `Key`: the number of words does not fit, or the second word of `deliver` is neither `data` nor `answer`.
+/// - `Value`: the long message is neither `-` nor 2 to 8,000 lower-case hexadecimal digits, an even number, or the
+///   positions do not have their form.
 pub fn read_long_event(line: &[u8]) -> Result<LongEvent, LineFault>
     ensures event { result ≡ long_event_of line.now }
     ensures long { (result ≡ Err Long) ↔ (8192 < length line.now) }
@@ -28,14 +31,14 @@ pub fn read_long_event(line: &[u8]) -> Result<LongEvent, LineFault>
     read_whole::<LongEventLine>(line)
 }
 
-// Whether two words are the same.
+// Returns whether two words are the same.
 fn is_same(word: &[u8], other: &[u8]) -> bool
     ensures { result ≡ bytes_eq word.now other.now }
 {
     word == other
 }
 
-// The event of words that begin with another word.
+// Returns the event of words that begin with another word.
 fn read_other(first: &[u8], words: &LineWords) -> Result<LongEvent, LineFault>
     requires { slice_get words.now 0 ≡ Some first.now }
     ensures { result ≡ other_event first.now (drop 1 words.now) }

@@ -9,8 +9,9 @@ use p25_fragments::{LongStep, Then};
 use p25_line::Line;
 use p25_stations::Step;
 
-/// Sets `out` and `behind` to the two pieces of the text of a step, one after the other: its lines, each with its end. A long
-/// message that is taken is told before the step of its part 0; all else is told after the step of the inner world.
+/// Writes to `out` and `behind` the two parts of the text of a step, one after the other: its lines, each with its end.
+/// The line of a long message that is taken comes before that of the step of its part 0; any other line comes after
+/// that of the step of the inner world.
 #[tactic(auto, unfolding(crate::specs::LongTexts::long_step_text_of, crate::specs::LongTexts::line_before, crate::specs::LongTexts::line_behind))]
 pub fn long_step_text(step: &LongStep, out: &mut Line, behind: &mut Line)
     ensures { out.new ++ behind.new ≡ long_step_text_of step.now }
@@ -35,7 +36,7 @@ impl ScriptStep for LongStep {
     }
 }
 
-// Sets `out` to the line of the step of the inner world, or to nothing where there is none.
+// Writes to `out` the line of the step of the inner world, or nothing if there is none.
 #[tactic(auto, unfolding(crate::specs::LongTexts::first_line_of))]
 fn put_first(first: &Option<Step>, out: &mut Line)
     ensures { out.new ≡ first_line_of first.now }
@@ -46,7 +47,7 @@ fn put_first(first: &Option<Step>, out: &mut Line)
     }
 }
 
-// Sets `out` to the line after the step of the inner world, or to nothing where there is none.
+// Writes to `out` the line after the step of the inner world, or nothing if there is none.
 #[tactic(auto, unfolding(crate::specs::LongTexts::line_behind))]
 fn put_behind(then: &Then, out: &mut Line)
     ensures { out.new ≡ line_behind then.now }
@@ -68,7 +69,7 @@ fn put_behind(then: &Then, out: &mut Line)
     }
 }
 
-// Sets `out` to the line of a step of the inner world.
+// Writes to `out` the line of a step of the inner world.
 fn put_step(step: &Step, out: &mut Line)
     ensures { out.new ≡ ended_line (step_text_of step.now) }
 {
@@ -76,7 +77,7 @@ fn put_step(step: &Step, out: &mut Line)
     out.put(b"\n");
 }
 
-// Sets `out` to the line of a label and a number in decimal.
+// Writes to `out` the line of a label and a number in decimal.
 fn put_line(label: &[u8], number: u64, out: &mut Line)
     requires { length label.now ≤ 20 }
     ensures { out.new ≡ ended_line (label.now ++ decimal number) }

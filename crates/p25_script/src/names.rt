@@ -5,20 +5,20 @@ ghost use Rattle.p25_script.specs.Script.{event_named, event_word, way_named, wa
 
 use p25_stations::Way;
 
-/// A kind of script line.
+/// A type of script line.
 #[derive(Clone, Copy)]
 pub enum EventKind {
     /// A message is offered.
     Send,
-    /// Time is up.
+    /// A timeout.
     Timeout,
-    /// The session is to be opened again.
+    /// The session is to be reopened.
     Reopen,
     /// The newest transmission of one direction is delivered.
     Deliver,
 }
 
-// All kinds.
+// All types.
 const KINDS: [EventKind; 4] = [
     EventKind::Send,
     EventKind::Timeout,
@@ -27,14 +27,14 @@ const KINDS: [EventKind; 4] = [
 ];
 
 impl EventKind {
-    /// Answers the kind that a word names. `None` comes exactly where it names none.
+    /// Returns the type that a word names. `None` is returned if and only if it names none.
     pub fn named(word: &[u8]) -> Option<EventKind>
         ensures { result ≡ event_named word.now }
     {
         KINDS.iter().copied().find(|kind| word == kind.word())
     }
 
-    /// Answers the word that begins a line of this kind.
+    /// Returns the word that begins a line of this type.
     pub fn word(self) -> &'static [u8]
         ensures { result.now ≡ event_word self }
     {
@@ -46,7 +46,7 @@ impl EventKind {
         }
     }
 
-    /// Answers the number of words of a line of this kind.
+    /// Returns the number of words of a line of this type.
     pub fn words(self) -> usize
         ensures count { result ≡ word_count self }
         ensures few { result ≤ 3 }
@@ -59,7 +59,7 @@ impl EventKind {
     }
 }
 
-/// Answers the way that a word of a line names. `None` comes exactly where it names none.
+/// Returns the direction that a word of a line names. `None` is returned if and only if it names none.
 pub fn named_way(word: &[u8]) -> Option<Way>
     ensures { result ≡ way_named word.now }
 {
@@ -67,7 +67,7 @@ pub fn named_way(word: &[u8]) -> Option<Way>
     ways.iter().copied().find(|way| word == word_of_way(*way))
 }
 
-/// Answers the word that names a way.
+/// Returns the word that names a direction.
 pub fn word_of_way(way: Way) -> &'static [u8]
     ensures word { result.now ≡ way_word way }
     ensures short { length result.now ≤ 6 }

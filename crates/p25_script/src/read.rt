@@ -12,11 +12,14 @@ use super::values::{message_value, places_value};
 use p25_line::{LineFault, LineWords, read_whole};
 use p25_stations::{Event, Way};
 
-/// Answers the event whose line this is. Each line that is accepted is the line of its event, and the line of each event,
-/// where it is not too long, is accepted. The first of these causes that applies is answered: Long, above 8,192 octets; Form,
-/// not one or more words of octets 21 to 7E hex with single spaces between them; Kind, the first word is none of `send`,
-/// `timeout`, `reopen` and `deliver`; Key, the number of words is not that of the kind, or the second word of `deliver` is
-/// neither `data` nor `answer`; Value, the message or the places are not of their form.
+/// Returns the event whose line this is. Each line that is accepted is the line of its event, and the line of each
+/// event is accepted if it is not too long. The error is the first of these reasons that applies:
+///
+/// - `Long`: the line has more than 8,192 octets.
+/// - `Form`: it is not one or more words of octets 21 to 7E hex with single spaces between them.
+/// - `Kind`: the first word is none of `send`, `timeout`, `reopen` and `deliver`.
+/// - `Key`: the number of words does not fit, or the second word of `deliver` is neither `data` nor `answer`.
+/// - `Value`: the message or the positions do not have their form.
 pub fn read_event(line: &[u8]) -> Result<Event, LineFault>
     ensures event { result ≡ event_of line.now }
     ensures long { (result ≡ Err Long) ↔ (8192 < length line.now) }
@@ -27,7 +30,7 @@ pub fn read_event(line: &[u8]) -> Result<Event, LineFault>
     read_whole::<EventLine>(line)
 }
 
-// The event of a line of a kind, which has as many words as that kind.
+// Returns the event of a line of a type. It requires as many words as that type has.
 fn read_kind(kind: EventKind, words: &LineWords) -> Result<Event, LineFault>
     requires { length words.now ≡ word_count kind }
     ensures { result ≡ event_in kind (drop 1 words.now) }
@@ -43,7 +46,7 @@ fn read_kind(kind: EventKind, words: &LineWords) -> Result<Event, LineFault>
     }
 }
 
-// The delivery of a way and of places.
+// Returns the delivery of a direction and of positions.
 fn read_delivery(way: &[u8], places: &[u8]) -> Result<Event, LineFault>
     requires { length places.now ≤ 8192 }
     ensures { result ≡ keyed_or_fault delivery (way_named way.now) (places_in places.now) }

@@ -1,5 +1,5 @@
-//! Steps as `{}` shows them, and events as `parse` reads them, of each form of scripts. A trait of the kit can be implemented
-//! for types of this crate alone, so a step and an event each have a newtype here.
+//! Steps as `{}` writes them, and events as `parse` reads them, of each form of scripts. A trait of the kit can be
+//! implemented for types of this crate alone, so a step and an event each have a newtype here.
 
 ghost use Rattle.std.specs.Prelude.{◌≡◌, ◌≢◌, ◌++◌, ℕ, List, Some, Result, Ok, Err, MatchResult};
 ghost use Rattle.p25_line.specs.{LineReadings.{line_read}, declared.fault.LineFault.{LineFault as fault_type}, declared.fault.LineFault.TheVariants.{Long}};
@@ -16,8 +16,8 @@ pub trait ScriptStep {
     // The text of a step.
     ghost shown: { Self → List ℕ };
 
-    /// Sets `out` and `behind` to the two pieces of the text of a step, one after the other. A text in one piece leaves `behind`
-    /// empty.
+    /// Writes to `out` and `behind` the two parts of the text of a step, one after the other. A text in one part leaves
+    /// `behind` empty.
     fn put_text(&self, out: &mut Line, behind: &mut Line)
         ensures { out.new ++ behind.new ≡ shown self.now };
 }
@@ -46,19 +46,19 @@ impl<S: ScriptStep> fmt::Display for StepText<'_, S> {
 
 /// An event of one of the forms of scripts.
 pub trait ScriptEvent {
-    // What the words of a line are read as, or why they are refused.
+    // The decoding of the words of a line, or the reason for refusing them.
     ghost by_words: { List (List ℕ) → Result Self fault_type };
 
     // Words are never refused as a line that is too long.
     ghost not_long: { (words : List (List ℕ)) → by_words words ≢ Err Long };
 
-    /// Answers the event of the words of a line, or why they are refused. It is called apart: an event is large, and each function
-    /// that answers one has a place for it.
+    /// Returns the event of the words of a line, or the reason for refusing them. It is called apart: an event is
+    /// large, and each function that returns one has a buffer for it.
     fn read_words(words: &LineWords) -> Result<Self, LineFault>
         ensures { result ≡ by_words words.now };
 }
 
-/// An event that `parse` reads from its line, as `read_event` and its kin do.
+/// An event that `parse` reads from its line, as `read_event` and its variants do.
 #[derive(Drop)]
 pub struct EventLine<E = Event>(pub E);
 
@@ -68,7 +68,7 @@ pub type LongEventLine = EventLine<LongEvent>;
 /// An event of stations that both send, which `parse` reads from its line.
 pub type DuplexEventLine = EventLine<DuplexEvent>;
 
-// The trait is that of the form of such lines. What is read is the event alone, which `from_str` puts into this type.
+// The trait is that of the form of such lines. The result is the event alone, which `from_str` converts to this type.
 impl<E: ScriptEvent> LineReader for EventLine<E> {
     type Value = E;
 

@@ -13,8 +13,8 @@ use p25_packet_blocks::{Flags, flags_make};
 use p25_stations::{Step, StepKind, Way};
 use p25_status::put_field_name;
 
-/// Sets `out` to the text of a step, without the end of its line. The texts of deliveries begin with `data` or `answer`; that
-/// of a false pass ends with ` false`.
+/// Writes to `out` the text of a step, without the end of its line. The texts of deliveries begin with `data` or
+/// `answer`; that of a false pass ends with ` false`.
 pub fn step_text(step: &Step, out: &mut Line)
     ensures text { out.new ≡ step_text_of step.now }
     ensures short { length out.new ≤ 4206 }
@@ -45,7 +45,7 @@ pub(crate) fn put_step_text(step: &Step, out: &mut Line)
     }
 }
 
-// Appends the text of a kind of step.
+// Appends the text of a type of step.
 #[tactic(auto, unfolding(crate::specs::StepTexts::kind_text))]
 fn put_kind(kind: &StepKind, out: &mut Line)
     requires { length out.old + 4200 ≤ 8192 }
@@ -88,7 +88,7 @@ fn put_kind(kind: &StepKind, out: &mut Line)
     }
 }
 
-// Appends the word of a way, and what follows it.
+// Appends the word of a direction, and the text that follows it.
 fn put_way(way: Way, rest: &[u8], out: &mut Line)
     requires { length out.old + 6 + length rest.now ≤ 8192 }
     ensures text { out.new ≡ out.old ++ way_word way ++ rest.now }
@@ -107,7 +107,7 @@ fn put_numbered(label: &[u8], number: u8, out: &mut Line)
     out.put_labelled(label, u64::from(number));
 }
 
-// Appends a label, a number, and how often it was sent.
+// Appends a label, a number, and the number of transmissions.
 fn put_sent(label: &[u8], number: u8, tries: u8, out: &mut Line)
     requires { length out.old + length label.now + 100 ≤ 8192 }
     ensures text { out.new ≡ out.old ++ label.now ++ decimal number ++ codes " try=" ++ decimal tries }
@@ -117,7 +117,7 @@ fn put_sent(label: &[u8], number: u8, tries: u8, out: &mut Line)
     out.put_labelled(b" try=", u64::from(tries));
 }
 
-// Appends the text of a message that was delivered.
+// Appends the text of a delivered message.
 fn put_delivered(number: u8, message: &Message, out: &mut Line)
     requires { length out.old + 4150 ≤ 8192 }
     ensures text { out.new ≡ out.old ++ codes "data delivered ns=" ++ decimal number ++ codes " message=" ++ octets_text message.now }
@@ -149,7 +149,7 @@ fn put_flags(flags: &Flags, out: &mut Line)
     out.put_hex(&octets.octets()[..flags.len() / 8]);
 }
 
-// Appends the text of blocks that are sent again.
+// Appends the text of blocks that are transmitted again.
 fn put_retry(number: u8, wanted: &Flags, tries: u8, out: &mut Line)
     requires { length out.old + 700 ≤ 8192 }
     ensures text { out.new ≡ out.old ++ kind_text (Retry number wanted.now tries) }
@@ -176,7 +176,7 @@ fn put_serials(wanted: &Flags, out: &mut Line)
     }
 }
 
-// Appends a serial number, with a comma before it where it stands after another.
+// Appends a serial number, with a comma before it if it follows another.
 #[tactic(auto, using(p25_line::proofs::DecimalLaws::decimal_octet))]
 fn put_serial(behind: bool, serial: usize, out: &mut Line)
     requires below { serial < 128 }

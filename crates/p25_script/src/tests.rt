@@ -1,4 +1,5 @@
-//! Lines of scripts that are read and refused, the texts of steps, and short scripts with what comes of them, written by hand.
+//! Lines of scripts that are read and refused, the texts of steps, and short scripts with their results, written by
+//! hand.
 
 mod duplex_scripts;
 mod long_scripts;
@@ -11,7 +12,7 @@ use p25_line::LineFault;
 use std::process::Abort;
 use std::str::FromStr;
 
-// Asserts that lines are refused as events of a kind, each for its cause.
+// Asserts that lines are refused as events of a type, each for its reason.
 fn refused<E: FromStr<Err = LineFault> + Drop>(rt: &impl Abort, rows: &[(&str, LineFault)]) {
     for (line, fault) in rows {
         assert_eq!(rt; line.parse::<E>().err(), Some(*fault));

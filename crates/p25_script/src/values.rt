@@ -7,8 +7,8 @@ ghost use Rattle.p25_script.specs.Values.{place_in, places_in};
 use p25_line::{comma_part, is_dash, number_value, octets_or_dash};
 use p25_messages::{Flips, MessageOf};
 
-/// Answers the message that a word is. `None` comes exactly where the word is neither `-` nor an even number of lower-case
-/// hexadecimal digits, two for each octet, and where it writes more than `MOST` octets.
+/// Returns the message of a word. `None` is returned if and only if the word is neither `-` nor an even number of
+/// lower-case hexadecimal digits, two for each octet, or if it writes more than `MOST` octets.
 pub fn message_value<const MOST: usize>(word: &[u8]) -> Option<MessageOf<MOST>>
     requires { MOST ≤ 2 ^ 32 }
     ensures { result ≡ octets_up_to MOST word.now }
@@ -18,7 +18,7 @@ pub fn message_value<const MOST: usize>(word: &[u8]) -> Option<MessageOf<MOST>>
     Some(MessageOf::beginning_of(room, count))
 }
 
-// The place that a text is: a number below 25,920.
+// Returns the position of a text: a number below 25,920.
 fn place_value(text: &[u8]) -> Option<u16>
     ensures place { result ≡ place_in text.now }
     ensures below { IfSome result (λ place. place < 25920) }
@@ -28,8 +28,8 @@ fn place_value(text: &[u8]) -> Option<u16>
     Some(place as u16)
 }
 
-/// Answers the places that a word is. `None` comes exactly where the word is neither `-` nor numbers below 25,920 without
-/// leading zeros, strictly ascending, with commas between them.
+/// Returns the positions of a word. `None` is returned if and only if the word is neither `-` nor numbers below 25,920
+/// without leading zeros, strictly ascending, with commas between them.
 pub fn places_value(word: &[u8]) -> Option<Flips>
     requires { length word.now ≤ 8192 }
     ensures { result ≡ places_in word.now }

@@ -1,4 +1,4 @@
--- What a call of `show` comes to, in one form, follows from what holds of each call.
+-- The consequences of a call of `show`, in one form, follow from the laws of each call.
 use Rattle.std.proofs.Common.{◌≡◌, ℕ, ◌<◌, ◌≤◌, Bool, true, false, cond, nat_lt, List, [], ◌++◌, length, take, Option, Some, refl, ap, sym, subst, ◌∙◌, arith, append-nil, length-append, inl, inr}
 use Rattle.std.proofs.{lemmas.List.{take_all, nil_from_length}, lemmas.Bool.Decides.{nat_tests}}
 use Rattle.std.specs.{Prelude.{IfSome}, List.{flat_map}}

@@ -1,4 +1,4 @@
--- What is needed at a sync is what the scan of a recording asks for there.
+-- The need at a sync is the need of the scan of a recording there.
 use Rattle.std.proofs.Common.{◌≡◌, ℕ, ◌*◌, ◌/◌, Bool, true, cond, ◌==◌, nat_lt, List, length, Option, Some, None, Result, Ok, Err, refl, ap, ◌∙◌}
 use Rattle.p25_status.specs.{Sync.{has_sync}, declared.fields.Field.{Field}, declared.fields.Field.TheVariants.{Nid, Duid}}
 use Rattle.p25_bch_nid.specs.Duids.{duid_pdu}

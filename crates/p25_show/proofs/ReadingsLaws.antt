@@ -1,4 +1,4 @@
--- The readings of units, codes, blocks and checks, as the definitions say them.
+-- The decodings of data units, codes, blocks and checks, as in the definitions.
 use Rattle.std.proofs.Common.{◌≡◌, ℕ, ◌-◌, Bool, List, length, Option, Some, None, Result, Ok, Err, refl, ap, sym, ◌∙◌}
 use Rattle.std.specs.Bool.{beq}
 use Rattle.p25_bits.specs.{Bits.{octet_bits}, Distance.{distance_by}}

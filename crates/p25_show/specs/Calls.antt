@@ -1,4 +1,4 @@
--- What a call of `show` comes to on a source and a sink that tell what they hold.
+-- The consequences of a call of `show` on a source and a sink that expose their contents.
 use Rattle.std.specs.Prelude.{◌≡◌, ℕ, ◌+◌, ◌<◌, ◌≤◌, Bool, true, false, if◌then◌else◌, nat_lt, List, [], ◌++◌, length, take, Option, Some, All}
 use Rattle.std.specs.List.{flat_map}
 use Rattle.p25_bits.specs.Bits.{octet_bits}
@@ -11,11 +11,11 @@ use Rattle.p25_tool.specs.{declared.outcome.Outcome.{Outcome}, declared.outcome.
 abbrev pub lines_shown : Bool → List ℕ → List ℕ
 lines_shown ended octets = flat_map shown (items_by ended 0 (octet_bits octets))
 
--- all that is to be written for an input: of one that is too long, the lines that its first octets decide
+-- all output for an input: for one that is too long, the lines that its first octets determine
 abbrev pub all_shown : List ℕ → List ℕ
 all_shown input = if nat_lt input_most (length input) then lines_shown false (take input_most input) else lines_shown true input
 
--- the text that a call wrote, by its outcome, where these octets were taken and the rest was left
+-- the text that a call wrote, by its outcome, if these octets were taken and the rest was left
 abbrev pub IsShown : (octets rest text : List ℕ) → Outcome → Type 0
 IsShown octets rest text Done = (rest ≡ []) × (length octets ≤ input_most) × (text ≡ all_shown octets)
 IsShown octets rest text TooLong = (input_most < length octets) × (text ≡ all_shown octets)
@@ -23,14 +23,11 @@ IsShown octets rest text ReadFault = (length octets ≤ input_most) × (text ≡
 IsShown octets rest text WriteFault = (count : ℕ) × (text ≡ take count (all_shown (octets ++ rest)))
 IsShown octets rest text outcome = ⊥
 
--- what holds of a call of `show` on a source that held an input and a sink that held some octets before: what is left of the source and
--- what stands in the sink last, whether a read or a write failed, whether the sink is as it was, and the outcome.
--- `parts`, `left`, `few`: what was taken from the source; at most one read more than an input may have.
--- `wrote`, `text_is`: what stands after what the sink held, by the outcome.
--- `quiet`: where nothing is to be written the sink is not touched.
--- `complete`: the outcome where nothing failed.
--- `recorded`: of units within radius there is a line for each, whole and as received.
--- `read_fault`, `write_fault`: why a call was given up
+-- the laws of a call of `show` on a source that held an input and a sink that held some octets before: the octets left of the source and those in the
+-- sink last, whether a read or a write failed, whether the sink is unchanged, and the outcome. `parts`, `left`, `few`: the octets taken from the
+-- source; at most one read more than an input may have. `wrote`, `text_is`: the text after the sink's former octets, by the outcome. `quiet`: if
+-- there is no output, the sink is not used. `complete`: the outcome if nothing failed. `recorded`: for data units within the correction radius there
+-- is a line for each, whole and as received. `read_fault`, `write_fault`: the reason why a call was given up
 pub record ShowSays (input before : List ℕ) (left last : Option (List ℕ)) (read_failed write_failed sink_kept : Type 0) (outcome : Outcome) : Type 0 where
   pub octets : List ℕ
   pub rest : List ℕ

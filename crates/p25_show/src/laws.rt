@@ -1,4 +1,4 @@
-//! What a call of `show` comes to, and what the readings are that its lines tell.
+//! The consequences of a call of `show`, and the decodings in its lines.
 
 ghost use Rattle.std.specs.Prelude.{◌≡◌, ℕ, Bool, true, List, [], ◌∷◌, codes, Some};
 ghost use Rattle.p25_io.specs.{Events.{Event}, Faults.{Rose}, Streams.{StreamsGo, reader_in, writer_in}, declared.streams.Streams.{Streams}};
@@ -18,11 +18,11 @@ use p25_trellis::laws::nearest_laws;
 use p25_trellis::{Half, ThreeQuarter};
 use std::io::{Read, Write};
 
-/// **Theorem.** What a call of `show` comes to, where the source tells what it held and the sink what it holds. It follows from what
-/// `run` says of each call.
+/// **Theorem.** The consequences of a call of `show`, if the source and the sink expose their contents. They follow
+/// from the contract of `run` for each call.
 ///
-/// - `named`: the word `show` alone names this command.
-/// - `says`: what was taken and written, how the call ended and why.
+/// - `named`: only the word `show` names this command.
+/// - `says`: the octets taken and written, the end of the call and its reason.
 pub fn show_laws<S: Source, K: Sink>()
     ensures named { command_of (codes "show" ∷ []) ≡ Some Command.Show }
     ensures says { (words : List (List ℕ)) (input before : List ℕ) (source source_now : S) (sink sink_now : K) (outcome : Outcome)
@@ -33,8 +33,8 @@ pub fn show_laws<S: Source, K: Sink>()
         (Rose (K.faults sink) (K.faults sink_now)) (sink_now ≡ sink) outcome }
 {}
 
-/// **Theorem.** So a call of `show` on streams comes to, as the program makes it, where the reader tells what is left in it and the writer
-/// what it holds: the program's own call says these events.
+/// **Theorem.** The same holds of a call of `show` on streams, as the program makes it, if the reader exposes its
+/// remaining octets and the writer its contents: the program's own call states these events.
 pub fn show_stream_laws<R: Read, W: Write>()
     ensures says { (words : List (List ℕ)) (events : List Event) (outcome : Outcome) (first last : Streams R W) (input before : List ℕ)
         → StreamsGo R.remaining W.contents first events last → IsCallRun (command_of words) events outcome → command_of words ≡ Some Command.Show
@@ -45,13 +45,14 @@ pub fn show_stream_laws<R: Read, W: Write>()
     stream_laws::<R, W>()
 }
 
-/// **Theorem.** What the readings are that the lines of `show` tell.
+/// **Theorem.** The decodings in the lines of `show`.
 ///
-/// - `needs`: what is needed at a sync.
-/// - `identifier`: the identifier of a unit's bits.
-/// - `units`: the item of the bits of a unit whose identifier is read.
-/// - `codes`: each code reads what was received as the word of its set within the radius, or as none where there is none.
-/// - `blocks`: a block of a packet reads as what the first of its nearest paths carries.
+/// - `needs`: the need at a sync.
+/// - `identifier`: the NID of a data unit's bits.
+/// - `units`: the item of the bits of a data unit whose NID is decoded.
+/// - `codes`: each code decodes the received word to the codeword of its set within the correction radius, or to none
+///   if there is none.
+/// - `blocks`: a block of a packet decodes to the octets that the first of its nearest paths carries.
 /// - `checks`: the checks of packets are the inverted remainders of their messages.
 pub fn reading_laws()
     ensures needs { (bits : List Bool) → has_sync bits ≡ true → need_of bits ≡ need_at bits }
@@ -65,14 +66,14 @@ pub fn reading_laws()
     three_quarter_blocks();
 }
 
-// What a block reads as at half rate.
+// The decoding of a block at half rate.
 fn half_blocks()
     ensures read { (received : List Bool) → IsNearestBlock 4 2 half_point received (half_octets received) }
 {
     nearest_laws::<Half>()
 }
 
-// What a block reads as at three-quarter rate.
+// The decoding of a block at three-quarter rate.
 fn three_quarter_blocks()
     ensures read { (received : List Bool) → IsNearestBlock 8 3 three_quarter_point received (three_quarter_octets received) }
 {

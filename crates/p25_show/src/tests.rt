@@ -1,4 +1,4 @@
-//! The four ends of a call of `show` that its theorem tells of, and the law at sources and sinks in memory.
+//! The four ends of a call of `show` in its theorem, and the law at sources and sinks in memory.
 
 use super::laws::{reading_laws, show_laws};
 use p25_io::{MemorySource, SliceSink};
@@ -10,12 +10,13 @@ const TERMINATORS: &[u8] =
     \x55\x75\xF5\xFF\x77\xFF\x29\x33\x39\x5D\xDC\xA3\x3B\x5B\x80\x00\x00\x01\
     \x55\x75\xF5\xFF\x77\xFF\x29\x33\x39\x5D\xDC\xA3\x3B\x5B\x80\x00";
 
-// What their lines are.
+// Their lines.
 const LINES: &[u8] = b"unit at=0 bits=144 fix=0 status=11 tdu nac=293\n\
     unit at=144 bits=144 fix=0 status=11 tdu nac=293\ncut at=288 bits=128\n";
 
-// Which reads of six octets fail, how many octets the sink has room for, how the call ends, and how many octets of the lines are written:
-// after a read fault those of the items that are decided, after a write fault as many as there was room for.
+// The reads of six octets that fail, the number of octets for which the sink has capacity, the end of the call, and the
+// number of octets of the lines that are written: after a read fault those of the decided items, after a write fault as
+// many as there was capacity for.
 const ROWS: [(&[u64], usize, Outcome, usize); 6] = [
     (&[], 128, Outcome::Done, 116),
     (&[10], 128, Outcome::ReadFault, 96),

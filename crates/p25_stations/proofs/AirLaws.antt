@@ -1,5 +1,5 @@
--- What the air keeps: a packet that is heard in no false pass is true to the one sent, and one that arrives within radius is
--- heard as it was sent. By the tests of a false pass, and the law of packets within radius.
+-- The guarantees of the channel: a received packet that is no false pass is true to the transmitted one, and one that arrives within the correction
+-- radius is received as transmitted. By the tests of a false pass, and the law of packets within the correction radius.
 use Rattle.std.proofs.Common.{subst, ◌≡◌, ℕ, ◌*◌, ◌<◌, inl, inr, Bool, true, false, cond, eqb, ◌&&◌, not, List, [], ◌∷◌, length, get_or, replicate, Result, Ok, Err, refl, ap, ap₂, sym, ◌∙◌, arith}
 use Rattle.std.proofs.{lemmas.Bool.{and_parts, and_from, eq-eqb, ne_eqb, cond-true, cond-false, eqb-true, not-false}, lemmas.List.{length-replicate}, lemmas.Slice.Eq.{bytes_eq-Decides}}
 use Rattle.std.specs.{Prelude.{◌↔◌}, Str.{bytes_eq}, Cmp.Lexicographic.{same_text}}

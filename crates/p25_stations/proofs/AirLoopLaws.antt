@@ -1,4 +1,4 @@
--- The loops of the air: one more place inverted, one more status symbol, one more slot. By the laws of lists by their places.
+-- The loops of the channel: one more position inverted, one more status symbol, one more slot. By the laws of lists by their positions.
 use Rattle.std.proofs.Common.{◌≡◌, ℕ, zero, suc, ◌+◌, ◌<◌, ◌≤◌, Bool, false, ◌&&◌, List, [], ◌∷◌, ◌++◌, length, take, drop, get_or, Some, refl, ap, ap₂, sym, ◌∙◌, arith}
 use Rattle.std.proofs.{lemmas.List.{take_more, drop_more}, Math.Bool.{and-false}, lemmas.Option.{get_or_from_slice_get}}
 use Rattle.std.specs.Prelude.{slice_get}

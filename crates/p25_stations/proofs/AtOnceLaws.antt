@@ -1,5 +1,5 @@
--- What comes of deliveries within radius: a message is taken, delivered and acknowledged, and a sender that is down opens
--- again. By the laws of deliveries, each packet heard as it was sent.
+-- The effect of deliveries within the correction radius: a message is taken, delivered and acknowledged, and a sender that is down opens again. By
+-- the laws of deliveries, each packet received as transmitted.
 use Rattle.std.proofs.{Common.{◌≡◌, ℕ, Bool, true, false, List, [], ◌∷◌, length, Option, Some, None, refl, ap, ap₂, sym, subst, ◌∙◌}, lemmas.Bool.{cond-true}}
 use Rattle.std.specs.Prelude.{IfSome}
 use Rattle.p25_packet_blocks.specs.{declared.packet.Packet.{Packet}, Sendable.{IsSendable}}

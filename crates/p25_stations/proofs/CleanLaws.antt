@@ -1,5 +1,5 @@
--- What happens at the delivery of a world in a run, which is clean where no step is a false pass. By the law of the air, one event
--- after the other; so the laws of deliveries are laws of the world.
+-- The events of the delivery of a world in a run, which is clean if no step is a false pass. By the law of the channel, one event after the other; so
+-- the laws of deliveries are laws of the world.
 use Rattle.std.proofs.Common.{◌≡◌, Bool, false, List, [], ◌∷◌, ℕ, Option, Some, refl, ap, sym, subst, ◌∙◌}
 use Rattle.p25_packet_blocks.specs.declared.packet.Packet.{Packet}
 use Rattle.p25_delivery.specs.{Runs.{run_by, steps_by, MeetAt, EachIs}, Delivery.{Delivery, first_delivery, Happening, delivery_run, sessions_of}}

@@ -1,5 +1,5 @@
--- The number of false passes rises at each step that is one, and at no other. So none is counted exactly where a run is clean: for
--- every machine whose steps count so. One event after the other.
+-- The number of false passes rises at each step that is one, and at no other. So none is counted if and only if a run is clean: for every machine
+-- whose steps count so. One event after the other.
 use Rattle.std.proofs.Common.{◌≡◌, ℕ, Bool, true, false, List, [], ◌∷◌, refl, ap, sym, ◌∙◌, arith}
 use Rattle.p25_delivery.specs.Runs.{run_by, steps_by, EachIs}
 use Rattle.p25_stations.specs.Steps.{counted_when}

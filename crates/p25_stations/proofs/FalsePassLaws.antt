@@ -1,4 +1,4 @@
--- Which deliveries are false passes, and how they are counted. By what is carried.
+-- The deliveries that are false passes, and their count. By the reception.
 use Rattle.std.proofs.{Common.{◌≡◌, ℕ, ◌≤◌, inl, inr, Bool, true, false, List, Option, Some, None, refl, ap, sym, ◌∙◌, arith}, lemmas.Bool.{cases_lt, false≢true}}
 use Rattle.std.specs.Prelude.{IfSome}
 use Rattle.p25_packet_blocks.specs.{declared.packet.Packet.{Packet}, Sendable.{IsSendable}}

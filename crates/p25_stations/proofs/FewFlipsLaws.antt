@@ -1,5 +1,5 @@
--- A transmission of which at most one bit comes inverted arrives within radius: no part of it differs in more places than the
--- whole. By recursion on the bits and on the flips.
+-- A transmission in which at most one bit is inverted arrives within the correction radius: no part of it differs in more positions than the whole.
+-- By recursion on the bits and on the flips.
 use Rattle.std.proofs.Common.{◌≡◌, ℕ, zero, suc, ◌+◌, ◌*◌, ◌/◌, ◌<◌, ◌≤◌, inl, inr, Bool, cond, List, [], ◌∷◌, ◌++◌, length, take, drop, replicate, refl, ap, ap₂, sym, subst, ◌∙◌, arith, length-append, length-drop}
 use Rattle.std.proofs.{lemmas.Bool.{cases_lt}, lemmas.Bool.Decides.{nat_tests}, lemmas.List.{take-take, length-replicate}, lemmas.List.Sums.{sum_by-cons}}
 use Rattle.std.specs.{Prelude.{nat_lt, count_by}, Bool.{beq}}

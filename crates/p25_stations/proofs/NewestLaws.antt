@@ -1,4 +1,4 @@
--- The newest transmission after a call of a half can be sent, where what the call sends can. By what the call sends.
+-- The newest transmission after a call of a half is sendable, if that of the call is. By the transmission of the call.
 use Rattle.std.proofs.Common.{Option, Some, None}
 use Rattle.std.specs.Prelude.{IfSome}
 use Rattle.p25_packet_blocks.specs.{declared.packet.Packet.{Packet}, Sendable.{IsSendable}}

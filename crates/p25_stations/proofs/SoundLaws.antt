@@ -1,4 +1,4 @@
--- Every step keeps what the halves of a world keep, and its newest transmissions can be sent. By what happens at the delivery.
+-- Every step keeps the invariants of the halves of a world, and its newest transmissions are sendable. By the events of the delivery.
 use Rattle.std.proofs.Common.{Bool, List, length, Option}
 use Rattle.std.specs.Prelude.{IfSome}
 use Rattle.p25_packet_blocks.specs.{declared.packet.Packet.{Packet}, Sendable.{IsSendable}}

@@ -1,4 +1,4 @@
--- A step of the world is no happening of its delivery, or one. By what is carried.
+-- A step of the world is no event of its delivery, or one. By the reception.
 use Rattle.std.proofs.Common.{◌≡◌, ℕ, Bool, false, List, Option, Some, None, refl}
 use Rattle.p25_status.specs.declared.fields.Field.{Field}
 use Rattle.p25_packet_blocks.specs.declared.packet.Packet.{Packet}

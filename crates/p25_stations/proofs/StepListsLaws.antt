@@ -1,5 +1,5 @@
--- Each step adds to the world's lists the messages that it tells of, and counts one acknowledged where it is Acknowledged: by
--- cases on what the stations answer; and a run by induction.
+-- Each step adds to the world's lists its messages, and counts one acknowledged if it is Acknowledged: by cases on the results of the stations; and a
+-- run by induction.
 use Rattle.std.proofs.{Common.{◌≡◌, ℕ, ◌+◌, Bool, true, false, cond, List, [], ◌∷◌, ◌++◌, length, refl, ap, sym, ◌∙◌, arith, append_assoc, append-nil}, lemmas.List.Sums.{sum_by-cons}}
 use Rattle.p25_delivery.specs.{Runs.{run_by, steps_by}, Halves.{Sending, Receiving}, SenderRules.{offered, timed_out, sender_heard, reopened, is_opening}, ReceiverRules.{receiver_heard}}
 use Rattle.p25_delivery.specs.{HalfRules.{after_offer, after_timeout, after_reopening, after_data, after_answer}, Delivery.{Delivery, Happening, with_outbound, with_inbound, happens}}

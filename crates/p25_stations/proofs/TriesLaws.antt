@@ -1,4 +1,4 @@
--- The transmissions that steps tell are those that the sender counts. By the rules, each test taken both ways.
+-- The transmissions of the steps are those that the sender counts. By the rules, each test taken both ways.
 use Rattle.std.proofs.Common.{◌≡◌, ℕ, ◌+◌, ◌≤◌, inl, inr, Bool, true, false, cond, List, [], ◌∷◌, length, Option, refl, ap, sym, subst, ◌∙◌, arith}
 use Rattle.p25_packet_blocks.specs.{Parts.{PlainParts}, declared.packet.Packet.{Packet}, declared.packet.Packet.TheVariants.{Confirmed, Plain}}
 use Rattle.p25_delivery.specs.{Runs.{run_by, steps_by, EachIs}, MessageBlocks.{block_count}, SentPackets.{message_packet, blocks_packet, opening_packet}}

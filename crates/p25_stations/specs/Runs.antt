@@ -1,11 +1,11 @@
--- Runs of the world: its state and its steps after a list of events, what makes a run clean, and what the laws say of events, of
--- the messages that steps tell of, and of the number of those that they acknowledge.
+-- Runs of the world: its state and its steps after a list of events, the condition for a clean run, and the terms of the laws for events, for the
+-- messages of steps, and for the number of acknowledged ones.
 use Rattle.std.specs.Prelude.{◌≡◌, false, List, ℕ, ◌+◌, ◌≤◌, [], ◌∷◌, IfSome, Some, count_by, Bool, true, ◌++◌}
 use Rattle.p25_delivery.specs.{SoundHalves.{IsMessage}, Runs.{run_by, steps_by, EachIs, MeetAt}}
 use Rattle.p25_stations.specs.{Steps.{world_step, Event, Send, Step, WorldState, first_world, Packet, ToReceiver, ToSender}, Air.{ArrivesWithin, places_within}}
 use Rattle.p25_messages.specs.declared.step_kind.StepKind.{StepKind, TheVariants.{Taken, Resent, Reopened, Acknowledged, LinkOpened, Retry, Repeat, Delivered}}
 
--- what every event keeps: what is sent is a message of at most 2,028 octets
+-- the invariant of an event: a sent message has at most 2,028 octets
 unfoldable pub IsEvent : Event → Type 0
 IsEvent (Send message) = IsMessage message
 IsEvent other = Unit {0}
@@ -20,20 +20,20 @@ world_run w events = run_by world_step w events
 abbrev pub steps_of : WorldState → List Event → List Step
 steps_of w events = steps_by world_step w events
 
--- a world to which some list of events came from the first one
+-- a world to which some list of events leads from the first one
 pub record HasHistory (w : WorldState) : Type 0 where
   pub events : List Event
   pub kept : AreEvents events
   pub run : world_run first_world events ≡ w
 
--- a run is clean where none of its steps is a false pass
+-- a run is clean if none of its steps is a false pass
 abbrev pub AreClean : List Step → Type 0
 AreClean steps = EachIs (λ step. step.false_pass ≡ false) steps
 
 abbrev pub IsCleanRun : List Event → Type 0
 IsCleanRun events = AreClean (steps_of first_world events)
 
--- a delivery whose bits arrive within radius of what was sent, or any other event
+-- a delivery whose bits arrive within the correction radius of the transmitted ones, or any other event
 unfoldable pub IsWithin : WorldState → Event → Type 0
 IsWithin w (ToReceiver flips) = IfSome w.delivery.packet_sent (λ packet. ArrivesWithin packet flips)
 IsWithin w (ToSender flips) = IfSome w.delivery.answer (λ packet. ArrivesWithin packet flips)
@@ -43,7 +43,7 @@ IsWithin w other = Unit {0}
 abbrev pub AreWithin : WorldState → List Event → Type 0
 AreWithin w events = MeetAt world_step IsWithin w events
 
--- a delivery of which at least two bits come inverted
+-- a delivery in which at least two bits are inverted
 unfoldable pub IsTwiceDamaged : WorldState → Event → Type 0
 IsTwiceDamaged w (ToReceiver flips) = (packet : Packet) × (w.delivery.packet_sent ≡ Some packet) × (2 ≤ places_within packet flips)
 IsTwiceDamaged w (ToSender flips) = (packet : Packet) × (w.delivery.answer ≡ Some packet) × (2 ≤ places_within packet flips)
@@ -53,8 +53,8 @@ IsTwiceDamaged w other = ⊥
 abbrev pub true_step : StepKind → Step
 true_step kind = record { kind = kind; false_pass = false }
 
--- how often the present message or opening packet was sent, after a step before which it was sent so often: a taken message
--- and an opening begin a count, an acknowledgement and an opened session end it, and what is sent again counts on
+-- the number of transmissions of the present message or opening packet after a step, by the number before it: a taken message and an opening begin a
+-- count, an acknowledgement and an opened session end it, and a retransmission increases it
 abbrev pub tries_after : ℕ → StepKind → ℕ
 tries_after tries (Taken number blocks) = tries + 1
 tries_after tries (Resent number again) = tries + 1
@@ -65,8 +65,8 @@ tries_after tries (Retry number wanted again) = tries + 1
 tries_after tries (Repeat number again) = tries + 1
 tries_after tries kind = tries
 
--- the number of transmissions since the last step that ended or began a count: of all steps that send one, those after the
--- last Acknowledged or LinkOpened, or from the last Reopened on
+-- the number of transmissions since the last step that ended or began a count: of all steps with a transmission, those after the last Acknowledged or
+-- LinkOpened, or from the last Reopened on
 unfoldable pub tries_in : ℕ → List Step → ℕ
 tries_in tries [] = tries
 tries_in tries (step ∷ steps) = tries_in (tries_after tries step.kind) steps

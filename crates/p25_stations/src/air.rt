@@ -1,4 +1,4 @@
-//! The air between the two stations: transmissions as bits, and what comes of them.
+//! The channel between the two stations: transmissions as bits, and their reception.
 
 ghost use Rattle.std.specs.Prelude.{◌≡◌, length};
 ghost use Rattle.p25_packet_blocks.specs.{Whole.{packet_head, IsWholePacket}, Heads.{head_blocks}, Lengths.{packet_sent_length}, Sendable.{IsSendable}};
@@ -11,19 +11,20 @@ use p25_messages::Flips;
 use p25_packet_blocks::{Packet, packet_image, read_packet_unit};
 use p25_status::{BARE_BLOCK_LENGTH, Field, Status, Statuses, weave};
 
-/// What comes of a transmission.
+/// The reception of a transmission.
 #[derive(Clone, Debug, PartialEq, Eq, Drop)]
 pub enum Carried {
-    /// The bits that came read as no packet (PDU): the first field that fails.
+    /// The received bits are not a decodable packet (PDU): the first field that fails.
     Lost(Field),
-    /// They read as a packet (PDU) with another network access code (NAC).
+    /// They decode to a packet (PDU) with another network access code (NAC).
     Foreign,
-    /// They read as a packet (PDU) for the stations, which is true to the one that was sent or a false pass.
+    /// They decode to a packet (PDU) for the stations, which is true to the transmitted one or a false pass (an
+    /// undetected error).
     Heard { packet: Packet, false_pass: bool },
 }
 
-/// Sets `out` to the unit of a packet (PDU) as a station sends it, from its sync on, with the network access code (NAC) 293 hex and
-/// the status symbol 00 throughout. No slot of the packet is Bad.
+/// Writes to `out` the data unit of a packet (PDU) as a station transmits it, from its sync on, with the network access
+/// code (NAC) 293 hex and the status symbol 00 throughout. It requires that no slot of the packet is `Bad`.
 pub fn transmit(packet: &Packet, out: &mut BitBuf)
     requires { IsWholePacket packet.now }
     ensures bits { out.new ≡ transmission_of packet.now }
@@ -36,7 +37,7 @@ pub fn transmit(packet: &Packet, out: &mut BitBuf)
     weave(&bare, &statuses, out);
 }
 
-// Inverts the bits at some places; a place past the end inverts nothing.
+// Inverts the bits at some positions; a position past the end inverts nothing.
 fn invert(bits: &mut BitBuf, flips: &Flips)
     ensures bits { bits.new ≡ with_flips bits.old flips.now }
     ensures len { length bits.new ≡ length bits.old }
@@ -49,10 +50,12 @@ fn invert(bits: &mut BitBuf, flips: &Flips)
     }
 }
 
-/// Answers what comes of a packet (PDU) that is transmitted, where the bits at some places of its unit come inverted; no slot of it is
-/// Bad, and a place past the end of the unit inverts nothing. Lost comes exactly where `read_packet_unit` refuses the bits, and with
-/// its field; Foreign exactly where they read as a packet with another network access code (NAC). A packet that is heard is a false pass
-/// where its header differs from the one sent, or a Good slot from the block sent there, or the octets of one that is not confirmed.
+/// Returns the reception of a transmitted packet (PDU) with the bits at some positions of its data unit inverted; a
+/// position past the end of the data unit inverts nothing. It requires that no slot of the packet is `Bad`. `Lost` is
+/// returned if and only if `read_packet_unit` refuses the bits, and with its field. `Foreign` is returned if and only
+/// if they decode to a packet with another network access code (NAC). A received packet is a false pass if its header
+/// differs from the transmitted one, or a `Good` slot from the block transmitted there, or the octets of an unconfirmed
+/// one.
 pub fn carry(packet: &Packet, flips: &Flips) -> Carried
     requires { IsWholePacket packet.now }
     ensures { result ≡ carried_of packet.now flips.now }

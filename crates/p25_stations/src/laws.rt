@@ -1,5 +1,5 @@
-//! What the air keeps, what every run of the world keeps, and what every run without a false pass. Each function makes no call
-//! of its own: its contract is the theorem.
+//! The guarantees of the channel, of every run of the world, and of every run without a false pass. Each function makes
+//! no call of its own: its contract is the theorem.
 
 ghost use Rattle.std.specs.Prelude.{◌≡◌, ℕ, ◌≤◌, true, false, List, [], ◌∷◌, length, ◌<◌, ◌↔◌};
 ghost use Rattle.p25_delivery.specs.{MessageBlocks.{block_count}, SenderRules.{opening_number}, declared.sender.Outstanding.TheVariants.{Nothing}};
@@ -13,22 +13,22 @@ ghost use Rattle.p25_packet_blocks.specs.Sendable.{IsSendable};
 
 use p25_packet_blocks::laws::packet_radius;
 
-/// **Theorem.** Its clause says that after every list of events without a false pass each session is orderly: what was
-/// delivered is the beginning of what was sent, each message once, every message that was acknowledged was delivered, and
-/// one at most was delivered that was not acknowledged.
+/// **Theorem.** After every list of events without a false pass each session is orderly. The delivered messages are the
+/// beginning of the sent ones, each once. Every acknowledged message was delivered, and at most one was delivered that
+/// was not acknowledged.
 pub fn clean_runs_are_orderly()
     ensures { (events : List event_type) → AreEvents events → IsCleanRun events →
         AreOrderly (sessions_of (world_run first_world events).delivery) }
 {}
 
-/// **Theorem.** Its clause says that the delivery of a world keeps the facts that `DeliveryFacts` names while no step was a false pass.
+/// **Theorem.** The delivery of a world keeps the facts that `DeliveryFacts` names while no step was a false pass.
 pub fn world_facts()
     ensures { (events : List event_type) → AreEvents events → IsCleanRun events → DeliveryFacts (world_run first_world events).delivery }
 {}
 
-/// **Theorem.** Its clauses say what every run keeps, clean or not. In each session what was acknowledged was sent, and
-/// one message at most was sent that was not acknowledged; and the sessions are the whole of the lists. A message or an opening packet
-/// is sent 16 times at most. And no step was a false pass exactly where none is counted.
+/// **Theorem.** The laws of every run, clean or not. In each session every acknowledged message was sent, and at most
+/// one message was sent that was not acknowledged; and the sessions make up the lists. A message or an opening packet
+/// is transmitted at most 16 times. No step was a false pass if and only if none is counted.
 pub fn runs_are_counted()
     ensures sessions { (events : List event_type) → AreCounted (sessions_of (world_run first_world events).delivery) }
     ensures whole { (events : List event_type) → AreWhole (world_run first_world events).delivery }
@@ -37,8 +37,8 @@ pub fn runs_are_counted()
     ensures none { (events : List event_type) → IsCleanRun events → (world_run first_world events).false_passes ≡ 0 }
 {}
 
-/// **Theorem.** Its clauses say which deliveries are no false passes, after any list of events: those within radius,
-/// and those of which at most one bit comes inverted.
+/// **Theorem.** The deliveries that are no false passes, after any list of events: those within the correction radius,
+/// and those in which at most one bit is inverted.
 pub fn damage_within_radius()
     ensures within { (events : List event_type) (event : event_type) → AreEvents events →
         IsWithin (world_run first_world events) event →
@@ -50,8 +50,8 @@ pub fn damage_within_radius()
     packet_radius();
 }
 
-/// **Theorem.** Its clauses say what comes of deliveries within radius. After a clean run, where nothing is outstanding,
-/// a message is taken, delivered and acknowledged. After any run a sender that is down opens the session again.
+/// **Theorem.** The effect of deliveries within the correction radius. After a clean run with nothing outstanding, a
+/// message is taken, delivered and acknowledged. After any run a sender that is down opens the session again.
 pub fn deliveries_within_radius()
     ensures delivered { (events : List event_type) (message first second : List ℕ) → AreEvents events →
         (world_run first_world events).false_passes ≡ 0 → IsMessage message →
@@ -72,10 +72,10 @@ pub fn deliveries_within_radius()
     packet_radius();
 }
 
-/// **Theorem.** Its clauses say what the air keeps. A packet that is heard in a delivery that is no false pass is true
-/// to the one that was sent: it has the same header, and the same octets or slots, but those that are Bad; and the test of
-/// a false pass says exactly that. A packet that arrives within radius is heard, as no false pass and as it was sent; one of
-/// which at most one bit comes inverted arrives within radius.
+/// **Theorem.** The guarantees of the channel. A received packet that is no false pass is true to the transmitted one:
+/// it has the same header, and the same octets or slots, except those that are `Bad`; and the test of a false pass is
+/// exactly that. A packet that arrives within the correction radius is received as transmitted, and is no false pass.
+/// One in which at most one bit is inverted arrives within the correction radius.
 pub fn air_is_true()
     ensures exactly { (sent : packet_type) (packet : packet_type) → IsTrueTo sent packet ↔ (is_true_to sent packet ≡ true) }
     ensures heard { (sent : packet_type) (flips : List ℕ) (packet : packet_type)
@@ -87,9 +87,9 @@ pub fn air_is_true()
     packet_radius();
 }
 
-/// **Theorem.** Its clauses say that the steps of every run tell its lists. The messages of the Delivered steps, in order,
-/// are those delivered, the messages of the events whose step is Taken are those sent, and the number of the Acknowledged
-/// steps is that of the messages acknowledged.
+/// **Theorem.** The steps of every run determine its lists. The messages of the `Delivered` steps, in order, are those
+/// delivered. The messages of the events whose step is `Taken` are those sent. The number of the `Acknowledged` steps
+/// is that of the messages acknowledged.
 pub fn steps_tell_lists()
     ensures delivered { (events : List event_type) →
         (world_run first_world events).delivery.inbound.received ≡ delivered_in (steps_of first_world events) }

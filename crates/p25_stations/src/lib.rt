@@ -1,8 +1,10 @@
-//! Two packet stations and the air between them: a sender, a receiver, and what comes of a packet (PDU) that is sent.
+//! Two packet stations and the channel between them: a sender, a receiver, and the reception of a transmitted packet
+//! (PDU).
 //!
-//! A transmission is the unit of a packet as it is sent, from its first bit on, with the network access code (NAC) 293 hex and
-//! the status symbol 00 throughout. Places of bits that come inverted are counted from that first bit. Each event of a world is
-//! one step. The rules of the stations and of the air are this project's, over those of TIA-102.BAAA, Packet Data.
+//! A transmission is the data unit of a packet, from its first bit on, with the network access code (NAC) 293 hex and
+//! the status symbol 00 throughout. Positions of inverted bits are counted from that first bit. Each event of a world
+//! is one step. The rules of the stations and of the channel are this project's, over those of TIA-102.BAAA, Packet
+//! Data.
 //!
 //! ```
 //! let mut world = World::new(rt.alloc());
@@ -11,8 +13,9 @@
 //! assert_eq!(rt; world.delivered().len(), 1);
 //! ```
 //!
-//! Contracts see what comes of a packet as the function `carried_of`, a world as its state and the number of steps for which
-//! it has room, and each step as the function `world_step`. Each world is the run of some events (`HasHistory`): `World::facts`.
+//! Contracts see the reception of a packet as the function `carried_of`, a world as its state and the number of steps
+//! for which it has capacity, and each step as the function `world_step`. Each world is the run of some events
+//! (`HasHistory`): `World::facts`.
 #![tactic(auto)]
 
 mod air;

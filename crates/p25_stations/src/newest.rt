@@ -1,4 +1,4 @@
-//! The newest transmission of one direction of the air.
+//! The newest transmission of one direction of the channel.
 
 ghost use Rattle.std.specs.Prelude.{◌≡◌, Option, None, IfSome};
 ghost use Rattle.p25_packet_blocks.specs.Sendable.{IsSendable};
@@ -11,7 +11,8 @@ use p25_messages::Flips;
 use p25_packet_blocks::Packet;
 use std::marker::Model;
 
-/// The newest transmission of a direction of the air, where there is one. Contracts see it as that packet (PDU), which can be sent.
+/// The newest transmission of a direction of the channel, if there is one. Contracts see it as that packet (PDU), which
+/// is sendable.
 #[derive(Clone, Debug, PartialEq, Eq, Drop)]
 pub struct Newest {
     packet: Option<Packet>,
@@ -28,14 +29,14 @@ impl Model for Newest {
 }
 
 impl Newest {
-    /// Answers a direction that has carried nothing.
+    /// Returns a direction that has carried nothing.
     pub fn new() -> Newest
         ensures { result ≡ None }
     {
         Newest { packet: None }
     }
 
-    /// Makes what a call of a half sends the newest transmission, and answers what happened.
+    /// Makes the transmission of a call of a half the newest one, and returns the type of step.
     #[tactic(auto, unfolding(p25_delivery::specs::Delivery::newest_after))]
     pub fn keep(&mut self, called: (StepKind, Option<Packet>)) -> StepKind
         requires { IfSome called.1 IsSendable }
@@ -49,8 +50,9 @@ impl Newest {
         kind
     }
 
-    /// Answers what comes of it that way: the packet (PDU) that is heard, and whether it is a false pass, as `carry` says; or the
-    /// step in which nothing is heard, which is Lost or Ignored, or Nothing where there is no transmission.
+    /// Returns the reception of the newest transmission in that direction: the received packet (PDU), and whether it is
+    /// a false pass, as `carry` returns it. If nothing is received, the error is the step: `Lost` or `Ignored`, or
+    /// `Nothing` if there is no transmission.
     #[tactic(auto, unfolding(crate::specs::Steps::delivery_of, crate::specs::Steps::heard_of))]
     pub fn deliver(&self, way: Way, flips: &Flips) -> Result<(Packet, bool), StepKind>
         ensures { result ≡ delivery_of way self.now flips.now }

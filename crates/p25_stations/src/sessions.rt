@@ -5,7 +5,7 @@ ghost use Rattle.p25_stations.specs.SessionTexts.{sessions_text};
 
 use p25_line::Line;
 
-/// Appends ` sessions=` and the number of sessions in decimal, where there was more than one.
+/// Appends ` sessions=` and the number of sessions in decimal, if there was more than one.
 pub fn put_sessions(sessions: u64, out: &mut Line)
     requires { length out.old + 30 ≤ 8192 }
     ensures text { out.new ≡ out.old ++ sessions_text sessions }

@@ -1,4 +1,4 @@
-//! Two stations and the air between them, without the history of their events.
+//! Two stations and the channel between them, without the history of their events.
 
 #![tactic(auto, unfolding(p25_delivery::specs::Delivery::happens, p25_delivery::specs::Delivery::with_outbound, p25_delivery::specs::Delivery::with_inbound))]
 
@@ -14,7 +14,7 @@ use p25_packet_blocks::Packet;
 use std::alloc::Global;
 use std::marker::Model;
 
-/// The two stations of a world and the air between them. What a world keeps of its history is not known here.
+/// The two stations of a world and the channel between them. The history that a world keeps is not part of it.
 #[derive(Debug, Drop)]
 pub(crate) struct Stations {
     pub(crate) outbound: Outbound,
@@ -41,7 +41,8 @@ impl Model for Stations {
 }
 
 impl Stations {
-    /// Answers a world before its first step: nothing was sent, and the receiver waits for the first message. It takes no memory.
+    /// Returns a world before its first step: nothing was sent, and the receiver waits for the first message. It
+    /// allocates no memory.
     pub(crate) fn new(alloc: Global) -> Stations
         ensures { result.state ≡ first_world }
     {
@@ -54,7 +55,7 @@ impl Stations {
         }
     }
 
-    /// Answers the step that an event is, and has it happen. There is room for it, and it takes no memory.
+    /// Makes the step of an event, and returns it. It requires capacity for it, and allocates no memory.
     #[tactic(auto, unfolding(crate::specs::Steps::world_step, p25_delivery::specs::Delivery::happens, p25_delivery::specs::Delivery::with_outbound))]
     pub(crate) fn step_ready(&mut self, event: &Event) -> Step
         requires { 0 < self.old.spare }
@@ -75,7 +76,7 @@ impl Stations {
         }
     }
 
-    // Has a station hear a packet (PDU) that came that way.
+    // Passes a packet (PDU) that arrived in a direction to its station.
     fn hear(&mut self, way: Way, packet: &Packet) -> StepKind
         requires { 0 < self.old.spare }
         ensures step { (self.new.state.delivery, result) ≡ happens self.old.state.delivery (heard_by way packet.now) }
@@ -88,7 +89,7 @@ impl Stations {
         }
     }
 
-    // Delivers the newest transmission of a way.
+    // Delivers the newest transmission of a direction.
     #[tactic(auto, unfolding(crate::specs::Steps::delivered, crate::specs::Steps::newest_by))]
     fn deliver(&mut self, way: Way, flips: &Flips) -> Step
         requires { 0 < self.old.spare }

@@ -1,4 +1,4 @@
-//! What comes of a packet on the air, and a world step by step.
+//! The reception of a packet on the channel, and a world step by step.
 
 use super::{
     Carried, Event, Flips, Message, MessageList, Newest, Offer, Sender, Step, StepKind, Way, World,
@@ -38,7 +38,7 @@ fn first_five() -> Flips {
     flips
 }
 
-// Places behind the end of a transmission of one block.
+// Positions after the end of a transmission of one block.
 fn behind_the_end() -> Flips {
     let mut flips = Flips::new();
     flips.push(576);
@@ -54,7 +54,7 @@ fn offered() -> Option<Packet> {
     }
 }
 
-// What comes of it where these bits are wrong: a letter for lost, foreign, heard, or heard as another.
+// Its reception with these bits wrong: a letter for lost, foreign, received, or received as another packet.
 fn come_of(flips: &Flips) -> Option<char> {
     let packet = offered()?;
     if !is_whole(&packet) {
@@ -104,7 +104,7 @@ fn a_transmission(rt: HostRuntime) {
     assert!(rt; front() == Some((0x293, 0, 0, 576)));
 }
 
-// Whether the newest transmission is the last that was kept, and a call that sends nothing leaves it.
+// Whether the newest transmission is the last that was kept, and a call that transmits nothing leaves it.
 fn is_newest() -> Option<bool> {
     let mut newest = Newest::new();
     let none = newest.deliver(Way::Packets, &Flips::new()).err();
@@ -112,7 +112,7 @@ fn is_newest() -> Option<bool> {
     if !is_whole(&packet) {
         return None;
     }
-    // A packet that is transmitted can be sent.
+    // A transmitted packet is sendable.
     transmit(&packet, &mut BitBuf::new());
     let kind = newest.keep((StepKind::Busy, Some(packet)));
     let _ = newest.keep((StepKind::Idle, None));
@@ -131,7 +131,7 @@ fn is_only(list: &MessageList, octets: &[u8]) -> bool {
     list.len() == 1 && list.get(0) == octets
 }
 
-// Whether a world makes this step of an event, which is no false pass.
+// Whether a world makes this step for an event, which is no false pass.
 fn steps_to(world: &mut World, event: &Event, kind: StepKind) -> bool {
     match world.step(event) {
         Ok(step) => step == Step::quiet(kind),
@@ -139,7 +139,7 @@ fn steps_to(world: &mut World, event: &Event, kind: StepKind) -> bool {
     }
 }
 
-// Whether a message that is sent, lost, sent again, delivered and acknowledged is told so by a world.
+// Whether the steps of a world report a message that is sent, lost, transmitted again, delivered and acknowledged.
 fn is_told(world: &mut World) -> Option<bool> {
     let taken = StepKind::Taken {
         number: 0,

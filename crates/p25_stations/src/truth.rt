@@ -1,4 +1,4 @@
-//! Whether a delivery is a false pass: what was received beside what was sent.
+//! Whether a delivery is a false pass: the received packet beside the transmitted one.
 
 #![tactic(auto, unfolding(crate::specs::Air::is_true_slot, crate::specs::Air::are_true_slots, crate::specs::Air::is_true_to))]
 
@@ -7,14 +7,14 @@ ghost use Rattle.p25_stations.specs.Air.{is_true_slot, are_true_slots, is_true_t
 
 use p25_packet_blocks::{Packet, Slot, Slots};
 
-// Whether a slot is Bad, or holds the same block as the one that was sent.
+// Returns whether a slot is `Bad`, or holds the same block as the transmitted one.
 fn is_true_slot(sent: Slot, heard: Slot) -> bool
     ensures { result ≡ is_true_slot sent heard }
 {
     heard == Slot::Bad || heard == sent
 }
 
-// Whether each slot is.
+// Returns whether each slot is.
 fn are_true_slots(sent: &Slots, heard: &Slots) -> bool
     ensures { result ≡ are_true_slots sent.now heard.now }
 {
@@ -29,8 +29,8 @@ fn are_true_slots(sent: &Slots, heard: &Slots) -> bool
     true
 }
 
-// Whether a packet (PDU) that was read has the header of the one that was sent, and slot by slot is Bad or holds the same block,
-// or has the same octets.
+// Returns whether a decoded packet (PDU) has the header of the transmitted one, and the same octets, or slots each of
+// which is `Bad` or holds the same block.
 pub(crate) fn is_true_to(sent: &Packet, heard: &Packet) -> bool
     ensures { result ≡ is_true_to sent.now heard.now }
 {

@@ -11,8 +11,8 @@ use p25_messages::MessageList;
 use std::alloc::{AllocError, Global};
 use std::marker::Model;
 
-/// Two packet stations and the air between them, which keeps the newest transmission of each direction. Whoever is handed a world
-/// knows that some list of events brought it there from its first state; `facts` says what follows.
+/// Two packet stations and the channel between them, which keeps the newest transmission of each direction. By its
+/// invariant, some list of events led to it from its first state; `facts` states the consequences.
 #[derive(Debug, Drop)]
 pub struct World {
     stations: Stations,
@@ -29,7 +29,7 @@ impl Model for World {
     ghost invariant = { λ w. HasHistory w.stations.state };
 }
 
-// The laws of the world speak of each event.
+// The laws of the world hold for each event.
 fn is_event(event: &Event)
     ensures { IsEvent event.now }
 {
@@ -39,7 +39,8 @@ fn is_event(event: &Event)
 }
 
 impl World {
-    /// Answers a world before its first step: nothing was sent, and the receiver waits for the first message. It takes no memory.
+    /// Returns a world before its first step: nothing was sent, and the receiver waits for the first message. It
+    /// allocates no memory.
     #[tactic(auto, using(crate::proofs::HistoryLaws::history_first))]
     pub fn new(alloc: Global) -> World
         ensures { result.state ≡ first_world }
@@ -49,11 +50,12 @@ impl World {
         }
     }
 
-    /// Does nothing; its clauses say what holds of every world. Some list of events brought it from its first state to this one.
-    /// Where it counts no false pass, its delivery keeps the facts that `DeliveryFacts` names, and each session is orderly: what
-    /// was delivered is the beginning of what was sent, each message once, every message that was acknowledged was delivered, and
-    /// one at most was delivered that was not acknowledged. In any case one at most was sent that was not acknowledged, and the
-    /// sessions are the whole of the lists: joined, their messages are all that were sent and all that were delivered.
+    /// Does nothing; its clauses state the laws of every world. Some list of events led from its first state to this
+    /// one. If it counts no false pass, its delivery keeps the facts that `DeliveryFacts` names, and each session is
+    /// orderly: the delivered messages are the beginning of the sent ones, each once, every acknowledged message was
+    /// delivered, and at most one was delivered that was not acknowledged. In any case at most one was sent that was
+    /// not acknowledged, and the sessions make up the lists: joined, their messages are all that were sent and all that
+    /// were delivered.
     pub fn facts(&self)
         ensures history { HasHistory self.now.state }
         ensures kept { self.now.state.false_passes ≡ 0 → DeliveryFacts self.now.state.delivery }
@@ -64,43 +66,43 @@ impl World {
         let _ = &self.stations;
     }
 
-    /// Answers the messages that were sent, in order.
+    /// Returns the messages that were sent, in order.
     pub fn sent(&self) -> &MessageList
         ensures { result.now.list ≡ self.now.state.delivery.outbound.sent }
     {
         self.stations.outbound.sent()
     }
 
-    /// Answers the messages that were delivered, in order.
+    /// Returns the messages that were delivered, in order.
     pub fn delivered(&self) -> &MessageList
         ensures { result.now.list ≡ self.now.state.delivery.inbound.received }
     {
         self.stations.inbound.received()
     }
 
-    /// Answers how many messages were acknowledged.
+    /// Returns the number of acknowledged messages.
     pub fn acknowledged(&self) -> u64
         ensures { result ≡ self.now.state.delivery.outbound.acknowledged }
     {
         self.stations.outbound.acknowledged()
     }
 
-    /// Answers how many deliveries were false passes; the number stays at 2^64 - 1 once it stands there.
+    /// Returns the number of deliveries that were false passes; it saturates at 2^64 - 1.
     pub fn false_passes(&self) -> u64
         ensures { result ≡ self.now.state.false_passes }
     {
         self.stations.false_passes
     }
 
-    /// Answers the number of sessions: one more than a message was given up.
+    /// Returns the number of sessions: one more than the messages that were given up.
     pub fn sessions(&self) -> u64
         ensures { result ≡ length self.now.state.delivery.outbound.marks + 1 }
     {
         self.stations.outbound.sessions()
     }
 
-    /// Makes room for 1 to 16 more steps. Answers AllocError where there is not enough memory, which comes only where there
-    /// was no such room; the world stays as it was, and no room is lost.
+    /// Reserves capacity for 1 to 16 more steps. `AllocError` is returned if the allocation fails, which can happen
+    /// only if there was no such capacity; the world and its capacity are unchanged.
     pub fn reserve(&mut self, steps: u32) -> Result<(), AllocError>
         requires some { 0 < steps }
         requires most { steps ≤ 16 }
@@ -113,7 +115,7 @@ impl World {
         self.stations.inbound.reserve(steps)
     }
 
-    /// Answers the step that an event is, and has it happen. There is room for it, and it takes no memory.
+    /// Makes the step of an event, and returns it. It requires capacity for it, and allocates no memory.
     pub fn step_ready(&mut self, event: &Event) -> Step
         requires { 0 < self.old.spare }
         ensures step { (self.new.state, result) ≡ world_step self.old.state event.now }
@@ -123,8 +125,8 @@ impl World {
         self.stations.step_ready(event)
     }
 
-    /// Answers the step that an event is, and has it happen. AllocError comes where there is not enough memory for it, and
-    /// only where no room was left; then the world stays as it was.
+    /// Makes the step of an event, and returns it. `AllocError` is returned if the allocation for it fails, which can
+    /// happen only if no capacity was left; then the world is unchanged.
     pub fn step(&mut self, event: &Event) -> Result<Step, AllocError>
         ensures ok { IfOk result (λ step. (self.new.state, step) ≡ world_step self.old.state event.now) }
         ensures spare { self.old.spare ≤ self.new.spare + 1 }

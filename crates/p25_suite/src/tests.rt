@@ -1,4 +1,4 @@
-//! Values from outside, through `run`: what each command over recordings and lines writes, and each refusal.
+//! Values from outside, through `run`: the output of each command over recordings and lines, and each refusal.
 
 mod calls;
 mod damaged;
@@ -32,8 +32,8 @@ fn words_of(list: &[&[u8]]) -> Words {
     words
 }
 
-// A call: its words, its input, how many octets of it a read gives, the number of the read and of the write that fail,
-// none where it is 0.
+// A call: its words, its input, the number of octets that a read of it returns, and the numbers of the read and of the
+// write that fail, none if it is 0.
 #[derive(Clone, Copy)]
 struct Call<'a> {
     words: &'a [&'a [u8]],
@@ -43,7 +43,7 @@ struct Call<'a> {
     failing_write: u64,
 }
 
-// A call of which nothing fails.
+// A call in which nothing fails.
 fn calm<'a>(words: &'a [&'a [u8]], input: &'a [u8], piece: usize) -> Call<'a> {
     Call {
         words,
@@ -54,7 +54,7 @@ fn calm<'a>(words: &'a [&'a [u8]], input: &'a [u8], piece: usize) -> Call<'a> {
     }
 }
 
-// Whether a call ends so, and this is what it writes.
+// Whether a call ends so, with this output.
 fn ends(alloc: Global, call: &Call, outcome: Outcome, output: &[u8]) -> bool {
     let (read_fails, write_fails) = ([call.failing_read], [call.failing_write]);
     let mut source = MemorySource::new(call.input, call.piece.max(1), &read_fails);
@@ -63,8 +63,8 @@ fn ends(alloc: Global, call: &Call, outcome: Outcome, output: &[u8]) -> bool {
     run(alloc, &words_of(call.words), &mut source, &mut sink) == outcome && sink.written() == output
 }
 
-// Writes the images of the units of some lines, with one status symbol for all, and answers how many octets there are: none
-// where a line is refused.
+// Writes the images of the data units of some lines, with one status symbol for all, and returns the number of octets:
+// none if a line is refused.
 fn build(alloc: Global, status: &[u8], lines: &[u8], room: &mut [u8]) -> usize
     ensures { length room.new ≡ length room.old }
 {
@@ -81,7 +81,7 @@ fn build(alloc: Global, status: &[u8], lines: &[u8], room: &mut [u8]) -> usize
     }
 }
 
-// Whether a command is done and writes such octets, whatever the reads.
+// Whether a command ends as done with this output, whatever the reads.
 fn writes(alloc: Global, words: &[&[u8]], input: &[u8], output: &[u8]) -> bool {
     for piece in [1, 2, 7, 8_192] {
         let mut source = SteadySource::new(input, piece);
@@ -96,7 +96,8 @@ fn writes(alloc: Global, words: &[&[u8]], input: &[u8], output: &[u8]) -> bool {
     true
 }
 
-// Whether a sent unit whose bits were changed is shown so, its line after it where it is whole, and then repaired.
+// Whether a transmitted data unit with changed bits is shown so, followed by its line if it is whole, and then
+// repaired.
 fn reads_as(alloc: Global, line: &[u8], said: &[u8], sent: &[u8], changed: &[u8]) -> bool {
     let whole = said.starts_with(b"unit");
     let mut text = Line::new();
@@ -108,7 +109,7 @@ fn reads_as(alloc: Global, line: &[u8], said: &[u8], sent: &[u8], changed: &[u8]
         && writes(alloc, &[b"repair"], changed, repaired)
 }
 
-// Makes the bit of a sent unit that stands at a place without status symbols the bit that is told, or the other one.
+// Replaces the bit of a transmitted data unit at a position without status symbols by the given bit, or inverts it.
 fn change_bit(octets: &mut [u8], place: usize, told: Option<bool>)
     requires { place < 100000 }
 {
@@ -123,7 +124,7 @@ fn change_bit(octets: &mut [u8], place: usize, told: Option<bool>)
     }
 }
 
-// Puts a name and its number after a text.
+// Appends a name and its number to a text.
 fn put_named(text: &mut Line, name: &[u8], number: u64) {
     if text.len() <= 4_000 && name.len() <= 20 {
         text.put(name);
@@ -131,18 +132,18 @@ fn put_named(text: &mut Line, name: &[u8], number: u64) {
     }
 }
 
-// Puts a text after another, where both are short.
+// Appends a text to another; both are short.
 fn put_short(text: &mut Line, more: &[u8]) {
     if text.len() <= 4_000 && more.len() <= 4_000 {
         text.put(more);
     }
 }
 
-// Bits that are inverted: the first place, how far the next is, how many places there are, and how many bits at each.
-// Places count the bits of a unit without its status symbols; that of the first bit of its sync is 0.
+// Inverted bits: the first position, the distance to the next, the number of positions, and the number of bits at each.
+// Positions count the bits of a data unit without its status symbols; that of the first bit of its sync is 0.
 type Inverted = (u16, u16, u16, u16);
 
-// Inverts so many bits from a place on.
+// Inverts a number of bits from a position on.
 fn invert_run(octets: &mut [u8], first: usize, width: u16)
     requires { first < 30000 }
 {
@@ -151,7 +152,7 @@ fn invert_run(octets: &mut [u8], first: usize, width: u16)
     }
 }
 
-// Inverts bits of a sent unit.
+// Inverts bits of a transmitted data unit.
 fn invert(octets: &mut [u8], inverted: &Inverted) {
     let (first, step, places, width) = *inverted;
     for i in 0..usize::from(places) {
@@ -162,7 +163,7 @@ fn invert(octets: &mut [u8], inverted: &Inverted) {
     }
 }
 
-// A unit of the call: its line, whether nine voice frames of zeros end it, and what `show` says before it.
+// A data unit of the call: its line, whether nine voice frames of zeros end it, and the text of `show` before it.
 type Part = (&'static [u8], bool, &'static [u8]);
 
 const PARTS: [Part; 4] = [
@@ -188,7 +189,7 @@ const PARTS: [Part; 4] = [
     ),
 ];
 
-// The lines of the first units, as they are built from or as they are shown.
+// The lines of the first data units, as they are built from or as they are shown.
 fn lines_of(count: usize, shown: bool) -> Line {
     let mut text = Line::new();
     for (line, voice, prefix) in PARTS.iter().take(count) {

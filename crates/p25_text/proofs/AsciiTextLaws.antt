@@ -1,4 +1,4 @@
--- The texts of units, items and calls have octets below 128 alone. By the texts that they are made of.
+-- The texts of data units, items and calls have octets below 128 alone. By the texts of which they are made.
 use Rattle.std.proofs.{Common.{◌≡◌, ℕ, ◌+◌, ◌<◌, ◌&&◌, Bool, true, false, List, [], ◌∷◌, Option, Some, None, refl, ap₂, arith}, lemmas.Bool.{and_parts, lt-ltb}}
 use Rattle.std.specs.{Prelude.{codes, decimal}, List.{list_all}}
 use Rattle.hex.specs.Hex.{encode_lower}

@@ -1,4 +1,5 @@
--- The line of a unit is read as that unit, and a line that is read is the line of its unit. By cases on what each step of the reading found.
+-- The line of a data unit decodes to that data unit, and a line that is read is the line of its data unit. By cases on the result of each step of
+-- reading.
 use Rattle.std.proofs.Common.{◌≡◌, ℕ, suc, ◌≤◌, ◌&&◌, true, List, [], ◌∷◌, length, Option, Some, None, Result, Ok, inl, inr, refl, ap, ap₂, subst, ◌∙◌, arith}
 use Rattle.std.specs.{List.{list_all}, Option.{option_map}, Prelude.{IfOk, ok_or}}
 use Rattle.p25_line.specs.{Words.{is_printed, is_word}, LineReadings.{found_read, named_or_fault}, declared.fault.LineFault.{LineFault}, declared.fault.LineFault.TheVariants.{Key, Value}}

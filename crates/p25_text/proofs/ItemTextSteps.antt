@@ -1,4 +1,4 @@
--- One status symbol more, as the loop of the texts of items takes it.
+-- One more status symbol in the loop of the texts of items.
 use Rattle.std.proofs.{Common.{◌≡◌, ℕ, ◌+◌, List, [], ◌∷◌, ◌++◌, take, map, slice_get, Some, refl, sym, ap, ap₂, ◌∙◌, append_assoc}, lemmas.List.{map_push}}
 use Rattle.p25_status.specs.{Status.{status_number}, declared.symbols.Status.{Status}}
 use Rattle.p25_text.specs.ItemTexts.{status_digits}

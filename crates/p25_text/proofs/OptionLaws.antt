@@ -1,4 +1,4 @@
--- What a reading in steps found: where the whole found something, each step did.
+-- Reading in steps: if the whole has a result, each step has one.
 use Rattle.std.proofs.{Common.{◌≡◌, ℕ, ◌==◌, Bool, true, cond, List, length, Option, Some, None, inl, inr, refl, sym, ap, ◌∙◌}, lemmas.Bool.{cases_Bool, cond-true, cond-false, eqb-true}}
 use Rattle.std.specs.Option.{option_and_then, option_map}
 use Rattle.p25_line.specs.CommaLists.{counted}

@@ -1,4 +1,4 @@
--- The values of a packet are read as the packet, and what is read as a packet has them. By the steps of the reading.
+-- The values of a packet decode to the packet, and values that decode to a packet are its values. By the steps of reading.
 use Rattle.std.proofs.Common.{◌≡◌, ℕ, ◌+◌, ◌-◌, ◌*◌, ◌<◌, ◌≤◌, ◌==◌, ◌&&◌, Bool, true, false, cond, List, [], ◌∷◌, length, Some, None, inl, inr, refl, sym, ap, ap₂, subst, ◌∙◌, arith}
 use Rattle.std.proofs.{lemmas.Bool.{cases_Bool, cond-true, eq-eqb, eqb-true}, lemmas.Slice.Eq.{bytes_eq-Decides}}
 use Rattle.std.specs.{List.{list_all}, Option.{option_and_then, option_map}, Str.{bytes_eq}}

@@ -1,4 +1,4 @@
--- The texts of blocks and slots: each is read as what it is the text of, and what is read has it as its text. By cases on what each step found.
+-- The texts of blocks and slots: each decodes to its block or slot, and a text that is read is its text. By cases on the result of each step.
 use Rattle.std.proofs.Common.{◌≡◌, ℕ, zero, suc, ◌+◌, ◌*◌, ◌<◌, ◌≤◌, ◌==◌, ◌&&◌, Bool, true, false, List, [], ◌∷◌, ◌++◌, length, take, drop, slice_index, get_or, map, Option, Some, None, inl, inr, refl, sym, ap, ap₂, subst, ◌∙◌, arith, length-append}
 use Rattle.std.proofs.{lemmas.Bool.{and_parts, cases_Bool, cases_lt, cond-true, cond-false, eq-eqb, eqb-true, lt-ltb}, lemmas.List.Elements.{All-nil, All-cons}, lemmas.List.Folds.{list_all-append}}
 use Rattle.std.specs.{Prelude.{nat_le, nat_lt}, List.{join_with_byte, list_all}, Option.{option_map}}

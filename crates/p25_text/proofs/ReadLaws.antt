@@ -1,4 +1,4 @@
--- What each answer of the reader of lines shows of the reading by the definition.
+-- The relation of each result of the reader of lines to the definition.
 use Rattle.std.proofs.Common.{◌≡◌, ℕ, suc, ◌+◌, ◌<◌, List, [], ◌∷◌, ◌++◌, length, drop, slice_get, get_or, Option, Some, None, Err, refl, sym, ap, ap₂, ◌∙◌, arith, append_assoc}
 use Rattle.std.proofs.{lemmas.List.{drop_more}, lemmas.Option.{slice_get-get_or}}
 use Rattle.std.specs.{Prelude.{ok_or}, Option.{option_map, option_and_then}}

@@ -1,4 +1,5 @@
--- The values of a voice unit are read as the unit, and what is read as a voice unit has them. The octets of values are read in general, by induction on the keys; each kind then adds its fields.
+-- The values of a voice data unit decode to the data unit, and values that decode to a voice data unit are its values. The octets of values are read
+-- in general, by induction on the keys; each type then adds its fields.
 use Rattle.std.proofs.Common.{◌≡◌, ℕ, zero, suc, ◌+◌, ◌*◌, ◌/◌, ◌%◌, ◌^◌, ◌<◌, ◌≤◌, ◌&&◌, true, List, [], ◌∷◌, ◌++◌, length, take, drop, map, Option, Some, refl, ap, ap₂, subst, ◌∙◌, arith, length-append, length-take, length-drop}
 use Rattle.std.proofs.{lemmas.List.{drop-drop, drop_at, take-append-drop, take_at}, lemmas.List.Elements.{All-nil, All-cons, All-head, All-tail, All-append, All-take, All-drop}}
 use Rattle.std.specs.{Prelude.{All}, List.{list_all}, Option.{option_and_then}}

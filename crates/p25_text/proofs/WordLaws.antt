@@ -1,4 +1,4 @@
--- Keys with their values: put together and taken apart, and that they are words of a line that is not too long.
+-- Keys with their values: joined and split, and that they are words of a line that is not too long.
 use Rattle.std.proofs.Common.{◌≡◌, ℕ, suc, ◌+◌, ◌*◌, ◌<◌, ◌≤◌, ◌&&◌, true, List, [], ◌∷◌, ◌++◌, length, drop, Option, Some, None, inl, inr, refl, sym, ap, ap₂, ◌∙◌, arith, length-append}
 use Rattle.std.proofs.{lemmas.Bool.{and_parts, cases_Bool, cond-true, cond-false, lt-ltb}, lemmas.Bool.Decides.{Decides-eqb}, lemmas.List.{drop_at}, lemmas.List.Folds.{list_all-append}}
 use Rattle.std.proofs.lemmas.Slice.Eq.{starts_is}

@@ -1,4 +1,4 @@
--- The lines of units, as they are put together: the words of a line are its kind and, after a space each, its keys with their values.
+-- The lines of data units, as they are joined: the words of a line are its type and, after a space each, its keys with their values.
 use Rattle.std.proofs.Common.{◌≡◌, ℕ, ◌+◌, ◌/◌, ◌%◌, ◌<◌, ◌==◌, Bool, true, false, cond, List, [], ◌∷◌, ◌++◌, take, slice_get, slice_index, Some, refl, sym, ap, ap₂, ◌∙◌, append-nil, append_assoc, arith}
 use Rattle.std.specs.{Int.{to_be_bytes, w16}, List.{join_with_byte}}
 use Rattle.hex.specs.Hex.{encode_lower, encode_with, lower_digits}

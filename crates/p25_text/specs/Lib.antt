@@ -4,5 +4,5 @@ pub mod Packets
 pub mod Voices
 pub mod Grammar
 pub mod ItemTexts
--- laws of impls: nothing to believe
+-- laws of impls, with no definition to trust
 pub mod UnitReadLaws

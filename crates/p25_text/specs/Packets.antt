@@ -1,4 +1,4 @@
--- The values of packets (PDU) after the network access code (NAC), and the packets that values are read as.
+-- The values of packets (PDU) after the network access code (NAC), and the packets that values decode to.
 use Rattle.std.specs.Prelude.{ℕ, ◌-◌, ◌*◌, ◌==◌, ◌&&◌, nat_lt, if◌then◌else◌, List, [], ◌∷◌, ◌++◌, length, take, drop, slice_index, Option, Some, None}
 use Rattle.std.specs.Option.{option_and_then, option_map}
 use Rattle.hex.specs.Hex.{encode_lower}
@@ -15,7 +15,7 @@ use Rattle.p25_text.specs.declared.names.UnitKind.TheVariants.{Confirmed as Conf
 abbrev pub block_text : Block → List ℕ
 block_text block = encode_lower (block.serial ∷ []) ++ 58 ∷ encode_lower block.octets
 
--- the text of a slot; a slot that is Bad has none
+-- the text of a slot; a `Bad` slot has none
 abbrev pub slot_text : Slot → List ℕ
 slot_text (Good block) = block_text block
 slot_text Bad = []
@@ -25,7 +25,7 @@ abbrev pub packet_values : Packet → List (List ℕ)
 packet_values (Confirmed packet) = encode_lower packet.head.0 ∷ list_text slot_text packet.slots ∷ []
 packet_values (Plain packet) = encode_lower packet.head.0 ∷ octets_text packet.octets ∷ []
 
--- the kind of the line of a packet (PDU): that of a packet that is not confirmed is told by the format
+-- the type of the line of a packet (PDU); for an unconfirmed packet the format determines it
 abbrev pub packet_kind : Packet → UnitKind
 packet_kind (Confirmed packet) = ConfirmedKind
 packet_kind (Plain packet) = if head_format packet.head == response_format then ResponseKind else PlainKind
@@ -37,15 +37,15 @@ abbrev pub block_from : Option (List ℕ) → Option (List ℕ) → Option Block
 block_from (Some (serial ∷ [])) (Some octets) = if nat_lt serial 128 then Some (record { serial = serial; octets = octets }) else None
 block_from serial octets = None
 
--- the block that a text of 35 octets is read as: two digits, a colon and 32 digits
+-- the block that a text of 35 octets decodes to: two digits, a colon and 32 digits
 abbrev pub block_in : List ℕ → Option Block
 block_in text = if (length text == 35) && (slice_index text 2 == 58) then block_from (octets_in 1 (take 2 text)) (octets_in 16 (drop 3 text)) else None
 
--- the slot of the block that a text is read as
+-- the slot of the block that a text decodes to
 abbrev pub slot_in : List ℕ → Option Slot
 slot_in text = option_map Good (block_in text)
 
--- the header of a packet (PDU) that a word of 20 digits is read as
+-- the header of a packet (PDU) that a word of 20 digits decodes to
 abbrev pub head_in : List ℕ → Option PacketHead
 head_in word = option_map (λ octets. record { 0 = octets }) (octets_in 10 word)
 
@@ -53,7 +53,7 @@ head_in word = option_map (λ octets. record { 0 = octets }) (octets_in 10 word)
 abbrev pub confirmed_of : PacketHead → List Slot → Packet
 confirmed_of head slots = Confirmed (record { head = head; slots = slots })
 
--- the confirmed packet (PDU) of a header of format 16 hex, where a word is read as so many slots as there are blocks to follow
+-- the confirmed packet (PDU) of a header of format 16 hex, if a word decodes to as many slots as there are blocks to follow
 abbrev pub confirmed_from : List ℕ → PacketHead → Option Packet
 confirmed_from word head =
     if head_format head == confirmed_format then option_map (confirmed_of head) (counted (head_blocks head) (list_in slot_in word)) else None
@@ -66,8 +66,8 @@ confirmed_in head blocks = option_and_then (confirmed_from blocks) (head_in head
 abbrev pub plain_of : PacketHead → List ℕ → Packet
 plain_of head octets = Plain (record { head = head; octets = octets })
 
--- the packet (PDU) of a header of a format, where a word is read as twelve octets for each block to follow less four, or as none
--- where there is no block to follow
+-- the packet (PDU) of a header of a format, if a word decodes to twelve octets for each block to follow less four, or to none if there is no block to
+-- follow
 abbrev pub plain_from : ℕ → List ℕ → PacketHead → Option Packet
 plain_from format word head = if head_format head == format then option_map (plain_of head) (octets_or_none (12 * head_blocks head - 4) word) else None
 

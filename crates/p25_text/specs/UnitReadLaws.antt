@@ -1,4 +1,4 @@
--- No words of a unit line are refused as a line that is too long. By the steps in which they are read.
+-- No words of a unit line are refused as a line that is too long. By the steps of reading them.
 use Rattle.std.specs.Prelude.{◌≡◌, ◌≢◌, ℕ, List, [], ◌∷◌, ok_or, Err}
 use Rattle.p25_line.specs.declared.fault.LineFault.TheVariants.{Key, Long, Value}
 use Rattle.p25_line.proofs.LineReadLaws.{found-not_long, named-not_long, or-not_long}

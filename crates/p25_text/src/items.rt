@@ -9,7 +9,7 @@ use p25_line::Line;
 use p25_status::{put_field_name, put_field_names};
 use p25_units::{FieldList, Frame, Item, Statuses, frame_length};
 
-/// Sets `out` to the text of an item, without the end of its line.
+/// Writes to `out` the text of an item, without the end of its line.
 #[tactic(auto, unfolding(crate::specs::ItemTexts::item_text_of))]
 pub fn item_text(item: &Item, out: &mut Line)
     requires { IsSoundItem item.now }
@@ -46,7 +46,7 @@ pub fn item_text(item: &Item, out: &mut Line)
     }
 }
 
-// Appends the text of a whole unit to an empty line.
+// Appends the text of a whole data unit to an empty line.
 fn put_whole(place: u64, frame: &Frame, fixes: u32, out: &mut Line)
     requires { out.old ≡ [] }
     ensures text { out.new ≡ item_text_of (Item.Whole place frame.now fixes) }
@@ -61,7 +61,8 @@ fn put_whole(place: u64, frame: &Frame, fixes: u32, out: &mut Line)
     put_unit(&frame.unit, out);
 }
 
-// Appends the text of a broken unit with its network access code (NAC) and data unit identifier (DUID) to an empty line.
+// Appends the text of a broken data unit with its network access code (NAC) and data unit identifier (DUID) to an empty
+// line.
 #[tactic(auto, unfolding(crate::specs::ItemTexts::item_text_of))]
 fn put_broken(place: u64, count: u32, identifier: (u16, u8), fields: &FieldList, out: &mut Line)
     requires { out.old ≡ [] }

@@ -5,8 +5,8 @@ ghost use Rattle.p25_calls.specs.{declared.call.Call.{Call as call_type}, CallTe
 ghost use Rattle.p25_units.specs.{UnitParts.{UnitParts}, declared.item.Item.{Item as item_type}};
 ghost use Rattle.p25_text.specs.{Grammar.{text_of}, ItemTexts.{item_text_of}};
 
-/// **Theorem.** Each octet of the text of a unit, of an item and of a call is below 128, whatever the unit, the item and the call
-/// are. So these texts are always UTF-8.
+/// **Theorem.** Each octet of the text of a data unit, of an item and of a call is below 128, whatever these are. So
+/// these texts are always UTF-8.
 pub fn texts_are_ascii()
     ensures units { (unit : UnitParts) → IsAscii (text_of unit) }
     ensures items { (item : item_type) → IsAscii (item_text_of item) }

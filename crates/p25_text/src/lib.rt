@@ -1,11 +1,11 @@
-//! The texts of units, items and calls, and units read from lines.
+//! The texts of data units, items and calls, and data units read from lines.
 //!
-//! A unit line is words with single spaces between them: the kind of the unit (HDU, LDU1, LDU2, TDU, TDULC, or one of the three
-//! of a packet, PDU), and then each key of that kind with `=` and its value, in one order: `nac` network access code (NAC), `lc`
-//! link control (LC), `lsd` low speed data (LSD), and `mi`, `algid` and `kid` of encryption sync (ES). Digits are hexadecimal in
-//! lower case, two for each octet.
+//! A unit line is words with single spaces between them: the type of the data unit (HDU, LDU1, LDU2, TDU, TDULC, or one
+//! of the three of a packet, PDU), and then each key of that type with `=` and its value, in one order. The keys
+//! include `nac` for the network access code (NAC), `lc` for link control (LC), `lsd` for low speed data (LSD), and
+//! `mi`, `algid` and `kid` of encryption sync (ES). Digits are hexadecimal in lower case, two for each octet.
 //!
-//! | kind | keys, each with how many digits its value has |
+//! | type | keys, each with the number of digits of its value |
 //! |---|---|
 //! | `hdu` | `nac` 3, `mi` 18, `mfid` 2, `algid` 2, `kid` 4, `tgid` 4 |
 //! | `ldu1` | `nac` 3, `lc` 18, `lsd` 4, `voice` 324 |
@@ -13,13 +13,13 @@
 //! | `tdu` | `nac` 3 |
 //! | `tdulc` | `nac` 3, `lc` 18 |
 //! | `confirmed` | `nac` 3, `head` 20, `blocks` a list |
-//! | `plain`, `response` | `nac` 3, `head` 20, `octets` as many as the header asks for |
+//! | `plain`, `response` | `nac` 3, `head` 20, `octets` as many as the header requires |
 //!
-//! The blocks of a confirmed packet have commas between them, and each is its serial number, two digits that are at most
-//! `7f`, a colon and 32 digits. `-` stands for no blocks and for no octets. `text_of unit` is the line of a unit,
-//! `read_line_of line` what a line is read as, and each undoes the other. An item's text tells the place of the item, in bits
-//! from the beginning of the stream, and what stands there: `item_text_of item`. The text of a call is `call_text_of call`. A
-//! `Line` is seen as the list of its octets, first to last.
+//! The blocks of a confirmed packet have commas between them. Each is its serial number, two digits that are at most
+//! `7f`, a colon and 32 digits. `-` represents no blocks and no octets. `text_of unit` is the line of a data unit and
+//! `read_line_of line` the decoding of a line, and each inverts the other. An item's text, `item_text_of item`, has the
+//! position of the item, in bits from the beginning of the stream, and its contents. The text of a call is
+//! `call_text_of call`. Contracts see a `Line` as the list of its octets, first to last.
 //!
 //! ```text
 //! let line = "tdulc nac=293 lc=000000000001000001";
@@ -29,8 +29,8 @@
 //! assert_eq!(rt; out.to_string(rt.alloc())?.as_str(), line);
 //! ```
 //!
-//! `UnitText`, `ItemText` and `CallText` are a unit, an item and a call whose `{}` writes these texts, and `UnitLine` is a unit that
-//! `parse` reads as `read_line` does.
+//! `UnitText`, `ItemText` and `CallText` are a data unit, an item and a call whose `{}` writes these texts. `UnitLine`
+//! is a data unit that `parse` decodes as `read_line` does.
 #![tactic(auto)]
 
 mod items;

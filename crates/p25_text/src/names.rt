@@ -1,9 +1,9 @@
-//! The kinds of unit lines, and their keys.
+//! The types of unit lines, and their keys.
 
 ghost use Rattle.std.specs.Prelude.{◌≡◌, ◌<◌, ◌≤◌, length};
 ghost use Rattle.p25_text.specs.Names.{key_text, keys_of, kind_named, kind_word};
 
-/// A kind of unit line.
+/// A type of unit line.
 #[derive(Clone, Copy)]
 pub enum UnitKind {
     /// A header data unit (HDU).
@@ -18,7 +18,7 @@ pub enum UnitKind {
     Tdulc,
     /// A packet (PDU) whose blocks are confirmed one by one.
     Confirmed,
-    /// A packet (PDU) that is not confirmed.
+    /// An unconfirmed packet (PDU).
     Plain,
     /// A response to a packet (PDU).
     Response,
@@ -53,7 +53,7 @@ pub enum UnitKey {
     Octets,
 }
 
-// All kinds.
+// All types.
 const KINDS: [UnitKind; 8] = [
     UnitKind::Hdu,
     UnitKind::Ldu1,
@@ -66,14 +66,14 @@ const KINDS: [UnitKind; 8] = [
 ];
 
 impl UnitKind {
-    /// Answers the kind that a word names. `None` comes exactly where it names none.
+    /// Returns the type that a word names. `None` is returned if and only if it names none.
     pub fn named(word: &[u8]) -> Option<UnitKind>
         ensures { result ≡ kind_named word.now }
     {
         KINDS.iter().copied().find(|kind| word == kind.word())
     }
 
-    /// Answers the word that begins a line of this kind.
+    /// Returns the word that begins a line of this type.
     pub fn word(self) -> &'static [u8]
         ensures text { result.now ≡ kind_word self }
         ensures short { length result.now ≤ 9 }
@@ -90,7 +90,7 @@ impl UnitKind {
         }
     }
 
-    /// Answers the keys of this kind, in their order.
+    /// Returns the keys of this type, in their order.
     pub fn keys(self) -> &'static [UnitKey]
         ensures keys { result.now ≡ keys_of self }
         ensures few { length result.now ≤ 6 }
@@ -124,7 +124,7 @@ impl UnitKind {
 }
 
 impl UnitKey {
-    /// Answers the key as it stands before its value.
+    /// Returns the key as it is before its value.
     pub fn text(self) -> &'static [u8]
         ensures text { result.now ≡ key_text self }
         ensures short { length result.now ≤ 7 }

@@ -33,7 +33,7 @@ pub fn put_packet(nac: u16, packet: &Packet, out: &mut Line)
     }
 }
 
-// The kind of the line of a packet (PDU) that is not confirmed.
+// Returns the type of the line of an unconfirmed packet (PDU).
 fn plain_kind(packet: &Plain) -> UnitKind
     ensures kind { result ≡ packet_kind (Packet.Plain packet.now) }
     ensures three { length (keys_of result) ≡ 3 }
@@ -45,7 +45,7 @@ fn plain_kind(packet: &Plain) -> UnitKind
     }
 }
 
-// Appends slots with commas between them, or `-` where there are none.
+// Appends slots with commas between them, or `-` if there are none.
 fn put_slots(slots: &Slots, out: &mut Line)
     requires { length out.old + 4572 ≤ 8192 }
     ensures text { out.new ≡ out.old ++ list_text slot_text slots.now }
@@ -63,7 +63,7 @@ fn put_slots(slots: &Slots, out: &mut Line)
     }
 }
 
-// Appends the text of a slot: the serial number of its block, a colon and the octets. One that is Bad has none.
+// Appends the text of a slot: the serial number of its block, a colon and the octets. A `Bad` slot has none.
 fn put_slot(slot: Slot, out: &mut Line)
     requires { length out.old + 35 ≤ 8192 }
     ensures text { out.new ≡ out.old ++ slot_text slot }

@@ -11,8 +11,8 @@ use p25_packet_blocks::{
     Block, CONFIRMED_FORMAT, Confirmed, Octets, Packet, PacketHead, Plain, Slot, Slots,
 };
 
-/// Answers the confirmed packet (PDU) of a header and of its blocks. `None` comes exactly where a value is not of its form, the
-/// format is not 16 hex, or there are not as many blocks as the header has to follow.
+/// Returns the confirmed packet (PDU) of a header and of its blocks. `None` is returned if and only if a value does not
+/// have its form, the format is not 16 hex, or there are not as many blocks as the header has to follow.
 pub fn confirmed_value(head: &[u8], blocks: &[u8]) -> Option<Packet>
     ensures { result ≡ confirmed_in head.now blocks.now }
 {
@@ -24,9 +24,9 @@ pub fn confirmed_value(head: &[u8], blocks: &[u8]) -> Option<Packet>
     Some(Packet::Confirmed(Confirmed::new(head, slots)))
 }
 
-/// Answers the packet (PDU) of a header of a format, 15 or 03 hex, and of its octets before the packet CRC. `None` comes exactly
-/// where a value is not of its form, the format is another, or there are not twelve octets for each block to follow less
-/// four, or none where there is no block to follow.
+/// Returns the packet (PDU) of a header of a format, 15 or 03 hex, and of its octets before the packet CRC. `None` is
+/// returned if and only if a value does not have its form, the format is another, or the number of octets is wrong. The
+/// right number is twelve for each block to follow less four, or none if there is no block to follow.
 pub fn plain_value(format: u8, head: &[u8], octets: &[u8]) -> Option<Packet>
     requires { IsPlainFormat format }
     ensures { result ≡ plain_in format head.now octets.now }
@@ -40,7 +40,7 @@ pub fn plain_value(format: u8, head: &[u8], octets: &[u8]) -> Option<Packet>
     Some(Packet::Plain(Plain::new(head, octets)))
 }
 
-// The octets that a word is read as, where they are so many. `-` stands for none.
+// Returns the octets that a word decodes to, if there are `count` of them. `-` represents none.
 fn octets_or_none_value(word: &[u8], count: usize) -> Option<Octets>
     requires { count ≤ 1520 }
     ensures value { result ≡ octets_or_none count word.now }
@@ -55,7 +55,7 @@ fn octets_or_none_value(word: &[u8], count: usize) -> Option<Octets>
     Some(octets)
 }
 
-// The slots that a word is read as, where there are so many.
+// Returns the slots that a word decodes to, if there are `count` of them.
 fn slots_value(word: &[u8], count: usize) -> Option<Slots>
     requires { count ≤ 127 }
     ensures value { result ≡ counted count (list_in slot_in word.now) }
@@ -74,14 +74,14 @@ fn slots_value(word: &[u8], count: usize) -> Option<Slots>
         slots.push(Slot::Good(block_value(part)?));
         start += part.len() + 1;
     }
-    // After the last part stands the end, and no comma.
+    // The end follows the last part, and no comma.
     if start <= word.len() {
         return None;
     }
     Some(slots)
 }
 
-// The block that a text is read as.
+// Returns the block that a text decodes to.
 fn block_value(text: &[u8]) -> Option<Block>
     ensures { result ≡ block_in text.now }
 {

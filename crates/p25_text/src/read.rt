@@ -13,12 +13,16 @@ use p25_line::{LineFault, LineReader, LineWords, read_whole};
 use p25_packet_blocks::{PLAIN_FORMAT, RESPONSE_FORMAT};
 use p25_units::{Body, Unit, VoiceUnit};
 
-/// Answers the unit whose text a line is. Each line that is accepted is the text of its unit, and the text of each unit of
-/// which nothing fails is accepted. The first of these causes that applies is answered: Long, above 8,192 octets; Form, not
-/// one or more words of octets 21 to 7E hex with single spaces between them; Kind, the first word names no kind; Key, there
-/// are not as many further words as keys, or one does not begin with its key and `=`; Value, a value is not of its form, the
-/// format in a packet's header is not that of the kind (16 hex for `confirmed`, 15 hex for `plain`, 03 hex for `response`),
-/// or there are not as many blocks as the header has to follow, or not twelve octets for each of them less four.
+/// Returns the data unit whose text a line is. Each line that is accepted is the text of its data unit, and the text of
+/// each data unit without a failing field is accepted. The error is the first of these reasons that applies:
+///
+/// - `Long`: the line has more than 8,192 octets.
+/// - `Form`: it is not one or more words of octets 21 to 7E hex with single spaces between them.
+/// - `Kind`: the first word names no type.
+/// - `Key`: there are not as many further words as keys, or one does not begin with its key and `=`.
+/// - `Value`: a value does not have its form, or the format in a packet's header is not that of the type (16 hex for
+///   `confirmed`, 15 hex for `plain`, 03 hex for `response`), or there are not as many blocks as the header has to
+///   follow, or not twelve octets for each of them less four.
 pub fn read_line(line: &[u8]) -> Result<Unit, LineFault>
     ensures unit { result ≡ read_line_of line.now }
     ensures long { (result ≡ Err Long) ↔ (8192 < length line.now) }
@@ -29,7 +33,7 @@ pub fn read_line(line: &[u8]) -> Result<Unit, LineFault>
     read_whole::<UnitLines>(line)
 }
 
-// Lines that are texts of units.
+// Lines that are texts of data units.
 struct UnitLines;
 
 impl LineReader for UnitLines {
@@ -59,7 +63,7 @@ impl LineReader for UnitLines {
     }
 }
 
-// The unit of the values of a kind. None where a value is not of its form.
+// Returns the data unit of the values of a type, or `None` if a value does not have its form.
 fn read_values(kind: UnitKind, values: &Values) -> Option<Unit>
     requires { length values.now ≡ length (keys_of kind) }
     ensures { result ≡ unit_in kind values.now }
@@ -69,7 +73,7 @@ fn read_values(kind: UnitKind, values: &Values) -> Option<Unit>
     Some(Unit::new(nac, body))
 }
 
-// What a unit of a kind carries, by the values after the network access code (NAC).
+// Returns the body of a data unit of a type, by the values after the network access code (NAC).
 fn read_body(kind: UnitKind, values: &Values) -> Option<Body>
     requires { length values.now ≡ length (keys_of kind) }
     ensures { result ≡ body_in kind (drop 1 values.now) }

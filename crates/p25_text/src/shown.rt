@@ -1,5 +1,5 @@
-//! Units, items and calls as `{}` shows them, and units as `parse` reads them. A trait of the kit can be implemented
-//! for types of this crate alone, so each has a newtype here.
+//! Data units, items and calls as `{}` writes them, and data units as `parse` reads them. A trait of the kit can be
+//! implemented for types of this crate alone, so each has a newtype here.
 
 ghost use Rattle.std.specs.Prelude.{◌≡◌, ◌<◌, Some, Ok, Err, MatchResult};
 ghost use Rattle.p25_text.specs.{Grammar.{read_line_of, text_of}, ItemTexts.{item_text_of}};
@@ -16,7 +16,7 @@ use std::fmt;
 use std::marker::Model;
 use std::str::FromStr;
 
-/// A unit as its line, which `{}` writes.
+/// A data unit as its line, which `{}` writes.
 #[derive(Clone, Copy)]
 pub struct UnitText<'a>(pub &'a Unit);
 
@@ -30,7 +30,7 @@ impl fmt::Display for UnitText<'_> {
     }
 }
 
-/// A unit that `parse` reads from its line, as `read_line` does, and that `{}` writes so.
+/// A data unit that `parse` reads from its line, as `read_line` does, and that `{}` writes so.
 #[derive(Drop)]
 pub struct UnitLine(pub Unit);
 
@@ -69,7 +69,7 @@ impl<'a> Model for ItemText<'a> {
 }
 
 impl<'a> ItemText<'a> {
-    /// Answers an item as its text.
+    /// Returns an item as its text.
     pub fn new(item: &'a Item) -> ItemText<'a>
         requires { IsSoundItem item.now }
         ensures { result ≡ item.now }
@@ -106,7 +106,7 @@ impl<'a> Model for CallText<'a> {
 }
 
 impl<'a> CallText<'a> {
-    /// Answers a call as its text. Its network access code (NAC) is below 4,096.
+    /// Returns a call as its text. It requires a network access code (NAC) below 4,096.
     pub fn new(call: &'a Call) -> CallText<'a>
         requires { call.now.nac < 4096 }
         ensures { result ≡ call.now }

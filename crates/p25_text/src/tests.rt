@@ -1,4 +1,5 @@
-//! Lines of units that are read, written and refused, and the texts of items and of calls, written by hand by their grammar.
+//! Lines of data units that are read, written and refused, and the texts of items and of calls, written by hand by
+//! their grammar.
 
 mod calls;
 mod fields;
@@ -8,7 +9,7 @@ mod refusals;
 
 use super::Line;
 
-// The text of parts, each so many times.
+// The text of parts, each a number of times.
 fn repeated(parts: &[(&[u8], usize)]) -> Line {
     let mut line = Line::new();
     for (part, count) in parts {
@@ -17,7 +18,7 @@ fn repeated(parts: &[(&[u8], usize)]) -> Line {
     line
 }
 
-// Appends a part so many times, as far as there is room.
+// Appends a part a number of times, as far as there is capacity.
 fn put_times(part: &[u8], count: usize, line: &mut Line) {
     for _time in 0..count {
         if part.len() <= 64 && line.len() <= 8_128 {

@@ -26,7 +26,7 @@ impl<'a> Model for Values<'a> {
 }
 
 impl<'a> Values<'a> {
-    /// Answers value `i`, counted from 0 and below the number of them.
+    /// Returns value `i`, counted from 0. It requires `i` below their number.
     pub fn get(&self, i: usize) -> &'a [u8]
         requires { i < length self.now }
         ensures { slice_get self.now i ≡ Some result.now }
@@ -35,8 +35,8 @@ impl<'a> Values<'a> {
     }
 }
 
-/// Answers the values after keys in the words of a line but the first. `None` comes exactly where some word does not begin
-/// with its key.
+/// Returns the values after keys in the words of a line but the first. `None` is returned if and only if some word does
+/// not begin with its key.
 pub fn values_of_words<'a>(words: &LineWords<'a>, keys: &[UnitKey]) -> Option<Values<'a>>
     requires count { length words.now ≡ length keys.now + 1 }
     requires few { length keys.now ≤ 6 }
@@ -49,14 +49,14 @@ pub fn values_of_words<'a>(words: &LineWords<'a>, keys: &[UnitKey]) -> Option<Va
     Some(Values { values })
 }
 
-// What stands after a key in a word, where the word begins with it.
+// Returns the part of a word after a key, if the word begins with it.
 fn value_after(word: &[u8], key: UnitKey) -> Option<&[u8]>
     ensures { option_map (λ value. value.now) result ≡ behind (key_text key) word.now }
 {
     word.strip_prefix(key.text())
 }
 
-/// Answers the network access code (NAC) that a word is. `None` comes exactly where the word is not three digits.
+/// Returns the network access code (NAC) of a word. `None` is returned if and only if the word is not three digits.
 pub fn nac_value(word: &[u8]) -> Option<u16>
     ensures value { result ≡ nac_in word.now }
     ensures fits { IfSome result (λ nac. nac < 4096) }
@@ -68,7 +68,7 @@ pub fn nac_value(word: &[u8]) -> Option<u16>
     Some(u16::from_be_bytes(octets))
 }
 
-/// Answers the octets that a word is, two digits each. `None` comes exactly where it is not the text of `N` octets.
+/// Returns the octets of a word, two digits each. `None` is returned if and only if it is not the text of `N` octets.
 pub fn octets_value<const N: usize>(word: &[u8]) -> Option<[u8; N]>
     ensures value { result ≡ octets_in N word.now }
     ensures len { IfSome result (λ octets. length octets ≡ N) }

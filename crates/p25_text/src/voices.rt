@@ -1,4 +1,4 @@
-//! The lines of voice units (HDU, LDU1, LDU2, TDU and TDULC): written, and their values read from words.
+//! The lines of voice data units (HDU, LDU1, LDU2, TDU and TDULC): written, and their values read from words.
 
 ghost use Rattle.std.specs.Prelude.{◌≡◌, ◌+◌, ◌*◌, ◌≤◌, ◌++◌, length, take, drop};
 ghost use Rattle.hex.specs.Hex.{encode_lower};
@@ -12,7 +12,7 @@ use p25_link::{EncryptionSync, HeaderWord, LinkControl};
 use p25_units::Body;
 use p25_voice_units::{Voice, VoiceFrame, VoiceUnit};
 
-/// Appends the line of a voice unit.
+/// Appends the line of a voice data unit.
 pub fn put_voice(nac: u16, unit: &VoiceUnit, out: &mut Line)
     requires { length out.old + 4700 ≤ 8192 }
     ensures text { out.new ≡ out.old ++ text_of (record { nac = nac; body = Body.Voice unit.now }) }
@@ -63,7 +63,7 @@ fn put_frames(voice: &Voice, out: &mut Line)
     }
 }
 
-/// Answers the header (HDU) of the values of a line. `None` comes exactly where a value is not of its form.
+/// Returns the header (HDU) of the values of a line. `None` is returned if and only if a value does not have its form.
 pub fn hdu_value(values: &Values) -> Option<VoiceUnit>
     requires { length values.now ≡ 6 }
     ensures { result ≡ voice_in Hdu (drop 1 values.now) }
@@ -82,7 +82,8 @@ pub fn hdu_value(values: &Values) -> Option<VoiceUnit>
     }))
 }
 
-/// Answers the LDU1, voice with link control, of the values of a line. `None` comes exactly where a value is not of its form.
+/// Returns the LDU1, voice with link control, of the values of a line. `None` is returned if and only if a value does
+/// not have its form.
 pub fn ldu1_value(values: &Values) -> Option<VoiceUnit>
     requires { length values.now ≡ 4 }
     ensures { result ≡ voice_in Ldu1 (drop 1 values.now) }
@@ -97,7 +98,8 @@ pub fn ldu1_value(values: &Values) -> Option<VoiceUnit>
     })
 }
 
-/// Answers the LDU2, voice with encryption sync, of the values of a line. `None` comes exactly where a value is not of its form.
+/// Returns the LDU2, voice with encryption sync, of the values of a line. `None` is returned if and only if a value
+/// does not have its form.
 pub fn ldu2_value(values: &Values) -> Option<VoiceUnit>
     requires { length values.now ≡ 6 }
     ensures { result ≡ voice_in Ldu2 (drop 1 values.now) }
@@ -118,7 +120,8 @@ pub fn ldu2_value(values: &Values) -> Option<VoiceUnit>
     })
 }
 
-/// Answers the TDULC, a terminator with link control, of the values of a line. `None` comes exactly where a value is not of its form.
+/// Returns the TDULC, a terminator with link control, of the values of a line. `None` is returned if and only if a
+/// value does not have its form.
 pub fn tdulc_value(values: &Values) -> Option<VoiceUnit>
     requires { length values.now ≡ 2 }
     ensures { result ≡ voice_in Tdulc (drop 1 values.now) }
@@ -129,7 +132,7 @@ pub fn tdulc_value(values: &Values) -> Option<VoiceUnit>
     })
 }
 
-// The nine voice frames of an LDU1 or an LDU2, of their octets.
+// Returns the nine voice frames of an LDU1 or an LDU2, of their octets.
 fn frames(octets: &[u8; 162]) -> Voice
     requires { length octets.now ≡ 162 }
     ensures { result ≡ frames_of 9 octets.now }
@@ -147,7 +150,7 @@ fn frames(octets: &[u8; 162]) -> Voice
     ])
 }
 
-// Voice frame `i` of octets.
+// Returns voice frame `i` of octets.
 fn frame(octets: &[u8], i: usize) -> VoiceFrame
     requires { 18 * i + 18 ≤ length octets.now }
     ensures { result ≡ record { 0 = take 18 (drop (18 * i) octets.now) } }

@@ -1,5 +1,5 @@
--- What `build` writes: the bits are those of the units of its lines, by induction on the units, and so a recording of undamaged units;
--- what lines are read as, by induction on the lines and cases on the first.
+-- The output of `build`: its bits are those of the data units of its lines, by induction on the data units, so it is a recording of undamaged data
+-- units. The decodings of lines are by induction on the lines and cases on the first.
 use Rattle.std.proofs.Common.{◌≡◌, ℕ, ◌+◌, ◌/◌, Bool, true, List, [], ◌∷◌, ◌++◌, length, map, take, Option, Some, Result, Ok, Err, refl, subst, ap, ap₂, sym, ◌∙◌, append-nil, arith, false, None}
 use Rattle.std.proofs.{lemmas.List.{length-replicate}, lemmas.List.Elements.{All-cons, All-head, All-map, All-nil, All-tail, All-weaker}, lemmas.List.Folds.{flat_map-map}}
 use Rattle.std.specs.{Prelude.{All}, List.{flat_map}}

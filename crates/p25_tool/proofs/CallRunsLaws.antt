@@ -1,4 +1,5 @@
--- What a call leaves, by its events and by what is told of the octets that they read and wrote; and so between a source and a sink that went through them.
+-- The state after a call, by its events and by the exposed octets that they read and wrote; and so between a source and a sink that went through
+-- them.
 use Rattle.std.proofs.Common.{◌≡◌, ℕ, ◌≤◌, false, List, [], ◌∷◌, ◌++◌, length, Option, Some, None, refl, ap, sym, subst, ◌∙◌, ◌⊎◌, ◌↔◌}
 use Rattle.std.specs.Prelude.{IfSome}
 use Rattle.p25_io.specs.{Events.{Event, Read, ReadFailed, Wrote, WriteFailed}, Faults.{Rose}, Pairs.{SinkGoes, SourceGoes}}

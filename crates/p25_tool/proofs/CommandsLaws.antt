@@ -1,4 +1,4 @@
--- What the work of each command that reads a recording writes from the first octet on is what the command is defined to write.
+-- The output of the work of each command that reads a recording, from the first octet on, is its output by definition.
 use Rattle.std.proofs.Common.{◌≡◌, ℕ, ◌+◌, Bool, true, false, cond, List, [], ◌++◌, Some, refl, ap, ap₂, ◌∙◌, arith}
 use Rattle.std.specs.List.{flat_map}
 use Rattle.p25_bits.specs.Bits.{octet_bits}

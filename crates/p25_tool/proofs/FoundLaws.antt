@@ -1,5 +1,5 @@
--- A unit within radius among any bits: the items before it and after it are written before its own and after it. `repair` keeps the
--- number of bits of each item, so the image of the unit stands at its place.
+-- A data unit within the correction radius among any bits: the items before it and after it are written before its own and after it. `repair` keeps
+-- the number of bits of each item, so the image of the data unit is at its position.
 use Rattle.std.proofs.Common.{◌≡◌, ℕ, ◌+◌, ◌/◌, ◌%◌, ◌⊎◌, inl, inr, Bool, true, List, ◌++◌, length, ◌∙◌, arith}
 use Rattle.std.proofs.lemmas.Grind.{flat_map-append}
 use Rattle.std.specs.List.{flat_map, sum_by}

@@ -1,5 +1,5 @@
--- Recordings of units within radius: their items are known, so each command writes what it writes of whole units, by induction on the
--- list of units. Images have 72 bits for each status symbol, so they fill whole octets.
+-- Recordings of data units within the correction radius: their items are known, so each command writes its output for whole data units, by induction
+-- on the list of data units. Images have 72 bits for each status symbol, so they fill whole octets.
 use Rattle.std.proofs.Common.{◌≡◌, ℕ, ◌+◌, ◌*◌, ◌/◌, ◌%◌, ◌<◌, Bool, true, false, List, [], ◌∷◌, ◌++◌, length, map, take, drop, replicate, refl, ap, ap₂, sym, subst, ◌∙◌, arith, append-nil, length-append}
 use Rattle.std.proofs.{lemmas.List.{drop-append-le, drop_all, length-replicate, take-append-le, take_all}, lemmas.List.Elements.{All-head, All-map, All-tail, All-weaker}}
 use Rattle.std.proofs.lemmas.List.Folds.{flat_map-map}

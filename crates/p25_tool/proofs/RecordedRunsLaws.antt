@@ -1,4 +1,4 @@
--- A recording of units within radius: a command that works on units ends as Done, and wrote what its law of recordings says.
+-- A recording of data units within the correction radius: a command that works on data units ends as Done, with the output of its law of recordings.
 use Rattle.std.proofs.Common.{◌≡◌, ℕ, ◌<◌, ◌≤◌, Bool, true, false, cond, nat_eq, List, [], ◌∷◌, length, codes, Option, Some, None, ◌⊎◌, inl, inr, refl, ap, sym, subst, ◌∙◌, arith}
 use Rattle.std.specs.{Prelude.{All, IfSome, option_map}, Str.{bytes_eq}}
 use Rattle.p25_status.specs.declared.symbols.Status.{Status}

@@ -1,5 +1,5 @@
--- What the work on lines writes from the first octet on is what the command is defined to write: the texts of what its steps tell,
--- and what closes them. By recursion on the lines.
+-- The output of the work on lines, from the first octet on, is its output by definition: the texts of its steps, and the text that closes them. By
+-- recursion on the lines.
 use Rattle.std.proofs.Common.{◌≡◌, ℕ, ◌+◌, cond, List, [], ◌∷◌, ◌++◌, map, Option, Some, Result, Ok, Err, refl, ap, ap₂, ◌∙◌}
 use Rattle.std.specs.{List.{concat, flat_map}, Result.{result_map_both}}
 use Rattle.p25_line.specs.declared.fault.LineFault.{LineFault}

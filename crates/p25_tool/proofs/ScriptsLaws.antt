@@ -1,5 +1,5 @@
--- A script whose lines are all read: they are read as its events and none is refused, by induction on the lines; and what stands
--- when its run is done. For any machine that reads each line by itself.
+-- A script whose lines are all read: they decode to its events and none is refused, by induction on the lines; and the state when its run is done.
+-- For any machine that reads each line by itself.
 use Rattle.std.proofs.Common.{◌≡◌, ℕ, ◌+◌, ◌≤◌, Bool, true, false, nat_lt, List, [], ◌∷◌, ◌++◌, length, map, take, Option, Some, None, Result, Ok, Err, ◌⊎◌, inl, inr, refl, ap, ap₂, sym, ◌∙◌, arith}
 use Rattle.std.proofs.{lemmas.List.{take_all}, lemmas.Bool.Decides.{nat_tests}, lemmas.Bool.{cond-false}}
 use Rattle.std.specs.{Prelude.{IfSome}, List.{flat_map}}

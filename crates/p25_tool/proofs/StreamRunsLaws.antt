@@ -1,4 +1,4 @@
--- What a call comes to on streams, as far as the reader and the writer tell what they hold, by the events that were made on them.
+-- The consequences of a call on streams, as far as the reader and the writer expose their octets, by the events that were made on them.
 use Rattle.std.proofs.Common.{◌≡◌, ℕ, true, List, [], ◌∷◌, ◌++◌, Option, Some, None, refl, ap, sym, subst, ◌∙◌, append-nil}
 use Rattle.std.specs.{Prelude.{IfSome}, Io.KnownBytes.{Appends, Consumes}}
 use Rattle.p25_io.specs.{Events.{Event, Read, ReadFailed, Wrote, WriteFailed, octets_read, octets_written}, Streams.{StreamsGo, known, reader_in, writer_in}, declared.streams.Streams.{Streams}}

@@ -1,4 +1,4 @@
--- What `follow` and `relay` write of any recording: their definitions over bits, which keep the number of bits, so that they fill the octets.
+-- The output of `follow` and `relay` for any recording: their definitions over bits, which keep the number of bits, so that they fill the octets.
 use Rattle.std.proofs.Common.{◌≡◌, ℕ, ◌/◌, Bool, true, List, [], length, None, refl, ◌∙◌, arith}
 use Rattle.p25_bits.specs.Bits.{octet_bits}
 use Rattle.p25_bits.proofs.{BitsLaws.{length-octet_bits}, NumbersLaws.{length-numbers_from}}

@@ -1,4 +1,4 @@
--- The number that a word is, and the status symbol of one of its digits.
+-- The number of a word, and the status symbol of one of its digits.
 use Rattle.std.proofs.Common.{◌≡◌, ◌≢◌, ℕ, ◌+◌, ◌<◌, ◌≤◌, List, Option, Some, None, refl, ap, sym, subst, ◌∙◌, arith, false, true}
 use Rattle.std.specs.Prelude.{IfSome, IsSome, MatchOption, decimal, option_map, ◌↔◌}
 use Rattle.p25_status.specs.{Status.{same_status, status_modulo, status_number}, declared.symbols.Status.{Status}}

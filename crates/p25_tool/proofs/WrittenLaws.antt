@@ -1,4 +1,4 @@
--- A call that came to the end of its input wrote the output of all of it: what ends a call before that is a line that is refused.
+-- A call that reached the end of its input wrote the output of all of it: an earlier end is at a line that is refused.
 use Rattle.std.proofs.{Common.{◌≡◌, ℕ, ◌+◌, ◌≤◌, Bool, true, false, List, [], ◌∷◌, length, take, Option, Some, None, Result, Ok, Err, refl, ap, sym, ◌∙◌, subst}, lemmas.List.{take_all}}
 use Rattle.std.specs.Prelude.{IfSome}
 use Rattle.p25_io.specs.Octets.{Appended}

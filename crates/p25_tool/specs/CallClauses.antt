@@ -1,4 +1,4 @@
--- What holds of each call.
+-- The laws of each call.
 use Rattle.std.specs.Prelude.{◌≡◌, ℕ, ◌≤◌, ◌↔◌, ◌⊎◌, List, [], length, Option, Some, None, IfSome}
 use Rattle.p25_stream.specs.Arrivals.{Arrival}
 use Rattle.p25_stations.specs.declared.step.Event.{Event}
@@ -10,16 +10,12 @@ use Rattle.p25_tool.specs.{declared.outcome.Outcome.{Outcome}, declared.outcome.
 use Rattle.p25_tool.specs.{Outputs.{CanWantMemory, command_future}, Recorded.{IsRecording}, RecordedRuns.{HasWrittenUnits, IsUnitCommand}}
 use Rattle.p25_tool.specs.{Runs.{Ran, answer_of}, Scripts.{HasDuplexRun, HasLongRun, HasRun, IsDuplexScriptOf, IsLongScriptOf, IsScriptOf}}
 
--- what holds of a call by the command that its words name, if they name one: what was told to be read and what is left, what stood
--- written first and what does last, whether a read or a write failed, whether what is read from and written to is as it was, and the
--- outcome.
--- `usage`, `untouched`: words that name no command, and these alone, are refused, and nothing is read or written.
--- `ran`: what was taken and written, and how it ended.
--- `unread`, `quiet`: `sample` reads nothing, and an input of which nothing is to be written leaves the sink as it was.
--- `complete`, `sampled`: the answer where nothing failed.
--- `stations`, `fragments`, `duplex`: what comes of a script whose lines are all read.
--- `recorded`: what comes of a recording of units within radius.
--- `read_fault`, `write_fault`, `memory`: why a call was given up
+-- the laws of a call by the command that its words name, if they name one: the octets exposed to be read and those left, the octets written first and
+-- last, whether a read or a write failed, whether the source and the sink are unchanged, and the outcome. `usage`, `untouched`: words that name no
+-- command, and only these, are refused, and nothing is read or written. `ran`: the octets taken and written, and the end. `unread`, `quiet`: `sample`
+-- reads nothing, and an input without output leaves the sink unchanged. `complete`, `sampled`: the result if nothing failed. `stations`, `fragments`,
+-- `duplex`: the consequences for a script whose lines are all read. `recorded`: the consequences for a recording of data units within the correction
+-- radius. `read_fault`, `write_fault`, `memory`: the reason why a call was given up
 pub record CallSays (named : Option Command) (told left first last : Option (List ℕ)) (read_failed write_failed source_kept sink_kept : Type 0)
     (outcome : Outcome) : Type 0 where
   pub usage : (outcome ≡ Usage) ↔ (named ≡ None)

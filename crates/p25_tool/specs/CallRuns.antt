@@ -1,4 +1,4 @@
--- What a call reads and writes, in which order, and how it ends.
+-- The reads and writes of a call, their order, and its end.
 use Rattle.std.specs.Prelude.{◌≡◌, ℕ, List, [], ◌∷◌, Option, Some, None}
 use Rattle.p25_io.specs.Events.{Event, Read, ReadFailed, Wrote, WriteFailed}
 use Rattle.p25_filter.specs.{Traces.{IsRun}, declared.ending.FilterEnd.{FilterEnd}}
@@ -20,7 +20,7 @@ pub record IsCommandRun (command : Command) (events : List Event) (outcome : Out
   pub run : IsRun (command_future command) events end
   pub unread : (count : ℕ) → command ≡ Sample count → AreWrites events
 
--- the events of a call, by the command that its words name: of words that name none there is no event
+-- the events of a call, by the command that its words name: if they name none there is no event
 abbrev pub IsCallRun : Option Command → List Event → Outcome → Type 0
 IsCallRun None events outcome = (events ≡ []) × (outcome ≡ Usage)
 IsCallRun (Some command) events outcome = IsCommandRun command events outcome

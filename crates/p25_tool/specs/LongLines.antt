@@ -3,7 +3,7 @@ use Rattle.std.specs.{Prelude.{◌≡◌, ℕ, ◌<◌, List, length, Err}, Resu
 use Rattle.std.proofs.Common.{ap}
 use Rattle.p25_line.specs.declared.fault.LineFault.TheVariants.{Long}
 use Rattle.p25_line.proofs.LineReadLaws.{line_read-long}
-use Rattle.p25_status.specs.declared.status.Status.{Status}
+use Rattle.p25_status.specs.declared.symbols.Status.{Status}
 use Rattle.p25_text.specs.Grammar.{read_line_of, read_words}
 use Rattle.p25_script.specs.{Script.{event_by_words}, LongScript.{long_event_by_words}, DuplexLines.{duplex_by_words}}
 use Rattle.p25_tool.specs.Machines.{ScriptState, StationsAt, LongAt, DuplexAt, build_rules, script_rules}

@@ -1,4 +1,4 @@
--- How a call ended: its line on standard error, and its status.
+-- The end of a call: its line on standard error, and its status.
 use Rattle.std.specs.Prelude.{ℕ, List, [], ◌++◌, codes, decimal}
 use Rattle.p25_line.specs.{declared.fault.LineFault.{LineFault}, declared.fault.LineFault.TheVariants.{Long, Form, Kind, Key, Value}}
 use Rattle.p25_filter.specs.{declared.ending.Ending.{Ending}, declared.ending.Ending.TheVariants.{Done as EndDone, Found as EndFound, BadLine as EndBadLine}}
@@ -26,7 +26,7 @@ line_of Memory = codes "out of memory"
 line_of TooLong = codes "input too long"
 line_of (Found faults) = codes "found " ++ decimal faults
 
--- the status with which the program ends
+-- the exit status of the program
 abbrev pub status_of : Outcome → ℕ
 status_of Done = 0
 status_of Usage = 1
@@ -37,13 +37,13 @@ status_of Memory = 5
 status_of TooLong = 6
 status_of (Found faults) = 7
 
--- the outcome of an input that ends the call so
+-- the outcome of an ending of an input
 abbrev pub ending_outcome : Ending → Outcome
 ending_outcome EndDone = Done
 ending_outcome (EndFound faults) = Found faults
 ending_outcome (EndBadLine line fault) = BadLine line fault
 
--- the outcome of work on an input that ended so
+-- the outcome of work on an input with this end
 abbrev pub filter_outcome : FilterEnd → Outcome
 filter_outcome (Ended ending) = ending_outcome ending
 filter_outcome ReadFailed = ReadFault

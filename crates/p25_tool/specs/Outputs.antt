@@ -1,4 +1,4 @@
--- What each command writes for its input, and how a call ends by its input.
+-- The output of each command for its input, and the end of a call by its input.
 use Rattle.std.specs.{Prelude.{ℕ, Bool, true, false, if◌then◌else◌, List, [], ◌∷◌, ◌++◌, length, codes, decimal, Option, Some, None}, List.{flat_map}}
 use Rattle.p25_bits.specs.Bits.{octet_bits}
 use Rattle.p25_units.specs.{Units.{image_octets, whole_octets}, declared.item.Item.{Item}}
@@ -36,12 +36,12 @@ duplex_closing_lines d = duplex_closing_of A d ++ 10 ∷ duplex_closing_of B d +
 abbrev pub long_closing_line : LongState → List ℕ
 long_closing_line world = long_closing_text_of world ++ 10 ∷ []
 
--- the line that tells of the first sample units: how many there are, how many of their bits are inverted, and how many read as
--- their own frames, which are all
+-- the line about the first sample data units: their number, the number of their inverted bits, and the number that decode to their own frames, which
+-- are all
 abbrev pub sample_line : ℕ → List ℕ
 sample_line count = codes "units=" ++ decimal count ++ codes " flips=" ++ decimal (flips_of count) ++ codes " exact=" ++ decimal count ++ 10 ∷ []
 
--- a command that reads a recording: what it writes for the items, and how it ends at the end of the input
+-- a command that reads a recording: its output for the items, and its end at the end of the input
 abbrev pub items_future : (Bool → List Item → List Bool → List ℕ) → (List Item → Ending) → Future
 items_future text ending = record {
   writes = λ ended octets. text ended (items_by ended 0 (octet_bits octets)) (octet_bits octets);
@@ -49,8 +49,8 @@ items_future text ending = record {
   pauses = λ ended octets. [];
 }
 
--- what a command writes for the octets of its input, whether they are all or more may come, how it ends by them, and after which
--- texts memory may be wanting: before each step of a script
+-- the output of a command for the octets of its input, whether they are all or more may come, its end by them, and the texts after which an
+-- allocation may fail: before each step of a script
 abbrev pub command_future : Command → Future
 command_future Show = items_future (λ ended items bits. flat_map shown items) (λ items. Done)
 command_future Check =
@@ -76,15 +76,15 @@ command_future Fragments =
 command_future (Sample count) =
     record { writes = λ ended octets. sample_line count; ends = λ ended octets. Some Done; pauses = λ ended octets. [] }
 
--- what a command writes for the octets of its input, whether they are all or more may come
+-- the output of a command for the octets of its input, whether they are all or more may come
 abbrev pub output_by : Command → Bool → List ℕ → List ℕ
 output_by command = (command_future command).writes
 
--- how a call of a command ends by the octets of its input, whether they are all or more may come
+-- the end of a call of a command by the octets of its input, whether they are all or more may come
 abbrev pub ending_by : Command → Bool → List ℕ → Option Ending
 ending_by command = (command_future command).ends
 
--- the commands that take memory
+-- the commands that allocate memory
 abbrev pub CanWantMemory : Command → Type 0
 CanWantMemory Stations = Unit {0}
 CanWantMemory Duplex = Unit {0}

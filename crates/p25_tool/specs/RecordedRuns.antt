@@ -1,4 +1,4 @@
--- What a call makes of a recording of units within radius.
+-- The result of a call for a recording of data units within the correction radius.
 use Rattle.std.specs.{Prelude.{◌≡◌, ℕ, List, length, Option}, List.{flat_map}}
 use Rattle.p25_io.specs.Octets.{Appended}
 use Rattle.p25_stream.specs.Arrivals.{Arrival, bits_arrived, wholes_of}
@@ -7,7 +7,7 @@ use Rattle.p25_tool.specs.{declared.command.Command.{Command}, declared.command.
 use Rattle.p25_tool.specs.{declared.outcome.Outcome.{Outcome}, declared.outcome.Outcome.TheVariants.{Done}}
 use Rattle.p25_tool.specs.Recorded.{AreOctetsOf, images_arrived, images_bridged}
 
--- the commands that work on each unit by itself
+-- the commands that work on each data unit by itself
 abbrev pub IsUnitCommand : Command → Type 0
 IsUnitCommand Show = Unit {0}
 IsUnitCommand Check = Unit {0}
@@ -17,9 +17,9 @@ IsUnitCommand (Relay nac status) = Unit {0}
 IsUnitCommand Follow = Unit {0}
 IsUnitCommand command = ⊥
 
--- what they write of a recording of units: a line for each, whole and as received; the line that counts them and no fault; their
--- images as received; these under another network access code (NAC) and with one status symbol, of `bridge` and of `relay`; and of
--- `follow` their bits as they came
+-- their output for a recording of data units: a line for each, whole and as received; the line that counts them and no fault; their images as
+-- received; these under another network access code (NAC) and with one status symbol, for `bridge` and for `relay`; and for `follow` their bits
+-- unchanged
 abbrev pub AreWrittenOf : Command → List Arrival → List ℕ → Type 0
 AreWrittenOf Show arrivals octets = octets ≡ flat_map shown (wholes_of 0 arrivals)
 AreWrittenOf Check arrivals octets = octets ≡ check_line (length arrivals) 0
@@ -29,7 +29,7 @@ AreWrittenOf (Relay nac status) arrivals octets = AreOctetsOf (images_bridged na
 AreWrittenOf Follow arrivals octets = AreOctetsOf (bits_arrived arrivals) octets
 AreWrittenOf command arrivals octets = ⊥
 
--- a recording of units was worked on to its end, and this was written
+-- a recording of data units was processed to its end, and this was written
 pub record HasWrittenUnits (first last : Option (List ℕ)) (command : Command) (arrivals : List Arrival) (outcome : Outcome) : Type 0 where
   pub done : outcome ≡ Done
   pub octets : List ℕ

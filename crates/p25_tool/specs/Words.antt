@@ -7,11 +7,11 @@ use Rattle.p25_line.specs.Values.{number_below}
 use Rattle.p25_tool.specs.declared.command.Command.{Command}
 use Rattle.p25_tool.specs.declared.command.Command.TheVariants.{Show, Check, Repair, Bridge, Relay, Follow, Build, Stations, Calls, Duplex, Fragments, Soft, Sample}
 
--- the words after one more: its first 16 octets after the others, or nothing where four are held
+-- the words after one more: its first 16 octets after the others, or nothing if four are held
 abbrev pub added : List (List ℕ) → List ℕ → List (List ℕ)
 added words word = if nat_lt (length words) 4 then words ++ take 16 word ∷ [] else words
 
--- the status symbol that a word of one digit, 0 to 3, is
+-- the status symbol of a word of one digit, 0 to 3
 abbrev pub status_in : List ℕ → Option Status
 status_in word = option_map status_modulo (number_below 4 word)
 
@@ -29,7 +29,7 @@ one_word_commands =
     ∷ (codes "duplex", Duplex)
     ∷ []
 
--- the command with which a word stands in a table
+-- the command of a word in a table
 abbrev pub command_at : List (List ℕ × Command) → List ℕ → Option Command
 command_at [] word = None
 command_at (row ∷ rows) word = if bytes_eq word row.0 then Some row.1 else command_at rows word
@@ -38,7 +38,7 @@ command_at (row ∷ rows) word = if bytes_eq word row.0 then Some row.1 else com
 abbrev pub one_word_command : List ℕ → Option Command
 one_word_command word = command_at one_word_commands word
 
--- `sample` with a number, where it is one from 1 on
+-- `sample` with a number, if it is at least 1
 abbrev pub sample_of : Option ℕ → Option Command
 sample_of None = None
 sample_of (Some count) = if count == 0 then None else Some (Sample count)
@@ -57,7 +57,7 @@ forwarding_of word nac status =
     else if bytes_eq word (codes "relay") then Some (Relay nac status)
     else None
 
--- it with a network access code (NAC) and a status symbol, where they are both
+-- this command with a network access code (NAC) and a status symbol, if both are given
 abbrev pub forwarded : List ℕ → Option ℕ → Option Status → Option Command
 forwarded word None status = None
 forwarded word (Some nac) None = None

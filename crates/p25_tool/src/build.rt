@@ -1,4 +1,4 @@
-//! The work of `build`: each line of the input as the unit that it describes.
+//! The work of `build`: each line of the input as the data unit that it describes.
 
 ghost use Rattle.std.specs.Prelude.{◌≡◌, []};
 ghost use Rattle.p25_units.specs.Units.{IsSendableBody, image_octets};
@@ -12,7 +12,7 @@ use p25_text::read_line;
 use p25_units::{Frame, Unit, image};
 use std::marker::Model;
 
-// The units that the lines of an input describe, with one status symbol everywhere, and a buffer for the octets of a unit.
+// The data units that the lines of an input describe, with one status symbol everywhere, and a buffer for the octets of a unit.
 #[derive(Drop)]
 pub(crate) struct Build {
     status: Status,
@@ -20,7 +20,7 @@ pub(crate) struct Build {
 }
 
 impl Model for Build {
-    ghost use Rattle.p25_status.specs.declared.status.Status.{Status};
+    ghost use Rattle.p25_status.specs.declared.symbols.Status.{Status};
 
     ghost Value = { Status };
 
@@ -55,8 +55,8 @@ impl LineMachine for Build {
     fn close(&self, _text: &mut Text) {}
 }
 
-// Writes the octets of a unit's image with one status symbol everywhere into an empty text, through a buffer. No slot of a packet (PDU)
-// is Bad.
+// Writes to an empty text the octets of a data unit's image with one status symbol everywhere, by way of a buffer. It requires that no slot
+// of a packet (PDU) is `Bad`.
 fn put_image(unit: Unit, status: Status, out: &mut Line, text: &mut Text)
     requires sendable { IsSendableBody unit.body }
     requires empty { text.old ≡ [] }

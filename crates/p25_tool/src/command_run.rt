@@ -23,29 +23,32 @@ use p25_recording_filters::{
 use p25_stations::World;
 use std::alloc::Global;
 
-/// Does what the words say: reads the source to its end, at most 16,777,216 octets, and writes the answer to the sink.
+/// Runs the command that the words name: reads the source to its end, at most 16,777,216 octets, and writes the result
+/// to the sink.
 ///
-/// The words are judged first; where they name no command the outcome is `Usage`, and nothing is read or written. Then the
-/// input is worked on in its order, and the first refusal ends the call: a read fault, an input that is too long, a line
-/// that is refused, a write fault. What the octets taken so far decide is written before the next read. So after a read
-/// fault or an input that is too long the sink holds what the octets before decide, in whole octets and without a last line
-/// of a check; after a refused line what the lines before ask for; and after a write fault a beginning of the output.
+/// The words are tested first; if they name no command the outcome is `Usage`, and nothing is read or written. Then the
+/// input is processed in its order, and the first refusal ends the call: a read fault, an input that is too long, a
+/// line that is refused, a write fault. The output that the octets taken so far determine is written before the next
+/// read. So after a read fault or an input that is too long the sink holds the output of the octets before, in whole
+/// octets and without a last line of a check. After a refused line it holds the output for the lines before, and after
+/// a write fault a beginning of the output.
 ///
-/// `sample` reads nothing, and ends as `Done`, or as `WriteFault` where a write failed; the source has no part in that.
+/// `sample` reads nothing, and ends as `Done`, or as `WriteFault` if a write failed; the source has no effect on it.
 ///
-/// `stations`, `fragments` and `duplex` alone take memory, for each line that is accepted, before its step is made. Where there
-/// is not enough the outcome is `Memory`, and the sink holds the steps before, without the closing line.
+/// Only `stations`, `fragments` and `duplex` allocate memory, for each line that is accepted, before its step is made.
+/// If an allocation fails the outcome is `Memory`, and the sink holds the steps before, without the closing line.
 ///
-/// Of a script whose lines are all read as events, the steps of its run and its closing lines are written, and where no step is
-/// a false pass each session is orderly. Of a recording of units within radius that is not too long, `show`, `check`, `repair`,
-/// `bridge`, `relay` and `follow` write what `recorded_laws` says.
+/// For a script whose lines all decode to events, the steps of its run and its closing lines are written, and if no
+/// step is a false pass each session is orderly. For a recording of data units within the correction radius that is not
+/// too long, `show`, `check`, `repair`, `bridge`, `relay` and `follow` write the output of `recorded_laws`.
 pub fn run<S: Source, K: Sink>(
     alloc: Global,
     words: &Words,
     source: &mut S,
     sink: &mut K,
 ) -> Outcome
-    // What was taken and written, how it ended, and what comes of a script and of a recording of units within radius.
+    // The octets taken and written, the end of the call, and the consequences for a script and for a recording of data
+    // units within the correction radius.
     ensures says { CallSays (command_of words.now) (S.left source.old) (S.left source.new) (K.written sink.old) (K.written sink.new)
         (Rose (S.faults source.old) (S.faults source.new)) (Rose (K.faults sink.old) (K.faults sink.new)) (source.new ≡ source.old)
         (sink.new ≡ sink.old) result }
@@ -58,12 +61,13 @@ pub fn run<S: Source, K: Sink>(
     run_on(alloc, words, &mut pair)
 }
 
-/// Does what the words say on any port: `run` is this call on the port of a source and a sink.
+/// Runs the command that the words name on any port: `run` is this call on the port of a source and a sink.
 ///
-/// The contract says which reads and writes the call makes, and in which order. Where the words name no command there are none,
-/// and the outcome is `Usage`. The reads and writes of a command are a live run of events: all that the octets read so far
-/// decide is written before the next read, no write is empty, nothing is read after a refusal or after the end of the input, and
-/// nothing comes after a fault; `order_laws` of p25_filter has this in nine laws. `sample` reads nothing.
+/// The contract states the reads and writes of the call, and their order. If the words name no command there are none,
+/// and the outcome is `Usage`. The reads and writes of a command are a live run of events. All output that the octets
+/// read so far determine is written before the next read, and no write is empty. Nothing is read after a refusal or
+/// after the end of the input, and nothing comes after a fault; `order_laws` of p25_filter has this in nine laws.
+/// `sample` reads nothing.
 pub fn run_on<P: Port>(alloc: Global, words: &Words, port: &mut P) -> Outcome
     ensures usage { (result ≡ Outcome.Usage) ↔ (command_of words.now ≡ None) }
     ensures called { (events : List Event) × P.moves port.old events port.new × IsCallRun (command_of words.now) events result }
@@ -93,9 +97,9 @@ pub fn run_on<P: Port>(alloc: Global, words: &Words, port: &mut P) -> Outcome
     outcome_of(end)
 }
 
-/// Does what the words say on a tape without a call.
+/// Runs the command that the words name on a tape without a call.
 ///
-/// Unless the tape is torn, the calls that it tells of are those of `run_on`.
+/// Unless the tape is torn, the calls that it exposes are those of `run_on`.
 pub fn run_on_tape(alloc: Global, words: &Words, tape: &mut Tape<'_>) -> Outcome
     requires blank { calls_on tape.old ≡ [] }
     ensures called { is_torn tape.new ≡ false → IsCallRun (command_of words.now) (calls_on tape.new) result }
@@ -103,7 +107,7 @@ pub fn run_on_tape(alloc: Global, words: &Words, tape: &mut Tape<'_>) -> Outcome
     run_on(alloc, words, tape)
 }
 
-// The work of a report on a recording. Here and below each is a function of its own, so that a command takes no room on the stack for others.
+// Runs a report on a recording. This function and those below are separate, so that a command uses no stack for others.
 #[inline(never)]
 fn run_report<R: Report + Drop, P: Port>(report: R, port: &mut P) -> FilterEnd
     requires counted { R.counted report ≡ 0 }
@@ -114,7 +118,7 @@ fn run_report<R: Report + Drop, P: Port>(report: R, port: &mut P) -> FilterEnd
     p25_filter::run_on(&mut recording, port)
 }
 
-// The work of a machine on the lines of its input.
+// Runs a machine on the lines of its input.
 #[inline(never)]
 fn run_lines<M: LineMachine + Drop, P: Port>(machine: M, port: &mut P) -> FilterEnd
     ensures { (events : List Event) × P.moves port.old events port.new × IsRun (line_future M.rules (first_line machine)) events result }
@@ -123,7 +127,7 @@ fn run_lines<M: LineMachine + Drop, P: Port>(machine: M, port: &mut P) -> Filter
     p25_filter::run_on(&mut lines, port)
 }
 
-// The work of `stations`.
+// Runs `stations`.
 #[inline(never)]
 fn run_stations<P: Port>(alloc: Global, port: &mut P) -> FilterEnd
     ensures { (events : List Event) × P.moves port.old events port.new × IsRun (command_future Stations) events result }
@@ -131,7 +135,7 @@ fn run_stations<P: Port>(alloc: Global, port: &mut P) -> FilterEnd
     run_lines(Script::new(ScriptWorld::Stations(World::new(alloc))), port)
 }
 
-// The work of `duplex`.
+// Runs `duplex`.
 #[inline(never)]
 fn run_duplex<P: Port>(alloc: Global, port: &mut P) -> FilterEnd
     ensures { (events : List Event) × P.moves port.old events port.new × IsRun (command_future Duplex) events result }
@@ -142,7 +146,7 @@ fn run_duplex<P: Port>(alloc: Global, port: &mut P) -> FilterEnd
     )
 }
 
-// The work of `fragments`.
+// Runs `fragments`.
 #[inline(never)]
 fn run_fragments<P: Port>(alloc: Global, port: &mut P) -> FilterEnd
     ensures { (events : List Event) × P.moves port.old events port.new × IsRun (command_future Fragments) events result }
@@ -150,7 +154,7 @@ fn run_fragments<P: Port>(alloc: Global, port: &mut P) -> FilterEnd
     run_lines(Script::new(ScriptWorld::Long(LongWorld::new(alloc))), port)
 }
 
-// The work of `soft`.
+// Runs `soft`.
 #[inline(never)]
 fn run_soft<P: Port>(port: &mut P) -> FilterEnd
     ensures { (events : List Event) × P.moves port.old events port.new × IsRun (soft_future fresh_soft) events result }

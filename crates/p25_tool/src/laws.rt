@@ -1,5 +1,5 @@
-//! What the commands make of units: laws of their outputs; and what a call comes to by its events. The bodies are empty: each
-//! function states what is proved.
+//! Laws of the outputs of the commands for data units, and the consequences of a call by its events. The bodies are
+//! empty: each function states what is proved.
 
 ghost use Rattle.std.specs.Prelude.{◌≡◌, ℕ, true, List, ◌++◌, Some, IfSome};
 ghost use Rattle.p25_io.specs.{Events.{Event}, Faults.{Rose}, Pairs.{SinkGoes, SourceGoes}, Streams.{StreamsGo, known, reader_in, writer_in}};
@@ -13,8 +13,8 @@ ghost use Rattle.p25_tool.specs.Written.{AllIsWritten, HasEnded};
 use p25_io::{Sink, Source};
 use std::io::{Read, Write};
 
-/// **Theorem.** All that `run` says of a call follows from the events of the call, which `run_on` tells. So it holds wherever a source
-/// and a sink went through the events of a call.
+/// **Theorem.** The contract of `run` for a call follows from the events of the call, which `run_on` states. So it
+/// holds whenever a source and a sink went through the events of a call.
 pub fn run_laws<S: Source, K: Sink>()
     ensures { (words : List (List ℕ)) (events : List Event) (outcome : Outcome) (source source_now : S) (sink sink_now : K)
         → SourceGoes S.left S.faults source events source_now → SinkGoes K.written K.faults sink events sink_now
@@ -23,14 +23,16 @@ pub fn run_laws<S: Source, K: Sink>()
         (Rose (S.faults source) (S.faults source_now)) (Rose (K.faults sink) (K.faults sink_now)) (source_now ≡ source) (sink_now ≡ sink) outcome }
 {}
 
-/// **Theorem.** What a call comes to on streams, by the events that were made on them: the program's own call says these events.
+/// **Theorem.** The consequences of a call on streams, by the events that were made on them: the program's own call
+/// states these events.
 ///
-/// A reader may tell what is left in it, as a slice and a cursor do, and a writer what it holds, as a `Vec` does.
+/// A reader may expose its remaining octets, as a slice and a cursor do, and a writer its contents, as a `Vec` does.
 ///
-/// - `known`: all that `run` says, as far as each of both tells; a fault is a read or a write of the events that failed, and what is
-///   left as it was is not read from, or not written to. It needs neither to tell: of one that does not, nothing is said to be known.
-/// - `says`: the same if both tell.
-/// - `ended`: if both tell, a call that came to the end of its input wrote all of its output, after what stood there before.
+/// - `known`: the contract of `run`, as far as each of both exposes its octets. A fault is a read or a write of the
+///   events that failed, and an unchanged port is not read from, or not written to. The law requires neither to expose
+///   its octets: about one that does not, it states nothing.
+/// - `says`: the same if both expose their octets.
+/// - `ended`: if both do, a call that reached the end of its input wrote all of its output, after the former contents.
 pub fn stream_laws<R: Read, W: Write>()
     ensures known { (words : List (List ℕ)) (events : List Event) (outcome : Outcome) (first last : Streams R W)
         → StreamsGo R.remaining W.contents first events last → IsCallRun (command_of words) events outcome
@@ -48,25 +50,27 @@ pub fn stream_laws<R: Read, W: Write>()
         → IfSome (command_of words) (λ command. W.contents (writer_in last) ≡ Some (held ++ output_by command true input)) }
 {}
 
-/// **Theorem.** A call of `run` that came to the end of its input wrote all of `output_by` of all that the
-/// source held, after what the sink held before; however the reads of the source are cut. So the laws below speak of what
-/// `run` writes.
+/// **Theorem.** A call of `run` that reached the end of its input wrote all of `output_by` of the octets that the
+/// source held, after the former contents of the sink, however the reads of the source are divided. So the laws below
+/// are about the output of `run`.
 pub fn written_laws()
     ensures all { AllIsWritten }
 {}
 
-/// **Theorem.** What the commands write of a recording of units that were sent one after the other, each
-/// damaged within radius, for all lists of units and all such damage.
+/// **Theorem.** The output of the commands for a recording of data units that were transmitted one after the other,
+/// each damaged within the correction radius, for all lists of data units and all such damage.
 ///
 /// - `recorded`: every such list has a recording; its bits fill whole octets.
-/// - `show`: one line for each unit, whole, with the fields that were sent, and the voice frames and status symbols that came.
-/// - `check`: the last line alone, which counts the units and no fault.
-/// - `repair`: the images of the units as received, end to end.
-/// - `repaired`: these are a recording of the same units without damage; repairing it again changes nothing.
-/// - `bridge`: the images of the units as received under another network access code (NAC) and with one status symbol.
+/// - `show`: one line for each data unit, whole, with the transmitted fields, and the received voice frames and status
+///   symbols.
+/// - `check`: the last line alone, which counts the data units and no fault.
+/// - `repair`: the images of the data units as received, end to end.
+/// - `repaired`: these are a recording of the same data units without damage; repairing it again changes nothing.
+/// - `bridge`: the images of the data units as received under another network access code (NAC) and with one status
+///   symbol.
 /// - `relay`: the same.
-/// - `relay_same`: where these are the bits that came, the recording itself.
-/// - `follow`: the recording as it came.
+/// - `relay_same`: if these are the received bits, the recording itself.
+/// - `follow`: the recording unchanged.
 pub fn recorded_laws()
     ensures recorded { UnitsAreRecorded }
     ensures show { ShowsUnits }
@@ -79,7 +83,7 @@ pub fn recorded_laws()
     ensures follow { FollowsUnits }
 {}
 
-/// **Theorem.** What `follow` and `relay` write of any recording. The laws of p25_follow tell of these bits.
+/// **Theorem.** The output of `follow` and `relay` for any recording. The laws of p25_follow are about these bits.
 ///
 /// - `follow`: `follow_of` its bits, as octets: as many as the recording has.
 /// - `relay`: `relay_of` its bits, as octets: as many as the recording has.
@@ -88,24 +92,25 @@ pub fn recording_laws()
     ensures relay { RelaysRecording }
 {}
 
-/// **Theorem.** What is written of one unit within radius, wherever it stands in a recording and whatever
-/// stands around it, unless a unit that begins before it, whole, broken or cut, covers its first bit.
+/// **Theorem.** The output for one data unit within the correction radius, wherever it is in a recording and whatever
+/// is around it, unless a data unit that begins before it, whole, broken or cut, covers its first bit.
 ///
-/// - `show`: its line, whole and as received, at its place.
-/// - `repair`: its image, at its place.
-/// - `length`: what is written of a recording that is repaired has as many octets as the recording.
+/// - `show`: its line, whole and as received, at its position.
+/// - `repair`: its image, at its position.
+/// - `length`: the output for a recording that is repaired has as many octets as the recording.
 pub fn found_laws()
     ensures show { ShowsEachUnit }
     ensures repair { RepairsEachUnit }
     ensures length { RepairKeepsLength }
 {}
 
-/// **Theorem.** `build` and `show` undo each other, for every input.
+/// **Theorem.** `build` and `show` are inverse, for every input.
 ///
-/// - `build`: what is written has the units of the input's lines as its items: whole, with no fixes, end to end, in order and
-///   with the one status symbol. So `show` of it writes one line for each of them.
-/// - `texts`: these are the units of the lines before the first that is refused, and these lines are their texts, in order.
-/// - `accepted`: where every line is read as a unit, these are the units, and all lines are their texts.
+/// - `build`: the output has the data units of the input's lines as its items: whole, without fixes, end to end, in
+///   order and with the one status symbol. So `show` of it writes one line for each of them.
+/// - `texts`: these are the data units of the lines before the first that is refused, and these lines are their texts,
+///   in order.
+/// - `accepted`: if every line decodes to a data unit, these are the data units, and all lines are their texts.
 pub fn built_laws()
     ensures build { BuildsUnits }
     ensures texts { LinesAreTexts }

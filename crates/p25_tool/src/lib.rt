@@ -10,14 +10,19 @@
 //! assert_eq!(rt; outcome, Outcome::Done);
 //! ```
 //!
-//! A recording is a list of bits, each octet's most significant bit first. It falls into items that lie end to end and
-//! cover every bit. What a command writes for the octets of its input is `output_by`: `show` and `check` the texts of
-//! items, `repair`, `bridge`, `relay` and `follow` their bits, `calls` the texts of calls, `soft` the bits of levels, `build` the images of
-//! the units that lines describe, `stations`, `fragments` and `duplex` the steps of the events that lines tell of. `sample`
-//! reads no octets and writes a line that tells of sample units. What stands after each way to end is `Ran`; `written_laws`
-//! says it of a call that came to the end of its input. `recorded_laws`, `found_laws` and `built_laws` say what these
-//! outputs are where units were sent, each damaged within radius or not at all. `outcome_text` and `outcome_status` are
-//! what the program makes of the outcome of a call.
+//! A recording is a list of bits, the most significant bit of each octet first. It is divided into items that lie end
+//! to end and cover every bit. The output of a command for the octets of its input is `output_by`:
+//!
+//! - `show` and `check` write the texts of items, and `calls` the texts of calls.
+//! - `repair`, `bridge`, `relay` and `follow` write the bits of items, and `soft` the bits of levels.
+//! - `build` writes the images of the data units that lines describe.
+//! - `stations`, `fragments` and `duplex` write the steps of the events of lines.
+//! - `sample` reads no octets and writes a line about sample data units.
+//!
+//! The state after each possible end is `Ran`; `written_laws` states it for a call that reached the end of its input.
+//! `recorded_laws`, `found_laws` and `built_laws` state these outputs for transmitted data units, each damaged within
+//! the correction radius or not at all. `outcome_text` and `outcome_status` are the error line and the exit status of
+//! an outcome.
 #![tactic(auto)]
 
 mod build;

@@ -7,28 +7,29 @@ use p25_filter::{Ending, FilterEnd};
 use p25_line::{Line, LineFault};
 use std::fmt;
 
-/// How a call ended.
+/// The end of a call.
 #[derive(Clone, Copy, Debug, PartialEq, Eq)]
 pub enum Outcome {
-    /// The input was read to its end and all was written.
+    /// The input was read to its end and all output was written.
     Done,
     /// The words name no command; nothing was read or written.
     Usage,
-    /// This line of the input, counted from 1, is the first that is refused. What the lines before it ask for is written.
+    /// This line of the input, counted from 1, is the first that is refused. The output for the lines before it is
+    /// written.
     BadLine { line: u64, fault: LineFault },
     /// The source failed.
     ReadFault,
     /// The sink failed.
     WriteFault,
-    /// There was not enough memory.
+    /// Out of memory.
     Memory,
     /// The input has more than 16,777,216 octets.
     TooLong,
-    /// `check` read and wrote all, and found so many items that are not whole units.
+    /// `check` read and wrote all, and found this number of items that are not whole data units.
     Found { faults: u64 },
 }
 
-/// Writes the line that stands on standard error after a call, as `outcome_text` has it.
+/// Writes the line on standard error after a call, as `outcome_text` does.
 impl fmt::Display for Outcome {
     ghost output = { λ outcome. Some (line_of outcome) };
 
@@ -39,7 +40,7 @@ impl fmt::Display for Outcome {
     }
 }
 
-/// Sets `out` to the line that stands on standard error after a call, without its end; it is empty for `Done`.
+/// Writes to `out` the line on standard error after a call, without its end; it is empty for `Done`.
 #[tactic(auto, using(p25_line::proofs::DecimalLaws::decimal_short))]
 pub fn outcome_text(outcome: &Outcome, out: &mut Line)
     ensures text { out.new ≡ line_of outcome.now }
@@ -70,7 +71,7 @@ fn put_bad_line(line: u64, fault: LineFault, out: &mut Line)
     out.put(fault_text(fault));
 }
 
-// The word of a fault in a line.
+// Returns the word of a fault in a line.
 fn fault_text(fault: LineFault) -> &'static [u8]
     ensures word { result.now ≡ fault_word fault }
     ensures short { length result.now ≤ 5 }
@@ -84,7 +85,7 @@ fn fault_text(fault: LineFault) -> &'static [u8]
     }
 }
 
-/// Answers the status with which the program ends.
+/// Returns the exit status of the program.
 pub fn outcome_status(outcome: &Outcome) -> u8
     ensures { result ≡ status_of outcome.now }
 {
@@ -100,7 +101,7 @@ pub fn outcome_status(outcome: &Outcome) -> u8
     }
 }
 
-// The outcome of work on an input that ended so.
+// Returns the outcome of work on an input with this end.
 pub(crate) fn outcome_of(end: FilterEnd) -> Outcome
     ensures { result ≡ filter_outcome end }
 {

@@ -1,4 +1,4 @@
-//! The work of `sample`: a line that tells of sample units.
+//! The work of `sample`: a line about sample data units.
 
 ghost use Rattle.std.specs.Prelude.{◌≡◌, ◌≤◌, List};
 ghost use Rattle.p25_io.specs.Events.{Event};
@@ -11,7 +11,7 @@ use p25_io::Port;
 use p25_line::Line;
 use p25_vectors::{SampleReport, sample};
 
-// Writes the line that tells of the first sample units. Nothing is read.
+// Writes the line about the first sample data units. Nothing is read.
 #[inline(never)]
 pub(crate) fn run_sample<P: Port>(count: u64, port: &mut P) -> FilterEnd
     requires some { 1 ≤ count }
@@ -26,7 +26,7 @@ pub(crate) fn run_sample<P: Port>(count: u64, port: &mut P) -> FilterEnd
     }
 }
 
-// Sets `out` to the line of a report.
+// Writes to `out` the line of a report.
 #[tactic(auto, using(p25_line::proofs::DecimalLaws::decimal_short))]
 fn put_sample_line(report: &SampleReport, out: &mut Line)
     requires flips { report.now.flips ≡ flips_of report.now.units }

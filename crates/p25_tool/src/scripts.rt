@@ -1,4 +1,4 @@
-//! The work of `stations`, `fragments` and `duplex`: each line of the input as the event of a world of stations that it tells of.
+//! The work of `stations`, `fragments` and `duplex`: each line of the input is an event of a world of stations.
 
 ghost use Rattle.std.specs.Prelude.{◌≡◌, ◌++◌, []};
 ghost use Rattle.p25_filter.specs.LineRules.{IsLineTaken};
@@ -39,7 +39,7 @@ impl Model for Script {
 }
 
 impl Script {
-    // Answers the machine over the lines of a script whose events happen in this world.
+    // Returns the machine over the lines of a script whose events happen in this world.
     pub(crate) fn new(world: ScriptWorld) -> Script
         ensures { result ≡ state_of world }
     {
@@ -75,7 +75,7 @@ impl LineMachine for Script {
     }
 }
 
-// Puts a line into an empty text.
+// Writes a line to an empty text.
 fn put_line(line: &Line, text: &mut Text)
     requires { text.old ≡ [] }
     ensures { text.new ≡ line.now }
@@ -85,7 +85,8 @@ fn put_line(line: &Line, text: &mut Text)
     text.put(line.octets());
 }
 
-// Writes the line of a step of `stations` into an empty text. Here and in the next two the lines are in no frame in which a world works.
+// Writes the line of a step of `stations` to an empty text. This function and the next two are not inlined, so their lines take no stack
+// while a world works.
 #[inline(never)]
 fn put_step(step: &Step, text: &mut Text)
     requires { text.old ≡ [] }
@@ -97,7 +98,7 @@ fn put_step(step: &Step, text: &mut Text)
     put_line(&out, text);
 }
 
-// Writes the lines of a step of `fragments` into an empty text.
+// Writes the lines of a step of `fragments` to an empty text.
 #[inline(never)]
 fn put_long_step(step: &LongStep, text: &mut Text)
     requires { text.old ≡ [] }
@@ -112,7 +113,7 @@ fn put_long_step(step: &LongStep, text: &mut Text)
     text.put(more.octets());
 }
 
-// Writes the line of a step of `duplex` into an empty text.
+// Writes the line of a step of `duplex` to an empty text.
 #[inline(never)]
 fn put_duplex_step(step: &DuplexStep, text: &mut Text)
     requires { text.old ≡ [] }
@@ -124,7 +125,7 @@ fn put_duplex_step(step: &DuplexStep, text: &mut Text)
     put_line(&out, text);
 }
 
-// Takes a line of `stations`. Events and steps are large: so those of a script are apart from those of the others.
+// Takes a line of `stations`. Events and steps are large, so those of a script are apart from those of the others.
 #[inline(never)]
 #[tactic(auto, unfolding(p25_line::specs::LineReadings::line_read))]
 fn take_event(world: &mut World, line: &[u8], text: &mut Text) -> Result<(), LineRefusal>
@@ -177,7 +178,7 @@ fn take_duplex(world: &mut DuplexWorld, line: &[u8], text: &mut Text) -> Result<
     }
 }
 
-// Puts the lines that close a run into an empty text: one of each side, and one with the number of false passes.
+// Writes to an empty text the lines that close a run: one of each side, and one with the number of false passes.
 #[tactic(auto, unfolding(crate::specs::Outputs::duplex_closing_lines))]
 fn put_closing_lines(world: &DuplexWorld, text: &mut Text)
     requires { text.old ≡ [] }

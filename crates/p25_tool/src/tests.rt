@@ -25,7 +25,7 @@ fn words_of(list: &[&[u8]]) -> Words {
     words
 }
 
-// The words of a call on an empty input, and how it ends where the sink takes nothing.
+// The words of a call on an empty input, and its end if the sink takes nothing.
 const CALLS: [(&[&[u8]], Outcome); 15] = [
     (&[b"show"], Outcome::Done),
     (&[b"check"], Outcome::WriteFault),
@@ -57,7 +57,7 @@ fn words_name_a_command(rt: HostRuntime) {
     }
 }
 
-// Whether a command is done with an input, and writes this.
+// Whether a command ends an input as done, with this output.
 fn writes(alloc: Global, words: &[&[u8]], input: &[u8], output: &[u8]) -> bool {
     let mut source = SteadySource::new(input, 7);
     let mut room = [0; 512];
@@ -73,10 +73,10 @@ const TERMINATOR: &[u8] =
 const ZERO_TERMINATOR: &[u8] =
     b"\x55\x75\xF5\xFF\x77\xFF\x00\x03\x35\x93\x0B\xDD\x3B\x2B\x00\x00\x00\x01";
 
-// A call, its input, and what it writes.
+// A call, its input, and its output.
 type Row = (&'static [&'static [u8]], &'static [u8], &'static [u8]);
 
-// Each command on an input that it is done with.
+// Each command on an input that it ends as done.
 const ROWS: [Row; 12] = [
     (
         &[b"show"],
@@ -118,7 +118,7 @@ fn each_command(rt: HostRuntime) {
     }
 }
 
-// A call, its input, how it ends, and what it writes before.
+// A call, its input, its end, and its output before.
 type End = (
     &'static [&'static [u8]],
     &'static [u8],
@@ -126,7 +126,7 @@ type End = (
     &'static [u8],
 );
 
-// Whether a call ends so.
+// Whether this is the end of a call.
 fn ends(alloc: Global, end: &End) -> bool {
     let (words, input, outcome, output) = *end;
     let mut source = SteadySource::new(input, 4);
@@ -135,7 +135,7 @@ fn ends(alloc: Global, end: &End) -> bool {
     run(alloc, &words_of(words), &mut source, &mut sink) == outcome && sink.written() == output
 }
 
-// Calls that end otherwise.
+// Calls with other ends.
 const ENDS: [End; 4] = [
     (
         &[b"check"],

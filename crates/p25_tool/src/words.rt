@@ -18,7 +18,7 @@ const SAMPLE_MOST: u64 = 10_000;
 type Word = BoundedList<u8, 16>;
 
 /// The words of a call: at most four, each of at most 16 octets. No command has four words or a word of 16 octets, so
-/// nothing is lost.
+/// no information is lost.
 #[derive(Clone, Debug, Drop)]
 pub struct Words {
     words: ArrayVec<Word, 4>,
@@ -33,7 +33,7 @@ impl Model for Words {
 impl Words {
     ghost use Rattle.p25_tool.specs.Words.{added, command_of, IsSoundCommand};
 
-    /// Answers no words.
+    /// Returns a list of no words.
     pub fn new() -> Words
         ensures { result ≡ [] }
     {
@@ -53,7 +53,7 @@ impl Words {
         }
     }
 
-    // The command that the words name.
+    // Returns the command that the words name.
     pub(crate) fn command(&self) -> Option<Command>
         ensures command { result ≡ command_of self.now }
         ensures sound { IfSome result IsSoundCommand }
@@ -67,7 +67,7 @@ impl Words {
     }
 }
 
-/// No words.
+/// Returns a list of no words.
 impl Default for Words {
     ghost is_default = { λ words. words ≡ [] };
 
@@ -76,7 +76,7 @@ impl Default for Words {
     }
 }
 
-// The command of one word.
+// Returns the command of one word.
 fn one_word(word: &[u8]) -> Option<Command>
     ensures { result ≡ one_word_command word.now }
 {
@@ -103,7 +103,7 @@ fn one_word(word: &[u8]) -> Option<Command>
     }
 }
 
-// The command of two words.
+// Returns the command of two words.
 fn two_words(word: &[u8], value: &[u8]) -> Option<Command>
     ensures command { result ≡ two_word_command word.now value.now }
     ensures sound { IfSome result IsSoundCommand }
@@ -117,7 +117,7 @@ fn two_words(word: &[u8], value: &[u8]) -> Option<Command>
     }
 }
 
-// The command `build` with a status symbol.
+// Returns the command `build` with a status symbol.
 fn build_command(status: &[u8]) -> Option<Command>
     ensures command { result ≡ option_map Command.Build (status_in status.now) }
     ensures sound { IfSome result IsSoundCommand }
@@ -126,7 +126,7 @@ fn build_command(status: &[u8]) -> Option<Command>
     Some(Command::Build { status })
 }
 
-// The command `sample` with a number.
+// Returns the command `sample` with a number.
 fn sample_command(count: &[u8]) -> Option<Command>
     ensures command { result ≡ sample_of (number_below 10001 count.now) }
     ensures sound { IfSome result IsSoundCommand }
@@ -137,7 +137,7 @@ fn sample_command(count: &[u8]) -> Option<Command>
     }
 }
 
-// The command of three words.
+// Returns the command of three words.
 fn three_words(word: &[u8], nac: &[u8], status: &[u8]) -> Option<Command>
     ensures command { result ≡ three_word_command word.now nac.now status.now }
     ensures sound { IfSome result IsSoundCommand }
@@ -147,7 +147,7 @@ fn three_words(word: &[u8], nac: &[u8], status: &[u8]) -> Option<Command>
     forwarding(word, nac, status)
 }
 
-// The command that forwards under a network access code (NAC) with a status symbol.
+// Returns the command that forwards under a network access code (NAC) with a status symbol.
 fn forwarding(word: &[u8], nac: u16, status: Status) -> Option<Command>
     requires { nac < 4096 }
     ensures command { result ≡ forwarding_of word.now nac status }
@@ -162,7 +162,7 @@ fn forwarding(word: &[u8], nac: u16, status: Status) -> Option<Command>
     }
 }
 
-// The status symbol that a word of one digit is.
+// Returns the status symbol of a word of one digit.
 fn status_value(word: &[u8]) -> Option<Status>
     ensures { result ≡ status_in word.now }
 {

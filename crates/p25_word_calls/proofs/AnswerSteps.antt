@@ -1,4 +1,4 @@
--- What a reader answers and leaves, as the reading says it.
+-- The result of a decoder and the word that it leaves, by the decoding.
 use Rattle.std.proofs.Common.{◌≡◌, ℕ, ◌≤◌, Bool, List, length, Option, pos, ap, ◌∙◌, arith}
 use Rattle.std.specs.Prelude.{unwrap_or}
 use Rattle.p25_bits.specs.Distance.{distance_by}

@@ -1,4 +1,4 @@
--- Words that are read as numbers, and identifiers.
+-- Words that decode to numbers, and identifiers.
 use Rattle.std.proofs.Common.{◌≡◌, ℕ, ◌^◌, ◌<◌, Bool, List, Option, Some, None, ℤ, pos, negsuc, take, bit_xor, ap, sym, ◌∙◌, arith, mod-eq_of_lt}
 use Rattle.std.specs.{Bool.{beq}, Int.RustNames.{count_ones}, Option.{option_map}, Prelude.{unwrap_or}}
 use Rattle.p25_bits.specs.{Bits.{bits_of, field_of}, Distance.{distance_of}}

@@ -1,4 +1,4 @@
--- Octets that name symbols.
+-- Octets that represent symbols.
 use Rattle.std.proofs.{Common.{◌≡◌, ℕ, ◌<◌, List, [], ◌∷◌, All, map, take, get_or, Option, ℤ, pos, negsuc, refl, ap, ap₂, sym, ◌∙◌, subst}, lemmas.List.Elements.{All-map}}
 use Rattle.std.specs.Prelude.{unwrap_or}
 use Rattle.p25_code.specs.{declared.code.Reading.{Reading}, Readings.{word_read}}

@@ -1,4 +1,4 @@
-//! Blocks of packets (PDU) by the trellis codes, whose 196 bits stand in 25 octets, the highest bit of the first octet first.
+//! Blocks of packets (PDU) by the trellis codes, whose 196 bits are in 25 octets, the highest bit of the first octet first.
 
 ghost use Rattle.std.specs.Prelude.{◌≡◌, ◌++◌, length};
 ghost use Rattle.p25_bits.specs.Bits.{bits_of, octet_bits};
@@ -8,8 +8,8 @@ ghost use Rattle.p25_word_calls.specs.Blocks.{block_bits};
 use p25_bits::BitBuf;
 use p25_trellis::{Rate, encode_block, read_block};
 
-/// Sets the octets to those of the first nearest path to the 196 bits of a block, which 25 octets hold, and answers in how many bits
-/// the two differ. The last four bits of the last octet are not looked at.
+/// Decodes the 196 bits of a block, in 25 octets: writes to `octets` those of the first nearest path, and returns the
+/// number of bits in which the two differ. The last four bits of the last octet are ignored.
 pub fn read_octet_block<R: Rate>(bits: &[u8], octets: &mut [u8]) -> u32
     requires bits { length bits.now ≡ 25 }
     requires octets { length octets.old ≡ R.OCTETS }
@@ -21,7 +21,7 @@ pub fn read_octet_block<R: Rate>(bits: &[u8], octets: &mut [u8]) -> u32
     read_block::<R>(&received, 0, octets)
 }
 
-/// Sets 25 octets to the 196 bits of the block of some octets, and the last four bits to 0.
+/// Encodes octets: writes to 25 octets the 196 bits of their block, and 0 to the last four bits.
 pub fn write_octet_block<R: Rate>(octets: &[u8], bits: &mut [u8])
     requires octets { length octets.now ≡ R.OCTETS }
     requires bits { length bits.old ≡ 25 }

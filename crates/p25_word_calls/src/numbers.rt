@@ -1,4 +1,5 @@
-//! Words of the binary codes, and network identifiers (NID), as numbers. The first bit that is sent is the highest of a number.
+//! Codewords of the binary codes, and network identifiers (NID), as numbers. The bit that is transmitted first is the
+//! highest of a number.
 
 ghost use Rattle.p25_bits.specs.Bits.{bits_of};
 ghost use Rattle.p25_word_calls.specs.Numbers.{IsIdentifierReading, IsIdentifierWriting, IsNumberReading, IsNumberWriting};
@@ -7,9 +8,9 @@ use crate::answers::{BEYOND, OUTSIDE};
 use p25_bch_nid::{Nid, nid_bits, read_nid_counted};
 use p25_code::NumberCode;
 
-/// Reads a received word of a code as a number, the first bit highest, and answers how many bits were wrong: the number becomes that
-/// of the one word within the code's radius. Answers -1 where there is none, and -2 where the number has more bits than a word; it
-/// stays then.
+/// Decodes a received word of a code as a number, the first bit highest, and returns the number of bit errors: the
+/// number becomes that of the one codeword within the correction radius. Returns -1 if there is none, and -2 if the
+/// number has more bits than a word; then it is unchanged.
 pub fn read_number<C: NumberCode>(word: &mut u32) -> i32
     requires { C.HasCode }
     ensures { IsNumberReading C.N C.reading_is word.old word.new result }
@@ -27,8 +28,8 @@ pub fn read_number<C: NumberCode>(word: &mut u32) -> i32
     }
 }
 
-/// Answers the word of a code with this information, as a number, the first bit highest. Answers FFFFFFFF hex, which is no word,
-/// where the information has more bits than a word carries.
+/// Returns the codeword of an information, as a number, the first bit highest. Returns FFFFFFFF hex, which is no
+/// codeword, if the information has more bits than a codeword carries.
 pub fn write_number<C: NumberCode>(info: u32) -> u32
     requires { C.HasCode }
     ensures { IsNumberWriting C.IsWord C.K C.N info result }
@@ -39,8 +40,9 @@ pub fn write_number<C: NumberCode>(info: u32) -> u32
     C::encode_number(info)
 }
 
-/// Reads a network identifier (NID) of 64 bits, sets its NAC and its DUID, and answers how many of the first 63 bits were wrong, at
-/// most 11. Answers -1 where no word of the code lies so near; the two stay then. The last bit is not looked at.
+/// Decodes a network identifier (NID) of 64 bits, writes its NAC and its DUID, and returns the number of bit errors
+/// among the first 63 bits, at most 11. Returns -1 if no codeword is that near; then the two are unchanged. The last
+/// bit is ignored.
 pub fn read_identifier(bits: u64, nac: &mut u16, duid: &mut u8) -> i32
     ensures { IsIdentifierReading (bits_of 64 bits) (nac.old, duid.old) (nac.new, duid.new) result }
 {
@@ -54,8 +56,8 @@ pub fn read_identifier(bits: u64, nac: &mut u16, duid: &mut u8) -> i32
     }
 }
 
-/// Answers the network identifier (NID), 64 bits, that is sent for a NAC, below 4,096, and a DUID, below 16. Answers a number of ones
-/// alone, which is none, where one of the two is above.
+/// Returns the network identifier (NID), 64 transmitted bits, of a NAC below 4,096 and a DUID below 16. Returns a
+/// number of ones alone, which is no NID, if one of the two is above its bound.
 pub fn write_identifier(nac: u16, duid: u8) -> u64
     ensures { IsIdentifierWriting nac duid result }
 {

@@ -1,4 +1,4 @@
-//! Words of the Reed-Solomon codes, the octets of whose symbols are given.
+//! Codewords of the Reed-Solomon codes, given by the octets of their symbols.
 
 ghost use Rattle.std.specs.Prelude.{◌≡◌, ◌<◌, All, length, map, IsTrue};
 ghost use Rattle.p25_code.specs.Erasures.{without_erased};
@@ -11,9 +11,10 @@ use p25_code::{BlockCode, read_received, read_with_erasures};
 use p25_gf64::Sym;
 use p25_reed_solomon::Rs;
 
-/// Reads a received word of the Reed-Solomon code (N, K), of N octets from 0 to 63, one for each symbol of six bits in the order of
-/// sending. Answers how many symbols were wrong where they are at most half of N - K: the octets become those of the one word that
-/// differs in so few. Answers -1 where there is none, and -2 where an octet is above 63; nothing is changed then.
+/// Decodes a received word of the Reed-Solomon code (N, K). It requires N octets, one for each symbol of six bits in
+/// the order of transmission. Returns the number of symbol errors if they are at most half of N - K: the octets become
+/// those of the one codeword that differs in that few symbols. Returns -1 if there is none, and -2 if an octet is above
+/// 63; then nothing is changed.
 pub fn read_symbols<const N: usize, const K: usize>(octets: &mut [u8]) -> i32
     requires code { IsCode N K }
     requires long { length octets.old ≡ N }
@@ -28,10 +29,10 @@ pub fn read_symbols<const N: usize, const K: usize>(octets: &mut [u8]) -> i32
     answer_of(reading)
 }
 
-/// Reads a received word of the code (N, K) as `read_symbols` does, of which the symbols where `erased` is true are not known.
-/// Answers how many symbols changed where twice the wrong ones among the others, and the erased ones, are at most N - K together
-/// for some word: the octets become those of that word. Answers -1 where there is none, and -2 where an octet is above 63, an
-/// erased one too; nothing is changed then.
+/// Decodes a received word of the code (N, K) as `read_symbols` does, with erasures: the symbols with a true entry in
+/// `erased` are not known. Returns the number of symbols that changed if, for some codeword, twice the wrong symbols
+/// among the others plus the erased ones are at most N - K: the octets become those of that codeword. Returns -1 if
+/// there is none, and -2 if an octet is above 63, an erased one too; then nothing is changed.
 pub fn read_with_erased<const N: usize, const K: usize>(octets: &mut [u8], erased: &[bool]) -> i32
     requires code { IsCode N K }
     requires long { length octets.old ≡ N }
@@ -47,8 +48,8 @@ pub fn read_with_erased<const N: usize, const K: usize>(octets: &mut [u8], erase
     answer_of(reading)
 }
 
-/// Sets the last N - K octets to the check symbols of the first K, so that all N are a word of the code (N, K), and answers 0.
-/// Answers -2 where one of the first K is above 63; nothing is changed then.
+/// Computes the N - K check symbols of the first K octets and stores them after these, so that all N are a codeword of
+/// the code (N, K), and returns 0. Returns -2 if one of the first K is above 63; then nothing is changed.
 pub fn write_symbols<const N: usize, const K: usize>(octets: &mut [u8]) -> i32
     requires code { IsCode N K }
     requires long { length octets.old ≡ N }
@@ -64,7 +65,7 @@ pub fn write_symbols<const N: usize, const K: usize>(octets: &mut [u8]) -> i32
     0
 }
 
-// Sets the symbols to those that octets name, and answers whether each octet names one.
+// Writes the symbols that octets represent, and returns whether each octet represents one.
 fn name_symbols(octets: &[u8], symbols: &mut [Sym]) -> bool
     requires { length symbols.old ≡ length octets.now }
     ensures named { IsTrue result → map number symbols.new ≡ octets.now }
@@ -79,7 +80,7 @@ fn name_symbols(octets: &[u8], symbols: &mut [Sym]) -> bool
     true
 }
 
-// Sets octets to the numbers of symbols.
+// Writes to octets the numbers of symbols.
 fn put_numbers(symbols: &[Sym], octets: &mut [u8])
     requires { length symbols.now ≡ length octets.old }
     ensures { octets.new ≡ map number symbols.now }

@@ -6,9 +6,9 @@ use std::io::Eprint;
 use std::marker::Model;
 use std::process::{ExitCode, Termination};
 
-/// The end of one call of the program, which `main` answers. It cannot be let go, so there is one for each call.
+/// The end of one call of the program, which `main` returns. It cannot be dropped, so there is one for each call.
 ///
-/// Contracts see it as the status that the program ends with.
+/// Contracts see it as the exit status of the program.
 pub struct Ended {
     status: u8,
 }
@@ -22,7 +22,7 @@ impl Model for Ended {
 }
 
 impl Ended {
-    // An end with this status.
+    // Returns an end with this status.
     pub(super) fn new(status: u8) -> Ended
         ensures { result ≡ status }
     {
@@ -31,7 +31,7 @@ impl Ended {
 }
 
 impl Termination for Ended {
-    /// Answers the status, and prints nothing.
+    /// Returns the status, and prints nothing.
     fn report<R: Eprint>(self, _rt: &R) -> ExitCode
         ensures { exit_status result ≡ self }
     {

@@ -1,4 +1,4 @@
--- The octets read so far, of which the lines are printed that they decide.
+-- The octets read so far; the lines that they decide are printed.
 use Rattle.std.proofs.Common.{◌≡◌, ℕ, ◌+◌, ◌*◌, ◌≤◌, List, [], false, length}
 use Rattle.std.specs.Io.KnownBytes.{Consumes}
 use Rattle.p25_bits.specs.Bits.{octet_bits}

@@ -13,7 +13,7 @@ use p25_text::call_text;
 use p25_units::Item;
 use std::marker::Model;
 
-/// The text of each call, and at the end how many there were.
+/// The text of each call, and at the end their number.
 #[derive(Clone, Debug, Drop)]
 pub struct Calls {
     caller: Caller,
@@ -31,7 +31,7 @@ impl Model for Calls {
 }
 
 impl Calls {
-    /// Answers the report before the first item.
+    /// Returns the report before the first item.
     pub fn new() -> Calls
         ensures { result ≡ record { caller = fresh_caller; count = 0 } }
     {
@@ -42,7 +42,7 @@ impl Calls {
     }
 }
 
-/// The report before the first item.
+/// Returns the report before the first item.
 impl Default for Calls {
     ghost is_default = { λ report. report ≡ record { caller = fresh_caller; count = 0 } };
 
@@ -87,7 +87,8 @@ impl Report for Calls {
     }
 }
 
-// Sets an empty line to the text of a call and the end of its line, where there is a call, and answers how many there are.
+// Writes to an empty line the text of a call and the end of its line, if there is a call, and returns the number of
+// calls, 0 or 1.
 fn put_call(call: &Option<Call>, out: &mut Line) -> u64
     requires empty { out.old ≡ [] }
     requires nac { IfSome call.now (λ call. call.nac < 4096) }

@@ -15,15 +15,15 @@ use p25_stream::{bridge_item_in, repair_item_in};
 use p25_units::Item;
 use std::marker::Model;
 
-/// How the bits of a recording are changed.
+/// The change of the bits of a recording.
 #[derive(Clone, Copy, Debug, PartialEq, Eq)]
 pub enum Change {
-    /// Each whole unit as it was sent, and all other bits as they are.
+    /// Each whole data unit as transmitted, and all other bits unchanged.
     Repaired,
-    /// The whole units alone, with another network access code (NAC) and one status symbol everywhere.
+    /// The whole data units alone, with another network access code (NAC) and one status symbol everywhere.
     Bridged { nac: u16, status: Status },
-    /// Each unit, whole or broken, in its place under another network access code (NAC) and with one status symbol everywhere, and all
-    /// other bits as they are.
+    /// Each data unit, whole or broken, at its position under another network access code (NAC) and with one status
+    /// symbol everywhere, and all other bits unchanged.
     Relayed { nac: u16, status: Status },
 }
 
@@ -31,7 +31,7 @@ pub enum Change {
 #[derive(Drop)]
 pub struct Changed {
     change: Change,
-    // Where the bits of a frame are made: what it holds means nothing.
+    // The buffer for the bits of a frame. Its contents have no meaning.
     room: BitBuf,
     kept: BitBuf,
 }
@@ -48,7 +48,7 @@ impl Model for Changed {
 }
 
 impl Changed {
-    /// Answers the report before the first item. A network access code (NAC) is below 4096.
+    /// Returns the report before the first item. It requires a network access code (NAC) below 4096.
     pub fn new(change: Change) -> Changed
         requires { IsSoundChange change }
         ensures { result ≡ record { change = change; kept = [] } }
@@ -88,7 +88,7 @@ impl Report for Changed {
     }
 }
 
-// Changes the bits that an item covers. `room` takes bits that mean nothing.
+// Changes the bits that an item covers. `room` is a buffer whose contents have no meaning.
 fn change_item(change: Change, item: &Item, room: &mut BitBuf, raw: &mut BitBuf)
     requires change { IsSoundChange change }
     requires item { IsSoundItem item.now }
@@ -118,7 +118,8 @@ pub fn put_behind(kept: &mut BitBuf, bits: &BitBuf, out: &mut Line)
     put_after(kept, bits, out);
 }
 
-// Appends the octets that kept bits and those after them fill, and keeps the bits that are left. There is room for 3,241 octets.
+// Appends the octets that kept bits and those after them fill, and keeps the bits that are left. It requires capacity
+// for 3,241 octets.
 pub(crate) fn put_after(kept: &mut BitBuf, bits: &BitBuf, out: &mut Line)
     requires kept { length kept.old < 8 }
     requires room { length out.old ≤ 4951 }
@@ -140,7 +141,8 @@ pub(crate) fn put_after(kept: &mut BitBuf, bits: &BitBuf, out: &mut Line)
     kept.append(bits, bits.len() - rest, rest);
 }
 
-/// Appends the octets that the bits from a place on fill, the most significant bit first. There is room for them.
+/// Appends the octets that the bits from a position on fill, the most significant bit first. It requires capacity for
+/// them.
 pub fn put_octets(bits: &BitBuf, at: usize, out: &mut Line)
     requires there { at ≤ length bits.now }
     requires room { length out.old + (length bits.now - at) / 8 ≤ 8192 }

@@ -1,4 +1,4 @@
-//! The report of `check`: the items that are not whole units, and the counts.
+//! The report of `check`: the items that are not whole data units, and the counts.
 
 ghost use Rattle.std.specs.Prelude.{◌≡◌, ◌+◌};
 
@@ -10,7 +10,7 @@ use p25_line::Line;
 use p25_units::Item;
 use std::marker::Model;
 
-/// The text of each item that is not a whole unit, and at the end how many units and others there were.
+/// The text of each item that is not a whole data unit, and at the end the numbers of data units and of other items.
 #[derive(Clone, Debug, Drop)]
 pub struct Check {
     units: u64,
@@ -26,7 +26,7 @@ impl Model for Check {
 }
 
 impl Check {
-    /// Answers the report before the first item.
+    /// Returns the report before the first item.
     pub fn new() -> Check
         ensures { result ≡ record { units = 0; faults = 0 } }
     {
@@ -37,7 +37,7 @@ impl Check {
     }
 }
 
-/// The report before the first item.
+/// Returns the report before the first item.
 impl Default for Check {
     ghost is_default = { λ report. report ≡ record { units = 0; faults = 0 } };
 

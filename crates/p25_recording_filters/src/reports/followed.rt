@@ -1,4 +1,4 @@
-//! The report of `follow`: the bits of the recording, with lost syncs and identifiers restored.
+//! The report of `follow`: the bits of the recording, with damaged syncs and NIDs restored.
 
 ghost use Rattle.std.specs.Prelude.{◌≡◌, ◌<◌, [], length};
 ghost use Rattle.p25_follow.specs.Following.{fresh_follow};
@@ -12,12 +12,12 @@ use p25_line::Line;
 use p25_units::Item;
 use std::marker::Model;
 
-/// The bits of a recording, with the fronts of the units written that lie end to end after others. Of a stretch after a unit fewer than
-/// 6,912 bits are kept back, and at most seven bits that do not fill an octet.
+/// The bits of a recording, with sync and NID written for the data units that lie end to end after others. Fewer than
+/// 6,912 bits of a stretch after a data unit are kept back, and at most seven bits that do not fill an octet.
 #[derive(Drop)]
 pub struct Followed {
     follower: Follower,
-    // Where the bits before those of an item are made: what it holds between items means nothing.
+    // The buffer for the bits before those of an item. Its contents between items have no meaning.
     room: BitBuf,
     kept: BitBuf,
 }
@@ -34,14 +34,14 @@ impl Model for Followed {
 }
 
 impl Followed {
-    /// Answers the report before the first item.
+    /// Returns the report before the first item.
     pub fn new() -> Followed
         ensures { result ≡ record { follower = fresh_follow; kept = [] } }
     {
         Followed::of(Follower::new(), BitBuf::new())
     }
 
-    /// Answers a report by its follower and the bits, at most seven, that fill no octet.
+    /// Returns a report from its follower and the bits, at most seven, that fill no octet.
     pub fn of(follower: Follower, kept: BitBuf) -> Followed
         requires { length kept < 8 }
         ensures { result ≡ record { follower = follower; kept = kept } }
@@ -53,14 +53,14 @@ impl Followed {
         }
     }
 
-    /// Answers its follower.
+    /// Returns its follower.
     pub fn follower(&self) -> &Follower
         ensures { result.now ≡ self.now.follower }
     {
         &self.follower
     }
 
-    /// Answers the bits that fill no octet, at most seven.
+    /// Returns the bits that fill no octet, at most seven.
     pub fn kept(&self) -> &BitBuf
         ensures bits { result.now ≡ self.now.kept }
         ensures few { length result.now < 8 }
@@ -69,7 +69,7 @@ impl Followed {
     }
 }
 
-/// The report before the first item.
+/// Returns the report before the first item.
 impl Default for Followed {
     ghost is_default = { λ report. report ≡ record { follower = fresh_follow; kept = [] } };
 

@@ -40,7 +40,7 @@ impl Report for Show {
     }
 }
 
-// Sets `out` to the text of an item and the end of its line.
+// Writes to `out` the text of an item and the end of its line.
 pub(crate) fn put_item_line(item: &Item, out: &mut Line)
     requires { IsSoundItem item.now }
     ensures { out.new ≡ shown item.now }

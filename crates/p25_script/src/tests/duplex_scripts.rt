@@ -45,7 +45,7 @@ fn refused_lines(rt: HostRuntime) {
     assert_eq!(rt; read_duplex_event(&longest).err(), Some(LineFault::Long));
 }
 
-// The side at which the event of a line happens, and how many octets it sends or places it inverts.
+// The side of the event of a line, and the number of octets that it sends or of positions that it inverts.
 fn told(line: &[u8]) -> Option<(Side, usize)> {
     match read_duplex_event(line) {
         Ok(DuplexEvent::Send(side, message)) => Some((side, message.octets().len())),
@@ -56,7 +56,7 @@ fn told(line: &[u8]) -> Option<(Side, usize)> {
     }
 }
 
-// Lines with what is told of their events: 5,000 for a timeout, 5,001 for a reopening, and from 6,000 on a delivery.
+// Lines with the values of their events: 5,000 for a timeout, 5,001 for a reopening, and from 6,000 on a delivery.
 const READ: [(&[u8], Side, usize); 7] = [
     (b"a send 6162", Side::A, 2),
     (b"b send -", Side::B, 0),
@@ -82,7 +82,7 @@ fn parsed_step(world: &mut DuplexWorld, line: &str) -> Option<DuplexStep> {
     }
 }
 
-// Whether a line is parsed, and its step is shown as this text.
+// Whether a line is parsed, and its step is displayed as this text.
 fn is_shown(alloc: Global, world: &mut DuplexWorld, line: &str, want: &str) -> bool {
     match parsed_step(world, line) {
         Some(step) => match StepText(&step).to_string(alloc) {

@@ -1,4 +1,4 @@
-//! Lines that are refused, and scripts with what comes of them.
+//! Lines that are refused, and scripts with their results.
 
 ghost use Rattle.std.specs.Prelude.{◌≤◌};
 
@@ -29,7 +29,7 @@ fn parsed_step(world: &mut LongWorld, line: &str) -> Option<LongStep> {
     }
 }
 
-// Whether a step is shown as this text.
+// Whether a step is displayed as this text.
 fn is_shown(alloc: Global, step: &LongStep, want: &str) -> bool {
     match StepText(step).to_string(alloc) {
         Ok(text) => text.as_str() == want,
@@ -37,7 +37,7 @@ fn is_shown(alloc: Global, step: &LongStep, want: &str) -> bool {
     }
 }
 
-// Whether a line is parsed, and its step is shown as this text.
+// Whether a line is parsed, and its step is displayed as this text.
 fn is_parsed_and_shown(alloc: Global, line: &str, want: &str) -> bool {
     let mut world = LongWorld::new(alloc);
     match parsed_step(&mut world, line) {
@@ -46,7 +46,7 @@ fn is_parsed_and_shown(alloc: Global, line: &str, want: &str) -> bool {
     }
 }
 
-// An event is parsed from its line, and a step is shown with both pieces of its text.
+// An event is parsed from its line, and a step is displayed with both parts of its text.
 #[test]
 fn event_is_parsed_and_step_shown(rt: HostRuntime) {
     let text = "long taken parts=1\nsend taken ns=0 blocks=1\n";
@@ -87,7 +87,7 @@ fn refused_lines(rt: HostRuntime) {
     assert_eq!(rt; read_long_event(&zeros).err(), Some(LineFault::Value));
 }
 
-// Whether a line is read as a long message of so many octets.
+// Whether a line decodes to a long message of this number of octets.
 fn has_octets(line: &[u8], count: usize) -> bool {
     match read_long_event(line) {
         Ok(LongEvent::Long(message)) => message.octets().len() == count,
@@ -102,7 +102,7 @@ fn read_lines(rt: HostRuntime) {
     assert!(rt; matches!(read_long_event(b"timeout"), Ok(LongEvent::Inner(_))));
 }
 
-// A line, and the two pieces of the text of its step.
+// A line, and the two parts of the text of its step.
 type Row = (&'static [u8], &'static [u8], &'static [u8]);
 
 // The step of a line that is read.
@@ -121,7 +121,7 @@ fn is_told(world: &mut LongWorld, row: &Row) -> bool {
     }
 }
 
-// Whether a step has this text, in two pieces.
+// Whether a step has this text, in two parts.
 fn has_text(step: &LongStep, first: &[u8], second: &[u8]) -> bool {
     let mut out = Line::new();
     let mut behind = Line::new();
@@ -136,7 +136,7 @@ fn closes_with(world: &LongWorld, closing: &[u8]) -> bool {
     out.octets() == closing
 }
 
-// Whether sixteen tries time out.
+// Whether sixteen transmissions time out.
 fn tries_time_out(world: &mut LongWorld) -> bool {
     for _tries in 0..16 {
         if step_of(world, b"timeout").is_none() {
@@ -152,7 +152,7 @@ const DOWN: [Row; 3] = [
     (b"long 61", b"", b"long busy\n"),
 ];
 
-// The long message is not acknowledged: after sixteen tries the sender is down, until it reopens.
+// The long message is not acknowledged: after sixteen transmissions the sender is down, until it reopens.
 #[test]
 fn down_and_another_session(rt: HostRuntime) {
     let mut world = LongWorld::new(rt.alloc());

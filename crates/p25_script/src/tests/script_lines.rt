@@ -22,7 +22,7 @@ const FAULTS: [(&str, LineFault); 15] = [
     ("deliver voice 3,3", LineFault::Key),
 ];
 
-// The first fault of a line is told.
+// The first fault of a line is returned.
 #[test]
 fn first_faults(rt: HostRuntime) {
     assert_eq!(rt; read_event(&[b'a'; 8_193]).err(), Some(LineFault::Long));
@@ -47,7 +47,7 @@ const VALUES: [&[u8]; 15] = [
     b"deliver answer +3",
 ];
 
-// A message of 2,029 octets is too long, and so are other values refused.
+// A message of 2,029 octets is too long, and other values are refused too.
 #[test]
 fn refused_values(rt: HostRuntime) {
     let mut long = [b'0'; 5 + 4_058];
@@ -66,7 +66,7 @@ fn sends(line: &[u8], octets: &[u8]) -> bool {
     }
 }
 
-// Whether a line delivers what goes this way, with so many bits inverted.
+// Whether a line delivers the newest transmission of this direction, with this number of bits inverted.
 fn delivers(line: &[u8], to: Way, count: usize) -> bool {
     match read_event(line) {
         Ok(Event::ToReceiver(flips)) => to == Way::Packets && flips.len() == count,

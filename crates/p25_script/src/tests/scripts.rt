@@ -1,4 +1,4 @@
-//! Scripts, with what comes of them.
+//! Scripts with their results.
 
 use super::is_text_of;
 use crate::{Event, EventLine, StepText, World, closing_text, read_event, step_text};
@@ -17,7 +17,7 @@ fn step_of_an_event(rt: HostRuntime) -> Result<(), Fail> {
     Ok(())
 }
 
-// An event is parsed from its line, and a step is shown.
+// An event is parsed from its line, and a step is displayed.
 #[test]
 fn event_is_parsed_and_step_shown(rt: HostRuntime) -> Result<(), Fail> {
     let mut world = World::new(rt.alloc());
@@ -34,7 +34,7 @@ fn event_is_parsed_and_step_shown(rt: HostRuntime) -> Result<(), Fail> {
     Ok(())
 }
 
-// Has the event of a line happen, and answers whether the step has this text.
+// Makes the event of a line happen, and returns whether the step has this text.
 fn steps_to(world: &mut World, line: &[u8], text: &[u8]) -> bool {
     match read_event(line) {
         Ok(event) => happens(world, &event, text),
@@ -42,7 +42,7 @@ fn steps_to(world: &mut World, line: &[u8], text: &[u8]) -> bool {
     }
 }
 
-// Has an event happen, and answers whether the step has this text.
+// Makes an event happen, and returns whether the step has this text.
 fn happens(world: &mut World, event: &Event, text: &[u8]) -> bool {
     match world.step(event) {
         Ok(step) => is_text_of(&step, text),
@@ -50,7 +50,7 @@ fn happens(world: &mut World, event: &Event, text: &[u8]) -> bool {
     }
 }
 
-// Has the events of lines happen, each with the text of its step, and then the world has this closing text.
+// Makes the events of lines happen, each with the text of its step, and then the world has this closing text.
 fn has_told(rt: &impl Abort, world: &mut World, rows: &[(&[u8], &[u8])], closing: &[u8]) {
     for (line, text) in rows {
         assert!(rt; steps_to(world, line, text));

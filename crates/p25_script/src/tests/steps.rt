@@ -8,7 +8,7 @@ use p25_packet_blocks::Flags;
 use p25_status::Field;
 use std::test::Fail;
 
-// Whether a step of this kind, which is no false pass, has this text.
+// Whether a step of this type, which is no false pass, has this text.
 fn has_text(kind: StepKind, text: &[u8]) -> bool {
     let step = Step {
         kind,

@@ -1,15 +1,15 @@
-//! A call of four voice units (HDU, LDU1, LDU2 and TDULC): built, shown, counted, repaired, bridged and grouped; each read and each
-//! write fails in turn, and it is cut off after each of its octets.
+//! A call of four voice data units (HDU, LDU1, LDU2 and TDULC): built, shown, counted, repaired, bridged and grouped.
+//! Each read and each write fails in turn, and it is cut off after each of its octets.
 
 use super::{Call, build, calm, ends, lines_of, put_named, writes};
 use p25_line::Line;
 use p25_tool::Outcome;
 use std::alloc::Global;
 
-// How many octets the first units of the call have, none of them and all.
+// The numbers of octets of the first data units of the call, of none and of all.
 const ENDS: [u16; 5] = [0, 99, 315, 531, 585];
 
-// How many units of the call are whole in its first octets.
+// The number of data units of the call that are whole in its first octets.
 fn whole_in(octets: usize) -> usize {
     match octets {
         0..=98 => 0,
@@ -20,7 +20,7 @@ fn whole_in(octets: usize) -> usize {
     }
 }
 
-// Whether the call is shown, found without a fault and repaired as it is.
+// Whether the call is shown, found without a fault and repaired unchanged.
 fn is_reported(alloc: Global, call: &[u8]) -> bool {
     writes(alloc, &[b"show"], call, lines_of(4, true).octets())
         && writes(alloc, &[b"check"], call, b"check units=4 faults=0\n")
@@ -69,7 +69,7 @@ fn units_are_grouped_into_calls(rt: HostRuntime) {
     assert!(rt; writes(rt.alloc(), &[b"calls"], b"", b"calls=0\n"));
 }
 
-// Whether a read that fails ends `calls`, after such a text.
+// Whether a read that fails ends `calls`, after this text.
 fn calls_end_so(alloc: Global, input: &[u8], failing_read: u64, text: &[u8]) -> bool {
     let call = Call {
         failing_read,
@@ -133,7 +133,7 @@ fn each_write_fails_in_turn(rt: HostRuntime) {
     }
 }
 
-// What is shown of the first octets of the call: the units that are whole, and then what is left of the next.
+// The text of `show` for the first octets of the call: the data units that are whole, and then the rest of the next.
 fn cut_off(octets: u16) -> Line {
     let whole = whole_in(usize::from(octets));
     let mut text = lines_of(whole, true);
@@ -150,7 +150,7 @@ fn cut_off(octets: u16) -> Line {
     text
 }
 
-// Whether the call is shown so that is cut off after so many octets.
+// Whether the call cut off after this number of octets is shown so.
 fn is_cut_off(alloc: Global, octets: &[u8], size: u16) -> bool {
     let front = octets.get(..usize::from(size)).unwrap_or(&[]);
     let call = calm(&[b"show"], front, 64);

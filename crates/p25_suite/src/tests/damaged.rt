@@ -1,25 +1,25 @@
-//! A call (HDU, LDU1, LDU2 and TDULC) whose units have as many wrong bits as their codes correct: it is shown and repaired as it was
-//! sent.
+//! A call (HDU, LDU1, LDU2 and TDULC) whose data units have as many bit errors as their codes correct: it is shown and
+//! repaired as transmitted.
 
 use super::{Inverted, PARTS, build, invert, lines_of, put_short, writes};
 use p25_line::Line;
 
-// A unit of the call: its first octet and the one after its last, the bits that are inverted, and what `show` says before its
-// line. In each, 4 bits of the sync, 11 of the network identifier (NID) and its last one are wrong.
+// A data unit of the call: its first octet and the one after its last, the inverted bits, and the text of `show` before
+// its line. In each, 4 bits of the sync, 11 of the network identifier (NID) and its last one are wrong.
 type AtRadius = (usize, usize, &'static [Inverted], &'static [u8]);
 
 const FRONT: [Inverted; 3] = [(0, 0, 1, 4), (48, 0, 1, 11), (111, 0, 1, 1)];
 
 const CALL: [AtRadius; 4] = [
-    // Of the HDU eight Golay words are inverted, and three bits of each other.
+    // In the HDU eight Golay words are inverted, and three bits of each other.
     (
         0,
         99,
         &[(112, 18, 8, 18), (256, 18, 28, 3)],
         b"unit at=0 bits=792 fix=243 status=11111111111 ",
     ),
-    // Of the LDU1 twelve Hamming words are inverted, so that they cannot be read, and a bit of each other; two bits of each word of its
-    // low speed data (LSD).
+    // In the LDU1 twelve Hamming words are inverted, so that they are uncorrectable, and a bit of each other; two bits
+    // of each word of its low speed data (LSD).
     (
         99,
         315,
@@ -34,8 +34,8 @@ const CALL: [AtRadius; 4] = [
         ],
         b"unit at=792 bits=1728 fix=151 status=111111111111111111111111 ",
     ),
-    // Of the LDU2 four Hamming words are others of their code; a bit of each other is inverted, and two of each word of its low speed
-    // data (LSD).
+    // In the LDU2 four Hamming words are replaced by other codewords; a bit of each other is inverted, and two of each
+    // word of its low speed data (LSD).
     (
         315,
         531,
@@ -50,7 +50,7 @@ const CALL: [AtRadius; 4] = [
         ],
         b"unit at=2520 bits=1728 fix=51 status=111111111111111111111111 ",
     ),
-    // Of the TDULC three Golay words are inverted, and three bits of each other.
+    // In the TDULC three Golay words are inverted, and three bits of each other.
     (
         531,
         585,
@@ -59,7 +59,7 @@ const CALL: [AtRadius; 4] = [
     ),
 ];
 
-// Inverts the bits of a unit.
+// Inverts the bits of a data unit.
 fn damage(call: &mut [u8], unit: &AtRadius) {
     let bits = call.get_mut(unit.0..unit.1).unwrap_or(&mut []);
     for inverted in FRONT.iter().chain(unit.2) {
@@ -67,7 +67,7 @@ fn damage(call: &mut [u8], unit: &AtRadius) {
     }
 }
 
-// What `show` writes of the call.
+// The output of `show` for the call.
 fn shown() -> Line {
     let mut text = Line::new();
     for (unit, part) in CALL.iter().zip(PARTS.iter()) {

@@ -1,6 +1,6 @@
-//! Drawn units (HDU, LDU1, LDU2, TDU, TDULC and PDU): a line of a drawn kind with drawn values, its image, and that image with wrong
-//! bits at drawn places, as few as the codes of the unit correct. Each kind after noise, and 200 units end to end, are shown and
-//! repaired as they were sent.
+//! Drawn data units (HDU, LDU1, LDU2, TDU, TDULC and PDU): a line of a drawn type with drawn values, its image, and
+//! that image with bit errors at drawn positions, as few as the codes of the data unit correct. Each type after noise,
+//! and 200 data units end to end, are shown and repaired as transmitted.
 
 ghost use Rattle.std.specs.Prelude.{◌<◌};
 
@@ -11,15 +11,16 @@ use p25_line::Line;
 use p25_tool::{Outcome, run};
 use std::alloc::Global;
 
-// Words of a unit: the first place, how far the next is, how many there are, how many bits each has, how many of these may be
-// wrong, and in how many of the words any of them may be. Places count the bits of a unit without its status symbols.
+// Words of a data unit: the first position, the distance to the next, their number, the number of bits of each, the
+// most bit errors of each, and the number of words with any number of bit errors. Positions count the bits of a data
+// unit without its status symbols.
 type Damage = (u16, u16, u16, u16, u16, u16);
 
-// A kind of unit: its line with a question mark for each drawn digit, whether the digits of nine voice frames end it, and what
-// may be wrong after its network identifier (NID).
+// A type of data unit: its line with a question mark for each drawn digit, whether the digits of nine voice frames end
+// it, and the possible bit errors after its network identifier (NID).
 type Kind = (&'static [u8], bool, &'static [Damage]);
 
-// What may be wrong in an LDU1 after its front.
+// The possible bit errors of an LDU1 after sync and NID.
 const LINK_1: [Damage; 7] = [
     (400, 10, 4, 10, 1, 1),
     (584, 10, 4, 10, 1, 1),
@@ -30,7 +31,7 @@ const LINK_1: [Damage; 7] = [
     (1504, 16, 2, 16, 2, 0),
 ];
 
-// What may be wrong in an LDU2 after its front.
+// The possible bit errors of an LDU2 after sync and NID.
 const LINK_2: [Damage; 7] = [
     (400, 10, 4, 10, 1, 2),
     (584, 10, 4, 10, 1, 0),
@@ -80,10 +81,10 @@ const KINDS: [Kind; 8] = [
     ),
 ];
 
-// The sync and the network identifier (NID), of which the last bit is free.
+// The sync and the network identifier (NID), the last bit of which is free.
 const FRONT: [Damage; 2] = [(0, 0, 1, 48, 4, 0), (48, 0, 1, 63, 11, 0)];
 
-// Numbers that are drawn: a linear congruence of 64 bits, of which the upper ones are given.
+// Drawn numbers: a linear congruence of 64 bits, of which the upper ones are returned.
 #[derive(Drop)]
 struct Draw {
     state: u64,
@@ -107,8 +108,8 @@ impl Draw {
     }
 }
 
-// A drawn unit: its line, its status symbol, its image and that image with wrong bits, how many octets these have, and how many
-// bits are wrong.
+// A drawn data unit: its line, its status symbol, its image and that image with bit errors, their number of octets, and
+// the number of bit errors.
 #[derive(Drop)]
 struct Drawn {
     line: Line,
@@ -128,7 +129,7 @@ impl Drawn {
         self.came.get(..self.size).unwrap_or(&[])
     }
 
-    // What `show` writes of the unit at a place, with so many fixes.
+    // The output of `show` for the data unit at a position, with a number of fixes.
     fn shown(&self, place: u64, fixes: u64) -> Line {
         let mut text = Line::new();
         put_named(&mut text, b"unit at=", place);
@@ -156,7 +157,7 @@ fn put_drawn(line: &mut Line, octet: u8, draw: &mut Draw) {
     }
 }
 
-// The line of a unit of a kind.
+// The line of a data unit of a type.
 fn line_of(kind: &Kind, draw: &mut Draw) -> Line {
     let mut line = Line::new();
     for octet in kind.0 {
@@ -170,7 +171,7 @@ fn line_of(kind: &Kind, draw: &mut Draw) -> Line {
     line
 }
 
-// Inverts so many bits of a word at drawn places: each place is chosen as often as any other.
+// Inverts `wrong` bits of a word at drawn positions: each position is equally probable.
 fn damage_word(unit: &mut [u8], first: usize, width: u16, wrong: u64, draw: &mut Draw)
     requires { first < 30000 }
 {
@@ -183,7 +184,8 @@ fn damage_word(unit: &mut [u8], first: usize, width: u16, wrong: u64, draw: &mut
     }
 }
 
-// How many bits of a word are wrong: any number in a lost word, else as many as may be, or fewer where they are drawn.
+// The number of bit errors of a word: any number in a lost word, otherwise as many as possible, or fewer if they are
+// drawn.
 fn wrong_in(words: &Damage, lost: bool, full: bool, draw: &mut Draw) -> u64 {
     let (_, _, _, width, most, _) = *words;
     if lost {
@@ -195,7 +197,7 @@ fn wrong_in(words: &Damage, lost: bool, full: bool, draw: &mut Draw) -> u64 {
     }
 }
 
-// Damages some words, and answers how many bits are wrong.
+// Damages some words, and returns the number of bit errors.
 fn damage_words(unit: &mut [u8], words: &Damage, full: bool, draw: &mut Draw) -> u64 {
     let (first, step, count, width, _, lost) = *words;
     let mut lost = u64::from(lost);
@@ -215,8 +217,8 @@ fn damage_words(unit: &mut [u8], words: &Damage, full: bool, draw: &mut Draw) ->
     all
 }
 
-// A unit of a kind, with as many wrong bits as may be in its sync, its network identifier (NID) and its words, or with drawn
-// numbers of them. The last bit of the identifier is wrong.
+// A data unit of a type, with as many bit errors as possible in its sync, its network identifier (NID) and its words,
+// or with drawn numbers of them. The last bit of the NID is wrong.
 fn draw_unit(alloc: Global, kind: &Kind, full: bool, draw: &mut Draw) -> Drawn {
     let line = line_of(kind, draw);
     let symbol = b'0' + draw.below(4) as u8;
@@ -238,7 +240,7 @@ fn draw_unit(alloc: Global, kind: &Kind, full: bool, draw: &mut Draw) -> Drawn {
     }
 }
 
-// Puts so many bits after others, where these are few.
+// Appends a small number of equal bits.
 fn put_bits(bits: &mut BitBuf, bit: bool, count: u32) {
     for _ in 0..count {
         if bits.len() < 4_000 {
@@ -247,7 +249,7 @@ fn put_bits(bits: &mut BitBuf, bit: bool, count: u32) {
     }
 }
 
-// Octets after so many bits that are 1, with zeros after them up to a whole octet.
+// Octets after a number of bits 1, with zeros after them up to a whole octet.
 fn behind(noise: u32, octets: &[u8], out: &mut [u8; 257])
     requires { noise < 8 }
 {
@@ -266,7 +268,7 @@ fn behind(noise: u32, octets: &[u8], out: &mut [u8; 257])
     }
 }
 
-// What `show` writes of a unit after noise.
+// The output of `show` for a data unit after noise.
 fn shown_behind(noise: u32, unit: &Drawn, fixes: u64) -> Line
     requires { noise < 8 }
 {
@@ -281,7 +283,7 @@ fn shown_behind(noise: u32, unit: &Drawn, fixes: u64) -> Line
     text
 }
 
-// Whether a unit after noise is shown and repaired, and then shown with no fixes.
+// Whether a data unit after noise is shown and repaired, and then shown without fixes.
 fn is_found(alloc: Global, noise: u32, unit: &Drawn) -> bool
     requires { noise < 8 }
 {
@@ -297,7 +299,7 @@ fn is_found(alloc: Global, noise: u32, unit: &Drawn) -> bool
         && writes(alloc, &[b"show"], &sent[..size], undamaged.octets())
 }
 
-// Whether drawn units of a kind are found, each after one more bit of noise.
+// Whether drawn data units of a type are found, each after one more bit of noise.
 fn are_found(alloc: Global, kind: &Kind, draw: &mut Draw) -> bool {
     let mut all = true;
     for noise in 1..8_u32 {
@@ -315,7 +317,7 @@ fn each_kind_at_its_radius_behind_noise(rt: HostRuntime) {
     }
 }
 
-// Whether a command is done and writes such octets.
+// Whether a command ends as done with this output.
 fn gives(alloc: Global, word: &[u8], input: &[u8], output: &[u8]) -> bool {
     let mut source = SteadySource::new(input, 4_096);
     let mut room = [0; 65_536];
@@ -324,7 +326,8 @@ fn gives(alloc: Global, word: &[u8], input: &[u8], output: &[u8]) -> bool {
         && sink.written() == output
 }
 
-// Whether drawn units of all kinds, end to end, each with wrong bits at drawn places, are shown and repaired as they were sent.
+// Whether drawn data units of all types, end to end, each with bit errors at drawn positions, are shown and repaired as
+// transmitted.
 fn all_read_back(alloc: Global, seed: u64, count: usize) -> bool {
     let mut draw = Draw::new(seed);
     let (mut sent_room, mut came_room, mut text_room) = ([0; 32_768], [0; 32_768], [0; 65_536]);

@@ -17,7 +17,8 @@ const RECORDING: &[u8; 56] =
 const TEXT: &[u8; 164] = b"unit at=0 bits=144 fix=0 status=11 tdu nac=000\ngap at=144 bits=16\n\
     unit at=160 bits=144 fix=0 status=11 tdu nac=000\nunit at=304 bits=144 fix=0 status=11 tdu nac=000\n";
 
-// How many octets of the text the first octets of the recording decide. The gap is known with the sync after it.
+// The number of octets of the text that the first octets of the recording determine. The gap is known with the sync
+// after it.
 fn decided(octets: usize) -> usize {
     match octets {
         0..=17 => 0,
@@ -48,7 +49,7 @@ fn each_read_fails_in_turn(rt: HostRuntime) {
     }
 }
 
-// Whether the call ends so where a write fails, after so many octets.
+// Whether this is the end of the call if a write fails, after this number of octets.
 fn write_fails(alloc: Global, write: u64, outcome: Outcome, count: usize) -> bool {
     let call = Call {
         failing_write: write,
@@ -65,10 +66,11 @@ fn each_write_fails_in_turn(rt: HostRuntime) {
     assert!(rt; write_fails(rt.alloc(), 5, Outcome::Done, 164));
 }
 
-// The text of the recording cut off after so many octets.
+// The text of the recording cut off after this number of octets.
 #[tactic(auto, using(p25_line::proofs::DecimalLaws::decimal_short))]
 fn put_cut_text(octets: usize, out: &mut Line) {
-    // How many octets of the text stand before the items that are cut off, where these begin, and whether a gap comes first.
+    // The number of octets of the text before the items that are cut off, their beginning, and whether a gap comes
+    // first.
     let (count, begin, gap) = match octets {
         0..=17 => (0, 0, 0),
         18..=25 => (47, 18, 2),
@@ -122,7 +124,7 @@ fn a_recording_is_cut_off_behind_each_octet(rt: HostRuntime) {
 const REFUSED_SECOND_LINE: &[u8] =
     b"tdu nac=000\nhdu nac=000 mi=0 mfid=00 algid=00 kid=0000 tgid=0000\n";
 
-// What the lines before a refused one ask for is written first.
+// The output for the lines before a refused one is written first.
 #[test]
 fn a_write_fault_comes_before_a_refused_line(rt: HostRuntime) {
     let call = Call {
@@ -132,7 +134,7 @@ fn a_write_fault_comes_before_a_refused_line(rt: HostRuntime) {
     assert!(rt; ends(rt.alloc(), &call, Outcome::WriteFault, b""));
 }
 
-// Words that name no command touch nothing.
+// Words that name no command have no effect.
 const NO_COMMANDS: [&[&[u8]]; 19] = [
     &[],
     &[b"show", b"show"],
@@ -155,7 +157,7 @@ const NO_COMMANDS: [&[&[u8]]; 19] = [
     &[b"follow", b"1"],
 ];
 
-// Whether such words are refused, and no octet is read or written.
+// Whether these words are refused, and no octet is read or written.
 fn is_usage(alloc: Global, words: &[&[u8]]) -> bool {
     let mut source = MemorySource::new(RECORDING, 7, &[1]);
     let mut sink = SliceSink::new(&mut [], &[1]);

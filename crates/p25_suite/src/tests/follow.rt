@@ -1,4 +1,4 @@
-//! Recordings in which syncs are lost, followed: whatever the reads, and with a read that fails.
+//! Recordings with damaged syncs, followed: whatever the reads, and with a read that fails.
 
 ghost use Rattle.std.specs.Prelude.{◌≡◌, length};
 
@@ -12,17 +12,18 @@ const TERMINATORS: &[u8; 72] =
     \x00\x00\x01\x00\x00\x00\x00\x00\x00\x00\x00\x01\x00\x00\x00\x00\x00\x00\x00\x00\x01\x00\x00\x00\
     \x00\x00\x00\x00\x00\x01\x55\x75\xF5\xFF\x77\xFF\x00\x03\x35\x93\x0B\xDD\x3B\x2B\x00\x00\x00\x01";
 
-// What `show` writes of them.
+// The output of `show` for them.
 const BOTH_SHOWN: &[u8] =
     b"unit at=0 bits=432 fix=0 status=111111 tdulc nac=000 lc=000000000000000000\n\
     unit at=432 bits=144 fix=0 status=11 tdu nac=000\n";
 
-// What it writes where the front of the second one is lost.
+// Its output if sync and NID of the second one are destroyed.
 const ONE_SHOWN: &[u8] =
     b"unit at=0 bits=432 fix=0 status=111111 tdulc nac=000 lc=000000000000000000\n\
     gap at=432 bits=144\n";
 
-// The front of the terminator as it came: what its row shows, its first 14 octets, and whether it is written.
+// Sync and NID of the terminator as received: the purpose of the row, their first 14 octets, and whether they are
+// written.
 const FRONTS: [(&str, &[u8; 14], bool); 6] = [
     (
         "five wrong bits in the sync",
@@ -56,7 +57,7 @@ const FRONTS: [(&str, &[u8; 14], bool); 6] = [
     ),
 ];
 
-// Whether a front comes out as its row says, is shown so, and comes out the same a second time.
+// Whether the output for a sync and NID is that of its row, is shown so, and is unchanged a second time.
 fn front_holds(alloc: Global, front: &[u8; 14], is_written: bool) -> bool {
     let mut came = *TERMINATORS;
     came[54..68].copy_from_slice(front);
@@ -75,7 +76,8 @@ fn fronts_after_a_terminator_with_link_control(rt: HostRuntime) {
     }
 }
 
-// The octets of a call of a header, an LDU1, an LDU2 and a TDULC, in which each unit but the header has five wrong bits in its sync.
+// The octets of a call of a header, an LDU1, an LDU2 and a TDULC, in which each data unit but the header has five bit
+// errors in its sync.
 fn lost_call(call: &[u8; 585]) -> [u8; 585]
     ensures { length result ≡ 585 }
 {
@@ -97,7 +99,7 @@ fn a_call_whose_syncs_are_lost(rt: HostRuntime) {
     assert!(rt; writes(rt.alloc(), &[b"show"], &call, lines_of(4, true).octets()));
 }
 
-// Whether a read that fails ends the call after the first octets of the recording, so many.
+// Whether a read that fails ends the call after this number of first octets of the recording.
 fn follow_ends_so(alloc: Global, came: &[u8], failing_read: u64, written: &[u8]) -> bool {
     let call = Call {
         failing_read,
@@ -106,7 +108,8 @@ fn follow_ends_so(alloc: Global, came: &[u8], failing_read: u64, written: &[u8])
     ends(alloc, &call, Outcome::ReadFault, written)
 }
 
-// After a read fault stands what the octets before it settle: no bit of a stretch of which fewer than 6,912 bits are there.
+// After a read fault the output is the decided part of the octets before it: no bit of a stretch with fewer than 6,912
+// bits there.
 #[test]
 fn what_is_followed_before_a_read_fault(rt: HostRuntime) {
     let mut call = [0; 585];

@@ -1,4 +1,5 @@
-//! The order of reads and writes of a call, as a tape tells it: a call of each kind of command, words that name none, and faults.
+//! The order of reads and writes of a call, from a tape: a call of each type of command, words that name none, and
+//! faults.
 
 use super::{put_named, words_of};
 use p25_io::{Call, MemorySource, SliceSink, Tape};
@@ -17,8 +18,8 @@ const LEVELS: &[u8; 72] =
     b"`````\xA0``\xA0\xA0``\xA0\xA0\xA0\xA0`\xA0`\xA0\xA0\xA0\xA0\xA0       \xA0 \xA0``\xE0` \xA0  \
     \xE0\xA0\xA0`\xA0` \xA0\xE0\xA0 \xE0\xE0\xA0               `";
 
-// A call: its words, its input, how many octets of it a read gives, and each read and write, by a letter and how many octets it read
-// or was to write; a fault has a capital letter.
+// A call: its words, its input, the number of octets that a read of it returns, and each read and write, by a letter
+// and the number of octets that it read or had to write; a fault has a capital letter.
 type Row = (
     &'static [&'static [u8]],
     &'static [u8],
@@ -26,7 +27,7 @@ type Row = (
     &'static [u8],
 );
 
-// Calls that are done, without a fault.
+// Calls that end as done, without a fault.
 const DONE: [Row; 9] = [
     (&[b"show"], RECORDING, 20, b" r20 w47 r20 w68 r16 w49 r0"),
     (&[b"follow"], RECORDING, 20, b" r20 w18 r20 w20 r16 w18 r0"),
@@ -64,7 +65,7 @@ const DONE: [Row; 9] = [
     (&[b"sample", b"1"], b"octets", 4, b" w24"),
 ];
 
-// Others, the number of the read and of the write that fail, none where it is 0, and how each ends.
+// Others, the numbers of the read and of the write that fail, none if it is 0, and the end of each.
 const ENDED: [(Row, (u64, u64), Outcome); 5] = [
     ((&[b"nothing"], b"octets", 4, b""), (0, 0), Outcome::Usage),
     (
@@ -116,7 +117,7 @@ fn text_of(calls: &[Call]) -> Line {
     text
 }
 
-// Whether a call of which these reads and writes fail ends so, and reads and writes as its row says.
+// Whether a call with these failing reads and writes ends so, with the reads and writes of its row.
 fn holds(alloc: Global, row: &Row, fails: (u64, u64), outcome: Outcome) -> bool {
     let (words, input, piece, text) = *row;
     let (reads, writes) = ([fails.0], [fails.1]);

@@ -1,5 +1,5 @@
-//! Packets (PDU): built from a line, their blocks damaged or replaced, shown in pieces of 1, of 2, of 7 and of all octets, and
-//! repaired.
+//! Packets (PDU): built from a line, their blocks damaged or replaced, shown in chunks of 1, of 2, of 7 and of all
+//! octets, and repaired.
 
 ghost use Rattle.std.specs.Prelude.{◌<◌};
 
@@ -7,19 +7,19 @@ use super::{build, change_bit, put_named, reads_as, writes};
 use p25_line::Line;
 use std::alloc::Global;
 
-// What becomes of some bits of a sent unit. Places count its bits without status symbols.
+// A change of some bits of a transmitted data unit. Positions count its bits without status symbols.
 #[derive(Clone, Copy)]
 enum Change {
-    // So many bits from a place on are inverted.
+    // This number of bits from a position on is inverted.
     Inverted(u16, u16),
-    // The 196 bits of the block at a place become those of a block of zeros: 49 times 0010.
+    // The 196 bits of the block at a position become those of a block of zeros: 49 times 0010.
     Zeroed(u16),
 }
 
 use Change::{Inverted, Zeroed};
 
-// A packet (PDU): what its row shows, its line, what becomes of its bits, and what `show` writes, which the line follows where the
-// packet is whole.
+// A packet (PDU): the purpose of the row, its line, the change of its bits, and the output of `show`, which the line
+// follows if the packet is whole.
 type Row = (
     &'static str,
     &'static [u8],
@@ -116,7 +116,7 @@ const UNKNOWN_FORMAT: [u8; 45] = [
     0xA7, 0x8C, 0x88, 0x88, 0xC2, 0x22, 0x22, 0xC0, 0x00, 0x00, 0x00, 0x00, 0x00,
 ];
 
-// Changes a bit as a change says.
+// Changes a bit by a change.
 fn change_at(octets: &mut [u8], change: Change, i: u16)
     requires { i < 10000 }
 {
@@ -144,7 +144,7 @@ fn changed(octets: &mut [u8], change: Change) {
     }
 }
 
-// Whether a row holds: its packet is shown as it says, and repaired where it is whole.
+// Whether a row holds: its packet has this output of `show`, and is repaired if it is whole.
 fn holds(alloc: Global, row: &Row) -> bool {
     let mut room = [0; 128];
     let size = build(alloc, b"0", row.1, &mut room);
@@ -181,7 +181,7 @@ fn largest_line() -> Line {
     line
 }
 
-// What `show` writes of it.
+// The output of `show` for it.
 fn largest_text(line: &Line) -> Line {
     let mut text = Line::new();
     text.put(b"unit at=0 bits=25920 fix=0 status=");
@@ -206,7 +206,7 @@ fn the_largest_packet(rt: HostRuntime) {
     assert!(rt; writes(rt.alloc(), &[b"show"], &room[..45], b"cut at=0 bits=360\n"));
 }
 
-// The line of a packet of a format with so many blocks of ones, in order.
+// The line of a packet of a format with a number of blocks of ones, in order.
 fn line_of(confirmed: bool, line_kind: &[u8], count: u8) -> Line {
     let mut line = Line::new();
     if line_kind.len() <= 60 && count < 128 {
@@ -227,7 +227,7 @@ fn line_of(confirmed: bool, line_kind: &[u8], count: u8) -> Line {
     line
 }
 
-// Puts a block of ones after those before it, the last of a packet with a packet CRC without its last four octets.
+// Appends a block of ones to those before it, the last of a packet with a packet CRC without its last four octets.
 fn put_block(confirmed: bool, block: u8, last: bool, line: &mut Line) {
     if line.len() > 8_000 {
         return;
@@ -244,7 +244,7 @@ fn put_block(confirmed: bool, block: u8, last: bool, line: &mut Line) {
     line.put_hex(&[255; 16]);
 }
 
-// What `show` writes of a packet of so many blocks without a wrong bit.
+// The output of `show` for a packet of a number of blocks without a bit error.
 fn shown(line: &Line, count: u8) -> Line {
     let symbols = (112 + 196 * (1 + u64::from(count))).div_ceil(70);
     let mut text = Line::new();
@@ -266,7 +266,7 @@ fn shown(line: &Line, count: u8) -> Line {
     text
 }
 
-// Whether a packet of a format with so many blocks is shown as its line.
+// Whether a packet of a format with a number of blocks is shown as its line.
 fn is_shown(alloc: Global, confirmed: bool, line_kind: &[u8], count: u8) -> bool {
     let line = line_of(confirmed, line_kind, count);
     let mut room = [0; 4_096];

@@ -1,4 +1,4 @@
-//! Lines that `build` refuses, after a line that it takes.
+//! Lines that `build` refuses, after a line that it accepts.
 
 use super::{calm, ends};
 use p25_line::{Line, LineFault};
@@ -9,7 +9,7 @@ use std::alloc::Global;
 const TERMINATOR: &[u8] =
     b"\x55\x75\xF5\xFF\x77\xFF\x00\x03\x35\x93\x0B\xDD\x3B\x2B\x00\x00\x00\x01";
 
-// A second line, and why it is refused.
+// A second line, and the reason for refusing it.
 const LINES: [(&[u8], LineFault); 5] = [
     (b"", LineFault::Form),
     (b"foo", LineFault::Kind),

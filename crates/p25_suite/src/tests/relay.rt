@@ -6,7 +6,7 @@ use p25_line::Line;
 use p25_tool::{Outcome, run};
 use std::alloc::Global;
 
-// Writes what a command makes of octets, and answers how many octets there are: none where it is not done.
+// Writes the output of a command for octets, and returns the number of octets: none if it is not done.
 fn made(alloc: Global, words: &[&[u8]], input: &[u8], room: &mut [u8]) -> usize {
     let mut source = SteadySource::new(input, 4_096);
     let mut sink = SliceSink::new(room, &[]);
@@ -26,7 +26,7 @@ fn whole_units_are_forwarded_as_by_a_bridge(rt: HostRuntime) {
     assert!(rt; writes(rt.alloc(), &[b"relay", b"293", b"1"], &call, &call));
 }
 
-// What is shown of the call after a relay under NAC 123 with the status symbol 2, whose LDU1 is broken.
+// The output of `show` for the call after a relay under NAC 123 with the status symbol 2, whose LDU1 is broken.
 fn broken_shown() -> Line {
     let mut text = Line::new();
     put_short(&mut text, b"unit at=0 bits=792 fix=0 status=22222222222 ");
@@ -52,7 +52,7 @@ fn broken_shown() -> Line {
     text
 }
 
-// Breaks the LDU1 of a call: seven words of its link control become others of their code.
+// Breaks the LDU1 of a call: seven words of its link control become other codewords.
 fn break_link(call: &mut [u8; 585]) {
     let mut link = [0; 216];
     link.copy_from_slice(&call[99..315]);
@@ -85,8 +85,8 @@ fn noise_is_forwarded_as_it_came(rt: HostRuntime) {
     assert!(rt; writes(rt.alloc(), &[b"relay", b"123", b"0"], &came, &sent));
 }
 
-// The first 304 bits of a packet (PDU) of NAC 0, which are all but the last 12 of its header, and a terminator with link control
-// (TDULC) with four wrong bits in its sync, with which that header does not read.
+// The first 304 bits of a packet (PDU) of NAC 0, which are all but the last 12 of its header, and a terminator with
+// link control (TDULC) with four bit errors in its sync, with which that header is uncorrectable.
 const BEFORE_UNIT: &[u8; 92] =
     b"\x55\x75\xF5\xFF\x77\xFF\x00\x0C\xD9\x4C\x2F\x74\xEC\xAC\x08\xC8\x6B\x05\xE2\x2F\xF9\xF5\x29\x7D\
     \x92\x22\x59\x2C\x88\xB6\x88\x88\x86\x00\x88\x65\x9C\x22\
@@ -94,8 +94,8 @@ const BEFORE_UNIT: &[u8; 92] =
     \x00\x00\x01\x00\x00\x00\x00\x00\x00\x00\x00\x01\x00\x00\x00\x00\x00\x00\x00\x00\x01\x00\x00\x00\
     \x00\x00\x00\x00\x00\x01";
 
-// What is written of a unit can make the header of a packet read that begins in the stretch before: then that packet is found, and the
-// unit is not.
+// The output for a data unit can make the header of a packet correctable that begins in the stretch before: then that
+// packet is found, and the data unit is not.
 #[test]
 fn a_header_before_a_unit_can_read_afterwards(rt: HostRuntime) {
     let mut came = [0; 92];

@@ -1,4 +1,4 @@
-//! What each command writes, as a table of inputs, each read in pieces of 1, of 7 and of all octets.
+//! The output of each command, as a table of inputs, each read in chunks of 1, of 7 and of all octets.
 
 use super::{calm, ends};
 use p25_line::LineFault;
@@ -25,7 +25,8 @@ const PARITY_INVERTED: &[u8] =
 const ELEVEN_WRONG: &[u8] =
     b"\x55\x75\xF5\xFF\x77\xFF\xFF\xE3\x35\x93\x0B\xDD\x3B\x2B\x00\x00\x00\x01";
 
-// A sync, and after it 64 bits that are no network identifier (NID): they differ from each BCH word in 21 places at least.
+// A sync, and after it 64 bits that are no network identifier (NID): they differ from each BCH codeword in at least 21
+// positions.
 const NID_BEYOND: &[u8] =
     b"\x55\x75\xF5\xFF\x77\xFF\x00\x03\x69\x0B\x51\x49\xD2\xC1\x80\x00\x00\x01";
 
@@ -235,7 +236,7 @@ const LINES: [Row; 9] = [
     ),
 ];
 
-// Whether a call ends and writes as its row says, whatever the reads.
+// Whether a call has the end and the output of its row, whatever the reads.
 fn holds(alloc: Global, row: &Row) -> bool {
     let mut all = true;
     for piece in [1, 7, 4_096] {
@@ -258,7 +259,7 @@ fn lines_are_built(rt: HostRuntime) {
     }
 }
 
-// A second line of 8,193 octets is too long, whatever stands in it.
+// A second line of 8,193 octets is too long, whatever its contents.
 #[test]
 fn a_long_line_is_refused(rt: HostRuntime) {
     let mut input = [b'x'; 8_205];

@@ -1,4 +1,5 @@
-//! Sample units: the line that tells of them, the numbers that are refused, and each unit read from its damaged bits.
+//! Sample data units: the line about them, the numbers that are refused, and the decoding of each data unit from its
+//! damaged bits.
 
 ghost use Rattle.std.specs.Prelude.{◌≡◌, ◌≤◌, Ok, length};
 ghost use Rattle.p25_units.specs.{Needs.{need_of}, Readings.{unit_reading_of}, Units.{IsSoundFrame}, declared.needs.Need.TheVariants.{Length}};
@@ -11,7 +12,7 @@ use p25_units::{Frame, Need, fixes, frame_length, image, need, read_unit};
 use p25_vectors::{SampleUnit, Sampler};
 use std::alloc::Global;
 
-// The word after `sample`, what is written, and how the call ends.
+// The word after `sample`, the output, and the end of the call.
 type Row = (&'static [u8], &'static [u8], Outcome);
 
 const CALLS: [Row; 8] = [
@@ -29,7 +30,7 @@ const CALLS: [Row; 8] = [
     (b"1 ", b"", Outcome::Usage),
 ];
 
-// Whether a call ends and writes as its row says, and reads nothing from a source that fails at its first read.
+// Whether a call has the end and the output of its row, and reads nothing from a source that fails at its first read.
 fn holds(alloc: Global, row: &Row) -> bool {
     let (number, text, outcome) = *row;
     let fails = [1];
@@ -64,7 +65,7 @@ fn a_failed_write_ends_the_call(rt: HostRuntime) {
     assert!(rt; outcome == Outcome::WriteFault);
 }
 
-// The first unit, shown as a recording.
+// The first data unit, shown as a recording.
 #[test]
 fn the_first_unit_is_shown(rt: HostRuntime) {
     let mut sampler = Sampler::new();
@@ -94,7 +95,7 @@ fn same_image(a: &Frame, b: &Frame) -> bool
     first.len() == second.len() && BitBuf::distance(&first, &second) == 0
 }
 
-// Whether a frame that was read is a unit's, with as many fixes as bits are inverted.
+// Whether a decoded frame is a data unit's, with as many fixes as inverted bits.
 fn is_unit(read: &Frame, unit: &SampleUnit, bits: &BitBuf) -> bool
     requires first { IsSoundFrame read.now }
     requires second { IsSoundFrame unit.now.frame }
@@ -105,7 +106,7 @@ fn is_unit(read: &Frame, unit: &SampleUnit, bits: &BitBuf) -> bool
     same_image(read, &unit.frame) && fixes(bits, 0, read) == unit.flips
 }
 
-// Whether damaged bits read as a unit's frame.
+// Whether damaged bits decode to a data unit's frame.
 fn reads_again(unit: &SampleUnit, bits: &BitBuf) -> bool
     requires sound { IsSoundFrame unit.now.frame }
     requires length { need_of bits.now ≡ Length (length bits.now) }
@@ -120,7 +121,7 @@ fn reads_again(unit: &SampleUnit, bits: &BitBuf) -> bool
     }
 }
 
-// How many bits are inverted of the first units, where each reads as itself; else none.
+// The number of inverted bits of the first data units, if each decodes to itself; otherwise none.
 fn flips_read(units: u32) -> u64
     requires { units ≤ 10000 }
 {

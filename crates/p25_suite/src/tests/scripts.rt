@@ -9,8 +9,8 @@ use p25_io::{MemorySource, Sink, SliceSink};
 use p25_tool::{Outcome, Words, run};
 use std::alloc::Global;
 
-// A call on a script: its word, its octets, how many of them a read gives, the number of the read and of the write that fail, none
-// where it is 0, and how many octets the sink takes.
+// A call on a script: its word, its octets, the number of them that a read returns, the numbers of the read and of the
+// write that fail, none if it is 0, and the number of octets that the sink takes.
 #[derive(Clone, Copy)]
 struct Call<'a> {
     word: &'a [u8],
@@ -21,7 +21,7 @@ struct Call<'a> {
     room: usize,
 }
 
-// A call of which nothing fails.
+// A call in which nothing fails.
 fn calm<'a>(word: &'a [u8], script: &'a [u8], piece: usize) -> Call<'a> {
     Call {
         word,
@@ -33,7 +33,7 @@ fn calm<'a>(word: &'a [u8], script: &'a [u8], piece: usize) -> Call<'a> {
     }
 }
 
-// Whether a call ends so, and this is what it writes.
+// Whether a call ends so, with this output.
 fn ends(alloc: Global, call: &Call, outcome: Outcome, text: &[u8]) -> bool {
     let mut words = Words::new();
     words.add(call.word);
@@ -44,7 +44,7 @@ fn ends(alloc: Global, call: &Call, outcome: Outcome, text: &[u8]) -> bool {
     run(alloc, &words, &mut source, &mut sink) == outcome && sink.written() == text
 }
 
-// Puts parts one after the other, and answers whether there is room for them.
+// Writes parts one after the other, and returns whether there is capacity for them.
 fn are_joined(parts: &[&[u8]], sink: &mut SliceSink) -> bool {
     for part in parts {
         if sink.write(part).is_err() {
@@ -54,14 +54,14 @@ fn are_joined(parts: &[&[u8]], sink: &mut SliceSink) -> bool {
     true
 }
 
-// A script: its name, its lines and what is written for them, each in parts.
+// A script: its name, its lines and the output for them, each in parts.
 type Row = (
     &'static str,
     &'static [&'static [u8]],
     &'static [&'static [u8]],
 );
 
-// Whether a command is done with a script and writes this text, read in pieces of 1, of 2, of 7 and of all octets.
+// Whether a command ends a script as done with this output, read in chunks of 1, of 2, of 7 and of all octets.
 fn tells(alloc: Global, word: &[u8], row: &Row) -> bool {
     let (mut script_room, mut text_room) = ([0; 16_384], [0; 32_768]);
     let mut script = SliceSink::new(&mut script_room, &[]);

@@ -29,7 +29,7 @@ impl Sink for LineCounter {
     }
 }
 
-// How many zeros the input has, how the call ends, and how many lines and octets it writes.
+// The number of zeros of the input, the end of the call, and the numbers of lines and octets of its output.
 type Row = (usize, Outcome, u64, u64);
 
 const SIZES: [Row; 2] = [
@@ -37,7 +37,7 @@ const SIZES: [Row; 2] = [
     (16_777_217, Outcome::TooLong, 32_767, 857_576),
 ];
 
-// Whether a recording that is read in such pieces ends and is written as its row says.
+// Whether a recording that is read in such chunks has the end and the output of its row.
 fn holds(alloc: Global, recording: &[u8], piece: usize, row: &Row) -> bool {
     let mut source = SteadySource::new(recording, piece.max(1));
     let mut sink = LineCounter {

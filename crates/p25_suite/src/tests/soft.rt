@@ -1,5 +1,5 @@
-//! Soft recordings: units built from lines, their levels changed, and what `soft` and `show` make of them in pieces of 1, of 3 and of
-//! all octets.
+//! Soft recordings: data units built from lines, their levels changed, and the output of `soft` and `show` for them in
+//! chunks of 1, of 3 and of all octets.
 
 ghost use Rattle.std.specs.Prelude.{◌≡◌, length};
 
@@ -8,8 +8,9 @@ use p25_io::{MemorySource, SliceSink, SteadySource};
 use p25_tool::{Outcome, run};
 use std::alloc::Global;
 
-// A unit: what its row shows, its line, how many bits 0 stand before it, which levels become which octets, what `show` writes of the
-// hard bits, whether the output is the bits as they were sent, and which octets of these it has otherwise.
+// A data unit: the purpose of the row, its line, the number of bits 0 before it, the levels that become other octets,
+// the output of `show` for the hard bits, whether the output is the transmitted bits, and the octets of these that
+// differ in it.
 type Row = (
     &'static str,
     &'static [u8],
@@ -107,7 +108,7 @@ fn level_of(dibit: u8) -> u8 {
     }
 }
 
-// The dibit that the octet of a level is nearest to.
+// The dibit whose level is nearest to the octet of a level.
 fn dibit_of(level: u8) -> u8 {
     match level {
         0..=63 => 0,
@@ -117,7 +118,7 @@ fn dibit_of(level: u8) -> u8 {
     }
 }
 
-// Puts so many bits 0 before octets.
+// Inserts a number of bits 0 before octets.
 fn shifted(octets: &[u8; 128], shift: usize) -> [u8; 128]
     ensures { length result ≡ 128 }
 {
@@ -143,7 +144,7 @@ fn levels_of(octets: &[u8; 128]) -> [u8; 512]
     levels
 }
 
-// The octets of the dibits that levels are nearest to.
+// The octets of the dibits whose levels are nearest to the given ones.
 fn hard_of(levels: &[u8; 512]) -> [u8; 128]
     ensures { length result ≡ 128 }
 {
@@ -154,7 +155,7 @@ fn hard_of(levels: &[u8; 512]) -> [u8; 128]
     octets
 }
 
-// Whether a command of one word is done and writes such octets, in pieces of 1, of 3 and of all octets.
+// Whether a command of one word ends as done with this output, in chunks of 1, of 3 and of all octets.
 fn does(alloc: Global, word: &[u8], input: &[u8], output: &[u8]) -> bool {
     for piece in [1, 3, 8_192] {
         let mut source = SteadySource::new(input, piece);
@@ -169,7 +170,7 @@ fn does(alloc: Global, word: &[u8], input: &[u8], output: &[u8]) -> bool {
     true
 }
 
-// Whether a row holds. A voice unit is broken by six words of zeros after its identifier.
+// Whether a row holds. A voice data unit is broken by six words of zeros after its NID.
 fn holds(alloc: Global, row: &Row) -> bool {
     let mut room = [0; 128];
     let size = build(alloc, b"0", row.1, &mut room).min(128) + row.2.min(1);
@@ -225,13 +226,13 @@ fn terminator_levels() -> [u8; 512]
     levels_of(&octets)
 }
 
-// Whether `soft` makes such octets of so many of its levels.
+// Whether this is the output of `soft` for the first `count` of its levels.
 fn comes_of(alloc: Global, count: usize, output: &[u8]) -> bool {
     let levels = terminator_levels();
     does(alloc, b"soft", &levels[..count.min(512)], output)
 }
 
-// Whether a read of 75 of its levels that fails ends the call, after so many octets.
+// Whether a read of 75 of its levels that fails ends the call, after this number of octets.
 fn ends_at_a_fault(alloc: Global, call: u64, count: usize) -> bool {
     let levels = terminator_levels();
     let some = levels.len().min(75);
@@ -253,10 +254,10 @@ fn a_terminator_and_its_first_levels(rt: HostRuntime) {
     assert!(rt; comes_of(rt.alloc(), 0, &[]));
 }
 
-// After a read fault only what whole groups of four levels decide is written, and nothing is filled.
+// After a read fault only the output that whole groups of four levels determine is written, and nothing is filled.
 #[test]
 fn a_read_fails(rt: HostRuntime) {
-    // Rows: the read that fails, and how many octets are written before.
+    // Rows: the read that fails, and the number of octets written before.
     for (call, count) in [(1, 0), (71, 0), (72, 0), (73, 18), (75, 18)] {
         assert!(rt; ends_at_a_fault(rt.alloc(), call, count));
     }

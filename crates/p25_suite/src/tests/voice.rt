@@ -1,13 +1,13 @@
-//! Voice units (HDU, LDU1, LDU2 and TDULC): built from a line, damaged, shown in pieces of 1, of 2, of 7 and of all octets, and
-//! repaired.
+//! Voice data units (HDU, LDU1, LDU2 and TDULC): built from a line, damaged, shown in chunks of 1, of 2, of 7 and of
+//! all octets, and repaired.
 
 use super::{Inverted, build, invert, reads_as, writes};
 use p25_line::Line;
 use p25_link::{LinkControl, LinkKind};
 use std::alloc::Global;
 
-// A unit: what its row shows, its status symbols, its line, the nine voice frames' digit where it has them, the bits that
-// are inverted, and what `show` writes, which the line follows where the unit is whole.
+// A data unit: the purpose of the row, its status symbols, its line, the nine voice frames' digit if it has them, the
+// inverted bits, and the output of `show`, which the line follows if the data unit is whole.
 type Row = (
     &'static str,
     &'static [u8],
@@ -248,7 +248,7 @@ fn line_of(row: &Row) -> Line {
     line
 }
 
-// Whether a row holds: its unit is shown as it says, and repaired where it is whole.
+// Whether a row holds: its data unit has this output of `show`, and is repaired if it is whole.
 fn holds(alloc: Global, row: &Row) -> bool {
     let line = line_of(row);
     let mut room = [0; 256];
@@ -260,8 +260,8 @@ fn holds(alloc: Global, row: &Row) -> bool {
     size > 0 && size <= 256 && reads_as(alloc, line.octets(), row.5, &sent[..size], &room[..size])
 }
 
-// The HDU of zeros, but its 36 symbols are 20 zeros and the coefficients of (x - α)(x - α^2)..(x - α^15): in at least 16
-// symbols it differs from each word of the code.
+// The HDU of zeros, except that its 36 symbols are 20 zeros and the coefficients of (x - α)(x - α^2)..(x - α^15): in at
+// least 16 symbols it differs from each codeword.
 const FAR_HEADER: [u8; 99] = [
     0x55, 0x75, 0xF5, 0xFF, 0x77, 0xFF, 0x00, 0x00, 0x00, 0x00, 0x00, 0x00, 0x00, 0x00, 0x00, 0x00,
     0x00, 0x00, 0x00, 0x00, 0x00, 0x00, 0x00, 0x00, 0x00, 0x00, 0x00, 0x00, 0x00, 0x00, 0x00, 0x00,

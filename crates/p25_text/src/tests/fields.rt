@@ -1,4 +1,4 @@
-//! Each field of a unit stands after its own key.
+//! Each field of a data unit follows its own key.
 
 use super::repeated;
 use crate::read_line;

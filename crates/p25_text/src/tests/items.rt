@@ -29,7 +29,7 @@ fn item_is_shown(rt: HostRuntime) -> Result<(), Fail> {
     Ok(())
 }
 
-// Whether no slot of a packet (PDU) is Bad.
+// Whether no slot of a packet (PDU) is `Bad`.
 #[tactic(auto, unfolding(p25_units::specs::Units::IsWholeBody))]
 fn is_whole_body(body: &Body) -> bool
     ensures { IsTrue result → IsWholeBody body.now }
@@ -40,7 +40,7 @@ fn is_whole_body(body: &Body) -> bool
     }
 }
 
-// A whole unit at place 144 with 11 fixes and the status symbol 1 throughout.
+// A whole data unit at position 144 with 11 fixes and the status symbol 1 throughout.
 fn whole(unit: Unit) -> Option<Item>
     ensures { IfSome result IsSoundItem }
 {
@@ -63,8 +63,8 @@ fn whole(unit: Unit) -> Option<Item>
     })
 }
 
-// The text of a whole unit, here of a TDU, a TDULC and packets (PDU), tells its place, length, fixes and status symbols before its
-// line.
+// The text of a whole data unit, here of a TDU, a TDULC and packets (PDU), has its position, length, fixes and status
+// symbols before its line.
 const WHOLE: [(&[u8], &[u8]); 4] = [
     (
         b"tdu nac=000",
@@ -93,7 +93,7 @@ fn whole_items(rt: HostRuntime) -> Result<(), Fail> {
     Ok(())
 }
 
-// The name of each field, as `nid` of the network identifier (NID).
+// The name of each field, as `nid` for the network identifier (NID).
 const FIELDS: [(Field, &[u8]); 14] = [
     (Field::Sync, b"nounit at=7 field=sync"),
     (Field::Nid, b"nounit at=7 field=nid"),

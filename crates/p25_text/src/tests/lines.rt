@@ -1,4 +1,4 @@
-//! Lines of units that are read, and written again as they were.
+//! Lines of data units that are read, and written again unchanged.
 
 use super::repeated;
 use crate::{UnitLine, UnitText, read_line, unit_text};
@@ -6,7 +6,7 @@ use p25_line::{Line, LineFault};
 use std::process::Abort;
 use std::test::Fail;
 
-// A line is read, and written again as it was.
+// A line is read, and written again unchanged.
 fn same_again(rt: &impl Abort, line: &[u8]) -> Result<(), Fail> {
     let unit = read_line(line)?;
     let mut text = Line::new();
@@ -25,7 +25,7 @@ fn unit_of_a_line(rt: HostRuntime) -> Result<(), Fail> {
     Ok(())
 }
 
-// A unit is parsed from its line and shown as it, and so is its fault.
+// A data unit is parsed from its line and displayed as it, and so is its fault.
 #[test]
 fn unit_is_parsed_and_shown(rt: HostRuntime) -> Result<(), Fail> {
     let line = "plain nac=293 head=35c00000000181000000 octets=0123456789abcdef";
@@ -59,7 +59,7 @@ fn short_lines(rt: HostRuntime) -> Result<(), Fail> {
     Ok(())
 }
 
-// Lines of voice (LDU1 and LDU2), and packets (PDU) of 127 blocks, as many of their bits ones as may be.
+// Lines of voice (LDU1 and LDU2), and packets (PDU) of 127 blocks, with as many ones among their bits as possible.
 const LONG: [&[(&[u8], usize)]; 6] = [
     &[
         (b"ldu1 nac=fff lc=ffffffffffffffffff lsd=ffff voice=", 1),

@@ -1,4 +1,4 @@
-//! Lines of units that are refused, each with its first fault.
+//! Lines of data units that are refused, each with its first fault.
 
 use super::repeated;
 use crate::read_line;
@@ -34,7 +34,7 @@ const FAULTS: [(&[u8], LineFault); 18] = [
     (b"tdu nac=0000", LineFault::Value),
 ];
 
-// The first fault of a line is told.
+// The first fault of a line is returned.
 #[test]
 fn first_faults(rt: HostRuntime) {
     refused(&rt, &[b'a'; 8_193], LineFault::Long);
@@ -43,8 +43,8 @@ fn first_faults(rt: HostRuntime) {
     }
 }
 
-// A value of a header (HDU) has as many digits as its key asks for. The format of a packet (PDU) is that of its kind, and there
-// are as many blocks or octets as its header asks for.
+// A value of a header (HDU) has as many digits as its key requires. The format of a packet (PDU) is that of its type,
+// and there are as many blocks or octets as its header requires.
 const VALUES: [&[u8]; 31] = [
     b"hdu nac=000 mi=0 mfid=00 algid=00 kid=0000 tgid=0000",
     b"hdu nac=000 mi=000000000000000000 mfid=000 algid=00 kid=0000 tgid=0000",
@@ -86,7 +86,7 @@ fn refused_values(rt: HostRuntime) {
     }
 }
 
-// A value of voice (LDU1) has as many digits as its key asks for, and so has that of a terminator with link control (TDULC).
+// A value of voice (LDU1) has as many digits as its key requires, and so has that of a terminator with link control (TDULC).
 const VOICE: [&[(&[u8], usize)]; 5] = [
     &[(b"tdulc nac=000 lc=", 1), (b"0", 17)],
     &[

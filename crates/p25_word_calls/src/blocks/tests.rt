@@ -28,7 +28,8 @@ fn blocks_of_half_rate(rt: HostRuntime) {
     }
 }
 
-// Whether octets are written as a block, and read of it with two wrong bits, where the last four are others too.
+// Whether octets are encoded as a block, and decoded from it with two bit errors, and with other values of the last
+// four bits.
 fn half_rate_goes_both_ways(octets: &[u8; 12], sent: &[u8; 25]) -> bool {
     let mut bits = [255; 25];
     write_octet_block::<Half>(octets, &mut bits);
@@ -67,7 +68,8 @@ fn blocks_of_three_quarter_rate(rt: HostRuntime) {
     }
 }
 
-// Whether octets are written as a block, and read of it with a wrong bit, where the last four are others too.
+// Whether octets are encoded as a block, and decoded from it with one bit error, and with other values of the last four
+// bits.
 fn three_quarter_rate_goes_both_ways(octets: &[u8; 18], sent: &[u8; 25]) -> bool {
     let mut bits = [255; 25];
     write_octet_block::<ThreeQuarter>(octets, &mut bits);

@@ -1,13 +1,13 @@
-//! Words and network identifiers (NID) that other programs encoded and read.
+//! Codewords and network identifiers (NID) that other programs encoded and decoded.
 
 use super::*;
 use p25_golay::{Golay18, Golay24};
 use p25_hamming::{Hamming10, Lsd16};
 
-// A received word, the answer, and what is left.
+// A received word, the result, and the word left.
 type Row = (u32, i32, u32);
 
-// Whether each received word is read as its row says.
+// Whether each received word decodes as its row states.
 fn are_read<C: NumberCode>(rows: &[Row]) -> bool
     requires { C.HasCode }
 {
@@ -20,7 +20,7 @@ fn are_read<C: NumberCode>(rows: &[Row]) -> bool
     true
 }
 
-// Whether each information is written as the word of its row.
+// Whether each information is encoded as the codeword of its row.
 fn are_written<C: NumberCode>(rows: &[(u32, u32)]) -> bool
     requires { C.HasCode }
 {
@@ -101,7 +101,7 @@ fn identifiers(rt: HostRuntime) {
     }
 }
 
-// Whether 64 bits are read with an answer, and leave a NAC and a DUID where 7 and 9 were.
+// Whether 64 bits are decoded with a result, and leave a NAC and a DUID in variables that held 7 and 9.
 fn reads_as(bits: u64, answer: i32, nac: u16, duid: u8) -> bool {
     let (mut read_nac, mut read_duid) = (7, 9);
     read_identifier(bits, &mut read_nac, &mut read_duid) == answer

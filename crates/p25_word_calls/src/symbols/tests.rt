@@ -1,4 +1,4 @@
-//! Words that other programs encoded and read. A text gives a symbol by two octal digits.
+//! Words that other programs encoded and decoded. A text represents a symbol by two octal digits.
 
 ghost use Rattle.std.specs.Prelude.{◌≤◌};
 ghost use Rattle.p25_reed_solomon.specs.Words.{IsCode};
@@ -19,7 +19,7 @@ fn octets_of<const N: usize>(text: &str) -> [u8; N]
     octets
 }
 
-// Whether a received word is read so, by the call for erased symbols too, where none is.
+// Whether a received word is decoded so, and by the call for erased symbols too, with no symbol erased.
 fn is_read<const N: usize, const K: usize>(received: &str, answer: i32, left: &str) -> bool
     requires code { IsCode N K }
     requires short { N ≤ 36 }
@@ -32,7 +32,8 @@ fn is_read<const N: usize, const K: usize>(received: &str, answer: i32, left: &s
         && again == left
 }
 
-// Whether a word is written again of its information, where its first check symbol and the one at 23 are others.
+// Whether a codeword is encoded again from its information, with its first check symbol and the one at 23 replaced
+// before.
 fn is_written<const N: usize, const K: usize>(word: &str) -> bool
     requires code { IsCode N K }
     requires short { N ≤ 36 }
@@ -49,7 +50,7 @@ fn is_written<const N: usize, const K: usize>(word: &str) -> bool
 
 #[test]
 fn words_of_36_20(rt: HostRuntime) {
-    // Rows: received, the answer, and what is left.
+    // Rows: received, the result, and the word left.
     let rows: [(&str, i32, &str); 3] = [
         (
             "270175232777377521255315260744575571261610414715134206634110723660117725",
@@ -75,7 +76,7 @@ fn words_of_36_20(rt: HostRuntime) {
 
 #[test]
 fn words_of_24_12(rt: HostRuntime) {
-    // Rows: received, the answer, and what is left.
+    // Rows: received, the result, and the word left.
     let rows: [(&str, i32, &str); 3] = [
         (
             "035000476356506273717415466536506351313017440371",
@@ -101,7 +102,7 @@ fn words_of_24_12(rt: HostRuntime) {
 
 #[test]
 fn words_of_24_16(rt: HostRuntime) {
-    // Rows: received, the answer, and what is left.
+    // Rows: received, the result, and the word left.
     let rows: [(&str, i32, &str); 3] = [
         (
             "031163745554154624037047554717145530440712313622",
@@ -125,7 +126,8 @@ fn words_of_24_16(rt: HostRuntime) {
     }
 }
 
-// Whether a word of zeros whose first twelve symbols came as 63 is read so, where the first `erased` of them are erased.
+// Whether a codeword of zeros whose first twelve symbols were received as 63 is decoded so, with the first `erased` of
+// them erased.
 fn zeros_are_read(erased: usize, answer: i32, left: u8) -> bool {
     let (mut symbols, mut gone, mut word) = ([0; 24], [false; 24], [0; 24]);
     for i in 0..12 {
@@ -136,14 +138,14 @@ fn zeros_are_read(erased: usize, answer: i32, left: u8) -> bool {
     read_with_erased::<24, 12>(&mut symbols, &gone) == answer && symbols == word
 }
 
-// As many symbols as there are check symbols are erased, and then one fewer where one more is wrong.
+// As many symbols as there are check symbols are erased, and then one fewer with one more wrong.
 #[test]
 fn erased_symbols(rt: HostRuntime) {
     assert!(rt; zeros_are_read(12, 12, 0));
     assert!(rt; zeros_are_read(11, -1, 63));
 }
 
-// Zeros, of which the octet at a place is another.
+// Zeros, except for the octet at a position.
 fn zeros_but(place: usize, octet: u8) -> [u8; 24] {
     let mut symbols = [0; 24];
     if place < 24 {
@@ -152,7 +154,7 @@ fn zeros_but(place: usize, octet: u8) -> [u8; 24] {
     symbols
 }
 
-// Whether zeros of which the octet at a place is another are refused and left, by the readers.
+// Whether the decoders refuse zeros with another octet at a position, and leave them unchanged.
 fn readers_refuse(place: usize, octet: u8) -> bool {
     let mut symbols = zeros_but(place, octet);
     let received = symbols;
@@ -161,7 +163,7 @@ fn readers_refuse(place: usize, octet: u8) -> bool {
         && symbols == received
 }
 
-// Whether they are by the writers.
+// Whether the encoders do.
 fn writers_refuse(place: usize, octet: u8) -> bool {
     let mut symbols = zeros_but(place, octet);
     let given = symbols;
@@ -170,7 +172,7 @@ fn writers_refuse(place: usize, octet: u8) -> bool {
         && symbols == given
 }
 
-// Octets that name no symbol, also where they are erased.
+// Octets that represent no symbol, also if they are erased.
 #[test]
 fn octets_above_63(rt: HostRuntime) {
     assert!(rt; readers_refuse(23, 64));

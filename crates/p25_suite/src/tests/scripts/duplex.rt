@@ -1,4 +1,4 @@
-//! Scripts of both stations: what each step is, the counts of both sides at the end, and lines that are refused.
+//! Scripts of both stations: the type of each step, the counts of both sides at the end, and lines that are refused.
 
 use super::{Row, are_joined, calm, ends, tells};
 use p25_io::SliceSink;
@@ -6,7 +6,7 @@ use p25_line::LineFault;
 use p25_tool::Outcome;
 use std::alloc::Global;
 
-// Fifteen timeouts of each side, and what is written where its message 0 is sent again at each.
+// Fifteen timeouts of each side, and the output if its message 0 is transmitted again at each.
 const A_TIMEOUTS: &[u8] =
     b"a timeout\na timeout\na timeout\na timeout\na timeout\na timeout\na timeout\na timeout\na timeout\n\
     a timeout\na timeout\na timeout\na timeout\na timeout\na timeout\n";
@@ -29,8 +29,8 @@ const B_RESENT: &[u8] =
     b timeout sent ns=0 try=12\nb timeout sent ns=0 try=13\nb timeout sent ns=0 try=14\n\
     b timeout sent ns=0 try=15\nb timeout sent ns=0 try=16\n";
 
-// The places where the network identifiers (NID) of the network access codes (NAC) 293 and 292 hex differ, and those where the first
-// transmissions of 6162 and of 6163 hex do, stand in the rows.
+// The rows contain the positions in which the network identifiers (NID) of the network access codes (NAC) 293 and 292
+// hex differ, and those in which the first transmissions of 6162 and of 6163 hex differ.
 const ROWS: [Row; 9] = [
     (
         "an empty script",
@@ -151,7 +151,7 @@ fn duplex_scripts_tell_their_steps(rt: HostRuntime) {
     }
 }
 
-// A second line, and why it is refused.
+// A second line, and the reason for refusing it.
 const LINES: [(&[u8], LineFault); 20] = [
     (b"", LineFault::Form),
     (b"a  timeout", LineFault::Form),

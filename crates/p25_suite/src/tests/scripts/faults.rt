@@ -9,13 +9,13 @@ use p25_line::LineFault;
 use p25_tool::Outcome;
 use std::alloc::Global;
 
-// A message that is sent, delivered and acknowledged, and what is written for it.
+// A message that is sent, delivered and acknowledged, and the output for it.
 const SCRIPT: &[u8; 42] = b"send 6162\ndeliver data -\ndeliver answer -\n";
 
 const TEXT: &[u8; 125] = b"send taken ns=0 blocks=1\ndata delivered ns=0 message=6162\n\
     answer acknowledged ns=0\nsent=1 delivered=1 acknowledged=1 false=0\n";
 
-// How many octets of the text the lines that end within so many octets of the script ask for.
+// The number of octets of the output for the lines that end within a number of octets of the script.
 fn decided(octets: usize) -> usize
     ensures { result ≤ 125 }
 {
@@ -47,7 +47,7 @@ fn each_read_of_a_script_fails_in_turn(rt: HostRuntime) {
     }
 }
 
-// Whether the script ends so where a write fails, after so many octets.
+// Whether this is the end of the script if a write fails, after this number of octets.
 fn write_fails(alloc: Global, write: u64, outcome: Outcome, count: usize) -> bool {
     let call = Call {
         failing_write: write,
@@ -64,7 +64,7 @@ fn each_write_of_a_script_fails_in_turn(rt: HostRuntime) {
     assert!(rt; write_fails(rt.alloc(), 5, Outcome::Done, 125));
 }
 
-// A sink that takes only so many octets takes the first ones.
+// A sink that takes a limited number of octets takes the first ones.
 fn takes_the_first(alloc: Global, room: usize) -> bool {
     let call = Call {
         room,
@@ -80,7 +80,7 @@ fn a_sink_may_take_less_than_the_text(rt: HostRuntime) {
     }
 }
 
-// How the script ends that is cut off after so many octets: with the fault of its last line, if it has one.
+// The end of the script that is cut off after a number of octets: with the fault of its last line, if it has one.
 fn cut_fault(octets: usize) -> Option<LineFault> {
     match octets {
         1..=3 | 11..=16 | 26..=31 => Some(LineFault::Kind),
@@ -91,7 +91,7 @@ fn cut_fault(octets: usize) -> Option<LineFault> {
     }
 }
 
-// What is written for it where no line is refused, in octets of the text, and then its last line.
+// The output for it if no line is refused, in octets of the text, and then its last line.
 fn cut_text(octets: usize) -> (usize, &'static [u8]) {
     match octets {
         0 => (0, b"sent=0 delivered=0 acknowledged=0 false=0\n"),
@@ -101,7 +101,7 @@ fn cut_text(octets: usize) -> (usize, &'static [u8]) {
     }
 }
 
-// Whether the script that is cut off after so many octets ends and is told as it should.
+// Whether the script that is cut off after a number of octets has the right end and output.
 fn is_cut_off(alloc: Global, octets: usize) -> bool {
     let call = calm(b"stations", &SCRIPT[..octets.min(42)], 7);
     if let Some(fault) = cut_fault(octets) {

@@ -1,4 +1,4 @@
-//! Scripts of long messages: what each step means, the counts at the end, and a line that is refused.
+//! Scripts of long messages: the meaning of each step, the counts at the end, and a line that is refused.
 
 use super::stations::TIMEOUTS;
 use super::{Row, calm, ends, tells};
@@ -12,7 +12,7 @@ const SEVENS_4000: &[u8] = &[b'7'; 8_000];
 
 const SEVENS_500: &[u8] = &[b'7'; 1_000];
 
-// What is written where message 1 is sent again at each of fifteen timeouts.
+// The output if message 1 is transmitted again at each of fifteen timeouts.
 const RESENT: &[u8] =
     b"timeout sent ns=1 try=2\ntimeout sent ns=1 try=3\ntimeout sent ns=1 try=4\ntimeout sent ns=1 try=5\n\
     timeout sent ns=1 try=6\ntimeout sent ns=1 try=7\ntimeout sent ns=1 try=8\ntimeout sent ns=1 try=9\n\

@@ -1,4 +1,4 @@
-//! Scripts of messages: what each step of the world is, and the counts at the end.
+//! Scripts of messages: each step of the world, and the counts at the end.
 
 use super::{Row, are_joined, calm, ends, tells};
 use p25_io::SliceSink;
@@ -8,7 +8,7 @@ use p25_stations::World;
 use p25_tool::Outcome;
 use std::alloc::Global;
 
-// Fifteen timeouts, and what is written where message 0 is sent again at each.
+// Fifteen timeouts, and the output if message 0 is transmitted again at each.
 pub const TIMEOUTS: &[u8] =
     b"timeout\ntimeout\ntimeout\ntimeout\ntimeout\ntimeout\ntimeout\ntimeout\ntimeout\ntimeout\ntimeout\n\
     timeout\ntimeout\ntimeout\ntimeout\n";
@@ -195,7 +195,7 @@ const ROWS: [Row; 13] = [
     ),
 ];
 
-// Writes the text of the step that a world makes of a line, and answers whether there was one.
+// Writes the text of the step that a world makes for a line, and returns whether there was one.
 fn is_told(world: &mut World, line: &[u8], told: &mut SliceSink) -> bool {
     let mut out = Line::new();
     let Ok(event) = read_event(line) else {
@@ -210,7 +210,7 @@ fn is_told(world: &mut World, line: &[u8], told: &mut SliceSink) -> bool {
     }
 }
 
-// Writes the texts of the steps that a world makes of the lines of a script, and what closes its run.
+// Writes the texts of the steps that a world makes for the lines of a script, and the text that closes its run.
 fn are_told(alloc: Global, script: &[u8], told: &mut SliceSink) -> bool {
     let mut world = World::new(alloc);
     let mut start = 0;
@@ -227,7 +227,7 @@ fn are_told(alloc: Global, script: &[u8], told: &mut SliceSink) -> bool {
     are_joined(&[out.octets(), b"\n"], told)
 }
 
-// Whether a world that steps from line to line tells what stands in a row.
+// Whether a world that steps from line to line has the output of a row.
 fn steps_tell(alloc: Global, row: &Row) -> bool {
     let (mut script_room, mut told_room, mut text_room) = ([0; 16_384], [0; 32_768], [0; 32_768]);
     let mut script = SliceSink::new(&mut script_room, &[]);
@@ -237,7 +237,7 @@ fn steps_tell(alloc: Global, row: &Row) -> bool {
     is_room && are_told(alloc, script.written(), &mut told) && told.written() == text.written()
 }
 
-// The command tells of a script what a world does that steps from line to line.
+// The output of the command for a script is that of a world that steps from line to line.
 #[test]
 fn scripts_of_messages_and_steps_of_a_world(rt: HostRuntime) {
     for row in &ROWS {
@@ -245,7 +245,7 @@ fn scripts_of_messages_and_steps_of_a_world(rt: HostRuntime) {
     }
 }
 
-// A script with a line that is refused: its number and fault, and what is written for the lines before.
+// A script with a line that is refused: its number and fault, and the output for the lines before.
 type Refused = (&'static [u8], u64, LineFault, &'static [u8]);
 
 const TAKEN: &[u8] = b"send taken ns=0 blocks=1\n";
