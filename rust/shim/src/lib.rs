@@ -10,6 +10,7 @@ extern crate alloc as heap;
 pub mod alloc;
 pub mod convert;
 mod lists;
+mod numbers;
 pub mod process;
 mod runtime;
 mod texts;
@@ -22,6 +23,7 @@ mod streams;
 pub mod test;
 
 pub use lists::{TryClone, Vec};
+pub use numbers::AsSigned;
 pub use runtime::HostRuntime;
 pub use texts::{TryToString, shown};
 
