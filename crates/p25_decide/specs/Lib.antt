@@ -1,0 +1,2 @@
+pub mod LevelCosts
+pub mod DecidedUnits

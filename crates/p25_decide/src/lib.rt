@@ -1,0 +1,19 @@
+//! Voice units (HDU, LDU1, LDU2 and TDULC) whose coded fields are decoded from soft symbols, the levels of a four-level signal.
+//!
+//! A unit has one level for each two of its transmitted bits, status symbols among them. The cost of a dibit at a level is the square of
+//! their distance, of which 96 counts at most. Each inner codeword is the one of least cost, and the outer codeword is decoded with as few
+//! of the least reliable symbols erased as find one, as `decide_field` of p25_coded_fields does. The codewords of low speed data have no
+//! outer code.
+//!
+//! `decide_unit` writes these fields into the transmitted bits of a unit. All other bits stay.
+#![tactic(auto)]
+
+mod costs;
+pub mod laws;
+#[cfg(test)]
+mod tests;
+mod unit;
+mod words;
+
+pub use costs::level_cost;
+pub use unit::decide_unit;
