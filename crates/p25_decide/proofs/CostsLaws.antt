@@ -1,4 +1,4 @@
--- Costs of levels: how many there are, how much each is, and that they tell dibits apart. The distance of two levels is at most the sum of
+-- Costs of soft symbols: how many there are, how much each is, and that they tell dibits apart. The distance of two soft symbols is at most the sum of
 -- their distances from a third, also where 96 counts at most, and the square of a sum is at most twice the sum of the squares.
 use Rattle.std.proofs.Common.{◌≡◌, ℕ, zero, suc, ◌+◌, ◌*◌, ◌^◌, ◌<◌, ◌≤◌, true, leb, List, [], ◌∷◌, length, get_or, All, refl, ap, sym, ◌∙◌, arith, ℤ, pos, ◌-ℤ◌}
 use Rattle.std.proofs.{Math.Nat.{mul-le-mul}, lemmas.Bool.{leb-true}, lemmas.Int.{ints}, lemmas.List.Elements.{All-nil, All-cons}}
@@ -59,11 +59,11 @@ below_four P a b c d (suc (suc zero)) less = c
 below_four P a b c d (suc (suc (suc zero))) less = d
 below_four P a b c d (suc (suc (suc (suc n)))) less = absurd (omega arith)
 
--- the square of how far the levels of two dibits are apart
+-- the square of how far the soft symbols of two dibits are apart
 apart_of : ℕ → ℕ → ℕ
 apart_of s t = let apart = min (unsigned_abs (nominal_level t -ℤ nominal_level s)) 96 in apart * apart
 
--- dibits that differ in bits have levels that are far apart
+-- dibits that differ in bits have soft symbols that are far apart
 far_test : (s : ℕ) → s < 4 → (t : ℕ) → t < 4 → leb (4096 * distance_of (bits_of 2 s) (bits_of 2 t)) (apart_of s t) ≡ true
 unfolding apart_of nominal_level bits_of distance_by
 far_test =
@@ -96,7 +96,7 @@ get_or-word_level_costs levels first count i s inside small =
     ∙ ap (λ xs. get_or xs s 0) (part-joined_below 4 count costs i (λ j less. length-level_costs _) inside)
     ∙ get_or-level_costs _ s small
 
--- costs of levels tell dibits apart by a margin of 1,024
+-- the costs of soft symbols separate dibits by a margin of 1,024
 pub word_level_costs-spread : (levels : List ℤ) (first count : ℕ) → IsSpread 1024 count (word_level_costs levels first count)
 word_level_costs-spread levels first count = record {
   apart = λ i s t inside small less.

@@ -46,7 +46,7 @@ length-symbols_decided words n k most costs whole =
     length-symbols_or n (symbols_read words costs) (word_decided words (rs_erased_reading_of n k) most costs) (length-symbols_read words costs ∙ whole)
     (length-word_decided words n k most costs)
 
--- a field that is written: as many bits as before, and those before its places
+-- a field that is written: as many bits as before, and those before its positions
 module _ {IsInner : List Bool → Type 0} (size each : ℕ) (long : (word : List Bool) → IsInner word → length word ≡ size) (encoding : List Bool → List Bool) (encodes : Encodes IsInner (6 * each) encoding) where
   length-field_decided : (count n k most : ℕ) (places : List ℕ) (levels : List ℤ) → each * count ≡ n
       → length (field_decided (inner_words count size each encoding) (rs_erased_reading_of n k) most places levels) ≡ size * count
@@ -68,7 +68,7 @@ module _ {IsInner : List Bool → Type 0} (size each : ℕ) (long : (word : List
       let enough : size * length places ≤ length field = omega (arith, ap (λ m. size * m) full, all) in
       (length-with_words size places field bare enough there, take-with_words size front places field bare enough there behind)
 
--- the places that a test finds behind a front
+-- the positions that a test finds behind a front
 pub all_behind : (front : ℕ) (places : List ℕ) → list_all (nat_le front) places ≡ true → All (λ at. front ≤ at) places
 all_behind front [] test = All-nil (λ at. front ≤ at)
 all_behind front (at ∷ places) test =

@@ -1,4 +1,4 @@
--- What stays of bits where codewords are written at places: with each codeword as many bits stay as were there, and the bits before it and
+-- What stays of bits where codewords are written at positions: with each codeword as many bits stay as were there, and the bits before it and
 -- after it.
 use Rattle.std.proofs.Common.{◌≡◌, ℕ, ◌+◌, ◌*◌, ◌-◌, ◌<◌, ◌≤◌, ◌⊎◌, inl, inr, Bool, List, [], ◌∷◌, ◌++◌, length, take, drop, All, refl, ap, sym, subst, ◌∙◌, arith, append_assoc, length-append, length-drop}
 use Rattle.std.specs.Prelude.{slice_get}
@@ -7,7 +7,7 @@ use Rattle.std.proofs.lemmas.{List.{take-append-drop, take-append-le, take-take,
 use Rattle.p25_bits.proofs.PartLaws.{slice_get-front, slice_get-drop}
 use Rattle.p25_decide.specs.DecidedUnits.{with_words}
 
--- bits with one codeword in place of what is at a place
+-- bits with one codeword instead of what is at a position
 abbrev with_word : ℕ → ℕ → List Bool → List Bool → List Bool
 with_word size at words bare = take at bare ++ (take size words ++ drop (at + size) bare)
 

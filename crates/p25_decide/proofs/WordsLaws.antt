@@ -1,4 +1,4 @@
--- Codewords written in place of others: bit by bit up to a place, and then one after the other by the recursion of `with_words`.
+-- Codewords written instead of others: bit by bit up to a position, and then one after the other by the recursion of `with_words`.
 use Rattle.std.proofs.Common.{◌≡◌, ℕ, ◌+◌, ◌*◌, ◌<◌, ◌≤◌, Bool, false, List, [], ◌∷◌, ◌++◌, length, take, drop, set, get_or, Some, refl, ap, ap₂, sym, ◌∙◌, arith, append_assoc, append-nil, length-drop}
 use Rattle.std.specs.Prelude.{slice_get}
 use Rattle.std.proofs.{lemmas.Option.{get_or_from_slice_get}, lemmas.List.{take-append-drop, take_more, take_more_set, drop_more, drop_all, drop-drop, drop-set-lt, get_or-drop}}

@@ -1,4 +1,4 @@
--- Voice units (HDU, LDU1, LDU2 and TDULC) whose coded fields are decoded from their levels.
+-- Voice units (HDU, LDU1, LDU2 and TDULC) whose coded fields are decoded from their soft symbols.
 use Rattle.std.specs.Prelude.{ℕ, ◌+◌, ◌/◌, ◌==◌, if◌then◌else◌, Bool, List, [], ◌∷◌, ◌++◌, take, drop, ℤ, Option}
 use Rattle.p25_bch_nid.specs.Duids.{duid_hdu, duid_ldu1, duid_ldu2, duid_tdulc}
 use Rattle.p25_code.specs.LeastCost.{cheapest_word}
@@ -11,25 +11,25 @@ use Rattle.p25_status.specs.Woven.{woven, bare_of, statuses_of}
 use Rattle.p25_voice_units.specs.{FieldLayouts.{word_places}, Layouts.{hdu_rows, ldu_rows, tdulc_rows}}
 use Rattle.p25_decide.specs.LevelCosts.{field_costs, word_level_costs}
 
--- bits with codewords of `size` bits, one after the other, in place of what is at places
+-- bits with codewords of `size` bits, one after the other, instead of the bits at some positions
 unfoldable pub with_words : ℕ → List ℕ → List Bool → List Bool → List Bool
 with_words size [] words bare = bare
 with_words size (at ∷ places) words bare = with_words size places (drop size words) (take at bare ++ (take size words ++ drop (at + size) bare))
 
--- the inner codewords of a field as they are decoded from the levels of the unit, with at most so many pairs of symbols erased
+-- the inner codewords of a field as they are decoded from the soft symbols of the unit, with at most so many pairs of symbols erased
 unfoldable pub field_decided : InnerWords → (List (Option Sym) → Option (List Sym)) → ℕ → List ℕ → List ℤ → List Bool
 field_decided words outer_reading most places levels =
     field_bits words.encoding words.each words.count (symbols_decided words outer_reading most (field_costs words.size places levels))
 
--- a unit without its status symbols, with the coded field as it is decoded from the levels
+-- a unit without its status symbols, with the coded field as it is decoded from the soft symbols
 unfoldable pub with_field : InnerWords → (List (Option Sym) → Option (List Sym)) → ℕ → List ℕ → List ℤ → List Bool → List Bool
 with_field words outer_reading most places levels bare = with_words words.size places (field_decided words outer_reading most places levels) bare
 
--- the codeword of low speed data (LSD) at a place as it is decoded from the levels of the unit
+-- the codeword of low speed data (LSD) at a position as it is decoded from the soft symbols of the unit
 unfoldable pub low_decided : List ℤ → ℕ → List Bool
 low_decided levels at = cheapest_word lsd16_word 8 (word_level_costs levels (at / 2) 8)
 
--- a unit with both codewords of low speed data, which are at the places 1504 and 1520
+-- a unit with both codewords of low speed data, which are at the positions 1504 and 1520
 unfoldable pub with_low_speed : List ℤ → List Bool → List Bool
 with_low_speed levels bare = with_words 16 (1504 ∷ 1520 ∷ []) (low_decided levels 1504 ++ low_decided levels 1520) bare
 

@@ -1,4 +1,4 @@
-//! What dibits cost at levels.
+//! The costs of dibits at soft symbols.
 
 ghost use Rattle.std.specs.Prelude.{◌≡◌, ◌+◌, ◌*◌, ◌/◌, ◌^◌, ◌<◌, ◌≤◌, All, length};
 ghost use Rattle.p25_decide.specs.LevelCosts.{field_costs, level_cost, level_costs, word_level_costs};
@@ -37,7 +37,7 @@ fn level_costs(level: i8) -> [u32; 4]
     ]
 }
 
-// Writes the costs of the dibits of an inner word that starts at the even place `at` of a unit without its status symbols: four for each
+// Writes the costs of the dibits of an inner word that starts at the even position `at` of a unit without its status symbols: four for each
 // dibit, at the level that was sent for it.
 pub(crate) fn put_costs(levels: &[i8], at: usize, costs: &mut [u32])
     requires pairs { 4 * (length costs.old / 4) ≡ length costs.old }
@@ -51,7 +51,7 @@ pub(crate) fn put_costs(levels: &[i8], at: usize, costs: &mut [u32])
     }
 }
 
-// Writes the costs of the inner words of a field, `size` bits each, that start at even places of a unit without its status symbols.
+// Writes the costs of the inner words of a field, `size` bits each, that start at even positions of a unit without its status symbols.
 pub(crate) fn put_field_costs(levels: &[i8], places: &[usize], size: usize, costs: &mut [u32])
     requires pairs { 2 * (size / 2) ≡ size }
     requires few { length places.now ≤ 36 }

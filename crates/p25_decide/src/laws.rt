@@ -1,4 +1,4 @@
-//! Laws of fields that are decoded from levels. Each function states what is proved, and calls at most other theorems.
+//! Laws of fields that are decoded from soft symbols. Each function states what is proved, and calls at most other theorems.
 
 ghost use Rattle.std.specs.Prelude.{◌≡◌, ℕ, ◌+◌, ◌-◌, ◌*◌, ◌/◌, ◌<◌, ◌≤◌, ◌⊎◌, List, Bool, ℤ, All, Option, Some, None, length, slice_get, take};
 ghost use Rattle.p25_code.specs.LeastCost.{IsCheapest, IsSpread, cheapest_word, pairs_cost};
@@ -15,10 +15,10 @@ use p25_code::NumberCode;
 use p25_golay::{Golay18, Golay24};
 use p25_hamming::{Hamming10, Lsd16};
 
-/// **Theorem.** What an inner codeword is decoded to from the levels of its dibits.
+/// **Theorem.** What an inner codeword is decoded to from the soft symbols of its dibits.
 ///
 /// - `most`: a dibit costs at most 9,216 at a level.
-/// - `spread`: costs of levels tell dibits apart by a margin of 1,024: two dibits cost together at least 2,048 for each bit in which they
+/// - `spread`: the costs of soft symbols separate dibits by a margin of 1,024: two dibits cost together at least 2,048 for each bit in which they
 ///   differ.
 /// - `least`: the result is a codeword, no codeword costs less, and none that costs as much has a lower information.
 /// - `near`: a codeword that costs less than 1,024 times the least distance of the code is the result.
@@ -31,7 +31,7 @@ pub fn codeword_laws<C: NumberCode>()
         let costs = word_level_costs levels first (C.N / 2) in pairs_cost costs sent < 1024 * C.distance_is → cheapest_word C.encoding_is C.K costs ≡ sent }
 {}
 
-/// **Theorem.** The radius of each inner code by levels: a codeword that costs less than 8,192 (both Golay codes), 3,072 (Hamming) or
+/// **Theorem.** The radius of each inner code by soft symbols: a codeword that costs less than 8,192 (both Golay codes), 3,072 (Hamming) or
 /// 5,120 (low speed data, LSD) is the one that is decoded.
 pub fn radius_laws()
     ensures golay18 { (levels : List ℤ) (first : ℕ) (sent : List Bool) → IsGolay18 sent → let costs = word_level_costs levels first 9 in
@@ -49,7 +49,7 @@ pub fn radius_laws()
     codeword_laws::<Lsd16>()
 }
 
-/// **Theorem.** What stays of bits if codewords of one length, one after the other, are written at places.
+/// **Theorem.** What stays of bits if codewords of one length, one after the other, are written at positions.
 ///
 /// - `length`: as many bits as before.
 /// - `outside`: each bit that is in none of the codewords.

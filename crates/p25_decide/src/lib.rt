@@ -1,4 +1,4 @@
-//! Voice units (HDU, LDU1, LDU2 and TDULC) whose coded fields are decoded from soft symbols, the levels of a four-level signal.
+//! Voice units (HDU, LDU1, LDU2 and TDULC) whose coded fields are decoded from soft symbols (a level of a four-level signal each).
 //!
 //! A unit has one level for each two of its transmitted bits, status symbols among them. The cost of a dibit at a level is the square of
 //! their distance, of which 96 counts at most. Each inner codeword is the one of least cost, and the outer codeword is decoded with as few

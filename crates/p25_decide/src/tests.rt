@@ -1,4 +1,4 @@
-//! Units of zeros whose levels are moved. The expected octets are from a program that shares no code with this one.
+//! Units of zeros whose soft symbols are moved. The expected octets are from a program that shares no code with this one.
 
 ghost use Rattle.std.specs.Prelude.{◌≡◌, length};
 
@@ -21,11 +21,11 @@ const HAMMING: [u8; 5] = [0, 1, 2, 1, 0];
 
 const LOW: [u8; 8] = [0, 1, 1, 1, 0, 0, 1, 2];
 
-// The most levels of a unit.
+// The most soft symbols of a unit.
 const MOST: usize = 864;
 
-// Levels of some inner words of zeros are moved to a codeword: from the first word to the one before the last, the levels of the dibits
-// where the codeword has 01, and of those where it has 10.
+// Soft symbols of some inner codewords of zeros are moved to a codeword: from the first word to the one before the last, the soft symbols of the dibits
+// that are 01 in the codeword, and those that are 10.
 #[derive(Clone, Copy)]
 struct Moved<'a> {
     places: &'a [usize],
@@ -34,7 +34,7 @@ struct Moved<'a> {
     levels: (i8, i8),
 }
 
-// A unit by its number, its inner words that are moved and their levels, and the octets that come out from a place on; all others stay.
+// A unit by its number, its inner words that are moved and their soft symbols, and the octets of the output from a position on; all others stay.
 type Row<'a> = (usize, (usize, usize), (i8, i8), usize, &'a [u8]);
 
 // A unit of zeros, by its number in a row.
@@ -78,7 +78,7 @@ fn sent(unit: &VoiceUnit) -> BitBuf {
     raw
 }
 
-// The nominal levels of a unit.
+// The nominal soft symbols of a unit.
 fn levels_of(raw: &BitBuf) -> [i8; MOST]
     ensures { length result ≡ 864 }
 {
@@ -91,7 +91,7 @@ fn levels_of(raw: &BitBuf) -> [i8; MOST]
     levels
 }
 
-// Sets the levels of an inner word at a place.
+// Sets the soft symbols of an inner word at a position.
 fn move_word(levels: &mut [i8], at: usize, moved: &Moved) {
     for (i, dibit) in moved.codeword.iter().enumerate() {
         if at >= 2000 || i >= 12 {
@@ -108,7 +108,7 @@ fn move_word(levels: &mut [i8], at: usize, moved: &Moved) {
     }
 }
 
-// Decides a unit of zeros by levels that are moved.
+// Decides a unit of zeros by soft symbols that are moved.
 fn decided(unit: &VoiceUnit, moved: &Moved) -> BitBuf {
     let mut raw = sent(unit);
     let mut levels = levels_of(&raw);
@@ -127,7 +127,7 @@ fn decided(unit: &VoiceUnit, moved: &Moved) -> BitBuf {
     raw
 }
 
-// Whether a unit of zeros comes out as a row says, with inner words at places moved to a codeword.
+// Whether a unit of zeros comes out as a row says, with inner words at positions moved to a codeword.
 fn comes_out(places: &[usize], codeword: &[u8], row: &Row) -> bool {
     let (unit, words, levels, from, octets) = *row;
     let unit = unit_of(unit);
@@ -152,14 +152,15 @@ fn comes_out(places: &[usize], codeword: &[u8], row: &Row) -> bool {
     true
 }
 
-// Half way between two codewords, where both cost as much, and beyond.
+// Half way between two codewords, which then cost the same, and past that.
 const HALF: (i8, i8) = (64, 0);
 
 const BEYOND: (i8, i8) = (65, -1);
 
 #[test]
 fn terminators(rt: HostRuntime) {
-    // All words half way; four beyond, which are erased; five, which stand; four that the levels make sure of, erased by place, and four that are not.
+    // All words half way; four past half way, which are erased; five, which stay as decoded; four that the soft symbols are sure of, erased by
+    // position, and four that are not.
     let rows: [Row; 6] = [
         (3, (0, 12), HALF, 0, &[]),
         (3, (0, 4), BEYOND, 0, &[]),
@@ -195,7 +196,7 @@ fn terminators(rt: HostRuntime) {
 
 #[test]
 fn logical_links(rt: HostRuntime) {
-    // All words half way; as many beyond as are put right in an LDU1 and in an LDU2, and one more.
+    // All words half way; as many past half way as are corrected in an LDU1 and in an LDU2, and one more.
     let rows: [Row; 5] = [
         (1, (0, 24), HALF, 0, &[]),
         (1, (0, 8), BEYOND, 0, &[]),
@@ -230,7 +231,7 @@ fn logical_links(rt: HostRuntime) {
 
 #[test]
 fn headers(rt: HostRuntime) {
-    // As many words beyond as are put right, and one more.
+    // As many codewords past half way as are corrected, and one more.
     let rows: [Row; 2] = [
         (0, (0, 11), BEYOND, 0, &[]),
         (
@@ -251,7 +252,7 @@ fn headers(rt: HostRuntime) {
 
 #[test]
 fn low_speed_data(rt: HostRuntime) {
-    // A word half way and beyond.
+    // A codeword half way and past that.
     let rows: [Row; 3] = [
         (1, (0, 1), HALF, 0, &[]),
         (1, (0, 1), BEYOND, 193, &[0x05, 0x41, 0x80]),

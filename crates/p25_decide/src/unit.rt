@@ -1,4 +1,4 @@
-//! The coded fields of a voice unit, written as they are decoded from its levels.
+//! The coded fields of a voice unit, written as they are decoded from its soft symbols.
 
 ghost use Rattle.std.specs.Prelude.{◌≡◌, ◌+◌, ◌*◌, ◌/◌, ◌^◌, ◌<◌, ◌≤◌, All, Some, length};
 ghost use Rattle.p25_bits.specs.Bits.{bits_of};
@@ -40,7 +40,7 @@ const LDU2_PAIRS: usize = 1;
 
 const TDULC_PAIRS: usize = 3;
 
-// Writes a coded field as it is decoded from the levels of the unit. `word` has room for the symbols of the outer codeword.
+// Writes a coded field as it is decoded from the soft symbols of the unit. `word` has capacity for the symbols of the outer codeword.
 fn decide_coded<I: NumberCode, O: ErasedCode<Letter = Sym>>(
     places: &[usize],
     most: usize,
@@ -75,7 +75,7 @@ fn decide_coded<I: NumberCode, O: ErasedCode<Letter = Sym>>(
     put_words(&words, I::N, places, bare);
 }
 
-// Returns the codeword of low speed data (LSD) at a place as it is decoded from the levels of the unit.
+// Returns the codeword of low speed data (LSD) at a position as it is decoded from the soft symbols of the unit.
 fn low_word(levels: &[i8], at: usize) -> u32
     requires { at / 2 + 8 ≤ 35 * (length levels.now / 36) }
     ensures word { bits_of 16 result ≡ low_decided levels.now at }
@@ -86,7 +86,7 @@ fn low_word(levels: &[i8], at: usize) -> u32
     Lsd16::encode_number(cheapest::<Lsd16>(&costs))
 }
 
-// Writes both codewords of low speed data (LSD) as they are decoded from the levels of the unit.
+// Writes both codewords of low speed data (LSD) as they are decoded from the soft symbols of the unit.
 fn decide_low_speed(levels: &[i8], bare: &mut BitBuf)
     requires levels { 1680 ≤ 70 * (length levels.now / 36) }
     requires bare { length bare.old ≡ 1680 }
@@ -129,11 +129,11 @@ fn decide_bare(duid: u8, levels: &[i8], bare: &mut BitBuf)
     }
 }
 
-/// Writes the coded fields of a voice unit as they are decoded from its levels. `raw` has the transmitted bits of the unit, with its
+/// Writes the coded fields of a voice unit as they are decoded from its soft symbols. `raw` has the transmitted bits of the unit, with its
 /// status symbols, and `levels` one level for each two of them. Each inner codeword is the one of least cost, of equal ones that with the
 /// lowest information. The outer codeword is decoded with as few of the least reliable symbols erased as find one, at most 6 of an HDU, 4
 /// of an LDU1, 2 of an LDU2 and 6 of a TDULC. If none is found, the inner codewords are written as they were decoded. All other bits stay,
-/// as all bits of a terminator (TDU) do. TIA-102.BAAA, Voice Data Units; the levels are this project's own.
+/// as all bits of a terminator (TDU) do. TIA-102.BAAA, Voice Data Units; the soft symbols are this project's own.
 pub fn decide_unit(duid: u8, levels: &[i8], raw: &mut BitBuf)
     requires kind { voice_length_of duid ≡ Some (70 * (length levels.now / 36)) }
     requires whole { 36 * (length levels.now / 36) ≡ length levels.now }
