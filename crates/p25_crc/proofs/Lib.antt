@@ -1,3 +1,5 @@
 pub mod RegisterLaws
 pub mod ChecksLaws
 pub mod RemaindersLaws
+pub mod ApartSteps
+pub mod ApartLaws

@@ -1,3 +1,4 @@
 pub mod Checks
 pub mod Values
+pub mod Words
 pub mod Remainders

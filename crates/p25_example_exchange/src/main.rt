@@ -22,7 +22,8 @@ fn main(rt: HostRuntime) -> io::Result<()> {
     print_exchange(rt.alloc(), &mut output)
 }
 
-// Prints the steps of one message, and the counts after them: exactly these lines, if the writer exposes its contents.
+// Prints the steps of one message, and the counts after them. After `Ok` the output is exactly these lines, if the writer exposes its
+// contents. The clause states nothing of an `Err`: neither its cause nor what was printed before it.
 fn print_exchange<W: Write>(alloc: Global, output: &mut W) -> io::Result<()>
     ensures { OnOk result (Appends (W.contents output.old) (W.contents output.new) (exchange_text (events_of (codes "meet at the gate") 400))) }
 {

@@ -41,8 +41,9 @@ fn main(rt: HostRuntime) -> io::Result<()> {
     print_groups(&mut input, &mut output)
 }
 
-// Prints the line of each talk of a recording, as it arrives. If there are fewer octets than reads, the reader exposes
-// its remaining octets and the writer its contents, the output is exactly those lines.
+// Prints the line of each talk of a recording, as it arrives. After `Ok` the output is exactly those lines, if there are fewer octets
+// than reads, and if the reader exposes its remaining octets and the writer its contents. The clause states nothing of an `Err`:
+// neither its cause nor what was printed before it.
 fn print_groups<R: Read, W: Write>(input: &mut R, output: &mut W) -> io::Result<()>
     ensures { OnOk result (IfSome (R.remaining input.old) (λ octets. length octets < 2 ^ 32 - 1
         → Appends (W.contents output.old) (W.contents output.new) (lines_of octets))) }

@@ -1,15 +1,15 @@
 //! Laws of the rates: the distance of their paths, and what the functions of blocks and decoding are. Each function
-//! states what is proved, and calls at most other theorems.
+//! states what is proved, and calls at most other theorems, or the functions that it states something of.
 
 ghost use Rattle.std.specs.{Prelude.{◌≡◌, ℕ, ◌*◌, ◌<◌, ◌≤◌, Bool, List, All, length, map, slice_index}, List.{concat}};
 ghost use Rattle.p25_bits.specs.Distance.{distance_of};
+ghost use Rattle.p25_trellis.specs.Interleave.{interleaved};
 ghost use Rattle.p25_trellis.specs.Nearest.{nearest_octets, nearest_distance, block_from, half_octets, three_quarter_octets, half_block, three_quarter_block};
 ghost use Rattle.p25_trellis.specs.Tables.{half_point, three_quarter_point, point_nibbles, half_rows, three_quarter_rows};
 ghost use Rattle.p25_trellis.specs.Trellis.{IsBlock, IsFirstLeastReading, SomeApart, ArePathsApart, distance_from};
 
-use super::rate::{Half, Rate, ThreeQuarter};
 use super::tables::{HALF_NIBBLES, THREE_QUARTER_NIBBLES};
-use crate::BLOCK_COSTS;
+use crate::{BLOCK_COSTS, Half, Rate, ThreeQuarter, gather, spread};
 
 /// **Theorem.** The transmitted bits of two different paths of a rate differ in at least `APART` positions, and those
 /// of some two in no more.
@@ -78,3 +78,13 @@ pub fn tables_are_as_defined()
 pub fn numbers()
     ensures costs { BLOCK_COSTS ≡ 49 * 16 }
 {}
+
+/// **Theorem.** The nibbles of a path, spread, are in the order in which they are transmitted; gathered again they are the path.
+pub fn spread_and_gathered(nibbles: &[u8; 49]) -> ([u8; 49], [u8; 49])
+    ensures spread { result.0 ≡ interleaved nibbles.now }
+    ensures gathered { result.1 ≡ nibbles.now }
+{
+    let sent = spread(nibbles);
+    let path = gather(&sent);
+    (sent, path)
+}
