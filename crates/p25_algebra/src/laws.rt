@@ -49,8 +49,8 @@ pub fn unique_division()
         → (i : ℕ) → (q i ≡ p i) × (r i ≡ t i) }
 {}
 
-/// **Theorem.** If at most m factors are not zero and the power sums over different elements other than zero vanish for
-/// m successive exponents, every factor is zero (the Vandermonde determinant is not zero).
+/// **Theorem.** Take power sums over different elements other than zero that vanish for m successive exponents. If at
+/// most m factors are not zero, every factor is zero (the Vandermonde determinant is not zero).
 pub fn vanishing_sums()
     ensures { (count m start : ℕ) (element factor : ℕ → Sym) → AreApart count element
         → ((j : ℕ) → j < count → element j ≢ gf64.zero)
@@ -74,8 +74,8 @@ pub fn locator_vanishes()
 
 /// **Theorem.** Forney's formula. Let the first m of the numbers s be the power sums of different elements other than
 /// zero, from the exponent 1 on. Let a polynomial f of degree at most m vanish at the inverse of each element whose
-/// factor is not zero. At the inverse of an element at which f vanishes, the factor times the slope of f is the value
-/// of the first m coefficients of the product of f and s.
+/// factor is not zero. Take the inverse of an element at which f vanishes. There the factor times the slope of f is the
+/// value of the first m coefficients of the product of f and s.
 pub fn forney()
     ensures { (n m : ℕ) (element factor f s : ℕ → Sym) → 1 ≤ m → AreApart n element
         → ((j : ℕ) → j < n → element j ≢ gf64.zero)

@@ -19,7 +19,7 @@ use std::io::{Read, Write};
 /// Makes one call of the program, and returns its end.
 ///
 /// The words are the arguments but the first. The events on the streams afterwards, in their order and with no others,
-/// are those of one run of these words, by `run_on` of p25_tool; if the allocation for the arguments failed there are
+/// are those of one run of these words, by `run_on` of p25_tool. If the allocation for the arguments failed there are
 /// none. `stream_laws` of p25_tool states their consequences. One event is made on `errors`: a write of the line of the
 /// outcome, which is whole and flushed, or failed. The end has the status of the outcome. It requires that no event was
 /// made on the streams or on `errors` before.

@@ -10,8 +10,8 @@ use crate::seen::{item_end, seen_unit};
 use p25_units::Item;
 use std::marker::Model;
 
-/// The state between the items of a stream: the end of the last one, their number, and the run of voice data units that
-/// a further data unit may still join.
+/// The state between the items of a stream. It has the end of the last one, their number, and the run of voice data
+/// units that a further data unit may still join.
 #[derive(Clone, Copy, Debug, PartialEq, Eq)]
 pub struct Caller {
     reached: u64,
@@ -52,12 +52,12 @@ impl Caller {
         }
     }
 
-    /// Takes an item. It requires that the item begins at the end of the last one, or at position 0 if none was taken,
-    /// that positions are below 2^60, and that fewer than 2^32 − 1 items were taken.
+    /// Takes an item. It requires that the item begins at the end of the last one, or at position 0 if none was taken.
+    /// It also requires positions below 2^60, and fewer than 2^32 − 1 items before.
     ///
-    /// Returns the call that ends with this item, because it is its terminator (TDU or TDULC), or the call that ended
-    /// with the data unit before, which is no terminator, because there is a break before this one. `None` is returned
-    /// if and only if no call ends so.
+    /// Returns the call that ends with this item, because the item is its terminator (TDU or TDULC). Or returns the
+    /// call that ended with the data unit before, which is no terminator, because there is a break before this one.
+    /// `None` is returned if and only if no call ends so.
     pub fn take(&mut self, item: &Item) -> Option<Call>
         requires place { place_of item.now ≡ self.old.reached }
         requires below { place_of item.now < 2 ^ 60 }

@@ -8,7 +8,7 @@ ghost use Rattle.p25_calls.specs.CallLaws.{AnswersAreCalls, BreakBetween, Closed
 ///   is a break between neighbours.
 /// - `closed`: a run that is closed stays one, whatever data units come later.
 /// - `answers`: the results of a new caller for items that lie end to end from position 0 on, and at the end, are their
-///   calls; without the result at the end they are those that no further item can change.
+///   calls. Without the result at the end they are those that no further item can change.
 /// - `each`, `last`: so the result for an item is the call that it closes, and the result at the end the call that is
 ///   open.
 pub fn call_laws()

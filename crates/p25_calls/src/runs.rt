@@ -44,7 +44,7 @@ fn terminated(run: &Call, unit: &UnitSeen) -> Option<Call>
     }
 }
 
-/// Takes a data unit, or `None` for any other item, as `Caller::take` takes an item: returns the call that it ends, and
+/// Takes a data unit, or `None` for any other item, as `Caller::take` takes an item. Returns the call that it ends, and
 /// writes to `pending` the run that a further data unit may still join. It is for callers that keep the state of a
 /// `Caller` in another form. It requires that the open run ends at or before the beginning of the data unit, and has
 /// fewer than 2^32 − 1 data units. `None` is returned if and only if no call ends so.

@@ -6,10 +6,13 @@ ghost use Rattle.p25_calls.specs.CallTexts.{call_text_of};
 use super::call::{Call, CallEnd};
 use p25_line::Line;
 
-/// Writes to `out` the text of a call, without the end of its line: its position and its length in decimal, the three
-/// digits of its network access code (NAC), how it was entered and how it ends, the numbers of its link data units
-/// (LDU1 or LDU2) and of its broken data units in decimal, the 18 digits of its link control (LC), and the two of its
-/// algorithm.
+/// Writes to `out` the text of a call, without the end of its line. Its values are, in this order:
+///
+/// - its position and its length in decimal
+/// - the three digits of its network access code (NAC)
+/// - how it was entered and how it ends
+/// - the numbers of its link data units (LDU1 or LDU2) and of its broken data units in decimal
+/// - the 18 digits of its link control (LC), and the two of its algorithm
 #[tactic(auto, unfolding(crate::specs::CallTexts::call_text_of))]
 pub fn call_text(call: &Call, out: &mut Line)
     requires { call.now.nac < 4096 }

@@ -35,8 +35,8 @@ pub fn wrong_by_rows(rows: &[u16], checks: u32, radius: u32, sum: u16) -> Option
 
 /// Returns at most `radius` bit errors, and at most three, with the syndrome `sum`, in a code with as many check bits
 /// as bits of information. `turned` are the rows of the inverse matrix, and `turned_sum` is the sum of those at whose
-/// positions the syndrome is 1: the bits of information that alone would have it. `None` is returned if and only if no
-/// such bit errors have that syndrome.
+/// positions the syndrome is 1. It is the bits of information that alone would have the syndrome. `None` is returned if
+/// and only if no such bit errors have that syndrome.
 ///
 /// Of three bit errors at most one is in the information, or at most one is in the check bits.
 pub fn wrong_by_halves(

@@ -27,9 +27,9 @@ pub fn sessions_are_orderly()
         AreOrderly (sessions_of (delivery_run first_delivery events)) }
 {}
 
-/// **Theorem.** The facts that a delivery keeps in every such run: the messages sent, delivered and acknowledged, V(R)
-/// and the number of the outstanding message, and the newest transmission of each direction. The number of the first
-/// message of a session is one more than that of the packet that opens it.
+/// **Theorem.** The facts that a delivery keeps in every such run. They are about the messages sent, delivered and
+/// acknowledged, V(R) and the number of the outstanding message, and the newest transmission of each direction. The
+/// number of the first message of a session is one more than that of the packet that opens it.
 pub fn facts_are_kept()
     ensures facts { (events : List Happening) → IsCleanRun first_delivery events → DeliveryFacts (delivery_run first_delivery events) }
     ensures first { (events : List Happening) → IsCleanRun first_delivery events → (number : ℕ) →

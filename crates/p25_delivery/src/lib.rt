@@ -1,5 +1,5 @@
-//! Delivery of messages in confirmed packets (PDU), as a state machine: a sender and a receiver, which act only when
-//! called; the two halves of a station over them; and the laws of a delivery between two halves. Their transmissions
+//! Delivery of messages in confirmed packets (PDU), as a state machine. A sender and a receiver act only when called.
+//! The two halves of a station are over them, and there are laws of a delivery between two halves. Their transmissions
 //! are values, and the channel belongs to the caller.
 //!
 //! A sender has at most one outstanding message. Its packets carry a number N(S) of three bits, 0 to 7 and then 0
@@ -13,8 +13,8 @@
 //! assert!(rt; matches!(&offer, Offer::Taken { blocks: 1, .. }));
 //! ```
 //!
-//! Contracts see a sender, a receiver and the halves as their states, and each call as a function of `SenderRules`,
-//! `ReceiverRules` or `HalfRules` that returns the state after it and its result.
+//! Contracts see a sender, a receiver and the halves as their states. They see each call as a function of
+//! `SenderRules`, `ReceiverRules` or `HalfRules` that returns the state after it and its result.
 #![tactic(auto)]
 
 mod asked;

@@ -25,8 +25,8 @@ pub struct Mark {
     pub acknowledged: u64,
 }
 
-/// The half of a station that sends: its sender, the messages that it sent, the number of them that were acknowledged,
-/// and the ends of the sessions before the present one.
+/// The half of a station that sends. It has a sender, the messages that it sent, the number of them that were
+/// acknowledged, and the ends of the sessions before the present one.
 ///
 /// Each call returns the type of step, and the packet to transmit, if there is one: it becomes the newest transmission.
 #[derive(Debug, Drop)]

@@ -106,8 +106,8 @@ impl Sender {
     }
 
     /// Receives a packet, and returns the result. `Down` is returned if and only if a response requires a transmission
-    /// and 16 were made. `Ignored` is returned if and only if the packet is not a response with this LLID, the sender
-    /// is down or nothing is outstanding, or the response requires nothing of the outstanding packet.
+    /// and 16 were made. `Ignored` is returned if and only if the packet is not a response with this LLID or requires
+    /// nothing of the outstanding packet, or the sender is down or has nothing outstanding.
     #[tactic(auto, unfolding(crate::specs::SenderRules::sender_heard))]
     pub fn hear(&mut self, packet: &Packet) -> SenderHeard
         ensures { (self.new, result) ≡ sender_heard self.old packet.now }
@@ -120,7 +120,7 @@ impl Sender {
         }
     }
 
-    /// Opens the session again, and returns the opening packet: its number is four more than that of the message that
+    /// Opens the session again, and returns the opening packet. Its number is four more than that of the message that
     /// is given up, or it is the opening packet that was transmitted before. `Up` is returned if and only if the sender
     /// is not down, and then nothing changes.
     #[tactic(auto, unfolding(crate::specs::SenderRules::reopened, crate::specs::SenderRules::opening_number, crate::specs::Halves::IsNumbered))]

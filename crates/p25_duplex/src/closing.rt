@@ -8,9 +8,9 @@ use crate::world::DuplexWorld;
 use p25_line::Line;
 use p25_stations::parts::put_sessions;
 
-/// Writes to `out` the text that closes a run for one side, without the end of its line. It has the side's letter, the
-/// numbers of messages that it sent and of those that were delivered and acknowledged, and the number of sessions, if
-/// there was more than one.
+/// Writes to `out` the text that closes a run for one side, without the end of its line. It has the side's letter, and
+/// the numbers of messages that it sent and of those that were delivered and acknowledged. The number of sessions
+/// follows, if there was more than one.
 #[tactic(auto, unfolding(crate::specs::ClosingTexts::duplex_closing_of))]
 pub fn duplex_closing(world: &DuplexWorld, side: Side, out: &mut Line)
     ensures text { out.new ≡ duplex_closing_of side world.now.state }

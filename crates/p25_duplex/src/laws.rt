@@ -16,7 +16,7 @@ pub fn both_directions_are_orderly()
 
 /// **Theorem.** The facts that the messages of each side keep while no step was a false pass. Their delivery has the
 /// newest data of the side's direction and the newest response of the other's. It is one to which a clean run of a
-/// delivery leads, so the laws of p25_delivery for such runs hold for it; and it keeps the facts that `DeliveryFacts`
+/// delivery leads, so the laws of p25_delivery for such runs hold for it. It also keeps the facts that `DeliveryFacts`
 /// names. If a direction carries data, or a response, that is the newest of the delivery.
 pub fn duplex_facts()
     ensures clean { (events : List event_type) (side : side_type) → AreDuplexEvents events → IsCleanDuplex events →

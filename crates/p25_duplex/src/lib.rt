@@ -11,9 +11,9 @@
 //! assert_eq!(rt; world.sent(Side::A).len(), 1);
 //! ```
 //!
-//! Contracts see each step as the function `duplex_step`, and the messages of a side as the delivery `delivery_at`: the
-//! half of that side that sends, and the half of the other that receives. Each world is the run of some events
-//! (`HasDuplexHistory`): `DuplexWorld::facts`. The text that closes a run is `duplex_closing_of` of a side.
+//! Contracts see each step as the function `duplex_step`, and the messages of a side as the delivery `delivery_at`.
+//! That is the half of that side that sends, and the half of the other that receives. Each world is the run of some
+//! events (`HasDuplexHistory`): `DuplexWorld::facts`. The text that closes a run is `duplex_closing_of` of a side.
 #![tactic(auto)]
 
 mod closing;

@@ -54,8 +54,8 @@ impl DuplexWorld {
 
     /// Does nothing; its clauses state the laws of every duplex world. Some list of events led from its first state to
     /// this one. If it counts no false pass, the halves of each side's delivery are those of one that keeps the facts
-    /// that `DeliveryFacts` names, and each of its sessions is orderly: the delivered messages are the beginning of the
-    /// sent ones, each once, every acknowledged message was delivered, and at most one was delivered that was not
+    /// that `DeliveryFacts` names, and each of its sessions is orderly. The delivered messages are the beginning of the
+    /// sent ones, each once. Every acknowledged message was delivered, and at most one was delivered that was not
     /// acknowledged. In any case the sessions of a side make up its lists: joined, their messages are all that were
     /// sent and all that were delivered.
     pub fn facts(&self)

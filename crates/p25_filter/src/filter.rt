@@ -8,8 +8,8 @@ use p25_line::Line;
 
 /// A running command: it takes octets and returns its output for them in chunks.
 ///
-/// Contracts see the output that is still to come, the end of the call, and the points at which an allocation may fail,
-/// for any octets that may still come (its `future`).
+/// Contracts see its `future`: for any octets that may still come, the output that is still to come, the end of the
+/// call, and the points at which an allocation may fail.
 pub trait Filter {
     // The remaining output, the end of the call and the points at which an allocation may fail, for each list of octets
     // that may come.

@@ -1,5 +1,5 @@
-//! The work on an input: octets are read in chunks from a source and passed in their order to a command, and the
-//! command's output is written to a sink in few chunks.
+//! The work on an input. Octets are read in chunks from a source and passed in their order to a command. The command's
+//! output is written to a sink in few chunks.
 //!
 //! ```text
 //! let mut source = SteadySource::new(b"ab\ncd\n", 4);
@@ -12,8 +12,8 @@
 //!
 //! `Echo` is a machine over lines that returns each line unchanged, without its end: so `abcd` is written.
 //!
-//! A command is a `Filter`. Contracts see it by its `Future`: its remaining output, the end of the call, and the texts
-//! after which an allocation may fail, for each list of octets that may still come.
+//! A command is a `Filter`. Contracts see it by its `Future`. This is, for each list of octets that may still come, the
+//! remaining output, the end of the call, and the texts after which an allocation may fail.
 //!
 //! `run_on` does the work on any port, and reads to the end of the input, at most 16,777,216 octets. Its contract
 //! states the reads and writes that it makes, and their order: they are a live run of events (`IsRun`). All output that

@@ -28,8 +28,8 @@ ghost use Rattle.p25_follow.specs.StretchLaws.{PlaceLooksAtFew, SameUnitsAfter};
 ///   sync and NID are written.
 /// - `places`: the output differs from the recording only in bits of sync and NID of a data unit for which they are
 ///   written, in a stretch.
-/// - `never_worse`: the data units that the scan finds in the output are those of the recording, the same item for item
-///   and at the same positions, and one more for each sync and NID written.
+/// - `never_worse`: the scan finds in the output the data units of the recording, the same item for item and at the
+///   same positions. It finds one more for each sync and NID written.
 /// - `second`: the output for the output is the same.
 /// - `repair`: if the scan finds the same items in a repaired recording, a repair before gives the same as one after
 ///   alone.

@@ -1,10 +1,10 @@
 //! Data units found by rhythm, when the scan finds no sync; and recordings forwarded in place.
 //!
 //! Data units lie end to end, so after a data unit the position of the next one and its possible types are known. An
-//! LDU1 follows a header (HDU), an LDU2 an LDU1, an LDU1 an LDU2, and a header a terminator with link control (TDULC);
-//! a terminator (TDULC or TDU) may follow each of them. A `Follower` takes the items of a stream one after the other
-//! and returns their bits, with sync and NID of such data units written: the 48 bits of the sync and the 64 of the
-//! network identifier (NID). All other bits are unchanged, and there are as many as were taken.
+//! LDU1 follows a header (HDU), an LDU2 an LDU1, an LDU1 an LDU2, and a header a terminator with link control (TDULC).
+//! A terminator (TDULC or TDU) may follow each of them. A `Follower` takes the items of a stream one after the other
+//! and returns their bits, with sync and NID of such data units written. These are the 48 bits of the sync and the 64
+//! of the network identifier (NID). All other bits are unchanged, and there are as many as were taken.
 //!
 //! ```text
 //! let mut follower = Follower::new();

@@ -13,10 +13,10 @@ use p25_units::Item;
 
 /// Replaces the bits that an item covers by equally many that are forwarded at their position.
 ///
-/// The bits of a `Whole` item are those of `bridge_item`. A `Broken` one keeps all its bits but its sync and its
-/// network identifier (NID), which become those of the network access code and of its type, and its status symbols,
-/// which become `status`. The bits of every other item are unchanged. It requires an item and its bits as a scan
-/// returns them.
+/// The bits of a `Whole` item are those of `bridge_item`. A `Broken` one keeps all its bits but its sync, its network
+/// identifier (NID) and its status symbols. Sync and NID become those of the network access code and of its type, and
+/// the status symbols become `status`. The bits of every other item are unchanged. It requires an item and its bits as
+/// a scan returns them.
 pub fn relay_item(item: &Item, nac: u16, status: Status, raw: &mut BitBuf)
     requires sound { IsSoundItem item.now }
     requires fits { IsFitItem item.now }
@@ -28,7 +28,7 @@ pub fn relay_item(item: &Item, nac: u16, status: Status, raw: &mut BitBuf)
 }
 
 /// Replaces the bits that an item covers as `relay_item` does. `room` is a buffer for the bits of a whole data unit
-/// without status symbols, so that none has to be made; its contents before and after the call have no meaning.
+/// without status symbols, so that none has to be made. Its contents before and after the call have no meaning.
 pub fn relay_item_in(item: &Item, nac: u16, status: Status, room: &mut BitBuf, raw: &mut BitBuf)
     requires sound { IsSoundItem item.now }
     requires fits { IsFitItem item.now }

@@ -5,7 +5,7 @@ ghost use Rattle.p25_delivery.specs.Orderly.{AreOrderly, AreWhole};
 ghost use Rattle.p25_fragments.specs.LongRuns.{AreLongEvents, long_run, long_steps_of, inner_steps, IsInnerRun, IsCleanLongRun, AreUnrefused, long_delivery, long_sessions_of, first_world, first_long, LongEvent as event_type, finished_in, taken_in, whole_in};
 
 /// **Theorem.** The effect of a list of events. The inner world has a run of its own, and its steps are those of the
-/// events and of the offers of parts; a session begins with each one of the inner world. If no step of the inner world
+/// events and of the offers of parts. A session begins with each one of the inner world. If no step of the inner world
 /// is a false pass, no part is refused, and each session is orderly. The whole long messages are the beginning of those
 /// taken, in order and each once. Every acknowledged long message is whole, and at most one is whole that was not
 /// acknowledged. In every run the sessions make up the lists.

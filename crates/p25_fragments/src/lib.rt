@@ -1,8 +1,8 @@
 //! Long messages over two packet stations: up to 4,000 octets over a delivery whose messages have at most 2,028.
 //!
-//! A long message is transmitted as parts, each a message of the stations: one octet with the number of the part, plus
-//! 80 hex for the last, and then at most 500 octets, in the order of transmission. The header of the packet (PDU) is
-//! unchanged; the first octet of a part is this project's own.
+//! A long message is transmitted as parts, each a message of the stations. A part is one octet with the number of the
+//! part, plus 80 hex for the last, and then at most 500 octets, in the order of transmission. The header of the packet
+//! (PDU) is unchanged; the first octet of a part is this project's own.
 //!
 //! ```
 //! let mut world = LongWorld::new(rt.alloc());

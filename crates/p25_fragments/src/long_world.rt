@@ -63,8 +63,8 @@ impl LongWorld {
 
     /// Does nothing; its clauses state the laws of every world. Some list of events led from its first state to this
     /// one. Suppose that no message was offered to the inner world besides the parts, and the inner world counts no
-    /// false pass. Then each session is orderly: the whole long messages are the beginning of those taken, in order and
-    /// each once, every acknowledged long message is whole, and at most one is whole that was not acknowledged. In any
+    /// false pass. Then each session is orderly. The whole long messages are the beginning of those taken, in order and
+    /// each once. Every acknowledged long message is whole, and at most one is whole that was not acknowledged. In any
     /// case the sessions make up the lists: joined, their long messages are all that were taken and all that were
     /// received whole.
     pub fn facts(&self)

@@ -6,9 +6,9 @@ ghost use Rattle.p25_hamming.specs.Hamming10Laws.{hamming10_code};
 use p25_bits::sums;
 use p25_code::{CheckedCode, Parameters, wrong_by_rows};
 
-/// The shortened Hamming code (10,6): codewords of ten bits, the first six the information and the last four the sum
-/// over GF(2) of the check rows of the information bits that are 1. Any two codewords differ in at least 3 bits; one
-/// bit error is corrected. TIA-102.BAAA, Link Control and Encryption Sync words of the logical link units.
+/// The shortened Hamming code (10,6). A codeword has ten bits: the first six are the information, and the last four the
+/// sum over GF(2) of the check rows of the information bits that are 1. Any two codewords differ in at least 3 bits;
+/// one bit error is corrected. TIA-102.BAAA, Link Control and Encryption Sync words of the logical link units.
 #[derive(Clone, Copy, Debug, PartialEq, Eq)]
 pub struct Hamming10;
 

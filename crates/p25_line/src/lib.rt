@@ -2,8 +2,8 @@
 //! are lists.
 //!
 //! A line has at most 8,192 octets. Its words are octets 21 to 7E hex with single spaces between them. Contracts see a
-//! `Line` as the list of its octets, first to last, a `WordList` as the spans of the first 16 words with the number of
-//! all, and `LineWords` as the list of all words of the line.
+//! `Line` as the list of its octets, first to last. They see a `WordList` as the spans of the first 16 words with the
+//! number of all, and `LineWords` as the list of all words of the line.
 //!
 //! `words_or_fault line` is the words of a line or the reason for refusing it. `line_read read line` is the decoding of
 //! a line, if `read` decodes its words. `read_whole` reads lines of any form that a `LineReader` defines. A value is

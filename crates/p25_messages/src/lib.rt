@@ -1,5 +1,5 @@
-//! The data of the station crates: messages of packet data, long messages and their parts, lists of both, the positions
-//! of bit errors in a transmission, the results of a sender and a receiver, and the types of steps.
+//! The data of the station crates: messages of packet data, long messages and their parts, and lists of both. Also the
+//! positions of bit errors in a transmission, the results of a sender and a receiver, and the types of steps.
 //!
 //! A message is a list of at most 2,028 octets, in the order of transmission: as many as the 127 blocks of a packet
 //! (PDU) carry besides the packet CRC. A long message is a list of at most 4,000, which is transmitted in parts, each a

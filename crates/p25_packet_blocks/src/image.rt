@@ -20,9 +20,9 @@ use p25_status::{BARE_BLOCK_LENGTH, BoundedList, SENT_BLOCK_LENGTH};
 use p25_trellis::{Half, ThreeQuarter, encode_block};
 use p25_unit_front::put_front;
 
-/// Returns the length of the transmitted data unit of a packet (PDU), by the blocks to follow of its header: 112 bits,
-/// 196 for each block and the header block, filled to a multiple of 70, and two status bits for each 70. TIA-102.BAAA,
-/// Packet Data, Status Symbols.
+/// Returns the length of the transmitted data unit of a packet (PDU), by the blocks to follow of its header. It is 112
+/// bits, and 196 for each block and the header block, filled to a multiple of 70, with two status bits for each 70.
+/// TIA-102.BAAA, Packet Data, Status Symbols.
 pub fn packet_length(head: &PacketHead) -> usize
     ensures value { result ≡ packet_sent_length (head_blocks head.now) }
     ensures least { 360 ≤ result }

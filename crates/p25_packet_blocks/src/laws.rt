@@ -19,10 +19,10 @@ pub fn one_image()
 
 /// **Theorem.** The laws of damaged packets (PDU).
 ///
-/// - `plain`: a data unit without status symbols decodes to the packet if it has at most two bit errors in the header
-///   block and in each half-rate block, and at most one in each three-quarter-rate block.
-/// - `sent`: a transmitted data unit with no more bit errors than those, at most four in the sync and at most eleven in
-///   the NID decodes to the network access code and the packet, whatever its status symbols are.
+/// - `plain`: take a data unit without status symbols that has at most two bit errors in the header block and in each
+///   half-rate block, and at most one in each three-quarter-rate block. It decodes to the packet.
+/// - `sent`: take a transmitted data unit with no more bit errors than those, at most four in the sync and at most
+///   eleven in the NID. It decodes to the network access code and the packet, whatever its status symbols are.
 /// - `undamaged`: a transmitted data unit decodes to its network access code and packet.
 pub fn packet_radius()
     ensures plain { (nac : ℕ) (packet : packet_type) (received : List Bool)

@@ -2,11 +2,11 @@
 //! (TIA-102.BAAA, Packet Data).
 //!
 //! The first bit of a list is transmitted first. Octets are in the order of transmission, the most significant bit of
-//! each first. A packet is a header of ten octets and its body: for a confirmed packet a slot for each block, in the
-//! order of transmission, and for another packet all octets before the packet CRC.
+//! each first. A packet is a header of ten octets and its body. The body of a confirmed packet is a slot for each
+//! block, in the order of transmission, and that of another packet all octets before the packet CRC.
 //!
-//! A data unit without status symbols has sync and NID in bits 0 to 111, the header block at half rate in the 196 bits
-//! from 112, and block j in the 196 bits from 308 + 196 · j. Its blocks are at three-quarter rate if the packet is
+//! A data unit without status symbols has sync and NID in bits 0 to 111, and the header block at half rate in the 196
+//! bits from 112. Block j is in the 196 bits from 308 + 196 · j. Its blocks are at three-quarter rate if the packet is
 //! confirmed and otherwise at half rate. Nulls follow up to a multiple of 70.
 //!
 //! ```

@@ -8,9 +8,9 @@ use p25_line::Line;
 use p25_stations::World;
 use p25_stations::parts::put_sessions;
 
-/// Writes to `out` the text that closes a run, without the end of its line: the numbers of messages sent, delivered and
-/// acknowledged, the number of deliveries that were false passes, and the number of sessions, if there was more than
-/// one.
+/// Writes to `out` the text that closes a run, without the end of its line. It has the numbers of messages sent,
+/// delivered and acknowledged, and the number of deliveries that were false passes. The number of sessions follows, if
+/// there was more than one.
 #[tactic(auto, unfolding(crate::specs::StepTexts::closing_text_of))]
 pub fn closing_text(world: &World, out: &mut Line)
     ensures text { out.new ≡ closing_text_of world.now.state }
@@ -24,9 +24,9 @@ pub fn closing_text(world: &World, out: &mut Line)
     put_sessions(world.sessions(), out);
 }
 
-/// Writes to `out` the text that closes a run of long messages, without the end of its line: the numbers of long
-/// messages taken, whole and acknowledged, the number of deliveries that were false passes, and the number of sessions,
-/// if there was more than one.
+/// Writes to `out` the text that closes a run of long messages, without the end of its line. It has the numbers of long
+/// messages taken, whole and acknowledged, and the number of deliveries that were false passes. The number of sessions
+/// follows, if there was more than one.
 #[tactic(auto, unfolding(crate::specs::LongTexts::long_closing_text_of))]
 pub fn long_closing_text(world: &LongWorld, out: &mut Line)
     ensures text { out.new ≡ long_closing_text_of world.now.state }

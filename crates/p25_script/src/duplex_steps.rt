@@ -8,8 +8,8 @@ use super::steps::put_step_text;
 use p25_duplex::DuplexStep;
 use p25_line::Line;
 
-/// Writes to `out` the text of a step, without the end of its line: the letter of the side that acts or receives, a
-/// space, and the text of the step's type. It has at most 4,208 octets.
+/// Writes to `out` the text of a step, without the end of its line. It has the letter of the side that acts or
+/// receives, a space, and the text of the step's type. It has at most 4,208 octets.
 #[tactic(auto, unfolding(crate::specs::StepTexts::duplex_step_text_of))]
 pub fn duplex_step_text(step: &DuplexStep, out: &mut Line)
     ensures text { out.new ≡ duplex_step_text_of step.now }

@@ -10,7 +10,7 @@ use p25_line::Line;
 use p25_stations::Step;
 
 /// Writes to `out` and `behind` the two parts of the text of a step, one after the other: its lines, each with its end.
-/// The line of a long message that is taken comes before that of the step of its part 0; any other line comes after
+/// The line of a long message that is taken comes before that of the step of its part 0. Any other line comes after
 /// that of the step of the inner world.
 #[tactic(auto, unfolding(crate::specs::LongTexts::long_step_text_of, crate::specs::LongTexts::line_before, crate::specs::LongTexts::line_behind))]
 pub fn long_step_text(step: &LongStep, out: &mut Line, behind: &mut Line)

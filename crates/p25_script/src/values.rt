@@ -7,8 +7,8 @@ ghost use Rattle.p25_script.specs.Values.{place_in, places_in};
 use p25_line::{comma_part, is_dash, number_value, octets_or_dash};
 use p25_messages::{Flips, MessageOf};
 
-/// Returns the message of a word. `None` is returned if and only if the word is neither `-` nor an even number of
-/// lower-case hexadecimal digits, two for each octet, or if it writes more than `MOST` octets.
+/// Returns the message of a word. `None` is returned in exactly two cases: the word is neither `-` nor an even number
+/// of lower-case hexadecimal digits, two for each octet, or it writes more than `MOST` octets.
 pub fn message_value<const MOST: usize>(word: &[u8]) -> Option<MessageOf<MOST>>
     requires { MOST ≤ 2 ^ 32 }
     ensures { result ≡ octets_up_to MOST word.now }

@@ -34,7 +34,7 @@ pub fn show_laws<S: Source, K: Sink>()
 {}
 
 /// **Theorem.** The same holds of a call of `show` on streams, as the program makes it, if the reader exposes its
-/// remaining octets and the writer its contents: the program's own call states these events.
+/// remaining octets and the writer its contents. The program's own call states these events.
 pub fn show_stream_laws<R: Read, W: Write>()
     ensures says { (words : List (List ℕ)) (events : List Event) (outcome : Outcome) (first last : Streams R W) (input before : List ℕ)
         → StreamsGo R.remaining W.contents first events last → IsCallRun (command_of words) events outcome → command_of words ≡ Some Command.Show

@@ -12,9 +12,10 @@ use p25_trellis::{Half, Rate, ThreeQuarter};
 /// **Theorem.** The decoding of levels.
 ///
 /// - `reading`: the octets and the cost that `soft_octets` and `soft_path` give are those of the first least path.
-/// - `near`: levels decode to the octets of a block if the sum of their squared deviations from it is below 1,024 times
-///   the least number of bits in which two paths differ. Two paths that differ in b bits have nominal levels that
-///   deviate by at least 4,096 · b, and the square of a sum is at most twice the sum of the squares.
+/// - `near`: take levels whose squared deviations from a block have a sum below 1,024 times the least number of bits in
+///   which two paths differ. They decode to the octets of the block. The reason is that two paths that differ in b bits
+///   have nominal levels that deviate by at least 4,096 · b. The square of a sum is at most twice the sum of the
+///   squares.
 pub fn soft_laws<R: Rate>()
     ensures reading { (levels : List ℤ)
         → IsFirstLeastReading R.STATES R.BITS_PER_SYMBOL (soft_cost R.point_of levels) (soft_octets R.STATES R.BITS_PER_SYMBOL R.point_of levels)

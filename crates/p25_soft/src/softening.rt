@@ -165,9 +165,9 @@ fn soften_packet(fields: &FieldList, levels: &[i8], raw: &mut BitBuf) -> u32
 }
 
 /// Replaces the bits of the failing blocks of a broken packet (PDU) by the transmitted bits of their soft paths, and
-/// returns the number of replaced blocks. It requires in `raw` the bits that the item covers, in `levels` the levels
-/// from which they were decided, one for each two bits, and that a broken item is the one into which these bits are
-/// divided.
+/// returns the number of replaced blocks. It requires in `raw` the bits that the item covers, and in `levels` the
+/// levels from which they were decided, one for each two bits. It also requires that a broken item is the one into
+/// which these bits are divided.
 ///
 /// In a packet with failing blocks each of these is decoded at three-quarter rate, and in one whose packet CRC fails
 /// every block to follow at half rate. Each other bit is unchanged. All bits of every other item are unchanged, and

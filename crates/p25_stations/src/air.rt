@@ -23,8 +23,8 @@ pub enum Carried {
     Heard { packet: Packet, false_pass: bool },
 }
 
-/// Writes to `out` the data unit of a packet (PDU) as a station transmits it, from its sync on, with the network access
-/// code (NAC) 293 hex and the status symbol 00 throughout. It requires that no slot of the packet is `Bad`.
+/// Writes to `out` the data unit of a packet (PDU) as a station transmits it, from its sync on. It has the network
+/// access code (NAC) 293 hex and the status symbol 00 throughout. It requires that no slot of the packet is `Bad`.
 pub fn transmit(packet: &Packet, out: &mut BitBuf)
     requires { IsWholePacket packet.now }
     ensures bits { out.new ≡ transmission_of packet.now }

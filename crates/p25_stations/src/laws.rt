@@ -73,7 +73,7 @@ pub fn deliveries_within_radius()
 }
 
 /// **Theorem.** The guarantees of the channel. A received packet that is no false pass is true to the transmitted one:
-/// it has the same header, and the same octets or slots, except those that are `Bad`; and the test of a false pass is
+/// it has the same header, and the same octets or slots, except those that are `Bad`. The test of a false pass is
 /// exactly that. A packet that arrives within the correction radius is received as transmitted, and is no false pass.
 /// One in which at most one bit is inverted arrives within the correction radius.
 pub fn air_is_true()

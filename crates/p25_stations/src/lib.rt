@@ -13,9 +13,9 @@
 //! assert_eq!(rt; world.delivered().len(), 1);
 //! ```
 //!
-//! Contracts see the reception of a packet as the function `carried_of`, a world as its state and the number of steps
-//! for which it has capacity, and each step as the function `world_step`. Each world is the run of some events
-//! (`HasHistory`): `World::facts`.
+//! Contracts see the reception of a packet as the function `carried_of`, and each step as the function `world_step`.
+//! They see a world as its state and the number of steps for which it has capacity. Each world is the run of some
+//! events (`HasHistory`): `World::facts`.
 #![tactic(auto)]
 
 mod air;

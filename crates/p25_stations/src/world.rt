@@ -52,9 +52,9 @@ impl World {
 
     /// Does nothing; its clauses state the laws of every world. Some list of events led from its first state to this
     /// one. If it counts no false pass, its delivery keeps the facts that `DeliveryFacts` names, and each session is
-    /// orderly: the delivered messages are the beginning of the sent ones, each once, every acknowledged message was
+    /// orderly. The delivered messages are the beginning of the sent ones, each once. Every acknowledged message was
     /// delivered, and at most one was delivered that was not acknowledged. In any case at most one was sent that was
-    /// not acknowledged, and the sessions make up the lists: joined, their messages are all that were sent and all that
+    /// not acknowledged, and the sessions make up the lists. Joined, their messages are all that were sent and all that
     /// were delivered.
     pub fn facts(&self)
         ensures history { HasHistory self.now.state }

@@ -6,7 +6,7 @@ use crate::list::BoundedList;
 use std::error::Error;
 use std::fmt;
 
-/// A status symbol, a number from 0 to 3 that is transmitted as two bits, the higher one first: 1 is inbound busy, 3
+/// A status symbol, a number from 0 to 3 that is transmitted as two bits, the higher one first. 1 is inbound busy, 3
 /// inbound idle, 0 unknown or talk-around, and 2 unknown. TIA-102.BAAA, Status Symbols.
 #[derive(Clone, Copy, Debug, PartialEq, Eq)]
 pub struct Status {

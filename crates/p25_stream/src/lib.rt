@@ -1,5 +1,5 @@
-//! Streams of bits, divided into items: whole data units (HDU, LDU1, LDU2, TDU, TDULC and PDU), broken ones, positions
-//! at which a data unit begins but cannot be decoded, and gaps.
+//! Streams of bits, divided into items. These are whole data units (HDU, LDU1, LDU2, TDU, TDULC and PDU), broken ones,
+//! positions at which a data unit begins but cannot be decoded, and gaps.
 //!
 //! Octets are taken in order, the most significant bit of each first; positions count bits from the first one. Items
 //! lie end to end and cover every bit. A `Scanner` returns each of them once the bits are there that decide it; a gap

@@ -73,9 +73,9 @@ impl Scanner {
         settle(&mut self.judged, &self.held);
     }
 
-    /// Appends the bits of some octets, from the first on, and returns the number of these octets: eight if there are
-    /// that many and at most 25,863 bits are held, otherwise one. It requires that no item is left, that the stream is
-    /// not finished, and that fewer than 2^60 bits were taken.
+    /// Appends the bits of some octets, from the first on, and returns the number of these octets. It is eight if there
+    /// are that many and at most 25,863 bits are held, and otherwise one. It requires that no item is left, that the
+    /// stream is not finished, and that fewer than 2^60 bits were taken.
     #[inline]
     pub fn push_some(&mut self, octets: &[u8]) -> usize
         requires some { 0 < length octets.now }

@@ -1,9 +1,10 @@
 //! The texts of data units, items and calls, and data units read from lines.
 //!
-//! A unit line is words with single spaces between them: the type of the data unit (HDU, LDU1, LDU2, TDU, TDULC, or one
-//! of the three of a packet, PDU), and then each key of that type with `=` and its value, in one order. The keys
-//! include `nac` for the network access code (NAC), `lc` for link control (LC), `lsd` for low speed data (LSD), and
-//! `mi`, `algid` and `kid` of encryption sync (ES). Digits are hexadecimal in lower case, two for each octet.
+//! A unit line is words with single spaces between them. The first is the type of the data unit (HDU, LDU1, LDU2, TDU,
+//! TDULC, or one of the three of a packet, PDU). Each key of that type follows with `=` and its value, in one order.
+//! The keys include `nac` for the network access code (NAC), `lc` for link control (LC), `lsd` for low speed data
+//! (LSD), and `mi`, `algid` and `kid` of encryption sync (ES). Digits are hexadecimal in lower case, two for each
+//! octet.
 //!
 //! | type | keys, each with the number of digits of its value |
 //! |---|---|

@@ -11,8 +11,8 @@ use p25_packet_blocks::{
     Block, CONFIRMED_FORMAT, Confirmed, Octets, Packet, PacketHead, Plain, Slot, Slots,
 };
 
-/// Returns the confirmed packet (PDU) of a header and of its blocks. `None` is returned if and only if a value does not
-/// have its form, the format is not 16 hex, or there are not as many blocks as the header has to follow.
+/// Returns the confirmed packet (PDU) of a header and of its blocks. `None` is returned in exactly three cases: a value
+/// does not have its form, the format is not 16 hex, or there are not as many blocks as the header has to follow.
 pub fn confirmed_value(head: &[u8], blocks: &[u8]) -> Option<Packet>
     ensures { result ≡ confirmed_in head.now blocks.now }
 {

@@ -20,8 +20,8 @@ use p25_units::{Body, Unit, VoiceUnit};
 /// - `Form`: it is not one or more words of octets 21 to 7E hex with single spaces between them.
 /// - `Kind`: the first word names no type.
 /// - `Key`: there are not as many further words as keys, or one does not begin with its key and `=`.
-/// - `Value`: a value does not have its form, or the format in a packet's header is not that of the type (16 hex for
-///   `confirmed`, 15 hex for `plain`, 03 hex for `response`), or there are not as many blocks as the header has to
+/// - `Value`: a value does not have its form. Or the format in a packet's header is not that of the type: 16 hex for
+///   `confirmed`, 15 hex for `plain`, 03 hex for `response`. Or there are not as many blocks as the header has to
 ///   follow, or not twelve octets for each of them less four.
 pub fn read_line(line: &[u8]) -> Result<Unit, LineFault>
     ensures unit { result ≡ read_line_of line.now }

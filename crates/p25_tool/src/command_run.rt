@@ -27,20 +27,20 @@ use std::alloc::Global;
 /// to the sink.
 ///
 /// The words are tested first; if they name no command the outcome is `Usage`, and nothing is read or written. Then the
-/// input is processed in its order, and the first refusal ends the call: a read fault, an input that is too long, a
-/// line that is refused, a write fault. The output that the octets taken so far determine is written before the next
-/// read. So after a read fault or an input that is too long the sink holds the output of the octets before, in whole
-/// octets and without a last line of a check. After a refused line it holds the output for the lines before, and after
-/// a write fault a beginning of the output.
+/// input is processed in its order, and the first refusal ends the call. It is a read fault, an input that is too long,
+/// a line that is refused, or a write fault. The output that the octets taken so far determine is written before the
+/// next read. So after a read fault or an input that is too long the sink holds the output of the octets before. It has
+/// whole octets and no last line of a check. After a refused line it holds the output for the lines before, and after a
+/// write fault a beginning of the output.
 ///
 /// `sample` reads nothing, and ends as `Done`, or as `WriteFault` if a write failed; the source has no effect on it.
 ///
 /// Only `stations`, `fragments` and `duplex` allocate memory, for each line that is accepted, before its step is made.
 /// If an allocation fails the outcome is `Memory`, and the sink holds the steps before, without the closing line.
 ///
-/// For a script whose lines all decode to events, the steps of its run and its closing lines are written, and if no
-/// step is a false pass each session is orderly. For a recording of data units within the correction radius that is not
-/// too long, `show`, `check`, `repair`, `bridge`, `relay` and `follow` write the output of `recorded_laws`.
+/// For a script whose lines all decode to events, the steps of its run and its closing lines are written. If no step is
+/// a false pass each session is orderly. For a recording of data units within the correction radius that is not too
+/// long, `show`, `check`, `repair`, `bridge`, `relay` and `follow` write the output of `recorded_laws`.
 pub fn run<S: Source, K: Sink>(
     alloc: Global,
     words: &Words,

@@ -50,15 +50,15 @@ pub fn stream_laws<R: Read, W: Write>()
         → IfSome (command_of words) (λ command. W.contents (writer_in last) ≡ Some (held ++ output_by command true input)) }
 {}
 
-/// **Theorem.** A call of `run` that reached the end of its input wrote all of `output_by` of the octets that the
-/// source held, after the former contents of the sink, however the reads of the source are divided. So the laws below
-/// are about the output of `run`.
+/// **Theorem.** Take a call of `run` that reached the end of its input. It wrote all of `output_by` of the octets that
+/// the source held, after the former contents of the sink, however the reads of the source are divided. So the laws
+/// below are about the output of `run`.
 pub fn written_laws()
     ensures all { AllIsWritten }
 {}
 
 /// **Theorem.** The output of the commands for a recording of data units that were transmitted one after the other,
-/// each damaged within the correction radius, for all lists of data units and all such damage.
+/// each damaged within the correction radius. It holds for all lists of data units and all such damage.
 ///
 /// - `recorded`: every such list has a recording; its bits fill whole octets.
 /// - `show`: one line for each data unit, whole, with the transmitted fields, and the received voice frames and status
@@ -93,7 +93,8 @@ pub fn recording_laws()
 {}
 
 /// **Theorem.** The output for one data unit within the correction radius, wherever it is in a recording and whatever
-/// is around it, unless a data unit that begins before it, whole, broken or cut, covers its first bit.
+/// is around it. The only condition is that no data unit that begins before it, whole, broken or cut, covers its first
+/// bit.
 ///
 /// - `show`: its line, whole and as received, at its position.
 /// - `repair`: its image, at its position.

@@ -31,9 +31,9 @@ pub fn encode_block<R: Rate>(octets: &[u8], out: &mut BitBuf)
 }
 
 /// Decodes the 196 bits from position `at` on: writes to `octets` those of the first nearest path, and returns its
-/// distance, the number of bits in which the path's transmitted bits differ. No path's transmitted bits are nearer; if
-/// several are as near, it is the first in dictionary order of symbols. So a block with at most 2 bit errors at half
-/// rate, or 1 at three-quarter rate, decodes to the transmitted octets. TIA-102.BAAA, Trellis Coding.
+/// distance. The distance is the number of bits in which the path's transmitted bits differ. No path's transmitted bits
+/// are nearer; if several are as near, it is the first in dictionary order of symbols. So a block with at most 2 bit
+/// errors at half rate, or 1 at three-quarter rate, decodes to the transmitted octets. TIA-102.BAAA, Trellis Coding.
 pub fn read_block<R: Rate>(bits: &BitBuf, at: usize, octets: &mut [u8]) -> u32
     requires there { at + 196 ≤ length bits.now }
     requires octets { length octets.old ≡ R.OCTETS }

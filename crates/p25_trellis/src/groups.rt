@@ -1,4 +1,4 @@
-//! Numbers of a few bits each, group by group: a group is joined to one number, a number is split, and so numbers of
+//! Numbers of a few bits each, group by group. A group is joined to one number, a number is split, and so numbers of
 //! one width are written as numbers of another.
 
 ghost use Rattle.std.specs.Prelude.{◌≡◌, ◌*◌, ◌^◌, ◌<◌, ◌≤◌, All, length};

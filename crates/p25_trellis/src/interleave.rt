@@ -12,8 +12,8 @@ const SENT_ORDER: [usize; 49] = [
     3, 7, 11, 15, 19, 23, 27, 31, 35, 39, 43, 47,
 ];
 
-/// Interleaves the nibbles of a path: returns them in the order of transmission, those at positions 0 modulo 4 first,
-/// then those at 1, 2 and 3 modulo 4 (TIA-102.BAAA, Data Interleaving).
+/// Interleaves the nibbles of a path: returns them in the order of transmission. Those at positions 0 modulo 4 are
+/// first, then those at 1, 2 and 3 modulo 4 (TIA-102.BAAA, Data Interleaving).
 pub fn spread(nibbles: &[u8; 49]) -> [u8; 49]
     ensures sent { result ≡ interleaved nibbles.now }
     ensures len { length result ≡ 49 }

@@ -1,6 +1,6 @@
 //! The search for the first nearest path to received nibbles. From the last step to the first it computes the least
-//! distance after each state and the lowest symbol with which a rest of that distance begins, all states of a step side
-//! by side. Then it follows these symbols.
+//! distance after each state, all states of a step side by side. It also computes the lowest symbol with which a rest
+//! of that distance begins. Then it follows these symbols.
 
 ghost use Rattle.std.specs.Prelude.{◌≡◌, ℕ, ◌+◌, ◌/◌, ◌%◌, ◌<◌, All, length, slice_index};
 ghost use Rattle.p25_trellis.specs.{Trellis.{IsFirstLeastReading}, Tables.{nibble_distance}, Costs.{path_cost, received_cost}};

@@ -8,7 +8,7 @@ use super::tables::RateTables;
 /// A rate of the trellis code: a table of points with a row for each state and a column for each symbol. The state
 /// after a symbol is that symbol (TIA-102.BAAA, Trellis Coding).
 ///
-/// The laws of a table are the basis of decoding: its points are nibbles, and from one state two symbols lead to paths
+/// The laws of a table are the basis of decoding. Its points are nibbles, and from one state two symbols lead to paths
 /// that differ in at least `APART` bits before they meet again.
 pub trait Rate {
     /// The number of states, and of symbols: 4 or 8.

@@ -12,9 +12,9 @@ use p25_status::Field;
 use p25_unit_front::read_front;
 
 /// The decoded parts of the data unit at a position with a sync, so that nothing is decoded twice while its bits
-/// arrive. They are its network identifier (NID) with the number of bit errors of sync and NID, and for a packet (PDU)
-/// its header with the number of bit errors of its block, or nothing yet. Contracts state by `IsBegun` that it is true
-/// of the bits from that position on.
+/// arrive. They are its network identifier (NID) with the number of bit errors of sync and NID, or nothing yet. For a
+/// packet (PDU) they are also its header with the number of bit errors of its block. Contracts state by `IsBegun` that
+/// it is true of the bits from that position on.
 #[derive(Clone, Copy, Debug, PartialEq, Eq)]
 pub struct Begun {
     nid: Option<ReadNid>,

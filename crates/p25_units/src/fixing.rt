@@ -15,8 +15,8 @@ use p25_unit_front::front_fixes;
 use p25_voice_units::voice_fixes;
 
 /// Returns the number of examined positions in which the transmitted bits from position `at` on differ from the image
-/// of a frame: those of its sync, of the first 63 bits of its network identifier (NID), and of its codewords and
-/// blocks. It requires that a sound frame's bits are there.
+/// of a frame. The examined positions are those of its sync, of the first 63 bits of its network identifier (NID), and
+/// of its codewords and blocks. It requires that a sound frame's bits are there.
 pub fn fixes(bits: &BitBuf, at: usize, frame: &Frame) -> u32
     requires there { at + frame_length_of frame.now.unit ≤ length bits.now }
     requires sound { IsSoundFrame frame.now }

@@ -39,8 +39,8 @@ impl Frame {
     }
 }
 
-/// Returns the number of transmitted bits of a data unit, with its status symbols: 144 (TDU) to 1,728 (LDU1 and LDU2)
-/// for a voice data unit, and 360 to 25,920 for a packet (PDU).
+/// Returns the number of transmitted bits of a data unit, with its status symbols. It is 144 (TDU) to 1,728 (LDU1 and
+/// LDU2) for a voice data unit, and 360 to 25,920 for a packet (PDU).
 pub fn frame_length(unit: &Unit) -> usize
     ensures value { result ≡ frame_length_of unit.now }
     ensures most { result ≤ 25920 }

@@ -21,9 +21,8 @@ pub enum Item {
         frame: Frame,
         fixes: u32,
     },
-    /// A data unit of `length` bits, its network identifier (NID), and exactly the fields that fail, in order: those of
-    /// a voice data unit, or for a packet (PDU) its format or its packet CRC alone, or each of its blocks whose CRC-9
-    /// does not agree.
+    /// A data unit of `length` bits, its network identifier (NID), and exactly the fields that fail, in order. For a
+    /// packet (PDU) these are its format or its packet CRC alone, or each of its blocks whose CRC-9 does not agree.
     Broken {
         place: u64,
         length: u32,

@@ -15,8 +15,8 @@ use p25_bits::BitBuf;
 use p25_status::{FieldList, ReadOutcome, unweave};
 
 /// Decodes the `count` transmitted bits from position `at` on to a frame. It requires that `need` returns that length
-/// there. The error is the list of exactly the fields that fail, in order, and is never empty: those of a voice data
-/// unit, or for a packet (PDU) its format or its packet CRC alone, or each block whose CRC-9 does not agree.
+/// there. The error is the list of exactly the fields that fail, in order, and is never empty. For a packet (PDU) these
+/// are its format or its packet CRC alone, or each block whose CRC-9 does not agree.
 pub fn read_unit(bits: &BitBuf, at: usize, count: usize) -> Result<Frame, FieldList>
     requires there { at ≤ length bits.now }
     requires needed { need_of (drop at bits.now) ≡ Length count }

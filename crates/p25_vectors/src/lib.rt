@@ -1,7 +1,7 @@
 //! Sample data units: a large valid input from a number.
 //!
 //! The data units are of eight types in turn: TDU, HDU, TDULC, LDU1, LDU2, and three types of packets (PDU). Each has
-//! pseudorandom fields that are the same on every run, and damage that its codes correct: some of the first bits of its
+//! pseudorandom fields that are the same on every run, and damage that its codes correct. Some of the first bits of its
 //! sync, of its network identifier (NID) and of each of its codewords and blocks are inverted. The draws and their
 //! order are this project's own. The first bit of a list is transmitted first.
 //!

@@ -208,13 +208,15 @@ fn read_logical_link(duid: u8, bare: &BitBuf, unit: &mut VoiceUnit) -> ReadOutco
 }
 
 /// Decodes bits without status symbols to the voice data unit (HDU, LDU1, LDU2, TDU or TDULC) of a data unit identifier
-/// (DUID). It requires as many bits as a data unit of that type has. Each field is decoded by its own codes: the header
-/// word, the link control and the encryption sync as `read_field` does, each low speed data word if a codeword lies
-/// within 2 bits. Voice frames are returned as received; the bits of sync and NID and the nulls are ignored.
+/// (DUID). It requires as many bits as a data unit of that type has. Each field is decoded by its own codes. The header
+/// word, the link control and the encryption sync are decoded as `read_field` does, and each low speed data word if a
+/// codeword lies within 2 bits. Voice frames are returned as received; the bits of sync and NID and the nulls are
+/// ignored.
 ///
-/// The error is the list of exactly the fields that fail, in order, and never empty: for an HDU `HeaderWord`; for an
-/// LDU1 `LinkControl`, `LowSpeed1` and `LowSpeed2`; for an LDU2 `EncryptionSync`, `LowSpeed1` and `LowSpeed2`; for a
-/// TDULC `LinkControl`. A TDU has no field that fails. TIA-102.BAAA, Voice Data Units.
+/// The error is the list of exactly the fields that fail, in order, and never empty. The field of an HDU is
+/// `HeaderWord`. Those of an LDU1 are `LinkControl`, `LowSpeed1` and `LowSpeed2`, and those of an LDU2
+/// `EncryptionSync`, `LowSpeed1` and `LowSpeed2`. That of a TDULC is `LinkControl`, and a TDU has no field that fails.
+/// TIA-102.BAAA, Voice Data Units.
 pub fn read_voice(duid: u8, bare: &BitBuf) -> Result<VoiceUnit, FieldList>
     requires { voice_length_of duid ≡ Some (length bare.now) }
     ensures reading { result ≡ voice_reading_of duid bare.now }

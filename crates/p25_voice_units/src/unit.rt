@@ -79,8 +79,8 @@ impl VoiceUnit {
     }
 }
 
-/// Returns the number of bits without status symbols of the voice data unit of a data unit identifier (DUID): 770 for
-/// an HDU (0), 1,680 for an LDU1 (5) or an LDU2 (A hex), 140 for a TDU (3), and 420 for a TDULC (F hex). `None` is
+/// Returns the number of bits without status symbols of the voice data unit of a data unit identifier (DUID). It is 770
+/// for an HDU (0), 1,680 for an LDU1 (5) or an LDU2 (A hex), 140 for a TDU (3), and 420 for a TDULC (F hex). `None` is
 /// returned if and only if the DUID is that of no voice data unit.
 #[tactic(auto, unfolding(crate::specs::Lengths::voice_length_of))]
 pub fn voice_length(duid: u8) -> Option<usize>

@@ -2,7 +2,7 @@
 //! of them, and returns a number.
 //!
 //! A decoder returns the number of wrong letters of a word, -1 if no codeword is near enough, and -2 if its argument
-//! represents no word; at -1 and -2 it changes nothing. The bit that is transmitted first is the highest of a number;
+//! represents no word. At -1 and -2 it changes nothing. The bit that is transmitted first is the highest of a number;
 //! an octet represents a symbol of six bits, and 25 octets the 196 bits of a block.
 //!
 //! ```
@@ -10,9 +10,9 @@
 //! assert!(rt; read_number::<Golay24>(&mut word) == 1 && word == 0x84BDFF);
 //! ```
 //!
-//! Contracts see the effect of a call on a number as `IsNumberReading` and `IsNumberWriting`, on octets that represent
-//! symbols as `IsSymbolReading` and `IsSymbolWriting`, and on a network identifier (NID) as `IsIdentifierReading` and
-//! `IsIdentifierWriting`.
+//! Contracts see the effect of a call on a number as `IsNumberReading` and `IsNumberWriting`, and on octets that
+//! represent symbols as `IsSymbolReading` and `IsSymbolWriting`. They see the effect on a network identifier (NID) as
+//! `IsIdentifierReading` and `IsIdentifierWriting`.
 #![tactic(auto)]
 
 mod answers;

@@ -8,7 +8,7 @@ use crate::answers::{BEYOND, OUTSIDE};
 use p25_bch_nid::{Nid, nid_bits, read_nid_counted};
 use p25_code::NumberCode;
 
-/// Decodes a received word of a code as a number, the first bit highest, and returns the number of bit errors: the
+/// Decodes a received word of a code as a number, the first bit highest, and returns the number of bit errors. The
 /// number becomes that of the one codeword within the correction radius. Returns -1 if there is none, and -2 if the
 /// number has more bits than a word; then it is unchanged.
 pub fn read_number<C: NumberCode>(word: &mut u32) -> i32

@@ -31,8 +31,8 @@ pub fn read_symbols<const N: usize, const K: usize>(octets: &mut [u8]) -> i32
 
 /// Decodes a received word of the code (N, K) as `read_symbols` does, with erasures: the symbols with a true entry in
 /// `erased` are not known. Returns the number of symbols that changed if, for some codeword, twice the wrong symbols
-/// among the others plus the erased ones are at most N - K: the octets become those of that codeword. Returns -1 if
-/// there is none, and -2 if an octet is above 63, an erased one too; then nothing is changed.
+/// among the others plus the erased ones are at most N - K. Then the octets become those of that codeword. Returns -1
+/// if there is none, and -2 if an octet is above 63, an erased one too; then nothing is changed.
 pub fn read_with_erased<const N: usize, const K: usize>(octets: &mut [u8], erased: &[bool]) -> i32
     requires code { IsCode N K }
     requires long { length octets.old ≡ N }
@@ -48,8 +48,8 @@ pub fn read_with_erased<const N: usize, const K: usize>(octets: &mut [u8], erase
     answer_of(reading)
 }
 
-/// Computes the N - K check symbols of the first K octets and stores them after these, so that all N are a codeword of
-/// the code (N, K), and returns 0. Returns -2 if one of the first K is above 63; then nothing is changed.
+/// Computes the N - K check symbols of the first K octets and stores them after these. Then all N are a codeword of the
+/// code (N, K). Returns 0. Returns -2 if one of the first K is above 63; then nothing is changed.
 pub fn write_symbols<const N: usize, const K: usize>(octets: &mut [u8]) -> i32
     requires code { IsCode N K }
     requires long { length octets.old ≡ N }
