@@ -1,40 +1,9 @@
 -- The least cost after a state, from the last step to the first: the least over its symbols of the cost of the step and its rest.
 use Rattle.std.proofs.Common.{◌≡◌, ◌≢◌, ℕ, zero, suc, ◌+◌, ◌*◌, ◌<◌, ◌≤◌, inl, inr, List, [], ◌∷◌, length, get_or, set, refl, ap, ap₂, sym, subst, ◌∙◌, arith, All, below_more, get_or-set_same, get_or-set_other, ◌-◌, ◌^◌, add-one}
 use Rattle.std.proofs.{Math.Nat.{mul-suc, mul-le-mul_left}, lemmas.Bool.{cases_lt}, lemmas.List.{get_or_past}}
+use Rattle.p25_bits.specs.Least.{IsLowestLeast}
 use Rattle.p25_trellis.proofs.PathLaws.{length-nibbles_from}
-use Rattle.p25_trellis.specs.{Trellis.{nibbles_from}, Costs.{total_cost, symbols_cost, cost_in}, Least.{rest_in, step_cost, IsEnd, IsLeastEnd, HasLeastFrom, IsLowestLeast}}
-
--- the first symbol is the lowest least of one
-pub IsLowestLeast-one : (value : ℕ → ℕ) (least : ℕ) → least ≡ value 0 → IsLowestLeast 1 value 0 least
-IsLowestLeast-one value least is = record {
-  below = omega arith;
-  is = sym is;
-  none_less = λ other below. first other below;
-  lowest = λ other below. absurd (omega arith);
-}
-  where
-    first : (other : ℕ) → other < 1 → least ≤ value other
-    first zero below = omega arith
-    first (suc other) below = absurd (omega arith)
-
--- a symbol that costs less than all before it is the lowest least with it
-pub IsLowestLeast-less : (states : ℕ) (value : ℕ → ℕ) (symbol least new : ℕ) → IsLowestLeast states value symbol least → new ≡ value states → new < least → IsLowestLeast (states + 1) value states new
-IsLowestLeast-less states value symbol least new was is less = record {
-  below = omega arith;
-  is = sym is;
-  none_less = below_more (λ k. new ≤ value k) states (λ k below. omega (arith, was.none_less k below)) (omega arith);
-  lowest = λ other below. omega (arith, was.none_less other below);
-}
-
--- and else the lowest least stays
-pub IsLowestLeast-kept : (states : ℕ) (value : ℕ → ℕ) (symbol least new : ℕ)
-    → IsLowestLeast states value symbol least → new ≡ value states → least ≤ new → IsLowestLeast (states + 1) value symbol least
-IsLowestLeast-kept states value symbol least new was is more = record {
-  below = omega (arith, was.below);
-  is = was.is;
-  none_less = below_more (λ k. least ≤ value k) states was.none_less (omega arith);
-  lowest = was.lowest;
-}
+use Rattle.p25_trellis.specs.{Trellis.{nibbles_from}, Costs.{total_cost, symbols_cost, cost_in}, Least.{rest_in, step_cost, IsEnd, IsLeastEnd, HasLeastFrom}}
 
 -- costs of nibbles are at most so many times the limit
 pub total_cost-le : (cost : ℕ → ℕ → ℕ) (limit step : ℕ) (nibbles : List ℕ) → ((i n : ℕ) → cost i n ≤ limit) → total_cost cost step nibbles ≤ limit * length nibbles

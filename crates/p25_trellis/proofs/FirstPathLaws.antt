@@ -1,8 +1,9 @@
 -- The first least path, from the first step to the last: the lowest of the symbols that cost least comes before the first least end after it.
 use Rattle.std.proofs.Common.{◌≡◌, ℕ, zero, suc, ◌+◌, ◌<◌, ◌≤◌, inl, inr, List, [], ◌∷◌, ◌++◌, length, take, drop, set, refl, ap, ap₂, sym, subst, ◌∙◌, arith, append_assoc, All}
 use Rattle.std.proofs.{lemmas.Bool.{cases_lt}, lemmas.List.{take_more_set}, lemmas.List.Elements.{All-cons, All-nil, All-head, All-tail, All-same}}
+use Rattle.p25_bits.specs.Least.{IsLowestLeast}
 use Rattle.p25_trellis.specs.{Trellis.{IsPath, IsNotAfter, IsFirstLeast, IsFirstLeastReading}, Costs.{symbols_cost}}
-use Rattle.p25_trellis.specs.Least.{rest_in, step_cost, IsEnd, IsLeastEnd, HasLeastFrom, IsLowestLeast}
+use Rattle.p25_trellis.specs.Least.{rest_in, step_cost, IsEnd, IsLeastEnd, HasLeastFrom}
 use Rattle.p25_trellis.proofs.{PathLaws.{same_octets}, CostLaws.{symbols_cost-cons, length-end, HasLeastFrom-later}}
 
 -- the first of the ends that cost least from a state and step on

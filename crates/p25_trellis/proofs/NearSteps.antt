@@ -1,10 +1,12 @@
 -- The least distances of a step, from those of the step after it: each is the least over the symbols, which are added one after another.
 use Rattle.std.proofs.Common.{◌≡◌, ℕ, zero, suc, ◌≢◌, ◌+◌, ◌-◌, ◌*◌, ◌/◌, ◌%◌, ◌<◌, ◌≤◌, inl, inr, List, length, get_or, set, refl, ap, ap₂, sym, subst, ◌∙◌, arith, min}
 use Rattle.std.proofs.lemmas.Bool.{cases_lt}
+use Rattle.p25_bits.specs.Least.{IsLowestLeast}
+use Rattle.p25_bits.proofs.LeastLaws.{IsLowestLeast-one, IsLowestLeast-less, IsLowestLeast-kept}
 use borrow.Rule.Slice.PartMut.{mid_of}
 use Rattle.p25_bits.proofs.PartLaws.{get_or-part}
-use Rattle.p25_trellis.specs.{Tables.{nibble_distance}, Costs.{received_cost}, Least.{rest_in, step_cost, HasLeastFrom, HasLowestFrom, IsLowestLeast}}
-use Rattle.p25_trellis.proofs.{CostLaws.{IsLowestLeast-one, IsLowestLeast-less, IsLowestLeast-kept, rest-le, rest_in-other, rest_in-same}, DistanceLaws.{nibble_distance-le}}
+use Rattle.p25_trellis.specs.{Tables.{nibble_distance}, Costs.{received_cost}, Least.{rest_in, step_cost, HasLeastFrom, HasLowestFrom}}
+use Rattle.p25_trellis.proofs.{CostLaws.{rest-le, rest_in-other, rest_in-same}, DistanceLaws.{nibble_distance-le}}
 
 -- an eighth of the rank of the symbol 0 is the cost of its nibble
 pub received_cost-is : (received ranks : List ℕ) (step state nibble : ℕ)

@@ -2,34 +2,14 @@
 -- symbols that are left: the lowest symbol with the cheapest best end comes before that end.
 use Rattle.std.proofs.Common.{◌≡◌, ℕ, zero, suc, ◌*◌, ◌^◌, ◌<◌, ◌≤◌, inl, inr, Bool, if◌then◌else◌, nat_lt, List, [], ◌∷◌, length, take, refl, ap, sym, subst, ◌∙◌, arith, All, add-one, length-append}
 use Rattle.std.proofs.{lemmas.Bool.{cases_lt, cond-true, cond-false, lt-ltb, le-ltb}, lemmas.List.{length-take-le, take_all, take_at, drop_at}, lemmas.List.Elements.{All-append, All-cons, All-nil}}
+use Rattle.p25_bits.specs.Least.{IsLowestLeast, lowest_least}
+use Rattle.p25_bits.proofs.LeastLaws.{IsLowestLeast-lowest_least}
 use Rattle.p25_bits.specs.{Bits.{octet_bits}, Numbers.{number_bits, numbers_from, octets_from}}
 use Rattle.p25_bits.proofs.{BitsLaws.{length-octet_bits}, NumbersLaws.{number_bits-octets, length-number_bits, length-numbers_from, All-numbers_from, number_bits-numbers_from}}
-use Rattle.p25_trellis.specs.{Trellis.{IsPath, Carries, IsBlock, IsNotAfter, IsFirstLeast, IsFirstLeastReading, distance_from}, Least.{IsEnd, IsLowestLeast}}
-use Rattle.p25_trellis.specs.Nearest.{lowest_least, first_least_end, nearest_path, nearest_octets, nearest_distance, path_from, block_from}
-use Rattle.p25_trellis.proofs.{CostLaws.{IsLowestLeast-one, IsLowestLeast-less, IsLowestLeast-kept}, FirstPathLaws.{IsFirstLeastEnd, IsFirstLeastEnd-last, IsFirstLeast-from_end, same_reading}}
+use Rattle.p25_trellis.specs.{Trellis.{IsPath, Carries, IsBlock, IsNotAfter, IsFirstLeast, IsFirstLeastReading, distance_from}, Least.{IsEnd}}
+use Rattle.p25_trellis.specs.Nearest.{first_least_end, nearest_path, nearest_octets, nearest_distance, path_from, block_from}
+use Rattle.p25_trellis.proofs.{FirstPathLaws.{IsFirstLeastEnd, IsFirstLeastEnd-last, IsFirstLeast-from_end, same_reading}}
 use Rattle.p25_trellis.proofs.PathLaws.{power-pos, same_block}
-
--- one number more is the lowest least where it has less
-IsLowestLeast-more : (states : ℕ) (value : ℕ → ℕ) (symbol : ℕ) → IsLowestLeast states value symbol (value symbol)
-    → let next = if nat_lt (value states) (value symbol) then states else symbol in IsLowestLeast (suc states) value next (value next)
-IsLowestLeast-more states value symbol was =
-    let P : ℕ → ℕ → Type 0 = λ bound next. IsLowestLeast bound value next (value next) in
-    elim (cases_lt (value states) (value symbol)) [
-      | inl less ↦
-          subst (λ next. P (suc states) next) (sym (cond-true (nat_lt (value states) (value symbol)) states symbol (lt-ltb (value states) (value symbol) less)))
-          (simp add-one at (IsLowestLeast-less states value symbol (value symbol) (value states) was refl less))
-      | inr more ↦
-          subst (λ next. P (suc states) next) (sym (cond-false (nat_lt (value states) (value symbol)) states symbol (le-ltb (value states) (value symbol) more)))
-          (simp add-one at (IsLowestLeast-kept states value symbol (value symbol) (value states) was refl more))
-    ]
-
--- the function gives the lowest least
-IsLowestLeast-lowest_least : (states : ℕ) (value : ℕ → ℕ) → 0 < states → IsLowestLeast states value (lowest_least states value) (value (lowest_least states value))
-unfolding lowest_least
-IsLowestLeast-lowest_least zero value some = absurd (omega arith)
-IsLowestLeast-lowest_least (suc zero) value some =
-    subst (λ next. IsLowestLeast 1 value next (value next)) (sym (cond-false (nat_lt (value 0) (value 0)) 0 0 (le-ltb (value 0) (value 0) (omega arith)))) (IsLowestLeast-one value (value 0) refl)
-IsLowestLeast-lowest_least (suc (suc n)) value some = IsLowestLeast-more (suc n) value (lowest_least (suc n) value) (IsLowestLeast-lowest_least (suc n) value (omega arith))
 
 -- the lowest symbol with the cheapest best end goes before that end
 IsFirstLeastEnd-lowest : (states before : ℕ) (cost : List ℕ → ℕ) (best : ℕ → List ℕ) (symbol : ℕ)

@@ -1,5 +1,6 @@
 use Rattle.std.proofs.Common.{◌≢◌, suc, ◌+◌, ◌-◌, ◌*◌, ◌/◌, ◌%◌, ◌<◌, below_more, length-set, get_or, set, refl, ◌∙◌, arith}
-use Rattle.p25_trellis.specs.{Costs.{received_cost}, Least.{rest_in, step_cost, IsLowestLeast}}
+use Rattle.p25_bits.specs.Least.{IsLowestLeast}
+use Rattle.p25_trellis.specs.{Costs.{received_cost}, Least.{rest_in, step_cost}}
 use Rattle.p25_trellis.proofs.CostLaws.{IsLeastEnd-at, HasLeastFrom-later, HasLeastFrom-write, here_more, rest_in-other}
 use Rattle.p25_trellis.proofs.NearSteps.{least-fits, IsLowestLeast-next, IsLowestLeast-step, HasLowestFrom-write, lowest-kept, lowest-written}
 use Rattle.p25_trellis.proofs.near.fill_rests.Goals as goal

@@ -1,5 +1,6 @@
 use Rattle.std.proofs.Common.{◌≡◌, ℕ, ◌+◌, ◌*◌, ◌/◌, ◌%◌, ◌<◌, min, get_or, ◌∙◌, ap, subst, arith}
-use Rattle.p25_trellis.specs.{Least.{IsLowestLeast}, Tables.{nibble_distance}}
+use Rattle.p25_bits.specs.Least.{IsLowestLeast}
+use Rattle.p25_trellis.specs.{Tables.{nibble_distance}}
 use Rattle.p25_trellis.proofs.{NearSteps.{lowered_more}, PathLaws.{power-pos}}
 use Rattle.p25_trellis.proofs.near.least_at.Goals as goal
 

@@ -1,5 +1,6 @@
 use Rattle.std.proofs.{Common.{rules, refl, ◌≡◌, ℕ, subst, sym, ◌∙◌, arith}, iter.Serving.{serving}}
-use Rattle.p25_trellis.specs.{Costs.{path_cost, received_cost}, Least.{rest_in, step_cost, IsLowestLeast}, Trellis.{IsFirstLeastReading}}
+use Rattle.p25_bits.specs.Least.{IsLowestLeast}
+use Rattle.p25_trellis.specs.{Costs.{path_cost, received_cost}, Least.{rest_in, step_cost}, Trellis.{IsFirstLeastReading}}
 use Rattle.p25_trellis.proofs.{CostLaws.{rest_in-first}, NearSteps.{rest_read}}
 use Rattle.p25_trellis.proofs.near.read_near.Goals as goal
 
