@@ -42,8 +42,7 @@ first_bit bit digit count is some = take-take 1 count _ some ∙ top_bit bit dig
 -- a number moved to the top of a word stands in its first bits
 pub first_bits : (width value : ℕ) → width ≤ 64 → value < 2 ^ width → take width (bits_of 64 (value * 2 ^ (64 - width) % 2 ^ 64)) ≡ bits_of width value
 first_bits width value few small =
-    let fits : width + (64 - width) ≤ 64 = omega arith in
-    rw (shl_whole value width (64 - width) 64 small fits) (simp (take-bits_of, shl-shr))
+    rw (shl_whole value width (64 - width) 64 small (omega arith)) (simp (take-bits_of, shl-shr))
 
 -- the first bits of a word as a number
 pub first-lt : (word width : ℕ) → width ≤ 64 → word < 2 ^ 64 → word / 2 ^ (64 - width) < 2 ^ width
@@ -62,12 +61,10 @@ get_or-number_bits : (words : List ℕ) (i : ℕ) → i / 64 < length words → 
 get_or-number_bits words i inside =
     let q = i / 64 in
     let r = i % 64 in
-    let word = get_or words q 0 in
     let place : 64 * q + r ≡ i = omega arith in
     let there : q ≤ length words = omega arith in
-    let low : r < length (bits_of 64 word) = omega (arith, length-bits_of) in
+    let low : r < length (bits_of 64 (get_or words q 0)) = omega (arith, length-bits_of) in
     let few : r < 64 = omega arith in
-    let last : 64 - 1 - r ≡ 63 - r = omega arith in
     ap (λ n. get_or (number_bits 64 words) n false) (sym place) ∙ rw (← get_or-drop, drop-number_bits, number_bits-drop_more, get_or_append_left, get_or-bits_of, ← shr_and_one)
 
 -- so a bit that is held is
@@ -142,14 +139,13 @@ number_bits-flipped words i inside =
     let word = get_or words q 0 in
     let changed = bit_xor word (2 ^ (63 - r)) in
     let before = number_bits 64 (take q words) in
-    let behind = number_bits 64 (drop (q + 1) words) in
     let there : q ≤ length words = omega arith in
     let place : 64 * q + r ≡ i = omega arith in
     let long : length before ≡ 64 * q = simp (length-number_bits, length-take-le) in
     let low : r < length (bits_of 64 word) = omega (arith, length-bits_of 64 word) in
     let bit : 63 - r < 64 = omega arith in
     let from_front : 64 - 1 - (63 - r) ≡ r = omega arith in
-    let whole : number_bits 64 words ≡ before ++ (bits_of 64 word ++ behind)
+    let whole : number_bits 64 words ≡ before ++ (bits_of 64 word ++ (number_bits 64 (drop (q + 1) words)))
     = ap (number_bits 64) (sym (take-append-drop q words)) ∙ simp (number_bits-append, number_bits-drop_more) in
     rw (← take-append-drop q (set words q changed), take-set words q changed, drop-set words q changed inside) (simp (
       number_bits-append,
@@ -218,7 +214,7 @@ pub distance_held : (a b bits_a bits_b : List Bool) (len m n : ℕ) → take len
     → n ≡ field_of (part (64 * (len / 64)) (len % 64) b) → distance_of (take (64 * (len / 64)) bits_a) (take (64 * (len / 64)) bits_b) + count_ones (bit_xor m n) ≡ distance_of a b
 distance_held a b bits_a bits_b len m n held_a held_b long_a long_b is_m is_n =
     let words = 64 * (len / 64) in
-    let front : (xs bits : List Bool) → take len bits ≡ xs → take words bits ≡ take words xs = λ xs bits held. sym (take-take words len bits (omega arith)) ∙ ap (take words) held in
+    let front : (xs bits : List Bool) → take len bits ≡ xs → take words bits ≡ take words xs = λ xs bits held. cc (take-take words len bits (omega arith), held) in
     let rest : (xs : List Bool) → length xs ≡ len → part words (len % 64) xs ≡ drop words xs = λ xs long. take_all (len % 64) (drop words xs) (omega (arith, length-drop words xs)) in
     cc (
       front a bits_a held_a,

@@ -89,7 +89,7 @@ pub bits_of-field_of : (bits : List Bool) → bits_of (length bits) (field_of bi
 unfolding bits_of
 bits_of-field_of [] = refl
 bits_of-field_of (bit ∷ bits) =
-    rw (field_of-cons, top_bit bit (length bits) (field_of bits) (field_of-lt bits), bits_of-above (length bits) (length bits) (digit_of bit) (field_of bits) (omega arith), bits_of-field_of bits)
+    rw (field_of-cons, top_bit bit (length bits) (field_of bits) (field_of-lt bits), bits_of-above (length bits) (length bits) _ (field_of bits) (omega arith), bits_of-field_of bits)
 
 -- two lists of one length that write one number are one list
 pub same_from_field_of : (xs ys : List Bool) → length xs ≡ length ys → field_of xs ≡ field_of ys → xs ≡ ys
@@ -108,13 +108,13 @@ bits_of-add (suc high) low number =
 pub take-bits_of : (k width number : ℕ) → k ≤ width → take k (bits_of width number) ≡ bits_of k (number / 2 ^ (width - k))
 take-bits_of k width number h =
     let split : width ≡ k + (width - k) = omega arith in
-    cc (split, bits_of-add k (width - k) number, take_at _ (bits_of (width - k) number) k (length-bits_of k (number / 2 ^ (width - k))))
+    cc (split, bits_of-add k _ number, take_at _ (bits_of (width - k) number) k (length-bits_of k (number / 2 ^ (width - k))))
 
 -- the bits after them are the low bits
 pub drop-bits_of : (k width number : ℕ) → k ≤ width → drop k (bits_of width number) ≡ bits_of (width - k) number
 drop-bits_of k width number h =
     let split : width ≡ k + (width - k) = omega arith in
-    cc (split, bits_of-add k (width - k) number, drop_at _ (bits_of (width - k) number) k (length-bits_of k (number / 2 ^ (width - k))))
+    cc (split, bits_of-add k _ number, drop_at _ (bits_of _ number) k (length-bits_of k (number / 2 ^ (width - k))))
 
 -- what stands above the bits does not matter
 pub bits_of-mod : (width number : ℕ) → bits_of width (number % 2 ^ width) ≡ bits_of width number
@@ -131,7 +131,7 @@ bits_of-joined k width high low small =
 -- octets, one run after the other
 pub octet_bits-append : (xs ys : List ℕ) → octet_bits (xs ++ ys) ≡ octet_bits xs ++ octet_bits ys
 unfolding octet_bits
-octet_bits-append xs ys = flat_map-append (bits_of 8) xs ys
+octet_bits-append xs ys = flat_map-append _ xs ys
 
 -- the bits of a first octet stand first
 pub octet_bits-cons : (x : ℕ) (xs : List ℕ) → octet_bits (x ∷ xs) ≡ bits_of 8 x ++ octet_bits xs

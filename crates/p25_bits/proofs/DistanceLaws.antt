@@ -1,6 +1,6 @@
 -- Laws of the distance of two lists, for any test that calls letters equal if and only if they are the same. The distance of bits is the weight of an
 -- exclusive or. By induction on both lists.
-use Rattle.std.proofs.Common.{◌≡◌, ℕ, zero, suc, ◌+◌, ◌^◌, ◌<◌, ◌≤◌, inl, inr, Bool, true, false, cond, List, [], ◌∷◌, ◌++◌, length, take, drop, refl, ap₂, sym, ◌∙◌, subst, arith, bit_xor, mod-eq_of_lt, nat_eq, length-drop}
+use Rattle.std.proofs.Common.{◌≡◌, ℕ, zero, suc, ◌+◌, ◌^◌, ◌<◌, ◌≤◌, inl, inr, Bool, true, false, cond, List, [], ◌∷◌, ◌++◌, length, take, drop, refl, ap₂, sym, ◌∙◌, arith, bit_xor, mod-eq_of_lt, nat_eq, length-drop}
 use Rattle.std.proofs.{lemmas.Bool.{cases_Bool, cond-true, cond-false}, lemmas.Nat.{ones_cat, xor_block, xor_lt}}
 use Rattle.std.specs.{Bool.{beq}, Cmp.{booleans_Decides, unsigned_Decides, both_ways}, Cmp.Lexicographic.{pointwise, pointwise_decides}, Int.RustNames.{count_ones}}
 use Rattle.p25_bits.specs.{Bits.{digit_of, bits_of, field_of, part, flipped}, Distance.{distance_by, distance_of}}
@@ -59,7 +59,7 @@ distance_by-triangle same through xs ys zs long = omega arith
 pub distance_by-append : {X : Type 0} (same : X → X → Bool) (xs ys us vs : List X) → length xs ≡ length us → distance_by same (xs ++ ys) (us ++ vs) ≡ distance_by same xs us + distance_by same ys vs
 unfolding distance_by
 distance_by-append same [] ys [] vs long = omega arith
-distance_by-append same (x ∷ xs) ys (u ∷ us) vs long = omega (arith, distance_by-append same xs ys us vs (omega arith))
+distance_by-append same (x ∷ xs) ys (u ∷ us) vs long = omega (arith, distance_by-append same xs ys us)
 distance_by-append same xs ys us vs long = absurd (omega arith)
 
 -- no places, no distance
@@ -93,14 +93,14 @@ pub same_from_distance_of : (xs ys : List Bool) → length xs ≡ length ys → 
 same_from_distance_of = same_from_distance_by beq beq-alike
 
 pub distance_of-triangle : (xs ys zs : List Bool) → length xs ≡ length ys → distance_of xs zs ≤ distance_of xs ys + distance_of ys zs
-distance_of-triangle = distance_by-triangle beq (λ x y z a b. subst (λ w. beq x w ≡ true) (beq-alike y z b) a)
+distance_of-triangle = distance_by-triangle beq (λ x y z a b. rw (beq-alike y z b) at a)
 
 -- what stands before a place of two lists, and what stands from it on: their distances add up
 pub distance_of-split : (n : ℕ) (xs ys : List Bool) → length xs ≡ length ys → distance_of (take n xs) (take n ys) + distance_of (drop n xs) (drop n ys) ≡ distance_of xs ys
 unfolding distance_by
 distance_of-split (suc n) [] (y ∷ ys) long = absurd (omega arith)
 distance_of-split (suc n) (x ∷ xs) [] long = absurd (omega arith)
-distance_of-split (suc n) (x ∷ xs) (y ∷ ys) long = omega (arith, distance_of-split n xs ys (omega arith))
+distance_of-split (suc n) (x ∷ xs) (y ∷ ys) long = omega (arith, distance_of-split n)
 distance_of-split n xs ys long = omega arith
 
 -- so the beginnings of two lists differ in no more places than the lists, and so do any two parts
@@ -109,7 +109,7 @@ distance_of-take n xs ys long = omega (arith, distance_of-split)
 
 pub distance_of-part : (at count : ℕ) (xs ys : List Bool) → length xs ≡ length ys → distance_of (part at count xs) (part at count ys) ≤ distance_of xs ys
 distance_of-part at count xs ys long =
-    omega (arith, distance_of-split at xs ys long, distance_of-take count (drop at xs) (drop at ys) (omega (arith, length-drop at xs, length-drop at ys)))
+    omega (arith, distance_of-split at, distance_of-take count (drop at xs) (drop at ys) (omega (arith, length-drop at xs, length-drop at ys)))
 
 -- one inverted bit makes a distance of at most 1
 pub distance_of-flipped : (bits : List Bool) (place : ℕ) → distance_of (flipped bits place) bits ≤ 1
@@ -142,7 +142,7 @@ ones-xor (x ∷ xs) (y ∷ ys) same =
     let long : length ys ≡ k = omega arith in
     let below = field_of-lt xs in
     let below' = simp long at (field_of-lt ys) in
-    rw (field_of-cons, rw long at (field_of-cons y ys), xor_block) (ones_cat k _ _ (xor_lt k (field_of xs) (field_of ys) below below') ∙ ap₂ ◌+◌ (ones_digits x y) (ones-xor xs ys (omega arith)))
+    rw (field_of-cons, rw long at (field_of-cons y ys), xor_block) (ones_cat k _ _ (xor_lt k _ _ below below') ∙ ap₂ ◌+◌ (ones_digits x y) (ones-xor xs ys (omega arith)))
 ones-xor xs ys same = absurd (omega arith)
 
 -- so the weight of the exclusive or of two numbers is the distance of their bits

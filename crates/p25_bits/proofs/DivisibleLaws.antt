@@ -38,7 +38,7 @@ IsDivisible-itself generator = record { quotient = true ∷ []; product = xor_ze
 pub IsDivisible-doubled : (generator number : ℕ) → IsDivisible generator number → IsDivisible generator (2 * number)
 unfolding multiple_of
 IsDivisible-doubled generator number d =
-    record { quotient = false ∷ d.quotient; product = xor_zero_r _ ∙ ap (λ n. 2 * n) d.product }
+    record { quotient = false ∷ d.quotient; product = cc (xor_zero_r _, d.product) }
 
 -- the sum of two coefficients
 abbrev added : Bool → Bool → Bool
@@ -60,10 +60,10 @@ chosen false false g = sym (xor_self 0)
 multiple_of-sum : (generator : ℕ) (p q : List Bool) → multiple_of generator (sum_of p q) ≡ bit_xor (multiple_of generator p) (multiple_of generator q)
 unfolding multiple_of sum_of
 multiple_of-sum generator [] ys = sym (xor_zero_l (multiple_of generator ys))
-multiple_of-sum generator (x ∷ xs) [] = sym (xor_zero_r (multiple_of generator (x ∷ xs)))
+multiple_of-sum generator (x ∷ xs) [] = sym (xor_zero_r _)
 multiple_of-sum generator (x ∷ xs) (y ∷ ys) =
-    ap₂ bit_xor (ap (λ n. 2 * n) (multiple_of-sum generator xs ys) ∙ sym (xor_twice (multiple_of generator xs) (multiple_of generator ys))) (chosen x y generator)
-    ∙ xor_middle (2 * multiple_of generator xs) (2 * multiple_of generator ys) (cond x generator 0) (cond y generator 0)
+    ap₂ bit_xor (cc (multiple_of-sum generator xs ys, xor_twice (multiple_of generator xs) (multiple_of generator ys))) (chosen x y generator)
+    ∙ xor_middle (2 * multiple_of generator xs) _ _ _
 
 -- the sum of two multiples is a multiple
 pub IsDivisible-sum : (generator a b : ℕ) → IsDivisible generator a → IsDivisible generator b → IsDivisible generator (bit_xor a b)
@@ -77,7 +77,7 @@ xor_same_top degree a b low below low' below' =
     let right : b ≡ 1 * 2 ^ degree + (b - 2 ^ degree) = omega arith in
     let small : a - 2 ^ degree < 2 ^ degree = omega arith in
     let small' : b - 2 ^ degree < 2 ^ degree = omega arith in
-    omega (arith, rw xor_block at (ap₂ bit_xor left right), xor_lt degree _ _ small small')
+    omega (arith, rw xor_block at (ap₂ bit_xor left right), xor_lt degree)
 
 -- nothing is left of a number below the power by which it is divided
 none_left : (n k : ℕ) → n < 2 ^ k → n / 2 ^ k ≡ 0
@@ -87,7 +87,7 @@ none_left n k below = ap (λ m. m / 2 ^ k) (omega arith) ∙ shr_high 0 k n belo
 high_stays : (m c k : ℕ) → 2 ^ k ≤ m → c < 2 ^ k → bit_xor m c < 2 ^ k → ⊥
 high_stays m c k high low below =
     let shifted = simp (none_left, xor_zero_r) at (xor_shr m c k) in
-    omega (arith, le-div 1 m _ (pow_pos k) (omega arith))
+    omega (arith, le-div 1)
 
 chosen-lt : (bit : Bool) (g k : ℕ) → g < 2 ^ k → cond bit g 0 < 2 ^ k
 chosen-lt true g k h = h
@@ -106,7 +106,7 @@ lowest_multiple generator degree (bit ∷ q) g small =
     let M = multiple_of generator q in
     elim (cases_lt M _) [
       | inl low ↦
-          let e = ap (λ (n : ℕ). bit_xor (2 * n) (cond bit generator 0)) (lowest_multiple generator degree q g low) in
+          let e = ap (λ n. bit_xor (2 * n) (cond bit generator 0)) (lowest_multiple generator degree q g low) in
           e ∙ last_coefficient generator degree bit g (simp e at small)
       | inr high ↦
           absurd (
@@ -138,12 +138,12 @@ pub divisible_from_remainder : (generator degree number : ℕ) → IsRemainder g
 divisible_from_remainder generator degree number r = simp xor_zero_r at r.divisible
 
 pub remainder_from_divisible : (generator degree number : ℕ) → IsDivisible generator number → IsRemainder generator degree number 0
-remainder_from_divisible generator degree number d = record { lower = pow_pos degree; divisible = subst (IsDivisible generator) (sym (xor_zero_r number)) d }
+remainder_from_divisible generator degree number d = record { lower = pow_pos degree; divisible = rw (xor_zero_r number) d }
 
 -- a polynomial of lower degree is its own remainder
 pub IsRemainder-lower : (generator degree number : ℕ) → number < 2 ^ degree → IsRemainder generator degree number number
 IsRemainder-lower generator degree number small =
-    record { lower = small; divisible = subst (IsDivisible generator) (sym (xor_self number)) (IsDivisible-zero generator) }
+    record { lower = small; divisible = rw (xor_self number) (IsDivisible-zero generator) }
 
 -- one more coefficient: the sum of both sides is doubled
 next_sum : (number r digit : ℕ) → digit < 2 → bit_xor (2 * number + digit) (2 * r + digit) ≡ 2 * bit_xor number r
@@ -153,7 +153,7 @@ next_sum number r digit small = simp (xor_doubled, xor_self) (omega arith)
 pub remainder_kept : (generator degree number r digit : ℕ) → digit < 2
     → IsRemainder generator degree number r → 2 * r + digit < 2 ^ degree → IsRemainder generator degree (2 * number + digit) (2 * r + digit)
 remainder_kept generator degree number r digit small is low =
-    record { lower = low; divisible = subst (IsDivisible generator) (sym (next_sum number r digit small)) (IsDivisible-doubled generator _ is.divisible) }
+    record { lower = low; divisible = rw (next_sum number r digit small) (IsDivisible-doubled generator _ is.divisible) }
 
 -- a register that reaches the generator's degree falls below it
 pub remainder_lower : (generator degree r digit : ℕ) → HasDegree generator degree → digit < 2 → r < 2 ^ degree → 2 ^ degree ≤ 2 * r + digit → bit_xor (2 * r + digit) generator < 2 ^ degree
@@ -168,7 +168,7 @@ remainder_reduced generator degree number r digit g small is high =
     let doubled = rw (← next_sum number r digit small) at (IsDivisible-doubled generator _ is.divisible) in
     record {
       lower = remainder_lower generator degree r digit g small is.lower high;
-      divisible = subst (IsDivisible generator) (xor_assoc _ _ generator) (IsDivisible-sum generator _ generator doubled (IsDivisible-itself generator));
+      divisible = rw (xor_assoc _ _ generator) at (IsDivisible-sum generator _ generator doubled (IsDivisible-itself generator));
     }
 
 -- the quotient by a power of two is 1 exactly where the number lies between it and its double
@@ -182,8 +182,8 @@ stays_low n k below other =
     elim (cases_lt n _) [
       | inl low ↦ low
       | inr high ↦
-          let some : 1 ≤ n / 2 ^ k = le-div 1 n _ (pow_pos k) (omega arith) in
-          let few : n / 2 ^ k < 2 = div_below n _ 2 (pow_pos k) (omega arith) in
+          let some = le-div 1 n _ (pow_pos k) (omega arith) in
+          let few = div_below n _ 2 (pow_pos k) (omega arith) in
           absurd (other (omega arith))
     ]
 
@@ -194,7 +194,7 @@ high_more number k h =
     let next : (63 - k) + 1 ≡ 64 - k = omega arith in
     let n = number / 2 ^ (63 - k) in
     let digit : digit_of (eqb (bit_and n 1) 1) ≡ n % 2 = simp (shr_and_one, digit_of-bit_at) in
-    simp low (omega (arith, shr_split n 1, shr-shr number (63 - k) 1 ∙ ap (λ j. number / 2 ^ j) next, digit))
+    simp low (omega (arith, shr_split n 1, shr-shr number _ 1 ∙ ap (λ j. number / 2 ^ j) next, digit))
 
 -- the highest coefficients of a number of 64 bits, as many as the degree, are their own remainder
 pub IsRemainder-highest : (generator degree number : ℕ) → degree < 63 → number < 2 ^ 64 → IsRemainder generator degree (number / 2 ^ (64 - degree)) (number / 2 / 2 ^ (63 - degree))
@@ -215,8 +215,8 @@ more_remainder : (generator degree number r : ℕ) (bit : Bool)
 more_remainder generator degree number r bit g is =
     let small : digit_of bit < 2 = omega (arith, digit_of-le) in
     elim (cases_lt _ _) [
-      | inl low ↦ (2 * r + digit_of bit, remainder_kept generator degree number r (digit_of bit) small is low)
-      | inr high ↦ (bit_xor _ generator, remainder_reduced generator degree number r (digit_of bit) g small is high)
+      | inl low ↦ (2 * r + digit_of bit, remainder_kept generator degree number r _ small is low)
+      | inr high ↦ (bit_xor _ generator, remainder_reduced generator degree number r _ g small is high)
     ]
 
 some_remainder_after : (generator degree : ℕ) → HasDegree generator degree
@@ -235,6 +235,5 @@ lt-two_pow (suc number) = omega (arith, lt-two_pow number)
 -- each polynomial has a remainder
 pub some_remainder : (generator degree number : ℕ) → HasDegree generator degree → (r : ℕ) × IsRemainder generator degree number r
 some_remainder generator degree number g =
-    let bits = bits_of number number in
-    let some = some_remainder_after generator degree g bits 0 0 (IsRemainder-lower generator degree 0 (pow_pos degree)) in
-    (some.0, subst (λ (n : ℕ). IsRemainder generator degree n some.0) (rw (← field_of-after, field_of-bits_of) (mod-eq_of_lt (lt-two_pow number))) some.1)
+    let some = some_remainder_after generator degree g (bits_of number number) 0 0 (IsRemainder-lower generator degree 0 (pow_pos degree)) in
+    (some.0, subst (λ n. IsRemainder generator degree n some.0) (rw (← field_of-after, field_of-bits_of) (mod-eq_of_lt (lt-two_pow number))) some.1)

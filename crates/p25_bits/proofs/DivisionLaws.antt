@@ -44,11 +44,11 @@ IsRemainder-more generator degree before width number raised r s small first sec
     let whole : bit_xor b n ≡ (before * 2 ^ width + number) * 2 ^ raised
     = simp (moved, xor_times_power, xor_apart) in
     let shifted : IsDivisible generator (bit_xor b (r * 2 ^ width))
-    = simp xor_times_power (IsDivisible-times_power generator (bit_xor (before * 2 ^ raised) r) width first.divisible) in
+    = simp xor_times_power (IsDivisible-times_power generator _ width first.divisible) in
     record {
       lower = second.lower;
-      divisible = subst (IsDivisible generator) (rw (← xor_assoc, added_twice, whole)) (IsDivisible-sum generator (bit_xor b (r * 2 ^ width))
-          (bit_xor (bit_xor (r * 2 ^ width) n) s) shifted second.divisible);
+      divisible = subst (IsDivisible generator) (rw (← xor_assoc, added_twice, whole)) (IsDivisible-sum generator _
+          _ shifted second.divisible);
     }
 
 -- the remainder of a polynomial times x, by that of the polynomial

@@ -39,14 +39,11 @@ IsLowestLeast-kept bound value number least new was is more = record {
 pub IsLowestLeast-more : (bound : ℕ) (value : ℕ → ℕ) (number : ℕ) → IsLowestLeast bound value number (value number)
     → let next = if nat_lt (value bound) (value number) then bound else number in IsLowestLeast (suc bound) value next (value next)
 IsLowestLeast-more bound value number was =
-    let P : ℕ → ℕ → Type 0 = λ more next. IsLowestLeast more value next (value next) in
     elim (cases_lt (value bound) (value number)) [
       | inl less ↦
-          subst (λ (next : ℕ). P (suc bound) next) (sym (cond-true (nat_lt (value bound) (value number)) bound number (lt-ltb (value bound) (value number) less)))
-          (subst (λ (more : ℕ). P more bound) (add-one bound) (IsLowestLeast-less bound value number (value number) (value bound) was refl less))
+          rw (cond-true _ bound number (lt-ltb (value bound) (value number) less)) (rw (add-one bound) at (IsLowestLeast-less bound value number (value number) (value bound) was refl less))
       | inr more ↦
-          subst (λ (next : ℕ). P (suc bound) next) (sym (cond-false (nat_lt (value bound) (value number)) bound number (le-ltb (value bound) (value number) more)))
-          (subst (λ (more : ℕ). P more number) (add-one bound) (IsLowestLeast-kept bound value number (value number) (value bound) was refl more))
+          rw (cond-false _ bound number (le-ltb (value bound) (value number) more)) (rw (add-one bound) at (IsLowestLeast-kept bound value number (value number) (value bound) was refl more))
     ]
 
 -- the function gives the lowest least
@@ -54,17 +51,16 @@ pub IsLowestLeast-lowest_least : (bound : ℕ) (value : ℕ → ℕ) → 0 < bou
 unfolding lowest_least
 IsLowestLeast-lowest_least zero value some = absurd (omega arith)
 IsLowestLeast-lowest_least (suc zero) value some =
-    let none : (if nat_lt (value 0) (value 0) then 0 else 0) ≡ 0 = cond-false (nat_lt (value 0) (value 0)) 0 0 (le-ltb (value 0) (value 0) (omega arith)) in
-    subst (λ (next : ℕ). IsLowestLeast 1 value next (value next)) (sym none) (IsLowestLeast-one value (value 0) refl)
-IsLowestLeast-lowest_least (suc (suc n)) value some = IsLowestLeast-more (suc n) value (lowest_least (suc n) value) (IsLowestLeast-lowest_least (suc n) value (omega arith))
+    subst (λ next. IsLowestLeast 1 value next (value next)) (sym (cond-false _ 0 0 (le-ltb (value 0) (value 0) (omega arith)))) (IsLowestLeast-one value (value 0) refl)
+IsLowestLeast-lowest_least (suc (suc n)) value some = IsLowestLeast-more _ value (lowest_least (suc n) value) (IsLowestLeast-lowest_least (suc n) value (omega arith))
 
 -- there is one lowest least
 pub one_lowest_least : (bound : ℕ) (value : ℕ → ℕ) (a b least other : ℕ) → IsLowestLeast bound value a least → IsLowestLeast bound value b other → a ≡ b
 one_lowest_least bound value a b least other first second =
     elim (cases_lt a b) [
-      | inl less ↦ absurd (omega (arith, second.lowest a less, first.none_less b second.below, first.is, second.is))
+      | inl less ↦ absurd (omega (arith, second.lowest a less, first.none_less, first.is, second.is))
       | inr not_less ↦ elim (cases_lt b a) [
-        | inl less ↦ absurd (omega (arith, first.lowest b less, second.none_less a first.below, first.is, second.is))
+        | inl less ↦ absurd (omega (arith, first.lowest b less, second.none_less, first.is, second.is))
         | inr same ↦ omega arith
       ]
     ]
@@ -72,8 +68,7 @@ one_lowest_least bound value a b least other first second =
 -- so a lowest least is that of the function
 pub lowest_least-is : (bound : ℕ) (value : ℕ → ℕ) (number least : ℕ) → IsLowestLeast bound value number least → number ≡ lowest_least bound value
 lowest_least-is bound value number least is =
-    let some : 0 < bound = omega (arith, is.below) in
-    one_lowest_least bound value number (lowest_least bound value) least (value (lowest_least bound value)) is (IsLowestLeast-lowest_least bound value some)
+    one_lowest_least bound value number (lowest_least bound value) least (value (lowest_least bound value)) is (IsLowestLeast-lowest_least bound value (omega (arith, is.below)))
 
 -- a number is the lowest least where all others have more
 pub lowest_least-alone : (bound : ℕ) (value : ℕ → ℕ) (number : ℕ) → number < bound → ((j : ℕ) → j < bound → j ≢ number → value number < value j)
@@ -83,39 +78,23 @@ lowest_least-alone bound value number below more =
       below = below;
       is = refl;
       none_less = λ j inside. elim (cases_lt j number) [
-        | inl less ↦ let ne : j ≢ number = omega arith in omega (arith, more j inside ne)
+        | inl less ↦ omega (arith, more)
         | inr not_less ↦ elim (cases_lt number j) [
-          | inl greater ↦ let ne : j ≢ number = omega arith in omega (arith, more j inside ne)
+          | inl greater ↦ omega (arith, more)
           | inr same ↦ let e : j ≡ number = omega arith in omega (arith, ap value e)
         ]
       ];
-      lowest = λ j less. let ne : j ≢ number = omega arith in let inside : j < bound = omega arith in more j inside ne;
-    })
-
--- values that are the same below the bound have the same lowest least
-pub lowest_least-same : (bound : ℕ) (f g : ℕ → ℕ) → ((j : ℕ) → j < bound → f j ≡ g j) → lowest_least bound f ≡ lowest_least bound g
-unfolding lowest_least
-lowest_least-same zero f g same = refl
-lowest_least-same (suc zero) f g same =
-    cond-false (nat_lt (f 0) (f 0)) 0 0 (le-ltb (f 0) (f 0) (omega arith)) ∙ sym (cond-false (nat_lt (g 0) (g 0)) 0 0 (le-ltb (g 0) (g 0) (omega arith)))
-lowest_least-same (suc (suc n)) f g same =
-    let some : 0 < suc (suc n) = omega arith in
-    let is = IsLowestLeast-lowest_least (suc (suc n)) f some in
-    lowest_least-is (suc (suc n)) g (lowest_least (suc (suc n)) f) (f (lowest_least (suc (suc n)) f)) (record {
-      below = is.below;
-      is = sym (same (lowest_least (suc (suc n)) f) is.below);
-      none_less = λ j below. omega (arith, is.none_less j below, same j below);
-      lowest = λ j less. let below : j < suc (suc n) = omega (arith, is.below) in omega (arith, is.lowest j less, same j below);
+      lowest = λ j less. more j (omega arith) (omega arith);
     })
 
 -- a number below another stands in its place among those beside that one, and a number above it one place before
 numbers_beside-below : (one j : ℕ) → j < one → numbers_beside one j ≡ j
 unfolding numbers_beside
-numbers_beside-below one j less = cond-true (nat_lt j one) j (suc j) (lt-ltb j one less)
+numbers_beside-below one j less = cond-true (nat_lt j one) j _ (lt-ltb j one less)
 
 numbers_beside-above : (one j : ℕ) → one ≤ j → numbers_beside one j ≡ suc j
 unfolding numbers_beside
-numbers_beside-above one j more = cond-false (nat_lt j one) j (suc j) (le-ltb j one more)
+numbers_beside-above one j more = cond-false (nat_lt j one) j _ (le-ltb j one more)
 
 -- so none of them is that one, and each is below the bound
 beside-other : (one j : ℕ) → numbers_beside one j ≢ one
@@ -135,11 +114,10 @@ pub least_beside-is : (bound : ℕ) (value : ℕ → ℕ) (one least : ℕ) → 
 unfolding least_beside
 least_beside-is bound value one least inside is =
     let others : ℕ → ℕ = λ j. value (numbers_beside one j) in
-    let some : 0 < bound - 1 = some_other is.number is.below is.other in
-    let lowest = IsLowestLeast-lowest_least (bound - 1) others some in
+    let lowest = IsLowestLeast-lowest_least (bound - 1) others (some_other is.number is.below is.other) in
     let x = lowest_least (bound - 1) others in
-    let up : least ≤ others x = is.none_less (numbers_beside one x) (beside-lt bound one x lowest.below) (beside-other one x) in
-    let down : others x ≤ least = at_most x lowest.none_less in
+    let up = is.none_less (numbers_beside one x) (beside-lt bound one x lowest.below) (beside-other one x) in
+    let down = at_most x lowest.none_less in
     omega arith
   where
     some_other : (number : ℕ) → number < bound → number ≢ one → 0 < bound - 1

@@ -31,7 +31,7 @@ octet_of_eight bits at k number low there is =
     let before = part at (8 * k) bits in
     let octet = part _ 8 bits in
     let behind = part (at + n) rest bits in
-    let long : length behind ≡ rest = length-part (at + n) rest bits (omega arith) in
+    let long = length-part (at + n) rest bits (omega arith) in
     let eight : length octet ≡ 8 = length-part (at + 8 * k) 8 bits (omega arith) in
     let front : field_of (part at n bits) ≡ field_of before * 2 ^ 8 + field_of octet
     = rw (← part_add, field_of-append, eight) in
@@ -48,5 +48,4 @@ pub take_more_of_eight : (bits : List Bool) (at first k number : ℕ) (octets : 
     → take (first + (k + 1)) (set octets (first + k) (number / 2 ^ (56 - 8 * k) % 2 ^ 8)) ≡ numbers_from 8 (first + (k + 1)) (drop at bits)
 take_more_of_eight bits at first k number octets low there inside is so_far =
     let next : first + k + 1 ≡ first + (k + 1) = omega arith in
-    let read = octet_of_eight bits _ k number low (omega arith) is ∙ ap (λ m. field_of (part m 8 bits)) (omega arith) in
-    simp next at (take_more_read bits at 8 octets _ (number / 2 ^ (56 - 8 * k) % 2 ^ 8) inside read so_far)
+    simp next at (take_more_read bits at 8 octets _ (number / 2 ^ (56 - 8 * k) % 2 ^ 8) inside (octet_of_eight bits _ k number low (omega arith) is ∙ ap (λ m. field_of (part m 8 bits)) (omega arith)) so_far)

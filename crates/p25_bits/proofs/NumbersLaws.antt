@@ -23,7 +23,7 @@ number_bits-cons width number numbers = refl
 
 pub number_bits-append : (width : ℕ) (xs ys : List ℕ) → number_bits width (xs ++ ys) ≡ number_bits width xs ++ number_bits width ys
 unfolding number_bits
-number_bits-append width xs ys = flat_map-append (bits_of width) xs ys
+number_bits-append width xs ys = flat_map-append _ xs ys
 
 pub number_bits-one : (width number : ℕ) → number_bits width (number ∷ []) ≡ bits_of width number
 number_bits-one width number = simp (number_bits-cons, number_bits-nil, append-nil)
@@ -59,7 +59,7 @@ pub number_bits_more : (bits : List Bool) (width : ℕ) (numbers : List ℕ) (i 
     → (bits ++ number_bits width (take i numbers)) ++ bits_of width (get_or numbers i 0) ≡ bits ++ number_bits width (take (i + 1) numbers)
 unfolding number_bits
 number_bits_more bits width numbers i inside =
-    rw (flat_map_more (bits_of width) bits (take i numbers) (get_or numbers i 0), take_more numbers i 0 inside)
+    rw (flat_map_more (bits_of width), take_more numbers i 0 inside)
 
 -- the bits of a field are the part that it was read from
 pub bits_of-field : (width at : ℕ) (bits : List Bool) → at + width ≤ length bits → bits_of width (field_of (part at width bits)) ≡ part at width bits
@@ -79,14 +79,14 @@ same_from_number_bits width [] [] small_x small_y long same = refl
 same_from_number_bits width (x ∷ xs) (y ∷ ys) small_x small_y long same =
     let P : ℕ → Type 0 = λ n. n < 2 ^ width in
     let front : bits_of width x ≡ bits_of width y
-    = cc (take_at (bits_of width x) (number_bits width xs) width (length-bits_of width x), take_at (bits_of width y) (number_bits width ys) width (length-bits_of width y)) in
+    = cc (take_at _ (number_bits width xs) width (length-bits_of width x), take_at _ (number_bits width ys) width (length-bits_of width y)) in
     cc (
       mod-eq_of_lt (All-head P x xs small_x),
       field_of-bits_of width x,
       field_of-bits_of width y,
       mod-eq_of_lt (All-head P y ys small_y),
       same_from_number_bits width xs ys (All-tail P x xs small_x) (All-tail P y ys small_y) (omega arith) (cc (
-        drop_at (bits_of width x) (number_bits width xs) width (length-bits_of width x),
+        drop_at _ (number_bits width xs) width (length-bits_of width x),
         drop_at (bits_of width y) (number_bits width ys) width (length-bits_of width y),
       )),
     )
@@ -112,7 +112,7 @@ pub All-numbers_from : (width n : ℕ) (bits : List Bool) → All (λ number. nu
 unfolding numbers_from
 All-numbers_from width zero bits = All-nil (λ number. number < 2 ^ width)
 All-numbers_from width (suc n) bits = All-cons (λ number. number < 2 ^ width)
-    (field_of (take width bits)) (numbers_from width n (drop width bits)) (field-lt width 0 bits) (All-numbers_from width n (drop width bits))
+    _ _ (field-lt width 0 bits) (All-numbers_from width n (drop width bits))
 
 -- the number at a place
 pub get_or-numbers_from : (width n : ℕ) (bits : List Bool) (j d : ℕ) → j < n → get_or (numbers_from width n bits) j d ≡ field_of (part (width * j) width bits)
@@ -164,11 +164,11 @@ numbers_from-number_bits width (number ∷ numbers) small =
 -- the bits of the numbers that bits write are those bits
 pub number_bits-numbers_from : (width n : ℕ) (bits : List Bool) → width * n ≤ length bits → number_bits width (numbers_from width n bits) ≡ take (width * n) bits
 unfolding numbers_from
-number_bits-numbers_from width zero bits there = simp number_bits-nil (let none : 0 ≡ width * 0 = omega arith in ap (λ k. take k bits) none)
+number_bits-numbers_from width zero bits there = simp number_bits-nil (let none : 0 ≡ width * 0 = omega arith in cc none)
 number_bits-numbers_from width (suc n) bits there =
     let next : width + width * n ≡ width * suc n = omega arith in
     cc (
-      number_bits-cons width (field_of (take width bits)) (numbers_from width n (drop width bits)),
+      number_bits-cons width _ _,
       bits_of-field width 0 bits (omega arith),
       number_bits-numbers_from width n (drop width bits) (omega (arith, length-drop width bits)),
       take-add width (width * n) bits,
@@ -201,11 +201,11 @@ get_or-each_below (suc n) f j d inside =
     let long = length-each_below n f in
     elim (cases_lt j n) [
       | inl before ↦
-          get_or_append_left (each_below n f) (f n ∷ []) d j (omega arith) ∙ get_or-each_below n f j d before
+          get_or_append_left _ _ d j (omega arith) ∙ get_or-each_below n f j d before
       | inr last ↦
           let here : j ≡ n = omega arith in
           let first : j - n ≡ 0 = omega arith in
-          rw (get_or-append_right (each_below n f) (f n ∷ []) n j d long last, first, here)
+          rw (get_or-append_right _ _ n j d long last, first, here)
     ]
 
 -- only the values below the count matter
@@ -218,7 +218,7 @@ each_below-same (suc n) f g same = rw (each_below-same n f g (λ j inside. same 
 pub All-each_below : {X : Type 0} (P : X → Type 0) (n : ℕ) (f : ℕ → X) → ((j : ℕ) → j < n → P (f j)) → All P (each_below n f)
 unfolding each_below
 All-each_below P zero f each = All-nil P
-All-each_below P (suc n) f each = All-append P (each_below n f) (f n ∷ []) (All-each_below P n f (λ j inside. each j (omega arith))) (All-cons P (f n) [] (each n (omega arith)) (All-nil P))
+All-each_below P (suc n) f each = All-append P _ _ (All-each_below P n f (λ j inside. each j (omega arith))) (All-cons P _ [] (each n (omega arith)) (All-nil P))
 
 -- the first m of the elements
 pub take-each_below : {X : Type 0} (m n : ℕ) (f : ℕ → X) → m ≤ n → take m (each_below n f) ≡ each_below m f
@@ -228,7 +228,7 @@ take-each_below m (suc n) f fits =
     let long = length-each_below n f in
     elim (cases_lt m (suc n)) [
       | inl fewer ↦
-          take-append-le m (each_below n f) (f n ∷ []) (omega arith) ∙ take-each_below m n f (omega arith)
+          take-append-le m _ _ (omega arith) ∙ take-each_below m n f (omega arith)
       | inr every ↦
           let here : m ≡ suc n = omega arith in
           let all : length (each_below (suc n) f) ≤ m = omega (arith, length-each_below) in
@@ -271,10 +271,10 @@ part-joined_below size (suc n) f j long inside =
     elim (cases_lt j n) [
       | inl earlier ↦
           let next : suc j ≤ n = omega arith in
-          part_left (size * j) size (joined_below n f) (f n) (omega (arith, mul-le-mul_left size next)) ∙ part-joined_below size n f j (λ i there. long i (omega arith)) earlier
+          part_left (size * j) size _ _ (omega (arith, mul-le-mul_left size next)) ∙ part-joined_below size n f j (λ i there. long i (omega arith)) earlier
       | inr last ↦
           let here : j ≡ n = omega arith in
-          rw (part_last (size * j) size (joined_below n f) (f n) (simp (before, here)) (long n (omega arith)), here)
+          rw (part_last (size * j) size (joined_below n f) _ (simp (before, here)) (long n (omega arith)), here)
     ]
 
 -- only the lists below the count matter
@@ -287,7 +287,7 @@ joined_below-same (suc n) f g same = rw (joined_below-same n f g (λ j inside. s
 pub All-joined_below : {X : Type 0} (P : X → Type 0) (n : ℕ) (f : ℕ → List X) → ((j : ℕ) → j < n → All P (f j)) → All P (joined_below n f)
 unfolding joined_below
 All-joined_below P zero f each = All-nil P
-All-joined_below P (suc n) f each = All-append P (joined_below n f) (f n) (All-joined_below P n f (λ j inside. each j (omega arith))) (each n (omega arith))
+All-joined_below P (suc n) f each = All-append P _ _ (All-joined_below P n f (λ j inside. each j (omega arith))) (each n (omega arith))
 
 -- parts that touch, joined
 pub joined_below-parts : {X : Type 0} (at size n : ℕ) (xs : List X) → joined_below n (λ j. part (at + size * j) size xs) ≡ part at (size * n) xs

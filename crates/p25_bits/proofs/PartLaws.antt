@@ -17,7 +17,7 @@ slice_get-front (x ∷ xs) ys (suc i) h = slice_get-front xs ys i (omega arith)
 pub slice_get-drop : {X : Type 0} (n : ℕ) (xs : List X) (i : ℕ) → slice_get (drop n xs) i ≡ slice_get xs (n + i)
 slice_get-drop zero xs i = ap (slice_get xs) (sym (omega arith))
 slice_get-drop (suc n) [] i = refl
-slice_get-drop (suc n) (x ∷ xs) i = slice_get-drop n xs i ∙ (let e : suc (n + i) ≡ suc n + i = omega arith in ap (slice_get (x ∷ xs)) e)
+slice_get-drop (suc n) (x ∷ xs) i = slice_get-drop n xs i ∙ (let e : suc (n + i) ≡ suc n + i = omega arith in cc e)
 
 -- a part that is there has its length
 pub length-part : {X : Type 0} (at count : ℕ) (xs : List X) → at + count ≤ length xs → length (part at count xs) ≡ count

@@ -32,7 +32,7 @@ across_is high low at inside small =
     let within : at ≤ 64 = omega arith in
     let kept = drop at (bits_of 64 high) in
     let long : 64 ≡ length kept + at = omega (arith, length-drop at (bits_of 64 high), length-bits_of) in
-    let below = shr_below low at (64 - at) (subst (λ n. low < 2 ^ n) (sym right) small) in
+    let below = shr_below low at (64 - at) (rw right small) in
     cc (
       shl_mod high _ at,
       shr_two low at inside,
@@ -106,7 +106,7 @@ take_written words len more new extra here few written =
     let r = len % 64 in
     let place : len + more ≡ 64 * q + (r + more) = omega arith in
     let low : r ≤ 64 = omega arith in
-    let there : q < length (set words q new) = omega (arith, length-set words q new) in
+    let there : q < length (set words q new) = omega (arith, length-set words) in
     rw (place, take_within, take-set, get_or-set_same, written, ← append_assoc, ← take_within, place_of)
 
 -- a word over two words appends its 64 bits
@@ -118,15 +118,12 @@ take_put words at first second word inside long begun ended =
     let r = at % 64 in
     let once = set words q first in
     let seam = at + (64 - r) in
-    let here : q < length words = omega arith in
-    let full : r + (64 - r) ≤ 64 = omega arith in
-    let all : length (bits_of 64 first) ≤ r + (64 - r) = omega (arith, length-bits_of 64 first) in
     let none : seam % 64 ≡ 0 = omega arith in
     let low : 0 + r ≡ r = omega arith in
     let written : take (seam % 64 + r) (bits_of 64 second) ≡ take (seam % 64) (bits_of 64 (get_or once (seam / 64) 0)) ++ drop (64 - r) word
     = cc in
     ap₂ (λ n k. take n (number_bits 64 (set once k second))) (omega arith) (sym (omega arith)) ∙ take_written once seam r second _ (omega (arith, length-set words q first)) (omega arith) written
-    ∙ simp (take_written words at (64 - r) first (take (64 - r) word) here full (take_all (r + (64 - r)) (bits_of 64 first) all ∙ begun), append_assoc, take-append-drop)
+    ∙ simp (take_written words at (64 - r) first (take (64 - r) word) (omega arith) (omega arith) (take_all _ (bits_of 64 first) (omega (arith, length-bits_of 64 first)) ∙ begun), append_assoc, take-append-drop)
 
 -- one more word of bits is appended
 pub append_more : (now later other front window : List Bool) (at from k : ℕ) → take (at + 64 * k + 64) later ≡ take (at + 64 * k) now ++ window → window ≡ part (from + 64 * k) 64 other

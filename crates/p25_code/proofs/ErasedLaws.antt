@@ -1,6 +1,6 @@
 -- Lists with erasures. A codeword within the cost of a list is the only one: on the way from one codeword to the list to another each erasure counts
 -- one. A list without an erasure is decoded like the received word.
-use Rattle.std.proofs.Common.{◌≡◌, ℕ, zero, suc, ◌+◌, ◌*◌, ◌<◌, ◌≤◌, Bool, true, false, cond, List, [], ◌∷◌, ◌++◌, length, map, replicate, Option, Some, None, All, ap, ap₂, sym, ◌∙◌, subst, refl, arith}
+use Rattle.std.proofs.Common.{◌≡◌, ℕ, zero, suc, ◌+◌, ◌*◌, ◌<◌, ◌≤◌, Bool, true, false, cond, List, [], ◌∷◌, ◌++◌, length, map, replicate, Option, Some, None, All, ap, ap₂, refl, arith}
 use Rattle.p25_bits.specs.Distance.{distance_by}
 use Rattle.p25_bits.proofs.DistanceLaws.{cond-le}
 use Rattle.p25_code.specs.{declared.code.Reading.{Reading}, declared.code.Reading.TheVariants.{Found, Beyond}, Words.{IsReading}, Readings.{word_read}}
@@ -18,14 +18,14 @@ length-without_erased (x ∷ received) (gone ∷ erased) = ap suc (length-withou
 pub without_erased-none : {L : Type 0} (received : List L) (erased : List Bool) → All (λ gone. gone ≡ false) erased → without_erased received erased ≡ map Some received
 unfolding without_erased
 without_erased-none [] erased none = refl
-without_erased-none (x ∷ received) [] none = ap (λ list. Some x ∷ list) (without_erased-none received [] none)
+without_erased-none (x ∷ received) [] none = rw (without_erased-none received)
 without_erased-none (x ∷ received) (gone ∷ erased) none =
     ap₂ (λ b list. cond b None (Some x) ∷ list) (none 0 gone (omega arith)) (without_erased-none received erased (λ k d h. none (suc k) d (omega arith)))
 
 -- a list without an erasure differs where the letters differ, and has no erasure
 pub kept_distance-letters : {L : Type 0} (same : L → L → Bool) (received word : List L) → kept_distance same (map Some received) word ≡ distance_by same received word
 unfolding kept_distance distance_by
-kept_distance-letters same (y ∷ received) (x ∷ word) = ap (λ n. cond (same y x) 0 1 + n) (kept_distance-letters same received word)
+kept_distance-letters same (y ∷ received) (x ∷ word) = rw (kept_distance-letters same received word)
 kept_distance-letters same received word = refl
 
 pub erasures_in-letters : {L : Type 0} (received : List L) → erasures_in (map Some received) ≡ 0
@@ -36,7 +36,7 @@ erasures_in-letters (y ∷ received) = omega (arith, erasures_in-letters receive
 -- so its cost is twice the distance
 pub erased_cost-letters : {L : Type 0} (same : L → L → Bool) (received word : List L) → erased_cost same (map Some received) word ≡ 2 * distance_by same received word
 unfolding erased_cost
-erased_cost-letters same received word = omega (arith, kept_distance-letters same received word, erasures_in-letters received)
+erased_cost-letters same received word = omega (arith, kept_distance-letters, erasures_in-letters received)
 
 -- without letters there is nothing
 pub without_erased-nil : {L : Type 0} (erased : List Bool) → without_erased {L = L} [] erased ≡ []
@@ -49,7 +49,7 @@ unfolding without_erased
 without_erased-list [] zero long = refl
 without_erased-list [] (suc n) long = absurd (omega arith)
 without_erased-list (x ∷ xs) zero long = absurd (omega arith)
-without_erased-list (x ∷ xs) (suc n) long = let rest : length xs ≡ n = omega arith in rw (without_erased-list xs n rest) refl
+without_erased-list (x ∷ xs) (suc n) long = rw (without_erased-list xs n (omega arith)) refl
 
 -- two runs, one after the other
 pub without_erased-append : {L : Type 0} (xs ys : List L) (es fs : List Bool) → length xs ≡ length es → without_erased (xs ++ ys) (es ++ fs) ≡ without_erased xs es ++ without_erased ys fs
@@ -57,7 +57,7 @@ unfolding without_erased
 without_erased-append [] ys [] fs long = refl
 without_erased-append [] ys (e ∷ es) fs long = absurd (omega arith)
 without_erased-append (x ∷ xs) ys [] fs long = absurd (omega arith)
-without_erased-append (x ∷ xs) ys (e ∷ es) fs long = let rest : length xs ≡ length es = omega arith in rw (without_erased-append xs ys es fs rest) refl
+without_erased-append (x ∷ xs) ys (e ∷ es) fs long = rw (without_erased-append xs ys es fs (omega arith)) refl
 
 -- distances and erasures of two runs, one after the other, add up
 kept_distance-append : {L : Type 0} (same : L → L → Bool) (list more : List (Option L)) (word others : List L) → length list ≡ length word
@@ -66,7 +66,7 @@ unfolding kept_distance
 kept_distance-append same [] more [] others long = omega arith
 kept_distance-append same [] more (x ∷ word) others long = absurd (omega arith)
 kept_distance-append same (y ∷ list) more [] others long = absurd (omega arith)
-kept_distance-append same (y ∷ list) more (x ∷ word) others long = omega (arith, kept_distance-append same list more word others (omega arith))
+kept_distance-append same (y ∷ list) more (x ∷ word) others long = omega (arith, kept_distance-append same list more word)
 
 erasures_in-append : {L : Type 0} (list more : List (Option L)) → erasures_in (list ++ more) ≡ erasures_in list + erasures_in more
 unfolding erasures_in
@@ -77,7 +77,7 @@ erasures_in-append (y ∷ list) more = omega (arith, erasures_in-append list mor
 pub erased_cost-append : {L : Type 0} (same : L → L → Bool) (list more : List (Option L)) (word others : List L) → length list ≡ length word
     → erased_cost same (list ++ more) (word ++ others) ≡ erased_cost same list word + erased_cost same more others
 unfolding erased_cost
-erased_cost-append same list more word others long = omega (arith, kept_distance-append same list more word others long, erasures_in-append list more)
+erased_cost-append same list more word others long = omega (arith, kept_distance-append same, erasures_in-append list more)
 
 -- a place counts one at most
 place-le : {L : Type 0} (same : L → L → Bool) (y : Option L) (x : L) → letter_distance same y x + erasure_weight y ≤ 1
@@ -88,12 +88,12 @@ places-le : {L : Type 0} (same : L → L → Bool) (list : List (Option L)) (wor
 unfolding kept_distance erasures_in
 places-le same [] word long = omega arith
 places-le same (y ∷ list) [] long = absurd (omega arith)
-places-le same (y ∷ list) (x ∷ word) long = omega (arith, places-le same list word (omega arith), place-le same y x)
+places-le same (y ∷ list) (x ∷ word) long = omega (arith, places-le same list, place-le)
 
 -- no word costs more than two for each place
 pub erased_cost-le : {L : Type 0} (same : L → L → Bool) (list : List (Option L)) (word : List L) → length list ≡ length word → erased_cost same list word ≤ 2 * length list
 unfolding erased_cost
-erased_cost-le same list word long = omega (arith, places-le same list word long)
+erased_cost-le same list word long = omega (arith, places-le)
 
 module _ {L : Type 0} {same : L → L → Bool} {IsWord : List L → Type 0} {n k radius apart : ℕ} (code : IsBlockCode same IsWord n k radius apart) where
   -- two letters that differ: one of them differs from the letter between them, or there is an erasure
@@ -103,7 +103,7 @@ module _ {L : Type 0} {same : L → L → Bool} {IsWord : List L → Type 0} {n 
   letters_apart x z (Some y) = through (same y x) (same y z) refl refl
     where
       through : (a b : Bool) → same y x ≡ a → same y z ≡ b → cond (same x z) 0 1 ≤ cond (same y x) 0 1 + cond (same y z) 0 1 + 0
-      through true true ea eb = omega (arith, ap {B = ℕ} (λ t. cond t 0 1) (subst (λ w. same w z ≡ true) (code.alike y x ea) eb))
+      through true true ea eb = omega (arith, ap {B = ℕ} (λ t. cond t 0 1) (rw (code.alike y x ea) at eb))
       through false b ea eb = omega (arith, ap {B = ℕ} (λ t. cond t 0 1) ea, cond-le (same x z))
       through true false ea eb = omega (arith, ap {B = ℕ} (λ t. cond t 0 1) eb, cond-le (same x z))
 
@@ -113,7 +113,7 @@ module _ {L : Type 0} {same : L → L → Bool} {IsWord : List L → Type 0} {n 
   unfolding kept_distance distance_by erasures_in
   wrong_triangle [] [] w first second = omega arith
   wrong_triangle (y ∷ list) (x ∷ v) (z ∷ w) first second =
-      omega (arith, letters_apart x z y, wrong_triangle list v w (omega arith) (omega arith))
+      omega (arith, letters_apart x, wrong_triangle list v)
   wrong_triangle list v w first second = absurd (omega arith)
 
   module _ {most : ℕ} (close : most < apart) where
@@ -121,17 +121,15 @@ module _ {L : Type 0} {same : L → L → Bool} {IsWord : List L → Type 0} {n 
     pub one_within_cost : (list : List (Option L)) (v w : List L) → length list ≡ n → IsWithinCost same IsWord most list v → IsWithinCost same IsWord most list w → v ≡ w
     unfolding erased_cost
     one_within_cost list v w long first second =
-        let long_v = code.long v first.word_of_set in
-        let long_w = code.long w second.word_of_set in
         near_words code v w first.word_of_set second.word_of_set
-        (omega (arith, wrong_triangle list v w (long ∙ sym long_v) (long_v ∙ sym long_w), first.within, second.within, close))
+        (omega (arith, wrong_triangle list, first.within, second.within, close))
 
     -- so a list has one reading
     pub one_erased_reading : (list : List (Option L)) (a b : Option (List L)) → length list ≡ n → IsErasedReadAs same IsWord most list a → IsErasedReadAs same IsWord most list b → a ≡ b
     unfolding IsErasedReadAs
     one_erased_reading list None None long first second = refl
-    one_erased_reading list None (Some w) long first second = absurd (omega (arith, first.dearer w second.word_of_set, second.within))
-    one_erased_reading list (Some v) None long first second = absurd (omega (arith, second.dearer v first.word_of_set, first.within))
+    one_erased_reading list None (Some w) long first second = absurd (omega (arith, first.dearer, second.within))
+    one_erased_reading list (Some v) None long first second = absurd (omega (arith, second.dearer, first.within))
     one_erased_reading list (Some v) (Some w) long first second = ap Some (one_within_cost list v w long first second)
 
     -- a word of the set within the cost is the reading
@@ -157,7 +155,7 @@ unfolding IsReading IsErasedReading
 reading_without_erasures {L} same IsWord most radius twice received word erased reading none is = as_read reading is
   where
     cost : (other : List L) → erased_cost same (without_erased received erased) other ≡ 2 * distance_by same received other
-    cost other = ap (λ list. erased_cost same list other) (without_erased-none received erased none) ∙ erased_cost-letters same received other
+    cost other = cc (without_erased-none received erased none, erased_cost-letters same received other)
 
     as_read : (reading : Reading) → IsErasedReading same IsWord most (without_erased received erased) received word reading → IsReading same IsWord radius received word reading
     as_read (Found fixes) found = record {

@@ -1,12 +1,12 @@
 -- The costs of pairs of bits. A cost is a sum over parts of a word, so that of a word of 24 bits is one over its groups of six. Bits before a word
 -- whose pairs cost nothing change no cost. A word whose pairs each cost less than any other value of the pair costs less than any other list.
-use Rattle.std.proofs.Common.{◌≡◌, ◌≢◌, ℕ, zero, suc, ◌+◌, ◌-◌, ◌*◌, ◌/◌, ◌%◌, ◌^◌, ◌<◌, ◌≤◌, ◌⊎◌, inl, inr, Bool, true, false, List, [], ◌∷◌, ◌++◌, length, take, drop, replicate, get_or, refl, ap, ap₂, sym, ◌∙◌, subst, arith, add-one, All, length-append, length-drop, mod-eq_of_lt}
-use Rattle.std.proofs.{Math.Nat.{mul-suc, mul-le-mul_left, mul-add, pow-le-pow_right}, lemmas.Bool.{cases_lt}, lemmas.Nat.{shl_whole}}
+use Rattle.std.proofs.Common.{◌≡◌, ◌≢◌, ℕ, zero, suc, ◌+◌, ◌-◌, ◌*◌, ◌/◌, ◌%◌, ◌^◌, ◌<◌, ◌≤◌, ◌⊎◌, inl, inr, Bool, true, false, List, [], ◌∷◌, ◌++◌, length, take, drop, replicate, get_or, refl, ap, ap₂, sym, ◌∙◌, subst, arith, length-append, length-drop, mod-eq_of_lt}
+use Rattle.std.proofs.{Math.Nat.{mul-le-mul_left, mul-add, pow-le-pow_right}, lemmas.Bool.{cases_lt}, lemmas.Nat.{shl_whole}}
 use borrow.Rule.Slice.PartMut.{put_mid}
-use Rattle.std.proofs.{Math.ListN.{drop_of_length-le}, Math.Seq.{drop-append_seam}, lemmas.List.{take-replicate, append-nil, drop-drop, get_or-drop, length-replicate, length-take-le, take-append-drop, take-append-le, drop-append-le}}
+use Rattle.std.proofs.{Math.ListN.{drop_of_length-le}, Math.Seq.{drop-append_seam}, lemmas.List.{take-replicate, append-nil, drop-drop, get_or-drop, length-replicate, length-take-le, take-append-drop}}
 use Rattle.std.specs.Bool.{beq}
-use Rattle.p25_bits.specs.{Bits.{bits_of, digit_of, field_of, field_after, part}, Distance.{distance_of}}
-use Rattle.p25_bits.proofs.BitsLaws.{length-bits_of, bits_of-add, bits_of-above, bits_of-mod, bits_of-field_of, bits_of-joined, digit_of-bit_at, field_of-bits_of, field_of-lt, take-bits_of}
+use Rattle.p25_bits.specs.{Bits.{bits_of, digit_of, field_of, field_after}, Distance.{distance_of}}
+use Rattle.p25_bits.proofs.BitsLaws.{length-bits_of, bits_of-add, bits_of-above, bits_of-mod, bits_of-field_of, bits_of-joined, field_of-bits_of, field_of-lt, take-bits_of}
 use Rattle.p25_bits.proofs.DistanceLaws.{distance_by-append, distance_by-nil, distance_of-same, same_from_distance_of}
 use Rattle.p25_bits.specs.Least.{IsLowestLeast}
 use Rattle.p25_bits.proofs.LeastLaws.{lowest_least-alone}

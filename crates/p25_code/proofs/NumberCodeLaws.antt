@@ -1,11 +1,11 @@
 -- Decoding of words as numbers: by the bit errors of the received word, and the result as bits.
-use Rattle.std.proofs.Common.{◌≡◌, ℕ, ◌^◌, ◌<◌, ◌≤◌, Bool, List, length, Option, Some, None, bit_xor, refl, ap, ap₂, sym, ◌∙◌, arith, mod-eq_of_lt, ◌/◌, ◌%◌, bit_or, ◌+◌, ◌-◌, ◌*◌}
+use Rattle.std.proofs.Common.{◌≡◌, ℕ, ◌^◌, ◌<◌, ◌≤◌, Bool, List, length, Option, Some, None, bit_xor, refl, ap₂, sym, ◌∙◌, arith, mod-eq_of_lt, ◌/◌, ◌%◌, bit_or, ◌+◌, ◌-◌, ◌*◌}
 use Rattle.std.proofs.{Math.Nat.{mul_comm}, lemmas.Nat.{mod_below, shr_below, pow-add, mul-add-lt, or_shifted, shl_whole, xor_lt, pow_pos, ones_le_self, zero_from_ones}}
 use Rattle.std.specs.{Bool.{beq}, Int.Bits.{xor_self, xor_zero_r}, Int.RustNames.{count_ones}, Option.{MatchOption, option_map}}
 use Rattle.p25_bits.specs.{Bits.{bits_of, field_of}, Distance.{distance_by, distance_of}}
 use Rattle.p25_bits.proofs.{BitsLaws.{length-bits_of, bits_of-joined, bits_of-field_of, field_of-bits_of, field_of-lt}, DistanceLaws.{distance_of-bits_of}, DivisibleLaws.{same_from_xor}}
 use Rattle.p25_code.specs.{declared.code.Reading.{Reading}, declared.code.Reading.TheVariants.{Found, Beyond}, Words.{IsReading}, Readings.{IsReadAs}}
-use Rattle.p25_code.specs.{Binary.{syndrome_of, IsChecked, systematic}, WrongBits.{number_sum, AreWrong, NoneWrong}, CodeLaws.{SystematicCode, columns_of, radius_of}}
+use Rattle.p25_code.specs.{Binary.{IsChecked, systematic}, WrongBits.{number_sum, AreWrong, NoneWrong}, CodeLaws.{SystematicCode, columns_of, radius_of}}
 use Rattle.p25_code.proofs.{ReadingLaws.{one_reading}, ParityLaws.{number_sum-xor, number_sum-zero}, WrongLaws.{twice, length-columns, number_sum-lt, number_sum-parts}}
 
 module _ (columns : List ℕ) (radius received sum : ℕ) (fits : received < 2 ^ length columns) (sums : number_sum columns received ≡ sum) where
@@ -16,13 +16,12 @@ module _ (columns : List ℕ) (radius received sum : ℕ) (fits : received < 2 ^
   without_wrong wrong are =
       let n = length columns in
       let sent = bit_xor received wrong in
-      let sent_fits : sent < 2 ^ n = xor_lt n received wrong fits are.fits in
       record {
         word_of_set = record {
           long = length-bits_of n sent;
           passes = number_sum-xor columns received wrong ∙ ap₂ bit_xor sums are.sums ∙ xor_self sum;
         };
-        within = rw (distance_of-bits_of n received sent fits sent_fits, twice received wrong) are.within;
+        within = rw (distance_of-bits_of n received sent fits (xor_lt n received wrong fits are.fits), twice received wrong) are.within;
       }
 
   -- where no wrong bits are few enough, no word that passes is within the radius
@@ -36,11 +35,7 @@ module _ (columns : List ℕ) (radius received sum : ℕ) (fits : received < 2 ^
           let number = field_of word in
           let small : number < 2 ^ n = rw is.long at (field_of-lt word) in
           let bits : bits_of n number ≡ word = rw is.long at (bits_of-field_of word) in
-          let wrong = bit_xor received number in
-          let made : number_sum columns wrong ≡ sum
-          = number_sum-xor columns received number ∙ ap₂ bit_xor sums (ap (syndrome_of columns) bits ∙ is.passes) ∙ xor_zero_r sum in
-          let far = none.farther wrong (xor_lt n received number fits small) made in
-          rw (← bits, distance_of-bits_of n received number fits small) far
+          rw (← bits, distance_of-bits_of) (none.farther (bit_xor received number) (xor_lt n received number fits small) (number_sum-xor columns received number ∙ ap₂ bit_xor sums (cc (bits, is.passes)) ∙ xor_zero_r sum))
 
 -- a reading depends on the set alone, not on how it is written
 read_as_same_set : (A B : List Bool → Type 0) (radius : ℕ) (received : List Bool) (answer : Option (List Bool)) → ((w : List Bool) → A w → B w) → ((w : List Bool) → B w → A w)
@@ -51,14 +46,12 @@ read_as_same_set A B radius received None to from is = record { farther = λ w b
 
 -- a sum of 0 is that of no wrong bits
 none_are_wrong : (columns : List ℕ) (radius : ℕ) → AreWrong columns radius 0 0
-none_are_wrong columns radius = record { fits = pow_pos (length columns); sums = number_sum-zero columns; within = omega (arith, ones_le_self 0) }
+none_are_wrong columns radius = record { fits = pow_pos _; sums = number_sum-zero columns; within = omega (arith, ones_le_self 0) }
 
 -- a 1 before so many check bits
 pub one_place : (places checks : ℕ) → places ≡ checks → checks ≤ 16 → 1 * 2 ^ places % 2 ^ 32 ≡ 2 ^ checks
 one_place places checks same few =
-    let one : 1 < 2 ^ 1 = omega arith in
-    let whole : 1 * 2 ^ checks ≡ 2 ^ checks = omega arith in
-    rw (same, shl_whole 1 1 checks 32 one (omega arith)) whole
+    rw (same, shl_whole 1 1 checks 32 (omega arith) (omega arith)) (omega arith)
 
 -- a word is its information and its check bits
 bits_are : {n k d : ℕ} → SystematicCode n k d → k + (n - k) ≡ n
@@ -67,18 +60,18 @@ bits_are code = omega (arith, code.is.table.begins)
 -- the information is what stands before the check bits
 pub information_fits : {n k d : ℕ} → SystematicCode n k d → (received places : ℕ) → places ≡ n - k → received < 2 ^ n → received / 2 ^ places < 2 ^ k
 information_fits {n} {k} {d} code received places shift fits =
-    rw shift (shr_below received k (n - k) (rw (bits_are code) fits))
+    rw shift (shr_below received k _ (rw (bits_are code) fits))
 
 -- the columns are as many as a word has bits
 length-columns_of : {n k d : ℕ} (code : SystematicCode n k d) → length (columns_of code) ≡ n
-length-columns_of {n} {k} {d} code = rw (length-columns code.rows (n - k), code.is.table.rows_long) (bits_are code)
+length-columns_of {n} {k} {d} code = rw (length-columns, code.is.table.rows_long) (bits_are code)
 
 -- the reading of a word of the columns is that of the code
 read_as : {n k d : ℕ} (code : SystematicCode n k d) (bits : List Bool) (answer : Option (List Bool)) → length bits ≡ n
     → IsReadAs beq (IsChecked (columns_of code)) (radius_of d) bits answer → answer ≡ code.is.reading bits
 read_as {n} {k} {d} code bits answer long is_read =
     one_reading code.is.laws bits answer (code.is.reading bits) long
-    (read_as_same_set (IsChecked (columns_of code)) code.IsWord (radius_of d) bits answer code.is.passing code.is.passes is_read)
+    (read_as_same_set _ code.IsWord _ bits answer code.is.passing code.is.passes is_read)
     (code.is.reads bits)
 
 -- a received number, and the check bits of its information
@@ -89,11 +82,11 @@ module _ {n k d : ℕ} (code : SystematicCode n k d) (received check places : �
   whole_sum = bit_xor check (received % (1 * 2 ^ places % 2 ^ 32))
 
   whole_sum_is : whole_sum ≡ bit_xor (number_sum code.rows (received / 2 ^ (n - k))) (received % 2 ^ (n - k))
-  whole_sum_is = rw (is, shift, one_place (n - k) (n - k) refl code.is.table.few_checks) refl
+  whole_sum_is = rw (is, shift, one_place _ _ refl code.is.table.few_checks) refl
 
   -- it is the sum of all
   sum_is : number_sum (columns_of code) received ≡ whole_sum
-  sum_is = number_sum-parts code.rows (n - k) received ∙ sym whole_sum_is
+  sum_is = number_sum-parts code.rows _ received ∙ sym whole_sum_is
 
   fits_columns : received < 2 ^ length (columns_of code)
   fits_columns = rw (length-columns_of code) fits
@@ -101,22 +94,21 @@ module _ {n k d : ℕ} (code : SystematicCode n k d) (received check places : �
   pub sum_fits : whole_sum < 2 ^ (n - k)
   sum_fits =
       rw whole_sum_is
-      (xor_lt (n - k) (number_sum code.rows (received / 2 ^ (n - k))) (received % 2 ^ (n - k))
-      (number_sum-lt (n - k) code.rows (received / 2 ^ (n - k)) code.is.table.fit) (mod_below received (2 ^ (n - k)) (pow_pos (n - k))))
+      (xor_lt _ _ _
+      (number_sum-lt _ code.rows _ code.is.table.fit) (mod_below received _ (pow_pos (n - k))))
 
   -- what is read as a number is the reading of the bits
   read_number_as : (answer : Option (List Bool)) → IsReadAs beq (IsChecked (columns_of code)) (radius_of d) (bits_of (length (columns_of code)) received) answer
       → answer ≡ code.is.reading (bits_of n received)
   read_number_as answer is_read =
-      read_as code (bits_of n received) answer (length-bits_of n received)
+      read_as code _ answer (length-bits_of n received)
       (rw (length-columns_of code) at is_read)
 
   -- the word without the wrong bits
   pub read_without : (wrong : ℕ) → AreWrong (columns_of code) (radius_of d) whole_sum wrong
       → Some (bits_of n (bit_xor received wrong)) ≡ code.is.reading (bits_of n received)
   read_without wrong are =
-      let sent = bits_of (length (columns_of code)) (bit_xor received wrong) in
-      rw (length-columns_of code) at (read_number_as (Some sent) (without_wrong (columns_of code) (radius_of d) received whole_sum fits_columns sum_is wrong are))
+      rw (length-columns_of code) at (read_number_as (Some (bits_of _ (bit_xor received wrong))) (without_wrong (columns_of code) _ received whole_sum fits_columns sum_is wrong are))
 
   pub without_fits : (wrong : ℕ) → AreWrong (columns_of code) (radius_of d) whole_sum wrong → bit_xor received wrong < 2 ^ n
   without_fits wrong are = xor_lt n received wrong fits (rw (length-columns_of code) at are.fits)
@@ -124,46 +116,39 @@ module _ {n k d : ℕ} (code : SystematicCode n k d) (received check places : �
   -- a word whose check bits are those of its information is read as it is
   pub read_clean : whole_sum ≡ 0 → Some (bits_of n received) ≡ code.is.reading (bits_of n received)
   read_clean none =
-      rw (xor_zero_r received) at (read_without 0 (rw none (none_are_wrong (columns_of code) (radius_of d))))
+      rw (xor_zero_r received) at (read_without 0 (rw none (none_are_wrong (columns_of code) _)))
 
   -- where none are few enough there is no reading
   pub read_none : NoneWrong (columns_of code) (radius_of d) whole_sum
       → (answer : Option ℕ) → answer ≡ None → option_map (bits_of n) answer ≡ code.is.reading (bits_of n received)
   read_none none answer e =
-      rw e (read_number_as None (none_within (columns_of code) (radius_of d) received whole_sum fits_columns sum_is none))
+      rw e (read_number_as None (none_within (columns_of code) _ received whole_sum fits_columns sum_is none))
 
 -- within the radius one list of wrong bits makes a syndrome
 pub one_wrong : {n k d : ℕ} (code : SystematicCode n k d) (syndrome a b : ℕ)
     → AreWrong (columns_of code) (radius_of d) syndrome a → AreWrong (columns_of code) (radius_of d) syndrome b → a ≡ b
 one_wrong {n} {k} {d} code syndrome a b first second =
     let m = length (columns_of code) in
-    let long : length (bits_of m a) ≡ n = length-bits_of m a ∙ length-columns_of code in
     let read : (wrong : ℕ) → AreWrong (columns_of code) (radius_of d) syndrome wrong → Some (bits_of m (bit_xor a wrong)) ≡ code.is.reading (bits_of m a)
-    = λ wrong are. read_as code (bits_of m a) (Some (bits_of m (bit_xor a wrong))) long (without_wrong (columns_of code) (radius_of d) a syndrome first.fits first.sums wrong are) in
+    = λ wrong are. read_as code (bits_of m a) _ (length-bits_of m a ∙ length-columns_of code) (without_wrong (columns_of code) (radius_of d) a syndrome first.fits first.sums wrong are) in
     let same = read a first ∙ sym (read b second) in
     let bits : bits_of m (bit_xor a a) ≡ bits_of m (bit_xor a b) = cc in
-    let numbers : bit_xor a a ≡ bit_xor a b
-    = sym (mod-eq_of_lt (xor_lt m a a first.fits first.fits)) ∙ sym (field_of-bits_of m (bit_xor a a))
-    ∙ ap field_of bits ∙ field_of-bits_of m (bit_xor a b) ∙ mod-eq_of_lt (xor_lt m a b first.fits second.fits) in
-    sym (twice a a) ∙ ap (bit_xor a) numbers ∙ twice a b
+    cc (twice a a, mod-eq_of_lt (xor_lt m a a first.fits first.fits), field_of-bits_of m (bit_xor a a), bits, field_of-bits_of m (bit_xor a b), mod-eq_of_lt (xor_lt m a b first.fits second.fits), twice a b)
 
 -- as many bits change as the two numbers differ in
 pub changed_bits : (received number : ℕ) (old new : List Bool) → received ≡ field_of old → number < 2 ^ length old → new ≡ bits_of (length old) number
     → (new ≡ bits_of (length old) number) × (Found (count_ones (bit_xor received number)) ≡ Found (distance_of old new))
 changed_bits received number old new e small is =
     let n = length old in
-    let fits : received < 2 ^ n = rw e (field_of-lt old) in
     let bits : old ≡ bits_of n received = rw (e, bits_of-field_of old) refl in
-    let ones = distance_of-bits_of n received number fits small in
+    let ones = distance_of-bits_of n received number (rw e (field_of-lt old)) small in
     (is, cc)
 
 -- none do where the numbers are one
 pub unchanged_bits : (received number : ℕ) (old : List Bool) → received ≡ field_of old → number < 2 ^ length old → count_ones (bit_xor received number) ≡ 0
     → (old ≡ bits_of (length old) number) × (Found (count_ones (bit_xor received number)) ≡ Found (distance_of old old))
 unchanged_bits received number old e small none =
-    let same = same_from_xor received number (zero_from_ones (bit_xor received number) none) in
-    let bits : old ≡ bits_of (length old) number = rw (← same, e, bits_of-field_of old) refl in
-    changed_bits received number old old e small bits
+    changed_bits received number old old e small (rw (← (same_from_xor received number (zero_from_ones (bit_xor received number) none)), e, bits_of-field_of old) refl)
 
 -- what was put into the bits that were received is the reading
 pub reading_put : (IsWord : List Bool → Type 0) (radius n : ℕ) (old new : List Bool) (sent : Option ℕ) (reading : Reading) → IsReadAs beq IsWord radius old (option_map (bits_of n) sent)
@@ -177,23 +162,21 @@ reading_put IsWord radius n old new None reading is put = rw put.0 (record { unc
 module _ {n k d : ℕ} (code : SystematicCode n k d) (info check word places : ℕ) (small : info < 2 ^ k) (sums : check ≡ number_sum code.rows info)
     (shift : places ≡ n - k) (joined : word ≡ bit_or (info * 2 ^ places % 2 ^ 32) check) where
   check_fits : check < 2 ^ (n - k)
-  check_fits = rw sums (number_sum-lt (n - k) code.rows info code.is.table.fit)
+  check_fits = rw sums (number_sum-lt _ code.rows info code.is.table.fit)
 
   word_is : word ≡ info * 2 ^ (n - k) + check
   word_is =
-      let few : k + (n - k) ≤ 32 = omega (arith, bits_are code, code.is.table.few) in
-      rw (joined, shift, shl_whole info k (n - k) 32 small few) (or_shifted info (n - k) check check_fits)
+      rw (joined, shift, shl_whole info k (n - k) 32 small (omega (arith, bits_are code, code.is.table.few))) (or_shifted info (n - k) check check_fits)
 
   pub word_fits : word < 2 ^ n
   word_fits =
-      let bound : 2 ^ (n - k) * 2 ^ k ≡ 2 ^ n = rw (bits_are code) at (mul_comm (2 ^ (n - k)) (2 ^ k) ∙ sym (pow-add 2 k (n - k))) in
-      rw (word_is, ← bound) (mul-add-lt info (2 ^ (n - k)) check (2 ^ k) small check_fits)
+      rw (word_is, ← (rw (bits_are code) at (mul_comm _ _ ∙ sym (pow-add 2 k (n - k))))) (mul-add-lt info _ check _ small check_fits)
 
   -- its bits are the systematic word
   pub encodes_number : bits_of n word ≡ systematic code.rows (n - k) (bits_of k info)
   unfolding systematic number_sum
   encodes_number =
-      rw (word_is, rw (bits_are code) at (bits_of-joined k (n - k) info check check_fits), sums, code.is.table.rows_long) refl
+      rw (word_is, rw (bits_are code) at (bits_of-joined k _ info check check_fits), sums, code.is.table.rows_long) refl
 
 -- what a reader by numbers leaves and answers is the reading of the bits
 pub read_by_number : (IsWord : List Bool → Type 0) (radius n : ℕ) (reading_of : List Bool → Option (List Bool))

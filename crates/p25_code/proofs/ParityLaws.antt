@@ -1,7 +1,7 @@
 -- Checks that are sums of other checks, and a parity besides other checks.
-use Rattle.std.proofs.Common.{◌≡◌, ℕ, zero, suc, ◌+◌, ◌*◌, ◌%◌, ◌<◌, Bool, true, false, cond, eqb, List, [], ◌∷◌, length, map, bit_xor, refl, ap, ap₂, sym, ◌∙◌, arith}
+use Rattle.std.proofs.Common.{◌≡◌, ℕ, zero, suc, ◌+◌, ◌*◌, ◌%◌, ◌<◌, Bool, true, false, cond, eqb, List, [], ◌∷◌, length, map, bit_xor, refl, ap₂, sym, ◌∙◌, arith}
 use Rattle.std.proofs.lemmas.Nat.Bits.{bit_at_xor, bit_at-lt}
-use Rattle.std.specs.{Int.{bit_at}, Int.Bits.{xor_zero_l}}
+use Rattle.std.specs.{Int.Bits.{xor_zero_l}}
 use Rattle.p25_bits.specs.Bits.{digit_of, bits_of}
 use Rattle.p25_bits.proofs.{BitsLaws.{bits_of-suc, bits_of-zero, length-bits_of, digit_of-le}, DivisibleLaws.{xor_doubled}}
 use Rattle.p25_code.specs.{Binary.{syndrome_of, weight_of}, WrongBits.{number_sum}}
@@ -18,11 +18,11 @@ sum_of_bits a b h k xs ys = refl
 -- the bits of a sum are the sums of the bits
 pub bits_of-xor : (width a b : ℕ) → bits_of width (bit_xor a b) ≡ sum_of_words (bits_of width a) (bits_of width b)
 unfolding sum_of_words
-bits_of-xor zero a b = bits_of-zero (bit_xor a b) ∙ ap₂ sum_of_words (sym (bits_of-zero a)) (sym (bits_of-zero b))
+bits_of-xor zero a b = bits_of-zero _ ∙ ap₂ sum_of_words (sym (bits_of-zero a)) (sym (bits_of-zero b))
 bits_of-xor (suc width) a b =
-    bits_of-suc width (bit_xor a b)
+    bits_of-suc width _
     ∙ ap₂ (λ n bits. eqb n 1 ∷ bits) (bit_at_xor a b width) (bits_of-xor width a b)
-    ∙ sum_of_bits (bit_at a width) (bit_at b width) (bit_at-lt a width) (bit_at-lt b width) (bits_of width a) (bits_of width b)
+    ∙ sum_of_bits _ _ (bit_at-lt a width) (bit_at-lt b width) _ (bits_of width b)
     ∙ ap₂ sum_of_words (sym (bits_of-suc width a)) (sym (bits_of-suc width b))
 
 -- sums of columns add up
@@ -30,14 +30,12 @@ pub number_sum-xor : (columns : List ℕ) (a b : ℕ) → number_sum columns (bi
 unfolding number_sum
 number_sum-xor columns a b =
     let n = length columns in
-    ap (syndrome_of columns) (bits_of-xor n a b)
-    ∙ syndrome_of-sum_of_words columns (bits_of n a) (bits_of n b)
-    ∙ change_of-is columns (bits_of n a) (bits_of n b) (length-bits_of n a) (length-bits_of n b)
+    cc (bits_of-xor n a b, syndrome_of-sum_of_words columns _ _, change_of-is columns _ _ (length-bits_of n a) (length-bits_of n b))
 
 -- no places, no sum
 pub number_sum-zero : (columns : List ℕ) → number_sum columns 0 ≡ 0
 unfolding number_sum
-number_sum-zero columns = syndrome_of-zeros columns (bits_of (length columns) 0) (weight_of-bits_of (length columns))
+number_sum-zero columns = syndrome_of-zeros columns _ (weight_of-bits_of _)
 
 sum-chosen : (mix : List ℕ) (bit : Bool) (column : ℕ) → cond bit (number_sum mix column) 0 ≡ number_sum mix (cond bit column 0)
 sum-chosen mix true column = refl
@@ -47,12 +45,12 @@ sum-chosen mix false column = sym (number_sum-zero mix)
 pub syndrome_of-mixed : (mix columns : List ℕ) (word : List Bool) → syndrome_of (map (number_sum mix) columns) word ≡ number_sum mix (syndrome_of columns word)
 unfolding syndrome_of
 syndrome_of-mixed mix (column ∷ columns) (bit ∷ word) =
-    ap₂ bit_xor (sum-chosen mix bit column) (syndrome_of-mixed mix columns word) ∙ sym (number_sum-xor mix (cond bit column 0) (syndrome_of columns word))
+    ap₂ bit_xor (sum-chosen mix bit column) (syndrome_of-mixed mix columns word) ∙ sym (number_sum-xor mix _ (syndrome_of columns word))
 syndrome_of-mixed mix columns word = sym (number_sum-zero mix)
 
 -- so what passes the checks passes their sums
 pub mixed_passes : (mix columns : List ℕ) (word : List Bool) → syndrome_of columns word ≡ 0 → syndrome_of (map (number_sum mix) columns) word ≡ 0
-mixed_passes mix columns word passes = syndrome_of-mixed mix columns word ∙ ap (number_sum mix) passes ∙ number_sum-zero mix
+mixed_passes mix columns word passes = cc (syndrome_of-mixed mix columns word, passes, number_sum-zero mix)
 
 -- a column with one more check, of all places
 abbrev pub with_parity : ℕ → ℕ
@@ -80,8 +78,5 @@ pub syndrome_of-with_parity : (columns : List ℕ) (word : List Bool) → length
 unfolding syndrome_of weight_of
 syndrome_of-with_parity [] [] long = refl
 syndrome_of-with_parity (column ∷ columns) (bit ∷ word) long =
-    let odd : weight_of word % 2 < 2 = omega arith in
-    ap₂ bit_xor (doubled bit column) (syndrome_of-with_parity columns word (omega arith))
-    ∙ xor_doubled (cond bit column 0) (syndrome_of columns word) (digit_of bit) (weight_of word % 2) (digit-lt bit) odd
-    ∙ ap (λ n. 2 * bit_xor (cond bit column 0) (syndrome_of columns word) + n) (parities bit (weight_of word))
+    cc (ap₂ bit_xor (doubled bit column) (syndrome_of-with_parity columns word (omega arith)), xor_doubled _ (syndrome_of columns word) _ (weight_of word % 2) (digit-lt bit) (omega arith), parities bit (weight_of word))
 syndrome_of-with_parity columns word long = absurd (omega arith)

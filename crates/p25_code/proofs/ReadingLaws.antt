@@ -1,5 +1,5 @@
 -- Consequences of the laws of a block code: decoding leaves the codeword within the correction radius and no other.
-use Rattle.std.proofs.{Common.{◌≡◌, ◌≢◌, ℕ, ◌+◌, ◌<◌, ◌≤◌, inl, inr, Bool, true, List, length, Option, Some, None, ap, sym, ◌∙◌, subst, refl, arith}, lemmas.Bool.{cases_eq}}
+use Rattle.std.proofs.{Common.{◌≡◌, ℕ, ◌+◌, ◌<◌, ◌≤◌, inl, inr, Bool, List, length, Option, Some, None, ap, sym, ◌∙◌, refl, arith}, lemmas.Bool.{cases_eq}}
 use Rattle.p25_bits.specs.Distance.{distance_by}
 use Rattle.p25_bits.proofs.DistanceLaws.{distance_by-same, distance_by-sym, distance_by-triangle, same_from_distance_by}
 pub use Rattle.p25_code.specs.CodeLaws.{IsBlockCode}
@@ -12,7 +12,7 @@ module _ {L : Type 0} {same : L → L → Bool} {IsWord : List L → Type 0} {n 
 
   -- the way round by a third list is no shorter
   pub triangle : (xs ys zs : List L) → length xs ≡ length ys → distance_by same xs zs ≤ distance_by same xs ys + distance_by same ys zs
-  triangle = distance_by-triangle same (λ x y z a b. subst (λ w. same x w ≡ true) (code.alike y z b) a)
+  triangle = distance_by-triangle same (λ x y z a b. rw (code.alike y z b) at a)
 
   -- two words less than the least distance apart are one
   pub near_words : (v w : List L) → IsWord v → IsWord w → distance_by same v w < apart → v ≡ w
@@ -20,8 +20,7 @@ module _ {L : Type 0} {same : L → L → Bool} {IsWord : List L → Type 0} {n 
       elim (cases_eq (distance_by same v w) 0) [
         | inl none ↦ same_from_distance_by same code.alike v w (code.long v isv ∙ sym (code.long w isw)) none
         | inr some ↦
-            let differ : v ≢ w = λ e. some (ap (λ u. distance_by same v u) (sym e) ∙ distance_by-same same code.compares.refl v) in
-            absurd (omega (arith, code.far_apart v w isv isw differ))
+            absurd (omega (arith, code.far_apart v w isv isw (λ e. some (cc (e, distance_by-same same code.compares.refl v)))))
       ]
 
   -- what was sent and what was found lie within the radius of what was received, so they are one
@@ -33,7 +32,7 @@ module _ {L : Type 0} {same : L → L → Bool} {IsWord : List L → Type 0} {n 
         found.fixes_is,
         found.within,
         turned word received,
-        triangle word received sent (code.long word found.word_of_set ∙ sym long),
+        triangle word,
         code.close,
       ))
 
@@ -50,7 +49,7 @@ module _ {L : Type 0} {same : L → L → Bool} {IsWord : List L → Type 0} {n 
       → reading ≡ Found (distance_by same received sent)
   unfolding IsReading
   reading_fixes received word sent (Found fixes) long is sent_is near =
-      ap Found (is.fixes_is ∙ ap (λ w. distance_by same received w) (found_sent received word sent fixes long is sent_is near))
+      rw (is.fixes_is, found_sent received word sent fixes)
   reading_fixes received word sent Beyond long is sent_is near = absurd (omega (arith, is.none_within.farther sent sent_is))
 
   -- two words of the set within the radius of what was received are one
@@ -62,8 +61,8 @@ module _ {L : Type 0} {same : L → L → Bool} {IsWord : List L → Type 0} {n 
   pub one_reading : (received : List L) (a b : Option (List L)) → length received ≡ n → IsReadAs same IsWord radius received a → IsReadAs same IsWord radius received b → a ≡ b
   unfolding IsReadAs
   one_reading received None None long first second = refl
-  one_reading received None (Some w) long first second = absurd (omega (arith, first.farther w second.word_of_set, second.within))
-  one_reading received (Some v) None long first second = absurd (omega (arith, second.farther v first.word_of_set, first.within))
+  one_reading received None (Some w) long first second = absurd (omega (arith, first.farther, second.within))
+  one_reading received (Some v) None long first second = absurd (omega (arith, second.farther, first.within))
   one_reading received (Some v) (Some w) long first second = ap Some (one_near received v w long first second)
 
   -- a word of the set within the radius is the reading

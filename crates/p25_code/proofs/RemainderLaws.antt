@@ -1,5 +1,5 @@
 -- Columns that are remainders of powers by a generator: a word passes if and only if its polynomial is divisible.
-use Rattle.std.proofs.{Common.{◌≡◌, ℕ, zero, suc, ◌+◌, ◌*◌, ◌^◌, ◌<◌, ◌≤◌, inl, inr, Bool, true, false, cond, ltb, List, [], ◌∷◌, length, bit_xor, ap, ◌∙◌, subst, arith}, Math.Nat.{pow-suc}}
+use Rattle.std.proofs.{Common.{◌≡◌, ℕ, zero, suc, ◌+◌, ◌*◌, ◌^◌, ◌<◌, inl, inr, Bool, true, false, cond, ltb, List, [], ◌∷◌, length, bit_xor, ◌∙◌, arith}, Math.Nat.{pow-suc}}
 use Rattle.std.proofs.{lemmas.Bool.{cases_lt, cond_below, cond_above}, lemmas.Nat.{pow_pos}}
 use Rattle.p25_bits.specs.{Bits.{field_of}, Divisible.{IsDivisible, HasDegree, IsRemainder}}
 use Rattle.p25_bits.proofs.{BitsLaws.{field_of-nil, field_of-cons, field_of-lt}, DivisionLaws.{IsRemainder-sum}}
@@ -28,17 +28,10 @@ next generator degree number r has is =
     let same_r : 2 * r + 0 ≡ 2 * r = omega arith in
     elim (cases_lt (2 * r) (2 ^ degree)) [
       | inl low ↦
-          let low_r : 2 * r + 0 < 2 ^ degree = omega arith in
-          subst (λ n. IsRemainder generator degree n (cond (ltb (2 * r) (2 ^ degree)) (2 * r) (bit_xor (2 * r) generator))) same
-          (subst (IsRemainder generator degree (2 * number + 0)) (same_r ∙ cond_below (2 * r) (2 ^ degree) (2 * r) (bit_xor (2 * r) generator) low)
-          (remainder_kept generator degree number r 0 none is low_r))
+          rw same at (rw (same_r ∙ cond_below (2 * r) (2 ^ degree) (2 * r) (bit_xor (2 * r) generator) low) at (remainder_kept generator degree number r 0 none is (omega arith)))
       | inr high ↦
-          let high_r : 2 ^ degree ≤ 2 * r + 0 = omega arith in
-          subst (λ n. IsRemainder generator degree n (cond (ltb (2 * r) (2 ^ degree)) (2 * r) (bit_xor (2 * r) generator))) same
-          (
-          subst (IsRemainder generator degree (2 * number + 0))
-          (cond_above (2 * r) (2 ^ degree) (2 * r) (bit_xor (2 * r) generator) (bit_xor (2 * r + 0) generator) high (ap (λ n. bit_xor n generator) same_r))
-          (remainder_reduced generator degree number r 0 has none is high_r)
+          rw same at (
+          rw (cond_above (2 * r) (2 ^ degree) (2 * r) (bit_xor (2 * r) generator) (bit_xor (2 * r + 0) generator) high (rw same_r)) at (remainder_reduced generator degree number r 0 has none is (omega arith))
           )
     ]
 
@@ -50,7 +43,7 @@ module _ {generator degree : ℕ} (has : HasDegree generator degree) (some : 1 <
   IsRemainder-power (suc n) =
       let doubled : 2 * 2 ^ n ≡ 2 ^ suc n = omega (arith, pow-suc 2 n) in
       rw doubled at
-      (next generator degree (2 ^ n) (power_remainder generator degree n) has (IsRemainder-power n))
+      (next generator degree _ _ has (IsRemainder-power n))
 
   -- a coefficient times a power
   chosen : (bit : Bool) (n : ℕ) → IsRemainder generator degree (cond bit (2 ^ n) 0) (cond bit (power_remainder generator degree n) 0)
@@ -64,8 +57,8 @@ module _ {generator degree : ℕ} (has : HasDegree generator degree) (some : 1 <
   IsRemainder-word (bit ∷ word) =
       let n = length word in
       rw (field_of-cons bit word, ← above bit n (field_of word) (field_of-lt word))
-      (IsRemainder-sum generator degree (cond bit (2 ^ n) 0) (field_of word)
-      (cond bit (power_remainder generator degree n) 0) (syndrome_of (remainders generator degree n) word) (chosen bit n) (IsRemainder-word word))
+      (IsRemainder-sum generator degree _ (field_of word)
+      _ (syndrome_of _ word) (chosen bit n) (IsRemainder-word word))
 
   -- so a word whose polynomial is divisible has the sum 0
   pub remainders-divisible : (word : List Bool) → IsDivisible generator (field_of word) → syndrome_of (remainders generator degree (length word)) word ≡ 0
@@ -75,4 +68,4 @@ module _ {generator degree : ℕ} (has : HasDegree generator degree) (some : 1 <
   -- and the other way round
   pub divisible-remainders : (word : List Bool) → syndrome_of (remainders generator degree (length word)) word ≡ 0 → IsDivisible generator (field_of word)
   divisible-remainders word none =
-      divisible_from_remainder generator degree (field_of word) (subst (IsRemainder generator degree (field_of word)) none (IsRemainder-word word))
+      divisible_from_remainder generator degree (field_of word) (rw none at (IsRemainder-word word))

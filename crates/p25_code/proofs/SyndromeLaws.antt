@@ -9,18 +9,16 @@ use Rattle.p25_code.specs.Binary.{syndrome_of, check_columns, change_of}
 pub syndrome_of-append : (rows columns : List ℕ) (info checks : List Bool)
     → length info ≡ length rows → syndrome_of (rows ++ columns) (info ++ checks) ≡ bit_xor (syndrome_of rows info) (syndrome_of columns checks)
 unfolding syndrome_of
-syndrome_of-append [] columns [] checks long = sym (xor_zero_l (syndrome_of columns checks))
+syndrome_of-append [] columns [] checks long = sym (xor_zero_l _)
 syndrome_of-append (first ∷ rows) columns (bit ∷ info) checks long =
-    ap (bit_xor (cond bit first 0)) (syndrome_of-append rows columns info checks (omega arith))
-    ∙ sym (xor_assoc (cond bit first 0) (syndrome_of rows info) (syndrome_of columns checks))
+    cc (syndrome_of-append rows columns info checks (omega arith), xor_assoc (cond bit first 0) (syndrome_of rows info) _)
 syndrome_of-append rows columns info checks long = absurd (omega arith)
 
 -- a bit above a number of lower bits
 pub above : (bit : Bool) (k low : ℕ) → low < 2 ^ k → bit_xor (cond bit (2 ^ k) 0) low ≡ digit_of bit * 2 ^ k + low
 above true k low h =
-    let left : 2 ^ k ≡ 1 * 2 ^ k + 0 = omega arith in
     let right : low ≡ 0 * 2 ^ k + low = omega arith in
-    ap₂ bit_xor left right ∙ xor_block k 1 0 0 low (pow_pos k) h ∙ ap₂ (λ m n. m * 2 ^ k + n) (xor_zero_r 1) (xor_zero_l low)
+    ap₂ bit_xor (omega arith) right ∙ xor_block k 1 0 0 low (pow_pos k) h ∙ ap₂ (λ m n. m * 2 ^ k + n) (xor_zero_r 1) (xor_zero_l low)
 above false k low h = xor_zero_l low ∙ omega arith
 
 pub length-check_columns : (checks : ℕ) → length (check_columns checks) ≡ checks
@@ -53,5 +51,5 @@ unfolding syndrome_of change_of
 change_of-is [] old new long long' = sym (xor_self 0)
 change_of-is (column ∷ columns) (x ∷ old) (y ∷ new) long long' =
     ap₂ bit_xor (differs x y column) (change_of-is columns old new (omega arith) (omega arith))
-    ∙ xor_middle (cond x column 0) (cond y column 0) (syndrome_of columns old) (syndrome_of columns new)
+    ∙ xor_middle _ (cond y column 0) (syndrome_of columns old) (syndrome_of columns new)
 change_of-is (column ∷ columns) old new long long' = absurd (omega arith)

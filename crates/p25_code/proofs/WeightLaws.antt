@@ -1,5 +1,5 @@
 -- Weights of words, sums of words, and a test of all lists of so many bits.
-use Rattle.std.proofs.{Common.{◌≡◌, ℕ, zero, suc, ◌+◌, Bool, true, false, not, eqb, List, [], ◌∷◌, ◌++◌, length, bit_xor, refl, ap, ap₂, ◌∙◌, arith}, lemmas.Bool.{and_parts}}
+use Rattle.std.proofs.{Common.{◌≡◌, ℕ, zero, suc, ◌+◌, Bool, true, false, not, eqb, List, [], ◌∷◌, ◌++◌, length, refl, ap, ap₂, ◌∙◌, arith}, lemmas.Bool.{and_parts}}
 use Rattle.std.proofs.lemmas.Nat.Bits.{bit_at-zero}
 use Rattle.std.specs.Int.Bits.{xor_zero_l}
 use Rattle.p25_bits.specs.{Bits.{digit_of, bits_of}, Distance.{distance_by, distance_of}}
@@ -45,18 +45,18 @@ pub weight_of-sum_of_words : (xs ys : List Bool) → length xs ≡ length ys →
 unfolding sum_of_words weight_of distance_by
 weight_of-sum_of_words [] ys long = refl
 weight_of-sum_of_words (x ∷ xs) [] long = absurd (omega arith)
-weight_of-sum_of_words (true ∷ xs) (true ∷ ys) long = ap (λ n. 0 + n) (weight_of-sum_of_words xs ys (omega arith))
-weight_of-sum_of_words (true ∷ xs) (false ∷ ys) long = ap (λ n. 1 + n) (weight_of-sum_of_words xs ys (omega arith))
-weight_of-sum_of_words (false ∷ xs) (true ∷ ys) long = ap (λ n. 1 + n) (weight_of-sum_of_words xs ys (omega arith))
-weight_of-sum_of_words (false ∷ xs) (false ∷ ys) long = ap (λ n. 0 + n) (weight_of-sum_of_words xs ys (omega arith))
+weight_of-sum_of_words (true ∷ xs) (true ∷ ys) long = rw (weight_of-sum_of_words xs ys (omega arith))
+weight_of-sum_of_words (true ∷ xs) (false ∷ ys) long = rw (weight_of-sum_of_words xs ys (omega arith))
+weight_of-sum_of_words (false ∷ xs) (true ∷ ys) long = rw (weight_of-sum_of_words xs ys (omega arith))
+weight_of-sum_of_words (false ∷ xs) (false ∷ ys) long = rw (weight_of-sum_of_words xs ys (omega arith))
 
 -- so its syndrome is what is changed between them
 pub syndrome_of-sum_of_words : (columns : List ℕ) (xs ys : List Bool) → syndrome_of columns (sum_of_words xs ys) ≡ change_of columns xs ys
 unfolding sum_of_words syndrome_of change_of
-syndrome_of-sum_of_words (column ∷ columns) (true ∷ xs) (true ∷ ys) = ap (bit_xor 0) (syndrome_of-sum_of_words columns xs ys)
-syndrome_of-sum_of_words (column ∷ columns) (true ∷ xs) (false ∷ ys) = ap (bit_xor column) (syndrome_of-sum_of_words columns xs ys)
-syndrome_of-sum_of_words (column ∷ columns) (false ∷ xs) (true ∷ ys) = ap (bit_xor column) (syndrome_of-sum_of_words columns xs ys)
-syndrome_of-sum_of_words (column ∷ columns) (false ∷ xs) (false ∷ ys) = ap (bit_xor 0) (syndrome_of-sum_of_words columns xs ys)
+syndrome_of-sum_of_words (column ∷ columns) (true ∷ xs) (true ∷ ys) = rw (syndrome_of-sum_of_words columns xs ys)
+syndrome_of-sum_of_words (column ∷ columns) (true ∷ xs) (false ∷ ys) = rw (syndrome_of-sum_of_words columns xs ys)
+syndrome_of-sum_of_words (column ∷ columns) (false ∷ xs) (true ∷ ys) = rw (syndrome_of-sum_of_words columns xs ys)
+syndrome_of-sum_of_words (column ∷ columns) (false ∷ xs) (false ∷ ys) = rw (syndrome_of-sum_of_words columns xs ys)
 syndrome_of-sum_of_words columns xs ys = refl
 
 -- a word without weight has no sum

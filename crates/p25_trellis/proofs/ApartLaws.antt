@@ -1,10 +1,10 @@
 -- The distance of paths, and when no path is as near as a given one. By induction on the symbols: the bound of two states is at most the distance of
 -- a step plus the bound of the states after it.
-use Rattle.std.proofs.Common.{◌≡◌, ◌≢◌, ℕ, zero, suc, ◌+◌, ◌*◌, ◌<◌, ◌≤◌, inl, inr, Bool, false, eqb, List, [], ◌∷◌, length, refl, ap, ap₂, sym, subst, ◌∙◌, arith}
+use Rattle.std.proofs.Common.{◌≡◌, ◌≢◌, ℕ, zero, suc, ◌+◌, ◌*◌, ◌<◌, ◌≤◌, inl, inr, Bool, false, eqb, List, [], ◌∷◌, length, refl, ap, ap₂, sym, ◌∙◌, arith}
 use Rattle.std.proofs.lemmas.Bool.{cases_Bool, eqb-true, eq-eqb}
 use Rattle.p25_bits.specs.Distance.{distance_of}
 use Rattle.p25_bits.proofs.{DistanceLaws.{distance_of-sym, distance_of-triangle}, NumbersLaws.{length-number_bits}}
-use Rattle.p25_trellis.specs.{Interleave.{interleaved}, Tables.{nibble_distance}, Trellis.{IsPath, IsBlock, Carries, IsFirstLeastReading, IsNearReading, nibbles_from, sent_bits, distance_from}}
+use Rattle.p25_trellis.specs.{Interleave.{interleaved}, Tables.{nibble_distance}, Trellis.{IsPath, IsBlock, IsFirstLeastReading, IsNearReading, nibbles_from, sent_bits, distance_from}}
 use Rattle.p25_trellis.specs.Least.{IsEnd}
 use Rattle.p25_trellis.proofs.{InterleaveLaws.{weighed, length-interleaved}, PathLaws.{length-nibbles_from, same_octets}, FirstPathLaws.{IsEnd-from_path}, DistanceLaws.{distance_of-interleaved}}
 
@@ -33,7 +33,7 @@ parted-le states point parted some together stays (suc before) a b (x ∷ xs) (y
       arith,
       weighed-nibbles point a b x y xs ys,
       stays a b x y ha hb ends_x.0 ends_y.0,
-      parted-le states point parted some together stays before x y xs ys ends_x.0 ends_y.0 ends_x.1 ends_y.1,
+      parted-le states point parted some together stays before,
     )
 
 -- ends from one state that differ in few bits are one
@@ -62,7 +62,7 @@ same_from_near states apart point parted some together stays parts (suc before) 
             near,
             weighed-nibbles point state state x y xs ys,
             parts state x y row ends_x.0 ends_y.0 (λ same. differs same two),
-            parted-le states point parted some together stays before x y xs ys ends_x.0 ends_y.0 ends_x.1 ends_y.1,
+            parted-le states point parted some together stays before,
           )
           )
     ]
@@ -75,7 +75,7 @@ pub length-sent_bits : (states : ℕ) (point : ℕ → ℕ → ℕ) (path : List
 unfolding sent_bits
 length-sent_bits states point path is =
     let nibbles = nibbles_from point 0 path in
-    length-number_bits 4 (interleaved nibbles) ∙ ap (λ n. 4 * n) (length-interleaved nibbles ∙ length-nibbles_from point 0 path ∙ is.long)
+    cc (length-number_bits 4 (interleaved nibbles), length-interleaved nibbles, length-nibbles_from point 0 path, is.long)
 
 -- paths whose sent bits differ in few places are one
 pub same_from_sent_bits : (states apart : ℕ) (point parted : ℕ → ℕ → ℕ) → 0 < states → parted 0 0 ≡ 0
@@ -103,27 +103,25 @@ IsNearReading-from states width apart point received octets distance far long re
     one_path : (sent : List ℕ) (block : List Bool) (is : IsBlock states width point sent block) → 2 * distance_of block received < apart → is.path ≡ reading.path
     one_path sent block is near =
         let first = reading.first_least in
-        let here : distance_of (sent_bits point is.path) received ≡ distance_of block received = ap (λ (bits : List Bool). distance_of bits received) (sym is.sent) in
-        let count : length (sent_bits point is.path) ≡ length received = length-sent_bits states point is.path is.is_path ∙ sym long in
         far is.path reading.path is.is_path first.is_path
         (
         omega (
           arith,
           near,
-          here,
+          (ap (λ (bits : List Bool). distance_of bits received) (sym is.sent)),
           first.least is.path is.is_path,
-          distance_of-triangle (sent_bits point is.path) received (sent_bits point reading.path) count,
+          distance_of-triangle (sent_bits point is.path) received (sent_bits point reading.path) (length-sent_bits states point is.path is.is_path ∙ sym long),
           distance_of-sym received (sent_bits point reading.path),
         )
         )
 
     octets_of_near : (sent : List ℕ) (block : List Bool) → IsBlock states width point sent block → 2 * distance_of block received < apart → octets ≡ sent
     octets_of_near sent block is near =
-        same_octets width reading.path octets sent reading.carries (subst (λ (path : List ℕ). Carries width path sent) (one_path sent block is near) is.carries)
+        same_octets width reading.path octets sent reading.carries (rw (one_path sent block is near) at is.carries)
 
     distance_of_near : (sent : List ℕ) (block : List Bool) → IsBlock states width point sent block → 2 * distance_of block received < apart → distance ≡ distance_of block received
     distance_of_near sent block is near =
-        reading.total_is ∙ ap (distance_from point received) (sym (one_path sent block is near)) ∙ ap (λ (bits : List Bool). distance_of bits received) (sym is.sent)
+        cc (reading.total_is, one_path sent block is near, is.sent)
 
 -- a block has 196 bits
 pub length-block : (states width : ℕ) (point : ℕ → ℕ → ℕ) (octets : List ℕ) (block : List Bool) → IsBlock states width point octets block → length block ≡ 196

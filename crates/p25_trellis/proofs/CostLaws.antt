@@ -1,46 +1,15 @@
 -- The least cost after a state, from the last step to the first: the least over its symbols of the cost of the step and its rest.
 use Rattle.std.proofs.Common.{◌≡◌, ◌≢◌, ℕ, zero, suc, ◌+◌, ◌*◌, ◌<◌, ◌≤◌, inl, inr, List, [], ◌∷◌, length, get_or, set, refl, ap, ap₂, sym, subst, ◌∙◌, arith, All, below_more, get_or-set_same, get_or-set_other, ◌-◌, ◌^◌, add-one}
 use Rattle.std.proofs.{Math.Nat.{mul-suc, mul-le-mul_left}, lemmas.Bool.{cases_lt}, lemmas.List.{get_or_past}}
+use Rattle.p25_bits.specs.Least.{IsLowestLeast}
 use Rattle.p25_trellis.proofs.PathLaws.{length-nibbles_from}
-use Rattle.p25_trellis.specs.{Trellis.{nibbles_from}, Costs.{total_cost, symbols_cost, cost_in}, Least.{rest_in, step_cost, IsEnd, IsLeastEnd, HasLeastFrom, IsLowestLeast}}
-
--- the first symbol is the lowest least of one
-pub IsLowestLeast-one : (value : ℕ → ℕ) (least : ℕ) → least ≡ value 0 → IsLowestLeast 1 value 0 least
-IsLowestLeast-one value least is = record {
-  below = omega arith;
-  is = sym is;
-  none_less = λ other below. first other below;
-  lowest = λ other below. absurd (omega arith);
-}
-  where
-    first : (other : ℕ) → other < 1 → least ≤ value other
-    first zero below = omega arith
-    first (suc other) below = absurd (omega arith)
-
--- a symbol that costs less than all before it is the lowest least with it
-pub IsLowestLeast-less : (states : ℕ) (value : ℕ → ℕ) (symbol least new : ℕ) → IsLowestLeast states value symbol least → new ≡ value states → new < least → IsLowestLeast (states + 1) value states new
-IsLowestLeast-less states value symbol least new was is less = record {
-  below = omega arith;
-  is = sym is;
-  none_less = below_more (λ k. new ≤ value k) states (λ k below. omega (arith, was.none_less k below)) (omega arith);
-  lowest = λ other below. omega (arith, was.none_less other below);
-}
-
--- and else the lowest least stays
-pub IsLowestLeast-kept : (states : ℕ) (value : ℕ → ℕ) (symbol least new : ℕ)
-    → IsLowestLeast states value symbol least → new ≡ value states → least ≤ new → IsLowestLeast (states + 1) value symbol least
-IsLowestLeast-kept states value symbol least new was is more = record {
-  below = omega (arith, was.below);
-  is = was.is;
-  none_less = below_more (λ k. least ≤ value k) states was.none_less (omega arith);
-  lowest = was.lowest;
-}
+use Rattle.p25_trellis.specs.{Trellis.{nibbles_from}, Costs.{total_cost, symbols_cost, cost_in}, Least.{rest_in, step_cost, IsEnd, IsLeastEnd, HasLeastFrom}}
 
 -- costs of nibbles are at most so many times the limit
 pub total_cost-le : (cost : ℕ → ℕ → ℕ) (limit step : ℕ) (nibbles : List ℕ) → ((i n : ℕ) → cost i n ≤ limit) → total_cost cost step nibbles ≤ limit * length nibbles
 unfolding total_cost
 total_cost-le cost limit step [] low = omega arith
-total_cost-le cost limit step (nibble ∷ nibbles) low = omega (arith, low step nibble, total_cost-le cost limit (suc step) nibbles low, mul-suc limit (length nibbles))
+total_cost-le cost limit step (nibble ∷ nibbles) low = omega (arith, low, total_cost-le cost limit (suc step) nibbles low, mul-suc limit)
 
 -- a cost in a table is at most the limit of its numbers
 pub cost_in-le : (table : List ℕ) (limit step nibble : ℕ) → All (λ cost. cost ≤ limit) table → cost_in table step nibble ≤ limit
@@ -87,16 +56,15 @@ IsLeastEnd-step states point cost rests step before state symbol least after pla
     let rest = after.at (suc step) before symbol (omega arith) (omega arith) choice.below in record {
       end = symbol ∷ rest.end;
       is_end = (choice.below, rest.is_end);
-      costs = symbols_cost-cons point cost step state symbol rest.end ∙ ap (λ n. cost step (point state symbol) + n) rest.costs ∙ choice.is;
+      costs = cc (symbols_cost-cons point cost step state symbol rest.end, rest.costs, choice.is);
       none_less = no_end;
     }
   where
     no_end : (other : List ℕ) → IsEnd states (suc before) other → least ≤ symbols_cost point cost step state other
     no_end [] is = absurd is
     no_end (y ∷ ys) is =
-        let next : suc step + before ≡ 48 = omega arith in
-        let rest = after.at (suc step) before y (omega arith) next is.0 in
-        omega (arith, choice.none_less y is.0, rest.none_less ys is.1, symbols_cost-cons point cost step state y ys)
+        let rest = after.at (suc step) before y (omega arith) (omega arith) is.0 in
+        omega (arith, choice.none_less, rest.none_less, symbols_cost-cons point)
 
 -- the costs of a table with small costs have small sums
 pub least-le : (states before step state least : ℕ) (point cost : ℕ → ℕ → ℕ) (limit : ℕ)
@@ -106,7 +74,7 @@ least-le states before step state least point cost limit low is =
     omega (
       arith,
       is.costs,
-      total_cost-le cost limit step (nibbles_from point state is.end) low,
+      total_cost-le cost limit,
       ap (λ n. limit * n) (length-nibbles_from point state is.end ∙ length-end states before is.end is.is_end),
     )
 
@@ -114,17 +82,15 @@ pub rest-le : (states : ℕ) (point cost : ℕ → ℕ → ℕ) (rests : List �
     → HasLeastFrom states point cost rests (suc step) → step < 48 → symbol < states → rest_in rests (suc step) symbol ≤ limit * 48
 rest-le states point cost rests limit step symbol low after early below =
     let before = 47 - step in
-    let place : suc step + before ≡ 48 = omega arith in
-    let rest = least-le states before (suc step) symbol (rest_in rests (suc step) symbol) point cost limit low (after.at (suc step) before symbol (omega arith) place below) in
     let short : suc before ≤ 48 = omega arith in
-    omega (arith, rest, mul-le-mul_left limit short)
+    omega (arith, (least-le states before (suc step) symbol (rest_in rests (suc step) symbol) point cost limit low (after.at (suc step) before symbol (omega arith) (omega arith) below)), mul-le-mul_left limit short)
 
 pub step_cost-lt : (states : ℕ) (point : ℕ → ℕ → ℕ) (costs rests : List ℕ) (step state symbol : ℕ) → All (λ cost. cost ≤ 2 ^ 24) costs
     → HasLeastFrom states point (cost_in costs) rests (suc step) → step < 48 → symbol < states → step_cost point (cost_in costs) rests step state symbol < 2 ^ 32
 unfolding step_cost
 step_cost-lt states point costs rests step state symbol low after early below =
-    let each : (i n : ℕ) → cost_in costs i n ≤ 2 ^ 24 = λ i n. cost_in-le costs (2 ^ 24) i n low in
-    omega (arith, each step (point state symbol), rest-le states point (cost_in costs) rests (2 ^ 24) step symbol each after early below)
+    let each : (i n : ℕ) → cost_in costs i n ≤ 2 ^ 24 = λ i n. cost_in-le costs _ i n low in
+    omega (arith, each, rest-le states point (cost_in costs) rests (2 ^ 24))
 
 -- the sum of what two tables have is the cost of the step
 pub step_cost-sum : (point : ℕ → ℕ → ℕ) (costs rests : List ℕ) (step state symbol nibble column : ℕ) → nibble ≡ point state symbol → column ≡ symbol
@@ -138,10 +104,9 @@ pub last_more : (rests : List ℕ) (state column value : ℕ) (wanted : ℕ → 
     → ((s : ℕ) → s < state → rest_in rests 48 s ≡ wanted s) → (s : ℕ) → s < state + 1 → rest_in (set rests (384 + column) value) 48 s ≡ wanted s
 unfolding rest_in
 last_more rests state column value wanted row long same is so_far =
-    let inside : 384 + column < length rests = omega arith in
-    below_more (λ s. get_or (set rests (384 + column) value) (384 + s) 0 ≡ wanted s) state
-    (λ s below. let other : 384 + s ≢ 384 + column = omega arith in get_or-set_other rests (384 + column) (384 + s) value 0 other ∙ so_far s below)
-    (cc (same, get_or-set_same rests (384 + column) value 0 inside, is))
+    below_more _ state
+    (λ s below. get_or-set_other rests _ _ value 0 (omega arith) ∙ so_far s below)
+    (cc (same, get_or-set_same rests (384 + column) value 0 (omega arith), is))
 
 -- the cost of a nibble at the last step, as it is read
 pub cost_in-last : (costs : List ℕ) (nibble point : ℕ) → nibble ≡ point → get_or costs (768 + nibble) 0 ≡ cost_in costs 48 point
@@ -156,10 +121,7 @@ HasLeastFrom-last states point cost rests last = record { at = at_last }
     at_last step (suc before) state late place row = absurd (omega arith)
     at_last step zero state late place row =
         let at_end : 48 ≡ step = omega arith in
-        let value : rest_in rests step state ≡ cost step (point state 0)
-        = subst (λ (i : ℕ). rest_in rests i state ≡ cost i (point state 0)) at_end (last state row) in
-        let whole : symbols_cost point cost step state (0 ∷ []) ≡ rest_in rests step state
-        = symbols_cost-last point cost step state ∙ sym value in record {
+        let whole = symbols_cost-last point cost step state ∙ sym (rw at_end at (last state row)) in record {
           end = 0 ∷ [];
           is_end = refl;
           costs = whole;
@@ -189,18 +151,13 @@ here_more states point cost rests step state column value few below early long s
   where
     earlier : (t : ℕ) → t < state → IsLeastEnd states before (symbols_cost point cost step t) (rest_in (set rests (8 * step + column) value) step t)
     earlier t lower =
-        let other : 8 * step + t ≢ 8 * step + column = omega arith in
-        subst
-        (λ (least : ℕ). IsLeastEnd states before (symbols_cost point cost step t) least)
-        (sym (rest_in-other rests step column step t value (omega arith) (omega arith) other))
-        (so_far before t place lower)
+        rw (rest_in-other rests step column step t value (omega arith) (omega arith) (omega arith)) (so_far before t place lower)
 
     here : IsLeastEnd states before (symbols_cost point cost step state) (rest_in (set rests (8 * step + column) value) step state)
     here =
-        let inside : 8 * step + column < length rests = omega arith in
         subst
         (λ (least : ℕ). IsLeastEnd states before (symbols_cost point cost step state) least)
-        (sym (ap (λ n. rest_in (set rests (8 * step + column) value) step n) (sym same) ∙ rest_in-same rests step column value inside))
+        (sym (ap (λ n. rest_in (set rests (8 * step + column) value) step n) (sym same) ∙ rest_in-same rests step column value (omega arith)))
         (now before place)
 
 -- all states of a step are filled in

@@ -2,7 +2,7 @@
 use Rattle.std.proofs.{Common.{◌≡◌, ℕ, suc, ◌+◌, ◌<◌, ◌≤◌, Bool, List, [], ◌∷◌, length, drop, get_or, refl, ap₂, sym, ◌∙◌, arith, All}, lemmas.List.{drop_more}}
 use Rattle.std.proofs.lemmas.List.Elements.{All-cons, All-nil, All-head, All-tail}
 use Rattle.std.specs.Bool.{beq}
-use Rattle.p25_bits.specs.{Bits.{bits_of}, Distance.{distance_of}, Numbers.{number_bits}}
+use Rattle.p25_bits.specs.{Distance.{distance_of}, Numbers.{number_bits}}
 use Rattle.p25_bits.proofs.{BitsLaws.{length-bits_of}, DistanceLaws.{distance_by-append, distance_by-nil, distance_by-le}}
 use Rattle.p25_trellis.specs.{Interleave.{interleaved}, Tables.{nibble_distance}, Trellis.{nibbles_from, sent_bits, distance_from, IsPath, IsFirstLeastReading}}
 use Rattle.p25_trellis.specs.Costs.{total_cost, symbols_cost, path_cost, received_cost}
@@ -11,29 +11,29 @@ use Rattle.p25_trellis.proofs.{InterleaveLaws.{weighed, weighed-interleaved, len
 -- two nibbles differ in at most four bits
 pub nibble_distance-le : (a b : ℕ) → nibble_distance a b ≤ 4
 unfolding nibble_distance
-nibble_distance-le a b = omega (arith, distance_by-le beq (bits_of 4 a) (bits_of 4 b), length-bits_of 4 a)
+nibble_distance-le a b = omega (arith, distance_by-le, length-bits_of)
 
 -- bits of nibbles differ as the nibbles do
 distance_of-nibbles : (xs ys : List ℕ) → length xs ≡ length ys → distance_of (number_bits 4 xs) (number_bits 4 ys) ≡ weighed nibble_distance xs ys
 unfolding number_bits weighed nibble_distance
 distance_of-nibbles [] [] long = distance_by-nil beq []
 distance_of-nibbles (x ∷ xs) (y ∷ ys) long =
-    cc (distance_by-append beq (bits_of 4 x) (number_bits 4 xs) (bits_of 4 y) (number_bits 4 ys) (length-bits_of 4 x ∙ sym (length-bits_of 4 y)), distance_of-nibbles xs ys (omega arith))
+    cc (distance_by-append beq _ _ _ _ (length-bits_of 4 x ∙ sym (length-bits_of 4 y)), distance_of-nibbles xs ys (omega arith))
 distance_of-nibbles xs ys long = absurd (omega arith)
 
 -- and so do interleaved ones
 pub distance_of-interleaved : (xs ys : List ℕ) → length xs ≡ length ys → distance_of (number_bits 4 (interleaved xs)) (number_bits 4 (interleaved ys)) ≡ weighed nibble_distance xs ys
 distance_of-interleaved xs ys long =
-    distance_of-nibbles (interleaved xs) (interleaved ys) (simp (length-interleaved, long)) ∙ weighed-interleaved nibble_distance xs ys long
+    distance_of-nibbles _ _ (simp (length-interleaved, long)) ∙ weighed-interleaved nibble_distance xs ys long
 
 -- the nibbles of small symbols are small
 pub All-nibbles_from : (states : ℕ) (point : ℕ → ℕ → ℕ) → ((state symbol : ℕ) → state < states → symbol < states → point state symbol < 16)
     → (state : ℕ) (path : List ℕ) → state < states → All (λ n. n < states) path → All (λ n. n < 16) (nibbles_from point state path)
 unfolding nibbles_from
-All-nibbles_from states point small state [] row all = All-nil (λ n. n < 16)
+All-nibbles_from states point small state [] row all = All-nil _
 All-nibbles_from states point small state (symbol ∷ path) row all =
     let P : ℕ → Type 0 = λ n. n < states in
-    let here : symbol < states = All-head P symbol path all in
+    let here = All-head P symbol path all in
     All-cons (λ n. n < 16) (point state symbol) (nibbles_from point symbol path) (small state symbol row here) (All-nibbles_from states point small symbol path here (All-tail P symbol path all))
 
 -- what stands first weighs against what was received at its step
@@ -64,10 +64,9 @@ pub path_cost-distance : (states : ℕ) (point : ℕ → ℕ → ℕ) (received 
 unfolding symbols_cost sent_bits received_cost
 path_cost-distance states point received bits some small long are path is =
     let nibbles = nibbles_from point 0 path in
-    let count : length nibbles ≡ 49 = length-nibbles_from point 0 path ∙ is.long in
-    let whole : 0 + length nibbles ≡ 49 = omega arith in
+    let count = length-nibbles_from point 0 path ∙ is.long in
     cc (
-      total_cost-weighed nibble_distance received 0 (received_cost received) (λ step nibble early low. refl) long 0 nibbles whole (All-nibbles_from states point small 0 path some is.below),
+      total_cost-weighed nibble_distance received 0 _ (λ step nibble early low. refl) long 0 nibbles (omega arith) (All-nibbles_from states point small 0 path some is.below),
       distance_of-interleaved nibbles received (count ∙ sym long),
       are,
     )

@@ -1,6 +1,6 @@
 -- A path whose transmitted bits are exactly the received ones is the first nearest. No distance is less than 0, and any other path at distance 0 has
 -- the same transmitted bits, so it is this one.
-use Rattle.std.proofs.Common.{◌≡◌, ℕ, ◌+◌, ◌<◌, inr, Bool, List, [], ◌∷◌, ◌++◌, length, take, drop, set, get_or, refl, ap, subst, ◌∙◌, arith, append_assoc, ◌≤◌}
+use Rattle.std.proofs.Common.{◌≡◌, ℕ, ◌+◌, ◌<◌, inr, Bool, List, [], ◌∷◌, ◌++◌, length, take, drop, set, get_or, refl, ap, subst, ◌∙◌, arith, append_assoc}
 use Rattle.std.proofs.lemmas.List.{take_all, take_more, take_more_set, take-append-drop}
 use Rattle.p25_bits.specs.Distance.{distance_of}
 use Rattle.p25_bits.proofs.DistanceLaws.{distance_of-same, distance_of-sym}
@@ -21,14 +21,13 @@ IsFirstLeast-exact states apart point received path some far is sends =
       is_path = is;
       least = λ other other_is. omega (arith, zero);
       first = λ other other_is equal.
-          let same = far path other is other_is (omega (
+          subst (IsNotAfter path) (far path other is other_is (omega (
             arith,
-            ap (λ (bits : List Bool). distance_of bits (sent_bits point other)) sends ∙ distance_of-sym received (sent_bits point other),
+            ap (λ bits. distance_of bits (sent_bits point other)) sends ∙ distance_of-sym received (sent_bits point other),
             equal,
             zero,
             some,
-          )) in
-          subst (IsNotAfter path) same (not_after-same path);
+          ))) (not_after-same path);
     }
 
 -- a path that sends nibbles as far as it goes, whatever follows, sends one more by the symbol whose point is the next nibble
@@ -50,7 +49,4 @@ sends_more point nibbles path step state symbol inside there sends so_far rest =
 pub sends_all : (point : ℕ → ℕ → ℕ) (nibbles path : List ℕ) (step state : ℕ) → step ≡ 48 → length nibbles ≡ 49 → drop 48 path ≡ 0 ∷ [] → point state 0 ≡ get_or nibbles 48 0
     → ((rest : List ℕ) → nibbles_from point 0 (take step path ++ rest) ≡ take step nibbles ++ nibbles_from point state rest) → nibbles_from point 0 path ≡ nibbles
 sends_all point nibbles path step state done long last sends so_far =
-    let at_end = simp done at so_far in
-    let there : 48 < length nibbles = omega (arith, long) in
-    let all : length nibbles ≤ 48 + 1 = omega (arith, long) in
-    cc (take-append-drop 48 path, last, at_end (0 ∷ []), nibbles_from-cons point state 0 [], sends, nibbles_from-nil point 0, take_more nibbles 48 0 there, take_all (48 + 1) nibbles all)
+    cc (take-append-drop 48 path, last, (simp done at so_far) (0 ∷ []), nibbles_from-cons point state 0 [], sends, nibbles_from-nil point 0, take_more nibbles 48 0 (omega (arith, long)), take_all (48 + 1) nibbles (omega (arith, long)))

@@ -1,8 +1,9 @@
 -- The first least path, from the first step to the last: the lowest of the symbols that cost least comes before the first least end after it.
 use Rattle.std.proofs.Common.{◌≡◌, ℕ, zero, suc, ◌+◌, ◌<◌, ◌≤◌, inl, inr, List, [], ◌∷◌, ◌++◌, length, take, drop, set, refl, ap, ap₂, sym, subst, ◌∙◌, arith, append_assoc, All}
 use Rattle.std.proofs.{lemmas.Bool.{cases_lt}, lemmas.List.{take_more_set}, lemmas.List.Elements.{All-cons, All-nil, All-head, All-tail, All-same}}
+use Rattle.p25_bits.specs.Least.{IsLowestLeast}
 use Rattle.p25_trellis.specs.{Trellis.{IsPath, IsNotAfter, IsFirstLeast, IsFirstLeastReading}, Costs.{symbols_cost}}
-use Rattle.p25_trellis.specs.Least.{rest_in, step_cost, IsEnd, IsLeastEnd, HasLeastFrom, IsLowestLeast}
+use Rattle.p25_trellis.specs.Least.{rest_in, step_cost, IsEnd, IsLeastEnd, HasLeastFrom}
 use Rattle.p25_trellis.proofs.{PathLaws.{same_octets}, CostLaws.{symbols_cost-cons, length-end, HasLeastFrom-later}}
 
 -- the first of the ends that cost least from a state and step on
@@ -24,7 +25,7 @@ least_is : (states : ℕ) (point cost : ℕ → ℕ → ℕ) (rests : List ℕ) 
     → IsLeastEnd states before (symbols_cost point cost step state) (rest_in rests step state)
     → IsFirstLeastEnd states before (symbols_cost point cost step state) end
     → symbols_cost point cost step state end ≡ rest_in rests step state
-least_is states point cost rests step before state end rest first = omega (arith, first.least rest.end rest.is_end, rest.costs, rest.none_less end first.is_end)
+least_is states point cost rests step before state end rest first = omega (arith, first.least, rest.costs, rest.none_less)
 
 -- the lowest of the symbols that cost least goes before the first least end after it
 pub IsFirstLeastEnd-cons : (states : ℕ) (point cost : ℕ → ℕ → ℕ) (rests : List ℕ) (step before state symbol least : ℕ) (end : List ℕ)
@@ -52,7 +53,7 @@ IsFirstLeastEnd-cons states point cost rests step before state symbol least end 
 
     no_less : (other : List ℕ) → IsEnd states (suc before) other → symbols_cost point cost step state (symbol ∷ end) ≤ symbols_cost point cost step state other
     no_less [] is = absurd is
-    no_less (y ∷ ys) is = omega (arith, total, choice.none_less y is.0, (there y is.0).none_less ys is.1, symbols_cost-cons point cost step state y ys)
+    no_less (y ∷ ys) is = omega (arith, total, choice.none_less, (there y is.0).none_less ys is.1, symbols_cost-cons point)
 
     first_of_all : (other : List ℕ) → IsEnd states (suc before) other → symbols_cost point cost step state other ≡ symbols_cost point cost step state (symbol ∷ end) → IsNotAfter (symbol ∷ end) other
     first_of_all [] is same = absurd is
@@ -91,7 +92,7 @@ drop-end states (suc before) [] is = absurd is
 drop-end states (suc before) (symbol ∷ path) is = drop-end states before path is.1
 
 All-end : (states before : ℕ) (path : List ℕ) → 0 < states → IsEnd states before path → All (λ n. n < states) path
-All-end states zero path some is = let P : ℕ → Type 0 = λ n. n < states in All-same P path (0 ∷ []) is (All-cons P 0 [] some (All-nil P))
+All-end states zero path some is = let P : ℕ → Type 0 = λ n. n < states in All-same P path _ is (All-cons P 0 [] some (All-nil P))
 All-end states (suc before) [] some is = absurd is
 All-end states (suc before) (symbol ∷ path) some is = All-cons (λ n. n < states) symbol path is.0 (All-end states before path some is.1)
 
@@ -131,11 +132,9 @@ completes_more states point cost rests path step state symbol least has early lo
     let inside : step < length path = omega arith in
     let there : step + suc before ≡ 48 = omega arith in
     let more : step + 1 ≡ suc step = omega arith in
-    let next = simp more at rest in
-    let whole = so_far (suc before)
+    simp (append_assoc, take_more_set) (so_far (suc before)
     (symbol ∷ end) there (IsFirstLeastEnd-cons states point cost rests step before state symbol least end (HasLeastFrom-later states point cost rests 0 (suc step)
-    (omega arith) has) there choice next) in
-    simp (append_assoc, take_more_set) whole
+    (omega arith) has) there choice (simp more at rest)))
 
 -- two lists of which neither is after the other are one
 IsNotAfter-antisym : (xs ys : List ℕ) → IsNotAfter xs ys → IsNotAfter ys xs → xs ≡ ys
@@ -153,7 +152,7 @@ IsNotAfter-antisym (x ∷ xs) (y ∷ ys) one two = elim one [
 -- there is one first least path
 pub same_first_least : (states : ℕ) (cost : List ℕ → ℕ) (path other : List ℕ) → IsFirstLeast states cost path → IsFirstLeast states cost other → path ≡ other
 same_first_least states cost path other one two =
-    let equal : cost other ≡ cost path = omega (arith, one.least other two.is_path, two.least path one.is_path) in
+    let equal : cost other ≡ cost path = omega (arith, one.least, two.least) in
     IsNotAfter-antisym path other (one.first other two.is_path equal) (two.first path one.is_path (sym equal))
 
 -- there is one reading

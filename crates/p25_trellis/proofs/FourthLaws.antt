@@ -31,7 +31,7 @@ pub each_fourth-set_other : {X : Type 0} (wait : ℕ) (xs : List X) (i : ℕ) (x
 unfolding each_fourth
 each_fourth-set_other wait [] i x apart = refl
 each_fourth-set_other zero (y ∷ ys) zero x apart = absurd (apart 0 refl)
-each_fourth-set_other zero (y ∷ ys) (suc i) x apart = cc (each_fourth-set_other 3 ys i x (λ k same. apart (suc k) (ap suc same ∙ sym (four_more k))))
+each_fourth-set_other zero (y ∷ ys) (suc i) x apart = cc (each_fourth-set_other 3 ys i x (λ k same. apart _ (ap suc same ∙ sym (four_more k))))
 each_fourth-set_other (suc wait) (y ∷ ys) zero x apart = refl
 each_fourth-set_other (suc wait) (y ∷ ys) (suc i) x apart = each_fourth-set_other wait ys i x (λ k same. apart k (simp (same, one_more)))
 
@@ -45,10 +45,10 @@ length-fourths_reach (suc wait) (x ∷ xs) = omega (arith, length-fourths_reach 
 length-fourths_within : {X : Type 0} (wait : ℕ) (xs : List X) → wait < 4 → wait + 4 * length (each_fourth wait xs) < length xs + 4
 unfolding each_fourth
 length-fourths_within wait [] early = omega (arith, early)
-length-fourths_within zero (x ∷ xs) early = omega (arith, length-fourths_within 3 xs (omega arith))
-length-fourths_within (suc wait) (x ∷ xs) early = omega (arith, length-fourths_within wait xs (omega (arith, early)))
+length-fourths_within zero (x ∷ xs) early = omega (arith, length-fourths_within 3 xs)
+length-fourths_within (suc wait) (x ∷ xs) early = omega (arith, length-fourths_within wait xs)
 
 -- so of 49 elements these many
 pub length-fourths_of_49 : {X : Type 0} (wait count : ℕ) (xs : List X) → wait < 4 → length xs ≡ 49 → wait + 4 * count ≤ 52 → 49 ≤ wait + 4 * count
     → length (each_fourth wait xs) ≡ count
-length-fourths_of_49 wait count xs early long there all = omega (arith, long, there, all, length-fourths_reach wait xs, length-fourths_within wait xs early)
+length-fourths_of_49 wait count xs early long there all = omega (arith, long, there, all, length-fourths_reach, length-fourths_within)

@@ -8,7 +8,7 @@ use Rattle.p25_bits.proofs.NumbersLaws.{number_bits-append, number_bits-one, len
 
 -- so many for one more
 pub count_more : (width i : ℕ) → width * (i + 1) ≡ width * i + width
-count_more width i = rw add-one (omega (arith, mul-suc width i))
+count_more width i = rw add-one (omega (arith, mul-suc))
 
 -- one number more is joined to those before it
 pub joined_more : (width i whole number : ℕ) (numbers : List ℕ) → i < length numbers → number ≡ get_or numbers i 0 → number < 2 ^ width
@@ -20,7 +20,7 @@ joined_more width i whole number numbers inside is small so_far =
 -- what they are joined to has so many bits
 pub joined_more-lt : (width i whole number : ℕ) → number < 2 ^ width → whole < 2 ^ (width * i) → whole * 2 ^ width + number < 2 ^ (width * (i + 1))
 joined_more-lt width i whole number small fits =
-    omega (arith, ap (λ n. 2 ^ n) (count_more width i), pow-add 2 (width * i) width, mul-le-mul_right (2 ^ width) fits)
+    omega (arith, ap (λ n. 2 ^ n) (count_more width i), pow-add 2, mul-le-mul_right (2 ^ width) fits)
 
 -- few numbers have few bits
 pub joined-lt : (width i count most whole : ℕ) → i ≤ count → width * count ≤ most → whole < 2 ^ (width * i) → whole < 2 ^ most
@@ -32,15 +32,13 @@ joined-lt width i count most whole inside few fits =
 pub moved_up : (width i count whole : ℕ) → i < count → width * count ≤ 64 → whole < 2 ^ (width * i) → whole * 2 ^ width % 2 ^ 64 ≡ whole * 2 ^ width
 moved_up width i count whole inside few fits =
     let more : i + 1 ≤ count = omega arith in
-    let short : width * i + width ≤ 64 = omega (arith, few, count_more width i, mul-le-mul_left width more) in
-    shl_whole whole (width * i) width 64 fits short
+    shl_whole whole _ width 64 fits (omega (arith, few, count_more, mul-le-mul_left width more))
 
 -- the bits before a place, at it and after it
 split_at : (width k count : ℕ) → k < count → width * count ≡ width * k + width + width * (count - 1 - k)
 split_at width k count early =
-    let whole : count ≡ k + 1 + (count - 1 - k) = omega arith in
     let split : (rest : ℕ) → count ≡ k + 1 + rest → width * count ≡ width * k + width + width * rest = λ rest is. omega (arith, ap (λ n. width * n) is) in
-    split (count - 1 - k) whole
+    split (count - 1 - k) (omega arith)
 
 -- a number at its place in the low bits of another
 apart_at : (width count whole k : ℕ) → k < count → get_or (numbers_from width count (bits_of (width * count) whole)) k 0 ≡ whole / 2 ^ (width * (count - 1 - k)) % 2 ^ width
@@ -67,7 +65,7 @@ pub groups_more : (width count g : ℕ) (bits : List Bool) (numbers group : List
     → take (count * (g + 1)) (put_mid (count * g) (count * g + count - count * g) numbers group) ≡ numbers_from width (count * (g + 1)) bits
 groups_more width count g bits numbers group there read so_far =
     let long : length group ≡ count = simp (read, length-numbers_from) in
-    let next : count * (g + 1) ≡ count * g + length group = omega (arith, count_more count g, long) in
+    let next : count * (g + 1) ≡ count * g + length group = omega (arith, count_more, long) in
     rw (take-put_mid, so_far, read, ← numbers_from-add, ← count_more)
 
 -- a group that is written as numbers of another width

@@ -1,6 +1,6 @@
 -- Laws of the interleaver: a sum over the positions of lists is a sum over their fourth elements, and its order is a table, which computed tests
 -- compare.
-use Rattle.std.proofs.Common.{◌≡◌, ◌≢◌, ℕ, zero, suc, ◌+◌, ◌<◌, ◌≤◌, ◌||◌, Bool, true, false, not, cond, eqb, ltb, List, [], ◌∷◌, ◌++◌, map, length, get_or, set, take, drop, refl, sym, ◌∙◌, arith, length-append, below_more, get_or-set_same, get_or-set_other, All}
+use Rattle.std.proofs.Common.{◌≡◌, ◌≢◌, ℕ, zero, suc, ◌+◌, ◌<◌, ◌≤◌, ◌||◌, Bool, true, false, not, cond, eqb, ltb, List, [], ◌∷◌, ◌++◌, map, length, get_or, set, take, refl, sym, ◌∙◌, arith, length-append, below_more, get_or-set_same, get_or-set_other, All}
 use Rattle.std.proofs.{lemmas.List.Elements.{All-cons, All-head, All-tail, All-append, All-same, All-take, All-drop}, lemmas.Bool.{eqb-true, ltb-true, eq-eqb}}
 use Rattle.std.proofs.{lemmas.List.{take_all, take_at, drop_at, map-append, get_or-map}, lemmas.List.FromFn.{fill_by_all}}
 use Rattle.std.specs.List.{range_with_len}
@@ -51,13 +51,13 @@ weighed-fourths : {X Y : Type 0} (weight : X → Y → ℕ) (xs : List X) (ys : 
     ≡ weighed weight xs ys
 unfolding each_fourth weighed
 weighed-fourths weight [] [] long = refl
-weighed-fourths weight (x ∷ xs) (y ∷ ys) long = omega (arith, weighed-fourths weight xs ys (omega arith))
+weighed-fourths weight (x ∷ xs) (y ∷ ys) long = omega (arith, weighed-fourths weight xs ys)
 weighed-fourths weight xs ys long = absurd (omega arith)
 
 weighed-append : {X Y : Type 0} (weight : X → Y → ℕ) (xs ys : List X) (us vs : List Y) → length xs ≡ length us → weighed weight (xs ++ ys) (us ++ vs) ≡ weighed weight xs us + weighed weight ys vs
 unfolding weighed
 weighed-append weight [] ys [] vs long = omega arith
-weighed-append weight (x ∷ xs) ys (u ∷ us) vs long = omega (arith, weighed-append weight xs ys us vs (omega arith))
+weighed-append weight (x ∷ xs) ys (u ∷ us) vs long = omega (arith, weighed-append weight xs ys us)
 weighed-append weight xs ys us vs long = absurd (omega arith)
 
 -- interleaved lists weigh as much against each other as the lists
@@ -69,9 +69,9 @@ weighed-interleaved weight xs ys long =
     let e2 = length-each_fourth 2 xs ys long in
     cc (
       weighed-append weight (each_fourth 0 xs ++ each_fourth 1 xs ++ each_fourth 2 xs)
-          (each_fourth 3 xs) (each_fourth 0 ys ++ each_fourth 1 ys ++ each_fourth 2 ys) (each_fourth 3 ys) (simp length-append (cc)),
-      weighed-append weight (each_fourth 0 xs ++ each_fourth 1 xs) (each_fourth 2 xs) (each_fourth 0 ys ++ each_fourth 1 ys) (each_fourth 2 ys) (simp length-append (cc)),
-      weighed-append weight (each_fourth 0 xs) (each_fourth 1 xs) (each_fourth 0 ys) (each_fourth 1 ys) e0,
+          _ (each_fourth 0 ys ++ each_fourth 1 ys ++ each_fourth 2 ys) _ (simp length-append (cc)),
+      weighed-append weight (each_fourth 0 xs ++ each_fourth 1 xs) _ (each_fourth 0 ys ++ each_fourth 1 ys) _ (simp length-append (cc)),
+      weighed-append weight _ (each_fourth 1 xs) (each_fourth 0 ys) (each_fourth 1 ys) e0,
       weighed-fourths weight xs ys long,
     )
 
@@ -105,9 +105,7 @@ order-interleaved = refl
 pub get_or-interleaved : (xs : List ℕ) (place : ℕ) → length xs ≡ 49 → place < 49 → get_or (interleaved xs) place 0 ≡ get_or xs (get_or SENT_ORDER place 0) 0
 get_or-interleaved xs place long inside =
     let f : ℕ → ℕ = λ i. get_or xs i 0 in
-    let counted : 49 ≡ length SENT_ORDER = refl in
-    let there : place < length SENT_ORDER = omega arith in
-    cc (fill_by_all f xs 49 0 long (λ k h. refl), interleaved-map f (range_with_len 0 49), order-interleaved, get_or-map f SENT_ORDER place 0 0 there)
+    cc (fill_by_all f xs 49 0 long (λ k h. refl), interleaved-map f (range_with_len 0 49), order-interleaved, get_or-map f SENT_ORDER place 0 0 (omega arith))
 
 -- every place of the order is a place
 order_test : passed_below 49 (λ place. ltb (get_or SENT_ORDER place 0) 49) ≡ true
@@ -115,7 +113,7 @@ unfolding passed_below
 order_test = refl
 
 pub order-lt : (place : ℕ) → place < 49 → get_or SENT_ORDER place 0 < 49
-order-lt place inside = ltb-true (get_or SENT_ORDER place 0) 49 (passed_below-at 49 (λ k. ltb (get_or SENT_ORDER k 0) 49) order_test place inside)
+order-lt place inside = ltb-true (get_or SENT_ORDER place 0) 49 (passed_below-at 49 _ order_test place inside)
 
 -- no place stands in the order twice
 differs_test : passed_below 49 (λ place. passed_below 49 (λ other. eqb place other || not (eqb (get_or SENT_ORDER place 0) (get_or SENT_ORDER other 0)))) ≡ true
@@ -124,7 +122,7 @@ differs_test = refl
 
 pub order-differs : (place other : ℕ) → place < 49 → other < 49 → place ≢ other → get_or SENT_ORDER place 0 ≢ get_or SENT_ORDER other 0
 order-differs place other inside there differ same =
-    apart (eqb place other) (eqb (get_or SENT_ORDER place 0) (get_or SENT_ORDER other 0))
+    apart (eqb place other) _
     (passed_below-at 49 _ (passed_below-at 49 _ differs_test place inside) other there)
     (λ e. differ (eqb-true place other e))
     (eq-eqb _ _ same)
@@ -143,41 +141,38 @@ pub written_more : (gathered nibbles : List ℕ) (place : ℕ) → length gather
     → ((k : ℕ) → k < place → get_or gathered (get_or SENT_ORDER k 0) 0 ≡ get_or nibbles k 0) → (k : ℕ) → k < place + 1
     → get_or (set gathered (get_or SENT_ORDER place 0) (get_or nibbles place 0)) (get_or SENT_ORDER k 0) 0 ≡ get_or nibbles k 0
 written_more gathered nibbles place long inside so_far =
-    below_more (λ k. get_or (set gathered (get_or SENT_ORDER place 0) (get_or nibbles place 0)) (get_or SENT_ORDER k 0) 0 ≡ get_or nibbles k 0) place before here
+    below_more (λ k. get_or _ (get_or SENT_ORDER k 0) 0 ≡ get_or nibbles k 0) place before here
   where
     before : (k : ℕ) → k < place → get_or (set gathered (get_or SENT_ORDER place 0) (get_or nibbles place 0)) (get_or SENT_ORDER k 0) 0 ≡ get_or nibbles k 0
     before k h =
-        let other : k ≢ place = omega arith in
-        let below : k < 49 = omega arith in
-        get_or-set_other gathered (get_or SENT_ORDER place 0) (get_or SENT_ORDER k 0) (get_or nibbles place 0) 0 (order-differs k place below inside other)
+        get_or-set_other gathered (get_or SENT_ORDER place 0) (get_or SENT_ORDER k 0) (get_or nibbles place 0) 0 (order-differs k place (omega arith) inside (omega arith))
         ∙ so_far k h
 
     here : get_or (set gathered (get_or SENT_ORDER place 0) (get_or nibbles place 0)) (get_or SENT_ORDER place 0) 0 ≡ get_or nibbles place 0
     here =
-        let there : get_or SENT_ORDER place 0 < length gathered = omega (arith, order-lt place inside) in
-        get_or-set_same gathered (get_or SENT_ORDER place 0) (get_or nibbles place 0) 0 there
+        get_or-set_same gathered (get_or SENT_ORDER place 0) (get_or nibbles place 0) 0 (omega (arith, order-lt place inside))
 
 -- what holds of each element of two lists, one after the other, holds of each of either
 All-front : {X : Type 0} (P : X → Type 0) (xs ys : List X) → All P (xs ++ ys) → All P xs
-All-front P xs ys all = All-same P xs (take (length xs) (xs ++ ys)) (sym (take_at xs ys (length xs) refl)) (All-take P (length xs) (xs ++ ys) all)
+All-front P xs ys all = All-same P xs _ (sym (take_at xs ys _ refl)) (All-take P _ _ all)
 
 All-back : {X : Type 0} (P : X → Type 0) (xs ys : List X) → All P (xs ++ ys) → All P ys
-All-back P xs ys all = All-same P ys (drop (length xs) (xs ++ ys)) (sym (drop_at xs ys (length xs) refl)) (All-drop P (length xs) (xs ++ ys) all)
+All-back P xs ys all = All-same P ys _ (sym (drop_at xs ys _ refl)) (All-drop P _ _ all)
 
 All-each_fourth : {X : Type 0} (P : X → Type 0) (wait : ℕ) (xs : List X) → All P xs → All P (each_fourth wait xs)
 unfolding each_fourth
 All-each_fourth P wait [] all = all
-All-each_fourth P zero (x ∷ xs) all = All-cons P x (each_fourth 3 xs) (All-head P x xs all) (All-each_fourth P 3 xs (All-tail P x xs all))
+All-each_fourth P zero (x ∷ xs) all = All-cons P x _ (All-head P x xs all) (All-each_fourth P 3 xs (All-tail P x xs all))
 All-each_fourth P (suc wait) (x ∷ xs) all = All-each_fourth P wait xs (All-tail P x xs all)
 
 -- what holds of each element holds of each that is sent
 pub All-interleaved : {X : Type 0} (P : X → Type 0) (xs : List X) → All P xs → All P (interleaved xs)
 unfolding interleaved
 All-interleaved P xs all =
-    All-append P (each_fourth 0 xs ++ each_fourth 1 xs ++ each_fourth 2 xs) (each_fourth 3 xs)
+    All-append P _ _
     (
-    All-append P (each_fourth 0 xs ++ each_fourth 1 xs) (each_fourth 2 xs)
-    (All-append P (each_fourth 0 xs) (each_fourth 1 xs) (All-each_fourth P 0 xs all) (All-each_fourth P 1 xs all))
+    All-append P _ _
+    (All-append P _ _ (All-each_fourth P 0 xs all) (All-each_fourth P 1 xs all))
     (All-each_fourth P 2 xs all)
     )
     (All-each_fourth P 3 xs all)
@@ -186,7 +181,7 @@ All-from_fourths : {X : Type 0} (P : X → Type 0) (xs : List X) → All P (each
 unfolding each_fourth
 All-from_fourths P [] all0 all1 all2 all3 = all0
 All-from_fourths P (x ∷ xs) all0 all1 all2 all3 =
-    All-cons P x xs (All-head P x (each_fourth 3 xs) all0) (All-from_fourths P xs all1 all2 all3 (All-tail P x (each_fourth 3 xs) all0))
+    All-cons P x xs (All-head P x _ all0) (All-from_fourths P xs all1 all2 all3 (All-tail P x _ all0))
 
 -- what holds of each element that is sent holds of each
 pub All-from_interleaved : {X : Type 0} (P : X → Type 0) (xs : List X) → All P (interleaved xs) → All P xs
@@ -196,6 +191,6 @@ All-from_interleaved P xs all =
     let e1 = each_fourth 1 xs in
     let e2 = each_fourth 2 xs in
     let e3 = each_fourth 3 xs in
-    let beginning = All-front P (e0 ++ e1 ++ e2) e3 all in
-    let half = All-front P (e0 ++ e1) e2 beginning in
-    All-from_fourths P xs (All-front P e0 e1 half) (All-back P e0 e1 half) (All-back P (e0 ++ e1) e2 beginning) (All-back P (e0 ++ e1 ++ e2) e3 all)
+    let beginning = All-front P _ e3 all in
+    let half = All-front P _ e2 beginning in
+    All-from_fourths P xs (All-front P e0 e1 half) (All-back P e0 e1 half) (All-back P _ e2 beginning) (All-back P _ e3 all)

@@ -1,10 +1,12 @@
 -- The least distances of a step, from those of the step after it: each is the least over the symbols, which are added one after another.
-use Rattle.std.proofs.Common.{◌≡◌, ℕ, zero, suc, ◌≢◌, ◌+◌, ◌-◌, ◌*◌, ◌/◌, ◌%◌, ◌<◌, ◌≤◌, inl, inr, List, length, get_or, set, refl, ap, ap₂, sym, subst, ◌∙◌, arith, min}
+use Rattle.std.proofs.Common.{◌≡◌, ℕ, zero, suc, ◌≢◌, ◌+◌, ◌-◌, ◌*◌, ◌/◌, ◌%◌, ◌<◌, ◌≤◌, inl, inr, List, length, get_or, set, refl, ap₂, sym, subst, ◌∙◌, arith, min}
 use Rattle.std.proofs.lemmas.Bool.{cases_lt}
+use Rattle.p25_bits.specs.Least.{IsLowestLeast}
+use Rattle.p25_bits.proofs.LeastLaws.{IsLowestLeast-one, IsLowestLeast-less, IsLowestLeast-kept}
 use borrow.Rule.Slice.PartMut.{mid_of}
 use Rattle.p25_bits.proofs.PartLaws.{get_or-part}
-use Rattle.p25_trellis.specs.{Tables.{nibble_distance}, Costs.{received_cost}, Least.{rest_in, step_cost, HasLeastFrom, HasLowestFrom, IsLowestLeast}}
-use Rattle.p25_trellis.proofs.{CostLaws.{IsLowestLeast-one, IsLowestLeast-less, IsLowestLeast-kept, rest-le, rest_in-other, rest_in-same}, DistanceLaws.{nibble_distance-le}}
+use Rattle.p25_trellis.specs.{Tables.{nibble_distance}, Costs.{received_cost}, Least.{rest_in, step_cost, HasLeastFrom, HasLowestFrom}}
+use Rattle.p25_trellis.proofs.{CostLaws.{rest-le, rest_in-other, rest_in-same}, DistanceLaws.{nibble_distance-le}}
 
 -- an eighth of the rank of the symbol 0 is the cost of its nibble
 pub received_cost-is : (received ranks : List ℕ) (step state nibble : ℕ)
@@ -20,7 +22,7 @@ received_cost-le received step nibble = nibble_distance-le nibble (get_or receiv
 -- so what follows a step is at most four for each of 48 steps
 near_rest-le : (states : ℕ) (point : ℕ → ℕ → ℕ) (received rests : List ℕ) (step symbol : ℕ) → HasLeastFrom states point (received_cost received) rests (suc step) → step < 48 → symbol < states
     → rest_in rests (suc step) symbol ≤ 192
-near_rest-le states point received rests step symbol after early below = rest-le states point (received_cost received) rests 4 step symbol (received_cost-le received) after early below
+near_rest-le states point received rests step symbol after early below = rest-le states point _ rests 4 step symbol (received_cost-le received) after early below
 
 -- the eight entries of the step after one
 next_rest : (rests : List ℕ) (step symbol : ℕ) → symbol < 8 → get_or (mid_of (8 * step + 8) (8 * step + 16 - (8 * step + 8)) rests) symbol 0 ≡ rest_in rests (suc step) symbol
@@ -62,7 +64,7 @@ pub least-fits : (states : ℕ) (point : ℕ → ℕ → ℕ) (received rests : 
     → IsLowestLeast states (step_cost point (received_cost received) rests step state) symbol least → least < 256
 unfolding step_cost
 least-fits states point received rests step state symbol least after early choice =
-    omega (arith, choice.is, received_cost-le received step (point state symbol), near_rest-le states point received rests step symbol after early choice.below)
+    omega (arith, choice.is, received_cost-le received, near_rest-le states point received)
 
 -- what a step costs hangs on what follows it alone
 pub IsLowestLeast-next : (states : ℕ) (point cost : ℕ → ℕ → ℕ) (rests others : List ℕ) (step state symbol least : ℕ) → states ≤ 8
@@ -71,7 +73,7 @@ pub IsLowestLeast-next : (states : ℕ) (point cost : ℕ → ℕ → ℕ) (rest
 unfolding step_cost
 IsLowestLeast-next states point cost rests others step state symbol least few same was =
     IsLowestLeast-same states (λ next. cost step (point state next) + rest_in rests (suc step) next) (λ next. cost step (point state next) + rest_in others (suc step) next) symbol least
-    (λ next below. ap (λ n. cost step (point state next) + n) (sym (same next (omega (arith, few, below)))))
+    (λ next below. cc (same next (omega (arith, few, below))))
     was
 
 -- one symbol more lowers the least rank: the symbols before it are lower, so it has to have less
@@ -79,7 +81,7 @@ pub lowered_more : (value : ℕ → ℕ) (n least new here : ℕ) → n < 8 → 
     → here ≤ 65535 → new ≡ min least here → IsLowestLeast (n + 1) value (new % 8) (new / 8)
 lowered_more value zero least new here few first so_far is low lowered =
     let whole : new ≡ here = omega (arith, lowered, first refl, low) in
-    subst (λ k. IsLowestLeast 1 value k (new / 8)) (omega (arith, whole, is)) (IsLowestLeast-one value (new / 8) (sym (omega (arith, whole, is))))
+    subst (λ k. IsLowestLeast 1 value k (new / 8)) (omega (arith, whole, is)) (IsLowestLeast-one value _ (sym (omega (arith, whole, is))))
 lowered_more value (suc n) least new here few first so_far is low lowered =
     let was = so_far (omega arith) in
     elim (cases_lt here least) [
@@ -106,11 +108,9 @@ pub lowest-kept : (states : ℕ) (point cost : ℕ → ℕ → ℕ) (rests symbo
     → let written : List ℕ = set rests (8 * step + column) least in
     IsLowestLeast states (step_cost point cost written later state) (rest_in (set symbols (8 * step + column) symbol) later state) (rest_in written later state)
 lowest-kept states point cost rests symbols step column least symbol later state few row late low other was =
-    let written = set rests (8 * step + column) least in
-    let same_symbol = sym (rest_in-other symbols step column later state symbol row low other) in
-    let same_least = sym (rest_in-other rests step column later state least row low other) in
-    simp same_symbol at (subst (λ (n : ℕ). IsLowestLeast states (step_cost point cost written later state) (rest_in symbols later state) n) same_least
-    (IsLowestLeast-same states (step_cost point cost rests later state) (step_cost point cost written later state) (rest_in symbols later state) (rest_in rests later state)
+    simp (sym (rest_in-other symbols step column later state symbol row low other)) at
+    (rw (sym (rest_in-other rests step column later state least row low other)) at
+    (IsLowestLeast-same states (step_cost point cost rests later state) (step_cost point cost (set rests (8 * step + column) least) later state) (rest_in symbols later state) (rest_in rests later state)
     (λ symbol below. step_cost-write point cost rests step column least later state symbol row (omega arith) late)
     was))
 
@@ -121,9 +121,7 @@ pub lowest-written : (states : ℕ) (point cost : ℕ → ℕ → ℕ) (rests sy
     IsLowestLeast states (step_cost point cost written step state) (rest_in (set symbols (8 * step + state) symbol) step state) (rest_in written step state)
 lowest-written states point cost rests symbols step state least symbol few row there inside was =
     let written = set rests (8 * step + state) least in
-    let same_symbol = sym (rest_in-same symbols step state symbol inside) in
-    let same_least = sym (rest_in-same rests step state least there) in
-    rw same_symbol at (subst (λ (n : ℕ). IsLowestLeast states (step_cost point cost written step state) symbol n) same_least
+    rw (sym (rest_in-same symbols step state symbol inside)) at (subst (λ n. IsLowestLeast states (step_cost point cost written step state) symbol n) (sym (rest_in-same rests step state least there))
     (IsLowestLeast-same states (step_cost point cost rests step state) (step_cost point cost written step state) symbol least
     (λ other below. step_cost-write point cost rests step state least step state other row (omega arith) (omega arith))
     was))

@@ -1,35 +1,15 @@
 -- The first nearest path, as a function, is the first least path; the decoded octets and the block of octets follow from it. By induction on the
 -- symbols that are left: the lowest symbol with the cheapest best end comes before that end.
-use Rattle.std.proofs.Common.{◌≡◌, ℕ, zero, suc, ◌*◌, ◌^◌, ◌<◌, ◌≤◌, inl, inr, Bool, if◌then◌else◌, nat_lt, List, [], ◌∷◌, length, take, refl, ap, sym, subst, ◌∙◌, arith, All, add-one, length-append}
-use Rattle.std.proofs.{lemmas.Bool.{cases_lt, cond-true, cond-false, lt-ltb, le-ltb}, lemmas.List.{length-take-le, take_all, take_at, drop_at}, lemmas.List.Elements.{All-append, All-cons, All-nil}}
+use Rattle.std.proofs.Common.{◌≡◌, ℕ, zero, suc, ◌*◌, ◌^◌, ◌<◌, ◌≤◌, inl, inr, Bool, List, [], ◌∷◌, length, take, refl, ap, sym, ◌∙◌, arith, All, length-append}
+use Rattle.std.proofs.{lemmas.Bool.{cases_lt}, lemmas.List.{length-take-le, take_all, take_at, drop_at}, lemmas.List.Elements.{All-append, All-cons, All-nil}}
+use Rattle.p25_bits.specs.Least.{IsLowestLeast}
+use Rattle.p25_bits.proofs.LeastLaws.{IsLowestLeast-lowest_least}
 use Rattle.p25_bits.specs.{Bits.{octet_bits}, Numbers.{number_bits, numbers_from, octets_from}}
 use Rattle.p25_bits.proofs.{BitsLaws.{length-octet_bits}, NumbersLaws.{number_bits-octets, length-number_bits, length-numbers_from, All-numbers_from, number_bits-numbers_from}}
-use Rattle.p25_trellis.specs.{Trellis.{IsPath, Carries, IsBlock, IsNotAfter, IsFirstLeast, IsFirstLeastReading, distance_from}, Least.{IsEnd, IsLowestLeast}}
-use Rattle.p25_trellis.specs.Nearest.{lowest_least, first_least_end, nearest_path, nearest_octets, nearest_distance, path_from, block_from}
-use Rattle.p25_trellis.proofs.{CostLaws.{IsLowestLeast-one, IsLowestLeast-less, IsLowestLeast-kept}, FirstPathLaws.{IsFirstLeastEnd, IsFirstLeastEnd-last, IsFirstLeast-from_end, same_reading}}
+use Rattle.p25_trellis.specs.{Trellis.{IsPath, Carries, IsBlock, IsNotAfter, IsFirstLeast, IsFirstLeastReading, distance_from}, Least.{IsEnd}}
+use Rattle.p25_trellis.specs.Nearest.{first_least_end, nearest_path, nearest_octets, nearest_distance, path_from, block_from}
+use Rattle.p25_trellis.proofs.{FirstPathLaws.{IsFirstLeastEnd, IsFirstLeastEnd-last, IsFirstLeast-from_end, same_reading}}
 use Rattle.p25_trellis.proofs.PathLaws.{power-pos, same_block}
-
--- one number more is the lowest least where it has less
-IsLowestLeast-more : (states : ℕ) (value : ℕ → ℕ) (symbol : ℕ) → IsLowestLeast states value symbol (value symbol)
-    → let next = if nat_lt (value states) (value symbol) then states else symbol in IsLowestLeast (suc states) value next (value next)
-IsLowestLeast-more states value symbol was =
-    let P : ℕ → ℕ → Type 0 = λ bound next. IsLowestLeast bound value next (value next) in
-    elim (cases_lt (value states) (value symbol)) [
-      | inl less ↦
-          subst (λ next. P (suc states) next) (sym (cond-true (nat_lt (value states) (value symbol)) states symbol (lt-ltb (value states) (value symbol) less)))
-          (simp add-one at (IsLowestLeast-less states value symbol (value symbol) (value states) was refl less))
-      | inr more ↦
-          subst (λ next. P (suc states) next) (sym (cond-false (nat_lt (value states) (value symbol)) states symbol (le-ltb (value states) (value symbol) more)))
-          (simp add-one at (IsLowestLeast-kept states value symbol (value symbol) (value states) was refl more))
-    ]
-
--- the function gives the lowest least
-IsLowestLeast-lowest_least : (states : ℕ) (value : ℕ → ℕ) → 0 < states → IsLowestLeast states value (lowest_least states value) (value (lowest_least states value))
-unfolding lowest_least
-IsLowestLeast-lowest_least zero value some = absurd (omega arith)
-IsLowestLeast-lowest_least (suc zero) value some =
-    subst (λ next. IsLowestLeast 1 value next (value next)) (sym (cond-false (nat_lt (value 0) (value 0)) 0 0 (le-ltb (value 0) (value 0) (omega arith)))) (IsLowestLeast-one value (value 0) refl)
-IsLowestLeast-lowest_least (suc (suc n)) value some = IsLowestLeast-more (suc n) value (lowest_least (suc n) value) (IsLowestLeast-lowest_least (suc n) value (omega arith))
 
 -- the lowest symbol with the cheapest best end goes before that end
 IsFirstLeastEnd-lowest : (states before : ℕ) (cost : List ℕ → ℕ) (best : ℕ → List ℕ) (symbol : ℕ)
@@ -40,10 +20,10 @@ IsFirstLeastEnd-lowest states before cost best symbol ends choice =
   where
     no_less : (other : List ℕ) → IsEnd states (suc before) other → cost (symbol ∷ best symbol) ≤ cost other
     no_less [] is = absurd is
-    no_less (y ∷ ys) is = omega (arith, choice.none_less y is.0, (ends y is.0).least ys is.1)
+    no_less (y ∷ ys) is = omega (arith, choice.none_less, (ends y is.0).least ys is.1)
 
     same_first : (y : ℕ) (ys : List ℕ) → y ≡ symbol → IsEnd states before ys → cost (y ∷ ys) ≡ cost (symbol ∷ best symbol) → IsNotAfter (best symbol) ys
-    same_first y ys one is same = (ends symbol choice.below).first ys is (ap (λ s. cost (s ∷ ys)) (sym one) ∙ same)
+    same_first y ys one is same = (ends symbol choice.below).first ys is (cc (one, same))
 
     first_of_all : (other : List ℕ) → IsEnd states (suc before) other → cost other ≡ cost (symbol ∷ best symbol) → IsNotAfter (symbol ∷ best symbol) other
     first_of_all [] is same = absurd is
@@ -60,10 +40,9 @@ IsFirstLeastEnd-first_least_end : (states before : ℕ) (cost : List ℕ → ℕ
 unfolding first_least_end
 IsFirstLeastEnd-first_least_end states zero cost some = IsFirstLeastEnd-last states cost
 IsFirstLeastEnd-first_least_end states (suc before) cost some =
-    let best : ℕ → List ℕ = λ symbol. first_least_end states before (λ end. cost (symbol ∷ end)) in
-    IsFirstLeastEnd-lowest states before cost best (lowest_least states (λ symbol. cost (symbol ∷ best symbol)))
+    IsFirstLeastEnd-lowest states before cost (λ symbol. first_least_end states before (λ end. cost (symbol ∷ end))) _
     (λ symbol below. IsFirstLeastEnd-first_least_end states before (λ end. cost (symbol ∷ end)) some)
-    (IsLowestLeast-lowest_least states (λ symbol. cost (symbol ∷ best symbol)) some)
+    (IsLowestLeast-lowest_least states (λ symbol. cost _) some)
 
 -- it gives the first least path by any cost
 pub IsFirstLeast-first_least_end : (states : ℕ) (cost : List ℕ → ℕ) → 0 < states → IsFirstLeast states cost (first_least_end states 48 cost)
@@ -78,10 +57,10 @@ IsFirstLeast-nearest_path states point received some = IsFirstLeast-first_least_
 pub Carries-octets_from : (states width : ℕ) (path : List ℕ) → IsPath states path → Carries width path (octets_from (6 * width) (number_bits width (take 48 path)))
 Carries-octets_from states width path is =
     let bits = number_bits width (take 48 path) in
-    let long : length bits ≡ 48 * width = omega (arith, length-number_bits width (take 48 path), ap (λ n. width * n) (length-take-le 48 path (omega (arith, is.long)))) in
+    let long : length bits ≡ 48 * width = omega (arith, length-number_bits width, ap (λ n. width * n) (length-take-le 48 path (omega (arith, is.long)))) in
     record {
-      are_octets = All-numbers_from 8 (6 * width) bits;
-      information = sym (take_all (8 * (6 * width)) bits (omega arith)) ∙ sym (number_bits-numbers_from 8 (6 * width) bits (omega arith)) ∙ number_bits-octets (octets_from (6 * width) bits);
+      are_octets = All-numbers_from 8 _ bits;
+      information = sym (take_all _ bits (omega arith)) ∙ sym (number_bits-numbers_from 8 (6 * width) bits (omega arith)) ∙ number_bits-octets (octets_from (6 * width) bits);
     }
 
 -- the octets that the first least path carries, and what it costs, are its reading
@@ -110,11 +89,11 @@ unfolding path_from
 IsPath-path_from states width octets states_is =
     let P : ℕ → Type 0 = λ symbol. symbol < states in
     let symbols = numbers_from width 48 (octet_bits octets) in
-    let long : length symbols ≡ 48 = length-numbers_from width 48 (octet_bits octets) in
-    let small = rw (← states_is) at (All-numbers_from width 48 (octet_bits octets)) in record {
-      long = omega (arith, length-append symbols (0 ∷ []), long);
-      below = All-append P symbols (0 ∷ []) small (All-cons P 0 [] (power-pos width states states_is) (All-nil P));
-      last = drop_at symbols (0 ∷ []) 48 long;
+    let long = length-numbers_from width 48 (octet_bits octets) in
+    record {
+      long = omega (arith, length-append symbols, long);
+      below = All-append P symbols _ (rw (← states_is) at (All-numbers_from width 48 (octet_bits octets))) (All-cons P 0 [] (power-pos width states states_is) (All-nil P));
+      last = drop_at symbols _ 48 long;
     }
 
 -- and it carries them
@@ -124,8 +103,11 @@ Carries-path_from width octets long small =
     let bits = octet_bits octets in
     record {
       are_octets = small;
-      information = ap (number_bits width) (take_at (numbers_from width 48 bits) (0 ∷ []) 48 (length-numbers_from width 48 bits))
-          ∙ number_bits-numbers_from width 48 bits (omega (arith, length-octet_bits octets)) ∙ take_all (width * 48) bits (omega (arith, length-octet_bits octets));
+      information = cc (
+        take_at (numbers_from width 48 bits) _ 48 (length-numbers_from width 48 bits),
+        number_bits-numbers_from width 48 bits (omega (arith, length-octet_bits octets)),
+        take_all (width * 48) bits (omega (arith, length-octet_bits octets)),
+      );
     }
 
 -- the block that the function gives is the block of octets

@@ -1,5 +1,5 @@
 -- The nibbles of a block, a quarter of them at a time: those that a word writes, and the word that they write.
-use Rattle.std.proofs.Common.{◌≡◌, ◌≢◌, ℕ, ◌+◌, ◌*◌, ◌<◌, ◌≤◌, Bool, List, ◌++◌, length, drop, get_or, set, ap, ◌∙◌, arith, below_more, length-drop, get_or-set_same, get_or-set_other}
+use Rattle.std.proofs.Common.{◌≡◌, ◌≢◌, ℕ, ◌+◌, ◌*◌, ◌<◌, ◌≤◌, Bool, List, ◌++◌, length, drop, get_or, set, ◌∙◌, arith, below_more, length-drop, get_or-set_same, get_or-set_other}
 use Rattle.std.proofs.lemmas.List.{drop-drop}
 use Rattle.p25_bits.specs.{Bits.{bits_of, field_of, part}, Numbers.{number_bits, numbers_from}}
 use Rattle.p25_bits.proofs.NumbersLaws.{bits_of-field, number_bits-append, numbers_from-add, numbers_from-take}
@@ -13,12 +13,11 @@ pub put_more : (from k : ℕ) (nibbles : List ℕ) (value : ℕ → ℕ) → k <
 put_more from k nibbles value inside so_far = below_more (λ i. get_or (each_fourth from (set nibbles (from + 4 * k) (value k))) i 0 ≡ value i) k before here
   where
     as_set : (i : ℕ) → get_or (each_fourth from (set nibbles (from + 4 * k) (value k))) i 0 ≡ get_or (set (each_fourth from nibbles) k (value k)) i 0
-    as_set i = ap (λ (xs : List ℕ). get_or xs i 0) (each_fourth-set_same from nibbles k (value k))
+    as_set i = rw (each_fourth-set_same)
 
     before : (i : ℕ) → i < k → get_or (each_fourth from (set nibbles (from + 4 * k) (value k))) i 0 ≡ value i
     before i early =
-        let other : i ≢ k = omega arith in
-        as_set i ∙ get_or-set_other (each_fourth from nibbles) k i (value k) 0 other ∙ so_far i early
+        as_set i ∙ get_or-set_other (each_fourth from nibbles) k i (value k) 0 (omega arith) ∙ so_far i early
 
     here : get_or (each_fourth from (set nibbles (from + 4 * k) (value k))) k 0 ≡ value k
     here = as_set k ∙ get_or-set_same (each_fourth from nibbles) k (value k) 0 inside
@@ -34,8 +33,7 @@ pub fourths_read : (bits : List Bool) (at place count word : ℕ) (fourths : Lis
     → fourths ≡ numbers_from 4 count (drop place (drop at bits))
 fourths_read bits at place count word fourths inside there is written =
     let fits : at + place + 4 * count ≤ length bits = omega (arith, inside, there) in
-    let enough : 4 * count ≤ length (drop (at + place) bits) = omega (arith, fits, length-drop (at + place) bits) in
-    cc (written, is, bits_of-field (4 * count) (at + place) bits fits, numbers_from-take 4 count (4 * count) (drop (at + place) bits) (omega arith) enough, drop-drop place at bits)
+    cc (written, is, bits_of-field (4 * count) (at + place) bits fits, numbers_from-take 4 count (4 * count) (drop (at + place) bits) (omega arith) (omega (arith, fits, length-drop (at + place) bits)), drop-drop place at bits)
 
 -- the four fourths that bits write, one after the other
 pub numbers_from-fourths : (bits : List Bool) → numbers_from 4 49 bits

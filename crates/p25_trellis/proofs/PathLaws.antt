@@ -1,5 +1,5 @@
 -- Paths, their nibbles and the octets that they carry.
-use Rattle.std.proofs.Common.{◌≡◌, ℕ, ◌+◌, ◌^◌, ◌<◌, ◌≤◌, Bool, List, [], ◌∷◌, ◌++◌, length, take, drop, get_or, replicate, set, refl, ap, sym, subst, ◌∙◌, arith, append_assoc, length-set, All}
+use Rattle.std.proofs.Common.{◌≡◌, ℕ, ◌+◌, ◌^◌, ◌<◌, Bool, List, [], ◌∷◌, ◌++◌, length, take, drop, get_or, replicate, set, refl, ap, sym, ◌∙◌, arith, append_assoc, length-set}
 use Rattle.std.proofs.{lemmas.List.{drop-set-lt, take-append-drop, take_more_set, drop_more, length-take-le}, lemmas.List.Elements.{All-replicate, All-set, All-take}, lemmas.Nat.{pow_pos}}
 use Rattle.p25_bits.specs.Numbers.{number_bits}
 use Rattle.p25_trellis.specs.Trellis.{IsPath, IsBlock, Carries, nibbles_from}
@@ -53,26 +53,23 @@ pub nibbles_more : (point : ℕ → ℕ → ℕ) (state : ℕ) (nibbles path : L
     → take (step + 1) (set nibbles step nibble) ++ nibbles_from point (get_or path step 0) (drop (step + 1) path) ≡ take step nibbles ++ nibbles_from point state (drop step path)
 nibbles_more point state nibbles path step nibble here there is =
     let symbol = get_or path step 0 in
-    let left = nibbles_from point symbol (drop (step + 1) path) in
-    cc (take_more_set nibbles step nibble here, append_assoc (take step nibbles) (nibble ∷ []) left, is, nibbles_from-cons point state symbol (drop (step + 1) path), drop_more path step 0 there)
+    cc (take_more_set nibbles step nibble here, append_assoc (take step nibbles) (nibble ∷ []) (nibbles_from point symbol (drop (step + 1) path)), is, nibbles_from-cons point state symbol (drop (step + 1) path), drop_more path step 0 there)
 
 -- a path carries no other octets
 pub same_octets : (width : ℕ) (path octets others : List ℕ) → Carries width path octets → Carries width path others → octets ≡ others
 same_octets width path octets others one two =
     let same : number_bits 8 octets ≡ number_bits 8 others
     = rw (number_bits-octets, ← one.information, two.information, ← number_bits-octets) in
-    same_from_number_bits 8 octets others one.are_octets two.are_octets (omega (arith, length-number_bits 8 octets, length-number_bits 8 others, ap length same)) same
+    same_from_number_bits 8 octets others one.are_octets two.are_octets (omega (arith, length-number_bits, length-number_bits, ap length same)) same
 
 -- octets are carried by no other path
 pub same_path : (states width : ℕ) (path other octets : List ℕ) → states ≡ 2 ^ width → IsPath states path → IsPath states other → Carries width path octets → Carries width other octets → path ≡ other
 same_path states width path other octets states_is is other_is one two =
-    let small = λ (p : List ℕ) (is_p : IsPath states p). subst (λ n. All (λ s. s < n) (take 48 p)) states_is (All-take (λ s. s < states) 48 p is_p.below) in
-    let fits : 48 ≤ length path = omega (arith, is.long) in
-    let other_fits : 48 ≤ length other = omega (arith, other_is.long) in
+    let small = λ (p : List ℕ) (is_p : IsPath states p). rw states_is at (All-take (λ s. s < states) 48 p is_p.below) in
     cc (
       take-append-drop 48 path,
       same_from_number_bits width (take 48 path) (take 48 other) (small path is)
-          (small other other_is) (length-take-le 48 path fits ∙ sym (length-take-le 48 other other_fits)) (one.information ∙ sym two.information),
+          (small other other_is) (length-take-le 48 path (omega (arith, is.long)) ∙ sym (length-take-le 48 other (omega (arith, other_is.long)))) (one.information ∙ sym two.information),
       is.last,
       other_is.last,
       take-append-drop 48 other,

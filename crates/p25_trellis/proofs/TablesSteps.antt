@@ -49,11 +49,10 @@ none-from_test : (states : ℕ) (point : ℕ → ℕ → ℕ) (symbols : List �
 unfolding none_test
 none-from_test states point symbols passed state nibble row small past =
     let entry = symbol_digit symbols state nibble in
-    let both = other (ltb entry states) _ (passed_below-at states _ (passed_below-at 16 _ passed nibble small) state row) (le-ltb entry states past) in (
+    let both = other _ _ (passed_below-at states _ (passed_below-at 16 _ passed nibble small) state row) (le-ltb entry states past) in (
       eqb-true entry 8 (first_so _ _ both),
       λ symbol inside same.
-          let differs = passed_below-at states (λ s. not (eqb (point state s) nibble)) (second_so _ _ both) symbol inside in
-          let two : false ≡ true = sym (simp eq-eqb) ∙ differs in absurd (cc),
+          let two : false ≡ true = sym (simp eq-eqb) ∙ (passed_below-at states (λ s. not (eqb (point state s) nibble)) (second_so _ _ both) symbol inside) in absurd (cc),
     )
 
 -- every entry is the rank that its place asks for

@@ -1,5 +1,6 @@
 -- The least cost after a state, for the two passes over a path.
 use Rattle.std.specs.Prelude.{◌≡◌, ℕ, zero, suc, ◌+◌, ◌*◌, ◌<◌, ◌≤◌, List, [], ◌∷◌, slice_index}
+use Rattle.p25_bits.specs.Least.{IsLowestLeast}
 use Rattle.p25_trellis.specs.Costs.{symbols_cost}
 
 -- a table of the costs of rests of paths has 8 for each step, one for each state
@@ -23,13 +24,6 @@ pub record IsLeastEnd (states before : ℕ) (cost : List ℕ → ℕ) (least : �
 pub record HasLeastFrom (states : ℕ) (point cost : ℕ → ℕ → ℕ) (table : List ℕ) (from : ℕ) : Type 0 where
   pub at : (step before state : ℕ) → from ≤ step → step + before ≡ 48 → state < states
       → IsLeastEnd states before (symbols_cost point cost step state) (rest_in table step state)
-
--- the lowest symbol of those with the least value
-pub record IsLowestLeast (states : ℕ) (value : ℕ → ℕ) (symbol least : ℕ) : Type 0 where
-  pub below : symbol < states
-  pub is : value symbol ≡ least
-  pub none_less : (other : ℕ) → other < states → least ≤ value other
-  pub lowest : (other : ℕ) → other < symbol → least < value other
 
 -- the cost of a symbol and what follows it
 unfoldable pub step_cost : (ℕ → ℕ → ℕ) → (ℕ → ℕ → ℕ) → List ℕ → ℕ → ℕ → ℕ → ℕ

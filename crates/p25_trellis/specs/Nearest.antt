@@ -1,12 +1,7 @@
 -- The first nearest path to received bits as a function, the octets and the distance decoded by it, and the block of octets as a function.
-use Rattle.std.specs.Prelude.{ℕ, zero, suc, ◌*◌, Bool, if◌then◌else◌, nat_lt, List, [], ◌∷◌, ◌++◌, take}
-use Rattle.p25_bits.specs.{Bits.{octet_bits}, Numbers.{number_bits, numbers_from, octets_from}}
+use Rattle.std.specs.Prelude.{ℕ, zero, suc, ◌*◌, Bool, List, [], ◌∷◌, ◌++◌, take}
+use Rattle.p25_bits.specs.{Bits.{octet_bits}, Least.{lowest_least}, Numbers.{number_bits, numbers_from, octets_from}}
 use Rattle.p25_trellis.specs.{Trellis.{sent_bits, distance_from}, Tables.{half_point, three_quarter_point}}
-
--- the lowest of the numbers below a bound that have the least value
-unfoldable pub lowest_least : ℕ → (ℕ → ℕ) → ℕ
-lowest_least zero value = 0
-lowest_least (suc n) value = if nat_lt (value n) (value (lowest_least n value)) then n else lowest_least n value
 
 -- the first of the ends that cost least, with `before` symbols before their 0: its first symbol is the lowest with which the cheapest ends begin
 unfoldable pub first_least_end : ℕ → ℕ → (List ℕ → ℕ) → List ℕ

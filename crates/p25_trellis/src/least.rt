@@ -2,7 +2,8 @@
 //! computed, and then forward the lowest symbol that attains it.
 
 ghost use Rattle.std.specs.Prelude.{◌≡◌, ℕ, ◌^◌, ◌<◌, ◌≤◌, All, length};
-ghost use Rattle.p25_trellis.specs.{Trellis.{IsFirstLeastReading}, Costs.{cost_in, path_cost}, Least.{step_cost, HasLeastFrom, IsLowestLeast}};
+ghost use Rattle.p25_trellis.specs.{Trellis.{IsFirstLeastReading}, Costs.{cost_in, path_cost}, Least.{step_cost, HasLeastFrom}};
+ghost use Rattle.p25_bits.specs.Least.{IsLowestLeast};
 
 use super::near::BLOCK_RESTS;
 use super::path::take_path;

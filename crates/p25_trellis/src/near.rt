@@ -4,7 +4,8 @@
 
 ghost use Rattle.std.specs.Prelude.{◌≡◌, ℕ, ◌+◌, ◌/◌, ◌%◌, ◌<◌, All, length, slice_index};
 ghost use Rattle.p25_trellis.specs.{Trellis.{IsFirstLeastReading}, Tables.{nibble_distance}, Costs.{path_cost, received_cost}};
-ghost use Rattle.p25_trellis.specs.Least.{HasLeastFrom, HasLowestFrom, IsLowestLeast};
+ghost use Rattle.p25_bits.specs.Least.{IsLowestLeast};
+ghost use Rattle.p25_trellis.specs.Least.{HasLeastFrom, HasLowestFrom};
 
 use super::path::take_path;
 use super::rate::Rate;

@@ -1,4 +1,4 @@
-use Rattle.std.proofs.Common.{◌<◌, length, refl, arith, get_or}
+use Rattle.std.proofs.Common.{◌<◌, length, refl, arith}
 use Rattle.p25_bits.specs.Distance.{distance_by}
 use Rattle.p25_bits.proofs.{DistanceLaws.{ones-xor-le}, WordsLaws.{distance_more}}
 use Rattle.p25_bits.proofs.words.differing.Goals as goal
@@ -9,15 +9,13 @@ loop-k-init c = (omega arith, refl)
 
 pub overflow_add-places : goal.overflow_add-places
 overflow_add-places c =
-    let k = c.loop-k.k in
-    omega (arith, c.loop-k.invariant.0, ones-xor-le 64 (get_or c.args.a.now k 0) (get_or c.args.b.now k 0) (c.type_inv.a k).fits (c.type_inv.b k).fits)
+    omega (arith, c.loop-k.invariant.0, ones-xor-le 64)
 
 pub loop-k-preserved : goal.loop-k-preserved
 loop-k-preserved c =
     let k = c.loop-k.k in
     let here : k < length c.args.a.now = omega arith in
-    let there : k < length c.args.b.now = omega arith in
-    let weight = ones-xor-le 64 (get_or c.args.a.now k 0) (get_or c.args.b.now k 0) (c.type_inv.a k).fits (c.type_inv.b k).fits in (
-      omega (arith, c.loop-k.invariant.0, weight),
-      omega (arith, c.loop-k.invariant.1, distance_more c.args.a.now c.args.b.now k here there (c.type_inv.a k).fits (c.type_inv.b k).fits),
+    let there : k < length c.args.b.now = omega arith in (
+      omega (arith, c.loop-k.invariant.0, (ones-xor-le 64)),
+      omega (arith, c.loop-k.invariant.1, distance_more),
     )

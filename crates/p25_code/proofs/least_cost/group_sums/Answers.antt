@@ -1,4 +1,4 @@
-use Rattle.std.proofs.Common.{◌≡◌, ◌≢◌, ◌+◌, ◌*◌, ◌/◌, ◌^◌, ◌<◌, ◌≤◌, ◌++◌, length, drop, replicate, get_or, arith, ap, sym, subst, ◌∙◌, below_more, get_or-set_same, get_or-set_other}
+use Rattle.std.proofs.Common.{◌*◌, ◌/◌, ◌^◌, ◌≤◌, drop, arith, ap, ◌∙◌, below_more, get_or-set_same, get_or-set_other}
 use Rattle.std.proofs.{lemmas.List.Elements.{All-set}, Math.ListN.{length-set}}
 use Rattle.p25_bits.specs.Bits.{bits_of}
 use Rattle.p25_code.specs.LeastCost.{pairs_cost}
@@ -6,16 +6,16 @@ use Rattle.p25_code.proofs.least_cost.group_sums.Goals as goal
 
 pub loop-at-preserved : goal.loop-at-preserved
 loop-at-preserved c =
-    let sums = c.loop-at.sums in
-    let at = c.loop-at.at in
+    let loop = c.loop-at in
+    let sums = loop.sums in
+    let at = loop.at in
     let value = c.group_cost.result in
-    let inside : at < length sums = omega (arith, c.loop-at.invariant.long) in
     record {
-      long = length-set sums at value ∙ c.loop-at.invariant.long;
+      long = length-set sums at value ∙ loop.invariant.long;
       sums = below_more _ _
-          (λ k less. let ne : k ≢ at = omega arith in get_or-set_other sums at k value 0 ne ∙ c.loop-at.invariant.sums k less)
-          (get_or-set_same sums at value 0 inside ∙ c.group_cost.ensures.value);
-      low = All-set (λ cost. cost ≤ 2 ^ 18) sums at value c.group_cost.ensures.low c.loop-at.invariant.low;
+          (λ k less. get_or-set_other sums at k value 0 (omega arith) ∙ loop.invariant.sums k less)
+          (get_or-set_same sums at value 0 (omega (arith, loop.invariant.long)) ∙ c.group_cost.ensures.value);
+      low = All-set (λ cost. cost ≤ 2 ^ 18) sums at value c.group_cost.ensures.low loop.invariant.low;
     }
 
 pub returns-clause-sums : goal.returns-clause-sums

@@ -9,8 +9,10 @@ loop-i-init c = (λ k low fits. nothing_added gf64 _ c.args.factor c.args.shift 
 
 pub loop-i-preserved : goal.loop-i-preserved
 loop-i-preserved c =
-    added_step gf64 c.loop-i.i c.loop-i.into (coefficient gf64 c.args.into.now) c.args.factor c.args.shift (coefficient gf64 c.args.other.now) c.add.result (omega arith) (omega arith)
+    let loop = c.loop-i in
+    let args = c.args in
+    added_step gf64 loop.i loop.into (coefficient gf64 args.into.now) args.factor args.shift (coefficient gf64 args.other.now) c.add.result (omega arith) (omega arith)
     (c.add.ensures.sum
-    ∙ ap₂ gf64.add (coefficient_read gf64 c.loop-i.into c.loop-i.i c.index-into-i.result (omega arith) c.index-into-i.is)
-    (c.mul.ensures.product ∙ ap (gf64.mul c.args.factor) (coefficient_read gf64 c.args.other.now _ c.index-other-i.result (omega arith) c.index-other-i.is)))
-    c.loop-i.invariant
+    ∙ ap₂ gf64.add (coefficient_read gf64 loop.into loop.i c.index-into-i.result (omega arith) c.index-into-i.is)
+    (c.mul.ensures.product ∙ ap (gf64.mul args.factor) (coefficient_read gf64 args.other.now _ c.index-other-i.result (omega arith) c.index-other-i.is)))
+    loop.invariant

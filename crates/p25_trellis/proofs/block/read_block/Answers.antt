@@ -1,4 +1,4 @@
-use Rattle.std.proofs.{Common.{◌≡◌, ℕ, ◌+◌, ◌*◌, ◌<◌, ◌≤◌, All, Bool, List, length, drop, refl, sym, ap, subst, ◌∙◌, arith, length-drop}, lemmas.List.Elements.{All-same}}
+use Rattle.std.proofs.{Common.{◌≡◌, ℕ, ◌+◌, ◌<◌, ◌≤◌, All, Bool, List, length, drop, refl, sym, subst, arith, length-drop}, lemmas.List.Elements.{All-same}}
 use Rattle.p25_bits.specs.{Bits.{part}, Numbers.{number_bits, numbers_from}}
 use Rattle.p25_trellis.specs.{Interleave.{interleaved}, TableLaws.{IsRate}, Trellis.{IsFirstLeastReading, IsNearReading, distance_from, sent_bits}, Nearest.{nearest_octets, nearest_distance}}
 use Rattle.p25_bits.proofs.{NumbersLaws.{All-numbers_from, number_bits-numbers_from}, PartLaws.{length-part}}
@@ -9,14 +9,13 @@ use Rattle.p25_trellis.proofs.block.read_block.Goals as goal
 -- the nibbles of a block, as they are before they are interleaved
 are_nibbles : (bits : List Bool) (at : ℕ) (received : List ℕ) → interleaved received ≡ numbers_from 4 49 (drop at bits) → All (λ n. n < 16) received
 are_nibbles bits at received is =
-    All-from_interleaved (λ n. n < 16) received (All-same (λ n. n < 16) (interleaved received) (numbers_from 4 49 (drop at bits)) is (All-numbers_from 4 49 (drop at bits)))
+    All-from_interleaved (λ n. n < 16) received (All-same (λ n. n < 16) _ _ is (All-numbers_from 4 49 (drop at bits)))
 
 -- and the bits that they write
 are_bits : (bits : List Bool) (at : ℕ) (received : List ℕ) → interleaved received ≡ numbers_from 4 49 (drop at bits) → at + 196 ≤ length bits
     → part at 196 bits ≡ number_bits 4 (interleaved received)
 are_bits bits at received is there =
-    let long : 4 * 49 ≤ length (drop at bits) = omega (arith, length-drop at bits, there) in
-    sym (number_bits-numbers_from 4 49 (drop at bits) long) ∙ ap (number_bits 4) (sym is)
+    cc (number_bits-numbers_from 4 49 (drop at bits) (omega (arith, length-drop at bits, there)), is)
 
 -- all that a reading comes to, where it is the first nearest
 record IsReadBlock (states width apart : ℕ) (point : ℕ → ℕ → ℕ) (received : List Bool) (octets : List ℕ) (distance : ℕ) : Type 0 where
@@ -50,31 +49,28 @@ read_near-requires-clause-nibbles g c = are_nibbles c.args.bits.now c.args.at c.
 pub returns-in-Some : goal.returns-in-Some
 unfolding sent_bits
 returns-in-Some g c =
+    let rate = g.R.Rate in
     let law = g.met.R.Rate.table in
-    let point = g.R.Rate.point_of in
+    let point = rate.point_of in
     let path = c.in-Some.path in
     let received = c.take_nibbles-received.result in
     let sent = number_bits 4 (interleaved received) in
-    let sends : sent_bits point path ≡ sent = ap (λ (nibbles : List ℕ). number_bits 4 (interleaved nibbles)) c.in-Some.ensures.1 in
-    let some = power-pos g.R.Rate.BITS_PER_SYMBOL g.R.Rate.STATES law.states_of_bits in
-    let far = same_from_sent_bits g.R.Rate.STATES g.R.Rate.APART point g.R.Rate.parted some law.together law.stays_parted law.parts in
-    let reading : IsFirstLeastReading g.R.Rate.STATES g.R.Rate.BITS_PER_SYMBOL (distance_from point sent) c.octets_of.new.octets 0 = record {
+    let sends : sent_bits point path ≡ sent = rw c.in-Some.ensures.1 in
+    let read = read_from law c.args.bits.now c.args.at received c.octets_of.new.octets 0 c.take_nibbles-received.ensures.sent c.requires.there (record {
       path = path;
-      first_least = IsFirstLeast-exact g.R.Rate.STATES g.R.Rate.APART point sent path law.some_apart far c.in-Some.ensures.0 sends;
+      first_least = IsFirstLeast-exact rate.STATES rate.APART point sent path law.some_apart
+          (same_from_sent_bits rate.STATES rate.APART point rate.parted (power-pos rate.BITS_PER_SYMBOL rate.STATES law.states_of_bits) law.together law.stays_parted law.parts) c.in-Some.ensures.0 sends;
       carries = c.octets_of.ensures;
       total_is = sym (at_no_distance point sent path sends);
-    } in
-    let read = read_from law c.args.bits.now c.args.at received c.octets_of.new.octets 0 c.take_nibbles-received.ensures.sent c.requires.there reading in
+    }) in
     record { nearest = read.nearest; octets = read.octets_are; distance = read.distance_is; near = read.near }
 
 pub returns-in-None : goal.returns-in-None
 returns-in-None g c =
+    let rate = g.R.Rate in
     let law = g.met.R.Rate.table in
     let received = c.take_nibbles-received.result in
-    let some = power-pos g.R.Rate.BITS_PER_SYMBOL g.R.Rate.STATES law.states_of_bits in
-    let reading
-    = IsFirstLeastReading-same
-    (path_cost-distance g.R.Rate.STATES g.R.Rate.point_of received (number_bits 4 (interleaved received)) some law.nibbles c.take_nibbles-received.ensures.len refl)
-    c.read_near.ensures in
-    let read = read_from law c.args.bits.now c.args.at received c.read_near.new.octets c.read_near.result c.take_nibbles-received.ensures.sent c.requires.there reading in
+    let read = read_from law c.args.bits.now c.args.at received c.read_near.new.octets c.read_near.result c.take_nibbles-received.ensures.sent c.requires.there (IsFirstLeastReading-same
+    (path_cost-distance rate.STATES rate.point_of received _ (power-pos rate.BITS_PER_SYMBOL rate.STATES law.states_of_bits) law.nibbles c.take_nibbles-received.ensures.len refl)
+    c.read_near.ensures) in
     record { nearest = read.nearest; octets = read.octets_are; distance = read.distance_is; near = read.near }

@@ -1,4 +1,4 @@
-use Rattle.std.proofs.{Common.{◌≡◌, ℕ, ◌+◌, ◌*◌, ◌%◌, ◌^◌, ◌<◌, ◌≤◌, length, ap, sym, subst, ◌∙◌, arith}, Math.Nat.{mul-zero}, lemmas.Nat.{pow_pos}}
+use Rattle.std.proofs.{Common.{ℕ, ◌+◌, ◌*◌, ◌^◌, ◌<◌, length, ap, sym, subst, ◌∙◌, arith}, Math.Nat.{mul-zero}, lemmas.Nat.{pow_pos}}
 use Rattle.p25_bits.specs.Bits.{bits_of}
 use Rattle.p25_bits.proofs.{BitsLaws.{bits_of-zero}, NumbersLaws.{number_bits-nil}}
 use Rattle.p25_trellis.proofs.GroupSteps.{joined_more, joined_more-lt, joined-lt, moved_up}
@@ -15,25 +15,24 @@ overflow_add-whole c =
     let width = c.args.width in
     let i = c.loop-number.number-index in
     let whole = c.loop-number.whole in
-    let inside : i < length c.args.numbers.now = omega arith in
-    let more : i + 1 ≤ length c.args.numbers.now = omega arith in
-    let small : c.from.result < 2 ^ width = subst (λ (n : ℕ). n < 2 ^ width) (sym c.from.ensures) (c.requires.small i 0 inside) in
     omega (
       arith,
-      moved_up width i (length c.args.numbers.now) whole inside (omega (arith, c.requires.few)) c.loop-number.invariant.fits,
-      joined-lt width (i + 1) (length c.args.numbers.now) 28 (whole * 2 ^ width + c.from.result) more c.requires.few (joined_more-lt width i whole c.from.result small c.loop-number.invariant.fits),
+      moved_up width,
+      joined-lt width (i + 1) (length c.args.numbers.now) 28 (whole * 2 ^ width + c.from.result) (omega arith) c.requires.few
+          (joined_more-lt width i whole c.from.result (subst (λ (n : ℕ). n < 2 ^ width) (sym c.from.ensures) (c.requires.small i 0 (omega arith))) c.loop-number.invariant.fits),
     )
 
 pub loop-number-preserved : goal.loop-number-preserved
 loop-number-preserved c =
+    let loop = c.loop-number in
+    let numbers = c.args.numbers.now in
     let width = c.args.width in
-    let i = c.loop-number.number-index in
-    let whole = c.loop-number.whole in
+    let i = loop.number-index in
+    let whole = loop.whole in
     let number = c.from.result in
-    let inside : i < length c.args.numbers.now = omega arith in
-    let small : number < 2 ^ width = subst (λ (n : ℕ). n < 2 ^ width) (sym c.from.ensures) (c.requires.small i 0 inside) in
-    let moved : whole * 2 ^ width % 2 ^ 64 + number ≡ whole * 2 ^ width + number
-    = ap (λ n. n + number) (moved_up width i (length c.args.numbers.now) whole inside (omega (arith, c.requires.few)) c.loop-number.invariant.fits) in record {
-      bits = ap (bits_of (width * (i + 1))) moved ∙ joined_more width i whole number c.args.numbers.now inside c.from.ensures small c.loop-number.invariant.bits;
-      fits = subst (λ (n : ℕ). n < 2 ^ (width * (i + 1))) (sym moved) (joined_more-lt width i whole number small c.loop-number.invariant.fits);
+    let inside : i < length numbers = omega arith in
+    let small : number < 2 ^ width = rw c.from.ensures (c.requires.small i 0 inside) in
+    let moved = ap (λ n. n + number) (moved_up width i _ whole inside (omega (arith, c.requires.few)) loop.invariant.fits) in record {
+      bits = cc (moved, joined_more width i whole number numbers inside c.from.ensures small loop.invariant.bits);
+      fits = rw moved (joined_more-lt width i whole number small loop.invariant.fits);
     }

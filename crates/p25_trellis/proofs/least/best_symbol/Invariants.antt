@@ -1,4 +1,5 @@
-use Rattle.p25_trellis.specs.{Costs.{cost_in}, Least.{IsLowestLeast, step_cost}}
+use Rattle.p25_bits.specs.Least.{IsLowestLeast}
+use Rattle.p25_trellis.specs.{Costs.{cost_in}, Least.{step_cost}}
 use Rattle.p25_trellis.proofs.least.best_symbol.Given as goal
 
 abbrev pub invariant-loop-symbol : goal.invariant-loop-symbol

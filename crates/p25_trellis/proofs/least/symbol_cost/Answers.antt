@@ -8,6 +8,9 @@ returns g c =
 
 pub overflow_add-result-4 : goal.overflow_add-result-4
 overflow_add-result-4 g c =
-    let sum = step_cost-sum g.R.Rate.point_of c.args.costs.now c.args.rests.now c.args.step c.args.state c.args.symbol c.from.result c.from-2.result
-    (c.from.ensures ∙ c.point.ensures.value) c.from-2.ensures in
-    omega (arith, sum, c.requires.fits)
+    omega (
+      arith,
+      step_cost-sum g.R.Rate.point_of c.args.costs.now c.args.rests.now c.args.step c.args.state c.args.symbol c.from.result c.from-2.result
+          (c.from.ensures ∙ c.point.ensures.value) c.from-2.ensures,
+      c.requires.fits,
+    )

@@ -1,5 +1,6 @@
 use Rattle.std.proofs.Common.{◌≡◌, ℕ, suc, ◌+◌, ◌<◌, length}
-use Rattle.p25_trellis.specs.{Costs.{received_cost, symbols_cost}, Least.{rest_in, step_cost, HasLeastFrom, HasLowestFrom, IsLeastEnd, IsLowestLeast}}
+use Rattle.p25_bits.specs.Least.{IsLowestLeast}
+use Rattle.p25_trellis.specs.{Costs.{received_cost, symbols_cost}, Least.{rest_in, step_cost, HasLeastFrom, HasLowestFrom, IsLeastEnd}}
 use Rattle.p25_trellis.proofs.near.fill_rests.Given as goal
 
 abbrev pub invariant-loop-step : goal.invariant-loop-step

@@ -1,5 +1,6 @@
 use Rattle.std.proofs.Common.{◌≡◌, ℕ, ◌+◌, ◌/◌, ◌%◌, ◌<◌, ◌≤◌, min, length, get_or}
-use Rattle.p25_trellis.specs.{Least.{IsLowestLeast}, Tables.{nibble_distance}}
+use Rattle.p25_bits.specs.Least.{IsLowestLeast}
+use Rattle.p25_trellis.specs.{Tables.{nibble_distance}}
 use Rattle.p25_trellis.proofs.near.least_at.Given as goal
 
 abbrev pub invariant-loop-symbol : goal.invariant-loop-symbol

@@ -1,5 +1,5 @@
-use Rattle.std.proofs.{Common.{rules, refl, ◌≡◌, ℕ, subst, sym, ◌∙◌, arith}, iter.Serving.{serving}}
-use Rattle.p25_trellis.specs.{Costs.{path_cost, received_cost}, Least.{rest_in, step_cost, IsLowestLeast}, Trellis.{IsFirstLeastReading}}
+use Rattle.std.proofs.{Common.{rules, refl, ◌≡◌, sym, ◌∙◌, arith}, iter.Serving.{serving}}
+use Rattle.p25_trellis.specs.{Costs.{received_cost}, Least.{rest_in}}
 use Rattle.p25_trellis.proofs.{CostLaws.{rest_in-first}, NearSteps.{rest_read}}
 use Rattle.p25_trellis.proofs.near.read_near.Goals as goal
 
@@ -15,14 +15,11 @@ pub returns : goal.returns
 returns g c =
     let cost = received_cost c.args.received.now in
     let rests = c.fill_rests.new.rests in
-    subst (λ (total : ℕ). IsFirstLeastReading g.R.Rate.STATES g.R.Rate.BITS_PER_SYMBOL (path_cost g.R.Rate.point_of cost) c.take_path.new.octets total)
-    (rest_in-first rests ∙ sym c.from.ensures)
-    (c.take_path.ensures cost rests c.fill_rests.ensures.least
+    rw (rest_in-first rests ∙ sym c.from.ensures) at (c.take_path.ensures cost rests c.fill_rests.ensures.least
     (record {
       at = λ step state symbol early row answers.
           let is : symbol ≡ rest_in c.fill_rests.new.symbols step state = search (rules, rest_read c.fill_rests.new.symbols step state state refl) in (
             rest_in rests step state,
-            subst (λ (k : ℕ). IsLowestLeast g.R.Rate.STATES (step_cost g.R.Rate.point_of cost rests step state) k (rest_in rests step state)) (sym is)
-                (c.fill_rests.ensures.lowest.at step state (omega arith) early row),
+            rw is (c.fill_rests.ensures.lowest.at step state (omega arith) early row),
           );
     }))

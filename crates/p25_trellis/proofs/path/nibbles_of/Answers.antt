@@ -1,6 +1,5 @@
-use Rattle.std.proofs.{Common.{ℕ, ◌<◌, ◌≤◌, ◌++◌, List, length, refl, sym, ap, ap₂, ◌∙◌, append-nil, arith, length-set}, lemmas.List.{take_all, drop_all}}
+use Rattle.std.proofs.{Common.{ℕ, ◌<◌, ◌++◌, length, refl, sym, ap₂, ◌∙◌, append-nil, arith, length-set}, lemmas.List.{take_all, drop_all}}
 use Rattle.std.proofs.lemmas.List.Elements.{All-replicate, All-set}
-use Rattle.p25_trellis.specs.Trellis.{nibbles_from}
 use Rattle.p25_trellis.proofs.PathLaws.{nibbles_more, nibbles_from-nil, power-pos}
 use Rattle.p25_trellis.proofs.path.nibbles_of.Goals as goal
 
@@ -14,26 +13,23 @@ loop-step-init g c = record {
 
 pub loop-step-preserved : goal.loop-step-preserved
 loop-step-preserved g c =
-    let step = c.loop-step.step in
+    let loop = c.loop-step in
+    let step = loop.step in
     let path = c.args.path.now in
-    let nibbles = c.loop-step.nibbles in
-    let here : step < length nibbles = omega (arith, c.loop-step.invariant.long) in
+    let nibbles = loop.nibbles in
     let there : step < length path = omega (arith, c.told-path) in record {
       done
-          = nibbles_more g.R.Rate.point_of c.loop-step.state nibbles path step c.point.result here there c.point.ensures.value ∙ c.loop-step.invariant.done;
-      fits = All-set (λ (n : ℕ). n < 16) nibbles step c.point.result c.point.ensures.nibble c.loop-step.invariant.fits;
+          = nibbles_more g.R.Rate.point_of loop.state nibbles path step c.point.result (omega (arith, loop.invariant.long)) there c.point.ensures.value ∙ loop.invariant.done;
+      fits = All-set (λ n. n < 16) nibbles step c.point.result c.point.ensures.nibble loop.invariant.fits;
       row = c.requires step 0 there;
-      long = length-set nibbles step c.point.result ∙ c.loop-step.invariant.long;
+      long = length-set nibbles step c.point.result ∙ loop.invariant.long;
     }
 
 pub returns-clause-value : goal.returns-clause-value
 returns-clause-value g c =
-    let step = c.loop-step.step in
-    let path = c.args.path.now in
-    let nibbles = c.loop-step.nibbles in
-    let point = g.R.Rate.point_of in
-    let all : length nibbles ≤ step = omega (arith, c.loop-step.invariant.long) in
-    let none : length path ≤ step = omega (arith, c.told-path) in
+    let loop = c.loop-step in
+    let step = loop.step in
+    let nibbles = loop.nibbles in
     sym (append-nil nibbles)
-    ∙ ap₂ (λ (xs ys : List ℕ). xs ++ ys) (sym (take_all step nibbles all)) (sym (ap (nibbles_from point c.loop-step.state) (drop_all step path none) ∙ nibbles_from-nil point c.loop-step.state))
-    ∙ c.loop-step.invariant.done
+    ∙ ap₂ (λ xs ys. xs ++ ys) (sym (take_all step nibbles (omega (arith, loop.invariant.long)))) (sym (cc (drop_all step c.args.path.now (omega (arith, c.told-path)), nibbles_from-nil g.R.Rate.point_of loop.state)))
+    ∙ loop.invariant.done

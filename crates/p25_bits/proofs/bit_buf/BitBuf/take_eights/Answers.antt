@@ -4,12 +4,13 @@ use Rattle.p25_bits.proofs.{NumbersLaws.{numbers_from-zero}, LoopLaws.{take_more
 use Rattle.p25_bits.proofs.bit_buf.BitBuf.take_eights.Goals as goal
 
 pub loop-g-init : goal.loop-g-init
-loop-g-init c = (refl, sym (numbers_from-zero 8 (drop c.args.at c.args.self.now)))
+loop-g-init c = (refl, sym (numbers_from-zero 8 _))
 
 pub loop-k-init : goal.loop-k-init
 loop-k-init c =
-    let none : 8 * c.loop-g.g ≡ 8 * c.loop-g.g + 0 = omega arith in
-    (c.loop-g.invariant.0, subst (λ n. take n c.loop-g.octets ≡ numbers_from 8 n (drop c.args.at c.args.self.now)) none c.loop-g.invariant.1)
+    let loop = c.loop-g in
+    let none : 8 * loop.g ≡ 8 * loop.g + 0 = omega arith in
+    (loop.invariant.0, rw none at loop.invariant.1)
 
 pub loop-k-preserved : goal.loop-k-preserved
 loop-k-preserved c = (
@@ -20,5 +21,5 @@ loop-k-preserved c = (
 
 pub loop-g-preserved : goal.loop-g-preserved
 loop-g-preserved c =
-    let eight : 8 * c.loop-g.g + c.loop-k.k ≡ 8 * (c.loop-g.g + 1) = omega arith in
-    (c.loop-k.invariant.0, subst (λ n. take n c.loop-k.octets ≡ numbers_from 8 n (drop c.args.at c.args.self.now)) eight c.loop-k.invariant.1)
+    let loop = c.loop-k in
+    (loop.invariant.0, subst (λ n. take n loop.octets ≡ numbers_from 8 n (drop c.args.at c.args.self.now)) (omega arith) loop.invariant.1)

@@ -1,4 +1,4 @@
-use Rattle.std.proofs.{Common.{◌≡◌, ◌+◌, ◌<◌, ◌≤◌, length, drop, sym, ap, ◌∙◌, arith}, Math.Nat.{mul-le-mul_left}, Math.Pow.{pow_mono}, lemmas.List.{take_all}}
+use Rattle.std.proofs.{Common.{◌+◌, ◌≤◌, length, drop, sym, ap, ◌∙◌, arith}, Math.Nat.{mul-le-mul_left}, Math.Pow.{pow_mono}, lemmas.List.{take_all}}
 use Rattle.p25_bits.specs.Numbers.{numbers_from}
 use Rattle.p25_bits.proofs.{NumbersLaws.{more_bits}, LoopLaws.{take_more_read}}
 use Rattle.p25_bits.proofs.bit_buf.BitBuf.take_from.Goals as goal
@@ -9,20 +9,18 @@ loop-i-init c = c.requires.before
 pub overflow_mul-width : goal.overflow_mul-width
 overflow_mul-width c =
     let more : c.loop-i.i ≤ length c.args.numbers.now = omega arith in
-    let most : length c.args.self.now ≤ 25928 = omega (arith, c.len.ensures) in
     omega (arith, mul-le-mul_left c.args.width more)
 
 pub overflow_add-at : goal.overflow_add-at
 overflow_add-at c =
     let more : c.loop-i.i ≤ length c.args.numbers.now = omega arith in
-    let most : length c.args.self.now ≤ 25928 = omega (arith, c.len.ensures) in
     omega (arith, mul-le-mul_left c.args.width more)
 
 pub field-requires : goal.field-requires
 field-requires c =
     let more : c.loop-i.i + 1 ≤ length c.args.numbers.now = omega arith in record {
       width = omega arith;
-      there = omega (arith, more_bits c.args.at c.args.width c.loop-i.i, mul-le-mul_left c.args.width more);
+      there = omega (arith, more_bits, mul-le-mul_left c.args.width more);
     }
 
 pub overflow_cast-numbers : goal.overflow_cast-numbers
@@ -30,11 +28,10 @@ overflow_cast-numbers c = omega (arith, pow_mono c.requires.width, c.field.ensur
 
 pub loop-i-preserved : goal.loop-i-preserved
 loop-i-preserved c =
-    let inside : c.loop-i.i < length c.loop-i.numbers = omega arith in
-    take_more_read c.args.self.now c.args.at c.args.width c.loop-i.numbers c.loop-i.i c.field.result inside c.field.ensures.value c.loop-i.invariant
+    let loop = c.loop-i in
+    take_more_read c.args.self.now c.args.at c.args.width loop.numbers loop.i c.field.result (omega arith) c.field.ensures.value loop.invariant
 
 pub returns : goal.returns
 returns c =
-    let done : c.loop-i.i ≡ length c.args.numbers.now = omega arith in
-    let all : length c.loop-i.numbers ≤ c.loop-i.i = omega arith in
-    sym (take_all c.loop-i.i c.loop-i.numbers all) ∙ c.loop-i.invariant ∙ ap (λ n. numbers_from c.args.width n (drop c.args.at c.args.self.now)) done
+    let loop = c.loop-i in
+    sym (take_all loop.i loop.numbers (omega arith)) ∙ loop.invariant ∙ ap (λ n. numbers_from c.args.width n (drop c.args.at c.args.self.now)) (omega arith)

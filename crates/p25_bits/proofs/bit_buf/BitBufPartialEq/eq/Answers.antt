@@ -1,8 +1,7 @@
-use Rattle.std.proofs.Common.{ap, sym, ◌∙◌, nat_eq}
+use Rattle.std.proofs.Common.{sym, ◌∙◌}
 use Rattle.p25_bits.proofs.DistanceLaws.{pointwise-distance_of}
 use Rattle.p25_bits.proofs.bit_buf.BitBufPartialEq.eq.Goals as goal
 
 pub returns-then-len : goal.returns-then-len
 returns-then-len c =
-    let long = sym c.len.ensures.value ∙ c.if-len.true ∙ c.len-2.ensures.value in
-    ap (λ n. nat_eq n 0) c.distance.ensures ∙ pointwise-distance_of c.args.self.now c.args.other.now long
+    cc (c.distance.ensures, pointwise-distance_of c.args.self.now c.args.other.now (sym c.len.ensures.value ∙ c.if-len.true ∙ c.len-2.ensures.value))

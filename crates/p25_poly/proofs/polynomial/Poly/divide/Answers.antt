@@ -12,16 +12,20 @@ loop-shift-init c =
 
 pub loop-shift-preserved : goal.loop-shift-preserved
 loop-shift-preserved c =
-    let low = rw c.unwrap-degree.ensures at c.degree.ensures.below in
-    let top = rw c.unwrap-degree.ensures at c.degree.ensures.some in
-    divided_step gf64 c.loop-shift.shift (c.loop-shift.shift - 1) (omega arith) (coefficient_of c.args.self.now)
-    (coefficient_of c.args.by.now) c.unwrap-degree.result c.loop-shift.quotient c.loop-shift.remainder c.add_multiple.new.into c.mul-factor.result (omega arith) top (omega arith)
-    (c.mul-factor.ensures.product ∙ ap₂ gf64.mul (get_or_default c.loop-shift.remainder _ _ gf64.zero (omega arith))
-    (c.inv-inverse.ensures.inverse ∙ ap gf64.inverse (get_or_default c.args.by.now.coefficients c.unwrap-degree.result _ gf64.zero (omega (arith, low, c.args.by.now.full)))))
-    c.add_multiple.ensures c.loop-shift.invariant
+    let loop = c.loop-shift in
+    let degree_here = c.unwrap-degree in
+    let by = c.args.by.now in
+    let low = rw degree_here.ensures at c.degree.ensures.below in
+    let top = rw degree_here.ensures at c.degree.ensures.some in
+    divided_step gf64 loop.shift (loop.shift - 1) (omega arith) (coefficient_of c.args.self.now)
+    (coefficient_of by) degree_here.result loop.quotient loop.remainder c.add_multiple.new.into c.mul-factor.result (omega arith) top (omega arith)
+    (c.mul-factor.ensures.product ∙ ap₂ gf64.mul (get_or_default loop.remainder _ _ gf64.zero (omega arith))
+    (c.inv-inverse.ensures.inverse ∙ ap gf64.inverse (get_or_default by.coefficients degree_here.result _ gf64.zero (omega (arith, low, by.full)))))
+    c.add_multiple.ensures loop.invariant
 
 pub returns-clause-unique : goal.returns-clause-unique
 returns-clause-unique c =
+    let loop = c.loop-shift in
     let top = rw c.unwrap-degree.ensures at c.degree.ensures.some in
     λ quotient remainder division. unique_division c.unwrap-degree.result c.args.self.now c.args.by.now quotient remainder _ _ top division
-    (divided_all c.loop-shift.shift c.unwrap-degree.result c.args.self.now c.args.by.now c.loop-shift.quotient c.loop-shift.remainder _ _ (omega arith) top c.loop-shift.invariant)
+    (divided_all loop.shift c.unwrap-degree.result c.args.self.now c.args.by.now loop.quotient loop.remainder _ _ (omega arith) top loop.invariant)

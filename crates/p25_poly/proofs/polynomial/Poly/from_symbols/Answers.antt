@@ -5,14 +5,16 @@ use Rattle.p25_poly.proofs.CoefficientLaws.{coefficient_blank, coefficient_past,
 use Rattle.p25_poly.proofs.polynomial.Poly.from_symbols.Goals as goal
 
 pub returns : goal.returns
-returns c = λ i.
+returns c =
+    let self = c.copy_from_slice.new.self in
+    λ i.
     let z = c.default-coefficients.result in
     let n = length c.args.low_first.now in
-    let long : length c.copy_from_slice.new.self ≡ n = ap length c.copy_from_slice.ensures.after in
+    let long : length self ≡ n = ap length c.copy_from_slice.ensures.after in
     elim (cases_lt i n) [
-      | inl below ↦ front_replaced gf64 c.copy_from_slice.new.self (replicate 64 z) n i long below ∙ ap (λ (s : List Sym). coefficient gf64 s i) c.copy_from_slice.ensures.after
+      | inl below ↦ front_replaced gf64 self (replicate 64 z) n i long below ∙ ap (λ (s : List Sym). coefficient gf64 s i) c.copy_from_slice.ensures.after
       | inr from ↦
-          rest_kept gf64 c.copy_from_slice.new.self (replicate 64 z) n i long from
+          rest_kept gf64 self (replicate 64 z) n i long from
           ∙ coefficient_blank gf64 z 64 i c.default-coefficients.ensures
           ∙ sym (coefficient_past gf64 c.args.low_first.now i from)
     ]

@@ -12,21 +12,26 @@ loop-k-init c =
 
 pub loop-k-preserved : goal.loop-k-preserved
 loop-k-preserved c =
+    let self = c.args.self.now in
+    let k_here = c.loop-k.k in
     c.add-residual.ensures.sum
     ∙ ap₂ gf64.add c.loop-k.invariant
-    (c.mul.ensures.product ∙ ap₂ gf64.mul (get_or_default c.args.self.now.cells c.loop-k.k _ gf64.zero (omega arith))
-    (coefficient_read gf64 c.args.unknowns.now c.loop-k.k c.index-unknowns-k.result (omega arith) c.index-unknowns-k.is))
+    (c.mul.ensures.product ∙ ap₂ gf64.mul (get_or_default self.cells k_here _ gf64.zero (omega arith))
+    (coefficient_read gf64 c.args.unknowns.now k_here c.index-unknowns-k.result (omega arith) c.index-unknowns-k.is))
     ∙ add_assoc gf64 _ _ _
-    ∙ ap (gf64.add c.args.self.now.right) (sym (dot-next gf64 c.loop-k.k (coefficient gf64 c.args.self.now.cells) (coefficient gf64 c.args.unknowns.now)))
+    ∙ ap (gf64.add self.right) (sym (dot-next gf64 k_here (coefficient gf64 self.cells) (coefficient gf64 c.args.unknowns.now)))
 
 pub returns-clause-met : goal.returns-clause-met
 returns-clause-met c =
-    let n = length c.args.unknowns.now in
+    let unknowns = c.args.unknowns.now in
+    let self = c.args.self.now in
+    let column = c.args.column in
+    let n = length unknowns in
     let all : c.loop-k.k ≡ n = omega arith in
-    let residual = c.loop-k.invariant ∙ ap (λ k. gf64.add c.args.self.now.right (dot gf64 k (coefficient gf64 c.args.self.now.cells) (coefficient gf64 c.args.unknowns.now))) all in
-    corrected_row n c.args.column c.args.self.now (coefficient gf64 c.args.unknowns.now) _ c.requires.inside c.requires.pivot
-    (written_at gf64 c.args.unknowns.now c.args.column c.add.result c.requires.inside
+    let residual = c.loop-k.invariant ∙ ap (λ k. gf64.add self.right (dot gf64 k (coefficient gf64 self.cells) (coefficient gf64 unknowns))) all in
+    corrected_row n column self (coefficient gf64 unknowns) _ c.requires.inside c.requires.pivot
+    (written_at gf64 unknowns column c.add.result c.requires.inside
     ∙ c.add.ensures.sum
-    ∙ ap₂ gf64.add (coefficient_read gf64 c.args.unknowns.now c.args.column c.index-unknowns-column.result c.requires.inside c.index-unknowns-column.is)
-    (c.mul-step.ensures.product ∙ ap₂ gf64.mul residual (c.inv.ensures.inverse ∙ ap gf64.inverse (get_or_default c.args.self.now.cells c.args.column _ gf64.zero (omega arith)))))
-    (record { same = λ k apart. written_elsewhere gf64 c.args.unknowns.now c.args.column k c.add.result apart })
+    ∙ ap₂ gf64.add (coefficient_read gf64 unknowns column c.index-unknowns-column.result c.requires.inside c.index-unknowns-column.is)
+    (c.mul-step.ensures.product ∙ ap₂ gf64.mul residual (c.inv.ensures.inverse ∙ ap gf64.inverse (get_or_default self.cells column _ gf64.zero (omega arith)))))
+    (record { same = λ k apart. written_elsewhere gf64 unknowns column k c.add.result apart })

@@ -5,12 +5,14 @@ use Rattle.p25_poly.proofs.CoefficientLaws.{coefficient_blank, written_at, writt
 use Rattle.p25_poly.proofs.side.Side.series.Goals as goal
 
 pub loop-i-init : goal.loop-i-init
-loop-i-init c = record {
-  full = length-replicate 64 c.default-rest.result;
-  before = λ k low. absurd (omega arith);
-  after = λ k high. coefficient_blank gf64 c.default-rest.result 64 k c.default-rest.ensures;
-  front = λ k low. coefficient_blank gf64 c.default-rest.result 64 k c.default-rest.ensures;
-}
+loop-i-init c =
+    let rest_here = c.default-rest in
+    record {
+      full = length-replicate 64 rest_here.result;
+      before = λ k low. absurd (omega arith);
+      after = λ k high. coefficient_blank gf64 rest_here.result 64 k rest_here.ensures;
+      front = λ k low. coefficient_blank gf64 rest_here.result 64 k rest_here.ensures;
+    }
 
 pub returns-clause-at : goal.returns-clause-at
 returns-clause-at c = written_at gf64 (replicate 64 c.default-factor.result) 32 _ (omega (arith, length-replicate 64 c.default-factor.result)) ∙ one_made _
