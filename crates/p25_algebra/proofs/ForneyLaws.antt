@@ -26,8 +26,8 @@ module _ {F : Type 0} (K : Field F) where
     where
       constant : value_at K 1 e z ≡ e 0
       constant =
-          sum-suc K 0 (λ i. e i ⊗ power K z i)
-          ∙ ap₂ ◌⊕◌ (sum-none K (λ i. e i ⊗ power K z i)) (ap (λ v. e 0 ⊗ v) (power-zero K z) ∙ mul_one K (e 0))
+          sum-suc K 0 _
+          ∙ ap₂ ◌⊕◌ (sum-none K _) (cc (power-zero K z, mul_one K (e 0)))
           ∙ zero_add K (e 0)
   front_sum x z w e one whole (suc i) =
       cc (
@@ -35,7 +35,7 @@ module _ {F : Type 0} (K : Field F) where
         one,
         mul_assoc K x z (w (suc i)),
         add_twice K (w i) (z ⊗ w (suc i)),
-        add_comm K (w i) (z ⊗ w (suc i)),
+        add_comm K (w i) _,
         shifted-next K w i,
         whole (suc i),
         mul_add K x (w i) (e (suc i)),
@@ -47,7 +47,7 @@ module _ {F : Type 0} (K : Field F) where
         power_of_mul K x z (suc i),
         last (power K x (suc i)) (power K z (suc i)) (e (suc i)),
         mul_add K (power K x (suc (suc i))) (value_at K (suc i) e z) (e (suc i) ⊗ power K z (suc i)),
-        sum-suc K (suc i) (λ i. e i ⊗ power K z i),
+        sum-suc K (suc i) _,
       )
     where
       last : (p q c : F) → x ⊗ (p ⊗ q ⊗ c) ≡ x ⊗ p ⊗ (c ⊗ q)
@@ -56,19 +56,19 @@ module _ {F : Type 0} (K : Field F) where
   lower_power : (x y : F) (m k : ℕ) → x ⊗ y ≡ 𝟙 → k ≤ m → power K x (m - k + 1) ≡ power K x (m + 1) ⊗ power K y k
   lower_power x y m k one low =
       let split : m + 1 ≡ (m - k + 1) + k = omega arith in
-      cc (mul_one K (power K x (m - k + 1)), power_of_one K k, one, power_of_mul K x y k, mul_assoc K (power K x (m - k + 1)) (power K x k) (power K y k), power-add K x (m - k + 1) k, split)
+      cc (mul_one K (power K x _), power_of_one K k, one, power_of_mul K x y k, mul_assoc K (power K x (m - k + 1)) (power K x k) (power K y k), power-add K x (m - k + 1) k, split)
 
   -- the product of a polynomial with power sums, as a sum over the elements
   pub product_sums : (n m : ℕ) (x v q s : ℕ → F) → ((j : ℕ) → j < n → x j ⊗ inverse (x j) ≡ 𝟙) → ((i : ℕ) → i ≤ m → s i ≡ power_sum K n x v (i + 1))
       → product_at K q s m ≡ sum_below K n (λ j. v j ⊗ power K (x j) (m + 1) ⊗ value_at K (suc m) q (inverse (x j)))
   product_sums n m x v q s live sums =
-      sum_same K (suc m) (λ i. q i ⊗ s (m - i)) (λ i. sum_below K n (λ j. v j ⊗ power K (x j) (m + 1) ⊗ (q i ⊗ power K (inverse (x j)) i)))
-      (λ i low. ap (λ w. q i ⊗ w) (sums (m - i) (omega arith)) ∙ sym (sum-mul K n (q i) (λ j. v j ⊗ power K (x j) (m - i + 1)))
-      ∙ sum_same K n (λ j. q i ⊗ (v j ⊗ power K (x j) (m - i + 1))) (λ j. v j ⊗ power K (x j) (m + 1) ⊗ (q i ⊗ power K (inverse (x j)) i))
-      (λ j inside. ap (λ w. q i ⊗ (v j ⊗ w)) (lower_power (x j) (inverse (x j)) m i (live j inside) (omega arith)) ∙ regroup (q i) (v j) (power K (x j) (m + 1)) (power K (inverse (x j)) i)))
-      ∙ sum_exchange K (suc m) n (λ i j. v j ⊗ power K (x j) (m + 1) ⊗ (q i ⊗ power K (inverse (x j)) i))
-      ∙ sum_same K n (λ j. sum_below K (suc m) (λ i. v j ⊗ power K (x j) (m + 1) ⊗ (q i ⊗ power K (inverse (x j)) i))) (λ j. v j ⊗ power K (x j) (m + 1) ⊗ value_at K (suc m) q (inverse (x j)))
-      (λ j inside. sum-mul K (suc m) (v j ⊗ power K (x j) (m + 1)) (λ i. q i ⊗ power K (inverse (x j)) i))
+      sum_same K (suc m) (λ i. q i ⊗ s (m - i)) _
+      (λ i low. ap (λ w. q i ⊗ w) (sums (m - i) (omega arith)) ∙ sym (sum-mul K n (q i) _)
+      ∙ sum_same K n _ _
+      (λ j inside. cc (lower_power (x j) (inverse (x j)) m i (live j inside) (omega arith), regroup (q i) (v j) (power K (x j) (m + 1)) (power K (inverse (x j)) i))))
+      ∙ sum_exchange K (suc m) n _
+      ∙ sum_same K n _ _
+      (λ j inside. sum-mul K (suc m) (v j ⊗ power K (x j) (m + 1)) _)
     where
       regroup : (a b c e : F) → a ⊗ (b ⊗ (c ⊗ e)) ≡ b ⊗ c ⊗ (a ⊗ e)
       regroup a b c e = simp (mul_assoc K, mul_left_comm K)
@@ -77,14 +77,16 @@ module _ {F : Type 0} (K : Field F) where
       → ((l : ℕ) → l < n → v l ≢ 𝟘 → value_at K (suc (suc m)) f (inverse (x l)) ≡ 𝟘) → (j : ℕ) → j < n → value_at K (suc (suc m)) f (inverse (x j)) ≡ 𝟘
       → v j ⊗ slope_at K (suc (suc m)) f (inverse (x j)) ≡ value_at K (suc m) (product_at K f s) (inverse (x j))
   forney_next n m x v f s apart live short sums zeros j inside here =
-      mul_cancel K (power K (x j) (m + 1)) (v j ⊗ slope_at K (suc (suc m)) f z) (value_at K (suc m) (product_at K f s) z) (power_ne_zero K (x j) (m + 1) (live j inside))
+      mul_cancel K _ _ _ (power_ne_zero K (x j) (m + 1) (live j inside))
       (
-      ap (λ w. power K (x j) (m + 1) ⊗ (v j ⊗ w)) (value_longer K (suc m) (suc (suc m)) q z (omega arith) short_q)
-      ∙ regroup (power K (x j) (m + 1)) (v j) (value_at K (suc m) q z)
-      ∙ sym (sum_of_one K n j (λ l. v l ⊗ power K (x l) (m + 1) ⊗ value_at K (suc m) q (inverse (x l))) inside others)
-      ∙ sym (product_sums n m x v q s one sums)
-      ∙ front_sum (x j) z (product_at K q s) (product_at K f s) (one j inside) (factored_product f q s z whole) m
-      ∙ ap (λ k. power K (x j) k ⊗ value_at K (suc m) (product_at K f s) z) next
+      cc (
+        value_longer K (suc m) (suc (suc m)) q z (omega arith) short_q,
+        regroup _ (v j) (value_at K (suc m) q z),
+        sum_of_one K n j _ inside others,
+        product_sums n m x v q s one sums,
+        front_sum (x j) z (product_at K q s) (product_at K f s) (one j inside) (factored_product f q s z whole) m,
+        next,
+      )
       )
     where
       z : F
@@ -114,26 +116,20 @@ module _ {F : Type 0} (K : Field F) where
       other_element : (l : ℕ) → l < n → l ≢ j → z ⊕ inverse (x l) ≢ 𝟘
       other_element l low other same =
           other (apart.apart l j low inside (
-          sym (mul_one K (x l))
-          ∙ ap (λ w. x l ⊗ w) (sym (one j inside))
-          ∙ mul_left_comm K (x l) (x j) z
-          ∙ ap (λ w. x j ⊗ (x l ⊗ w)) (same_from_sum K z (inverse (x l)) same)
-          ∙ ap (λ w. x j ⊗ w) (one l low)
-          ∙ mul_one K (x j)))
+          cc (mul_one K (x l), one j inside, mul_left_comm K (x l) (x j) z, same_from_sum K z (inverse (x l)) same, one l low, mul_one K (x j))))
 
       others : (l : ℕ) → l < n → l ≢ j → v l ⊗ power K (x l) (m + 1) ⊗ value_at K (suc m) q (inverse (x l)) ≡ 𝟘
       others l low other =
           elim (K.is_zero (v l)) [
             | inl none ↦
-                ap (λ w. w ⊗ power K (x l) (m + 1) ⊗ value_at K (suc m) q (inverse (x l))) none
-                ∙ ap (λ w. w ⊗ value_at K (suc m) q (inverse (x l))) (zero_mul K (power K (x l) (m + 1)))
-                ∙ zero_mul K (value_at K (suc m) q (inverse (x l)))
+                cc (none, zero_mul K (power K (x l) (m + 1)), zero_mul K (value_at K (suc m) q (inverse (x l))))
             | inr some ↦
-                ap (λ w. v l ⊗ power K (x l) (m + 1) ⊗ w)
-                (sym (value_longer K (suc m) (suc (suc m)) q (inverse (x l)) (omega arith) short_q)
-                ∙ other_zero K (z ⊕ inverse (x l)) (value_at K (suc (suc m)) q (inverse (x l))) (other_element l low other)
-                (sym (value-factored K (suc (suc m)) f q z (inverse (x l)) (omega arith) (short_rest K (suc (suc m)) f z) whole) ∙ zeros l low some))
-                ∙ mul_zero K (v l ⊗ power K (x l) (m + 1))
+                cc (
+                  value_longer K (suc m) (suc (suc m)) q (inverse (x l)) (omega arith) short_q,
+                  other_zero K (z ⊕ inverse (x l)) _ (other_element l low other)
+                      (sym (value-factored K (suc (suc m)) f q z (inverse (x l)) (omega arith) (short_rest K (suc (suc m)) f z) whole) ∙ zeros l low some),
+                  mul_zero K (v l ⊗ power K (x l) (m + 1)),
+                )
           ]
 
   -- Forney's formula

@@ -27,8 +27,7 @@ module _ {F : Type 0} (K : Field F) where
           omega (
             arith,
             nonzeros_mono K n w v
-                (λ l low e. ap (λ a. a ⊗ power K (x l) t ⊗ value_at K (t + 1) f (inverse (x l))) e
-                ∙ ap (λ a. a ⊗ value_at K (t + 1) f (inverse (x l))) (zero_mul K (power K (x l) t)) ∙ zero_mul K (value_at K (t + 1) f (inverse (x l)))),
+                (λ l low e. cc (e, zero_mul K (power K (x l) t), zero_mul K (value_at K (t + 1) f (inverse (x l))))),
           )
 
       term : (p q a b : F) → a ⊗ p ⊗ b ⊗ q ≡ a ⊗ (p ⊗ q) ⊗ b
@@ -38,7 +37,7 @@ module _ {F : Type 0} (K : Field F) where
       vanish i low high =
           let m : ℕ = t + i - 1 in
           let next : m + 1 ≡ t + i = omega arith in
-          sum_same K n (λ l. w l ⊗ power K (x l) i) (λ l. v l ⊗ power K (x l) (m + 1) ⊗ value_at K (suc m) f (inverse (x l)))
+          sum_same K n (λ l. w l ⊗ power K (x l) i) _
           (λ l below.
           term (power K (x l) t) (power K (x l) i) (v l) (value_at K (t + 1) f (inverse (x l)))
           ∙ ap₂ (λ a b. v l ⊗ a ⊗ b) (sym (power-add K (x l) t i) ∙ ap (power K (x l)) (sym next)) (sym (value_longer K (t + 1) (suc m) f (inverse (x l)) (omega arith) short)))

@@ -22,7 +22,7 @@ module _ {F : Type 0} (K : Field F) where
   -- the product is the sum of the second factor's multiples by the first factor's terms
   pub product_by_rows : (m : ℕ) (f g : ℕ → F) → IsShort K m f → (n : ℕ) → product_at K f g n ≡ sum_below K m (λ i. f i ⊗ shifted K i g n)
   product_by_rows m f g short n =
-      sum_same K (suc n) (λ i. f i ⊗ g (n - i)) (λ i. f i ⊗ shifted K i g n) (λ i h. ap (λ w. f i ⊗ w) (sym (shifted_from i g n (omega arith))))
+      sum_same K _ _ (λ i. f i ⊗ shifted K i g n) (λ i h. cc (shifted_from i g n (omega arith)))
       ∙ elim (cases_lt n m) [
         | inl below ↦ sym (sum_longer K (suc n) m (λ i. f i ⊗ shifted K i g n) below (λ i low high. ap (λ w. f i ⊗ w) (shifted_below i g n (omega arith)) ∙ mul_zero K (f i)))
         | inr above ↦ sum_longer K m (suc n) (λ i. f i ⊗ shifted K i g n) (omega arith) (λ i low high. ap (λ w. w ⊗ shifted K i g n) (short.above i low) ∙ zero_mul K (shifted K i g n))
@@ -30,19 +30,19 @@ module _ {F : Type 0} (K : Field F) where
 
   -- coefficients up to n make that of x^n
   pub product_agree : (f g h : ℕ → F) (n : ℕ) → ((i : ℕ) → i ≤ n → g i ≡ h i) → product_at K f g n ≡ product_at K f h n
-  product_agree f g h n e = sum_same K (suc n) (λ i. f i ⊗ g (n - i)) (λ i. f i ⊗ h (n - i)) (λ i low. ap (λ w. f i ⊗ w) (e (n - i) (omega arith)))
+  product_agree f g h n e = sum_same K _ _ _ (λ i low. rw (e (n - i) (omega arith)))
 
   pub product_same : (f g h : ℕ → F) → ((i : ℕ) → g i ≡ h i) → (n : ℕ) → product_at K f g n ≡ product_at K f h n
-  product_same f g h e n = sum_same K (suc n) (λ i. f i ⊗ g (n - i)) (λ i. f i ⊗ h (n - i)) (λ i low. ap (λ w. f i ⊗ w) (e (n - i)))
+  product_same f g h e n = sum_same K _ _ _ (λ i low. rw (e _))
 
   pub product_same_left : (f g h : ℕ → F) → ((i : ℕ) → f i ≡ g i) → (n : ℕ) → product_at K f h n ≡ product_at K g h n
-  product_same_left f g h e n = sum_same K (suc n) (λ i. f i ⊗ h (n - i)) (λ i. g i ⊗ h (n - i)) (λ i low. ap (λ w. w ⊗ h (n - i)) (e i))
+  product_same_left f g h e n = sum_same K _ _ _ (λ i low. rw (e i))
 
   pub product_comm : (f g : ℕ → F) (n : ℕ) → product_at K f g n ≡ product_at K g f n
   product_comm f g n =
-      sym (sum_reverse K (suc n) (λ i. f i ⊗ g (n - i)))
-      ∙ sum_same K (suc n) (λ i. f (suc n - 1 - i) ⊗ g (n - (suc n - 1 - i))) (λ i. g i ⊗ f (n - i))
-      (λ i h. ap₂ (λ a b. f a ⊗ g b) (other i) (same i h) ∙ mul_comm K (f (n - i)) (g i))
+      sym (sum_reverse K _ _)
+      ∙ sum_same K _ _ _
+      (λ i h. ap₂ (λ a b. f a ⊗ g b) (other i) (same i h) ∙ mul_comm K _ _)
     where
       other : (i : ℕ) → suc n - 1 - i ≡ n - i
       other i = omega arith
@@ -52,23 +52,23 @@ module _ {F : Type 0} (K : Field F) where
 
   pub product-add : (f g h : ℕ → F) (n : ℕ) → product_at K f (λ i. g i ⊕ h i) n ≡ product_at K f g n ⊕ product_at K f h n
   product-add f g h n =
-      sum_same K (suc n) (λ i. f i ⊗ (g (n - i) ⊕ h (n - i))) (λ i. f i ⊗ g (n - i) ⊕ f i ⊗ h (n - i)) (λ i low. mul_add K (f i) (g (n - i)) (h (n - i)))
-      ∙ sum-add K (suc n) (λ i. f i ⊗ g (n - i)) (λ i. f i ⊗ h (n - i))
+      sum_same K _ _ _ (λ i low. mul_add K _ _ _)
+      ∙ sum-add K _ _ _
 
   pub product-add_left : (f g h : ℕ → F) (n : ℕ) → product_at K (λ i. f i ⊕ g i) h n ≡ product_at K f h n ⊕ product_at K g h n
   product-add_left f g h n =
-      rw (product_comm (λ i. f i ⊕ g i) h n, product-add h f g n, product_comm h f n, product_comm h g n)
+      rw (product_comm _ h n, product-add h f g n, product_comm h f n, product_comm h g n)
 
   pub product-mul_left : (c : F) (f g : ℕ → F) (n : ℕ) → product_at K (λ i. c ⊗ f i) g n ≡ c ⊗ product_at K f g n
   product-mul_left c f g n =
-      sum_same K (suc n) (λ i. c ⊗ f i ⊗ g (n - i)) (λ i. c ⊗ (f i ⊗ g (n - i))) (λ i h. mul_assoc K c (f i) (g (n - i)))
-      ∙ sum-mul K (suc n) c (λ i. f i ⊗ g (n - i))
+      sum_same K _ _ _ (λ i h. mul_assoc K c _ _)
+      ∙ sum-mul K _ c _
 
   -- the first factor's first term apart
   pub product_first : (f g : ℕ → F) (n : ℕ) → product_at K f g (suc n) ≡ f 0 ⊗ g (suc n) ⊕ product_at K (λ i. f (suc i)) g n
   product_first f g n =
-      sum_first K (suc n) (λ i. f i ⊗ g (suc n - i))
-      ∙ ap₂ ◌⊕◌ (ap (λ k. f 0 ⊗ g k) whole) (sum_same K (suc n) (λ i. f (suc i) ⊗ g (suc n - suc i)) (λ i. f (suc i) ⊗ g (n - i)) (λ i h. ap (λ k. f (suc i) ⊗ g k) (less i)))
+      sum_first K _ _
+      ∙ ap₂ ◌⊕◌ (rw whole) (sum_same K _ _ _ (λ i h. rw (less i)))
     where
       whole : suc n - 0 ≡ suc n
       whole = omega arith
@@ -77,7 +77,7 @@ module _ {F : Type 0} (K : Field F) where
       less i = omega arith
 
   pub product_at_zero : (f g : ℕ → F) → product_at K f g 0 ≡ f 0 ⊗ g 0
-  product_at_zero f g = sum_of_one K 1 0 (λ i. f i ⊗ g (0 - i)) (omega arith) (λ i h apart. absurd (omega arith))
+  product_at_zero f g = sum_of_one K 1 0 _ (omega arith) (λ i h apart. absurd (omega arith))
 
   pub product_assoc : (f g h : ℕ → F) (n : ℕ) → product_at K (product_at K f g) h n ≡ product_at K f (product_at K g h) n
   product_assoc f g h zero =
@@ -86,9 +86,9 @@ module _ {F : Type 0} (K : Field F) where
       cc (
         product_first (product_at K f g) h n,
         product_at_zero f g,
-        product_same_left (λ i. product_at K f g (suc i)) (λ i. f 0 ⊗ g (suc i) ⊕ product_at K (λ i. f (suc i)) g i) h (product_first f g) n,
+        product_same_left _ _ h (product_first f g) n,
         product-add_left (λ i. f 0 ⊗ g (suc i)) (product_at K (λ i. f (suc i)) g) h n,
-        product-mul_left (f 0) (λ i. g (suc i)) h n,
+        product-mul_left (f 0) _ h n,
         product_assoc (λ i. f (suc i)) g h n,
         regroup (f 0) (g 0) (h (suc n)) (product_at K (λ i. g (suc i)) h n) (product_at K (λ i. f (suc i)) (product_at K g h) n),
         product_first g h n,
@@ -103,14 +103,14 @@ module _ {F : Type 0} (K : Field F) where
   product_monomial f h c s at others n =
       elim (cases_lt n s) [
         | inl below ↦
-            sum_of_zeros K (suc n) (λ i. f i ⊗ h (n - i)) (λ i low. ap (λ w. f i ⊗ w) (others (n - i) (omega arith)) ∙ mul_zero K (f i))
+            sum_of_zeros K (suc n) _ (λ i low. cc (others (n - i) (omega arith), mul_zero K (f i)))
             ∙ sym (simp (shifted_below, mul_zero))
         | inr above ↦
             cc (
-              sum_of_one K (suc n) (n - s) (λ i. f i ⊗ h (n - i)) (omega arith) (λ i low apart. ap (λ w. f i ⊗ w) (others (n - i) (omega arith)) ∙ mul_zero K (f i)),
+              sum_of_one K (suc n) (n - s) _ (omega arith) (λ i low apart. ap (λ w. f i ⊗ w) (others (n - i) (omega arith)) ∙ mul_zero K (f i)),
               back above,
               at,
-              mul_comm K (f (n - s)) c,
+              mul_comm K _ c,
               shifted_from s f n above,
             )
       ]
@@ -123,7 +123,7 @@ module _ {F : Type 0} (K : Field F) where
   shifted_agree s count n f g low same =
       elim (cases_lt n s) [
         | inl below ↦ simp shifted_below
-        | inr from ↦ shifted_from s f n from ∙ same (n - s) (omega arith) ∙ sym (shifted_from s g n from)
+        | inr from ↦ shifted_from s f n from ∙ same _ (omega arith) ∙ sym (shifted_from s g n from)
       ]
 
   -- a shift of a factor shifts the product
@@ -133,21 +133,21 @@ module _ {F : Type 0} (K : Field F) where
       ∙ product_assoc g unit h n
       ∙ product_same g (product_at K unit h) (product_at K h unit) (product_comm unit h) n
       ∙ sym (product_assoc g h unit n)
-      ∙ monomial (product_at K g h) n
+      ∙ monomial _ n
     where
       unit : ℕ → F
       unit i = cond (eqb i s) 𝟙 𝟘
 
       monomial : (f : ℕ → F) (i : ℕ) → product_at K f unit i ≡ shifted K s f i
       monomial f i =
-          product_monomial f unit 𝟙 s (ap (λ t. cond t 𝟙 𝟘) (eq-eqb s s refl)) (λ k other. ap (λ t. cond t 𝟙 𝟘) (ne_eqb k s other)) i
+          product_monomial f unit 𝟙 s (rw (eq-eqb s s refl)) (λ k other. rw (ne_eqb k s other)) i
           ∙ mul_comm K 𝟙 (shifted K s f i)
           ∙ mul_one K (shifted K s f i)
 
   -- the product has no coefficient where the terms that would make it are zero
   pub product_zero : (f g : ℕ → F) (n : ℕ) → ((i j : ℕ) → i + j ≡ n → (f i ≡ 𝟘) ⊎ (g j ≡ 𝟘)) → product_at K f g n ≡ 𝟘
   product_zero f g n e =
-      sum_of_zeros K (suc n) (λ i. f i ⊗ g (n - i)) (λ i low. elim (e i (n - i) (omega arith)) [
+      sum_of_zeros K _ _ (λ i low. elim (e i (n - i) (omega arith)) [
         | inl left ↦ simp (left, zero_mul)
         | inr right ↦ simp (right, mul_zero)
       ])
@@ -155,8 +155,7 @@ module _ {F : Type 0} (K : Field F) where
   -- the leading coefficient of a product
   pub product_leading : (f g : ℕ → F) (d e : ℕ) → IsDegree K f d → IsDegree K g e → product_at K f g (d + e) ≡ f d ⊗ g e
   product_leading f g d e df dg =
-      sum_of_one K (suc (d + e)) d (λ i. f i ⊗ g (d + e - i)) (omega arith) others
-      ∙ ap (λ k. f d ⊗ g k) rest
+      cc (sum_of_one K _ d _ (omega arith) others, rest)
     where
       rest : d + e - d ≡ e
       rest = omega arith
@@ -164,14 +163,14 @@ module _ {F : Type 0} (K : Field F) where
       others : (i : ℕ) → i < suc (d + e) → i ≢ d → f i ⊗ g (d + e - i) ≡ 𝟘
       others i low apart =
           elim (cases_lt d i) [
-            | inl above ↦ ap (λ w. w ⊗ g (d + e - i)) (df.above i above) ∙ zero_mul K (g (d + e - i))
-            | inr below ↦ ap (λ w. f i ⊗ w) (dg.above (d + e - i) (omega arith)) ∙ mul_zero K (f i)
+            | inl above ↦ ap (λ w. w ⊗ g (d + e - i)) (df.above i above) ∙ zero_mul K _
+            | inr below ↦ cc (dg.above (d + e - i) (omega arith), mul_zero K (f i))
           ]
 
   -- the degrees of factors add
   pub product_degree : (f g : ℕ → F) (d e : ℕ) → IsDegree K f d → IsDegree K g e → IsDegree K (product_at K f g) (d + e)
   product_degree f g d e df dg = record {
-    leading = λ none. mul_ne_zero K (f d) (g e) df.leading dg.leading (sym (product_leading f g d e df dg) ∙ none);
+    leading = λ none. mul_ne_zero K _ _ df.leading dg.leading (sym (product_leading f g d e df dg) ∙ none);
     above = λ n h. product_zero f g n (λ i j whole. elim (cases_lt d i) [ inl above ↦ inl (df.above i above) | inr below ↦ inr (dg.above j (omega arith)) ]);
   }
 
@@ -181,7 +180,7 @@ module _ {F : Type 0} (K : Field F) where
   pub zero_or_degree : (n : ℕ) (f : ℕ → F) → IsShort K n f → IsZero K f ⊎ ((d : ℕ) × (d < n) × IsDegree K f d)
   zero_or_degree zero f short = inl (λ i. short.above i (omega arith))
   zero_or_degree (suc n) f short =
-      elim (K.is_zero (f n)) [
+      elim (K.is_zero _) [
         | inl same ↦ elim (zero_or_degree n f (shorter same)) [ inl none ↦ inl none | inr (d, low, degree) ↦ inr (d, (omega arith), degree) ]
         | inr apart ↦ inr (n, (omega arith), record { leading = apart; above = λ i h. short.above i h })
       ]
@@ -212,18 +211,11 @@ module _ {F : Type 0} (K : Field F) where
       no_degree : (e : ℕ) → IsDegree K difference e → ⊥
       no_degree e top =
           mul_ne_zero K (b d) (difference e) degree.leading top.leading
-          (sym (product_leading b difference d e degree top)
-          ∙ product-add b q p (d + e)
-          ∙ ap (λ w. w ⊕ product_at K b p (d + e)) equal
-          ∙ add_self K (product_at K b p (d + e)))
+          (cc (product_leading b difference d e degree top, product-add b q p _, equal, add_self K (product_at K b p (d + e))))
         where
           equal : product_at K b q (d + e) ≡ product_at K b p (d + e)
           equal =
-              sym (add_zero K (product_at K b q (d + e)))
-              ∙ ap (λ w. product_at K b q (d + e) ⊕ w) (sym (short_r.above (d + e) (omega arith)))
-              ∙ same (d + e)
-              ∙ ap (λ w. product_at K b p (d + e) ⊕ w) (short_t.above (d + e) (omega arith))
-              ∙ add_zero K (product_at K b p (d + e))
+              cc (add_zero K (product_at K b q (d + e)), short_r.above (d + e) (omega arith), same (d + e), short_t.above (d + e) (omega arith), add_zero K (product_at K b p (d + e)))
 
       none : (i : ℕ) → q i ⊕ p i ≡ 𝟘
       none i = elim (zero_or_degree n difference short) [ inl zeros ↦ zeros i | inr (e, low, top) ↦ absurd (no_degree e top) ]

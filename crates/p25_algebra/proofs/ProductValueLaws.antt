@@ -12,23 +12,23 @@ module _ {F : Type 0} (K : Field F) where
   infixl 70 ◌⊗◌
   pub value-add : (n : ℕ) (f g : ℕ → F) (x : F) → value_at K n (λ i. f i ⊕ g i) x ≡ value_at K n f x ⊕ value_at K n g x
   value-add n f g x =
-      sum_same K n (λ i. (f i ⊕ g i) ⊗ power K x i) (λ i. f i ⊗ power K x i ⊕ g i ⊗ power K x i) (λ i h. add_mul K (f i) (g i) (power K x i))
-      ∙ sum-add K n (λ i. f i ⊗ power K x i) (λ i. g i ⊗ power K x i)
+      sum_same K n _ _ (λ i h. add_mul K _ _ _)
+      ∙ sum-add K n _ _
 
   pub value-mul : (n : ℕ) (c : F) (f : ℕ → F) (x : F) → value_at K n (λ i. c ⊗ f i) x ≡ c ⊗ value_at K n f x
   value-mul n c f x =
-      sum_same K n (λ i. c ⊗ f i ⊗ power K x i) (λ i. c ⊗ (f i ⊗ power K x i)) (λ i h. mul_assoc K c (f i) (power K x i))
-      ∙ sum-mul K n c (λ i. f i ⊗ power K x i)
+      sum_same K n _ _ (λ i h. mul_assoc K c _ _)
+      ∙ sum-mul K n c _
 
   -- coefficients that are zero change no value
   pub value_longer : (n m : ℕ) (f : ℕ → F) (x : F) → n ≤ m → IsShort K n f → value_at K m f x ≡ value_at K n f x
   value_longer n m f x h short =
-      sum_longer K n m (λ i. f i ⊗ power K x i) h (λ i low high. ap (λ w. w ⊗ power K x i) (short.above i low) ∙ zero_mul K (power K x i))
+      sum_longer K n m _ h (λ i low high. cc (short.above i low, zero_mul K (power K x i)))
 
   shifted-suc : (s : ℕ) (f : ℕ → F) (n : ℕ) → shifted K (suc s) f (suc n) ≡ shifted K s f n
   shifted-suc s f n =
       elim (cases_lt n s) [
-        | inl below ↦ shifted_below K (suc s) f (suc n) (omega arith) ∙ sym (shifted_below K s f n below)
+        | inl below ↦ shifted_below K _ f _ (omega arith) ∙ sym (shifted_below K s f n below)
         | inr from ↦ cc (shifted_from K (suc s) f (suc n) (omega arith), same, shifted_from K s f n from)
       ]
     where
@@ -50,11 +50,11 @@ module _ {F : Type 0} (K : Field F) where
   value-shifted (suc s) k zero f x short fits = absurd (omega arith)
   value-shifted (suc s) k (suc n) f x short fits =
       cc (
-        value_first K n (shifted K (suc s) f) x,
+        value_first K n (shifted K _ f) x,
         shifted_below K (suc s) f 0 (omega arith),
         value_same K n (λ i. shifted K (suc s) f (suc i)) (shifted K s f) x (λ i h. shifted-suc s f i),
         value-shifted s k n f x short (omega arith),
-        zero_add K (x ⊗ (power K x s ⊗ value_at K k f x)),
+        zero_add K (x ⊗ _),
         mul_assoc K x (power K x s) (value_at K k f x),
         power-suc K x s,
       )
@@ -66,12 +66,10 @@ module _ {F : Type 0} (K : Field F) where
   -- the value of a product is the product of the values
   pub value-product : (m k n : ℕ) (f g : ℕ → F) (x : F) → IsShort K m f → IsShort K k g → m + k ≤ n → value_at K n (product_at K f g) x ≡ value_at K m f x ⊗ value_at K k g x
   value-product m k n f g x short_f short_g fits =
-      sum_same K n (λ j. product_at K f g j ⊗ power K x j) (λ j. sum_below K m (λ i. f i ⊗ shifted K i g j ⊗ power K x j))
-      (λ j h. ap (λ w. w ⊗ power K x j) (product_by_rows K m f g short_f j) ∙ sum-mul_right m (λ i. f i ⊗ shifted K i g j) (power K x j))
+      sum_same K n _ _
+      (λ j h. cc (product_by_rows K m f g short_f j, sum-mul_right m (λ i. f i ⊗ shifted K i g j) (power K x j)))
       ∙ sum_exchange K n m (λ j i. f i ⊗ shifted K i g j ⊗ power K x j)
-      ∙ sum_same K m (λ i. sum_below K n (λ j. f i ⊗ shifted K i g j ⊗ power K x j)) (λ i. f i ⊗ power K x i ⊗ value_at K k g x)
+      ∙ sum_same K m _ _
       (λ i h.
-      value-mul n (f i) (shifted K i g) x
-      ∙ ap (λ w. f i ⊗ w) (value-shifted i k n g x short_g (omega arith))
-      ∙ sym (mul_assoc K (f i) (power K x i) (value_at K k g x)))
-      ∙ sym (sum-mul_right m (λ i. f i ⊗ power K x i) (value_at K k g x))
+      cc (value-mul n (f i) (shifted K i g) x, value-shifted i k n g x short_g (omega arith), mul_assoc K (f i) _ _))
+      ∙ sym (sum-mul_right m _ _)

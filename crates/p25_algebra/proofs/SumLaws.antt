@@ -31,12 +31,12 @@ module _ {F : Type 0} (K : Field F) where
   pub sum-add : (n : ℕ) (s t : ℕ → F) → sum_below K n (λ i. s i ⊕ t i) ≡ sum_below K n s ⊕ sum_below K n t
   unfolding sum_below
   sum-add zero s t = sym (add_zero K 𝟘)
-  sum-add (suc n) s t = cc (sum-add n s t, add_swap K (sum_below K n s) (sum_below K n t) (s n) (t n))
+  sum-add (suc n) s t = cc (sum-add n s t, add_swap K _ _ _ _)
 
   pub sum-mul : (n : ℕ) (c : F) (t : ℕ → F) → sum_below K n (λ i. c ⊗ t i) ≡ c ⊗ sum_below K n t
   unfolding sum_below
   sum-mul zero c t = sym (mul_zero K c)
-  sum-mul (suc n) c t = cc (sum-mul n c t, mul_add K c (sum_below K n t) (t n))
+  sum-mul (suc n) c t = cc (sum-mul n c t, mul_add K c _ _)
 
   -- terms that are zero past n add nothing
   pub sum_longer : (n m : ℕ) (t : ℕ → F) → n ≤ m → ((i : ℕ) → n ≤ i → i < m → t i ≡ 𝟘) → sum_below K m t ≡ sum_below K n t
@@ -51,18 +51,18 @@ module _ {F : Type 0} (K : Field F) where
   -- a sum with one term that may not be zero is that term
   pub sum_of_one : (n j : ℕ) (t : ℕ → F) → j < n → ((i : ℕ) → i < n → i ≢ j → t i ≡ 𝟘) → sum_below K n t ≡ t j
   sum_of_one n j t h e =
-      rw (sum_longer (suc j) n t h (λ i low high. e i high (omega arith)), sum-suc j t, sum_of_zeros j t (λ i low. e i (omega arith) (omega arith)), zero_add K (t j))
+      rw (sum_longer _ n t h (λ i low high. e i high (omega arith)), sum-suc j t, sum_of_zeros j t (λ i low. e i (omega arith) (omega arith)), zero_add K (t j))
 
   -- the first term apart
   pub sum_first : (n : ℕ) (t : ℕ → F) → sum_below K (suc n) t ≡ t 0 ⊕ sum_below K n (λ i. t (suc i))
   unfolding sum_below
   sum_first zero t = simp (zero_add, add_zero)
-  sum_first (suc n) t = cc (sum_first n t, add_assoc K (t 0) (sum_below K n (λ i. t (suc i))) (t (suc n)))
+  sum_first (suc n) t = cc (sum_first n t, add_assoc K _ _ _)
 
   -- two sums change places
   pub sum_exchange : (n m : ℕ) (t : ℕ → ℕ → F) → sum_below K n (λ i. sum_below K m (λ j. t i j)) ≡ sum_below K m (λ j. sum_below K n (λ i. t i j))
   unfolding sum_below
-  sum_exchange zero m t = sym (sum_of_zeros m (λ j. 𝟘) (λ j h. refl))
+  sum_exchange zero m t = sym (sum_of_zeros m _ (λ j h. refl))
   sum_exchange (suc n) m t =
       cc (sum_exchange n m t, sum-add m (λ j. sum_below K n (λ i. t i j)) (λ j. t n j))
 
@@ -71,9 +71,9 @@ module _ {F : Type 0} (K : Field F) where
   unfolding sum_below
   sum_reverse zero t = refl
   sum_reverse (suc n) t =
-      sum_first n (λ i. t (suc n - 1 - i))
-      ∙ ap₂ ◌⊕◌ (ap t (whole n)) (sum_same n (λ i. t (suc n - 1 - suc i)) (λ i. t (n - 1 - i)) (λ i h. ap t (less n i)) ∙ sum_reverse n t)
-      ∙ add_comm K (t n) (sum_below K n t)
+      sum_first n _
+      ∙ ap₂ ◌⊕◌ (ap t (whole n)) (sum_same n _ _ (λ i h. ap t (less n i)) ∙ sum_reverse n t)
+      ∙ add_comm K _ _
     where
       whole : (n : ℕ) → suc n - 1 - 0 ≡ n
       whole n = omega arith

@@ -13,26 +13,26 @@ module _ {F : Type 0} (K : Field F) where
   infixl 70 ◌⊗◌
   -- the value of no coefficients
   pub value-none : (f : ℕ → F) (x : F) → value_at K 0 f x ≡ 𝟘
-  value-none f x = sum-none K (λ i. f i ⊗ power K x i)
+  value-none f x = sum-none K _
 
   -- the value by the value of the other coefficients, as Horner's rule has it
   pub value_first : (n : ℕ) (f : ℕ → F) (x : F) → value_at K (suc n) f x ≡ f 0 ⊕ x ⊗ value_at K n (λ i. f (suc i)) x
   value_first n f x =
       rw (
-        sum_first K n (λ i. f i ⊗ power K x i),
+        sum_first K n _,
         power-zero K x,
         mul_one K (f 0),
-        sum_same K n (λ i. f (suc i) ⊗ power K x (suc i)) (λ i. x ⊗ (f (suc i) ⊗ power K x i)) (λ i h. ap (λ w. f (suc i) ⊗ w) (power-suc K x i) ∙ mul_left_comm K (f (suc i)) x (power K x i)),
+        sum_same K n _ _ (λ i h. ap (λ w. f (suc i) ⊗ w) (power-suc K x i) ∙ mul_left_comm K (f (suc i)) x (power K x i)),
         sum-mul K n x (λ i. f (suc i) ⊗ power K x i),
       )
 
   -- values of equal coefficients are equal
   pub value_same : (n : ℕ) (f g : ℕ → F) (x : F) → ((i : ℕ) → i < n → f i ≡ g i) → value_at K n f x ≡ value_at K n g x
-  value_same n f g x e = sum_same K n (λ i. f i ⊗ power K x i) (λ i. g i ⊗ power K x i) (λ i h. ap (λ w. w ⊗ power K x i) (e i h))
+  value_same n f g x e = sum_same K n _ _ (λ i h. rw (e i h))
 
   -- the value of coefficients that are zero
   pub value_of_zeros : (n : ℕ) (f : ℕ → F) (x : F) → ((i : ℕ) → i < n → f i ≡ 𝟘) → value_at K n f x ≡ 𝟘
-  value_of_zeros n f x e = sum_of_zeros K n (λ i. f i ⊗ power K x i) (λ i h. ap (λ w. w ⊗ power K x i) (e i h) ∙ zero_mul K (power K x i))
+  value_of_zeros n f x e = sum_of_zeros K n _ (λ i h. cc (e i h, zero_mul K (power K x i)))
 
   -- ---- few zeros
 
@@ -55,28 +55,19 @@ module _ {F : Type 0} (K : Field F) where
     where
       constant : (y : F) → value_at K 1 f y ≡ f 0
       constant y =
-          value_first 0 f y
-          ∙ ap (λ w. f 0 ⊕ y ⊗ w) (value-none (λ i. f (suc i)) y)
-          ∙ ap (λ w. f 0 ⊕ w) (mul_zero K y)
-          ∙ add_zero K (f 0)
+          cc (value_first 0 f y, value-none _ y, mul_zero K y, add_zero K (f 0))
 
   quotient_more : (n : ℕ) (f h : ℕ → F) (z : F) → IsQuotientAt n (λ i. f (suc i)) h z → IsQuotientAt (suc n) f (led_by (value_at K (suc n) (λ i. f (suc i)) z) h) z
   unfolding led_by
   quotient_more n f h z q = record {
     value = λ x.
-        value_first (suc n) f x
-        ∙ ap (λ w. f 0 ⊕ x ⊗ w) (q.value x)
-        ∙ sym (quotient_step x z (f 0) (value_at K (suc n) (λ i. f (suc i)) z) (value_at K n h x))
-        ∙ ap₂ (λ a b. a ⊗ (x ⊕ z) ⊕ b) (sym (value_first n (led_by (value_at K (suc n) (λ i. f (suc i)) z) h) x)) (sym (value_first (suc n) f z));
+        cc (value_first (suc n) f x, q.value x, quotient_step x z (f 0) _ (value_at K n h x), ap₂ (λ a b. a ⊗ (x ⊕ z) ⊕ b) (sym (value_first n (led_by _ h) x)) (sym (value_first (suc n) f z)));
     zeros = zeros;
   }
     where
       first : value_at K (suc n) (λ i. f (suc i)) z ≡ 𝟘 → ((i : ℕ) → i < n → h i ≡ 𝟘) → f 1 ≡ 𝟘
       first none rest =
-          sym (add_zero K (f 1))
-          ∙ ap (λ w. f 1 ⊕ w) (sym (ap (λ w. z ⊗ w) (value_of_zeros n (λ i. f (suc (suc i))) z (q.zeros rest)) ∙ mul_zero K z))
-          ∙ sym (value_first n (λ i. f (suc i)) z)
-          ∙ none
+          cc (add_zero K (f 1), value_of_zeros n _ z (q.zeros rest), mul_zero K z, value_first n _ z, none)
 
       zeros : ((i : ℕ) → i < suc n → led_by (value_at K (suc n) (λ i. f (suc i)) z) h i ≡ 𝟘) → (i : ℕ) → i < suc n → f (suc i) ≡ 𝟘
       zeros e zero low = first (e 0 (omega arith)) (λ i h. e (suc i) (omega arith))
@@ -85,8 +76,8 @@ module _ {F : Type 0} (K : Field F) where
   quotient_at : (n : ℕ) (f : ℕ → F) (z : F) → (g : ℕ → F) × IsQuotientAt n f g z
   quotient_at zero f z = (f, record { value = quotient_none f z; zeros = λ e i h. absurd (omega arith) })
   quotient_at (suc n) f z =
-      let (h, q) = quotient_at n (λ i. f (suc i)) z in
-      (led_by (value_at K (suc n) (λ i. f (suc i)) z) h, quotient_more n f h z q)
+      let (h, q) = quotient_at n _ z in
+      (led_by _ h, quotient_more n f h z q)
 
   -- n coefficients are all zero where the polynomial has n different zeros
   pub few_zeros : (n m : ℕ) (f z : ℕ → F) → n ≤ m → AreApart m z → ((j : ℕ) → j < m → value_at K n f (z j) ≡ 𝟘) → (i : ℕ) → i < n → f i ≡ 𝟘
@@ -97,21 +88,14 @@ module _ {F : Type 0} (K : Field F) where
     where
       zeros_left : (g : ℕ → F) → IsQuotientAt n f g (z m) → (j : ℕ) → j < m → value_at K n g (z j) ≡ 𝟘
       zeros_left g q j low =
-          other_zero K (z j ⊕ z m) (value_at K n g (z j)) different
-          (mul_comm K (z j ⊕ z m) (value_at K n g (z j))
-          ∙ sym (add_zero K (value_at K n g (z j) ⊗ (z j ⊕ z m)))
-          ∙ ap (λ w. value_at K n g (z j) ⊗ (z j ⊕ z m) ⊕ w) (sym (zeros m (omega arith)))
-          ∙ sym (q.value (z j))
-          ∙ zeros j (omega arith))
+          other_zero K (z j ⊕ z m) _ different
+          (cc (mul_comm K (z j ⊕ z m) _, add_zero K (value_at K n g (z j) ⊗ (z j ⊕ z m)), zeros m (omega arith), q.value (z j), zeros j (omega arith)))
         where
           different : z j ⊕ z m ≢ 𝟘
           different e = let same : j ≡ m = apart.apart j m (omega arith) (omega arith) (same_from_sum K (z j) (z m) e) in omega arith
 
       all_zero : ((i : ℕ) → i < n → f (suc i) ≡ 𝟘) → (i : ℕ) → i < suc n → f i ≡ 𝟘
       all_zero rest zero low =
-          sym (add_zero K (f 0))
-          ∙ ap (λ w. f 0 ⊕ w) (sym (ap (λ w. z m ⊗ w) (value_of_zeros n (λ i. f (suc i)) (z m) rest) ∙ mul_zero K (z m)))
-          ∙ sym (value_first n f (z m))
-          ∙ zeros m (omega arith)
+          cc (add_zero K (f 0), value_of_zeros n _ (z m) rest, mul_zero K (z m), value_first n f (z m), zeros m (omega arith))
       all_zero rest (suc i) low = rest i (omega arith)
   few_zeros n m f z le apart zeros i h = absurd (omega arith)

@@ -49,7 +49,7 @@ module _ {F : Type 0} (K : Field F) where
   pub power_sum-lowered : (n : ℕ) (x v : ℕ → F) (y : F) (i : ℕ) → power_sum K n x (lowered x v y) i ≡ power_sum K n x v (suc i) ⊕ y ⊗ power_sum K n x v i
   power_sum-lowered n x v y i =
       rw (
-        sum_same K n (λ j. v j ⊗ (x j ⊕ y) ⊗ power K (x j) i) (λ j. v j ⊗ power K (x j) (suc i) ⊕ y ⊗ (v j ⊗ power K (x j) i))
+        sum_same K n _ _
             (λ j h. lowered_term (x j) (v j) (power K (x j) i) y ∙ ap (λ w. v j ⊗ w ⊕ y ⊗ (v j ⊗ power K (x j) i)) (sym (power-suc K (x j) i))),
         sum-add K n (λ j. v j ⊗ power K (x j) (suc i)) (λ j. y ⊗ (v j ⊗ power K (x j) i)),
         sum-mul K n y (λ j. v j ⊗ power K (x j) i),
@@ -58,7 +58,7 @@ module _ {F : Type 0} (K : Field F) where
   -- without its last term
   last_apart : (p q r s y : F) → q ≡ r ⊗ y → p ⊕ q ≡ 𝟘 → s ⊕ r ≡ 𝟘 → p ⊕ y ⊗ s ≡ 𝟘
   last_apart p q r s y e high low =
-      rw (same_from_sum K p q high, e, same_from_sum K s r low, mul_comm K y r, add_self K (r ⊗ y))
+      rw (same_from_sum K p q high, e, same_from_sum K s r low, mul_comm K y r, add_self)
 
   abbrev Vanishing : ℕ → (ℕ → F) → (ℕ → F) → ℕ → ℕ → Type 0
   Vanishing n x v m s = (i : ℕ) → s ≤ i → i < s + m → power_sum K n x v i ≡ 𝟘
@@ -74,43 +74,40 @@ module _ {F : Type 0} (K : Field F) where
     where
       vanish : Vanishing n x v m s
       vanish i low high =
-          sym (add_zero K (power_sum K n x v i))
-          ∙ ap (λ w. power_sum K n x v i ⊕ w) (sym (ap (λ w. w ⊗ power K (x n) i) same ∙ zero_mul K (power K (x n) i)))
-          ∙ sym (sum-suc K n (λ j. v j ⊗ power K (x j) i))
-          ∙ none i low high
+          cc (add_zero K (power_sum K n x v i), same, zero_mul K (power K (x n) i), sum-suc K n _, none i low high)
 
   -- the sums of the lowered factors vanish, for one exponent less
   lowered_vanish : (n : ℕ) (x v : ℕ → F) (m s : ℕ) → Vanishing (suc n) x v (suc m) s → Vanishing n x (lowered x v (x n)) m s
   lowered_vanish n x v m s none i low high =
-      power_sum-lowered n x v (x n) i
-      ∙ last_apart (power_sum K n x v (suc i)) (v n ⊗ power K (x n) (suc i)) (v n ⊗ power K (x n) i) (power_sum K n x v i) (x n) next
-      (sym (sum-suc K n (λ j. v j ⊗ power K (x j) (suc i))) ∙ none (suc i) (omega arith) (omega arith))
-      (sym (sum-suc K n (λ j. v j ⊗ power K (x j) i)) ∙ none i low (omega arith))
+      power_sum-lowered n x v _ i
+      ∙ last_apart _ _ _ _ (x n) next
+      (sym (sum-suc K n _) ∙ none (suc i) (omega arith) (omega arith))
+      (sym (sum-suc K n _) ∙ none i low (omega arith))
     where
       next : v n ⊗ power K (x n) (suc i) ≡ v n ⊗ power K (x n) i ⊗ x n
-      next = ap (λ w. v n ⊗ w) (power-suc K (x n) i ∙ mul_comm K (x n) (power K (x n) i)) ∙ sym (mul_assoc K (v n) (power K (x n) i) (x n))
+      next = cc (power-suc K (x n) i, mul_comm K (x n) _, mul_assoc K (v n) _ (x n))
 
   -- then the factors before the last are zero
   before_last : (n : ℕ) (x : ℕ → F) → IsDecided n x → AreApart (suc n) x → (m s : ℕ) (v : ℕ → F) → nonzeros K n v ≤ m → Vanishing (suc n) x v (suc m) s → (j : ℕ) → j < n → v j ≡ 𝟘
   before_last n x decided apart m s v few none j h =
-      other_zero K (x j ⊕ x n) (v j) different (mul_comm K (x j ⊕ x n) (v j) ∙ decided m s (lowered x v (x n)) fewer (lowered_vanish n x v m s none) j h)
+      other_zero K _ (v j) different (mul_comm K _ (v j) ∙ decided m s _ fewer (lowered_vanish n x v m s none) j h)
     where
       different : x j ⊕ x n ≢ 𝟘
       different e = let same : j ≡ n = apart.apart j n (omega arith) (omega arith) (same_from_sum K (x j) (x n) e) in omega arith
 
       fewer : nonzeros K n (lowered x v (x n)) ≤ m
-      fewer = omega (arith, nonzeros_mono n (lowered x v (x n)) v (λ i low e. ap (λ w. w ⊗ (x i ⊕ x n)) e ∙ zero_mul K (x i ⊕ x n)))
+      fewer = omega (arith, nonzeros_mono n (lowered x v (x n)) v (λ i low e. cc (e, zero_mul K (x i ⊕ x n))))
 
   -- and so is the last
   last_too : (n : ℕ) (x v : ℕ → F) (s : ℕ) → x n ≢ 𝟘 → ((j : ℕ) → j < n → v j ≡ 𝟘) → power_sum K (suc n) x v s ≡ 𝟘 → v n ≡ 𝟘
   last_too n x v s live zeros none =
-      other_zero K (power K (x n) s) (v n) (power_ne_zero K (x n) s live)
+      other_zero K _ (v n) (power_ne_zero K (x n) s live)
       (cc (
-        mul_comm K (power K (x n) s) (v n),
+        mul_comm K _ (v n),
         zero_add K (v n ⊗ power K (x n) s),
-        sum_of_zeros K n (λ j. v j ⊗ power K (x j) s) (λ j h. ap (λ w. w ⊗ power K (x j) s) (zeros j h)
-            ∙ zero_mul K (power K (x j) s)),
-        sum-suc K n (λ j. v j ⊗ power K (x j) s),
+        sum_of_zeros K n _ (λ j h. ap (λ w. w ⊗ power K (x j) s) (zeros j h)
+            ∙ zero_mul K _),
+        sum-suc K n _,
         none,
       ))
 
