@@ -17,8 +17,8 @@ pub erasures_in-without_erased : (received : List Sym) (erased : List Bool) → 
 unfolding erasures_in without_erased erased_below
 erasures_in-without_erased [] erased long = refl
 erasures_in-without_erased (x ∷ received) [] long = absurd (omega arith)
-erasures_in-without_erased (x ∷ received) (true ∷ erased) long = omega (arith, erasures_in-without_erased received erased (omega arith), erased_below-first true erased (length received))
-erasures_in-without_erased (x ∷ received) (false ∷ erased) long = omega (arith, erasures_in-without_erased received erased (omega arith), erased_below-first false erased (length received))
+erasures_in-without_erased (x ∷ received) (true ∷ erased) long = omega (arith, erasures_in-without_erased received, erased_below-first true)
+erasures_in-without_erased (x ∷ received) (false ∷ erased) long = omega (arith, erasures_in-without_erased received, erased_below-first false)
 
 -- what a place adds to the distance
 place_distance : (gone : Bool) (x y : Sym) → letter_distance same_symbols (cond gone None (Some x)) y ≡ weight_by (gf64.is_zero (cond gone gf64.zero (gf64.add x y)))
@@ -34,7 +34,7 @@ kept_distance-nonzeros (x ∷ received) (y ∷ word) (gone ∷ erased) long eras
     cc (
       place_distance gone x y,
       kept_distance-nonzeros received word erased (omega arith) (omega arith),
-      nonzeros_first (length received) (kept_errors (gone ∷ erased) (λ j. gf64.add (coefficient gf64 (x ∷ received) j) (coefficient gf64 (y ∷ word) j))),
+      nonzeros_first _ _,
     )
 kept_distance-nonzeros (x ∷ received) word erased long erasures = absurd (omega arith)
 
@@ -43,4 +43,4 @@ pub cost-errors : (received word : List Sym) (erased : List Bool) → length rec
     → erased_cost same_symbols (without_erased received erased) word ≡ 2 * nonzeros gf64
     (length received) (kept_errors erased (λ j. gf64.add (coefficient gf64 received j) (coefficient gf64 word j))) + erased_below erased (length received)
 unfolding erased_cost
-cost-errors received word erased long erasures = omega (arith, kept_distance-nonzeros received word erased long erasures, erasures_in-without_erased received erased erasures)
+cost-errors received word erased long erasures = omega (arith, kept_distance-nonzeros, erasures_in-without_erased)

@@ -1,6 +1,6 @@
 -- The steps of the encoder of Reed-Solomon codewords: the generator one factor at a time, and the division one symbol at a time. The codeword is the
 -- sum of two lists that have the same value at each power of α.
-use Rattle.std.proofs.{Common.{◌≡◌, ◌≢◌, ℕ, ◌+◌, ◌-◌, ◌*◌, ◌<◌, ◌≤◌, List, replicate, set, sym, ap, ap₂, ◌∙◌, inl, inr, arith}, lemmas.Bool.{cases_eq, cases_lt}, lemmas.List.{length-replicate}}
+use Rattle.std.proofs.{Common.{◌≡◌, ◌≢◌, ℕ, ◌+◌, ◌-◌, ◌<◌, ◌≤◌, List, replicate, set, sym, ap, ap₂, ◌∙◌, inl, inr, arith}, lemmas.Bool.{cases_eq, cases_lt}, lemmas.List.{length-replicate}}
 use Rattle.p25_gf64.specs.{declared.symbol.Sym.{Sym}, Field.{power}, Symbol.{alpha}, Gf64.{gf64}}
 use Rattle.p25_gf64.proofs.{FieldLaws.{add_zero, zero_add, add_self, mul_zero, mul_one}, PowerLaws.{power-mul, power_ne_zero}, SymbolLaws.{alpha_ne_zero}}
 use Rattle.p25_algebra.specs.Series.{coefficient, value_at, shifted}
@@ -77,20 +77,22 @@ divided_more i n checks start old new generator factor divisor fits read added b
 -- the value of a word at a power of α other than zero, by its value in the inverse
 pub value_of_word : (n i : ℕ) (word : List Sym) → value_at gf64 n (coefficient gf64 word) (inverse (power gf64 alpha i)) ≡ 𝟘 → value_of n word i ≡ 𝟘
 value_of_word n i word none =
-    sum_same gf64 n (λ j. coefficient gf64 word j ⊗ power gf64 alpha (i * (n - 1 - j))) (λ j. coefficient gf64 word j ⊗ power gf64 (power gf64 alpha i) (n - 1 - j))
-    (λ j low. ap (λ w. coefficient gf64 word j ⊗ w) (power-mul gf64 alpha i (n - 1 - j)))
-    ∙ value_down gf64 n (coefficient gf64 word) (power gf64 alpha i) (power_ne_zero gf64 alpha i alpha_ne_zero)
+    sum_same gf64 n (λ j. coefficient gf64 word j ⊗ power gf64 alpha _) (λ j. coefficient gf64 word j ⊗ power gf64 _ _)
+    (λ j low. rw (power-mul))
+    ∙ value_down gf64 n (coefficient gf64 word) _ (power_ne_zero gf64 alpha i alpha_ne_zero)
     ∙ ap (λ w. power gf64 (power gf64 alpha i) (n - 1) ⊗ w) none
-    ∙ mul_zero gf64 (power gf64 (power gf64 alpha i) (n - 1))
+    ∙ mul_zero gf64 _
 
 -- the sum of two lists with one value has the value zero
 pub sum_vanishes : (n : ℕ) (first second word : List Sym) (y : Sym) → ((j : ℕ) → j < n → coefficient gf64 word j ≡ coefficient gf64 first j ⊕ coefficient gf64 second j)
     → value_at gf64 n (coefficient gf64 second) y ≡ value_at gf64 n (coefficient gf64 first) y → value_at gf64 n (coefficient gf64 word) y ≡ 𝟘
 sum_vanishes n first second word y sum same =
-    value_same gf64 n (coefficient gf64 word) (λ j. coefficient gf64 first j ⊕ coefficient gf64 second j) y sum
-    ∙ value-add gf64 n (coefficient gf64 first) (coefficient gf64 second) y
-    ∙ ap (λ w. value_at gf64 n (coefficient gf64 first) y ⊕ w) same
-    ∙ add_self gf64 (value_at gf64 n (coefficient gf64 first) y)
+    cc (
+      value_same gf64 n (coefficient gf64 word) (λ j. coefficient gf64 first j ⊕ coefficient gf64 second j) y sum,
+      value-add gf64 n (coefficient gf64 first) (coefficient gf64 second) y,
+      same,
+      add_self gf64 (value_at gf64 n (coefficient gf64 first) y),
+    )
 
 -- the word is the sum of the information followed by zeros and the remainder
 pub word_is_sum : (k n : ℕ) (info blank placed divided word : List Sym) → ((j : ℕ) → coefficient gf64 blank j ≡ 𝟘)
@@ -100,6 +102,6 @@ pub word_is_sum : (k n : ℕ) (info blank placed divided word : List Sym) → ((
     → (j : ℕ) → j < n → coefficient gf64 word j ≡ coefficient gf64 placed j ⊕ coefficient gf64 divided j
 word_is_sum k n info blank placed divided word blank_is front rest cleared front_again rest_again j inside =
     elim (cases_lt j k) [
-      | inl below ↦ front_again j below ∙ sym (ap₂ ◌⊕◌ (front j below) (cleared j below) ∙ add_zero gf64 (coefficient gf64 info j))
-      | inr above ↦ rest_again j above inside ∙ sym (ap (λ w. w ⊕ coefficient gf64 divided j) (rest j above ∙ blank_is j) ∙ zero_add gf64 (coefficient gf64 divided j))
+      | inl below ↦ front_again j below ∙ sym (ap₂ ◌⊕◌ (front j below) (cleared j below) ∙ add_zero gf64 _)
+      | inr above ↦ cc (rest_again j above inside, rest j above, blank_is j, zero_add gf64 (coefficient gf64 divided j))
     ]

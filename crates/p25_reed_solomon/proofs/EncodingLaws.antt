@@ -1,6 +1,6 @@
 -- The codeword of an information is a codeword that begins with it. The generator vanishes at the powers of α by induction on its factors, and the
 -- multiples that are added for the remainder keep the values there.
-use Rattle.std.proofs.{Common.{◌≡◌, ℕ, zero, suc, ◌+◌, ◌-◌, ◌<◌, ◌≤◌, eqb, List, length, take, refl, ap, sym, ◌∙◌, inl, inr, arith}, lemmas.Bool.{cases_eq, cond-false, ne_eqb}, Math.Seq.{take-length}}
+use Rattle.std.proofs.{Common.{◌≡◌, ℕ, zero, suc, ◌+◌, ◌-◌, ◌<◌, ◌≤◌, eqb, List, length, refl, ap, sym, ◌∙◌, inl, inr, arith}, lemmas.Bool.{cases_eq, cond-false, ne_eqb}, Math.Seq.{take-length}}
 use Rattle.p25_bits.specs.Numbers.{each_below}
 use Rattle.p25_bits.proofs.NumbersLaws.{length-each_below, get_or-each_below, each_below-same, take-each_below, each_below-list}
 use Rattle.p25_code.specs.Words.{IsEncoding}
@@ -38,10 +38,10 @@ generator_more checks before =
     let added : (j : ℕ) → new j ≡ old j ⊕ root ⊗ shifted gf64 1 old j = λ j. refl in
     record {
       monic = first_stays gf64 old new root added ∙ before.monic;
-      short = longer_by_one gf64 (checks + 1) (suc checks + 1) old new root (omega arith) before.short added;
+      short = longer_by_one gf64 _ _ old new root (omega arith) before.short added;
       vanishes = λ k low high. elim (cases_eq k (suc checks)) [
-        | inl last ↦ rw last (new_zero gf64 (checks + 1) (suc checks + 1) old new root (omega arith) before.short added (power_ne_zero gf64 alpha (suc checks) alpha_ne_zero))
-        | inr other ↦ old_zero gf64 (checks + 1) (suc checks + 1) old new root (inverse (power gf64 alpha k)) (omega arith) before.short added (before.vanishes k low (omega arith))
+        | inl last ↦ rw last (new_zero gf64 _ _ old new root (omega arith) before.short added (power_ne_zero gf64 alpha (suc checks) alpha_ne_zero))
+        | inr other ↦ old_zero gf64 _ _ old new root _ (omega arith) before.short added (before.vanishes k low (omega arith))
       ];
     }
 
@@ -65,16 +65,13 @@ reduced_more count n checks g f divisor fits before =
     let old = reduced g count f in
     let new = reduced g (suc count) f in
     let factor = old count in
-    let added : (j : ℕ) → new j ≡ old j ⊕ factor ⊗ shifted gf64 count g j = λ j. refl in
-    let none : count - count ≡ 0 = omega arith in
-    let first : shifted gf64 count g count ≡ 𝟙 = shifted_from gf64 count g count (omega arith) ∙ ap g none ∙ divisor.monic in
     record {
       same = λ k low high.
-          value_stays gf64 n (checks + 1) count old g new factor (inverse (power gf64 alpha k)) divisor.short fits added (divisor.vanishes k low high)
+          value_stays gf64 n _ count old g new factor _ divisor.short fits (λ j. refl) (divisor.vanishes k low high)
           ∙ before.same k low high;
       cleared = λ j low. elim (cases_eq j count) [
-        | inl last ↦ ap new last ∙ ap (λ b. factor ⊕ factor ⊗ b) first ∙ ap (λ w. factor ⊕ w) (mul_one gf64 factor) ∙ add_self gf64 factor
-        | inr other ↦ sym (nothing_added gf64 (old j) factor count g j (omega arith)) ∙ before.cleared j (omega arith)
+        | inl last ↦ ap new last ∙ ap (λ b. factor ⊕ factor ⊗ b) (shifted_from gf64 count g count (omega arith) ∙ ap g (omega arith) ∙ divisor.monic) ∙ ap (λ w. factor ⊕ w) (mul_one gf64 factor) ∙ add_self gf64 factor
+        | inr other ↦ sym (nothing_added gf64 _ factor count g j (omega arith)) ∙ before.cleared j (omega arith)
       ];
     }
 
@@ -91,28 +88,21 @@ IsEncoding-rs_word n k info code long =
     let rest = reduced g k f in
     let h : ℕ → Sym = λ j. f j ⊕ rest j in
     let word = each_below n h in
-    let is = reduced_is k n (n - k) g f (generator_is (n - k)) (omega (arith, code.shorter)) in
+    let is = reduced_is k n _ g f (generator_is _) (omega (arith, code.shorter)) in
     record {
       word_of_set = record {
         long = length-each_below n h;
         vanishes = λ i low high.
             let y = inverse (power gf64 alpha i) in
             value_of_word n i word
-            (value_same gf64 n (coefficient gf64 word) h y (λ j inside. get_or-each_below n h j 𝟘 inside)
-            ∙ value-add gf64 n f rest y
-            ∙ ap (λ w. value_at gf64 n f y ⊕ w) (is.same i low high)
-            ∙ add_self gf64 (value_at gf64 n f y));
+            (cc (value_same gf64 n (coefficient gf64 word) h y (λ j inside. get_or-each_below n h j 𝟘 inside), value-add gf64 n f rest y, is.same i low high, add_self gf64 (value_at gf64 n f y)));
       };
       begins =
-          take-each_below k n h (omega (arith, code.shorter))
-          ∙ each_below-same k h f (λ j inside. ap (λ w. f j ⊕ w) (is.cleared j inside) ∙ add_zero gf64 (f j))
-          ∙ each_below-list info 𝟘 k (omega (arith, long))
-          ∙ ap (λ m. take m info) (sym long)
-          ∙ take-length info;
+          cc (take-each_below k n h (omega (arith, code.shorter)), each_below-same k h f (λ j inside. cc (is.cleared j inside, add_zero gf64 (f j))), each_below-list info 𝟘 k (omega (arith, long)), long, take-length info);
     }
 
 -- so it is every word that does
 pub rs_word-only : (n k : ℕ) (info word : List Sym) → IsCode n k → length info ≡ k → IsEncoding (IsWord n k) k info word → word ≡ rs_word n k info
 rs_word-only n k info word code long is =
     let made = IsEncoding-rs_word n k info code long in
-    one_word_of n k code word (rs_word n k info) is.word_of_set made.word_of_set (is.begins ∙ sym made.begins)
+    one_word_of n k code word _ is.word_of_set made.word_of_set (is.begins ∙ sym made.begins)

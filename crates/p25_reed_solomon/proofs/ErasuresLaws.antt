@@ -30,17 +30,17 @@ module _ (n : ℕ) (erased : List Bool) where
 
   pub times_erasures-gone : (j : ℕ) (f : ℕ → Sym) → is_erased erased j ≡ true → times_erasures n erased (suc j) f ≡ times_linear gf64 (element_of n j) (times_erasures n erased j f)
   unfolding times_erasures
-  times_erasures-gone j f here = cond-true (is_erased erased j) (times_linear gf64 (element_of n j) (times_erasures n erased j f)) (times_erasures n erased j f) here
+  times_erasures-gone j f here = cond-true _ _ _ here
 
   pub times_erasures-kept : (j : ℕ) (f : ℕ → Sym) → is_erased erased j ≡ false → times_erasures n erased (suc j) f ≡ times_erasures n erased j f
   unfolding times_erasures
-  times_erasures-kept j f none = cond-false (is_erased erased j) (times_linear gf64 (element_of n j) (times_erasures n erased j f)) (times_erasures n erased j f) none
+  times_erasures-kept j f none = cond-false _ _ _ none
 
   -- where no place is erased, nothing changes
   pub times_erasures-without : (m : ℕ) (f : ℕ → Sym) → erased_below erased m ≡ 0 → times_erasures n erased m f ≡ f
   times_erasures-without zero f none = times_erasures-none f
   times_erasures-without (suc m) f none =
-      elim (cases_Bool (is_erased erased m)) [
+      elim (cases_Bool _) [
         | inl here ↦ absurd (omega (arith, erased_below-gone erased m here, none))
         | inr kept ↦ times_erasures-kept m f kept ∙ times_erasures-without m f (rw (← erased_below-kept, none))
       ]
@@ -50,10 +50,10 @@ module _ (n : ℕ) (erased : List Bool) where
   pub short_times_erasures : (m j : ℕ) (f : ℕ → Sym) → IsShort gf64 m f → IsShort gf64 (m + erased_below erased j) (times_erasures n erased j f)
   short_times_erasures m zero f short = let e : m + erased_below erased 0 ≡ m = omega (arith, erased_below-none erased) in rw (e, times_erasures-none f) short
   short_times_erasures m (suc j) f short =
-      elim (cases_Bool (is_erased erased j)) [
+      elim (cases_Bool _) [
         | inl here ↦
             let e : m + erased_below erased (suc j) ≡ suc (m + erased_below erased j) = omega (arith, erased_below-gone erased j here) in
-            rw (e, times_erasures-gone j f here) (short_times_linear gf64 (m + erased_below erased j) (element_of n j) (times_erasures n erased j f) (short_times_erasures m j f short))
+            rw (e, times_erasures-gone j f here) (short_times_linear gf64 _ _ _ (short_times_erasures m j f short))
         | inr none ↦ rw (erased_below-kept erased j none, times_erasures-kept j f none) (short_times_erasures m j f short)
       ]
 
@@ -61,13 +61,13 @@ module _ (n : ℕ) (erased : List Bool) where
   zero_from_times_linear y f none zero =
       cc (add_zero gf64 (f 0), mul_zero gf64 y, shifted-first gf64 f, none 0)
   zero_from_times_linear y f none (suc i) =
-      cc (add_zero gf64 (f (suc i)), mul_zero gf64 y, zero_from_times_linear y f none i, shifted-next gf64 f i, none (suc i))
+      cc (add_zero gf64 (f _), mul_zero gf64 y, zero_from_times_linear y f none i, shifted-next gf64 f i, none (suc i))
 
   pub zero_from_times_erasures : (j : ℕ) (f : ℕ → Sym) → IsZero gf64 (times_erasures n erased j f) → IsZero gf64 f
   zero_from_times_erasures zero f none = rw times_erasures-none at none
   zero_from_times_erasures (suc j) f none =
       elim (cases_Bool (is_erased erased j)) [
-        | inl here ↦ zero_from_times_erasures j f (zero_from_times_linear (element_of n j) (times_erasures n erased j f) (rw times_erasures-gone at none))
+        | inl here ↦ zero_from_times_erasures j f (zero_from_times_linear _ _ (rw times_erasures-gone at none))
         | inr kept ↦ zero_from_times_erasures j f (rw times_erasures-kept at none)
       ]
 
@@ -75,26 +75,26 @@ module _ (n : ℕ) (erased : List Bool) where
   pub product-times_erasures : (j : ℕ) (f g : ℕ → Sym) (i : ℕ) → product_at gf64 (times_erasures n erased j f) g i ≡ product_at gf64 f (times_erasures n erased j g) i
   product-times_erasures zero f g i = rw (times_erasures-none f, times_erasures-none g) refl
   product-times_erasures (suc j) f g i =
-      elim (cases_Bool (is_erased erased j)) [
+      elim (cases_Bool _) [
         | inl here ↦
-            rw (times_erasures-gone j f here, times_erasures-gone j g here)
-            (product-times_linear gf64 (element_of n j) (times_erasures n erased j f) g i
-            ∙ times_linear_same gf64 (element_of n j) (product_at gf64 (times_erasures n erased j f) g) (product_at gf64 f (times_erasures n erased j g)) (product-times_erasures j f g) i
-            ∙ sym (product-times_linear_right gf64 (element_of n j) f (times_erasures n erased j g) i))
+            rw (times_erasures-gone, times_erasures-gone j g here)
+            (product-times_linear gf64 _ _ g i
+            ∙ times_linear_same gf64 _ _ _ (product-times_erasures j f g) i
+            ∙ sym (product-times_linear_right gf64 _ f (times_erasures n erased j g) i))
         | inr none ↦ rw (times_erasures-kept j f none, times_erasures-kept j g none) (product-times_erasures j f g i)
       ]
 
   -- equal coefficients below a bound stay equal
   pub times_linear_agree : (y : Sym) (bound : ℕ) (f g : ℕ → Sym) → ((i : ℕ) → i < bound → f i ≡ g i) → (i : ℕ) → i < bound → times_linear gf64 y f i ≡ times_linear gf64 y g i
   times_linear_agree y bound f g same zero low = cc (same 0 low, shifted-first gf64 f, shifted-first gf64 g)
-  times_linear_agree y bound f g same (suc i) low = cc (same (suc i) low, shifted-next gf64 f i, same i (omega arith), shifted-next gf64 g i)
+  times_linear_agree y bound f g same (suc i) low = cc (same _ low, shifted-next gf64 f i, same i (omega arith), shifted-next gf64 g i)
 
   -- ---- values at the points of places
 
   -- the factor of a place, at the point of another
 
   pub point_inverse : (j : ℕ) → gf64.mul (element_of n j) (point_of n j) ≡ gf64.one
-  point_inverse j = mul_inverse gf64 (element_of n j) (element_ne_zero n j)
+  point_inverse j = mul_inverse gf64 _ (element_ne_zero n j)
 
   pub factor_zero : (j : ℕ) → gf64.add gf64.one (gf64.mul (element_of n j) (point_of n j)) ≡ gf64.zero
   factor_zero j = simp (point_inverse, add_self)
@@ -104,9 +104,9 @@ module _ (n : ℕ) (erased : List Bool) where
       apart (same_place n i j most first second (cc (
         mul_one gf64 (element_of n i),
         point_inverse j,
-        mul_comm gf64 (element_of n j) (point_of n j),
+        mul_comm gf64 _ _,
         mul_assoc gf64 (element_of n i) (point_of n j) (element_of n j),
-        same_from_sum gf64 gf64.one (gf64.mul (element_of n i) (point_of n j)) none,
+        same_from_sum gf64 gf64.one _ none,
         mul_comm gf64 gf64.one (element_of n j),
         mul_one gf64 (element_of n j),
       )))
@@ -173,9 +173,9 @@ module _ (n : ℕ) (erased : List Bool) where
       let is = times m f short some most i (omega arith) in
       elim (cases_Bool (is_erased erased i)) [
         | inl here ↦
-            let e : m + erased_below erased (suc i) ≡ suc (m + erased_below erased i) = omega (arith, erased_below-gone erased i here) in
-            rw (e, times_erasures-gone i f here) (one_gone m f i _ _ most (omega arith) (omega arith) here is)
-        | inr kept ↦ rw (erased_below-kept erased i kept, times_erasures-kept i f kept) (one_kept m f i _ _ kept is)
+            let e : m + erased_below erased (suc i) ≡ suc (m + erased_below erased i) = omega (arith, erased_below-gone) in
+            rw (e, times_erasures-gone) (one_gone m f i _ _ most (omega arith) (omega arith) here is)
+        | inr kept ↦ rw (erased_below-kept, times_erasures-kept) (one_kept m f i _ _ kept is)
       ]
 
   -- ---- errors with the factors of erased places
@@ -187,11 +187,11 @@ module _ (n : ℕ) (erased : List Bool) where
 
   lowered_by-gone : (j : ℕ) (v : ℕ → Sym) → is_erased erased j ≡ true → lowered_by (suc j) v ≡ lowered gf64 (element_of n) (lowered_by j v) (element_of n j)
   unfolding lowered_by
-  lowered_by-gone j v here = cond-true (is_erased erased j) (lowered gf64 (element_of n) (lowered_by j v) (element_of n j)) (lowered_by j v) here
+  lowered_by-gone j v here = cond-true _ _ _ here
 
   lowered_by-kept : (j : ℕ) (v : ℕ → Sym) → is_erased erased j ≡ false → lowered_by (suc j) v ≡ lowered_by j v
   unfolding lowered_by
-  lowered_by-kept j v none = cond-false (is_erased erased j) (lowered gf64 (element_of n) (lowered_by j v) (element_of n j)) (lowered_by j v) none
+  lowered_by-kept j v none = cond-false _ _ _ none
 
   lowered_by-none : (v : ℕ → Sym) → lowered_by 0 v ≡ v
   unfolding lowered_by
@@ -206,13 +206,12 @@ module _ (n : ℕ) (erased : List Bool) where
   lowered_sums checks s v sums (suc j) r fits =
       elim (cases_Bool (is_erased erased j)) [
         | inl here ↦
-            let u = erased_below erased j in
             let more = erased_below-gone erased j here in
             ap (λ w. power_sum gf64 n (element_of n) w (r + 1)) (lowered_by-gone j v here)
-            ∙ power_sum-lowered gf64 n (element_of n) (lowered_by j v) (element_of n j) (r + 1)
+            ∙ power_sum-lowered gf64 n (element_of n) _ (element_of n j) (r + 1)
             ∙ ap₂ (λ a b. gf64.add a (gf64.mul (element_of n j) b))
             (ap (power_sum gf64 n (element_of n) (lowered_by j v)) (omega arith) ∙ lowered_sums checks s v sums j (suc r) (omega (arith, more)) ∙ ap (times_erasures n erased j s) (omega arith))
-            (lowered_sums checks s v sums j r (omega (arith, more)) ∙ sym (shifted-next gf64 (times_erasures n erased j s) (u + r)))
+            (lowered_sums checks s v sums j r (omega (arith, more)) ∙ sym (shifted-next gf64 _ ((erased_below erased j) + r)))
             ∙ sym (ap₂ (λ g i. g i) (times_erasures-gone j s here) (omega (arith, more)))
         | inr none ↦
             let fewer = erased_below-kept erased j none in
@@ -223,11 +222,11 @@ module _ (n : ℕ) (erased : List Bool) where
   pub lowered_zero : (j : ℕ) (v : ℕ → Sym) (l : ℕ) → v l ≡ gf64.zero → lowered_by j v l ≡ gf64.zero
   lowered_zero zero v l none = rw (lowered_by-none, none)
   lowered_zero (suc j) v l none =
-      elim (cases_Bool (is_erased erased j)) [
+      elim (cases_Bool _) [
         | inl here ↦
             ap (λ g. g l) (lowered_by-gone j v here)
             ∙ ap (λ w. gf64.mul w (gf64.add (element_of n l) (element_of n j))) (lowered_zero j v l none)
-            ∙ zero_mul gf64 (gf64.add (element_of n l) (element_of n j))
+            ∙ zero_mul gf64 _
         | inr kept ↦ cc (lowered_by-kept j v kept, lowered_zero j v l none)
       ]
 
@@ -239,13 +238,13 @@ module _ (n : ℕ) (erased : List Bool) where
         | inl last ↦
             ap (λ g. g l) (lowered_by-gone j v (cc (last, gone)))
             ∙ ap (λ i. gf64.mul (lowered_by j v l) (gf64.add (element_of n l) (element_of n i))) (sym last)
-            ∙ ap (gf64.mul (lowered_by j v l)) (add_self gf64 (element_of n l))
+            ∙ ap (gf64.mul _) (add_self gf64 (element_of n l))
             ∙ mul_zero gf64 (lowered_by j v l)
         | inr before ↦ elim (cases_Bool (is_erased erased j)) [
           | inl here ↦
               ap (λ g. g l) (lowered_by-gone j v here)
               ∙ ap (λ w. gf64.mul w (gf64.add (element_of n l) (element_of n j))) (lowered_gone j v l (omega arith) gone)
-              ∙ zero_mul gf64 (gf64.add (element_of n l) (element_of n j))
+              ∙ zero_mul gf64 _
           | inr kept ↦ cc (lowered_by-kept j v kept, lowered_gone j v l (omega arith) gone)
         ]
       ]
@@ -256,8 +255,8 @@ module _ (n : ℕ) (erased : List Bool) where
   lowered_kept (suc j) v l most low inside kept wrong none =
       elim (cases_Bool (is_erased erased j)) [
         | inl here ↦
-            mul_ne_zero gf64 (lowered_by j v l) (gf64.add (element_of n l) (element_of n j)) (lowered_kept j v l most (omega arith) inside kept wrong)
-            (λ same. both_ways (is_erased erased l) kept (cc (same_place n l j most inside (omega arith) (same_from_sum gf64 (element_of n l) (element_of n j) same), here)))
+            mul_ne_zero gf64 _ _ (lowered_kept j v l most (omega arith) inside kept wrong)
+            (λ same. both_ways _ kept (cc (same_place n l j most inside (omega arith) (same_from_sum gf64 _ _ same), here)))
             (sym (rw lowered_by-gone) ∙ none)
         | inr other ↦ lowered_kept j v l most (omega arith) inside kept wrong (rw (← lowered_by-kept, none))
       ]
@@ -265,7 +264,7 @@ module _ (n : ℕ) (erased : List Bool) where
   -- no more are left than wrong places without an erasure
   pub nonzeros-lowered : (v : ℕ → Sym) → nonzeros gf64 n (lowered_by n v) ≤ nonzeros gf64 n (kept_errors erased v)
   nonzeros-lowered v =
-      nonzeros_mono gf64 n (lowered_by n v) (kept_errors erased v) (λ l low none. elim (cases_Bool (is_erased erased l)) [
+      nonzeros_mono gf64 n _ _ (λ l low none. elim (cases_Bool _) [
         | inl here ↦ lowered_gone n v l low here
-        | inr kept ↦ lowered_zero n v l (sym (cond-false (is_erased erased l) gf64.zero (v l) kept) ∙ none)
+        | inr kept ↦ lowered_zero n v l (sym (cond-false _ gf64.zero _ kept) ∙ none)
       ])

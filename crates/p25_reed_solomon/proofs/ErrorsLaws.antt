@@ -12,24 +12,23 @@ abbrev pub at_place : List ℕ → (ℕ → Sym) → ℕ → ℕ → Sym
 at_place places values j c = cond (eqb (get_or places c 0) j) (values c) gf64.zero
 
 there : (places : List ℕ) (values : ℕ → Sym) (j c : ℕ) → get_or places c 0 ≡ j → at_place places values j c ≡ values c
-there places values j c same = cond-true (eqb (get_or places c 0) j) (values c) gf64.zero (eq-eqb (get_or places c 0) j same)
+there places values j c same = cond-true _ (values c) gf64.zero (eq-eqb (get_or places c 0) j same)
 
 pub elsewhere : (places : List ℕ) (values : ℕ → Sym) (j c : ℕ) → (get_or places c 0 ≡ j → ⊥) → at_place places values j c ≡ gf64.zero
-elsewhere places values j c other = cond-false (eqb (get_or places c 0) j) (values c) gf64.zero (ne_eqb (get_or places c 0) j other)
+elsewhere places values j c other = cond-false _ (values c) gf64.zero (ne_eqb (get_or places c 0) j other)
 
 -- the power sums of values at their places are those over the places alone
 pub power_sum-placed : (n : ℕ) (places : List ℕ) (values : ℕ → Sym) (i : ℕ) → ((c : ℕ) → c < length places → get_or places c 0 < n)
     → power_sum gf64 n (element_of n) (placed places values) i ≡ power_sum gf64 (length places) (λ c. element_of n (get_or places c 0)) values i
 power_sum-placed n places values i inside =
-    let x : ℕ → Sym = λ j. power gf64 (element_of n j) i in
-    sum_same gf64 n _ (λ j. sum_below gf64 (length places) (λ c. gf64.mul (x j) (at_place places values j c)))
-    (λ j below. mul_comm gf64 (placed places values j) (x j) ∙ sym (sum-mul gf64 (length places) (x j) (at_place places values j)))
-    ∙ sum_exchange gf64 n (length places) (λ j c. gf64.mul (x j) (at_place places values j c))
+    let x : ℕ → Sym = λ j. power gf64 _ i in
+    sum_same gf64 n _ _
+    (λ j below. mul_comm gf64 (placed places values j) _ ∙ sym (sum-mul gf64 (length places) (x j) (at_place places values j)))
+    ∙ sum_exchange gf64 n (length places) _
     ∙ sum_same gf64 (length places) _ _ (λ c within.
-    sum_of_one gf64 n (get_or places c 0) (λ j. gf64.mul (x j) (at_place places values j c))
-    (inside c within) (λ j below other. ap (gf64.mul (x j)) (elsewhere places values j c (λ e. other (sym e))) ∙ mul_comm gf64 (x j) gf64.zero
-    ∙ zero_mul gf64 (x j))
-    ∙ mul_comm gf64 (x (get_or places c 0)) _
+    sum_of_one gf64 n (get_or places c 0) _
+    (inside c within) (λ j below other. cc (elsewhere places values j c (λ e. other (sym e)), mul_comm gf64 (x j) gf64.zero, zero_mul gf64 (x j)))
+    ∙ mul_comm gf64 _ _
     ∙ ap (λ s. gf64.mul s (x (get_or places c 0))) (there places values (get_or places c 0) c refl))
 
 -- errors that are zero but at listed places are those of the list
@@ -49,8 +48,8 @@ placed-errors n places errors j rising listed =
           sum_of_one gf64 (length places) l.index (at_place places values j) l.inside (λ c within other. elsewhere places values j c (λ same. elim (cases_order c l.index) [
             | inl equal ↦ other equal
             | inr unequal ↦ elim unequal [
-              | inl less ↦ omega (arith, rising c l.index less l.inside, same, l.there)
-              | inr more ↦ omega (arith, rising l.index c more within, same, l.there)
+              | inl less ↦ omega (arith, rising c, same, l.there)
+              | inr more ↦ omega (arith, rising l.index, same, l.there)
             ]
           ]))
           ∙ there places values j l.index l.there
@@ -64,15 +63,15 @@ nonzeros_bump zero q f g same = omega arith
 nonzeros_bump (suc n) q f g same =
     elim (cases_eq n q) [
       | inl here ↦
-          omega (arith, nonzeros_mono gf64 n g f (λ i h none. same i (λ e. omega (arith, h, here, e)) ∙ none), weight-le (gf64.is_zero (g n)))
+          omega (arith, nonzeros_mono gf64 n g f (λ i h none. same i (λ e. omega (arith, h, here, e)) ∙ none), weight-le)
       | inr other ↦
-          omega (arith, nonzeros_bump n q f g same, ap (λ (s : Sym). weight_by (gf64.is_zero s)) (same n other))
+          omega (arith, nonzeros_bump n q f g same, ap (λ s. weight_by (gf64.is_zero s)) (same n other))
     ]
 
 pub zeros_count : (n : ℕ) (f : ℕ → Sym) → ((j : ℕ) → f j ≡ gf64.zero) → nonzeros gf64 n f ≤ 0
 unfolding nonzeros
 zeros_count zero f none = omega arith
-zeros_count (suc n) f none = omega (arith, zeros_count n f none, elim (gf64.is_zero (f n)) as (λ w. weight_by w ≡ 0) [ inl same ↦ refl | inr other ↦ absurd (other (none n)) ])
+zeros_count (suc n) f none = omega (arith, zeros_count n, elim (gf64.is_zero (f n)) as (λ w. weight_by w ≡ 0) [ inl same ↦ refl | inr other ↦ absurd (other (none n)) ])
 
 -- no more places than are listed are not zero
 nonzeros-placed_front : (n : ℕ) (places : List ℕ) (values : ℕ → Sym) (count : ℕ) → nonzeros gf64 n (λ j. sum_below gf64 count (at_place places values j)) ≤ count
@@ -82,7 +81,7 @@ nonzeros-placed_front n places values (suc count) =
       arith,
       nonzeros-placed_front n places values count,
       nonzeros_bump n (get_or places count 0) (λ j. sum_below gf64 count (at_place places values j))
-          (λ j. sum_below gf64 (suc count) (at_place places values j)) (λ j other. sum-suc gf64 count (at_place places values j)
+          _ (λ j other. sum-suc gf64 count (at_place places values j)
           ∙ ap (gf64.add (sum_below gf64 count (at_place places values j))) (elsewhere places values j count (λ e. other (sym e))) ∙ add_zero gf64 _),
     )
 
@@ -103,7 +102,7 @@ pub placed_more : (places : List ℕ) (values : ℕ → Sym) (out : List Sym) (c
 placed_more places values out c x inside is before j within =
     let p = get_or places c 0 in
     let next : suc c ≡ c + 1 = omega arith in
-    let below : j < length out = omega (arith, length-set out p x) in
+    let below : j < length out = omega (arith, length-set out) in
     let more = sym (sum-suc gf64 c (at_place places values j)) ∙ ap (λ n. sum_below gf64 n (at_place places values j)) next in
     elim (cases_eq j p) [
       | inl here ↦

@@ -1,6 +1,6 @@
 -- The errors of a locator. Any errors that explain the syndromes are at its zeros and have the values of Forney's formula there. Values at its zeros
 -- with the right power sums explain the syndromes, because each erasure is one of few zeros.
-use Rattle.std.proofs.Common.{◌≡◌, ◌≢◌, ℕ, zero, suc, ◌+◌, ◌*◌, ◌<◌, ◌≤◌, Bool, cond, List, length, take, get_or, inl, inr, ap, sym, ◌∙◌, subst, arith}
+use Rattle.std.proofs.Common.{◌≡◌, ◌≢◌, ℕ, zero, suc, ◌+◌, ◌*◌, ◌<◌, ◌≤◌, Bool, cond, List, length, take, get_or, inl, inr, ap, sym, ◌∙◌, arith}
 use Rattle.std.proofs.{lemmas.Bool.{cases_eq, cases_lt, cases_Bool, cond-true, cond-false}, lemmas.List.{get_or-take, length-take}}
 use Rattle.p25_gf64.specs.{declared.symbol.Sym.{Sym}, Field.{power}, Gf64.{gf64}}
 use Rattle.p25_gf64.proofs.FieldLaws.{add_zero, mul_comm, mul_cancel}
@@ -16,8 +16,7 @@ pub part_is_locator : (n checks : ℕ) (syndromes : List Sym) (erased : List Boo
     → IsLocator n checks syndromes erased most (coefficient gf64 locator) (coefficient gf64 evaluator)
     → IsLocator n checks syndromes erased most (coefficient gf64 (take (most + 1) locator)) (coefficient gf64 (take most evaluator))
 part_is_locator n checks syndromes erased most locator evaluator is =
-    subst (λ f. IsLocator n checks syndromes erased most f (coefficient gf64 (take most evaluator))) (sym (same_function (coefficient gf64 (take (most + 1) locator)) (coefficient gf64 locator) part))
-    (record {
+    rw (same_function _ _ part) (record {
       short = is.short;
       nonzero = is.nonzero;
       gone = is.gone;
@@ -25,7 +24,7 @@ part_is_locator n checks syndromes erased most locator evaluator is =
       slope = is.slope;
       value = λ errors explains j inside none.
           is.value errors explains j inside none
-          ∙ value_same gf64 most (coefficient gf64 evaluator) (coefficient gf64 (take most evaluator)) (point_of n j) (λ k low. sym (get_or-take most evaluator k gf64.zero low));
+          ∙ value_same gf64 most _ _ _ (λ k low. sym (get_or-take most evaluator k gf64.zero low));
       found = is.found;
     })
   where
@@ -33,7 +32,7 @@ part_is_locator n checks syndromes erased most locator evaluator is =
     part k =
         elim (cases_lt k (most + 1)) [
           | inl low ↦ get_or-take (most + 1) locator k gf64.zero low
-          | inr high ↦ coefficient_past gf64 (take (most + 1) locator) k (omega (arith, length-take (most + 1) locator)) ∙ sym (is.short.above k high)
+          | inr high ↦ coefficient_past gf64 _ k (omega (arith, length-take (most + 1) locator)) ∙ sym (is.short.above k high)
         ]
 
 -- where the sum of the values at a place is not zero, the place is listed
@@ -56,8 +55,8 @@ nonzeros_listed : (n : ℕ) (places : List ℕ) (f : ℕ → Sym) → ((c d : �
 nonzeros_listed n places f rising listed =
     omega (
       arith,
-      nonzeros_same n f (placed places (λ c. f (get_or places c 0))) (λ j low. sym (placed-errors n places f j rising (listed j low))),
-      nonzeros-placed n places (λ c. f (get_or places c 0)),
+      nonzeros_same n f (placed places _) (λ j low. sym (placed-errors n places f j rising (listed j low))),
+      nonzeros-placed n,
     )
 
 -- a one at each erased place
@@ -72,8 +71,8 @@ nonzeros-with_ones (suc n) erased errors =
           omega (
             arith,
             nonzeros-with_ones n erased errors,
-            nonzeros-suc gf64 n (with_ones erased errors),
-            nonzeros-suc gf64 n (kept_errors erased errors),
+            nonzeros-suc gf64,
+            nonzeros-suc gf64,
             erased_below-gone erased n here,
             weight_one gf64 (with_ones erased errors n) (λ none. gf64.laws.one_ne_zero (sym (cond-true (is_erased erased n) gf64.one (errors n) here) ∙ none)),
             weight_zero gf64 (kept_errors erased errors n) (cond-true (is_erased erased n) gf64.zero (errors n) here),
@@ -84,8 +83,8 @@ nonzeros-with_ones (suc n) erased errors =
           omega (
             arith,
             nonzeros-with_ones n erased errors,
-            nonzeros-suc gf64 n (with_ones erased errors),
-            nonzeros-suc gf64 n (kept_errors erased errors),
+            nonzeros-suc gf64,
+            nonzeros-suc gf64,
             erased_below-kept erased n kept,
             ap {B = ℕ} (λ s. weight_by (gf64.is_zero s)) same,
           )
@@ -114,23 +113,23 @@ module _ (n checks most : ℕ) (syndromes locator evaluator : List Sym) (erased 
       let here = from j (are.zeros c low) in
       let size = ap (λ m. slope_at gf64 m (coefficient gf64 locator) (point_of n j)) long in
       let live = is.slope errors explains j (are.below c low) here in
-      mul_cancel gf64 (slope_at gf64 (most + 1) (coefficient gf64 locator) (point_of n j)) (values c) (errors j) live
+      mul_cancel gf64 _ (values c) (errors j) live
       (cc (
-        mul_comm gf64 (slope_at gf64 (most + 1) (coefficient gf64 locator) (point_of n j)) (values c),
+        mul_comm gf64 _ (values c),
         size,
         forney c low (λ none. live (sym size ∙ none)),
         high,
         is.value errors explains j (are.below c low) here,
-        mul_comm gf64 (errors j) (slope_at gf64 (most + 1) (coefficient gf64 locator) (point_of n j)),
+        mul_comm gf64 (errors j) _,
       ))
 
   -- have the syndromes as their power sums
   pub sums_of_errors : (errors : ℕ → Sym) → Explains n checks syndromes erased errors → (values : ℕ → Sym) → ((c : ℕ) → c < length places → values c ≡ errors (get_or places c 0))
       → (r : ℕ) → r < checks → power_sum gf64 (length places) (λ c. element_of n (get_or places c 0)) values (r + 1) ≡ coefficient gf64 syndromes r
   sums_of_errors errors explains values same r low =
-      sum_same gf64 (length places) _ _ (λ c within. ap (λ v. gf64.mul v (power gf64 (element_of n (get_or places c 0)) (r + 1))) (same c within))
+      sum_same gf64 (length places) _ _ (λ c within. rw (same c within))
       ∙ sym (power_sum-placed n places (λ c. errors (get_or places c 0)) (r + 1) are.below)
-      ∙ sum_same gf64 n _ _ (λ j within. ap (λ s. gf64.mul s (power gf64 (element_of n j) (r + 1))) (placed-errors n places errors j are.rising (wrong_is_listed errors explains j within)))
+      ∙ sum_same gf64 n _ _ (λ j within. rw (placed-errors n places errors j are.rising (wrong_is_listed errors explains j within)))
       ∙ explains.sums r low
 
   -- values at the zeros with these power sums explain the syndromes

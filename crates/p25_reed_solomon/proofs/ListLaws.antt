@@ -14,13 +14,13 @@ moved_everywhere symbols moved short full first others zero = simp (first, shift
 moved_everywhere symbols moved short full first others (suc k) =
     elim (cases_lt k 32) [
       | inl low ↦ ap (coefficient gf64 moved) (omega arith) ∙ others k low ∙ sym (shifted-next gf64 (coefficient gf64 symbols) k)
-      | inr high ↦ coefficient_past gf64 moved (suc k) (omega arith) ∙ sym (shifted-next gf64 (coefficient gf64 symbols) k ∙ coefficient_past gf64 symbols k (omega arith))
+      | inr high ↦ coefficient_past gf64 moved _ (omega arith) ∙ sym (shifted-next gf64 (coefficient gf64 symbols) k ∙ coefficient_past gf64 symbols k (omega arith))
     ]
 
 -- the value once Horner's rule has come to the first coefficient
 pub value_whole : (n i : ℕ) (f : ℕ → Sym) (x : Sym) → i ≡ 0 → value_at gf64 (n - i) (λ k. f (i + k)) x ≡ value_at gf64 n f x
 value_whole n i f x none =
-    ap (λ m. value_at gf64 m (λ k. f (i + k)) x) all ∙ value_same gf64 n (λ k. f (i + k)) f x (λ k low. ap f (same k))
+    cc (all, value_same gf64 n _ f x (λ k low. ap f (same k)))
   where
     all : n - i ≡ n
     all = omega arith
@@ -47,15 +47,14 @@ pub sum_of_listed : (count : ℕ) (elements values : List Sym) (element : ℕ �
     → count ≤ 32 → ((c : ℕ) → c < count → coefficient gf64 elements c ≡ element c) → ((c : ℕ) → count ≤ c → coefficient gf64 values c ≡ gf64.zero)
     → sum_below gf64 32 (λ c. gf64.mul (coefficient gf64 values c) (power gf64 (coefficient gf64 elements c) i)) ≡ power_sum gf64 count element (coefficient gf64 values) i
 sum_of_listed count elements values element i few are rest =
-    sum_longer gf64 count 32 (λ c. gf64.mul (coefficient gf64 values c) (power gf64 (coefficient gf64 elements c) i)) few
-    (λ c low high. ap (λ v. gf64.mul v (power gf64 (coefficient gf64 elements c) i)) (rest c low)
-    ∙ zero_mul gf64 (power gf64 (coefficient gf64 elements c) i))
-    ∙ sum_same gf64 count _ _ (λ c low. ap (λ x. gf64.mul (coefficient gf64 values c) (power gf64 x i)) (are c low))
+    sum_longer gf64 count 32 _ few
+    (λ c low high. cc (rest c low, zero_mul gf64 (power gf64 (coefficient gf64 elements c) i)))
+    ∙ sum_same gf64 count _ _ (λ c low. rw (are c low))
 
 -- a term times its element once more
 pub term_next : (v x p q : Sym) (i : ℕ) → p ≡ gf64.mul v (power gf64 x i) → q ≡ gf64.mul p x → q ≡ gf64.mul v (power gf64 x (i + 1))
 term_next v x p q i is next =
-    cc (next, is, mul_assoc gf64 v (power gf64 x i) x, mul_comm gf64 (power gf64 x i) x, power-suc gf64 x i, more)
+    cc (next, is, mul_assoc gf64 v (power gf64 x i) x, mul_comm gf64 _ x, power-suc gf64 x i, more)
   where
     more : suc i ≡ i + 1
     more = omega arith
@@ -67,9 +66,9 @@ pub sum_of_terms : (count : ℕ) (elements values old new : List Sym) (element :
     → ((c : ℕ) → c < 32 → coefficient gf64 new c ≡ gf64.mul (coefficient gf64 old c) (coefficient gf64 elements c))
     → sum_below gf64 32 (coefficient gf64 new) ≡ power_sum gf64 count element (coefficient gf64 values) (i + 1)
 sum_of_terms count elements values old new element i few are rest terms next =
-    sum_same gf64 32 (coefficient gf64 new) (λ c. gf64.mul (coefficient gf64 values c) (power gf64 (coefficient gf64 elements c) (i + 1)))
-    (λ c low. term_next (coefficient gf64 values c) (coefficient gf64 elements c) (coefficient gf64 old c) (coefficient gf64 new c) i (terms c low) (next c low))
-    ∙ sum_of_listed count elements values element (i + 1) few are rest
+    sum_same gf64 32 _ _
+    (λ c low. term_next (coefficient gf64 values c) _ _ _ i (terms c low) (next c low))
+    ∙ sum_of_listed count elements values element _ few are rest
 
 -- what the terms and their sum are while the first r are multiplied by their factors
 pub record IsMultipliedTo (r : ℕ) (factors start terms : List Sym) (sum : Sym) : Type 0 where

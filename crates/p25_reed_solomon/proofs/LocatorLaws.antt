@@ -14,7 +14,7 @@ use Rattle.p25_reed_solomon.specs.{ElementLaws.{elements_apart, element_ne_zero}
 use Rattle.p25_reed_solomon.proofs.ErasuresLaws.{short_times_erasures, zero_from_times_erasures, product-times_erasures, IsTimes, times, lowered_by, lowered_sums, lowered_zero, lowered_gone, lowered_kept, nonzeros-lowered}
 
 point_ne_zero : (n j : ℕ) → point_of n j ≢ gf64.zero
-point_ne_zero n j = inverse_ne_zero gf64 (element_of n j) (element_ne_zero n j)
+point_ne_zero n j = inverse_ne_zero gf64 _ (element_ne_zero n j)
 
 -- functions of equal values are equal
 pub same_function : (f g : ℕ → Sym) → ((i : ℕ) → f i ≡ g i) → f ≡ g
@@ -53,20 +53,20 @@ pub evaluator_step : (i most : ℕ) (f t old new : ℕ → Sym) (factor : Sym) �
     → ((k : ℕ) → k + suc i < most → old k ≡ product_at gf64 f (λ r. t (suc i + r)) k) → (k : ℕ) → k + i < most → new k ≡ product_at gf64 f (λ r. t (i + r)) k
 evaluator_step i most f t old new factor few is added before zero low =
     let first : i + 0 ≡ i = omega arith in
-    cc (added 0 (omega arith), shifted-first gf64 old, mul_comm gf64 factor (f 0), is, first, zero_add gf64 (gf64.mul (f 0) (t (i + 0))), product_at_zero gf64 f (λ r. t (i + r)))
+    cc (added 0 (omega arith), shifted-first gf64 old, mul_comm gf64 factor (f 0), is, first, zero_add gf64 (gf64.mul (f 0) _), product_at_zero gf64 f _)
 evaluator_step i most f t old new factor few is added before (suc k) low =
     let first : i + 0 ≡ i = omega arith in
     cc (
       added (suc k) (omega arith),
-      add_comm gf64 (shifted gf64 1 old (suc k)) (gf64.mul factor (f (suc k))),
+      add_comm gf64 (shifted gf64 1 old (suc k)) (gf64.mul factor _),
       is,
       first,
       shifted-next gf64 old k,
       before k (omega arith),
-      product_same gf64 f (λ r. t (suc i + r)) (λ r. t (i + suc r)) (λ r. ap t (next r)) k,
-      product_comm gf64 f (λ r. t (i + suc r)) k,
-      product_first gf64 (λ r. t (i + r)) f k,
-      product_comm gf64 f (λ r. t (i + r)) (suc k),
+      product_same gf64 f _ _ (λ r. ap t (next r)) k,
+      product_comm gf64 f _ k,
+      product_first gf64 _ f k,
+      product_comm gf64 f _ (suc k),
     )
   where
     next : (r : ℕ) → suc i + r ≡ i + suc r
@@ -86,13 +86,13 @@ module _ (n checks half : ℕ) (syndromes symbols : List Sym) (erased : List Boo
   evaluator_short = rw halved at key.evaluator_degree
 
   with_erasures : IsTimes n erased (half + 1) (coefficient_of locator) n (half + 1 + erased_below erased n) (times_erasures n erased n (coefficient_of locator))
-  with_erasures = times n erased (half + 1) (coefficient_of locator) key_short (omega arith) places n (omega arith)
+  with_erasures = times n erased (half + 1) _ key_short (omega arith) places n (omega arith)
 
   -- the key's locator and the evaluator have no zero in common
   apart : (z : Sym) → z ≢ gf64.zero → value_at gf64 (half + 1) (coefficient_of locator) z ≡ gf64.zero → value_at gf64 half (coefficient_of evaluator) z ≢ gf64.zero
   apart z live none also =
-      key.apart z live (value_longer gf64 (half + 1) 64 (coefficient_of locator) z (omega (arith, fits, few)) key_short ∙ none)
-      (value_longer gf64 half 64 (coefficient_of evaluator) z (omega (arith, fits, few)) evaluator_short ∙ also)
+      key.apart z live (value_longer gf64 (half + 1) 64 _ z (omega (arith, fits, few)) key_short ∙ none)
+      (value_longer gf64 half 64 _ z (omega (arith, fits, few)) evaluator_short ∙ also)
 
   -- ---- errors that explain the syndromes
 
@@ -102,15 +102,15 @@ module _ (n checks half : ℕ) (syndromes symbols : List Sym) (erased : List Boo
 
     few_left : nonzeros gf64 n left ≤ half
     unfolding left
-    few_left = omega (arith, nonzeros-lowered n erased errors, explains.few, all)
+    few_left = omega (arith, nonzeros-lowered, explains.few, all)
 
     sums_left : (i : ℕ) → i < 2 * half → coefficient gf64 symbols i ≡ power_sum gf64 n (element_of n) left (i + 1)
     unfolding left
-    sums_left i low = is i low ∙ sym (lowered_sums n erased checks (coefficient gf64 syndromes) errors explains.sums n i (omega (arith, fits)))
+    sums_left i low = is i low ∙ sym (lowered_sums n erased checks _ errors explains.sums n i (omega (arith, fits)))
 
     key_vanishes : (l : ℕ) → l < n → left l ≢ gf64.zero → value_at gf64 (half + 1) (coefficient_of locator) (point_of n l) ≡ gf64.zero
     key_vanishes l inside other =
-        locator_vanishes gf64 n half (element_of n) left (coefficient_of locator) (coefficient gf64 symbols) (elements_apart n places) (λ j h. element_ne_zero n j) few_left key_short sums_left
+        locator_vanishes gf64 n half _ left _ (coefficient gf64 symbols) (elements_apart n places) (λ j h. element_ne_zero n j) few_left key_short sums_left
         (λ i low high. key.equation i (omega (arith, long)) ∙ evaluator_short.above i low) l inside other
 
     -- a zero of the key's locator is a wrong place without an erasure, and has a slope
@@ -118,16 +118,15 @@ module _ (n checks half : ℕ) (syndromes symbols : List Sym) (erased : List Boo
         → (left j ≢ gf64.zero) × (slope_at gf64 (half + 1) (coefficient_of locator) (point_of n j) ≢ gf64.zero)
     key_zero j inside none =
         elim (cases_eq half 0) [
-          | inl nothing ↦ absurd (apart (point_of n j) (point_ne_zero n j) none
-              (ap (λ m. value_at gf64 m (coefficient_of evaluator) (point_of n j)) nothing ∙ value-none gf64 (coefficient_of evaluator) (point_of n j)))
+          | inl nothing ↦ absurd (apart _ (point_ne_zero n j) none
+              (cc (nothing, value-none gf64 (coefficient_of evaluator) _)))
           | inr something ↦
-              let slope = slope_at gf64 (half + 1) (coefficient_of locator) (point_of n j) in
               let product = forney gf64 n half (element_of n) left (coefficient_of locator) (coefficient gf64 symbols) (omega arith) (elements_apart n places) (λ l h. element_ne_zero n l) key_short
               (λ i low. sums_left i (omega arith)) key_vanishes j inside none in
-              let value = value_same gf64 half (product_at gf64 (coefficient_of locator) (coefficient gf64 symbols))
+              let value = value_same gf64 half _
               (coefficient_of evaluator) (point_of n j) (λ i low. key.equation i (omega (arith, long))) in (
-                (λ gone. apart (point_of n j) (point_ne_zero n j) none (sym value ∙ sym product ∙ ap (λ w. gf64.mul w slope) gone ∙ zero_mul gf64 slope)),
-                (λ flat. apart (point_of n j) (point_ne_zero n j) none (sym value ∙ sym product ∙ ap (gf64.mul (left j)) flat ∙ mul_zero gf64 (left j))),
+                (λ gone. apart (point_of n j) (point_ne_zero n j) none (cc (value, product, gone, zero_mul gf64 (slope_at gf64 (half + 1) (coefficient_of locator) (point_of n j))))),
+                (λ flat. apart (point_of n j) (point_ne_zero n j) none (cc (value, product, flat, mul_zero gf64 (left j)))),
               )
         ]
 
@@ -144,9 +143,9 @@ module _ (n checks half : ℕ) (syndromes symbols : List Sym) (erased : List Boo
     wrong : (j : ℕ) → j < n → errors j ≢ gf64.zero → value_at gf64 (half + 1 + erased_below erased n) (times_erasures n erased n (coefficient_of locator)) (point_of n j) ≡ gf64.zero
     unfolding left
     wrong j inside other =
-        elim (cases_Bool (is_erased erased j)) [
+        elim (cases_Bool _) [
           | inl here ↦ with_erasures.gone j inside here
-          | inr kept ↦ with_erasures.stays (point_of n j) (key_vanishes j inside (lowered_kept n erased n errors j places (omega arith) inside kept other))
+          | inr kept ↦ with_erasures.stays _ (key_vanishes j inside (lowered_kept n erased n errors j places (omega arith) inside kept other))
         ]
 
     -- a zero without an erasure is wrong
@@ -154,7 +153,7 @@ module _ (n checks half : ℕ) (syndromes symbols : List Sym) (erased : List Boo
         → value_at gf64 (half + 1 + erased_below erased n) (times_erasures n erased n (coefficient_of locator)) (point_of n j) ≡ gf64.zero → errors j ≢ gf64.zero
     unfolding left
     zero_is_wrong j inside kept none right =
-        (key_zero j inside (with_erasures.other j inside (λ gone. absurd (both_ways (is_erased erased j) kept gone)) none)).0 (lowered_zero n erased n errors j right)
+        (key_zero j inside (with_erasures.other j inside (λ gone. absurd (both_ways _ kept gone)) none)).0 (lowered_zero n erased n errors j right)
 
     -- the error at a zero, for any bound of the degree
     error_there : (m : ℕ) (e : ℕ → Sym) → 1 ≤ m → m ≤ half + erased_below erased n → IsShort gf64 (m + 1) (times_erasures n erased n (coefficient_of locator))
@@ -162,11 +161,11 @@ module _ (n checks half : ℕ) (syndromes symbols : List Sym) (erased : List Boo
         → value_at gf64 (m + 1) (times_erasures n erased n (coefficient_of locator)) (point_of n j) ≡ gf64.zero
         → gf64.mul (errors j) (slope_at gf64 (m + 1) (times_erasures n erased n (coefficient_of locator)) (point_of n j)) ≡ value_at gf64 m e (point_of n j)
     error_there m e positive bound short is_product j inside none =
-        let f : ℕ → Sym = times_erasures n erased n (coefficient_of locator) in
-        forney gf64 n m (element_of n) errors f (coefficient gf64 syndromes) positive (elements_apart n places) (λ l h. element_ne_zero n l) short
+        let f = times_erasures n erased n (coefficient_of locator) in
+        forney gf64 n m (element_of n) errors f _ positive (elements_apart n places) (λ l h. element_ne_zero n l) short
         (λ i low. sym (explains.sums i (omega (arith, fits)))) (λ l low other.
-        sym (value_longer gf64 (m + 1) (half + 1 + erased_below erased n) f (point_of n l) (omega arith) short) ∙ wrong l low other) j inside none
-        ∙ value_same gf64 m (product_at gf64 f (coefficient gf64 syndromes)) e (point_of n j)
+        sym (value_longer gf64 _ (half + 1 + erased_below erased n) f _ (omega arith) short) ∙ wrong l low other) j inside none
+        ∙ value_same gf64 m _ e _
         (λ k low. product-times_erasures n erased n (coefficient_of locator) (coefficient gf64 syndromes) k ∙ sym (is_product k (omega arith)))
 
   -- the product with the factors of the erasures is a locator, for any bound of its degree
@@ -174,14 +173,14 @@ module _ (n checks half : ℕ) (syndromes symbols : List Sym) (erased : List Boo
       → ((k : ℕ) → k < half + erased_below erased n → e k ≡ product_at gf64 (coefficient_of locator) (times_erasures n erased n (coefficient gf64 syndromes)) k)
       → IsLocator n checks syndromes erased m f e
   key_is_locator m f e positive bound short_f is_f is_e =
-      rw (same_function f (times_erasures n erased n (coefficient_of locator)) is_f)
+      rw (same_function f _ is_f)
       (record {
         short = short;
-        nonzero = λ none. key.nonzero (zero_from_times_erasures n erased n (coefficient_of locator) none);
+        nonzero = λ none. key.nonzero (zero_from_times_erasures n erased n _ none);
         gone = λ j inside here. sized j ∙ with_erasures.gone j inside here;
         wrong = λ errors explains j inside other. sized j ∙ wrong errors explains j inside other;
         slope = λ errors explains j inside none flat. with_erasures.simple j inside (key_slope errors explains j inside) (sym (sized j) ∙ none)
-            (slope_longer gf64 (m + 1) (half + 1 + erased_below erased n) (times_erasures n erased n (coefficient_of locator)) (point_of n j) (omega arith) short ∙ flat);
+            (slope_longer gf64 _ (half + 1 + erased_below erased n) _ _ (omega arith) short ∙ flat);
         value = λ errors explains j inside none. error_there errors explains m e positive bound short is_e j inside none;
         found = λ errors explains j inside kept none. zero_is_wrong errors explains j inside kept (sym (sized j) ∙ none);
       })
@@ -191,7 +190,7 @@ module _ (n checks half : ℕ) (syndromes symbols : List Sym) (erased : List Boo
 
       sized : (j : ℕ) → value_at gf64 (m + 1) (times_erasures n erased n (coefficient_of locator)) (point_of n j)
           ≡ value_at gf64 (half + 1 + erased_below erased n) (times_erasures n erased n (coefficient_of locator)) (point_of n j)
-      sized j = sym (value_longer gf64 (m + 1) (half + 1 + erased_below erased n) (times_erasures n erased n (coefficient_of locator)) (point_of n j) (omega arith) short)
+      sized j = sym (value_longer gf64 _ (half + 1 + erased_below erased n) _ _ (omega arith) short)
 
   -- before any coefficient of the lowered syndromes is added, the evaluator is that of the key
   pub evaluator_first : (e : ℕ → Sym) → ((k : ℕ) → k < 32 → e k ≡ coefficient_of evaluator k) → (k : ℕ) → k + erased_below erased n < half + erased_below erased n
@@ -199,8 +198,8 @@ module _ (n checks half : ℕ) (syndromes symbols : List Sym) (erased : List Boo
   evaluator_first e is_e k low =
       is_e k (omega (arith, fits, few))
       ∙ sym (key.equation k (omega (arith, long)))
-      ∙ product_agree gf64 (coefficient_of locator) (coefficient gf64 symbols)
-      (λ r. times_erasures n erased n (coefficient gf64 syndromes) (erased_below erased n + r)) k (λ i within. is i (omega arith))
+      ∙ product_agree gf64 _ (coefficient gf64 symbols)
+      _ k (λ i within. is i (omega arith))
 
 -- ---- the locator as the code has it: lists of 32 coefficients
 
@@ -220,22 +219,20 @@ module _ (n checks erasures half : ℕ) (syndromes lowered front : List Sym) (er
   is : (r : ℕ) → r < 2 * half → coefficient gf64 symbols r ≡ times_erasures n erased n (coefficient gf64 syndromes) (erased_below erased n + r)
   unfolding symbols
   is r low =
-      part_read lowered erasures (erasures + 2 * half - erasures) r (omega arith)
-      ∙ is_lowered (erasures + r) (omega arith)
-      ∙ ap (λ m. times_erasures n erased n (coefficient gf64 syndromes) (m + r)) is_erasures
+      cc (part_read lowered erasures (erasures + 2 * half - erasures) r (omega arith), is_lowered (erasures + r) (omega arith), is_erasures)
 
   short : IsShort gf64 (half + 1) (coefficient_of locator)
   unfolding symbols
   short = key_short n checks half syndromes symbols erased locator evaluator places few (omega arith) (omega arith) (omega arith) long is key
 
   front_is : (k : ℕ) → coefficient gf64 front k ≡ coefficient_of locator k
-  front_is = front_everywhere (half + 1) (coefficient_of locator) front front_full short (omega arith) is_front
+  front_is = front_everywhere (half + 1) _ front front_full short (omega arith) is_front
 
   pub located_first : (e : List Sym) → ((k : ℕ) → k < 32 → coefficient gf64 e k ≡ coefficient_of evaluator k) → (k : ℕ) → k + erasures < half + erasures
       → coefficient gf64 e k ≡ product_at gf64 (coefficient gf64 front) (λ r. times_erasures n erased n (coefficient gf64 syndromes) (erasures + r)) k
   unfolding symbols
   located_first e is_e k low =
-      evaluator_first n checks half syndromes symbols erased locator evaluator places few (omega arith) (omega arith) (omega arith) long is key (coefficient gf64 e) is_e k (omega arith)
+      evaluator_first n checks half syndromes symbols erased locator evaluator places few (omega arith) (omega arith) (omega arith) long is key _ is_e k (omega arith)
       ∙ ap (λ m. product_at gf64 (coefficient_of locator) (λ r. times_erasures n erased n (coefficient gf64 syndromes) (m + r)) k) (sym is_erasures)
       ∙ product_same_left gf64 (coefficient_of locator) (coefficient gf64 front) (λ r. times_erasures n erased n (coefficient gf64 syndromes) (erasures + r)) (λ i. sym (front_is i)) k
 

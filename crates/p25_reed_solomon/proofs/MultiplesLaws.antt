@@ -44,13 +44,10 @@ module _ {F : Type 0} (K : Field F) where
   pub added_all : (count i : ℕ) (into : List F) (old : ℕ → F) (factor : F) (s : ℕ) (g : ℕ → F)
       → count ≤ i → IsShort K count g → AddedTo (s + i) into old factor s g → (j : ℕ) → coefficient K into j ≡ old j ⊕ factor ⊗ shifted K s g j
   added_all count i into old factor s g enough short kept j =
-      elim (cases_lt j (s + i)) [
+      elim (cases_lt j _) [
         | inl below ↦ kept.before j below
         | inr above ↦
-            kept.after j above
-            ∙ sym (ap (λ w. old j ⊕ factor ⊗ w) (shifted_from K s g j (omega arith) ∙ short.above (j - s) (omega arith))
-            ∙ ap (λ w. old j ⊕ w) (mul_zero K factor)
-            ∙ add_zero K (old j))
+            cc (kept.after j above, shifted_from K s g j (omega arith), short.above (j - s) (omega arith), mul_zero K factor, add_zero K (old j))
       ]
 
   -- ---- values
@@ -75,10 +72,10 @@ module _ {F : Type 0} (K : Field F) where
   pub new_zero : (k n : ℕ) (f h : ℕ → F) (c : F) → n ≡ 1 + k → IsShort K k f → ((j : ℕ) → h j ≡ f j ⊕ c ⊗ shifted K 1 f j) → c ≢ 𝟘 → value_at K n h (inverse c) ≡ 𝟘
   new_zero k n f h c size short e apart =
       cc (
-        value-added n k 1 f f h c (inverse c) short (omega arith) e,
-        value_longer K k n f (inverse c) (omega arith) short,
-        power-one K (inverse c),
-        mul_assoc K c (inverse c) (value_at K k f (inverse c)),
+        value-added n k 1 f f h c _ short (omega arith) e,
+        value_longer K k n f _ (omega arith) short,
+        power-one K _,
+        mul_assoc K c _ (value_at K k f _),
         mul_inverse K c apart,
         one_mul K (value_at K k f (inverse c)),
         add_self K (value_at K k f (inverse c)),
@@ -94,18 +91,18 @@ module _ {F : Type 0} (K : Field F) where
   }
 
   pub first_stays : (f h : ℕ → F) (c : F) → ((j : ℕ) → h j ≡ f j ⊕ c ⊗ shifted K 1 f j) → h 0 ≡ f 0
-  first_stays f h c e = e 0 ∙ sym (nothing_added K (f 0) c 1 f 0 (omega arith))
+  first_stays f h c e = e 0 ∙ sym (nothing_added K _ c 1 f 0 (omega arith))
 
   -- a power of x is the highest times a power of 1/x
   power_down : (x : F) (n j : ℕ) → x ≢ 𝟘 → j < n → power K x (n - 1 - j) ≡ power K x (n - 1) ⊗ power K (inverse x) j
   power_down x n j apart low =
       cc (
-        mul_one K (power K x (n - 1 - j)),
+        mul_one K (power K x _),
         power_of_one K j,
         mul_inverse K x apart,
         power_of_mul K x (inverse x) j,
         mul_assoc K (power K x (n - 1 - j)) (power K x j) (power K (inverse x) j),
-        power-add K x (n - 1 - j) j,
+        power-add K x _ j,
         whole,
       )
     where
@@ -115,9 +112,9 @@ module _ {F : Type 0} (K : Field F) where
   -- the value with the highest coefficient first is the value in 1/x times the highest power
   pub value_down : (n : ℕ) (f : ℕ → F) (x : F) → x ≢ 𝟘 → sum_below K n (λ j. f j ⊗ power K x (n - 1 - j)) ≡ power K x (n - 1) ⊗ value_at K n f (inverse x)
   value_down n f x apart =
-      sum_same K n (λ j. f j ⊗ power K x (n - 1 - j)) (λ j. power K x (n - 1) ⊗ (f j ⊗ power K (inverse x) j))
-      (λ j low. ap (λ w. f j ⊗ w) (power_down x n j apart low) ∙ regroup (f j) (power K x (n - 1)) (power K (inverse x) j))
-      ∙ sum-mul K n (power K x (n - 1)) (λ j. f j ⊗ power K (inverse x) j)
+      sum_same K n _ _
+      (λ j low. cc (power_down x n j apart low, regroup _ _ _))
+      ∙ sum-mul K n _ _
     where
       regroup : (a b c : F) → a ⊗ (b ⊗ c) ≡ b ⊗ (a ⊗ c)
-      regroup a b c = sym (mul_assoc K a b c) ∙ ap (λ w. w ⊗ c) (mul_comm K a b) ∙ mul_assoc K b a c
+      regroup a b c = cc (mul_assoc K a b c, mul_comm K a b, mul_assoc K b a c)

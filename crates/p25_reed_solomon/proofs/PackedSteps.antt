@@ -37,8 +37,8 @@ entry-is e half v b low inside small here =
     let base : product_power 2 (b + 1) ≡ number (power gf64 alpha (b + 1)) = simp (number_alpha, number-power) in
     cc (
       eqb-true _ _ (all_below_at 16 (λ b. octet b (entry row v) == computed b row v)
-          (all_below_at 8 (λ v. all_below 16 (λ b. octet b (entry row v) == computed b row v))
-          (all_below_at 72 (λ row. all_below 8 (λ v. all_below 16 (λ b. octet b (entry row v) == computed b row v))) entries_computed row row_low) v small) b here),
+          (all_below_at 8 _
+          (all_below_at 72 _ entries_computed row row_low) v small) b here),
       high,
       rest,
       base,
@@ -56,7 +56,6 @@ symbol-is : (e b : ℕ) (s : Sym) → e < 36 → b < 16
 symbol-is e b s low here =
     let v = number s in
     let p = power gf64 alpha ((b + 1) * e) in
-    let below : v < 64 = s.below in
     let p_below : number p < 64 = p.below in
     let lower : v % 8 < 8 = omega arith in
     let upper : v / 8 < 8 = omega arith in
@@ -67,7 +66,7 @@ symbol-is e b s low here =
     let low_below : v % 8 < 64 = omega arith in
     let high_below : v / 8 * 2 ^ 3 < 64 = omega arith in
     cc (
-      octet-xor b (entry (2 * e) (v % 8)) (entry (2 * e + 1) (v / 8)),
+      octet-xor b (entry (2 * e) (v % 8)) _,
       first,
       entry-is e 0 (v % 8) b low (omega arith) lower here,
       none,
@@ -77,7 +76,7 @@ symbol-is e b s low here =
       xor_comm (v % 8) (v / 8 * 2 ^ 3),
       xor_apart (v / 8) 3 (v % 8) lower,
       whole,
-      product_comm (number p) v p_below below,
+      product_comm (number p) v p_below s.below,
       number-mul s p,
     )
 
@@ -93,13 +92,12 @@ pub values_more : (n : ℕ) (word : List Sym) (j values b v : ℕ) (s : Sym) →
     → octet b (bit_xor values (bit_xor (entry (2 * (n - 1 - j)) (v % 8)) (entry (2 * (n - 1 - j) + 1) (v / 8)))) ≡ number (sum_below gf64 (j + 1) (term n word (b + 1)))
 values_more n word j values b v s few low here number_is is so_far =
     let e : ℕ = n - 1 - j in
-    let small : e < 36 = omega arith in
     let next : suc j ≡ j + 1 = omega arith in
     cc (
       number_is,
-      octet-xor b values (bit_xor (entry (2 * e) (number s % 8)) (entry (2 * e + 1) (number s / 8))),
+      octet-xor b values _,
       so_far,
-      symbol-is e b s small here,
+      symbol-is e b s (omega arith) here,
       is,
       number-add (sum_below gf64 j (term n word (b + 1))) (term n word (b + 1) j),
       sum-suc gf64 j (term n word (b + 1)),

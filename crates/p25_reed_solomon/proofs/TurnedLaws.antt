@@ -21,20 +21,19 @@ rest_of_power x y a b one =
 -- the value of a polynomial whose coefficients are in the other order, at the inverse
 value_turned : (f : ℕ → Sym) (x y : Sym) (m : ℕ) → gf64.mul x y ≡ gf64.one → gf64.mul (power gf64 x m) (value_at gf64 (suc m) (λ k. f (m - k)) y) ≡ value_at gf64 (suc m) f x
 value_turned f x y m one =
-    sym (sum-mul gf64 (suc m) (power gf64 x m) (λ k. gf64.mul (f (m - k)) (power gf64 y k)))
-    ∙ sum_same gf64 (suc m) (λ k. gf64.mul (power gf64 x m) (gf64.mul (f (m - k)) (power gf64 y k))) (λ k. gf64.mul (f (suc m - 1 - k)) (power gf64 x (suc m - 1 - k))) term
-    ∙ sum_reverse gf64 (suc m) (λ k. gf64.mul (f k) (power gf64 x k))
+    sym (sum-mul gf64 (suc m) (power gf64 x m) _)
+    ∙ sum_same gf64 (suc m) _ _ term
+    ∙ sum_reverse gf64 (suc m) _
   where
     term : (k : ℕ) → k < suc m → gf64.mul (power gf64 x m) (gf64.mul (f (m - k)) (power gf64 y k)) ≡ gf64.mul (f (suc m - 1 - k)) (power gf64 x (suc m - 1 - k))
     term k low =
         let whole : m ≡ m - k + k = omega arith in
-        let same : m - k ≡ suc m - 1 - k = omega arith in
-        mul_left_comm gf64 (power gf64 x m) (f (m - k)) (power gf64 y k)
-        ∙ ap (gf64.mul (f (m - k))) (ap (λ w. gf64.mul (power gf64 x w) (power gf64 y k)) whole ∙ rest_of_power x y (m - k) k one)
-        ∙ ap (λ w. gf64.mul (f w) (power gf64 x w)) same
+        mul_left_comm gf64 (power gf64 x m) _ (power gf64 y k)
+        ∙ ap (gf64.mul (f (m - k))) (cc (whole, rest_of_power x y (m - k) k one))
+        ∙ ap (λ w. gf64.mul (f w) (power gf64 x w)) (omega arith)
 
 point_ne_zero : (n j : ℕ) → point_of n j ≢ gf64.zero
-point_ne_zero n j = inverse_ne_zero gf64 (element_of n j) (element_ne_zero n j)
+point_ne_zero n j = inverse_ne_zero gf64 _ (element_ne_zero n j)
 
 points_apart : (n : ℕ) → n ≤ 63 → AreApart n (point_of n)
 points_apart n most = record { apart = λ a b first second same. same_point n a b most first second same }
@@ -49,20 +48,18 @@ module _ (n checks half : ℕ) (syndromes turned : List Sym) (locator evaluator 
 
   factor_zero : (j : ℕ) → errors j ≡ gf64.zero → factor j ≡ gf64.zero
   unfolding factor
-  factor_zero j none = ap (λ w. gf64.mul w (power gf64 (element_of n j) (2 * half + 1))) none ∙ zero_mul gf64 (power gf64 (element_of n j) (2 * half + 1))
+  factor_zero j none = cc (none, zero_mul gf64 (power gf64 (element_of n j) (2 * half + 1)))
 
   sums : (i : ℕ) → i < 2 * half → coefficient gf64 turned i ≡ power_sum gf64 n (point_of n) factor (i + 1)
   unfolding factor
   sums i low =
       is i low
       ∙ sym (are.sums (2 * half - 1 - i) (omega (arith, within)))
-      ∙ sum_same gf64 n (λ j. gf64.mul (errors j) (power gf64 (element_of n j) (2 * half - 1 - i + 1)))
-      (λ j. gf64.mul (gf64.mul (errors j) (power gf64 (element_of n j) (2 * half + 1))) (power gf64 (point_of n j) (i + 1)))
+      ∙ sum_same gf64 n _
+      _
       (λ j inside.
       let whole : 2 * half + 1 ≡ 2 * half - 1 - i + 1 + (i + 1) = omega arith in
-      sym (mul_assoc gf64 (errors j) (power gf64 (element_of n j) (2 * half + 1)) (power gf64 (point_of n j) (i + 1))
-      ∙ ap (gf64.mul (errors j)) (ap (λ w. gf64.mul (power gf64 (element_of n j) w) (power gf64 (point_of n j) (i + 1))) whole
-      ∙ rest_of_power (element_of n j) (point_of n j) (2 * half - 1 - i + 1) (i + 1) (element-point n j))))
+      sym (cc (mul_assoc gf64 (errors j) _ _, whole, rest_of_power _ (point_of n j) (2 * half - 1 - i + 1) (i + 1) (element-point n j))))
 
   fewer : nonzeros gf64 n factor ≤ half
   fewer = omega (arith, nonzeros_mono gf64 n factor errors (λ j low none. factor_zero j none), are.few, most)
@@ -75,7 +72,7 @@ module _ (n checks half : ℕ) (syndromes turned : List Sym) (locator evaluator 
 
   vanishes : (j : ℕ) → j < n → factor j ≢ gf64.zero → value_at gf64 (half + 1) (coefficient_of locator) (gf64.inverse (point_of n j)) ≡ gf64.zero
   vanishes =
-      locator_vanishes gf64 n half (point_of n) factor (coefficient_of locator) (coefficient gf64 turned) (points_apart n places) (λ j h. point_ne_zero n j) fewer short sums
+      locator_vanishes gf64 n half _ factor _ (coefficient gf64 turned) (points_apart n places) (λ j h. point_ne_zero n j) fewer short sums
       (λ i low high. key.equation i (omega (arith, long)) ∙ evaluator_short.above i low)
 
   -- the key's locator vanishes at the elements of the wrong places alone

@@ -1,5 +1,5 @@
 -- The errors between a received word and a codeword.
-use Rattle.std.proofs.Common.{◌≡◌, ℕ, ◌+◌, ◌-◌, ◌*◌, ◌<◌, ◌≤◌, List, length, ap, sym, ◌∙◌, arith}
+use Rattle.std.proofs.Common.{◌≡◌, ℕ, ◌+◌, ◌-◌, ◌*◌, ◌<◌, ◌≤◌, List, length, ap, arith}
 use Rattle.p25_bits.specs.Distance.{distance_by}
 use Rattle.p25_gf64.specs.{declared.symbol.Sym.{Sym}, Gf64.{gf64}}
 use Rattle.p25_gf64.proofs.FieldLaws.{add_zero}
@@ -14,11 +14,7 @@ pub difference_errors : (n k : ℕ) (received word syndromes : List Sym)
 difference_errors n k received word syndromes code long of_code are near =
     let errors : ℕ → Sym = λ j. gf64.add (coefficient gf64 received j) (coefficient gf64 word j) in
     record {
-      few = omega (arith, near, distance-nonzeros received word (long ∙ sym of_code.long), ap (λ m. nonzeros gf64 m errors) long);
+      few = omega (arith, near, distance-nonzeros, ap (λ m. nonzeros gf64 m errors) long);
       sums = λ r below.
-          sym (value-power_sum n errors (r + 1))
-          ∙ front_value-add n (coefficient gf64 received) (coefficient gf64 word) (r + 1)
-          ∙ ap (gf64.add (value_of n received (r + 1))) (of_code.vanishes (r + 1) (omega arith) (omega arith))
-          ∙ add_zero gf64 (value_of n received (r + 1))
-          ∙ sym (are r below);
+          cc (value-power_sum n errors _, front_value-add n (coefficient gf64 received) (coefficient gf64 word) _, of_code.vanishes (r + 1) (omega arith) (omega arith), add_zero gf64 (value_of n received (r + 1)), are r below);
     }

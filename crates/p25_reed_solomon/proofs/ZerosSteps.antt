@@ -1,5 +1,5 @@
 -- The positions at which a polynomial vanishes, listed in rising order: one position at a time, and no more than the polynomial has coefficients.
-use Rattle.std.proofs.{Common.{◌≡◌, ◌≢◌, ℕ, ◌+◌, ◌<◌, ◌≤◌, List, [], ◌∷◌, ◌++◌, length, get_or, inl, inr, refl, sym, ◌∙◌, subst, arith}, lemmas.Bool.{cases_lt, cases_eq, cases_order}}
+use Rattle.std.proofs.{Common.{◌≡◌, ◌≢◌, ℕ, ◌+◌, ◌<◌, ◌≤◌, List, [], ◌∷◌, ◌++◌, length, get_or, inl, inr, refl, sym, ◌∙◌, arith}, lemmas.Bool.{cases_lt, cases_eq, cases_order}}
 use Rattle.std.proofs.lemmas.List.{get_or_append_left, get_or_at, length_push}
 use Rattle.p25_gf64.specs.{declared.symbol.Sym.{Sym}, Gf64.{gf64}}
 use Rattle.p25_algebra.specs.{Sums.{AreApart}, Series.{coefficient, value_at, IsZero}}
@@ -11,10 +11,10 @@ use Rattle.p25_reed_solomon.specs.{ElementLaws.{same_point}, Errors.{point_of, A
 pub AreZeros-few : (n upto : ℕ) (polynomial : List Sym) (places : List ℕ)
     → n ≤ 63 → upto ≤ n → AreZeros n polynomial upto places → (IsZero gf64 (coefficient gf64 polynomial) → ⊥) → length places < length polynomial
 AreZeros-few n upto polynomial places most within are some =
-    elim (cases_lt (length places) (length polynomial)) [
+    elim (cases_lt (length places) _) [
       | inl fewer ↦ fewer
-      | inr many ↦ absurd (some (λ i. elim (cases_lt i (length polynomial)) [
-        | inl low ↦ few_zeros gf64 (length polynomial) (length places) (coefficient gf64 polynomial) (λ c. point_of n (get_or places c 0)) many apart are.zeros i low
+      | inr many ↦ absurd (some (λ i. elim (cases_lt i _) [
+        | inl low ↦ few_zeros gf64 _ (length places) _ _ many apart are.zeros i low
         | inr high ↦ coefficient_past gf64 polynomial i high
       ]))
     ]
@@ -64,21 +64,21 @@ pub AreZeros-push : (n : ℕ) (locator : List Sym) (j : ℕ) (places : List ℕ)
     → value_at gf64 (length locator) (coefficient gf64 locator) (point_of n j) ≡ gf64.zero → AreZeros n locator (j + 1) (places ++ j ∷ [])
 AreZeros-push n locator j places are here =
     let long = length_push places j in
-    let old : (c : ℕ) → c < length places → get_or (places ++ j ∷ []) c 0 ≡ get_or places c 0 = λ c h. get_or_append_left places (j ∷ []) 0 c h in
+    let old : (c : ℕ) → c < length places → get_or (places ++ j ∷ []) c 0 ≡ get_or places c 0 = λ c h. get_or_append_left places _ 0 c h in
     record {
       below = λ c h. elim (cases_lt c (length places)) [
         | inl inside ↦ omega (arith, are.below c inside, old c inside)
-        | inr last ↦ omega (arith, pushed_last places j c (omega (arith, long)))
+        | inr last ↦ omega (arith, pushed_last places)
       ];
       rising = λ c d h k. elim (cases_lt d (length places)) [
-        | inl inside ↦ omega (arith, are.rising c d h inside, old c (omega arith), old d inside)
+        | inl inside ↦ omega (arith, are.rising c, old c, old d inside)
         | inr last ↦
             let within : c < length places = omega (arith, long) in
-            omega (arith, are.below c within, old c within, pushed_last places j d (omega (arith, long)))
+            omega (arith, are.below c within, old c within, pushed_last places)
       ];
       zeros = λ c h. elim (cases_lt c (length places)) [
         | inl inside ↦ simp old (are.zeros c inside)
-        | inr last ↦ subst (λ m. value_at gf64 (length locator) (coefficient gf64 locator) (point_of n m) ≡ gf64.zero) (sym (pushed_last places j c (omega (arith, long)))) here
+        | inr last ↦ rw (pushed_last places j c (omega (arith, long))) here
       ];
       all = λ k h z. elim (cases_eq k j) [
         | inl same ↦ record { index = length places; inside = omega (arith, long); there = pushed_last places j (length places) refl ∙ sym same }

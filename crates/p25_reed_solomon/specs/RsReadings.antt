@@ -1,11 +1,11 @@
 -- The decoding of the Reed-Solomon codes as functions, for symbols and for lists with erasures. Symbols are searched by their numbers, and whether a
 -- word vanishes is tested at each power of α.
-use Rattle.std.specs.Prelude.{◌≡◌, ◌⊎◌, ℕ, zero, suc, ◌+◌, ◌-◌, ◌*◌, ◌<◌, ◌≤◌, List, length, Option}
+use Rattle.std.specs.Prelude.{◌≡◌, ◌⊎◌, ℕ, zero, suc, ◌+◌, ◌-◌, ◌<◌, ◌≤◌, List, length, Option}
 use Rattle.std.proofs.{Common.{ap, sym, subst, ◌∙◌, inl, inr, arith, lit≤}, lemmas.Bool.{cases_eq}}
 use Rattle.p25_code.specs.Readings.{Tested, Searched, reading_of, IsReadAs, IsReadAs-reading_of}
 use Rattle.p25_code.specs.ErasedReadings.{erased_reading_of, IsErasedReadAs, IsErasedReadAs-erased_reading_of}
 use Rattle.p25_gf64.specs.{declared.symbol.Sym.{Sym}, Symbol.{number, symbol_of, same_symbol}, Gf64.{gf64}}
-use Rattle.p25_reed_solomon.specs.{Words.{IsCode, IsWord, value_of, radius_of, same_symbols}, WordLaws.{length_of_word_of}}
+use Rattle.p25_reed_solomon.specs.{Words.{IsWord, value_of, radius_of, same_symbols}, WordLaws.{length_of_word_of}}
 
 -- some symbol below a number meets a condition, or none does
 symbol_below : (P : Sym → Type 0) → Tested P → (n : ℕ) → n ≤ 64 → ((x : Sym) × P x) ⊎ ((x : Sym) → number x < n → ¬ P x)

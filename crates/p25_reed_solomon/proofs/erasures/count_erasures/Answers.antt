@@ -8,16 +8,18 @@ loop-gone-init c = (sym (erased_below-none c.args.erased.now), omega arith)
 
 pub loop-gone-preserved : goal.loop-gone-preserved
 loop-gone-preserved c =
-    let next : suc c.loop-gone.gone-index ≡ c.loop-gone.gone-index + 1 = omega arith in
+    let index_here = c.loop-gone.gone-index in
+    let erased = c.args.erased.now in
+    let next : suc index_here ≡ index_here + 1 = omega arith in
     elim c.if-gone.branch [
       | then-gone w ↦ (
-        subst (λ m. c.if-gone.count ≡ erased_below c.args.erased.now m) next
-            (omega (arith, w.count-is, erased_below-gone c.args.erased.now c.loop-gone.gone-index w.if-gone.true)),
+        subst (λ m. c.if-gone.count ≡ erased_below erased m) next
+            (omega (arith, w.count-is, erased_below-gone erased)),
         omega (arith, w.count-is),
       )
       | else-gone w ↦ (
-        subst (λ m. c.if-gone.count ≡ erased_below c.args.erased.now m) next
-            (omega (arith, w.count-is, erased_below-kept c.args.erased.now c.loop-gone.gone-index w.if-gone.false)),
+        subst (λ m. c.if-gone.count ≡ erased_below erased m) next
+            (omega (arith, w.count-is, erased_below-kept erased)),
         omega (arith, w.count-is),
       )
     ]

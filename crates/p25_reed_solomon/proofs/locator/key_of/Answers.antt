@@ -1,4 +1,4 @@
-use Rattle.std.proofs.{Common.{◌≡◌, ℕ, ◌≤◌, [], ◌∷◌, length, ◌∙◌, sym, arith}, lemmas.Bool.{eqb-true}}
+use Rattle.std.proofs.{Common.{◌≡◌, ℕ, ◌≤◌, [], ◌∷◌, ◌∙◌, sym, arith}, lemmas.Bool.{eqb-true}}
 use Rattle.p25_gf64.specs.{declared.symbol.Sym.{Sym}, Gf64.{gf64}}
 use Rattle.p25_gf64.proofs.SymbolLaws.{one_made}
 use Rattle.p25_algebra.specs.Series.{coefficient}
@@ -12,5 +12,5 @@ past_one x one k high e = e ∙ coefficient_past gf64 (one ∷ []) k (omega arit
 
 pub returns-then-is_empty : goal.returns-then-is_empty
 returns-then-is_empty c =
-    let none : length c.args.symbols.now ≡ 0 = eqb-true _ 0 (sym c.is_empty.ensures ∙ c.if-is_empty.true) in
-    key_of_none c.args.symbols.now c.from_symbols.result c.zero.result none (c.from_symbols.ensures 0 ∙ one_made _) (λ k high. past_one _ _ k high (c.from_symbols.ensures k)) c.zero.ensures
+    key_of_none c.args.symbols.now c.from_symbols.result c.zero.result (eqb-true _ 0 (sym c.is_empty.ensures ∙ c.if-is_empty.true)) (c.from_symbols.ensures 0 ∙ one_made _)
+    (λ k high. past_one _ _ k high (c.from_symbols.ensures k)) c.zero.ensures

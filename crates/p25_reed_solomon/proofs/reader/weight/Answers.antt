@@ -5,7 +5,7 @@ use Rattle.p25_reed_solomon.proofs.{ErrorsLaws.{nonzeros-none, nonzeros_some, no
 use Rattle.p25_reed_solomon.proofs.reader.weight.Goals as goal
 
 pub loop-symbol-init : goal.loop-symbol-init
-loop-symbol-init c = (sym (nonzeros-none (coefficient gf64 c.args.symbols.now)), omega arith)
+loop-symbol-init c = (sym (nonzeros-none _), omega arith)
 
 pub loop-symbol-preserved : goal.loop-symbol-preserved
 loop-symbol-preserved c =

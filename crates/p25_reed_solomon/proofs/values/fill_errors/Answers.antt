@@ -13,25 +13,25 @@ loop-c-init c = record {
 
 pub loop-c-preserved : goal.loop-c-preserved
 loop-c-preserved c =
-    let i = c.loop-c.c in
+    let loop = c.loop-c in
+    let slopes_here = c.slopes_of-slopes.result in
+    let i = loop.c in
     elim c.if-not-is_zero.branch [
       | then-not-is_zero w ↦ rw w.out-is (record {
         errors = λ k low live. elim (cases_eq k i) [
           | inl same ↦ rw same
-              (ap₂ gf64.mul (written_at gf64 c.loop-c.out i w.div.result (omega arith)) (sym (get_or_default c.slopes_of-slopes.result i _ gf64.zero (omega arith)))
+              (ap₂ gf64.mul (written_at gf64 loop.out i w.div.result (omega arith)) (sym (get_or_default slopes_here i _ gf64.zero (omega arith)))
               ∙ w.div.ensures.product
               ∙ get_or_default c.fill_values.new.values i _ gf64.zero (omega arith))
-          | inr apart ↦ ap (λ s. gf64.mul s (coefficient gf64 c.slopes_of-slopes.result k)) (written_elsewhere gf64 c.loop-c.out i k w.div.result apart)
-              ∙ c.loop-c.invariant.errors k (omega arith) live
+          | inr apart ↦ cc (written_elsewhere gf64 loop.out i k w.div.result apart, loop.invariant.errors k (omega arith) live)
         ];
-        rest = λ k from. written_elsewhere gf64 c.loop-c.out i k w.div.result (omega arith) ∙ c.loop-c.invariant.rest k (omega arith);
+        rest = λ k from. written_elsewhere gf64 loop.out i k w.div.result (omega arith) ∙ loop.invariant.rest k (omega arith);
       })
       | else-not-is_zero w ↦ rw w.out-is (record {
         errors = λ k low live. elim (cases_eq k i) [
-          | inl same ↦ absurd (live (ap (coefficient gf64 c.slopes_of-slopes.result) same
-              ∙ sym (get_or_default c.slopes_of-slopes.result i _ gf64.zero (omega arith)) ∙ c.is_zero.ensures.0 w.if-not-is_zero.false))
-          | inr apart ↦ c.loop-c.invariant.errors k (omega arith) live
+          | inl same ↦ absurd (live (cc (same, get_or_default slopes_here i _ gf64.zero (omega arith), c.is_zero.ensures.0 w.if-not-is_zero.false)))
+          | inr apart ↦ loop.invariant.errors k (omega arith) live
         ];
-        rest = λ k from. c.loop-c.invariant.rest k (omega arith);
+        rest = λ k from. loop.invariant.rest k (omega arith);
       })
     ]
