@@ -19,14 +19,9 @@ pub entry-is : (place bits : ℕ) → place < 4 → bits < 16
     → IsRemainder generator 47 (bits * 2 ^ (47 + 4 * place)) (get_or (get_or REMAINDERS place []) bits 0)
 unfolding computed
 entry-is place bits low small =
-    let row : ℕ → List ℕ = λ p. each_below 16 (λ v. times_power generator 47 (47 + 4 * p) v) in
-    let fits : bits < 2 ^ 47 = omega arith in
-    let entry : get_or (get_or REMAINDERS place []) bits 0 ≡ times_power generator 47 (47 + 4 * place) bits
-    = ap (λ (t : List (List ℕ)). get_or (get_or t place []) bits 0) entries_computed
-    ∙ ap (λ (t : List ℕ). get_or t bits 0) (get_or-each_below 4 row place [] low)
-    ∙ get_or-each_below 16 (λ v. times_power generator 47 (47 + 4 * place) v) bits 0 small in
-    subst (IsRemainder generator 47 (bits * 2 ^ (47 + 4 * place))) (sym entry)
-    (IsRemainder-times_power generator 47 (47 + 4 * place) bits generator_degree fits)
+    subst (IsRemainder generator 47 (bits * 2 ^ (47 + 4 * place)))
+    (sym (cc (entries_computed, get_or-each_below 4 (λ p. each_below 16 (λ v. times_power generator 47 (47 + 4 * p) v)) place [] low, get_or-each_below 16 (λ v. times_power generator 47 (47 + 4 * place) v) bits 0 small)))
+    (IsRemainder-times_power generator 47 (47 + 4 * place) bits generator_degree (omega arith))
 
 -- the information is the sum of its four parts
 pub parts-is : (information a b c d : ℕ) → information < 2 ^ 16
@@ -39,8 +34,8 @@ parts-is information a b c d small first second third fourth =
     let n1 = information / 16 % 16 in
     let n0 = information % 16 in
     let joined = ap (λ n. bit_xor (n3 * 2 ^ 59) (bit_xor (n2 * 2 ^ 55) n)) (xor_apart n1 51 (n0 * 2 ^ 47) (omega arith))
-    ∙ ap (bit_xor (n3 * 2 ^ 59)) (xor_apart n2 55 (n1 * 2 ^ 51 + n0 * 2 ^ 47) (omega arith))
-    ∙ xor_apart n3 59 (n2 * 2 ^ 55 + (n1 * 2 ^ 51 + n0 * 2 ^ 47)) (omega arith)
+    ∙ ap (bit_xor _) (xor_apart n2 55 _ (omega arith))
+    ∙ xor_apart n3 59 _ (omega arith)
     ∙ (omega arith) in
     simp joined at (IsRemainder-sum generator 47 (n3 * 2 ^ 59) _ a _ first (IsRemainder-sum generator 47 (n2 * 2 ^ 55) _ b _ second (IsRemainder-sum generator 47 (n1 * 2 ^ 51)
     (n0 * 2 ^ 47) c d third fourth)))
@@ -58,6 +53,6 @@ checks-are word checks small is clean =
     let fits : low < 2 ^ 47 = omega arith in
     IsRemainder-unique generator 47 _ checks low generator_degree is (record {
       lower = fits;
-      divisible = subst (IsDivisible generator) (sym (xor_apart (word / 2 ^ 47) 47 low fits ∙ (omega arith)
-          ∙ sym (xor_zero_r word))) clean.divisible;
+      divisible = rw (xor_apart (word / 2 ^ 47) 47 low fits ∙ (omega arith)
+          ∙ sym (xor_zero_r word)) clean.divisible;
     })

@@ -23,7 +23,7 @@ word_from_remainder : (word : List Bool) → length word ≡ 63 → IsRemainder 
 word_from_remainder word long is = from_divisible word long (divisible_from_remainder generator 47 (field_of word) is)
 
 remainder_from_word : (word : List Bool) → IsBch63 word → IsRemainder generator 47 (field_of word) 0
-remainder_from_word word is = record { lower = lit< tt; divisible = subst (IsDivisible generator) (sym (xor_zero_r (field_of word))) (to_divisible word is) }
+remainder_from_word word is = record { lower = lit< tt; divisible = rw (xor_zero_r) (to_divisible word is) }
 
 -- the symbols of bits, place by place
 coefficient-symbols_of : (bits : List Bool) (j : ℕ) → coefficient gf64 (symbols_of bits) j ≡ bit_coefficient gf64 (get_or bits j false)
@@ -41,7 +41,7 @@ inverted wrong x y is = refl
 -- the value of a word's number is that of its symbols
 value_of_number : (word : List Bool) (i : ℕ) → length word ≡ 63 → value i (field_of word) ≡ value_of 63 (symbols_of word) i
 value_of_number word i long =
-    cc (number_value-suc gf64 (power gf64 alpha i) 63 (field_of word) (simp long at (field_of-lt word)), bits_of-field_of word, value_of-symbols word 63 i long)
+    cc (number_value-suc gf64 _ 63 (field_of word) (simp long at (field_of-lt word)), bits_of-field_of word, value_of-symbols word 63 i long)
 
 -- the errors between what was received and a word within 11 bits
 pub errors_of_bits : (received sent : List Bool) (number : ℕ) (syndromes : List Sym)
@@ -50,7 +50,7 @@ pub errors_of_bits : (received sent : List Bool) (number : ℕ) (syndromes : Lis
     → AreErrors 63 22 syndromes (λ j. gf64.add (coefficient gf64 (symbols_of received) j) (coefficient gf64 (symbols_of sent) j))
 errors_of_bits received sent number syndromes long is are of_code near =
     difference_errors 63 41 (symbols_of received) (symbols_of sent) syndromes IsCode-63_41 (simp (length-map, long)) (IsWord-symbols_of sent of_code)
-    (λ r low. are r (omega arith) ∙ ap (value _) is ∙ value_of_number received _ long)
+    (λ r low. cc (are r (omega arith), is, value_of_number received _ long))
     (omega (arith, distance_of_symbols))
 
 -- what was sent
@@ -83,13 +83,12 @@ corrected_number received sent made number wrong long is is_made of_code exactly
     (λ j low.
     ap (λ l. get_or l j false) is_made
     ∙ get_or-bits_of 63 _ j false low
-    ∙ xored number wrong (63 - 1 - j)
+    ∙ xored number wrong _
     ∙ sym (rw (get_or-bits_of, ← same, get_or-bits_of)))
-    (λ j low. subst (λ w. IsTrue w ↔ (gf64.add (coefficient gf64 (symbols_of received) j) (coefficient gf64 (symbols_of sent) j) ≢ gf64.zero))
-    (sym (get_or-bits_of 63 wrong j false low)) (exactly j low))
+    (λ j low. rw (sym (get_or-bits_of 63 wrong j false low)) at (exactly j low))
   where
     same : bits_of 63 number ≡ received
-    same = ap (bits_of 63) is ∙ ap (λ n. bits_of n (field_of received)) (sym long) ∙ bits_of-field_of received
+    same = cc (is, long, bits_of-field_of received)
 
 -- ---- words as numbers
 

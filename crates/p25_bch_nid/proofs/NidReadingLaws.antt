@@ -35,6 +35,6 @@ IsNidReading-unique bits None long is = from_answer (nid_reading_of bits) (IsNid
   where
     from_answer : (b : Option (ℕ × ℕ)) → IsNidReading bits b → None ≡ b
     from_answer None other = refl
-    from_answer (Some nid) other = absurd (omega (arith, is.farther other.word other.word_of_set, other.within))
+    from_answer (Some nid) other = absurd (omega (arith, is.farther, other.within))
 IsNidReading-unique bits (Some nid) long is =
     cc (nid_reading_of-word bits is.word long is.word_of_set is.within)

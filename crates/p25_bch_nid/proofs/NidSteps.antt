@@ -37,6 +37,8 @@ xor_same_high a b k same =
 -- an identifier is sent as one number alone
 pub IsSent-unique : (nac duid a b : ℕ) → IsSent nac duid a → IsSent nac duid b → a ≡ b
 IsSent-unique nac duid a b x y =
-    let none = IsDivisible-lower generator 47 _ generator_degree (IsDivisible-sum generator _ _ x.word y.word) (xor_same_high _ _ 47 (shr-shr a 1 47 ∙ x.information ∙ sym y.information
-    ∙ sym (shr-shr b 1 47))) in
-    omega (arith, same_from_xor _ (b / 2) none)
+    omega (
+      arith,
+      same_from_xor _ (b / 2) (IsDivisible-lower generator 47 _ generator_degree (IsDivisible-sum generator _ _ x.word y.word) (xor_same_high _ _ 47 (shr-shr a 1 47 ∙ x.information ∙ sym y.information
+          ∙ sym (shr-shr b 1 47)))),
+    )

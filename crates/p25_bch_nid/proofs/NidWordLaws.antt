@@ -12,7 +12,7 @@ use Rattle.p25_bch_nid.proofs.NidReadingLaws.{IsNidReading-nid_reading_of, nid_r
 -- the first 63 bits are the word that begins with the NAC and the DUID
 pub encoded-nid : (nac duid : ℕ) → IsEncoding IsBch63 16 (bits_of 12 nac ++ bits_of 4 duid) (encoded (bits_of 12 nac ++ bits_of 4 duid))
 encoded-nid nac duid =
-    IsEncoding-encoded _ (omega (arith, length-append (bits_of 12 nac) (bits_of 4 duid), length-bits_of, length-bits_of))
+    IsEncoding-encoded _ (omega (arith, length-append (bits_of 12 nac), length-bits_of, length-bits_of))
 
 pub take-nid_word : (nac duid : ℕ) → take 63 (nid_word nac duid) ≡ encoded (bits_of 12 nac ++ bits_of 4 duid)
 unfolding nid_word
@@ -56,9 +56,7 @@ identifier_of_word-sent word is =
     let nac = field_of (take 12 word) in
     let duid = field_of (part 12 4 word) in
     let encoding = IsEncoding-nid_word nac duid in
-    let first : bits_of 12 nac ≡ take 12 word = ap (λ n. bits_of n nac) (sym long_first) ∙ bits_of-field_of (take 12 word) in
-    let next : bits_of 4 duid ≡ part 12 4 word = ap (λ n. bits_of n duid) (sym long_next) ∙ bits_of-field_of (part 12 4 word) in
-    one_word (take 63 (nid_word nac duid)) word encoding.word_of_set is (encoding.begins ∙ ap₂ ◌++◌ first next ∙ sym (take-add 12 4 word))
+    one_word _ word encoding.word_of_set is (encoding.begins ∙ ap₂ ◌++◌ (cc (long_first, bits_of-field_of (take 12 word))) (ap (λ n. bits_of n duid) (sym long_next) ∙ bits_of-field_of (part 12 4 word)) ∙ sym (take-add 12 4 word))
   where
     long_first : length (take 12 word) ≡ 12
     long_first = length-take-le 12 word (omega (arith, is.long))
@@ -73,5 +71,5 @@ nid_reading_of-near bits nid read = near (simp read at (IsNidReading-nid_reading
   where
     near : IsNidFound (take 63 bits) nid → distance_of (take 63 bits) (take 63 (nid_word nid.0 nid.1)) ≤ 11
     near found =
-        let same : take 63 (nid_word nid.0 nid.1) ≡ found.word = ap (λ (n : ℕ × ℕ). take 63 (nid_word n.0 n.1)) found.begins ∙ identifier_of_word-sent found.word found.word_of_set in
-        subst (λ (w : List Bool). distance_of (take 63 bits) w ≤ 11) (sym same) found.within
+        let same : take 63 (nid_word nid.0 nid.1) ≡ found.word = cc (found.begins, identifier_of_word-sent found.word found.word_of_set) in
+        rw same found.within

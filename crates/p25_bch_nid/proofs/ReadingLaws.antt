@@ -26,9 +26,9 @@ duid_in word =
     cc (
       drop-take 12 4 (bits_of 63 word),
       bits_of-add 16 47 word,
-      take_at (bits_of 16 (word / 2 ^ 47)) (bits_of 47 word) 16 (length-bits_of 16 (word / 2 ^ 47)),
+      take_at _ (bits_of 47 word) 16 (length-bits_of 16 (word / 2 ^ 47)),
       bits_of-add 12 4 (word / 2 ^ 47),
-      drop_at (bits_of 12 (word / 2 ^ 47 / 2 ^ 4)) (bits_of 4 (word / 2 ^ 47)) 12 (length-bits_of 12 (word / 2 ^ 47 / 2 ^ 4)),
+      drop_at _ (bits_of 4 (word / 2 ^ 47)) 12 (length-bits_of 12 (word / 2 ^ 47 / 2 ^ 4)),
       field_of-bits_of 4 (word / 2 ^ 47),
     )
 
@@ -42,7 +42,7 @@ pub word_read : (bits sent : ℕ) (nid : ℕ × ℕ) → Some (bits_of 63 sent) 
 unfolding IsReadAs
 word_read bits sent nid read begins =
     let found = rw (← read) at (bch63_reads_as (bits_of 63 (bits / 2 ^ 1))) in
-    (ap (λ n. take 63 (nid_word n.0 n.1)) begins ∙ identifier_of_word-sent _ found.word_of_set, found.within)
+    (cc (begins, identifier_of_word-sent _ found.word_of_set), found.within)
 
 -- its wrong bits are those that the exclusive or counts
 pub wrong_in : (bits sent : ℕ) (nid : ℕ × ℕ) → bits < 2 ^ 64 → sent < 2 ^ 63 → Some (bits_of 63 sent) ≡ bch63_reading_of (bits_of 63 (bits / 2 ^ 1)) → nid ≡ identifier_of_word (bits_of 63 sent)

@@ -21,10 +21,8 @@ nid_digits nac duid small =
 pub IsEncoding-from_sent : (nac duid bits : ℕ) → duid < 16 → IsSent nac duid bits → IsEncoding IsBch63 16 (bits_of 12 nac ++ bits_of 4 duid) (take 63 (bits_of 64 bits))
 IsEncoding-from_sent nac duid bits small is =
     let half = bits / 2 ^ 1 in
-    let fits : half < 2 ^ 63 = omega arith in
-    let word = from_divisible _ (length-bits_of 63 half) (simp (field_of-bits_of 63 half ∙ mod-eq_of_lt fits) is.word) in
     simp first_bits (record {
-      word_of_set = word;
+      word_of_set = (from_divisible _ (length-bits_of 63 half) (simp (field_of-bits_of 63 half ∙ mod-eq_of_lt (omega arith)) is.word));
       begins =
           ap (take 16) (bits_of-add 16 47 half)
           ∙ take_at _ _ 16 (length-bits_of 16 _)

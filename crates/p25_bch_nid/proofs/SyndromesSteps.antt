@@ -23,17 +23,16 @@ wider x v (suc more) small =
     grows zero = omega arith
     grows (suc n) =
         let e : suc n + 4 ≡ suc (n + 4) = omega arith in
-        omega (arith, grows n, ap (λ m. 2 ^ m) e, pow-suc 2 (n + 4))
+        omega (arith, grows n, ap (λ m. 2 ^ m) e, pow-suc 2)
 
 -- four bits at a place
 value_at_place : (x : Sym) (v place : ℕ) → v < 16 → place < 16 → number_value gf64 x 64 (v * 2 ^ (4 * place)) ≡ gf64.mul (number_value gf64 x 4 v) (power gf64 x (4 * place))
 value_at_place x v place small low =
     let k = 4 * place in
-    let more = 60 - k in
     ap (λ w. number_value gf64 x w (v * 2 ^ k)) (omega arith)
     ∙ ap (number_value gf64 x _) (omega arith)
-    ∙ ap (bit_value gf64 x) (bits_of-joined (more + 4) k v 0 (pow_pos k))
-    ∙ bit_value-append gf64 x _ (bits_of k 0)
+    ∙ ap (bit_value gf64 x) (bits_of-joined ((60 - k) + 4) k v 0 (pow_pos k))
+    ∙ bit_value-append gf64 x _ _
     ∙ ap₂ gf64.add (simp (wider, length-bits_of)) (number_value-zero gf64 x k)
     ∙ add_zero gf64 _
 
@@ -61,10 +60,9 @@ computed-is i place v small low =
 
 pub entry-is : (place part v b : ℕ) → place < 16 → part < 3 → v < 16 → b < 8 → octet b (entry (3 * place + part) v) ≡ number (value (8 * part + b + 1) (v * 2 ^ (4 * place)))
 entry-is place part v b low inside small here =
-    let row = 3 * place + part in
     eqb-true _ _ (all_below_at 8 _
     (all_below_at 16 _
-    (all_below_at 48 _ entries_computed row (omega arith)) v small) b here)
+    (all_below_at 48 _ entries_computed (3 * place + part) (omega arith)) v small) b here)
     ∙ ap₂ (λ q p. computed (8 * q + b + 1) p v) (omega arith) (omega arith)
     ∙ computed-is _ place v small low
 
@@ -81,7 +79,6 @@ values_none word i b =
 pub values_more : (word place part values b : ℕ) → place < 16 → part < 3 → b < 8 → octet b values ≡ number (value (8 * part + b + 1) (word % 2 ^ (4 * place)))
     → octet b (bit_xor values (entry (3 * place + part) (word / 2 ^ (4 * place) % 16))) ≡ number (value (8 * part + b + 1) (word % 2 ^ (4 * (place + 1))))
 values_more word place part values b low inside here so_far =
-    let i = 8 * part + b + 1 in
     let k = 4 * place in
     let v = word / 2 ^ k % 16 in
     let rest = word % 2 ^ k in

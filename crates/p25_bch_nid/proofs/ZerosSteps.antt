@@ -61,7 +61,6 @@ planes_computed = refl
 entry-is : (k half v e p : ℕ) → k < 12 → half < 2 → v < 8 → e < 63 → p < 6 → bit_at (entry (12 * k + 6 * half + p) v) e ≡ bit_at (product (number (power gf64 (point e) k)) (v * 8 ^ half)) p
 unfolding bits_right values_right
 entry-is k half v e p k_low half_low v_low e_low p_low =
-    let y = get_or powers ((63 - e) * k % 63) 0 in
     cc (
       eqb-true _ _
           (all_below_at 6 _
@@ -95,29 +94,21 @@ plane_more_by polynomial k p sum e symbol k_low p_low e_low is so_far =
     let high_part = product (number y) (n / 8 * 8 ^ 1) in
     let first_row : 12 * k + 6 * 0 + p ≡ 12 * k + p = omega arith in
     let second_row : 12 * k + 6 * 1 + p ≡ 12 * k + 6 + p = omega arith in
-    let first : bit_at (entry (12 * k + p) (n % 8)) e ≡ bit_at low_part p
-    = ap (λ r. bit_at (entry r (n % 8)) e) (sym first_row) ∙ entry-is k 0 (n % 8) e p k_low (omega arith) low e_low p_low in
-    let second : bit_at (entry (12 * k + 6 + p) (n / 8)) e ≡ bit_at high_part p
-    = ap (λ r. bit_at (entry r (n / 8)) e) (sym second_row) ∙ entry-is k 1 (n / 8) e p k_low (omega arith) high e_low p_low in
     let three : n % 8 * 8 ^ 0 < 2 ^ 3 = omega arith in
     let low_small : n % 8 * 8 ^ 0 < 64 = omega arith in
     let high_small : n / 8 * 8 ^ 1 < 64 = omega arith in
     let shifted : n / 8 * 8 ^ 1 ≡ n / 8 * 2 ^ 3 = omega arith in
-    let joined : bit_xor (n / 8 * 8 ^ 1) (n % 8 * 8 ^ 0) ≡ n
-    = ap (λ m. bit_xor m (n % 8 * 8 ^ 0)) shifted ∙ xor_apart (n / 8) 3 (n % 8 * 8 ^ 0) three ∙ whole n in
     let parts : number (gf64.mul symbol y) ≡ bit_xor high_part low_part
-    = ap number (mul_comm gf64 symbol y) ∙ number-mul y symbol ∙ ap (product (number y)) (sym joined)
+    = ap number (mul_comm gf64 symbol y) ∙ number-mul y symbol ∙ ap (product (number y)) (sym (ap (λ m. bit_xor m (n % 8 * 8 ^ 0)) shifted ∙ xor_apart (n / 8) 3 (n % 8 * 8 ^ 0) three ∙ whole n))
     ∙ product-xor (number y) (n / 8 * 8 ^ 1) (n % 8 * 8 ^ 0) y.below high_small low_small in
     let next : k + 1 ≡ suc k = omega arith in
-    let more : number (value_at gf64 (k + 1) (coefficient gf64 polynomial) (point e)) ≡ bit_xor (number before) (bit_xor high_part low_part)
-    = ap (λ m. number (value_at gf64 m (coefficient gf64 polynomial) (point e))) next
-    ∙ ap number (sum-suc gf64 k _)
-    ∙ number-add before (gf64.mul (coefficient gf64 polynomial k) y)
-    ∙ ap (bit_xor (number before)) (ap (λ s. number (gf64.mul s y)) (sym is) ∙ parts) in
-    bit_at_xor sum (bit_xor (entry (12 * k + p) (n % 8)) (entry (12 * k + 6 + p) (n / 8))) e
+    bit_at_xor sum _ e
     ∙ ap₂ (λ a b. (a + b) % 2) so_far
-    (bit_at_xor (entry (12 * k + p) (n % 8)) (entry (12 * k + 6 + p) (n / 8)) e ∙ ap₂ (λ a b. (a + b) % 2) first second ∙ turned (bit_at low_part p) (bit_at high_part p))
-    ∙ sym (ap (λ m. bit_at m p) more ∙ bit_at_xor (number before) (bit_xor high_part low_part) p ∙ ap (λ b. (bit_at (number before) p + b) % 2) (bit_at_xor high_part low_part p))
+    (bit_at_xor (entry (12 * k + p) (n % 8)) (entry (12 * k + 6 + p) (n / 8)) e
+    ∙ ap₂ (λ a b. (a + b) % 2) (ap (λ r. bit_at (entry r (n % 8)) e) (sym first_row) ∙ entry-is k 0 (n % 8) e p k_low (omega arith) low e_low p_low)
+    (ap (λ r. bit_at (entry r (n / 8)) e) (sym second_row) ∙ entry-is k 1 (n / 8) e p k_low (omega arith) high e_low p_low) ∙ turned (bit_at low_part p) (bit_at high_part p))
+    ∙ sym (ap (λ m. bit_at m p) (cc (next, sum-suc gf64 k _, number-add before (gf64.mul (coefficient gf64 polynomial k) y), is, parts)) ∙ bit_at_xor (number before) (bit_xor high_part low_part) p
+    ∙ ap (λ b. (bit_at (number before) p + b) % 2) (bit_at_xor high_part low_part p))
   where
     whole : (n : ℕ) → n / 8 * 2 ^ 3 + n % 8 * 8 ^ 0 ≡ n
     whole n = omega arith

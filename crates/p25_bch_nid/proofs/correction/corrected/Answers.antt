@@ -8,15 +8,16 @@ use Rattle.p25_bch_nid.proofs.CorrectionSteps.{errors_of_bits, corrected_number,
 use Rattle.p25_bch_nid.proofs.correction.corrected.Goals as goal
 
 pub returns-clause-sent : goal.returns-clause-sent
-returns-clause-sent c = λ sent of_code near.
-    let received = bits_of 63 c.args.received in
-    let long = length-bits_of 63 c.args.received in
-    let is = sym (number_back c.args.received c.requires) in
-    let errors = errors_of_bits received sent c.args.received c.syndromes_of.result long is c.syndromes_of.ensures.values of_code near in
-    corrected_number received sent _ c.args.received c.zeros_of.result long is refl of_code
+returns-clause-sent c =
+    let received_given = c.args.received in
+    λ sent of_code near.
+    let received = bits_of 63 received_given in
+    let long = length-bits_of 63 received_given in
+    let is = sym (number_back received_given c.requires) in
+    corrected_number received sent _ received_given c.zeros_of.result long is refl of_code
     (λ j low.
     let here = c.zeros_of.ensures.zeros j low in
-    let exactly = c.wrong_locator-locator.ensures.zeros (λ k. gf64.add (coefficient gf64 (symbols_of received) k) (coefficient gf64 (symbols_of sent) k)) errors j low in
+    let exactly = c.wrong_locator-locator.ensures.zeros _ (errors_of_bits received sent received_given c.syndromes_of.result long is c.syndromes_of.ensures.values of_code near) j low in
     ((λ is. exactly.0 (here.0 is)), (λ other. here.1 (exactly.1 other))))
 
 pub returns-clause-fits : goal.returns-clause-fits

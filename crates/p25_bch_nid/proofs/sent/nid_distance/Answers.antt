@@ -14,9 +14,8 @@ returns-clause-distance c = is_distance c
 
 pub returns-clause-most : goal.returns-clause-most
 returns-clause-most c =
-    let received = take 63 (bits_of 64 c.args.bits) in
-    let long : length received ≡ 63 = length-take-le 63 (bits_of 64 c.args.bits) (omega (arith, length-bits_of 64 c.args.bits)) in
-    omega (arith, is_distance c, distance_by-le beq received (take 63 (nid_word c.args.nid.now.nac c.args.nid.now.duid)))
+    let long : length (take 63 (bits_of 64 c.args.bits)) ≡ 63 = length-take-le 63 _ (omega (arith, length-bits_of 64)) in
+    omega (arith, is_distance c, distance_by-le)
 
 pub returns-clause-read : goal.returns-clause-read
-returns-clause-read c = λ read. omega (arith, is_distance c, nid_reading_of-near (bits_of 64 c.args.bits) (c.args.nid.now.nac, c.args.nid.now.duid) read)
+returns-clause-read c = λ read. omega (arith, is_distance c, nid_reading_of-near)

@@ -10,13 +10,9 @@ unfolding encoded_by
 encoding_of c =
     let info = c.args.info.now in
     let r = c.number_remainder-remainder.result in
-    let small : field_of info < 2 ^ 16 = subst (λ n. field_of info < 2 ^ n) c.requires.info (field_of-lt info) in
-    let fits : field_of info * 2 ^ 47 < 18446744073709551616 = omega arith in
-    let message : c.number_of.result * 2 ^ 47 % 18446744073709551616 ≡ field_of info * 2 ^ 47 = ap (λ n. n * 2 ^ 47 % 18446744073709551616) c.number_of.ensures.value ∙ mod-eq_of_lt fits in
-    let is = subst (λ (n : ℕ). IsRemainder generator 47 n r) message c.number_remainder-remainder.ensures.is in
-    let places : length c.split_at_mut-beginning.result.1.now ≡ 47 = omega (arith, c.requires.word) in
-    let word = ap₂ ◌++◌ c.copy_from_slice.ensures.after (c.put_number.ensures ∙ ap (λ n. bits_of n r) places) in
-    subst (IsEncoding IsBch63 16 info) (sym word) (IsEncoding-encoded_by info r c.requires.info is)
+    let small = rw c.requires.info at (field_of-lt info) in
+    subst (IsEncoding IsBch63 16 info) (sym (ap₂ ◌++◌ c.copy_from_slice.ensures.after (c.put_number.ensures ∙ ap (λ n. bits_of n r) (omega (arith, c.requires.word)))))
+    (IsEncoding-encoded_by info r c.requires.info (rw (ap (λ n. n * 2 ^ 47 % 18446744073709551616) c.number_of.ensures.value ∙ mod-eq_of_lt (omega arith)) at c.number_remainder-remainder.ensures.is))
 
 pub returns-clause-encoding : goal.returns-clause-encoding
 returns-clause-encoding c = encoding_of c

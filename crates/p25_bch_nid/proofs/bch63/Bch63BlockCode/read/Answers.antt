@@ -5,11 +5,12 @@ use Rattle.p25_bch_nid.proofs.bch63.Bch63BlockCode.read.Goals as goal
 
 pub returns-in-Some : goal.returns-in-Some
 returns-in-Some c =
+    let received_here = c.number_of-received in
     let sent = c.in-Some.sent in
-    read_by_number IsBch63 11 63 bch63_reading_of bch63_reads_as c.args.word.now c.put_number.new.bits c.number_of-received.result (Some sent) _
-    c.requires.word c.number_of-received.ensures.value c.in-Some.ensures.reading
-    (changed_bits c.number_of-received.result sent c.args.word.now c.put_number.new.bits c.number_of-received.ensures.value
-    (subst (λ n. sent < 2 ^ n) (sym c.requires.word) c.in-Some.ensures.fits) c.put_number.ensures)
+    read_by_number IsBch63 11 63 bch63_reading_of bch63_reads_as c.args.word.now c.put_number.new.bits received_here.result (Some sent) _
+    c.requires.word received_here.ensures.value c.in-Some.ensures.reading
+    (changed_bits received_here.result sent c.args.word.now c.put_number.new.bits received_here.ensures.value
+    (rw c.requires.word c.in-Some.ensures.fits) c.put_number.ensures)
 
 pub returns-in-None : goal.returns-in-None
 returns-in-None c =
