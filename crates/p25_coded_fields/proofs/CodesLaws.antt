@@ -52,7 +52,7 @@ pub all_end : (size end len : ℕ) (places : List ℕ) → list_all (λ at. nat_
 all_end size end len [] test fits = All-nil (λ at. at + size ≤ len)
 all_end size end len (at ∷ places) test fits =
     let parts = and_parts (nat_le (at + size) end) (list_all (λ a. nat_le (a + size) end) places) test in
-    let here : at + size ≤ end = leb-true (at + size) end parts.0 in
+    let here = leb-true (at + size) end parts.0 in
     All-cons (λ a. a + size ≤ len) at places (omega arith) (all_end size end len places parts.1 fits)
 
 module _ (places : List ℕ) (size each n information : ℕ) (inner_reading : List Bool → Option (List Bool)) where
@@ -75,7 +75,7 @@ module _ (places : List ℕ) (size each n information : ℕ) (inner_reading : Li
   word_of_reading : (received : List Bool) (info : List Sym) → field_reading_of coded received ≡ Some info
       → (word : List Sym) × IsWithinCost same_symbols (IsWord n information) (n - information) (received_in coded received) word × (take information word ≡ info)
   unfolding field_reading_of
-  word_of_reading received info = found (outer_word_of coded received) refl
+  word_of_reading received info = found _ refl
     where
       found : (answer : Option (List Sym)) → outer_word_of coded received ≡ answer → option_map (take information) answer ≡ Some info
           → (word : List Sym) × IsWithinCost same_symbols (IsWord n information) (n - information) (received_in coded received) word × (take information word ≡ info)
@@ -90,12 +90,10 @@ module _ (places : List ℕ) (size each n information : ℕ) (inner_reading : Li
         → IsFieldNear (n - information) coded sent received
     near_from_reading info sent received has read =
         let found = word_of_reading received info read in
-        let same = one_word_of n information code (sent_in coded sent) found.0 has.outer found.1.word_of_set (has.begins ∙ sym found.2) in
-        record { near = rw same found.1.within }
+        record { near = rw (one_word_of n information code (sent_in coded sent) found.0 has.outer found.1.word_of_set (has.begins ∙ sym found.2)) found.1.within }
 
     -- the information that was read has its length
     pub field_information : (received : List Bool) (symbols : List Sym) → field_reading_of coded received ≡ Some symbols → length symbols ≡ information
     field_information received symbols read =
         let found = word_of_reading received symbols read in
-        let fits : information ≤ length found.0 = omega (arith, code.shorter, length_of_word_of n information found.0 found.1.word_of_set) in
-        ap length (sym found.2) ∙ length-take-le information found.0 fits
+        cc (found.2, length-take-le information found.0 (omega (arith, code.shorter, length_of_word_of)))

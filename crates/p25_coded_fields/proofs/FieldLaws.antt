@@ -22,34 +22,32 @@ pub get_or-places_from : (at step count i d : ℕ) → i < count → get_or (pla
 unfolding places_from
 get_or-places_from at step zero i d inside = absurd (omega arith)
 get_or-places_from at step (suc count) zero d inside = omega arith
-get_or-places_from at step (suc count) (suc i) d inside = omega (arith, get_or-places_from (at + step) step count i d (omega arith), mul-suc step i)
+get_or-places_from at step (suc count) (suc i) d inside = omega (arith, get_or-places_from (at + step) step count, mul-suc)
 
 -- what each element of a list gives, joined, by its place
 flat_map_by_place : {X Y : Type 0} (f : X → List Y) (xs : List X) (d : X) (n : ℕ) → n ≤ length xs → flat_map f (take n xs) ≡ joined_below n (λ i. f (get_or xs i d))
-flat_map_by_place f xs d zero inside = sym (joined_below-zero (λ i. f (get_or xs i d)))
+flat_map_by_place f xs d zero inside = sym (joined_below-zero _)
 flat_map_by_place f xs d (suc n) inside =
     let one : suc n ≡ n + 1 = omega arith in
     rw (
-      joined_below-suc n (λ i. f (get_or xs i d)),
+      joined_below-suc n _,
       one,
       take_more xs n d (omega arith),
-      flat_map-append f (take n xs) (get_or xs n d ∷ []),
-      append-nil (f (get_or xs n d)),
+      flat_map-append,
+      append-nil _,
       flat_map_by_place f xs d n (omega arith),
     ) refl
 
 -- of all elements
 pub flat_map_places : {X Y : Type 0} (f : X → List Y) (xs : List X) (d : X) → flat_map f xs ≡ joined_below (length xs) (λ i. f (get_or xs i d))
 flat_map_places f xs d =
-    let every : length xs ≤ length xs = omega arith in rw (take_all (length xs) xs every) at (flat_map_by_place f xs d (length xs) every)
+    let every : length xs ≤ length xs = omega arith in rw (take_all) at (flat_map_by_place f xs d _ every)
 
 -- the symbols that a word begins with whose information are their bits
 encoding_symbols : {IsWord : List Bool → Type 0} (k each : ℕ) (symbols : List Sym) (word : List Bool)
     → 6 * each ≡ k → length symbols ≡ each → k ≤ length word → IsEncoding IsWord k (symbol_bits symbols) word → symbols_in each word ≡ symbols
 encoding_symbols k each symbols word sixes long fits is =
-    let inside : 6 * each ≤ k = omega arith in
-    let there : 6 * each ≤ length word = omega arith in
-    rw (← symbols_in-take each k word inside there, is.begins) (symbols_in-symbol_bits each symbols long)
+    rw (← symbols_in-take each k word (omega arith) (omega arith), is.begins) (symbols_in-symbol_bits each symbols long)
 
 module _ {IsInnerWord : List Bool → Type 0} {IsOuterWord : List Sym → Type 0} where
   -- a field is there where the words of its symbols stand at its places
@@ -100,31 +98,28 @@ module _ {IsWord : List Bool → Type 0} {size k : ℕ} (long : (word : List Boo
 
   pub length-field_bits : (each count : ℕ) (symbols : List Sym) → 6 * each ≡ k → each * count ≡ length symbols → length (field_bits encoding each count symbols) ≡ size * count
   unfolding field_bits
-  length-field_bits each count symbols sixes covers = length-joined_below size count (λ i. encoding (symbol_bits (part (each * i) each symbols))) (field_word-long each count symbols sixes covers)
+  length-field_bits each count symbols sixes covers = length-joined_below size count _ (field_word-long each count symbols sixes covers)
 
   pub part-field_bits : (each count : ℕ) (symbols : List Sym) → 6 * each ≡ k → each * count ≡ length symbols → (i : ℕ) → i < count
       → part (size * i) size (field_bits encoding each count symbols) ≡ encoding (symbol_bits (part (each * i) each symbols))
   unfolding field_bits
   part-field_bits each count symbols sixes covers i inside =
-      part-joined_below size count (λ j. encoding (symbol_bits (part (each * j) each symbols))) i (field_word-long each count symbols sixes covers) inside
+      part-joined_below size count _ i (field_word-long each count symbols sixes covers) inside
 
 -- the symbols of a word are a group
 field_group : (layout : Layout) (sent : List Bool) (i : ℕ) → i < length layout.places
     → symbols_in layout.each (part (get_or layout.places i 0) layout.size sent) ≡ part (layout.each * i) layout.each (sent_in layout sent)
 unfolding sent_in
 field_group layout sent i inside =
-    let words : ℕ → List Sym = λ j. symbols_in layout.each (part (get_or layout.places j 0) layout.size sent) in
-    rw (flat_map_places (λ at. symbols_in layout.each (part at layout.size sent)) layout.places 0)
-    (sym (part-joined_below layout.each (length layout.places) words i (λ j low. length-symbols_in layout.each (part (get_or layout.places j 0) layout.size sent)) inside))
+    rw (flat_map_places _ layout.places 0)
+    (sym (part-joined_below layout.each _ _ i (λ j low. length-symbols_in layout.each (part _ layout.size sent)) inside))
 
 -- so a word begins with the bits of its group
 pub field_word_there : {IsInnerWord : List Bool → Type 0} {IsOuterWord : List Sym → Type 0} (layout : Layout) (k : ℕ) (info : List Sym) (sent : List Bool) → 6 * layout.each ≡ k → k ≤ layout.size
     → All (λ at. at + layout.size ≤ length sent) layout.places → HasField IsInnerWord IsOuterWord layout info sent
     → (i : ℕ) → i < length layout.places → IsEncoding IsInnerWord k (symbol_bits (part (layout.each * i) layout.each (sent_in layout sent))) (part (get_or layout.places i 0) layout.size sent)
 field_word_there layout k info sent sixes fits there has i inside =
-    let word = part (get_or layout.places i 0) layout.size sent in
-    let long = length-part (get_or layout.places i 0) layout.size sent (there i 0 inside) in
     record {
       word_of_set = has.inner i 0 inside;
-      begins = rw (← field_group layout sent i inside, symbol_bits-symbols_in layout.each word (omega (arith, long, sixes, fits)), sixes) refl;
+      begins = rw (← field_group layout sent i inside, symbol_bits-symbols_in layout.each (part (get_or layout.places i 0) layout.size sent) (omega (arith, (length-part _ layout.size sent (there i 0 inside)), sixes, fits)), sixes) refl;
     }

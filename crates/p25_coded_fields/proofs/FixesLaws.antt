@@ -17,7 +17,7 @@ few_places each n some short = let one : 1 ≤ each = omega arith in omega (arit
 
 -- the symbols of one group more
 pub front_more : (each i : ℕ) (symbols : List Sym) → take (each * i) symbols ++ part (each * i) each symbols ≡ take (each * (i + 1)) symbols
-front_more each i symbols = ap (λ n. take (each * i) symbols ++ part n each symbols) (sym (zero-add (each * i))) ∙ part_add 0 (each * i) each symbols ∙ ap (λ n. take n symbols) (one_more each i)
+front_more each i symbols = cc (zero-add (each * i), part_add 0 (each * i) each symbols, one_more each i)
 
 -- the first places are there, as all are
 pub there_before : (size len i : ℕ) (places : List ℕ) → All (λ at. at + size ≤ len) places → All (λ at. at + size ≤ len) (take i places)
@@ -25,7 +25,7 @@ there_before size len i places there = All-take (λ at. at + size ≤ len) i pla
 
 -- at most as many bits differ as an inner word has
 pub word_most : (size at most : ℕ) (bits sent : List Bool) → size ≤ most → at + size ≤ length bits → distance_of (part at size bits) sent ≤ most
-word_most size at most bits sent small there = omega (arith, distance_by-le beq (part at size bits) sent, length-part at size bits there)
+word_most size at most bits sent small there = omega (arith, distance_by-le, length-part)
 
 -- the inner words that were received have their bits
 length-inner_bits : (size : ℕ) (places : List ℕ) (bits : List Bool) → All (λ at. at + size ≤ length bits) places → length (inner_bits size places bits) ≡ size * length places
@@ -33,7 +33,7 @@ unfolding inner_bits
 length-inner_bits size [] bits there = omega arith
 length-inner_bits size (at ∷ places) bits there =
     rw (length-append, length-part at size bits (there 0 at (omega arith)), length-inner_bits size places bits (λ i d inside. there (suc i) d (omega arith)))
-    (omega (arith, one_more size (length places)))
+    (omega (arith, one_more size))
 
 module _ (encoding : List Bool → List Bool) (size each : ℕ) where
   -- one inner word more
@@ -41,11 +41,11 @@ module _ (encoding : List Bool → List Bool) (size each : ℕ) where
       → field_bits encoding each (i + 1) (beginning ++ xs) ≡ field_bits encoding each i beginning ++ encoding (symbol_bits xs)
   unfolding field_bits
   field_bits-more i beginning xs long long_xs =
-      joined_below-more i (λ j. encoding (symbol_bits (part (each * j) each (beginning ++ xs))))
-      ∙ ap₂ (λ (us vs : List Bool). us ++ vs)
-      (joined_below-same i (λ j. encoding (symbol_bits (part (each * j) each (beginning ++ xs)))) (λ j. encoding (symbol_bits (part (each * j) each beginning)))
+      joined_below-more i _
+      ∙ ap₂ (λ us vs. us ++ vs)
+      (joined_below-same i _ _
       (λ j inside. rw (part_left (each * j) each beginning xs (room_at each j i (length beginning) inside (sym long))) refl))
-      (rw (part_last (each * i) each beginning xs long long_xs) refl)
+      (rw (part_last) refl)
 
   -- before the first place there are none
   pub fixes_none : (symbols : List Sym) (bits : List Bool) → field_fixes_of encoding size each [] symbols bits ≡ 0
@@ -59,8 +59,8 @@ module _ (encoding : List Bool → List Bool) (size each : ℕ) where
   fixes_most most places symbols bits small there =
       omega (
         arith,
-        distance_by-le beq (inner_bits size places bits) (field_bits encoding each (length places) symbols),
-        length-inner_bits size places bits there,
+        distance_by-le,
+        length-inner_bits,
         mul-le-mul_right (length places) small,
       )
 
@@ -70,8 +70,7 @@ module _ (encoding : List Bool → List Bool) (size each : ℕ) where
       → field_fixes_of encoding size each (take i places) (take (each * i) symbols) bits ≡ field_fixes_of encoding size group places symbols bits
   all_fixes group i places symbols bits same past most covers =
       let here : i ≡ length places = omega arith in
-      let all : length symbols ≤ group * length places = omega (arith, mul_comm group (length places)) in
-      rw (take_all i places past, same, here, take_all (group * length places) symbols all) refl
+      rw (take_all, same, here, take_all (group * length places) symbols (omega (arith, mul_comm group))) refl
 
   -- one place more
   pub fixes_more : {IsWord : List Bool → Type 0} {k : ℕ} (long : (word : List Bool) → IsWord word → length word ≡ size) → Encodes IsWord k encoding
@@ -81,16 +80,13 @@ module _ (encoding : List Bool → List Bool) (size each : ℕ) where
       ≡ field_fixes_of encoding size each places beginning bits + distance_of (part at size bits) (encoding (symbol_bits xs))
   unfolding field_fixes_of inner_bits
   fixes_more long encodes places at beginning xs bits sixes there long_front long_xs =
-      let received = inner_bits size places bits in
-      let sent = field_bits encoding each (length places) beginning in
-      let even : length received ≡ length sent
-      = length-inner_bits size places bits there ∙ sym (length-field_bits long encoding encodes each (length places) beginning sixes (sym long_front)) in
       rw (
-        length-append places (at ∷ []),
-        field_bits-more (length places) beginning xs long_front long_xs,
-        flat_map-append (λ (place : ℕ). part place size bits) places (at ∷ []),
-        append-nil (part at size bits),
-      ) (distance_by-append beq received (part at size bits) sent (encoding (symbol_bits xs)) even)
+        length-append,
+        field_bits-more,
+        flat_map-append,
+        append-nil,
+      ) (distance_by-append beq (inner_bits size places bits) (part at size bits) (field_bits encoding each (length places) beginning) _
+      (length-inner_bits size places bits there ∙ sym (length-field_bits long encoding encodes each (length places) beginning sixes (sym long_front))))
 
   -- one place more of a list
   pub fixes_next : {IsWord : List Bool → Type 0} {k : ℕ} (long : (word : List Bool) → IsWord word → length word ≡ size) → Encodes IsWord k encoding
@@ -98,7 +94,6 @@ module _ (encoding : List Bool → List Bool) (size each : ℕ) where
       → field_fixes_of encoding size each (take (i + 1) places) (take (each * (i + 1)) symbols) bits
       ≡ field_fixes_of encoding size each (take i places) (take (each * i) symbols) bits + distance_of (part (get_or places i 0) size bits) (encoding (symbol_bits (part (each * i) each symbols)))
   fixes_next long encodes i places symbols bits sixes there inside fits =
-      let before : length (take i places) ≡ i = length-take-le i places (omega arith) in
-      rw (take_more places i 0 inside, ← front_more each i symbols)
+      rw (take_more places i 0 inside, ← front_more)
       (fixes_more long encodes (take i places) (get_or places i 0) (take (each * i) symbols) (part (each * i) each symbols) bits sixes
-      (there_before size (length bits) i places there) (rw before (length-take-le (each * i) symbols (omega arith))) (length-part (each * i) each symbols fits))
+      (there_before size (length bits) i places there) (rw (length-take-le i places (omega arith)) (length-take-le (each * i) symbols (omega arith))) (length-part (each * i) each symbols fits))

@@ -44,9 +44,7 @@ pub inner_found : (size k each value : ℕ) (reading : Option (List Bool)) (symb
     → symbols ≡ symbols_in each (bits_of (6 * each) (value / 2 ^ (size - k))) → erased ≡ replicate each false → without_erased symbols erased ≡ symbols_or_erasures each reading
 inner_found size k each value reading symbols erased sixes fits some made none =
     let word = bits_of size value in
-    let inside : 6 * each ≤ k = omega arith in
-    let there : 6 * each ≤ length word = omega (arith, length-bits_of size value) in
-    rw (made, information_bits size k each value sixes fits, symbols_in-take each k word inside there, none, ← some, symbols_or_erasures-some each word)
+    rw (made, information_bits, symbols_in-take each k word (omega arith) (omega (arith, length-bits_of size value)), none, ← some, symbols_or_erasures-some)
     (without_erased-none (symbols_in each word) (replicate each false) (All-replicate (λ gone. gone ≡ false) each false refl))
 
 -- no inner word was read
@@ -66,8 +64,7 @@ pub wrong_bits : {IsWord : List Bool → Type 0} (size k : ℕ) → ((v w : List
     → (received value : ℕ) (info bits sent : List Bool) → IsEncoding IsWord k info (bits_of size value)
     → IsEncoding IsWord k info sent → bits_of size received ≡ bits → received < 2 ^ size → value < 2 ^ size → count_ones (bit_xor received value) ≡ distance_of bits sent
 wrong_bits size k one_word received value info bits sent made is taken small_received small =
-    let same : bits_of size value ≡ sent = one_word (bits_of size value) sent made.word_of_set is.word_of_set (made.begins ∙ sym is.begins) in
-    rw (← taken, ← same) (sym (distance_of-bits_of size received value small_received small))
+    rw (← taken, ← (one_word (bits_of size value) sent made.word_of_set is.word_of_set (made.begins ∙ sym is.begins))) (sym (distance_of-bits_of size received value small_received small))
 
 -- before the first place
 pub erased_before : {L : Type 0} (each : ℕ) (word : List L) (erased : List Bool) → without_erased (take (each * 0) word) (take (each * 0) erased) ≡ []
@@ -81,20 +78,17 @@ pub erased_next : {L : Type 0} (f : ℕ → List (Option L)) (places : List ℕ)
     → length xs ≡ each → length es ≡ each → without_erased (take (each * i) word) (take (each * i) erased) ≡ flat_map f (take i places) → without_erased xs es ≡ f at
     → without_erased (take (each * (i + 1)) (put_mid (each * i) k word xs)) (take (each * (i + 1)) (put_mid (each * i) k erased es)) ≡ flat_map f (take (i + 1) places)
 erased_next f places each i k at word xs erased es inside read there same long_x long_e before is =
-    let next_x : each * (i + 1) ≡ each * i + length xs = omega (arith, one_more each i) in
-    let next_e : each * (i + 1) ≡ each * i + length es = omega (arith, one_more each i) in
     let fits_x : each * i ≤ length word = omega arith in
     let fits_e : each * i ≤ length erased = omega arith in
-    let even : length (take (each * i) word) ≡ length (take (each * i) erased) = length-take-le (each * i) word fits_x ∙ sym (length-take-le (each * i) erased fits_e) in
     rw (
-      take-put_mid (each * i) k word xs (each * (i + 1)) next_x fits_x,
-      take-put_mid (each * i) k erased es (each * (i + 1)) next_e fits_e,
-      without_erased-append (take (each * i) word) xs (take (each * i) erased) es even,
+      take-put_mid (each * i) k word xs (each * (i + 1)) (omega (arith, one_more each i)) fits_x,
+      take-put_mid (each * i) k erased es (each * (i + 1)) (omega (arith, one_more each i)) fits_e,
+      without_erased-append (take (each * i) word) xs (take (each * i) erased) es (length-take-le (each * i) word fits_x ∙ sym (length-take-le (each * i) erased fits_e)),
       before,
       is,
       read,
       take_more places i 0 inside,
-      flat_map-append f (take i places) (get_or places i 0 ∷ []),
+      flat_map-append,
       append-nil (f (get_or places i 0)),
     ) refl
 
@@ -105,8 +99,5 @@ pub outer_read : (layout : Layout) (bits : List Bool) (each i : ℕ) (word : Lis
     → value ≡ layout.outer_reading (without_erased word erased) → value ≡ outer_word_of layout bits
 unfolding outer_word_of received_in
 outer_read layout bits each i word erased value group here covers same is read =
-    let all : each * i ≡ length word = ap₂ (λ m n. m * n) group here ∙ covers in
-    let fits_x : length word ≤ each * i = omega arith in
-    let fits_e : length erased ≤ each * i = omega arith in
-    let fits : length layout.places ≤ i = omega arith in
-    rw (read, rw (take_all (each * i) word fits_x, take_all (each * i) erased fits_e, take_all i layout.places fits) at is) refl
+    let all = ap₂ (λ m n. m * n) group here ∙ covers in
+    rw (read, rw (take_all (each * i) word (omega arith), take_all (each * i) erased (omega arith), take_all i layout.places (omega arith)) at is) refl

@@ -11,7 +11,7 @@ use Rattle.p25_link.proofs.SymbolsLaws.{length-symbol_bits, number-symbols_in, s
 -- bits after those that are asked for do not matter
 pub symbols_in-take : (n count : ℕ) (bits : List Bool) → 6 * n ≤ count → 6 * n ≤ length bits → symbols_in n (take count bits) ≡ symbols_in n bits
 symbols_in-take n count bits inside there =
-    same_symbols_list (symbols_in n (take count bits)) (symbols_in n bits)
+    same_symbols_list _ (symbols_in n bits)
     (number-symbols_in n (take count bits) ∙ numbers_from-take 6 n count bits inside there ∙ sym (number-symbols_in n bits))
 
 -- the information that symbols are, by the number that their bits write
@@ -20,13 +20,13 @@ symbols_info k number symbols is sixes = rw (is, ← sixes, ← length-symbol_bi
 
 -- one group more
 pub one_more : (each i : ℕ) → each * i + each ≡ each * (i + 1)
-one_more each i = rw add-one (omega (arith, mul-suc each i))
+one_more each i = rw add-one (omega (arith, mul-suc))
 
 -- a group of so many is there
 pub room_at : (each i count n : ℕ) → i < count → each * count ≡ n → each * i + each ≤ n
 room_at each i count n inside covers =
     let next : i + 1 ≤ count = omega arith in
-    omega (arith, one_more each i, mul-le-mul_left each next)
+    omega (arith, one_more, mul-le-mul_left each next)
 
 -- a group as a range
 pub group_is : {X : Type 0} (each group i : ℕ) (xs : List X) → each ≡ group → take (each * i + each - each * i) (drop (each * i) xs) ≡ part (group * i) group xs
@@ -38,5 +38,4 @@ group_is each group i xs same =
 pub length_group : {X : Type 0} (each i : ℕ) (xs : List X) → each * i + each ≤ length xs → length (take (each * i + each - each * i) (drop (each * i) xs)) ≡ each
 length_group each i xs there =
     let count : each * i + each - each * i ≡ each = omega arith in
-    let left : each ≤ length (drop (each * i) xs) = omega (arith, length-drop (each * i) xs) in
-    rw count (length-take-le each (drop (each * i) xs) left)
+    rw count (length-take-le each _ (omega (arith, length-drop (each * i) xs)))

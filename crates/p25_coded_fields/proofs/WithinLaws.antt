@@ -17,30 +17,30 @@ use Rattle.p25_coded_fields.proofs.{ReadLaws.{symbols_or_erasures-some, symbols_
 
 -- an inner word gives as many symbols or erasures as it carries
 pub length-symbols_or_erasures : (each : ℕ) (word : Option (List Bool)) → length (symbols_or_erasures each word) ≡ each
-length-symbols_or_erasures each (Some word) = rw (symbols_or_erasures-some each word, length-map (symbols_in each word) Some) (length-symbols_in each word)
+length-symbols_or_erasures each (Some word) = rw (symbols_or_erasures-some, length-map) (length-symbols_in each word)
 length-symbols_or_erasures each None = rw (symbols_or_erasures-none each) (length-replicate each None)
 
 -- lists of one length, one for each place
 length-pieces : {X : Type 0} (each : ℕ) (f : ℕ → List X) (places : List ℕ) → ((at : ℕ) → length (f at) ≡ each) → length (flat_map f places) ≡ each * length places
 length-pieces each f [] long = omega arith
 length-pieces each f (at ∷ places) long =
-    rw (length-append (f at) (flat_map f places), long at, length-pieces each f places long) (omega (arith, one_more each (length places)))
+    rw (length-append, long at, length-pieces each f places long) (omega (arith, one_more))
 
 pub length-received_in : (layout : Layout) (bits : List Bool) → length (received_in layout bits) ≡ layout.each * length layout.places
 unfolding received_in
 length-received_in layout bits =
-    length-pieces layout.each (λ at. symbols_or_erasures layout.each (layout.inner_reading (part at layout.size bits))) layout.places
-    (λ at. length-symbols_or_erasures layout.each (layout.inner_reading (part at layout.size bits)))
+    length-pieces layout.each _ layout.places
+    (λ at. length-symbols_or_erasures layout.each _)
 
 -- the reading of a field whose outer word is read
 pub field_reading_of-some : (layout : Layout) (bits : List Bool) (word : List Sym) → outer_word_of layout bits ≡ Some word → field_reading_of layout bits ≡ Some (take layout.information word)
 unfolding field_reading_of
-field_reading_of-some layout bits word is = ap (option_map (take layout.information)) is
+field_reading_of-some layout bits word is = rw is
 
 -- and of one whose outer word is not
 pub field_reading_of-none : (layout : Layout) (bits : List Bool) → outer_word_of layout bits ≡ None → field_reading_of layout bits ≡ None
 unfolding field_reading_of
-field_reading_of-none layout bits is = ap (option_map (take layout.information)) is
+field_reading_of-none layout bits is = rw is
 
 module _ {IsInnerWord : List Bool → Type 0} {inner_radius : ℕ}
     {IsOuterWord : List Sym → Type 0} {checks : ℕ} {layout : Layout} (codes : HasCodes IsInnerWord inner_radius IsOuterWord checks layout) where
@@ -49,7 +49,7 @@ module _ {IsInnerWord : List Bool → Type 0} {inner_radius : ℕ}
       → HasField IsInnerWord IsOuterWord layout info sent → IsFieldNear checks layout sent received → field_reading_of layout received ≡ Some info
   unfolding outer_word_of
   field_within info sent received has is =
-      field_reading_of-some layout received (sent_in layout sent) (codes.outer (received_in layout received) (sent_in layout sent) (length-received_in layout received) has.outer is.near)
+      field_reading_of-some layout received (sent_in layout sent) (codes.outer _ (sent_in layout sent) (length-received_in layout received) has.outer is.near)
       ∙ ap Some has.begins
 
 -- undamaged bits have no lost symbols
@@ -62,12 +62,12 @@ lost_symbols-itself radius layout bits = none layout.places
 
     none : (places : List ℕ) → sum_by lost places ≡ 0
     none [] = refl
-    none (at ∷ places) = rw (sum_by-cons lost at places, distance_of-same (part at layout.size bits), le-leb 0 radius (omega arith)) (omega (arith, none places))
+    none (at ∷ places) = rw (sum_by-cons, distance_of-same, le-leb 0 radius (omega arith)) (omega (arith, none places))
 
 -- a word costs nothing for the letters that it has
 erased_cost-itself : (word : List Sym) → erased_cost same_symbols (map Some word) word ≡ 0
 erased_cost-itself word =
-    rw (erased_cost-letters same_symbols word word, distance_by-same same_symbols (λ x. eq-eqb (number x) (number x) refl) word) refl
+    rw (erased_cost-letters, distance_by-same same_symbols (λ x. eq-eqb (number x) (number x) refl) word) refl
 
 module _ {IsInnerWord : List Bool → Type 0} {inner_radius : ℕ}
     {IsOuterWord : List Sym → Type 0} {checks : ℕ} {layout : Layout} (codes : HasCodes IsInnerWord inner_radius IsOuterWord checks layout) where
@@ -79,7 +79,7 @@ module _ {IsInnerWord : List Bool → Type 0} {inner_radius : ℕ}
   lost sent received = cond (nat_le (distance_of received sent) inner_radius) 0 layout.each
 
   even : (sent received : List Bool) → length (given received) ≡ length (symbols_in layout.each sent)
-  even sent received = rw (length-symbols_or_erasures layout.each (layout.inner_reading received), length-symbols_in layout.each sent) refl
+  even sent received = rw (length-symbols_or_erasures, length-symbols_in) refl
 
   -- an inner word within the radius costs nothing, and any other two for each symbol at most
   piece_cost : (sent received : List Bool) → length received ≡ layout.size → IsInnerWord sent
@@ -87,14 +87,14 @@ module _ {IsInnerWord : List Bool → Type 0} {inner_radius : ℕ}
   piece_cost sent received long is =
       elim (cases_lt inner_radius (distance_of received sent)) [
         | inl far ↦
-            rw (lt-leb (distance_of received sent) inner_radius far)
+            rw (lt-leb)
             (omega (
               arith,
               erased_cost-le same_symbols (given received) (symbols_in layout.each sent) (even sent received),
-              length-symbols_or_erasures layout.each (layout.inner_reading received),
+              length-symbols_or_erasures,
             ))
         | inr near ↦
-            rw (codes.inner received sent long is near, symbols_or_erasures-some layout.each sent) (omega (arith, erased_cost-itself (symbols_in layout.each sent)))
+            rw (codes.inner received sent long is near, symbols_or_erasures-some layout.each sent) (omega (arith, erased_cost-itself))
       ]
 
   -- so do the words at places
@@ -118,9 +118,9 @@ module _ {IsInnerWord : List Bool → Type 0} {inner_radius : ℕ}
   pub near_from_lost : (info : List Sym) (sent received : List Bool) → HasField IsInnerWord IsOuterWord layout info sent → All (λ at. at + layout.size ≤ length received) layout.places
       → 2 * lost_symbols inner_radius layout sent received ≤ checks → IsFieldNear checks layout sent received
   unfolding received_in sent_in lost_symbols
-  near_from_lost info sent received has there few = record { near = omega (arith, pieces_cost sent received layout.places has.inner there, few) }
+  near_from_lost info sent received has there few = record { near = omega (arith, pieces_cost sent received, few) }
 
   -- what was received without damage costs nothing
   pub near_itself : (info : List Sym) (sent : List Bool) → HasField IsInnerWord IsOuterWord layout info sent
       → All (λ at. at + layout.size ≤ length sent) layout.places → IsFieldNear checks layout sent sent
-  near_itself info sent has there = near_from_lost info sent sent has there (omega (arith, lost_symbols-itself inner_radius layout sent))
+  near_itself info sent has there = near_from_lost info sent sent has there (omega (arith, lost_symbols-itself))

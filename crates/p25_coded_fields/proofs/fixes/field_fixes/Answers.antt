@@ -3,7 +3,7 @@ use Rattle.p25_coded_fields.proofs.{FixesLaws.{all_fixes, fixes_most, fixes_next
 use Rattle.p25_coded_fields.proofs.fixes.field_fixes.Goals as goal
 
 pub loop-i-init : goal.loop-i-init
-loop-i-init g c = sym (fixes_none g.I.BlockCode.encoding_is g.I.BlockCode.N (c.K-each.result / 6) (take (c.K-each.result / 6 * 0) c.args.word.now) c.args.bare.now)
+loop-i-init g c = sym (fixes_none g.I.BlockCode.encoding_is g.I.BlockCode.N _ _ c.args.bare.now)
 
 pub loop-i-preserved : goal.loop-i-preserved
 loop-i-preserved g c =
@@ -13,13 +13,10 @@ loop-i-preserved g c =
     let i = c.loop-i.i in
     let each = c.K-each.result / 6 in
     let group : each ≡ b.K / 6 = rw c.K-each.ensures refl in
-    let covers : length places * each ≡ length word = rw group c.requires.word in
-    let sixes : 6 * each ≡ b.K = rw group c.requires.sixes in
     let inside : i < length places = omega arith in
-    let there : each * i + each ≤ length word = room_at each i (length places) (length word) inside (mul_comm each (length places) ∙ covers) in
-    rw (c.loop-i.invariant, c.inner_fixes-more.ensures, group_is each each i word refl)
+    rw (c.loop-i.invariant, c.inner_fixes-more.ensures, group_is each each)
     (sym (fixes_next b.encoding_is b.N each (g.met.I.BlockCode.length_of_word c.requires.code) (g.met.I.NumberCode.encodes c.requires.code) i places
-    word c.args.bare.now sixes c.requires.there inside there))
+    word c.args.bare.now (rw group c.requires.sixes) c.requires.there inside (room_at each i (length places) (length word) inside (mul_comm each (length places) ∙ (rw group c.requires.word)))))
 
 pub overflow_add-wrong : goal.overflow_add-wrong
 overflow_add-wrong g c =
@@ -43,5 +40,5 @@ pub returns : goal.returns
 returns g c =
     let b = g.I.BlockCode in
     rw c.loop-i.invariant
-    (all_fixes b.encoding_is b.N (c.K-each.result / 6) (b.K / 6) c.loop-i.i c.args.places.now c.args.word.now c.args.bare.now
+    (all_fixes b.encoding_is b.N _ _ c.loop-i.i c.args.places.now c.args.word.now c.args.bare.now
     (rw c.K-each.ensures refl) (omega arith) (omega arith) c.requires.word)

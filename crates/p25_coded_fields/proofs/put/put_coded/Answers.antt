@@ -12,10 +12,10 @@ pub loop-i-preserved : goal.loop-i-preserved
 unfolding field_bits
 loop-i-preserved g c =
     let b = g.I.BlockCode in
-    let group = group_is (c.K-each.result / 6) (b.K / 6) c.loop-i.i c.args.symbols.now (rw c.K-each.ensures refl) in
+    let group = group_is _ (b.K / 6) c.loop-i.i c.args.symbols.now (rw c.K-each.ensures refl) in
     record {
       list = rw (joined_below-more, ← append_assoc, ← c.loop-i.invariant.list, ← group) c.put_inner.ensures.list;
-      len = omega (arith, one_more b.N c.loop-i.i);
+      len = omega (arith, one_more);
     }
 
 pub returns-clause-list : goal.returns-clause-list

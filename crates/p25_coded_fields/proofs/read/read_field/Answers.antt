@@ -21,7 +21,7 @@ outer_value g code received word erased reading full is =
     let m = g.met.O.BlockCode in
     let o = g.O.BlockCode in
     let list = without_erased received erased in
-    let laws : IsBlockCode _ o.IsWord o.N o.K o.radius_is o.distance_is = record {
+    one_erased_reading (record {
       compares = on_equiv number nat_eq_equiv;
       alike = same_from_eq;
       long = m.length_of_word code;
@@ -29,70 +29,62 @@ outer_value g code received word erased reading full is =
       far_apart = m.far_apart code;
       close = m.within code;
       begins = m.begins code;
-    } in
-    let long : length list ≡ o.N = length-without_erased received erased ∙ full in
-    one_erased_reading laws (g.met.O.ErasedCode.erasures_within code) list (word_read reading word) (g.O.ErasedCode.erased_reading_is list) long
+    }) (g.met.O.ErasedCode.erasures_within code) list (word_read reading word) (g.O.ErasedCode.erased_reading_is list) (length-without_erased received erased ∙ full)
     (erased_word_read_as _ o.IsWord _ list received word reading is) (g.met.O.ErasedCode.erased_reads_as code list)
 
 -- where no inner word carries a symbol, nothing is received
 no_symbols : (layout : Layout) (bits : List Bool) (list : List (Option Sym)) → layout.each ≡ 0 → length list ≡ 0 → layout.outer_reading list ≡ outer_word_of layout bits
 unfolding outer_word_of
 no_symbols layout bits list none empty =
-    let nothing : length (received_in layout bits) ≡ 0 = rw (length-received_in layout bits, none) (omega arith) in
-    ap layout.outer_reading (nil_from_length list empty ∙ sym (nil_from_length (received_in layout bits) nothing))
+    rw (nil_from_length list empty, ← (nil_from_length (received_in layout bits) (rw (length-received_in, none) (omega arith))))
 
 pub returns-then-each-eq0-clause-value : goal.returns-then-each-eq0-clause-value
 returns-then-each-eq0-clause-value g c =
     let b = g.I.BlockCode in
     let word = c.args.word.now in
-    let layout = field_layout c.args.places.now b.N (b.K / 6) b.reading_is g.O.ErasedCode.erased_reading_is g.O.BlockCode.K in
     let none : b.K / 6 ≡ 0 = rw c.K-each.ensures at c.if-each-eq0.true in
-    let empty : length word ≡ 0 = rw (c.requires.word, ← c.requires.places, none) (omega arith) in
     outer_value g c.requires.outer word c.read_erased.new.word [] c.read_erased.result c.requires.word c.read_erased.ensures
-    ∙ no_symbols layout c.args.bare.now (without_erased word []) none (length-without_erased word [] ∙ empty)
+    ∙ no_symbols _ c.args.bare.now (without_erased word []) none (length-without_erased word [] ∙ (rw (c.requires.word, ← c.requires.places, none) (omega arith)))
 
 pub loop-i-init : goal.loop-i-init
-loop-i-init g c = erased_before (c.K-each.result / 6) _ _
+loop-i-init g c = erased_before _ _ _
 
 pub loop-i-preserved : goal.loop-i-preserved
 loop-i-preserved g c =
+    let loop = c.loop-i in
     let b = g.I.BlockCode in
     let places = c.args.places.now in
     let bare = c.args.bare.now in
-    let word = c.loop-i.word in
-    let erased = c.loop-i.erased in
-    let i = c.loop-i.i in
+    let word = loop.word in
+    let erased = loop.erased in
+    let i = loop.i in
     let each = c.K-each.result / 6 in
     let group : each ≡ b.K / 6 = rw c.K-each.ensures refl in
-    let same : length erased ≡ length word = cut_long (length c.args.word.now) _ erased c.loop-i.auto.erased (omega arith) ∙ sym c.loop-i.auto.word in
-    let covers : each * length places ≡ length word = rw (group, mul_comm (b.K / 6) (length places)) (omega arith) in
+    let same = cut_long _ _ erased loop.auto.erased (omega arith) ∙ sym loop.auto.word in
     let inside : i < length places = omega arith in
-    let there : each * i + each ≤ length word = room_at each i (length places) (length word) inside covers in
-    let there_e : each * i + each ≤ length erased = rw same there in
-    let long : length (take (each * i + each - each * i) (drop (each * i) word)) ≡ each = length_group each i word there in
-    let symbols = c.read_inner.new.symbols in
-    let long_x : length symbols ≡ each = omega (arith, long) in
-    let long_e : length c.read_inner.new.erased ≡ each = omega (arith, length_group each i erased there_e) in
-    erased_next (λ at. symbols_or_erasures (b.K / 6) (b.reading_is (part at b.N bare))) places each i _ _ word symbols erased c.read_inner.new.erased
-    inside refl there same long_x long_e c.loop-i.invariant (rw (long, group) at c.read_inner.ensures)
+    let there = room_at each i (length places) (length word) inside (rw (group, mul_comm) (omega arith)) in
+    let long = length_group each i word there in
+    erased_next _ places each i _ _ word c.read_inner.new.symbols erased c.read_inner.new.erased
+    inside refl there same (omega (arith, long)) (omega (arith, length_group each i erased (rw same there))) loop.invariant (rw (long, group) at c.read_inner.ensures)
 
 pub field_fixes-requires-clause-few : goal.field_fixes-requires-clause-few
 field_fixes-requires-clause-few g c =
     let some : 0 < g.I.BlockCode.K / 6 = omega (arith, c.K-each.ensures) in
-    few_places (g.I.BlockCode.K / 6) (length c.args.places.now) some (omega arith)
+    few_places _ _ some (omega arith)
 
 -- the outer word that was read is that of all places
 word_is : (g : given.Over) (c : After-read_erased-2 g)
     → word_read c.read_erased-2.result c.read_erased-2.new.word
     ≡ outer_word_of (field_layout c.args.places.now g.I.BlockCode.N (g.I.BlockCode.K / 6) g.I.BlockCode.reading_is g.O.ErasedCode.erased_reading_is g.O.BlockCode.K) c.args.bare.now
 word_is g c =
+    let loop = c.loop-i in
+    let read_erased_2 = c.read_erased-2 in
     let b = g.I.BlockCode in
     let places = c.args.places.now in
-    let layout = field_layout places b.N (b.K / 6) b.reading_is g.O.ErasedCode.erased_reading_is g.O.BlockCode.K in
-    outer_read layout c.args.bare.now (c.K-each.result / 6) c.loop-i.i c.loop-i.word c.loop-i.erased (word_read c.read_erased-2.result c.read_erased-2.new.word)
-    (rw c.K-each.ensures refl) (omega arith) (mul_comm (b.K / 6) (length places) ∙ c.requires.places ∙ omega arith)
-    (cut_long (length c.args.word.now) _ c.loop-i.erased c.loop-i.auto.erased (omega arith) ∙ sym c.loop-i.auto.word) c.loop-i.invariant
-    (outer_value g c.requires.outer c.loop-i.word c.read_erased-2.new.word c.loop-i.erased c.read_erased-2.result (c.loop-i.auto.word ∙ c.requires.word) c.read_erased-2.ensures)
+    outer_read (field_layout places b.N _ b.reading_is g.O.ErasedCode.erased_reading_is g.O.BlockCode.K) c.args.bare.now _ loop.i loop.word loop.erased (word_read read_erased_2.result read_erased_2.new.word)
+    (rw c.K-each.ensures refl) (omega arith) (mul_comm _ (length places) ∙ c.requires.places ∙ omega arith)
+    (cut_long _ _ loop.erased loop.auto.erased (omega arith) ∙ sym loop.auto.word) loop.invariant
+    (outer_value g c.requires.outer loop.word read_erased_2.new.word loop.erased read_erased_2.result (loop.auto.word ∙ c.requires.word) read_erased_2.ensures)
 
 pub returns-in-Beyond-clause-value : goal.returns-in-Beyond-clause-value
 unfolding word_read
@@ -111,7 +103,7 @@ pub returns-in-Found-clause-most : goal.returns-in-Found-clause-most
 returns-in-Found-clause-most g c = λ some fixes found.
     let b = g.I.BlockCode in
     let same : c.field_fixes.result ≡ fixes = cc in
-    rw (← same, c.field_fixes.ensures) (fixes_most b.encoding_is b.N (b.K / 6) 24 c.args.places.now c.read_erased-2.new.word c.args.bare.now c.requires.small c.requires.there)
+    rw (← same, c.field_fixes.ensures) (fixes_most b.encoding_is b.N _ 24 c.args.places.now c.read_erased-2.new.word c.args.bare.now c.requires.small c.requires.there)
 
 pub returns-in-Beyond-clause-fixes : goal.returns-in-Beyond-clause-fixes
 returns-in-Beyond-clause-fixes g c = λ some fixes found. absurd (cc)
