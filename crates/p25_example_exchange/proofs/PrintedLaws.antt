@@ -5,10 +5,6 @@ use Rattle.std.specs.Io.KnownBytes.{Appends}
 use Rattle.p25_stations.specs.declared.step.Step.{Step}
 use Rattle.p25_example_exchange.specs.Exchanges.{steps_text, told_text}
 
--- before the first step
-pub told-none : (steps : List Step) (held : Option (List ℕ)) → Appends held held (steps_text (take 0 steps))
-told-none steps held = Appends-nil held
-
 -- one step more
 pub told-more : (steps : List Step) (i : ℕ) (step : Step) (first before now : Option (List ℕ)) → i < length steps
     → Appends first before (steps_text (take i steps)) → Appends before now (told_text (get_or steps i step).kind ++ 10 ∷ [])
@@ -21,7 +17,3 @@ told-more steps i step first before now inside done wrote =
     ∙ sym (flat_map-append (λ (s : Step). told_text s.kind ++ 10 ∷ []) (take i steps) (last ∷ []))
     ∙ ap steps_text (sym (take_more steps i step inside)) in
     subst (Appends first now) same (Appends-trans first before now (steps_text (take i steps)) line done wrote)
-
--- all of them
-pub told-all : (steps : List Step) (i : ℕ) (before now : Option (List ℕ)) → length steps ≤ i → Appends before now (steps_text (take i steps)) → Appends before now (steps_text steps)
-told-all steps i before now all = subst (λ (xs : List Step). Appends before now (steps_text xs)) (take_all i steps all)

@@ -50,43 +50,6 @@ printed-both xs ys first before now scan next after going done more_done = recor
       ∙ sym (append_assoc done.lines more_done.lines (lines_left after more));
 }
 
--- at the end all lines are printed
-pub printed-all : (before now : Option (List ℕ)) (scan next : Scan) → HasPrinted [] before scan now next → next.finished ≡ true → given next ≡ []
-    → Appends before now (lines_left scan [])
-printed-all before now scan next done ended none =
-    let last : items_of next.place (next.held ++ []) ≡ []
-    = ap₂ (λ (b : Bool) (held : List Bool). items_by b next.place held) (sym ended) (append-nil next.held) ∙ none in
-    let all : lines_left scan [] ≡ done.lines
-    = done.left [] (λ e. refl) ∙ ap (λ (items : List Item). done.lines ++ flat_map item_line items) last ∙ append-nil done.lines in
-    subst (λ (lines : List ℕ). Appends before now lines) (sym all) done.wrote
-
--- what a reader gave is all that it had
-consumed-all : (before now : Option (List ℕ)) (octets : List ℕ) (P : List ℕ → Type 0) → Consumes before now octets → IsAtEnd now → P octets → IfSome before P
-consumed-all None now octets P took end holds = tt
-consumed-all (Some all) None octets P took end holds = absurd took
-consumed-all (Some all) (Some rest) octets P took end holds =
-    subst P (sym (took ∙ ap (λ (xs : List ℕ). octets ++ xs) end ∙ append-nil octets)) holds
-
--- of a reader that is at its end
-pub printed-read : (first last before now : Option (List ℕ)) (scan begun : Scan) (octets : List ℕ) → begun ≡ record { place = 0; held = []; finished = false }
-    → Consumes first last octets → IsAtEnd last → HasPrinted (octet_bits octets) before begun now scan
-    → (written : Option (List ℕ)) → Appends now written (lines_left scan [])
-    → IfSome first (λ (all : List ℕ). length all < 2 ^ 32 - 1 → Appends before written (lines_of all))
-printed-read first last before now scan begun octets new took end done written wrote =
-    let all : lines_of octets ≡ done.lines ++ lines_left scan []
-    = ap (λ (bits : List Bool). flat_map item_line (items_of 0 bits)) (sym (append-nil (octet_bits octets)))
-    ∙ ap (λ (s : Scan). lines_left s (octet_bits octets ++ [])) (sym new)
-    ∙ done.left [] (λ ended. refl) in
-    consumed-all first last octets (λ (some : List ℕ). length some < 2 ^ 32 - 1 → Appends before written (lines_of some)) took end
-    (λ few. subst (λ (lines : List ℕ). Appends before written lines) (sym all) (Appends-trans before now written done.lines (lines_left scan []) done.wrote wrote))
-
--- of a reader that had more than that
-pub printed-much : (first last before written : Option (List ℕ)) (octets : List ℕ) → Consumes first last octets → 2 ^ 32 - 1 ≤ length octets
-    → IfSome first (λ (all : List ℕ). length all < 2 ^ 32 - 1 → Appends before written (lines_of all))
-printed-much None last before written octets took much = tt
-printed-much (Some all) None before written octets took much = absurd took
-printed-much (Some all) (Some rest) before written octets took much = λ few. absurd (omega (arith, few, much, ap length took, length-append octets rest))
-
 -- the octets that are taken, and those that are taken then
 octets-next : (octets : List ℕ) (taken count : ℕ)
     → octet_bits (take taken octets) ++ octet_bits (take count (take (length octets - taken) (drop taken octets))) ≡ octet_bits (take (taken + count) octets)
@@ -108,10 +71,6 @@ printed-next octets taken count first before now scan next pushed after going do
 -- before any octet is taken, and once all are
 pub printed-begun : (octets : List ℕ) (held : Option (List ℕ)) (scan : Scan) → HasPrinted (octet_bits (take 0 octets)) held scan held scan
 printed-begun octets held scan = subst (λ (bits : List Bool). HasPrinted bits held scan held scan) (sym octet_bits-nil) (printed-none held scan)
-
-pub printed-whole : (octets : List ℕ) (taken : ℕ) (before now : Option (List ℕ)) (scan next : Scan) → length octets ≤ taken
-    → HasPrinted (octet_bits (take taken octets)) before scan now next → HasPrinted (octet_bits octets) before scan now next
-printed-whole octets taken before now scan next all = subst (λ (xs : List ℕ). HasPrinted (octet_bits xs) before scan now next) (take_all taken octets all)
 
 -- before the first octet of a recording
 pub printed-first : (held : Option (List ℕ)) (scan : Scan) → scan ≡ record { place = 0; held = []; finished = false }

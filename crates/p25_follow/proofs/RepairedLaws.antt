@@ -6,10 +6,6 @@ use Rattle.p25_stream.proofs.{ItemsLaws.{items_by-more, items_by-nil}, WrittenLa
 use Rattle.p25_follow.specs.{Followed.{is_rest}, Repaired.{repaired_from}}
 use Rattle.p25_follow.proofs.SameUnitsLaws.{Ends, RestPlaces, along-stretch}
 
-pub from-none : (at : ℕ) → repaired_from at [] ≡ []
-unfolding repaired_from
-from-none at = rw (items_by-nil, written-nil)
-
 -- the first item, and what is written after it
 pub from-more : (at : ℕ) (bits : List Bool) (item : Item) (raw next : List Bool) → items_of at bits ≡ item ∷ items_of (at + covered item) next
     → take (covered item) bits ≡ raw → drop (covered item) bits ≡ next

@@ -89,21 +89,6 @@ is_sure-append (suc links) before bits more end other long =
       true_of-same (λ kind. is_sure links (before.0, kind) (drop 1728 (bits ++ more)) end) (λ kind. is_sure links (before.0, kind) (drop 1728 bits) other) (next_link before.1) rest,
     )
 
-fits_of-nothing : (before : ℕ × ℕ) (bits : List Bool) → told_of before bits ≡ Nothing → fits_of before bits ≡ None
-unfolding fits_of fits_by
-fits_of-nothing before bits told = rw told
-
--- over a logical link unit of which nothing is told it is as sure as after it
-pub sure-linked : (links kind at : ℕ) (before next : ℕ × ℕ) (bits : List Bool) (end : Option (ℕ × ℕ)) (answer : Bool) → 0 < links → at + 1728 ≤ length bits
-    → told_of before (drop at bits) ≡ Nothing → next_link before.1 ≡ Some kind → next ≡ (before.0, kind)
-    → answer ≡ is_sure (links - 1) next (drop (at + 1728) bits) end → answer ≡ is_sure links before (drop at bits) end
-sure-linked zero kind at before next bits end answer some there told link same is = absurd (omega arith)
-sure-linked (suc links) kind at before next bits end answer some there told link same is =
-    let rest = drop at bits in
-    let less : suc links - 1 ≡ links = omega arith in
-    let long : 1728 ≤ length rest = omega (arith, length-drop at bits) in
-    rw (is, less, ← drop-drop 1728 at bits, same, is_sure-suc links before rest end (omega arith), fits_of-nothing before rest told, told, le-leb 1728 (length rest) long, link)
-
 -- ---- a step
 
 pub step_of-append : (before : ℕ × ℕ) (bits more : List Bool) (end other : Option (ℕ × ℕ)) → 6912 ≤ length bits → step_of before (bits ++ more) end ≡ step_of before bits other

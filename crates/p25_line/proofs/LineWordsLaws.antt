@@ -26,9 +26,6 @@ refused : (line : List ℕ) (list : Marks) (fault : LineFault) (answer : Result 
 refused line list fault (Ok words) same facts = cc
 refused line list fault (Err other) same facts = ap Err (cc facts.0) ∙ sym same
 
-pub refused-answer : (line : List ℕ) (list : Marks) (fault : LineFault) → WordsAnswer line list (Err fault) → Err fault ≡ words_or_fault line
-refused-answer line list fault answer = refused line list fault (words_or_fault line) refl answer
-
 -- too long is a line of more than 8,192 octets, and no other
 form-long : (words : Option (List (List ℕ))) → ok_or words Form ≡ Err Long → ⊥
 form-long (Some words) same = cc
