@@ -5,3 +5,5 @@ pub mod PlacesLaws
 pub mod OuterLaws
 pub mod KeptLaws
 pub mod UnitKeptLaws
+pub mod OverLaws
+pub mod RecordingsLaws

@@ -1,2 +1,4 @@
 pub mod LevelCosts
 pub mod DecidedUnits
+pub mod DecidedRecordings
+pub mod DecidedStretches

@@ -1,6 +1,6 @@
 //! Laws of fields that are decoded from soft symbols. Each function states what is proved, and calls at most other theorems.
 
-ghost use Rattle.std.specs.Prelude.{◌≡◌, ℕ, ◌+◌, ◌-◌, ◌*◌, ◌/◌, ◌<◌, ◌≤◌, ◌⊎◌, List, Bool, ℤ, All, Option, Some, None, length, slice_get, take};
+ghost use Rattle.std.specs.Prelude.{◌≡◌, ℕ, ◌+◌, ◌-◌, ◌*◌, ◌/◌, ◌<◌, ◌≤◌, ◌⊎◌, List, Bool, ℤ, All, Option, Some, None, [], length, slice_get, take};
 ghost use Rattle.p25_code.specs.LeastCost.{IsCheapest, IsSpread, cheapest_word, pairs_cost};
 ghost use Rattle.p25_bits.specs.Distance.{distance_by};
 ghost use Rattle.p25_coded_fields.specs.Decided.{InnerWords, read_erasing, symbols_decided, symbols_read, word_decided};
@@ -9,6 +9,9 @@ ghost use Rattle.p25_reed_solomon.specs.{Words.{IsCode, IsWord, same_symbols}, R
 ghost use Rattle.p25_golay.specs.{Golay18.{IsGolay18, golay18_word}, Golay24.{IsGolay24, golay24_word}};
 ghost use Rattle.p25_hamming.specs.{Hamming10.{IsHamming10, hamming10_word}, Lsd16.{IsLsd16, lsd16_word}};
 ghost use Rattle.p25_voice_units.specs.Lengths.{voice_length_of};
+ghost use Rattle.p25_soft.specs.Levels.{hard_bits};
+ghost use Rattle.p25_stream.specs.Items.{items_of};
+ghost use Rattle.p25_decide.specs.{DecidedRecordings.{decide_of, item_decided}, DecidedStretches.{stretches_over}};
 ghost use Rattle.p25_decide.specs.{LevelCosts.{level_cost, word_level_costs}, DecidedUnits.{decided_bare, with_words}};
 
 use p25_code::NumberCode;
@@ -84,4 +87,13 @@ pub fn unit_laws()
         → length (decided_bare duid levels bare) ≡ length bare }
     ensures front { (duid : ℕ) (levels : List ℤ) (bare : List Bool) → voice_length_of duid ≡ Some (length bare)
         → take 112 (decided_bare duid levels bare) ≡ take 112 bare }
+{}
+
+/// **Theorem.** A recording of soft symbols decided: `follow`, and then each unit of the followed bits from its soft symbols.
+///
+/// - `stretches`: one pass over the items of the bits as they came writes the same. Each unit that the scan finds is decided by itself, and
+///   each stretch after a unit comes as its chain, in which each unit whose sync and NID are restored is decided.
+pub fn recording_laws()
+    ensures stretches { (levels : List ℤ) → let bits = hard_bits levels in
+        decide_of levels ≡ stretches_over (item_decided levels) 0 None [] (items_of 0 bits) bits }
 {}
