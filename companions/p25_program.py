@@ -24,6 +24,29 @@ wanted; 2 a word of the command is refused; 3 the input, or a file that an
 option names, cannot be read; 4 the output cannot be written; 130 and 143 an
 interrupt and a wish to end. A line on standard error says why it is not 0.
 """
+# What the help of each script has that takes these options.
+TABLES = """\
+-c prints CSV with a first line of names, and -j a JSON object for each line.
+What is not known is empty, or null. The access code of a call is a text, and
+there twice: "network" (NAC 293) stays one where a program takes 293 or 2e1 for
+a number.
+"""
+TIMES = """\
+TIME is that of the first bit, as 2026-11-28T08:00:00Z, with its zone or the
+name of one ('2026-11-28T09:00:00 Europe/Berlin'), or now, for a live pipe: the
+time at which the first bit comes, and silence that the receiver leaves out
+counts too.
+"""
+NAMES = """\
+NAMES is a CSV file with rows as group,100,Fire dispatch or radio,4097,Engine 3
+or nac,293,County; a fourth cell is the NAC of the one network in which the name
+holds, as NAC=FILE in place of FILE says it for all. A list of talk groups with
+the titles Decimal and Alpha Tag is read as it is.
+"""
+CHOICE = """\
+--group, --radio (it speaks, or is called) and --emergency choose calls; a name
+of NAMES serves as a number does.
+"""
 # A pipe in which nothing came for so many seconds was silent: its receiver left something out.
 SILENCE = 1.0
 
@@ -110,6 +133,11 @@ class Clock:
         if self.zone is None:
             return self.begin + after
         return (self.begin.astimezone(datetime.timezone.utc) + after).astimezone(self.zone)
+
+    def zone_text(self):
+        """The zone of the times, as UTC or UTC+01:00."""
+        begin = self.begin or datetime.datetime.now().astimezone()
+        return "UTC" if not begin.utcoffset() else begin.strftime("UTC%z")[:6] + ":" + begin.strftime("%z")[3:5]
 
     def at(self, bits):
         """The time of a bit, to the nearest thousandth of a second, as ISO 8601 with its zone, or None if it is not known."""
@@ -203,6 +231,12 @@ class Names:
         else:
             text = "talkers not known" if talk.format is None else talk.format_name()
         return text + (f", manufacturer {talk.maker}" if talk.maker else "") + (", emergency" if talk.emergency else "")
+
+
+def cipher_text(cipher, unknown="not known"):
+    """An algorithm and its key in words."""
+    alg, key = cipher
+    return unknown if alg is None else ALGORITHMS.get(alg, f"algorithm {alg}") + (f", key {key}" if key and alg != "80" else "")
 
 
 # The columns of a table of talkers. Those of release 1.0 come first.
@@ -325,12 +359,12 @@ def release():
 class Script(argparse.ArgumentParser):
     """A helper script: its options, its input, its output and its end.
 
-    Its help is a text, whose first lines up to an empty one name its options.
+    Its help is a text, whose first lines up to an empty one name its options, with a paragraph on those that several scripts have.
     """
 
     def __init__(self, name, text):
         super().__init__(prog=name, add_help=False, allow_abbrev=False)
-        self.name, self.text = name, text
+        self.name, self.text, self.shared = name, text, ""
         self.caught = 0    # the signal that asked for an end
         self.number = 0    # the line that was read last
         if sys.stdout is None:
@@ -345,18 +379,26 @@ class Script(argparse.ArgumentParser):
 
     def has_tables(self):
         """Adds -c and -j."""
+        self.shared += TABLES
         forms = self.add_mutually_exclusive_group()
         forms.add_argument("-c", dest="form", action="store_const", const="csv")
         forms.add_argument("-j", dest="form", action="store_const", const="json")
 
     def has_clock(self):
         """Adds --begin."""
+        self.shared += TIMES
         self.add_argument("--begin")
+
+    def has_names(self):
+        """Adds -a."""
+        self.shared += NAMES
+        self.add_argument("-a", dest="names", action="append", default=[])
 
     def has_calls(self):
         """Adds the options that name groups and radios, and choose calls."""
+        self.has_names()
         self.has_clock()
-        self.add_argument("-a", dest="names", action="append", default=[])
+        self.shared += CHOICE
         self.add_argument("--group")
         self.add_argument("--radio")
         self.add_argument("--emergency", action="store_true")
@@ -373,7 +415,7 @@ class Script(argparse.ArgumentParser):
         for word in words:
             if word in ("-h", "--help"):
                 text, example, rest = self.text.partition("Example: ")
-                self.write(f"{text}{STATUSES}\n{example}{rest}")
+                self.write(f"{text}{self.shared and self.shared + chr(10)}{STATUSES}\n{example}{rest}")
                 self.end()
             if word == "--version":
                 self.write(f"{self.name}, {release()}\n")
