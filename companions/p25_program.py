@@ -1,7 +1,4 @@
-"""How a helper script begins, reads, writes and ends: options, names, the time, lines, tables, exit statuses.
-
-A helper script in Python finds this file beside p25_lines.py, whose calls the columns of its tables are of.
-"""
+"""How a helper script begins, reads, writes and ends: options, names, the time, lines, tables, exit statuses."""
 
 import argparse
 import bisect
@@ -16,7 +13,7 @@ import sys
 import time
 import zoneinfo
 
-from p25_lines import ALGORITHMS, BITS_A_SECOND, Chosen, rate_of, seconds, thousandths, told
+from p25_lines import ALGORITHMS, BITS_A_SECOND, Chosen, Told, rate_of, seconds, thousandths
 
 STATUSES = """\
 Exit status: 0 all was read and written; 1 the input is not of the form that is
@@ -47,7 +44,7 @@ CHOICE = """\
 --group, --radio (it speaks, or is called) and --emergency choose calls; a name
 of NAMES serves as a number does.
 """
-# A pipe in which nothing came for so many seconds was silent: its receiver left something out.
+# A pipe in which nothing came for so many seconds was silent.
 SILENCE = 1.0
 
 
@@ -57,10 +54,7 @@ def one_line(text):
 
 
 class Clock:
-    """The time of each bit: of the first one, and of the silence that a live pipe left out.
-
-    `begin` is None if no time is known. A word `now` is the time at which the first bit comes.
-    """
+    """The time of each bit, with the silence that a live pipe left out. `begin` is None if no time is known."""
 
     def __init__(self, word=None):
         self.begin = self.zone = None
@@ -86,7 +80,7 @@ class Clock:
             raise ValueError(word)
 
     def local(self, begin, zone):
-        """A time by the name of its zone, as Europe/Berlin, or local for that of this machine."""
+        """A time by the name of its zone, or local for that of this machine."""
         if begin.tzinfo is not None:
             raise ValueError(zone)
         if zone == "local":
@@ -103,7 +97,7 @@ class Clock:
         return begin
 
     def arrive(self, at, end):
-        """Notes that the bits of some lines came just now: from `at` to `end`, in their segment."""
+        """Notes that the bits from `at` to `end` of a segment came just now."""
         if not self.is_live:
             return
         if at < self.last:
@@ -120,7 +114,7 @@ class Clock:
             self.silences.append(self.silences[-1] + late)
 
     def silence(self, bits):
-        """The seconds that were left out before a bit."""
+        """The seconds of silence before a bit."""
         return self.silences[bisect.bisect_right(self.places, bits) - 1]
 
     def wall(self, bits):
@@ -140,30 +134,26 @@ class Clock:
         return "UTC" if not begin.utcoffset() else begin.strftime("UTC%z")[:6] + ":" + begin.strftime("%z")[3:5]
 
     def at(self, bits):
-        """The time of a bit, to the nearest thousandth of a second, as ISO 8601 with its zone, or None if it is not known."""
+        """The time of a bit, to the nearest ms, as ISO 8601 with its zone, or None."""
         if self.begin is None:
             return None
         return self.shown(self.wall(bits)).isoformat(timespec="milliseconds").replace("+00:00", "Z")
 
 
-# The columns of a list of talk groups or radios, as scanner programs write it: of the number, and of its name, the best first.
+# The columns of a list of talk groups or radios of scanner programs: of the number, and of its name, the best first.
 NUMBERS = ("decimal", "dec", "tgid", "talkgroup id", "talkgroup", "radio id", "rid", "unit id")
 TITLES = ("alpha tag", "alphatag", "alias", "name of group", "name", "description")
 
 
 class Names:
-    """Names of groups, radios and networks, of CSV files: for all networks, or for one.
-
-    A row is `group,100,Fire dispatch`, `radio,4097,Engine 3` or `nac,293,County`, with an access code as its fourth cell if it
-    is for one network; or the file is a list of talk groups with a first row of titles.
-    """
+    """Names of groups, radios and networks, for all networks or for one. The help of -a has the files."""
 
     def __init__(self):
         self.tables = {"group": {}, "radio": {}}
         self.nac = {}
 
     def read(self, path, nac=None):
-        """Reads a file, whose names are of a network if one is named."""
+        """Reads a file, of one network if it is named."""
         try:
             with open(path, encoding="utf-8-sig", newline="") as file:
                 rows = [[cell.strip() for cell in row] for row in csv.reader(file)]
@@ -204,11 +194,11 @@ class Names:
         return table.get((nac, number)) or table.get((None, number))
 
     def scope(self, kind, nac, number):
-        """The network of which the name of a group or radio is, or None if it is one for all networks."""
+        """The network of the name of a group or radio, or None if it is one for all."""
         return nac if (nac, number) in self.tables[kind] else None
 
     def number(self, kind, word):
-        """The number that a word of a command means: a decimal number, or a name that a file gives."""
+        """The number of a word: a decimal number, or a name of a file."""
         if re.fullmatch("[0-9]{1,8}", word):
             return int(word)
         for (_, number), name in self.tables[kind].items():
@@ -217,7 +207,7 @@ class Names:
         raise ValueError(word)
 
     def who(self, talk, nac):
-        """Who speaks to whom, as a text: numbers with their names."""
+        """Who speaks to whom: numbers with their names."""
 
         def named(kind, number):
             name = self.of(kind, nac, number)
@@ -239,12 +229,12 @@ def cipher_text(cipher, unknown="not known"):
     return unknown if alg is None else ALGORITHMS.get(alg, f"algorithm {alg}") + (f", key {key}" if key and alg != "80" else "")
 
 
-# The columns of a table of talkers. Those of release 1.0 come first.
+# The columns of p25-talkers, those of release 1.0 first.
 TALKERS = (
     "begin seconds nac entry end format manufacturer radio group called emergency algorithm sent heard lost broken"
     " time network sent_is looked wrong rate goes_on radio_name group_name called_name votes others key talker_is also"
 ).split()
-# Those of a table of calls: first the keys of the line of a call.
+# Those of p25-calls, the keys of the line of a call first.
 CALLS = (
     "at bits nac entry end links broken lc alg begin seconds time network format manufacturer radio group called emergency"
     " algorithm sent sent_is lost looked wrong rate goes_on key talker_is also"
@@ -252,8 +242,8 @@ CALLS = (
 
 
 def values_of(call, clock, names):
-    """What is told of a call, by the names of its columns: numbers, texts, True and False, and None for what is not known."""
-    who = told(call)
+    """The values of a call by the names of their columns; None for what is not known."""
+    who = Told(call)
     talk = who.talk
     sent, is_exact = call.sent()
     alg, key = call.cipher
@@ -264,7 +254,6 @@ def values_of(call, clock, names):
         "seconds": Number(seconds(call.bits)),
         "time": clock.at(call.begin),
         "nac": call.nac,
-        # A text for programs that take a code as 293, 001 or 2e1 for a number.
         "network": f"NAC {call.nac}",
         "entry": call.entry,
         "end": call.end,
@@ -314,7 +303,7 @@ def json_line(values):
 
 
 def csv_cell(value):
-    """A value as a cell of CSV: what is not known is empty, yes is 1 and no is 0."""
+    """A value as a cell of CSV."""
     if value is None:
         return ""
     if isinstance(value, Number):
@@ -339,7 +328,7 @@ def csv_line(values):
 
 
 def beside(*names):
-    """The path of a file of the checkout, beside the helper scripts or above them, or of an installation."""
+    """The path of a file of the checkout or of an installation."""
     for folder in (".", "..", "../share/p25"):
         path = os.path.join(sys.path[0], folder, *names)
         if os.path.exists(path):
@@ -348,7 +337,7 @@ def beside(*names):
 
 
 def release():
-    """The release of which this program is."""
+    """The release."""
     path = beside("RELEASE")
     if path is None:
         return "p25, of a release that is not known"
@@ -357,10 +346,7 @@ def release():
 
 
 class Script(argparse.ArgumentParser):
-    """A helper script: its options, its input, its output and its end.
-
-    Its help is a text, whose first lines up to an empty one name its options, with a paragraph on those that several scripts have.
-    """
+    """A helper script. The first lines of its help, up to an empty one, name its options."""
 
     def __init__(self, name, text):
         super().__init__(prog=name, add_help=False, allow_abbrev=False)
@@ -408,7 +394,7 @@ class Script(argparse.ArgumentParser):
         self.fail(2, f"{message}: {self.name} -h tells more")
 
     def options(self, files=0):
-        """The options of the command, whose `files` are at most so many words without a dash."""
+        """The options, of which at most so many `files` have no dash."""
         words = sys.argv[1:]
         place = words.index("--") if "--" in words else len(words)
         words, after = words[:place], words[place + 1 :]
@@ -438,7 +424,7 @@ class Script(argparse.ArgumentParser):
             self.fail(2, f"'{options.begin}' is no time with its zone, as {zones}")
 
     def names(self, options):
-        """The names of the files that -a tells, as FILE or NAC=FILE."""
+        """The names of the files of -a."""
         names = Names()
         for word in options.names:
             nac, path = re.fullmatch("(?:[$]?([0-9A-Fa-f]{3})=)?(.*)", word, re.DOTALL).groups()
@@ -486,7 +472,7 @@ class Script(argparse.ArgumentParser):
             self.fail(4, f"the output cannot be written: {fault.strerror}")
 
     def out(self, line):
-        """Prints a line. It is there at the latest once all input that is there was read."""
+        """Prints a line, at the latest once all input that came was read."""
         self.write(line + "\n")
 
     def put(self, octets):
@@ -505,7 +491,7 @@ class Script(argparse.ArgumentParser):
             self.fail(4, f"the output cannot be written: {fault.strerror}")
 
     def catch(self):
-        """Has an interrupt and a wish to end set `caught`, and returns what can be read from then on."""
+        """Has an interrupt and SIGTERM set `caught`, and returns what can be read from then on."""
         wake, waked = os.pipe()
         os.set_blocking(waked, False)
 
@@ -536,10 +522,9 @@ class Script(argparse.ArgumentParser):
             yield chunk
 
     def lines(self, arrived=lambda lines: None):
-        """The lines of standard input as they come, live; `arrived` is given those that came at once.
+        """The lines of standard input as they come; `arrived` is given those that came at once.
 
-        An interrupt (ctrl-C) or a wish to end (SIGTERM) ends them: what is in the pipe by then is read still, until the
-        input ends or nothing comes for half a second.
+        An interrupt or SIGTERM ends them, once nothing comes for half a second.
         """
         if sys.stdin is None:
             self.fail(3, "the input cannot be read: it is closed")
@@ -573,13 +558,13 @@ class Script(argparse.ArgumentParser):
             yield line
 
     def end(self):
-        """Ends with all written: 0, or what an interrupt asks for."""
+        """Ends with all written."""
         self.flush()
         os._exit(128 + self.caught if self.caught else 0)
 
 
 def arrivals(clock, parse):
-    """What `Script.lines` calls with the lines that came at once: they tell the clock how far the recording is. `parse` reads a line."""
+    """What `Script.lines` calls with lines that came at once, for the clock. `parse` reads a line."""
 
     def arrived(lines):
         spans = [(it.at, it.at + it.bits) for it in map(parse, (lines[0], lines[-1])) if it is not None]
@@ -590,7 +575,7 @@ def arrivals(clock, parse):
 
 
 def program():
-    """The path of p25: beside the helper scripts, at the top of their checkout, or in the path."""
+    """The path of p25."""
     here = os.path.dirname(os.path.realpath(sys.argv[0]))
     for path in (os.path.join(sys.path[0], "p25"), os.path.join(here, "..", "p25"), os.path.join(here, "p25")):
         if os.access(path, os.X_OK) and os.path.isfile(path):
