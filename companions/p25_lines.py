@@ -174,6 +174,11 @@ class Talk:
         """The radio and to whom it speaks, or None."""
         return None if self.radio is None else (self.radio, self.group, self.called)
 
+    @property
+    def to(self):
+        """To whom: group or radio, and its number, or None."""
+        return ("group", self.group) if self.group is not None else ("radio", self.called) if self.called is not None else None
+
     def same(self, other):
         """Whether the two may be the same radio and called one, as far as both are told."""
         return self.radio is None or other.radio is None or self.who == other.who

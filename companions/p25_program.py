@@ -214,8 +214,7 @@ class Names:
             return f"{kind} {number}" + (f" ({name})" if name else "")
 
         if talk.radio is not None:
-            to = named("radio", talk.called) if talk.group is None else named("group", talk.group)
-            text = f"{named('radio', talk.radio)} to {to}"
+            text = f"{named('radio', talk.radio)} to {named(*talk.to)}"
         elif talk.group is not None:
             text = f"radio not known to {named('group', talk.group)}"
         else:
