@@ -39,12 +39,10 @@ def print_of(script, name, paths):
     """The name, the size and the SHA-256 of files, one after the other."""
     digest, size = hashlib.sha256(), 0
     for path in paths:
-        try:
+        with script.reads(path):
             for chunk in chunks_of(path):
                 digest.update(chunk)
                 size += len(chunk)
-        except OSError as fault:
-            script.fail(3, f"'{path}' cannot be read: {fault.strerror}")
     return {"name": name, "size": f"{size:,}", "sha256": digest.hexdigest()}
 
 

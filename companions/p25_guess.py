@@ -314,12 +314,11 @@ def may_be_recording(path):
 
 def guessed(script, path, otherwise=None):
     """The best guess of a file, which standard error has; if none is sure, `otherwise`, or the script ends."""
+    if os.path.exists(path) and not os.path.isfile(path):
+        script.fail(3, f"'{path}' cannot be read: it is no file")
     try:
-        if not os.path.isfile(path):
-            script.fail(3, f"'{path}' cannot be read: {'it is no file' if os.path.exists(path) else 'No such file or directory'}")
-        search = Search(path, lambda text: sys.stderr.write(f"{script.name}: {text}\n"))
-    except OSError as fault:
-        script.fail(3, f"'{path}' cannot be read: {fault.strerror}")
+        with script.reads(path):
+            search = Search(path, lambda text: sys.stderr.write(f"{script.name}: {text}\n"))
     except NoProgram as fault:
         script.fail(1, str(fault))
     if not search.is_sure:

@@ -2,6 +2,7 @@
 
 import argparse
 import bisect
+import contextlib
 import csv
 import datetime
 import json
@@ -428,9 +429,8 @@ class Script(argparse.ArgumentParser):
         for word in options.names:
             nac, path = re.fullmatch("(?:[$]?([0-9A-Fa-f]{3})=)?(.*)", word, re.DOTALL).groups()
             try:
-                names.read(path, nac.lower() if nac else None)
-            except OSError as fault:
-                self.fail(3, f"'{path}' cannot be read: {fault.strerror}")
+                with self.reads(path):
+                    names.read(path, nac.lower() if nac else None)
             except (ValueError, csv.Error) as fault:
                 self.fail(1, f"'{path}' is no file of names: {fault}")
         return names
@@ -474,20 +474,31 @@ class Script(argparse.ArgumentParser):
         """Prints a line, at the latest once all input that came was read."""
         self.write(line + "\n")
 
-    def put(self, octets):
-        """Writes octets at once."""
+    def flush(self, octets=b""):
+        """Writes what was printed, and octets."""
         try:
+            sys.stdout.flush()
             sys.stdout.buffer.write(octets)
             sys.stdout.buffer.flush()
         except OSError as fault:
             self.fail(4, f"the output cannot be written: {fault.strerror}")
 
-    def flush(self):
-        """Writes what was printed."""
+    def row(self, form, names, values):
+        """Prints values as CSV or as JSON."""
+        self.out(csv_line(values) if form == "csv" else json_line(dict(zip(names, values))))
+
+    def wants_input(self):
+        """Ends if standard input is closed."""
+        if sys.stdin is None:
+            self.fail(3, "the input cannot be read: it is closed")
+
+    @contextlib.contextmanager
+    def reads(self, path):
+        """Ends if a file cannot be read."""
         try:
-            sys.stdout.flush()
+            yield
         except OSError as fault:
-            self.fail(4, f"the output cannot be written: {fault.strerror}")
+            self.fail(3, f"'{path}' cannot be read: {fault.strerror}")
 
     def catch(self):
         """Has an interrupt and SIGTERM set `caught`, and returns what can be read from then on."""
@@ -515,8 +526,7 @@ class Script(argparse.ArgumentParser):
 
     def octets(self, count=262144):
         """The octets of standard input as they come."""
-        if sys.stdin is None:
-            self.fail(3, "the input cannot be read: it is closed")
+        self.wants_input()
         while chunk := self.read(0, count):
             yield chunk
 
@@ -525,8 +535,7 @@ class Script(argparse.ArgumentParser):
 
         An interrupt or SIGTERM ends them, once nothing comes for half a second.
         """
-        if sys.stdin is None:
-            self.fail(3, "the input cannot be read: it is closed")
+        self.wants_input()
         wake = self.catch()
         kept = []
         while True:
