@@ -150,3 +150,26 @@ def received(form, turns, octets, scale=1.0, offset=0.0):
     if form == "bits":
         return "".join(f"{bits[place : place + 61]}\t\n" for place in range(0, len(bits), 61)).encode()
     return int(bits, 2).to_bytes(len(bits) // 8, "big")
+
+
+def lines_of_calls(calls, pairs, is_clear=False):
+    """The lines of p25 show of calls of four networks with so many pairs of voice units and as long pauses, some broken and lost units if not clear."""
+    at, lines = 0, []
+
+    def add(kind, bits, rest=None, fix=0):
+        nonlocal at
+        lines.append(f"{kind} at={at} bits={bits}" + (f" fix={fix} status={'1' * (bits // 72)} {rest}" if kind == "unit" else f" {rest}" if rest else ""))
+        at += bits
+
+    for call in range(calls):
+        nac, alg = ("293", "2a1", "f7e", "001")[call % 4], ("80", "80", "84")[call % 3]
+        lc = f"0000{128 if call % 97 == 5 else 0:02x}00{100 + call % 37:04x}{4097 + call % 211:06x}"
+        add("unit", 792, hdu(100, alg, nac=nac), call % 9)
+        for pair in range(pairs):
+            is_lost, is_broken = (not is_clear and (call + pair) % part == rest for part, rest in ((61, 7), (53, 3)))
+            add(*("gap", 1728) if is_lost else ("unit", 1728, ldu1(lc, nac), (call + pair) % 17))
+            add(*("broken", 1728, f"nac={nac} duid=a fields=encryption_sync,low_speed_1") if is_broken else ("unit", 1728, ldu2(alg, nac=nac), (call + pair) % 13))
+        add("unit", 432, tdulc(lc, nac))
+        for _ in range(1 + pairs * 3456 // 4096):
+            add("gap", 4096)
+    return "".join(f"{line}\n" for line in lines)

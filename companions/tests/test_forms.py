@@ -73,7 +73,7 @@ def test_levels(room):
 
 @pytest.mark.parametrize("form, first", [("octets", 18), ("dibits", 80), ("digits", 80), ("bits", 153), ("floats", 1152), ("floats -a", 1152)])
 def test_live(room, form, first):
-    """The first line is there 0.2 s after the octets that decide it; the best of the tries of a minute counts, for the sake of busy machines."""
+    """The first line is there 0.2 s after the octets that decide it, in the best of the tries of a minute."""
     made = received(form.split()[0], "", SAMPLES["terminators.bin"].read_bytes())
     began, best = time.monotonic(), 9.0
     while best >= 0.2 and time.monotonic() < began + 60:
@@ -157,7 +157,7 @@ def test_guess_commands(room, make, command):
 
 
 def control_channel(room):
-    """Units whose identifier is 7: terminators whose identifier is changed into that codeword, and bits after them."""
+    """Units whose identifier is 7, made of terminators, and bits after them."""
     flips = "61,64,65,73-77,80,83,84,87,88,92,95-97,99,104-106,108,112"
     unit = room.octets(f"p25-flip {flips}", room.build("tdu nac=293"))
     noise = SAMPLES["noise.bin"].read_bytes()
