@@ -110,7 +110,8 @@ class Digits(Whole):
     def words(self):
         if not self.others:
             return None
-        return f"{self.others} octets were not 0 to 3, and their lowest two bits were taken" if self.bits == 2 else f"{self.others} octets were not 0 or 1, and their lowest bit was taken"
+        which = ("0 to 3, and their lowest two bits were" if self.bits == 2 else "0 or 1, and their lowest bit was")
+        return f"{self.others} octets were not {which} taken"
 
 
 class Text:

@@ -216,7 +216,7 @@ class Call:
         self.heard = [] if keeps else None    # position, end, bits looked at and bit errors of each whole unit
 
     def add(self, item):
-        """Takes a unit that belongs to the call."""
+        """Takes a unit of the call."""
         self.end_at = item.end
         self.units += 1
         if item.unit in LINK_UNITS:
@@ -599,7 +599,7 @@ class Recording:
         return closed
 
     def end(self):
-        """Returns the calls that the end of the recording closes."""
+        """Returns the calls that the end closes."""
         call = self.calls.close()
         if call is None:
             return []
@@ -656,7 +656,7 @@ def rate_of(wrong, looked):
 
 
 def thousandths(bits):
-    """Bits as thousandths of a second, to the nearest."""
+    """Bits as ms, to the nearest."""
     return (bits * 2000 + BITS_A_SECOND) // (2 * BITS_A_SECOND)
 
 

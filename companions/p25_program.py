@@ -460,7 +460,7 @@ class Script(argparse.ArgumentParser):
         os._exit(status)
 
     def refuse(self, of):
-        """Ends at a line that is none of those wanted."""
+        """Ends at a line of another kind."""
         self.fail(1, f"line {self.number} is none of {of}")
 
     def write(self, text):

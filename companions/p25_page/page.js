@@ -191,8 +191,7 @@
     const x = (time) => left + ((time - from) / (to - from)) * (right - left);
     const laneHeight = 22;
     const top = 8;
-    const lanesEnd = top + lanes.length * laneHeight;
-    const rateTop = lanesEnd + 26, rateHeight = 84;
+    const rateTop = top + lanes.length * laneHeight + 26, rateHeight = 84;
     const lossTop = rateTop + rateHeight + 30, lossHeight = 60;
     const bottom = lossTop + lossHeight;
     const height = bottom + 24;
@@ -316,7 +315,7 @@
     at("chart").replaceChildren(svg);
   };
 
-  // Shows the time from one moment to another, a second at least.
+  // Shows a time, a second at least.
   const buttons = document.querySelectorAll("[data-do]");
   const look = (from, to) => {
     const length = Math.min(whole[1], Math.max(1000, to - from));

@@ -1,7 +1,4 @@
-"""What the tests of the helper scripts share.
-
-The scripts and the proved program are in the path, and a shell in a folder of its own runs the commands of a test; the samples are links there.
-"""
+"""What the tests of the helper scripts share. A shell runs the commands of a test in a folder of its own, with links to the samples."""
 
 import itertools
 import os
@@ -72,7 +69,7 @@ class Room:
         return (self.path / name).read_bytes()
 
     def run(self, command, given=b"", **more):
-        """Runs a command of a shell, with its input, and returns the status, the output and the error."""
+        """Runs a command, and returns the status, the output and the error."""
         given = given.encode() if isinstance(given, str) else given
         ended = subprocess.run(["sh", "-c", command], cwd=self.path, input=given, capture_output=True, timeout=570, **more)
         return ended.returncode, ended.stdout, ended.stderr.decode()
@@ -104,7 +101,7 @@ def room(tmp_path):
 
 @pytest.fixture(scope="session")
 def mixed(tmp_path_factory):
-    """A recording with units of all kinds, calls, noise and damage, and its lines."""
+    """A recording with units of all kinds, and its lines."""
     room = Room(tmp_path_factory.mktemp("mixed"))
     octets = room.build(*UNITS) + b"".join(SAMPLES[name].read_bytes() for name in ("traffic.bin", "noise.bin", "damaged_call.bin"))
     return octets, room.octets("p25 show", octets)
@@ -130,7 +127,7 @@ def options_of(turns):
 
 
 def received(form, turns, octets, scale=1.0, offset=0.0):
-    """A recording as a receiver may write it: in a form, with the turns p, then s, then l."""
+    """A recording in a form of a receiver, with the turns p, then s, then l."""
     dibits = [octet >> shift & 3 for octet in octets for shift in (6, 4, 2, 0)]
     if "p" in turns:
         dibits = [(2, 3, 0, 1)[dibit] for dibit in dibits]

@@ -123,8 +123,8 @@ def test_rate_by_time(room, long, seconds):
     assert len(text) == len(rows) + 1
 
 
-# A call of which one unit of six is lost, and a pause as long as ten.
 def loss(room):
+    """A call of which one unit of six is lost, and a pause as long as ten."""
     units = [*UNITS[:3], *UNITS[1:3], UNITS[4], 2160, UNITS[0], UNITS[1], 216, *UNITS[1:3], UNITS[4]]
     return room.octets("p25 show", room.build(*units))
 
@@ -298,7 +298,7 @@ def test_split_ends_anywhere(room, ragged, size):
 
 
 def test_split_ends_at_each_octet(room):
-    """Of units and of what lies between them; the voice of one ends with a part of a sync that goes on after it, which the unit covers."""
+    """The voice of a unit ends with a part of a sync that goes on after it."""
     shifted = SAMPLES["shifted.bin"].read_bytes()
     voice = room.build(f"ldu1 nac=293 lc={'0' * 18} lsd=0000 voice={'0' * 319}155d7", "tdu nac=293", status=3)[:216]
     room.put("made", bytes(4090) + shifted + bytes(9) + voice + b"\x5f\xf7\x7f\xf0" + bytes(8) + shifted + bytes(2000))

@@ -1,4 +1,4 @@
-"""p25-page: the page of samples and of recordings that are made here, as tidy checks it and as Chromium shows it.
+"""p25-page: its page, as tidy checks it and as Chromium shows it.
 
 With P25_KEEP=FOLDER in the environment pages and pictures stay there.
 """
@@ -192,7 +192,7 @@ def test_numbers(room):
     assert "{:,} whole, {:,} broken, {:,} syncs".format(*counts) in text
     lost, sent = (sum(int(row[name]) for row in rows) for name in ("lost", "sent"))
     assert f"of {sent:,} voice units" in text and f"and {lost:,} were not heard (lost)" in text
-    # The slices have all bits looked at and all bit errors of the calls, and what is in no whole unit within them.
+    # The slices together have what the calls have.
     sums = [sum(column) for column in zip(*(row[1:] for row in data["slices"]))]
     places = [(int(at), int(at) + int(bits)) for at, bits in re.findall(r"call at=(\d+) bits=(\d+)", room.text("p25 calls", damaged))]
     units = [(int(at), int(bits)) for at, bits in re.findall(r"^unit at=(\d+) bits=(\d+)", lines, re.M)]
@@ -262,7 +262,7 @@ def test_acts(browser, traffic):
     assert browser.texts(times) == ["08:00:00.0", "08:00:01.7", "08:00:02.9", "08:00:03.9"]
     assert browser.texts("#emergencies td") == ["radio 4097", "group 100", "2026-11-28 08:00:03", "0.8 s", "2a1", "clear"]
     assert browser.texts("#calls td:nth-child(6)") == ["clear", "AES-256, key 0123", "clear", "clear"]
-    # Sorted by clicks and by the keyboard; a screen reader is told.
+    # Sorted by clicks and by the keyboard.
     for lengths in (["1.2 s", "0.8 s", "0.7 s", "0.5 s"], ["0.5 s", "0.7 s", "0.8 s", "1.2 s"]):
         browser.click("#calls th:nth-child(4) button")
         assert browser.texts("#calls td:nth-child(4)") == lengths
@@ -281,7 +281,7 @@ def test_acts(browser, traffic):
     browser.keys("#filter-calls", "\ue003" * 20)
     browser.keys("#filter-talkers", "4098")
     assert browser.texts("#talkers td:nth-child(1)") == ["4098"]
-    # The chart: bars, a click, zoom by button, by the keyboard and by dragging; the table follows.
+    # Bars, a click, zoom by button, by the keyboard and by dragging.
     assert browser.run("return [...document.querySelectorAll('.bar')].map(e => e.getAttribute('class'))") == ["bar clear", "bar secret", "bar clear", "bar alarm"]
     browser.click(".bar.alarm")
     assert browser.texts("#picked") == ["08:00:03.9, for 0.8 s: radio 4097 to group 100, EMERGENCY, clear; 4 of 4 voice units heard"]

@@ -1,7 +1,4 @@
-"""p25-watch: its lines, and its screen in a terminal of tmux.
-
-What a screen shows is looked for until it is there, half a minute and more on a busy machine, so no test goes by how fast the machine is.
-"""
+"""p25-watch: its lines, and its screen in a terminal of tmux, which is looked at until it has what is wanted."""
 
 import os
 import re
