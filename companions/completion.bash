@@ -1,5 +1,4 @@
-# Completion for bash of the words of p25 and of its helper scripts: read it by `. completion.bash`, or from the folder of
-# completions.
+# Completion for bash of the words of p25 and of its helper scripts.
 
 _p25() {
     local word=${COMP_WORDS[COMP_CWORD]} words=''
@@ -17,7 +16,7 @@ complete -o default -F _p25 p25 ./p25
 # The options of a helper script are those that its help names before its first empty line.
 _p25_companion() {
     local word=${COMP_WORDS[COMP_CWORD]} words
-    # Where no option is begun, files are offered, by the default.
+    # Files are the default.
     case $word:${COMP_WORDS[0]##*/} in
         -*) words="-h --help --version $("${COMP_WORDS[0]}" -h 2>/dev/null | sed '/^$/q' | grep -Eo -e '[[ ]--?[a-z-]+' | tr -d '[ ' | sort -u)" ;;
         *:p25-octets) words='dibits digits bits octets floats unpacked hex doubles shorts signed numbers' ;;

@@ -1,5 +1,5 @@
 #compdef p25 p25-octets p25-guess p25-rate p25-talkers p25-calls p25-json p25-damage p25-flip p25-split p25-record p25-watch p25-page
-# Completion for zsh of the words of p25 and of its helper scripts: it stands as _p25 in a folder of $fpath.
+# Completion for zsh of the words of p25 and of its helper scripts, as _p25 in a folder of $fpath.
 
 _p25() {
     local -a found
@@ -10,7 +10,7 @@ _p25() {
             found=(0 1 2 3)
         fi
     else
-        # The options of a helper script are those that its help names before its first empty line.
+        # As in completion.bash.
         [[ ${words[CURRENT]} == -* ]] && found=(-h --help --version ${(f)"$(${words[1]} -h 2>/dev/null | sed '/^$/q' | grep -Eo -e '[[ ]--?[a-z-]+' | tr -d '[ ' | sort -u)"})
         [[ ${words[1]:t} == p25-octets ]] && found+=(dibits digits bits octets floats unpacked hex doubles shorts signed numbers)
     fi

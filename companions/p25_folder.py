@@ -35,6 +35,17 @@ def time_of(name):
     return None
 
 
+def print_of(script, name, paths):
+    """The name, the size and the SHA-256 of files, one after the other."""
+    digest, size = hashlib.sha256(), 0
+    for path in paths:
+        with script.reads(path):
+            for chunk in chunks_of(path):
+                digest.update(chunk)
+                size += len(chunk)
+    return {"name": name, "size": f"{size:,}", "sha256": digest.hexdigest()}
+
+
 class File:
     """A recording of a folder."""
 
@@ -97,14 +108,9 @@ class Folder:
 
     def print(self):
         """The name, the size and the SHA-256 of all files, one after the other."""
-        digest, size = hashlib.sha256(), 0
-        for file in self.files:
-            for chunk in chunks_of(file.path):
-                digest.update(chunk)
-                size += len(chunk)
         count = len(self.files)
         name = os.path.basename(os.path.abspath(self.path))
-        return {"name": f"{name} ({count} file{'s' if count > 1 else ''} by time)", "size": f"{size:,}", "sha256": digest.hexdigest()}
+        return print_of(self.script, f"{name} ({count} file{'s' if count > 1 else ''} by time)", [file.path for file in self.files])
 
     def octets(self):
         """The octets of the next files that go on in one another."""

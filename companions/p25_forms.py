@@ -1,6 +1,6 @@
-"""The forms in which receivers write a recording, turned into the octets that p25 reads or into the levels that p25 soft reads.
+"""The forms in which receivers write a recording, turned into octets of p25 or levels of p25 soft.
 
-A converter takes octets as they come and returns what they make: `take(octets)`, and `end()` at the end of the input.
+A converter takes octets as they come and returns what they make, by `take(octets)` and, at the end of the input, `end()`.
 """
 
 import array
@@ -15,13 +15,13 @@ import sys
 # The symbols of the dibits 0 to 3, and the dibits of the frame sync.
 SYMBOLS = (1, 3, -1, -3)
 SYNC = tuple(map(int, "111113113311333313133333"))
-# The levels of a unit are followed over so many symbols after its sync, in blocks of so many.
+# Levels are followed over so many symbols after a sync, in blocks of so many.
 FOLLOWED, BLOCK = 864, 72
 BLANKS = b" \t\r\n\f\v"
 
 
 class Refused(Exception):
-    """An input that is not of the form that is wanted. `made` is what was made of all before."""
+    """An input of another form. `made` is what was made of all before."""
 
     def __init__(self, why, made=b""):
         super().__init__(why)
@@ -29,7 +29,7 @@ class Refused(Exception):
 
 
 class Turns:
-    """What is undone in each dibit: first its bits change places, then its polarity; and the order of the dibits of an octet."""
+    """What is undone in each dibit: first its bits are swapped, then its polarity; and the order of the dibits of an octet."""
 
     def __init__(self, polarity=False, swap=False, lowest=False):
         self.polarity, self.swap, self.lowest = polarity, swap, lowest
@@ -41,7 +41,7 @@ class Turns:
         return self.swapped(dibit) ^ (2 if self.polarity else 0)
 
     def octets(self):
-        """The octet that each octet becomes, or None if all stay."""
+        """The octet that each octet becomes, or None."""
         if not (self.polarity or self.swap or self.lowest):
             return None
         table = []
@@ -52,19 +52,19 @@ class Turns:
         return bytes(table)
 
     def level(self, level):
-        """The level that a level becomes: the nearest dibit changes, and its distance from that dibit stays."""
+        """The level that a level becomes: the nearest dibit changes, and its distance stays."""
         if self.swap:
             dibit = 1 if level >= 64 else 0 if level >= 0 else 2 if level >= -64 else 3
             level += 32 * (SYMBOLS[self.swapped(dibit)] - SYMBOLS[dibit])
         return max(-128, min(127, -level if self.polarity else level))
 
 
-# Two digits of so many bits each, as the octet of two hexadecimal digits, are one digit of twice the bits.
+# Two digits of so many bits each, as an octet, are one digit of twice the bits.
 NARROW = {bits: bytes(ord(f"{((octet >> 4) << bits | octet & (1 << bits) - 1) & 15:x}") for octet in range(256)) for bits in (1, 2)}
 
 
 def packed(digits, bits):
-    """The octets of hexadecimal digits that stand for 1, 2 or 4 bits each."""
+    """The octets of hexadecimal digits of 1, 2 or 4 bits each."""
     while True:
         digits = binascii.unhexlify(digits)
         if bits == 4:
@@ -74,7 +74,7 @@ def packed(digits, bits):
 
 
 class Whole:
-    """Octets in groups of one size, of which one group makes whole octets. `make` is given whole groups."""
+    """Octets in groups that make whole octets, for `make`."""
 
     def __init__(self, size):
         self.size, self.kept = size, b""
@@ -89,12 +89,12 @@ class Whole:
         return b""
 
     def words(self):
-        """What is to be said at the end, or None."""
+        """What to say at the end, or None."""
         return None
 
 
 class Digits(Whole):
-    """Digits of 1, 2 or 4 bits each, as octets: `values` maps each octet to its digit, and `most` is the highest value of an octet."""
+    """Digits of 1, 2 or 4 bits as octets, which `values` maps to digits; `most` is the highest."""
 
     def __init__(self, turns, bits, values, most=255):
         super().__init__(8 // bits)
@@ -110,11 +110,12 @@ class Digits(Whole):
     def words(self):
         if not self.others:
             return None
-        return f"{self.others} octets were not 0 to 3, and their lowest two bits were taken" if self.bits == 2 else f"{self.others} octets were not 0 or 1, and their lowest bit was taken"
+        which = ("0 to 3, and their lowest two bits were" if self.bits == 2 else "0 or 1, and their lowest bit was")
+        return f"{self.others} octets were not {which} taken"
 
 
 class Text:
-    """A text of digits and blanks; with `is_log` of each line the longest word of digits alone, if it has eight or more."""
+    """A text of digits and blanks; with `is_log` the longest word of eight digits or more of each line."""
 
     def __init__(self, digits, signs, name, is_log):
         self.digits, self.name = digits, name
@@ -127,7 +128,7 @@ class Text:
         if self.word:
             *lines, self.kept = (self.kept + octets).split(b"\n")
             return self.digits.take(b"".join(map(self.longest, lines)))
-        # To leave all usual signs out is quicker than to look for the first other one.
+        # To leave all usual signs out is quicker than to search.
         wrong = self.other.search(octets) if octets.translate(None, self.usual) else None
         made = self.digits.take(octets[: wrong.start() if wrong else None].translate(None, BLANKS))
         if wrong:
@@ -201,7 +202,7 @@ def level_of(symbol):
 
 
 class Symbols:
-    """Symbols as levels of p25 soft: 32 for each unit, so 3 is 96; a nearest dibit that changes keeps its distance."""
+    """Symbols as levels of p25 soft: 3 is 96."""
 
     def __init__(self, turns, source):
         self.source, self.turns = source, turns
@@ -233,7 +234,7 @@ class Symbols:
 
 
 def error_of(index):
-    """How far the level of an index, 0 to 255 for -128 to 127, is from its nearest symbol, and that symbol; 0 if it is beyond all."""
+    """How far the level of an index, 0 to 255 for -128 to 127, is from its nearest symbol, and that symbol; 0 beyond all."""
     level = index - 128
     nearest = 3 if level > 64 else 1 if level > 0 else -1 if level > -64 else -3
     error = level - 32 * nearest
@@ -247,9 +248,8 @@ WEIGHTED = bytes(error_of(index)[0] * error_of(index)[1] + 96 for index in range
 class Adapted(Symbols):
     """Symbols at a scale and an offset that are not known.
 
-    If 24 of them lie along the sync (their correlation is 0.9 or more, whatever the scale and the offset), the line through them is the
-    scale and the offset. The symbols of the unit after it, by the symbol that is nearest, correct both slowly. Each symbol waits for the
-    23 after it.
+    If 24 of them correlate with the sync by 0.9 or more, the line through them is the scale and the offset. The symbols of the unit after
+    it correct both slowly. Each symbol waits for the 23 after it.
     """
 
     def __init__(self, turns, source, say):
@@ -259,7 +259,7 @@ class Adapted(Symbols):
         self.mean = sum(pattern) / 24
         self.centred = [symbol - self.mean for symbol in pattern]
         self.spread = sum(it * it for it in self.centred)
-        # A sync rises and falls from symbol to symbol where its pattern does, whatever the scale and the offset: few other places do.
+        # A sync rises and falls where its pattern does, and few other positions do.
         steps = (b"\1" if after > before else b"\0" if after < before else b"." for before, after in zip(pattern, pattern[1:]))
         self.steps = re.compile(b"(?s)(?=" + b"".join(steps) + b")")
         self.table = bytes(turns.level(index - 128) & 255 for index in range(256))
@@ -292,7 +292,7 @@ class Adapted(Symbols):
         return b"".join(made)
 
     def begin(self, symbols):
-        """Before the first sync the levels are about as wide as they are in the mean."""
+        """Before the first sync the levels are as wide as in the mean."""
         usual = [it for it in symbols if abs(it) < 1e30]
         mean = sum(usual) / max(1, len(usual))
         width = sum((it - mean) ** 2 for it in usual) / max(1, len(usual))
@@ -308,7 +308,7 @@ class Adapted(Symbols):
         return along / self.spread, total / 24 - self.mean * along / self.spread
 
     def move(self, scale, offset):
-        """Takes the scale and offset of a sync: if they are near to what is known a fourth of the way, else all of it."""
+        """Takes the scale and offset of a sync: a fourth of the way if they are near, else all of it."""
         is_near = self.syncs and abs(scale / self.scale - 1) < 0.2 and abs(offset - self.offset) < 0.5 * self.scale
         part = 4 if is_near else 1
         self.scale += (scale - self.scale) / part
@@ -322,7 +322,7 @@ class Adapted(Symbols):
             self.told = text
 
     def follow(self, symbols, made):
-        """Appends the levels of symbols, of which those in a unit correct the scale and the offset."""
+        """Appends the levels of symbols. Those in a unit correct the scale and the offset."""
         place = 0
         while place < len(symbols):
             size = min(BLOCK, self.left) if self.left else len(symbols)

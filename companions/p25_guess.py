@@ -1,7 +1,4 @@
-"""The form in which a file holds a recording, and the lines of p25 show of a file in any form.
-
-Each form is tried over the beginning of the file, in each polarity and order of bits. The best is the one in which p25 finds most.
-"""
+"""The form in which a file holds a recording, and the lines of p25 show of a file in any form."""
 
 import itertools
 import os
@@ -16,7 +13,7 @@ from p25_forms import TEXTS, Refused, Turns, converter, has_levels
 from p25_lines import item_of
 from p25_program import program
 
-# So many octets of p25 are looked at: more if fewer do not settle the form. p25 takes as many at once as the most.
+# So many octets of p25 are looked at, more if fewer settle nothing. p25 takes the most at once.
 LOOKS = (65536, 1048576, 16777216)
 MOST = LOOKS[-1]
 # How many octets of a file make an octet of p25.
@@ -24,7 +21,7 @@ WIDTHS = {"octets": 1, "dibits": 4, "unpacked": 8, "digits": 5, "bits": 9, "hex"
 TURNS = ("", "p", "s", "ps", "l", "pl", "sl", "psl")
 PACKED = {b"\x1f\x8b\x08": "gzip", b"BZh": "bzip2", b"\xfd7zXZ\0": "xz", b"\x28\xb5\x2f\xfd": "zstd", b"PK\3\4": "zip", b"7z\xbc\xaf": "7z"}
 SOUND = {b"fLaC": "FLAC", b"OggS": "Ogg", b"ID3": "MP3", b"\xff\xfb": "MP3", b".snd": "AU", b"FORM": "AIFF"}
-# What samples a file may have, none of which is a symbol. Of octets both halves, as I and Q, are steady: of wider samples one half is not.
+# What samples a file may have. Of octets both halves, as I and Q, are steady: of wider samples one half is not.
 SAMPLES = (
     ("=B", "octets without a sign"),
     ("<h", "16-bit samples, the lowest octet first"),
@@ -53,7 +50,7 @@ def run(command, octets):
 
 
 class Guess:
-    """A form with its turns, and what p25 finds in the beginning of a file that is read so."""
+    """A form with its turns, and what p25 finds so in the beginning of a file."""
 
     def __init__(self, form, turns="", after="", adapts=False, is_log=False):
         self.form, self.turns, self.after, self.adapts, self.is_log = form, turns, after, adapts, is_log
@@ -67,7 +64,7 @@ class Guess:
         return converter(self.form, Turns(*(letter in self.turns for letter in "psl")), self.adapts, self.is_log)
 
     def octets(self, chunks):
-        """The octets of p25 of the chunks of a file, in parts of at most as many as p25 takes. What is of another form ends them."""
+        """The octets of p25 of the chunks of a file, in parts that p25 takes."""
         made, after = self.converter(), Turns(*(letter in self.after for letter in "psl")).octets()
         parts = itertools.chain(map(made.take, chunks), (made.end() for _ in (1,)))
         for part in in_parts(parts):
@@ -86,7 +83,7 @@ class Guess:
             self.broken += item.kind == "broken"
             self.others += item.kind == "nounit" and item.names == "duid"
             self.unread += item.kind == "nounit"
-            # The identifier of a false unit is as far from its codeword as it can be.
+            # A false unit has an identifier at the correction radius.
             self.sure += item.kind == "unit" and 12 * item.fix <= item.looked
 
     @property
@@ -95,7 +92,7 @@ class Guess:
 
     @property
     def is_sure(self):
-        """Whether enough of the syncs begin units, and more than one false unit speaks for the form."""
+        """Whether enough of the syncs begin units, and not one that may be false."""
         found = self.units + self.broken + self.others
         return 4 * found >= self.syncs and (self.sure > 0 or found > 2)
 
@@ -111,7 +108,7 @@ class Guess:
         return f"{options} {self.form}{' -a' if self.adapts else ''}"
 
     def commands(self, name):
-        """The commands that give octets of the file of a name, or None if it holds them."""
+        """The commands that make octets of p25 of a file, or None if it has them."""
         if self.form == "octets" and not self.turns:
             return None
         after = f" | p25-octets -{self.after} octets" if self.after else ""
@@ -124,7 +121,7 @@ class Guess:
 
 
 def in_parts(chunks):
-    """Octets in parts of at most as many as p25 takes."""
+    """Octets in parts that p25 takes."""
     kept = b""
     for chunk in chunks:
         kept += chunk
@@ -148,7 +145,7 @@ def is_text(octets):
 
 
 def forms_of(begin):
-    """The forms of which a file may be that begins so, each with whether scale and offset are sought, and whether it is a log."""
+    """The forms of a file that begins so, whether scale and offset are sought, and whether it is a log."""
     if is_text(begin):
         for form, (_, signs, _) in TEXTS.items():
             if not re.search(b"[^%s%s]" % (signs, rb"\s"), begin) and (form != "hex" or re.search(b"[4-9A-Fa-f]", begin)):
@@ -180,25 +177,25 @@ def forms_of(begin):
 
 
 def guesses_of(begin):
-    """All guesses that are tried for a file that begins so."""
+    """All guesses for a file that begins so."""
     for form, adapts, is_log in forms_of(begin):
         for turns in ("", "p") if adapts else TURNS:
             yield Guess(form, turns, "", adapts, is_log)
-        # The second bit of each dibit may be inverted, which is both turns in the other order.
+        # The second bit of each dibit may be inverted.
         if not has_levels(form):
             yield Guess(form, "p", "s", adapts, is_log)
             yield Guess(form, "pl", "s", adapts, is_log)
 
 
 def steadiness(samples):
-    """How near each sample is to the one before, in parts of its distance from their mean; None if all are the same."""
+    """How near each sample is to the one before, in parts of its distance from the mean; None if all are the same."""
     mean = sum(samples) / len(samples)
     size = sum(abs(it - mean) for it in samples)
     return sum(abs(after - before) for before, after in zip(samples, samples[1:])) / size if size else None
 
 
 def text_kind(begin):
-    """What a text is that is no form of a recording."""
+    """What a text is."""
     if re.match(rb"[0-9a-f]{7,8}:? ", begin):
         return "is a dump with addresses: xxd -r makes its octets of it, if xxd wrote it"
     if re.match(rb"(unit|gap|broken|nounit|cut|call) at=[0-9]", begin):
@@ -208,7 +205,7 @@ def text_kind(begin):
 
 
 def kind_of(begin):
-    """What a file is that begins so, if its first octets tell it, or None."""
+    """What a file is by its first octets, or None."""
     for table, text in ((PACKED, "is packed with {}: unpack it first"), (SOUND, "is sound, in a file of {}: no bits are read from it")):
         for magic, name in table.items():
             if begin.startswith(magic):
@@ -233,7 +230,7 @@ def likely_kind(begin):
             continue
         if letter == ">f":
             return f"looks like {name}: they are read by: perl -0777 -ne 'print(pack(\"V*\", unpack(\"N*\", $_)))' FILE | p25-octets floats -a"
-        # Samples of a signal are near to the one before, or to the one before that, as I and Q are; octets of another kind are not.
+        # A sample of a signal is near to the one before, or before that, as I and Q are.
         halves = [it for it in (steadiness(samples[::2]), steadiness(samples[1::2])) if it is not None]
         if halves and (max(halves) if width == 1 else min(halves[0], steadiness(samples))) < 0.7:
             return f"looks like {name}: sound, IQ or a discriminator, of which no symbols are read"
@@ -241,7 +238,7 @@ def likely_kind(begin):
 
 
 def uniform(path):
-    """The octet of which the first part of a file has no other, and how many; or None."""
+    """The one octet of the first part of a file, and how many; or None."""
     count, first = 0, None
     for chunk in chunks_of(path, 4 * MOST):
         first = chunk[:1] if first is None else first
@@ -252,7 +249,7 @@ def uniform(path):
 
 
 class Search:
-    """The guesses of a file, the best first, and why none is sure. Unless `all` are asked for, the first clear one ends the search."""
+    """The guesses of a file, the best first, and why none is sure. The first clear one ends the search, unless `all` are wanted."""
 
     def __init__(self, path, say=lambda text: None, all=False):
         self.path, self.say, self.all = path, say, all
@@ -299,7 +296,7 @@ class Search:
 
     @property
     def is_beginning(self):
-        """Whether a part of the file alone was looked at."""
+        """Whether a part of the file was looked at."""
         return self.best is not None and self.size > self.looked * WIDTHS[self.best.form]
 
 
@@ -310,19 +307,18 @@ def has_lines(path):
 
 
 def may_be_recording(path):
-    """Whether a file has no lines of p25, and may be a recording in a form that is known."""
+    """Whether a file has no lines of p25, and may be a recording."""
     begin = b"".join(chunks_of(path, 65536))
     return len(begin) >= 16 and not has_lines(path) and (not is_text(begin) or any(forms_of(begin)))
 
 
 def guessed(script, path, otherwise=None):
-    """The best guess of a file, which is told. If none is sure standard error says why, and the script ends if it has no other guess."""
+    """The best guess of a file, which standard error has; if none is sure, `otherwise`, or the script ends."""
+    if os.path.exists(path) and not os.path.isfile(path):
+        script.fail(3, f"'{path}' cannot be read: it is no file")
     try:
-        if not os.path.isfile(path):
-            script.fail(3, f"'{path}' cannot be read: {'it is no file' if os.path.exists(path) else 'No such file or directory'}")
-        search = Search(path, lambda text: sys.stderr.write(f"{script.name}: {text}\n"))
-    except OSError as fault:
-        script.fail(3, f"'{path}' cannot be read: {fault.strerror}")
+        with script.reads(path):
+            search = Search(path, lambda text: sys.stderr.write(f"{script.name}: {text}\n"))
     except NoProgram as fault:
         script.fail(1, str(fault))
     if not search.is_sure:
@@ -350,7 +346,7 @@ def split_program():
 
 
 def stream(script, path, guess):
-    """The number of a pipe with the lines of p25 show of a file of any length."""
+    """A pipe with the lines of p25 show of a file."""
     split = subprocess.Popen([split_program(), "-"], stdin=subprocess.PIPE, stdout=subprocess.PIPE)
 
     def feed():
@@ -368,7 +364,7 @@ def stream(script, path, guess):
 
 
 def take_file(script, path):
-    """Has standard input give the lines of p25 show of a file: it has them, or is a recording in any form."""
+    """Has standard input give the lines of p25 show of a file: lines, or a recording in any form."""
     if os.path.isfile(path) and has_lines(path):
         source = os.open(path, os.O_RDONLY)
     else:

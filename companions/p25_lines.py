@@ -1,33 +1,30 @@
-"""The lines of p25 as values, and what they say together: calls, who speaks in them, networks, segments.
+"""The lines of p25 as values, and what they contain together: calls, who speaks in them, networks, segments.
 
-A helper script in Python finds this file beside itself, or in share/p25 beside its folder, where ./install.sh puts it. Positions and
-lengths are whole numbers of bits. Nothing here decodes: all of it reads the lines of p25.
+Positions and lengths are whole numbers of bits. Nothing here decodes.
 """
 
 import re
 
-# A second has so many bits.
 BITS_A_SECOND = 9600
-# The bits of a unit, with its status symbols. A packet has the length that its line tells.
+# The bits of a unit, with its status symbols. A packet has the length in its line.
 LENGTHS = {"hdu": 792, "ldu1": 1728, "ldu2": 1728, "tdu": 144, "tdulc": 432}
-# The bits of a unit that are looked at: its sync, 63 bits of its identifier, and the words of its codes.
+# The bits of a unit that are looked at: its sync, 63 bits of its identifier, and its codewords.
 LOOKED_AT = {"hdu": 759, "ldu1": 383, "ldu2": 383, "tdu": 111, "tdulc": 399}
-# Of a packet these, and so many for its header and each of its blocks.
+# Of a packet these, and those of its header and of each block.
 LOOKED_AT_PACKET, LOOKED_AT_BLOCK = 111, 196
-# The kinds of units by their data unit identifiers. Of a packet the identifier tells no more.
+# The kinds of units by their DUIDs.
 KINDS = {"0": "hdu", "3": "tdu", "5": "ldu1", "a": "ldu2", "c": "packet", "f": "tdulc"}
 PACKETS = ("confirmed", "plain", "response", "packet")
 LINK_UNITS = ("ldu1", "ldu2")
 TERMINATORS = ("tdu", "tdulc")
-# Two units with more bits than these between them are of two calls.
+# Two units with more bits between them are of two calls.
 PAUSE = 3456
-# Two calls with no more than these bits between them may be parts of one: five seconds.
+# Two calls with no more bits between them may be parts of one: five seconds.
 NEAR = 48000
-# Reception is good if at most so many % of the voice units are broken or lost, fair up to the second number, and else poor.
+# Reception is good if at most so many % of the voice units are broken or lost, fair up to the second, and else poor.
 GOOD, FAIR = 1, 5
-# The names of algorithms.
 ALGORITHMS = {"80": "clear", "81": "DES-OFB", "83": "3DES", "84": "AES-256", "85": "AES-128", "9f": "DES-XL", "aa": "ADP (RC4)"}
-# The names of the formats of a link control word, by its lowest six bits.
+# The formats of link control, by the lowest six bits.
 FORMATS = {
     0x02: "channel update",
     0x04: "channel update",
@@ -69,7 +66,7 @@ MAKERS = {
 
 
 class Item:
-    """An item of a line of p25 show. `kind` is unit, broken, nounit, gap or cut; `unit` is the kind of a unit, or None."""
+    """An item of p25 show. `kind` is unit, broken, nounit, gap or cut; `unit` is the kind of a unit, or None."""
 
     __slots__ = ("kind", "at", "bits", "fix", "unit", "nac", "lc", "alg", "key", "group", "looked", "names")
 
@@ -121,13 +118,13 @@ def unit_of(line):
     if unit in LOOKED_AT:
         item.looked = LOOKED_AT[unit]
     else:
-        # The last seven bits of the seventh octet of a head are the number of blocks.
+        # The last seven bits of the seventh octet are the number of blocks.
         item.looked = LOOKED_AT_PACKET + LOOKED_AT_BLOCK * (1 + int(values["head"][12:14], 16) % 128)
     return item
 
 
 def item_of(line):
-    """The item of a line of p25 show or check, or None if it is no such line."""
+    """The item of a line of p25 show or check, or None."""
     first = line[:1]
     if first == "u":
         return unit_of(line)
@@ -150,7 +147,7 @@ def item_of(line):
 
 
 class Talk:
-    """Who speaks to whom in a link control word: numbers, or None where its format does not tell them."""
+    """Who speaks to whom in a link control word: numbers, or None."""
 
     __slots__ = ("lc", "format", "maker", "radio", "group", "called", "emergency")
 
@@ -160,7 +157,7 @@ class Talk:
         if lc is None:
             return
         self.format = lc[:2]
-        # The second octet is the manufacturer's, unless a bit of the first one says that it is none.
+        # The second octet is the manufacturer's, but for a bit of the first one.
         if not int(self.format, 16) & 0x40 and lc[2:4] not in ("00", "01"):
             self.maker = lc[2:4]
         if self.format == "00":
@@ -170,7 +167,6 @@ class Talk:
         else:
             return
         self.radio = int(lc[12:18], 16)
-        # The first of the service options in the third octet is an emergency.
         self.emergency = int(lc[4], 16) >= 8
 
     @property
@@ -178,8 +174,13 @@ class Talk:
         """The radio and to whom it speaks, or None."""
         return None if self.radio is None else (self.radio, self.group, self.called)
 
+    @property
+    def to(self):
+        """To whom: group or radio, and its number, or None."""
+        return ("group", self.group) if self.group is not None else ("radio", self.called) if self.called is not None else None
+
     def same(self, other):
-        """Whether the two may be the same radio that speaks to the same, as far as both are told."""
+        """Whether the two may be the same radio and called one, as far as both are told."""
         return self.radio is None or other.radio is None or self.who == other.who
 
     def format_name(self):
@@ -191,9 +192,9 @@ class Talk:
 
 
 class Call:
-    """A run of voice units, or a part of one in which one radio speaks. What only the lines of p25 show tell is None in one of p25 calls.
+    """A run of voice units, or a part of one in which one radio speaks. What p25 show alone has is None in one of p25 calls.
 
-    `base` is the position at which its segment of the recording begins, counted from the first segment; `at` counts from there.
+    `base` is the position at which its segment begins; `at` counts from there.
     """
 
     __slots__ = (
@@ -205,18 +206,17 @@ class Call:
         self.at = self.end_at = at
         self.nac, self.base = nac, base
         self.entry, self.end = "late", "open"
-        # Voice units of which the identifier was read, those that were read whole, and units of any kind that were not.
+        # Voice units whose identifier was read, those that were read whole, and units of any kind that were not.
         self.links = self.voice = self.broken = self.units = 0
         self.lc = self.alg = self.group = None
         self.looked = self.wrong = 0
         self.in_step = True    # whether each voice unit lies where its kind does after the header
-        self.votes = {}    # each link control that was read, and how often; the first of the call first
-        self.ciphers = {}    # each algorithm with its key, likewise
+        self.votes, self.ciphers = {}, {}    # how often each link control was read, and each algorithm with its key
         self.goes_on = None    # the call of which this one may be a part
         self.heard = [] if keeps else None    # position, end, bits looked at and bit errors of each whole unit
 
     def add(self, item):
-        """Takes a unit that belongs to the call."""
+        """Takes a unit of the call."""
         self.end_at = item.end
         self.units += 1
         if item.unit in LINK_UNITS:
@@ -246,7 +246,7 @@ class Call:
 
     @property
     def bits(self):
-        """From the beginning of its first unit to the end of its last one."""
+        """From its first unit to the end of its last one."""
         return self.end_at - self.at
 
     @property
@@ -256,14 +256,14 @@ class Call:
 
     @property
     def cipher(self):
-        """The algorithm and the key that most units tell, or None for what is not known."""
+        """The algorithm and the key of most units, or None."""
         return max(self.ciphers, key=self.ciphers.get) if self.ciphers else (self.alg, None)
 
     def sent(self):
         """How many voice units its length has capacity for, at least those that were heard, and whether this is exact.
 
         It is exact if both ends were heard, whole voice units fill what is between them, each where its kind is in turn, and no word
-        tells another talk or cipher: else a part of the length may be of another call.
+        has another talk or cipher.
         """
         bits = self.bits
         if self.entry == "header":
@@ -278,13 +278,13 @@ class Call:
         """Why the number of voice units that were sent is not exact."""
         if self.entry == "late" or self.end == "open":
             return ["beginning not heard"] * (self.entry == "late") + ["end not heard"] * (self.end == "open")
-        if told(self).others:
+        if Told(self).others:
             return ["more than one talker is told"]
         is_one = self.in_step and (self.bits - LENGTHS["hdu"] - LENGTHS[self.end]) % LENGTHS["ldu1"] == 0 and len(self.ciphers) < 2
         return [] if is_one else ["perhaps two calls"]
 
     def line(self, more=False):
-        """The line that p25 calls prints of it; with `more` what only p25 show tells stands after that."""
+        """The line that p25 calls prints of it; with `more` what p25 show alone has is after that."""
         text = (
             f"call at={self.at} bits={self.bits} nac={self.nac} entry={self.entry} end={self.end} links={self.links}"
             f" broken={self.broken} lc={self.lc or 'none'} alg={self.alg or 'none'}"
@@ -302,7 +302,7 @@ CALL = re.compile(
 
 
 def call_of(line):
-    """The call of a line of p25 calls, or of p25-calls -v, or None if it is no such line."""
+    """The call of a line of p25 calls, or of p25-calls -v, or None."""
     found = CALL.fullmatch(line)
     if not found:
         return None
@@ -323,11 +323,10 @@ def call_of(line):
 
 
 class Told:
-    """Who speaks in a call, by all of its words.
+    """Who speaks in a call.
 
-    `talk` is that of most words that name a radio; `by` how many tell it, of `total` link control words. `ties` are talks that as many
-    words tell, and `also` those that stand in the call beside it: of two words or more, or emergencies. `others` has each other talk
-    that a word or the header tells, with its number of words.
+    `talk` is that of most words that name a radio, `by` how many, of `total` words. `ties` are talks of as many words, and `also` those of
+    two words or more, or emergencies. `others` has each other talk that a word or the header has, with its number of words.
     """
 
     def __init__(self, call):
@@ -340,10 +339,9 @@ class Told:
                 continue
             counts[talk.who] = counts.get(talk.who, 0) + count
             first = talks.setdefault(talk.who, talk)
-            # An emergency that one of the words of this talk has is told.
             first.emergency = first.emergency or talk.emergency
         most = max(counts.values(), default=0)
-        # As many words tell it, so an emergency comes first.
+        # Of as many words an emergency comes first.
         best = sorted((who for who in counts if counts[who] == most), key=lambda who: not talks[who].emergency)
         self.by_header = not best and call.group is not None
         if best:
@@ -372,27 +370,22 @@ class Told:
 
     @property
     def certainty(self):
-        """How the talker is told: by several words, one, as many as others, or the header; None if it is not."""
+        """How the talker is told: by words, once, a tie, the header, or None."""
         if self.by == 0:
             return "header" if self.by_header else None
         return "tie" if self.ties else "once" if self.by == 1 else "words"
 
 
-def told(call):
-    """Who speaks in a call."""
-    return Told(call)
-
-
 class Calls:
     """The calls among items, as p25 calls groups them, or with `by_talker` their parts.
 
-    A run of units is divided where a packet comes, the access code changes, a terminator was the last unit, a header is the
-    next one, or more than 3,456 bits lie between two units. `pauses` closes a run too once no later unit can be its own.
-    Positions that begin anew are those of another segment, and divide it too: they go on from the end of the one before.
+    A run of units is divided by a packet, another access code, a terminator before, a header after, more than 3,456 bits between two units,
+    and positions that begin anew: those of another segment, which go on from the end of the one before. `pauses` closes a run too once
+    no later unit can be its own.
 
-    Two radios may speak in one run, if a terminator and a header were lost. With `by_talker` a talk begins a part of its own at the first
-    unit that tells it, if two link control words of the run tell it, if its word has an emergency, or if the header has its group.
-    Until that is known its units wait, for two voice units in the mean. An emergency makes a call of units without voice too.
+    If a terminator and a header were lost, two radios speak in one run. With `by_talker` a talk begins a part at the first unit with it, if
+    two words of the run have it, an emergency, or the group of the header. Until then its units wait. An emergency makes a call of units
+    without voice too.
     """
 
     def __init__(self, pauses=False, by_talker=False, keeps=False):
@@ -406,9 +399,9 @@ class Calls:
         """Forgets what is known of the run."""
         self.end_at = self.links = 0
         self.has_emergency = False
-        self.counts, self.sure = {}, set()    # of each talk the words in the run, and the talks that are sure
+        self.counts, self.sure = {}, set()    # the words of each talk in the run, and the talks that are sure
         self.speaker = self.other = None    # the talk of the open part, and the one that may begin the next
-        self.waiting = []    # the units of that one
+        self.waiting = []    # its units
 
     def begin(self, at, nac):
         """Begins a run or a part."""
@@ -421,7 +414,7 @@ class Calls:
         self.waiting, self.other = [], None
 
     def close(self):
-        """Ends the open run, and returns it, or its last part, if it is a call."""
+        """Ends the open run, and returns it or its last part, if it is a call."""
         if self.run is None:
             return None
         self.settle()
@@ -490,15 +483,15 @@ class Calls:
         return [call for call in closed if call is not None]
 
 
-# The sync of 48 bits, and the generator of the code of the identifier: 16 bits become 63.
+# The sync, and the generator of the code of the identifier.
 SYNC, GENERATOR = 0x5575F5FF77FF, 0o6331141367235453
 DUIDS = {**{unit: int(duid, 16) for duid, unit in KINDS.items()}, **dict.fromkeys(PACKETS, 0xC)}
-# How many bits of a sync and of an identifier may be wrong, for p25 to read them.
+# The correction radius of a sync and of an identifier.
 SYNC_RADIUS, NID_RADIUS = 4, 11
 
 
 def front_of(nac, unit):
-    """The 111 bits of the sync and the identifier of a unit, as they are transmitted."""
+    """The 111 bits of the sync and the identifier of a unit."""
     word = rest = (int(nac, 16) << 4 | DUIDS[unit]) << 47
     for place in range(62, 46, -1):
         if rest >> place & 1:
@@ -507,14 +500,14 @@ def front_of(nac, unit):
 
 
 def front_bits(octets, at):
-    """The 111 bits at which a front would begin, without the status symbol between the 22nd and the 23rd bit of its identifier."""
+    """The 111 bits of a front at a position, without the status symbol after the 22nd bit of its identifier."""
     first, last = at // 8, (at + 113 + 7) // 8
     bits = int.from_bytes(octets[first:last], "big") >> (8 * last - at - 113)
     return (bits >> 43 & (1 << 70) - 1) << 41 | bits & (1 << 41) - 1
 
 
 def front_errors(octets, item):
-    """The bit errors of the sync and of the identifier of a unit in the octets of a recording, or None if they are not all in it."""
+    """The bit errors of the sync and of the identifier of a unit in a recording, or None if it ends before."""
     if item.at + 113 > 8 * len(octets):
         return None
     wrong = front_bits(octets, item.at) ^ front_of(item.nac, item.unit)
@@ -524,15 +517,15 @@ def front_errors(octets, item):
 class Hidden:
     """The fronts of a recording that p25 does not find, since too many of their bits are wrong.
 
-    Each is that of a unit of a network that has a whole unit before, but for at most 12 bits of its sync and 26 of its 111 bits. At a
-    bit error rate of 15 % so are 97 % of the fronts, at 20 % 77 %, and in an hour of noise one place for each network.
+    Each is that of a unit of a network with a whole unit before, but for at most 12 bits of its sync and 26 of its 111 bits. At a BER of
+    15 % so are 97 % of the fronts, at 20 % 77 %, and in an hour of noise one position for each network.
     """
 
     def __init__(self, octets):
         self.octets, self.words, self.edge = octets, {}, 0    # the fronts of each network; what is before the edge was looked at
 
     def take(self, item):
-        """Yields the position and the bit errors of those before the next item, or within it if it is no unit."""
+        """Yields the position and the bit errors of those up to the next unit, or within the next item."""
         if item.kind == "unit" and item.nac not in self.words:
             self.words[item.nac] = [front_of(item.nac, unit) for unit in KINDS.values()]
         end = item.end if item.nac is None else item.at
@@ -574,7 +567,7 @@ class Network:
 
 
 class Recording:
-    """The calls, the networks and the units of the items of a recording, one after the other."""
+    """The calls, the networks and the units of a recording."""
 
     def __init__(self, network=Network, keeps=False):
         self.calls = Calls(pauses=True, by_talker=True, keeps=keeps)
@@ -606,7 +599,7 @@ class Recording:
         return closed
 
     def end(self):
-        """Returns the calls that the end of the recording closes."""
+        """Returns the calls that the end closes."""
         call = self.calls.close()
         if call is None:
             return []
@@ -615,20 +608,20 @@ class Recording:
 
 
 class Parts:
-    """Marks calls that may be parts of one: the end of the first and the beginning of the second were not heard."""
+    """Marks calls that may be parts of one: neither the end of the first nor the beginning of the second was heard."""
 
     def __init__(self):
         self.last = {}
 
     def mark(self, call):
-        """Sets `goes_on` of the call if the last call of its access code may go on in it."""
+        """Sets `goes_on` if the last call of its network may go on in it."""
         before = self.last.get(call.nac)
         if (
             before is not None
             and before.end == "open"
             and call.entry == "late"
             and 0 <= call.begin - before.base - before.end_at <= NEAR
-            and told(before).talk.same(told(call).talk)
+            and Told(before).talk.same(Told(call).talk)
             and (before.alg is None or call.alg is None or before.alg == call.alg)
         ):
             call.goes_on = before
@@ -636,34 +629,34 @@ class Parts:
 
 
 class Chosen:
-    """The calls that are asked for: to a group, of or to a radio, emergencies alone."""
+    """The calls that are asked for."""
 
     def __init__(self, group=None, radio=None, emergency=False):
         self.group, self.radio, self.emergency = group, radio, emergency
 
     def has(self, call):
-        """Whether a call, or one of the talks in it, is asked for."""
+        """Whether one of the talks in a call is asked for."""
         return any(
             (self.group is None or talk.group == self.group)
             and (self.radio is None or self.radio in (talk.radio, talk.called))
             and (bool(talk.emergency) or not self.emergency)
-            for talk in told(call).talks
+            for talk in Told(call).talks
         )
 
 
 def grade_of(missed, sent):
-    """The word for a reception in which so many voice units of those sent were broken or lost."""
+    """The word for a reception in which so many voice units were broken or lost."""
     share = 100 * missed / sent
     return "good" if share <= GOOD else "fair" if share <= FAIR else "poor"
 
 
 def rate_of(wrong, looked):
-    """The bit error rate in %, with four digits after the point, or None where no bit was looked at."""
+    """The bit error rate in %, to four digits after the point, or None."""
     return round(100 * wrong / looked, 4) if looked else None
 
 
 def thousandths(bits):
-    """Bits as thousandths of a second, to the nearest."""
+    """Bits as ms, to the nearest."""
     return (bits * 2000 + BITS_A_SECOND) // (2 * BITS_A_SECOND)
 
 

@@ -1,10 +1,8 @@
-"""How a helper script begins, reads, writes and ends: options, names, the time, lines, tables, exit statuses.
-
-A helper script in Python finds this file beside p25_lines.py, whose calls the columns of its tables are of.
-"""
+"""How a helper script begins, reads, writes and ends: options, names, the time, lines, tables, exit statuses."""
 
 import argparse
 import bisect
+import contextlib
 import csv
 import datetime
 import json
@@ -16,7 +14,7 @@ import sys
 import time
 import zoneinfo
 
-from p25_lines import ALGORITHMS, BITS_A_SECOND, Chosen, rate_of, seconds, thousandths, told
+from p25_lines import ALGORITHMS, BITS_A_SECOND, Chosen, Told, rate_of, seconds, thousandths
 
 STATUSES = """\
 Exit status: 0 all was read and written; 1 the input is not of the form that is
@@ -24,7 +22,30 @@ wanted; 2 a word of the command is refused; 3 the input, or a file that an
 option names, cannot be read; 4 the output cannot be written; 130 and 143 an
 interrupt and a wish to end. A line on standard error says why it is not 0.
 """
-# A pipe in which nothing came for so many seconds was silent: its receiver left something out.
+# What the help of each script has that takes these options.
+TABLES = """\
+-c prints CSV with a first line of names, and -j a JSON object for each line.
+What is not known is empty, or null. The access code of a call is a text, and
+there twice: "network" (NAC 293) stays one where a program takes 293 or 2e1 for
+a number.
+"""
+TIMES = """\
+TIME is that of the first bit, as 2026-11-28T08:00:00Z, with its zone or the
+name of one ('2026-11-28T09:00:00 Europe/Berlin'), or now, for a live pipe: the
+time at which the first bit comes, and silence that the receiver leaves out
+counts too.
+"""
+NAMES = """\
+NAMES is a CSV file with rows as group,100,Fire dispatch or radio,4097,Engine 3
+or nac,293,County; a fourth cell is the NAC of the one network in which the name
+holds, as NAC=FILE in place of FILE says it for all. A list of talk groups with
+the titles Decimal and Alpha Tag is read as it is.
+"""
+CHOICE = """\
+--group, --radio (it speaks, or is called) and --emergency choose calls; a name
+of NAMES serves as a number does.
+"""
+# A pipe in which nothing came for so many seconds was silent.
 SILENCE = 1.0
 
 
@@ -34,10 +55,7 @@ def one_line(text):
 
 
 class Clock:
-    """The time of each bit: of the first one, and of the silence that a live pipe left out.
-
-    `begin` is None if no time is known. A word `now` is the time at which the first bit comes.
-    """
+    """The time of each bit, with the silence that a live pipe left out. `begin` is None if no time is known."""
 
     def __init__(self, word=None):
         self.begin = self.zone = None
@@ -63,7 +81,7 @@ class Clock:
             raise ValueError(word)
 
     def local(self, begin, zone):
-        """A time by the name of its zone, as Europe/Berlin, or local for that of this machine."""
+        """A time by the name of its zone, or local for that of this machine."""
         if begin.tzinfo is not None:
             raise ValueError(zone)
         if zone == "local":
@@ -80,7 +98,7 @@ class Clock:
         return begin
 
     def arrive(self, at, end):
-        """Notes that the bits of some lines came just now: from `at` to `end`, in their segment."""
+        """Notes that the bits from `at` to `end` of a segment came just now."""
         if not self.is_live:
             return
         if at < self.last:
@@ -97,7 +115,7 @@ class Clock:
             self.silences.append(self.silences[-1] + late)
 
     def silence(self, bits):
-        """The seconds that were left out before a bit."""
+        """The seconds of silence before a bit."""
         return self.silences[bisect.bisect_right(self.places, bits) - 1]
 
     def wall(self, bits):
@@ -111,31 +129,32 @@ class Clock:
             return self.begin + after
         return (self.begin.astimezone(datetime.timezone.utc) + after).astimezone(self.zone)
 
+    def zone_text(self):
+        """The zone of the times, as UTC or UTC+01:00."""
+        begin = self.begin or datetime.datetime.now().astimezone()
+        return "UTC" if not begin.utcoffset() else begin.strftime("UTC%z")[:6] + ":" + begin.strftime("%z")[3:5]
+
     def at(self, bits):
-        """The time of a bit, to the nearest thousandth of a second, as ISO 8601 with its zone, or None if it is not known."""
+        """The time of a bit, to the nearest ms, as ISO 8601 with its zone, or None."""
         if self.begin is None:
             return None
         return self.shown(self.wall(bits)).isoformat(timespec="milliseconds").replace("+00:00", "Z")
 
 
-# The columns of a list of talk groups or radios, as scanner programs write it: of the number, and of its name, the best first.
+# The columns of a list of talk groups or radios of scanner programs: of the number, and of its name, the best first.
 NUMBERS = ("decimal", "dec", "tgid", "talkgroup id", "talkgroup", "radio id", "rid", "unit id")
 TITLES = ("alpha tag", "alphatag", "alias", "name of group", "name", "description")
 
 
 class Names:
-    """Names of groups, radios and networks, of CSV files: for all networks, or for one.
-
-    A row is `group,100,Fire dispatch`, `radio,4097,Engine 3` or `nac,293,County`, with an access code as its fourth cell if it
-    is for one network; or the file is a list of talk groups with a first row of titles.
-    """
+    """Names of groups, radios and networks, for all networks or for one. The help of -a has the files."""
 
     def __init__(self):
         self.tables = {"group": {}, "radio": {}}
         self.nac = {}
 
     def read(self, path, nac=None):
-        """Reads a file, whose names are of a network if one is named."""
+        """Reads a file, of one network if it is named."""
         try:
             with open(path, encoding="utf-8-sig", newline="") as file:
                 rows = [[cell.strip() for cell in row] for row in csv.reader(file)]
@@ -176,11 +195,11 @@ class Names:
         return table.get((nac, number)) or table.get((None, number))
 
     def scope(self, kind, nac, number):
-        """The network of which the name of a group or radio is, or None if it is one for all networks."""
+        """The network of the name of a group or radio, or None if it is one for all."""
         return nac if (nac, number) in self.tables[kind] else None
 
     def number(self, kind, word):
-        """The number that a word of a command means: a decimal number, or a name that a file gives."""
+        """The number of a word: a decimal number, or a name of a file."""
         if re.fullmatch("[0-9]{1,8}", word):
             return int(word)
         for (_, number), name in self.tables[kind].items():
@@ -189,15 +208,14 @@ class Names:
         raise ValueError(word)
 
     def who(self, talk, nac):
-        """Who speaks to whom, as a text: numbers with their names."""
+        """Who speaks to whom: numbers with their names."""
 
         def named(kind, number):
             name = self.of(kind, nac, number)
             return f"{kind} {number}" + (f" ({name})" if name else "")
 
         if talk.radio is not None:
-            to = named("radio", talk.called) if talk.group is None else named("group", talk.group)
-            text = f"{named('radio', talk.radio)} to {to}"
+            text = f"{named('radio', talk.radio)} to {named(*talk.to)}"
         elif talk.group is not None:
             text = f"radio not known to {named('group', talk.group)}"
         else:
@@ -205,12 +223,18 @@ class Names:
         return text + (f", manufacturer {talk.maker}" if talk.maker else "") + (", emergency" if talk.emergency else "")
 
 
-# The columns of a table of talkers. Those of release 1.0 come first.
+def cipher_text(cipher, unknown="not known"):
+    """An algorithm and its key in words."""
+    alg, key = cipher
+    return unknown if alg is None else ALGORITHMS.get(alg, f"algorithm {alg}") + (f", key {key}" if key and alg != "80" else "")
+
+
+# The columns of p25-talkers, those of release 1.0 first.
 TALKERS = (
     "begin seconds nac entry end format manufacturer radio group called emergency algorithm sent heard lost broken"
     " time network sent_is looked wrong rate goes_on radio_name group_name called_name votes others key talker_is also"
 ).split()
-# Those of a table of calls: first the keys of the line of a call.
+# Those of p25-calls, the keys of the line of a call first.
 CALLS = (
     "at bits nac entry end links broken lc alg begin seconds time network format manufacturer radio group called emergency"
     " algorithm sent sent_is lost looked wrong rate goes_on key talker_is also"
@@ -218,8 +242,8 @@ CALLS = (
 
 
 def values_of(call, clock, names):
-    """What is told of a call, by the names of its columns: numbers, texts, True and False, and None for what is not known."""
-    who = told(call)
+    """The values of a call by the names of their columns; None for what is not known."""
+    who = Told(call)
     talk = who.talk
     sent, is_exact = call.sent()
     alg, key = call.cipher
@@ -230,7 +254,6 @@ def values_of(call, clock, names):
         "seconds": Number(seconds(call.bits)),
         "time": clock.at(call.begin),
         "nac": call.nac,
-        # A text for programs that take a code as 293, 001 or 2e1 for a number.
         "network": f"NAC {call.nac}",
         "entry": call.entry,
         "end": call.end,
@@ -280,7 +303,7 @@ def json_line(values):
 
 
 def csv_cell(value):
-    """A value as a cell of CSV: what is not known is empty, yes is 1 and no is 0."""
+    """A value as a cell of CSV."""
     if value is None:
         return ""
     if isinstance(value, Number):
@@ -305,7 +328,7 @@ def csv_line(values):
 
 
 def beside(*names):
-    """The path of a file of the checkout, beside the helper scripts or above them, or of an installation."""
+    """The path of a file of the checkout or of an installation."""
     for folder in (".", "..", "../share/p25"):
         path = os.path.join(sys.path[0], folder, *names)
         if os.path.exists(path):
@@ -314,7 +337,7 @@ def beside(*names):
 
 
 def release():
-    """The release of which this program is."""
+    """The release."""
     path = beside("RELEASE")
     if path is None:
         return "p25, of a release that is not known"
@@ -323,14 +346,11 @@ def release():
 
 
 class Script(argparse.ArgumentParser):
-    """A helper script: its options, its input, its output and its end.
-
-    Its help is a text, whose first lines up to an empty one name its options.
-    """
+    """A helper script. The first lines of its help, up to an empty one, name its options."""
 
     def __init__(self, name, text):
         super().__init__(prog=name, add_help=False, allow_abbrev=False)
-        self.name, self.text = name, text
+        self.name, self.text, self.shared = name, text, ""
         self.caught = 0    # the signal that asked for an end
         self.number = 0    # the line that was read last
         if sys.stdout is None:
@@ -345,18 +365,26 @@ class Script(argparse.ArgumentParser):
 
     def has_tables(self):
         """Adds -c and -j."""
+        self.shared += TABLES
         forms = self.add_mutually_exclusive_group()
         forms.add_argument("-c", dest="form", action="store_const", const="csv")
         forms.add_argument("-j", dest="form", action="store_const", const="json")
 
     def has_clock(self):
         """Adds --begin."""
+        self.shared += TIMES
         self.add_argument("--begin")
+
+    def has_names(self):
+        """Adds -a."""
+        self.shared += NAMES
+        self.add_argument("-a", dest="names", action="append", default=[])
 
     def has_calls(self):
         """Adds the options that name groups and radios, and choose calls."""
+        self.has_names()
         self.has_clock()
-        self.add_argument("-a", dest="names", action="append", default=[])
+        self.shared += CHOICE
         self.add_argument("--group")
         self.add_argument("--radio")
         self.add_argument("--emergency", action="store_true")
@@ -366,14 +394,14 @@ class Script(argparse.ArgumentParser):
         self.fail(2, f"{message}: {self.name} -h tells more")
 
     def options(self, files=0):
-        """The options of the command, whose `files` are at most so many words without a dash."""
+        """The options, of which at most so many `files` have no dash."""
         words = sys.argv[1:]
         place = words.index("--") if "--" in words else len(words)
         words, after = words[:place], words[place + 1 :]
         for word in words:
             if word in ("-h", "--help"):
                 text, example, rest = self.text.partition("Example: ")
-                self.write(f"{text}{STATUSES}\n{example}{rest}")
+                self.write(f"{text}{self.shared and self.shared + chr(10)}{STATUSES}\n{example}{rest}")
                 self.end()
             if word == "--version":
                 self.write(f"{self.name}, {release()}\n")
@@ -396,14 +424,13 @@ class Script(argparse.ArgumentParser):
             self.fail(2, f"'{options.begin}' is no time with its zone, as {zones}")
 
     def names(self, options):
-        """The names of the files that -a tells, as FILE or NAC=FILE."""
+        """The names of the files of -a."""
         names = Names()
         for word in options.names:
             nac, path = re.fullmatch("(?:[$]?([0-9A-Fa-f]{3})=)?(.*)", word, re.DOTALL).groups()
             try:
-                names.read(path, nac.lower() if nac else None)
-            except OSError as fault:
-                self.fail(3, f"'{path}' cannot be read: {fault.strerror}")
+                with self.reads(path):
+                    names.read(path, nac.lower() if nac else None)
             except (ValueError, csv.Error) as fault:
                 self.fail(1, f"'{path}' is no file of names: {fault}")
         return names
@@ -433,7 +460,7 @@ class Script(argparse.ArgumentParser):
         os._exit(status)
 
     def refuse(self, of):
-        """Ends at a line that is none of those wanted."""
+        """Ends at a line of another kind."""
         self.fail(1, f"line {self.number} is none of {of}")
 
     def write(self, text):
@@ -444,26 +471,37 @@ class Script(argparse.ArgumentParser):
             self.fail(4, f"the output cannot be written: {fault.strerror}")
 
     def out(self, line):
-        """Prints a line. It is there at the latest once all input that is there was read."""
+        """Prints a line, at the latest once all input that came was read."""
         self.write(line + "\n")
 
-    def put(self, octets):
-        """Writes octets at once."""
+    def flush(self, octets=b""):
+        """Writes what was printed, and octets."""
         try:
+            sys.stdout.flush()
             sys.stdout.buffer.write(octets)
             sys.stdout.buffer.flush()
         except OSError as fault:
             self.fail(4, f"the output cannot be written: {fault.strerror}")
 
-    def flush(self):
-        """Writes what was printed."""
+    def row(self, form, names, values):
+        """Prints values as CSV or as JSON."""
+        self.out(csv_line(values) if form == "csv" else json_line(dict(zip(names, values))))
+
+    def wants_input(self):
+        """Ends if standard input is closed."""
+        if sys.stdin is None:
+            self.fail(3, "the input cannot be read: it is closed")
+
+    @contextlib.contextmanager
+    def reads(self, path):
+        """Ends if a file cannot be read."""
         try:
-            sys.stdout.flush()
+            yield
         except OSError as fault:
-            self.fail(4, f"the output cannot be written: {fault.strerror}")
+            self.fail(3, f"'{path}' cannot be read: {fault.strerror}")
 
     def catch(self):
-        """Has an interrupt and a wish to end set `caught`, and returns what can be read from then on."""
+        """Has an interrupt and SIGTERM set `caught`, and returns what can be read from then on."""
         wake, waked = os.pipe()
         os.set_blocking(waked, False)
 
@@ -488,19 +526,16 @@ class Script(argparse.ArgumentParser):
 
     def octets(self, count=262144):
         """The octets of standard input as they come."""
-        if sys.stdin is None:
-            self.fail(3, "the input cannot be read: it is closed")
+        self.wants_input()
         while chunk := self.read(0, count):
             yield chunk
 
     def lines(self, arrived=lambda lines: None):
-        """The lines of standard input as they come, live; `arrived` is given those that came at once.
+        """The lines of standard input as they come; `arrived` is given those that came at once.
 
-        An interrupt (ctrl-C) or a wish to end (SIGTERM) ends them: what is in the pipe by then is read still, until the
-        input ends or nothing comes for half a second.
+        An interrupt or SIGTERM ends them, once nothing comes for half a second.
         """
-        if sys.stdin is None:
-            self.fail(3, "the input cannot be read: it is closed")
+        self.wants_input()
         wake = self.catch()
         kept = []
         while True:
@@ -531,13 +566,13 @@ class Script(argparse.ArgumentParser):
             yield line
 
     def end(self):
-        """Ends with all written: 0, or what an interrupt asks for."""
+        """Ends with all written."""
         self.flush()
         os._exit(128 + self.caught if self.caught else 0)
 
 
 def arrivals(clock, parse):
-    """What `Script.lines` calls with the lines that came at once: they tell the clock how far the recording is. `parse` reads a line."""
+    """What `Script.lines` calls with lines that came at once, for the clock. `parse` reads a line."""
 
     def arrived(lines):
         spans = [(it.at, it.at + it.bits) for it in map(parse, (lines[0], lines[-1])) if it is not None]
@@ -548,7 +583,7 @@ def arrivals(clock, parse):
 
 
 def program():
-    """The path of p25: beside the helper scripts, at the top of their checkout, or in the path."""
+    """The path of p25."""
     here = os.path.dirname(os.path.realpath(sys.argv[0]))
     for path in (os.path.join(sys.path[0], "p25"), os.path.join(here, "..", "p25"), os.path.join(here, "p25")):
         if os.access(path, os.X_OK) and os.path.isfile(path):

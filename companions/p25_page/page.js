@@ -3,19 +3,14 @@
   const data = JSON.parse(document.getElementById("data").textContent);
   const at = (id) => document.getElementById(id);
 
-  // Makes an element: its attributes, and texts or elements in it.
-  const make = (name, attributes = {}, ...inside) => {
-    const element = document.createElement(name);
+  // Makes an element with attributes, and texts or elements in it: of the page, or of a drawing.
+  const filled = (element, attributes = {}, ...inside) => {
     for (const [key, value] of Object.entries(attributes)) element.setAttribute(key, value);
     element.append(...inside);
     return element;
   };
-  const draw = (name, attributes = {}, text = "") => {
-    const element = document.createElementNS("http://www.w3.org/2000/svg", name);
-    for (const [key, value] of Object.entries(attributes)) element.setAttribute(key, value);
-    if (text) element.textContent = text;
-    return element;
-  };
+  const make = (name, ...rest) => filled(document.createElement(name), ...rest);
+  const draw = (name, ...rest) => filled(document.createElementNS("http://www.w3.org/2000/svg", name), ...rest);
 
   // -- Times, in milliseconds from the first bit.
   const two = (number) => String(number).padStart(2, "0");
@@ -54,7 +49,7 @@
     `${timeText(call.begin, true)}, for ${secondsText(call.length)}: ${call.from} to ${call.to}` +
     `${call.alarm ? ", EMERGENCY" : ""}, ${call.cipher}; ${call.heard} of ${call.sent} voice units heard`;
 
-  // -- Tables, sorted and filtered. A row has its texts, what they are sorted by, and its element, made when it is shown.
+  // -- Tables, sorted and filtered. The element of a row is made when it is shown.
   class Table {
     constructor(table, name, rows, most) {
       this.table = table;
@@ -153,7 +148,7 @@
           const kind = columns[column][1] + (isFault ? " fault" : "");
           row.append(make("td", kind ? { class: kind } : {}, text));
         });
-        // Who speaks comes first, and an emergency before that: so much a phone shows.
+        // A phone shows the first columns.
         if (call.alarm) row.firstChild.prepend(make("span", { class: "badge" }, "EMERGENCY"), " ");
         return row;
       },
@@ -196,31 +191,25 @@
     const x = (time) => left + ((time - from) / (to - from)) * (right - left);
     const laneHeight = 22;
     const top = 8;
-    const lanesEnd = top + lanes.length * laneHeight;
-    const rateTop = lanesEnd + 26, rateHeight = 84;
+    const rateTop = top + lanes.length * laneHeight + 26, rateHeight = 84;
     const lossTop = rateTop + rateHeight + 30, lossHeight = 60;
     const bottom = lossTop + lossHeight;
     const height = bottom + 24;
     const label = `Calls from ${timeText(from)} to ${timeText(to)}, in ${lanes.length} lines. The table of calls has the same in words.`;
     const svg = draw("svg", { viewBox: `0 0 ${width} ${height}`, height, role: "img", tabindex: 0, "aria-label": label });
-    const defs = draw("defs");
-    const hatch = draw("pattern", { id: "hatch", width: 6, height: 6, patternUnits: "userSpaceOnUse", patternTransform: "rotate(45)" });
-    hatch.append(draw("rect", { width: 6, height: 6 }), draw("path", { d: "M1.5 0V6" }));
-    const clip = draw("clipPath", { id: "inside" });
-    clip.append(draw("rect", { x: left, y: 0, width: right - left, height }));
-    defs.append(hatch, clip);
-    svg.append(defs);
+    const hatch = { id: "hatch", width: 6, height: 6, patternUnits: "userSpaceOnUse", patternTransform: "rotate(45)" };
+    svg.append(draw("defs", {}, draw("pattern", hatch, draw("rect", { width: 6, height: 6 }), draw("path", { d: "M1.5 0V6" })),
+      draw("clipPath", { id: "inside" }, draw("rect", { x: left, y: 0, width: right - left, height }))));
 
     lanes.forEach((name, lane) => {
       const y = top + lane * laneHeight;
       svg.append(draw("rect", { class: "lane", x: left, y: y + 1, width: right - left, height: laneHeight - 2 }));
-      const text = draw("text", { class: "name", x: left - 8, y: y + 15, "text-anchor": "end" }, short(name, Math.floor((left - 10) / 7.2)));
-      text.append(draw("title", {}, name));
-      svg.append(text);
+      const text = short(name, Math.floor((left - 10) / 7.2));
+      svg.append(draw("text", { class: "name", x: left - 8, y: y + 15, "text-anchor": "end" }, text, draw("title", {}, name)));
     });
 
     const step = STEPS.find((each) => ((right - left) * each) / (to - from) >= 74) || STEPS[STEPS.length - 1];
-    // Ticks stand at whole steps of the clock where it is known.
+    // Ticks are at whole steps of the clock.
     const zero = data.begin === null ? 0 : (step - (data.begin % step)) % step;
     for (let time = zero + Math.ceil((from - zero) / step) * step; time <= to; time += step) {
       const place = x(time);
@@ -228,7 +217,7 @@
       if (place > left + 20 && place < right - 20) svg.append(draw("text", { class: "tick", x: place, y: bottom + 16, "text-anchor": "middle" }, tickText(time, step)));
     }
 
-    // Bars that would lie on one another are one; emergencies are drawn last.
+    // Bars that would overlap are one; emergencies are drawn last.
     const bars = draw("g", { "clip-path": "url(#inside)" });
     const last = new Map();
     const drawn = [];
@@ -250,15 +239,15 @@
     drawn.sort((a, b) => (a.kind === "alarm") - (b.kind === "alarm"));
     for (const bar of drawn) {
       const inset = bar.kind === "alarm" ? 1 : 4;
-      const rect = draw("rect", { class: `bar ${bar.kind}`, x: bar.begin, y: top + bar.lane * laneHeight + inset, width: bar.end - bar.begin, height: laneHeight - 2 * inset });
       const text = bar.calls.length === 1 ? callText(bar.calls[0]) : `${bar.calls.length} calls from ${timeText(bar.calls[0].begin)} on`;
-      rect.append(draw("title", {}, text));
+      const box = { x: bar.begin, y: top + bar.lane * laneHeight + inset, width: bar.end - bar.begin, height: laneHeight - 2 * inset };
+      const rect = draw("rect", { class: `bar ${bar.kind}`, ...box }, draw("title", {}, text));
       rect.addEventListener("click", () => { at("picked").textContent = text; });
       bars.append(rect);
     }
     svg.append(bars);
 
-    // What is counted of each slice, of which several make a column where there are many.
+    // Several slices make a column if there are many.
     const size = data.width * 1000;
     const many = Math.max(1, Math.ceil((3 * (to - from)) / size / (right - left)));
     const columnsOf = new Map();
@@ -283,9 +272,8 @@
       for (const [key, value] of values) {
         const begin = x(key * many * size), tall = (high * Math.min(value, full)) / full;
         const wide = Math.max(1, x((key + 1) * many * size) - begin - 0.5);
-        const rect = draw("rect", { class: kind, x: begin, y: y + high - tall, width: wide, height: tall });
-        rect.append(draw("title", {}, `${timeText(key * many * size)}: ${value.toFixed(2)} %`));
-        group.append(rect);
+        const title = draw("title", {}, `${timeText(key * many * size)}: ${value.toFixed(2)} %`);
+        group.append(draw("rect", { class: kind, x: begin, y: y + high - tall, width: wide, height: tall }, title));
       }
       svg.append(group);
       if (!values.length) svg.append(draw("text", { class: "tick", x: (left + right) / 2, y: y + high / 2, "text-anchor": "middle" }, "no call"));
@@ -294,7 +282,7 @@
     plot(narrow ? "Bit errors" : "Bit errors, of the bits checked in whole units", rateTop, rateHeight, "rate", ([looked, wrong]) => (looked ? (100 * wrong) / looked : null));
     plot(narrow ? "Broken or lost" : "Broken or lost, of the time within calls", lossTop, lossHeight, "loss", ([, , inCalls, missing]) => (inCalls ? (100 * missing) / inCalls : null));
 
-    // A stretch that is dragged over is shown larger.
+    // What is dragged over is shown larger.
     const place = (event) => {
       const box = svg.getBoundingClientRect();
       return Math.min(right, Math.max(left, ((event.clientX - box.left) * width) / box.width));
@@ -327,7 +315,8 @@
     at("chart").replaceChildren(svg);
   };
 
-  // Shows the time from one moment to another, a second at least.
+  // Shows a time, a second at least.
+  const buttons = document.querySelectorAll("[data-do]");
   const look = (from, to) => {
     const length = Math.min(whole[1], Math.max(1000, to - from));
     const begin = Math.min(whole[1] - length, Math.max(0, from + (to - from - length) / 2));
@@ -336,26 +325,21 @@
   };
   const turn = (action) => {
     const length = view[1] - view[0];
-    if (action === "in") look(view[0] + length / 4, view[1] - length / 4);
-    else if (action === "out") look(view[0] - length / 2, view[1] + length / 2);
-    else if (action === "earlier") look(view[0] - length / 2, view[1] - length / 2);
-    else if (action === "later") look(view[0] + length / 2, view[1] + length / 2);
-    else look(...whole);
+    const moves = { in: [0.25, -0.25], out: [-0.5, 0.5], earlier: [-0.5, -0.5], later: [0.5, 0.5] };
+    if (action === "all") look(...whole);
+    else look(...view.map((end, i) => end + moves[action][i] * length));
   };
   const refresh = () => {
     chart();
     at("range").textContent = `${timeText(view[0], false, isLong)} to ${timeText(view[1], false, isLong)}`;
-    for (const button of document.querySelectorAll("[data-do]")) {
-      const isAll = view[0] <= whole[0] && view[1] >= whole[1];
-      const name = button.dataset.do;
-      button.disabled = (isAll && name !== "in") || (name === "in" && view[1] - view[0] <= 1000)
-        || (name === "earlier" && view[0] <= 0) || (name === "later" && view[1] >= whole[1]);
-    }
+    const [isFirst, isLast] = [view[0] <= 0, view[1] >= whole[1]];
+    const isEnd = { in: view[1] - view[0] <= 1000, out: isFirst && isLast, earlier: isFirst, later: isLast, all: isFirst && isLast };
+    for (const button of buttons) button.disabled = isEnd[button.dataset.do];
     if (callTable) { callTable.most = callTable.step; callTable.show(); }
   };
   if (calls.length) {
     at("tools").hidden = false;
-    for (const button of document.querySelectorAll("[data-do]")) button.addEventListener("click", () => turn(button.dataset.do));
+    for (const button of buttons) button.addEventListener("click", () => turn(button.dataset.do));
     refresh();
     let wide = at("chart").clientWidth;
     new ResizeObserver(() => {
@@ -365,7 +349,7 @@
     at("time").hidden = true;
   }
 
-  // On paper all rows stand, as far as there is sense in it, the chart is as wide as the paper, and the words are explained.
+  // On paper are up to 2,000 rows, a chart as wide as it, and the words.
   const words = document.querySelector("details");
   let kept = null;
   addEventListener("beforeprint", () => {

@@ -1,7 +1,4 @@
-"""What the tests of the helper scripts share.
-
-The scripts and the proved program are in the path, and a shell in a folder of its own runs the commands of a test; the samples are links there.
-"""
+"""What the tests of the helper scripts share. A shell runs the commands of a test in a folder of its own, with links to the samples."""
 
 import itertools
 import os
@@ -72,7 +69,7 @@ class Room:
         return (self.path / name).read_bytes()
 
     def run(self, command, given=b"", **more):
-        """Runs a command of a shell, with its input, and returns the status, the output and the error."""
+        """Runs a command, and returns the status, the output and the error."""
         given = given.encode() if isinstance(given, str) else given
         ended = subprocess.run(["sh", "-c", command], cwd=self.path, input=given, capture_output=True, timeout=570, **more)
         return ended.returncode, ended.stdout, ended.stderr.decode()
@@ -104,7 +101,7 @@ def room(tmp_path):
 
 @pytest.fixture(scope="session")
 def mixed(tmp_path_factory):
-    """A recording with units of all kinds, calls, noise and damage, and its lines."""
+    """A recording with units of all kinds, and its lines."""
     room = Room(tmp_path_factory.mktemp("mixed"))
     octets = room.build(*UNITS) + b"".join(SAMPLES[name].read_bytes() for name in ("traffic.bin", "noise.bin", "damaged_call.bin"))
     return octets, room.octets("p25 show", octets)
@@ -130,7 +127,7 @@ def options_of(turns):
 
 
 def received(form, turns, octets, scale=1.0, offset=0.0):
-    """A recording as a receiver may write it: in a form, with the turns p, then s, then l."""
+    """A recording in a form of a receiver, with the turns p, then s, then l."""
     dibits = [octet >> shift & 3 for octet in octets for shift in (6, 4, 2, 0)]
     if "p" in turns:
         dibits = [(2, 3, 0, 1)[dibit] for dibit in dibits]
@@ -150,3 +147,26 @@ def received(form, turns, octets, scale=1.0, offset=0.0):
     if form == "bits":
         return "".join(f"{bits[place : place + 61]}\t\n" for place in range(0, len(bits), 61)).encode()
     return int(bits, 2).to_bytes(len(bits) // 8, "big")
+
+
+def lines_of_calls(calls, pairs, is_clear=False):
+    """The lines of p25 show of calls of four networks with so many pairs of voice units and as long pauses, some broken and lost units if not clear."""
+    at, lines = 0, []
+
+    def add(kind, bits, rest=None, fix=0):
+        nonlocal at
+        lines.append(f"{kind} at={at} bits={bits}" + (f" fix={fix} status={'1' * (bits // 72)} {rest}" if kind == "unit" else f" {rest}" if rest else ""))
+        at += bits
+
+    for call in range(calls):
+        nac, alg = ("293", "2a1", "f7e", "001")[call % 4], ("80", "80", "84")[call % 3]
+        lc = f"0000{128 if call % 97 == 5 else 0:02x}00{100 + call % 37:04x}{4097 + call % 211:06x}"
+        add("unit", 792, hdu(100, alg, nac=nac), call % 9)
+        for pair in range(pairs):
+            is_lost, is_broken = (not is_clear and (call + pair) % part == rest for part, rest in ((61, 7), (53, 3)))
+            add(*("gap", 1728) if is_lost else ("unit", 1728, ldu1(lc, nac), (call + pair) % 17))
+            add(*("broken", 1728, f"nac={nac} duid=a fields=encryption_sync,low_speed_1") if is_broken else ("unit", 1728, ldu2(alg, nac=nac), (call + pair) % 13))
+        add("unit", 432, tdulc(lc, nac))
+        for _ in range(1 + pairs * 3456 // 4096):
+            add("gap", 4096)
+    return "".join(f"{line}\n" for line in lines)

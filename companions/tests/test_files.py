@@ -94,16 +94,16 @@ NAMED = {
     "gzip": (gzip.compress(CALLS), "is packed with gzip: unpack it first"),
     "bzip2": (bz2.compress(CALLS), "is packed with bzip2"),
     "xz": (lzma.compress(CALLS), "is packed with xz"),
-    "WAV": (wav(sine("h", 8000)), "is a WAV file of 16-bit samples, 48000 a second"),
+    "WAV": (wav(sine("h", 8000)), "is a WAV file of 16-bit samples, 48000 a second: sound or a discriminator, of which no symbols are read"),
     "WAV with a false unit": (wav(noise(4000) + CALLS[:18] + noise(4000)), "is a WAV file of 16-bit samples"),
     "WAV of two channels": (wav(sine("h", 8000), 2), "is a WAV file of 16-bit samples of two channels, so perhaps IQ"),
     "IQ of 32-bit floats": (sine("f", 0.7), "looks like 32-bit floats, several for each symbol"),
     "IQ of octets": (sine("B", 90), "looks like octets without a sign"),
-    "16-bit samples": (sine("h", 8000), "looks like 16-bit samples, the lowest octet first"),
+    "16-bit samples": (sine("h", 8000), "looks like 16-bit samples, the lowest octet first: sound, IQ or a discriminator, of which no symbols are read"),
     "floats, highest octet first": (struct.pack(f">{len(SYMBOLS)}f", *SYMBOLS), "looks like 32-bit floats with the highest octet first"),
     "a dump with addresses": (b"".join(b"%08x: %s\n" % (place, CALLS[place : place + 16].hex(" ", 2).encode()) for place in range(0, 4096, 16)), "is a dump with addresses: xxd -r"),
     "words": (b"Lorem ipsum dolor sit amet, consetetur sadipscing elitr.\n" * 40, "is a text, but not of digits alone: octet 0 is 'L'"),
-    "noise": (noise(20000), "holds no bits of P25 Phase 1"),
+    "noise": (noise(20000), "holds no bits of P25 Phase 1 in any form that is known"),
     "a unit in noise": (noise(3000) + CALLS[:7] + noise(3000), "holds no bits of P25 Phase 1"),
     "zeros": (bytes(200000), "has the octet 00 alone"),
     "nothing": (b"", "is empty"),
@@ -112,20 +112,20 @@ NAMED = {
 
 @pytest.mark.parametrize("name", READ)
 def test_read(room, name):
+    """The first line is right, and its command reads the file."""
     octets, words = READ[name]
-    search = p25_guess.Search(str(room.path / room.put("made", octets)))
-    assert search.is_sure and search.best.words.strip() == words, [guess.line("made") for guess in search.guesses[:3]]
-    assert search.best.units == UNITS
-    commands = search.best.commands("made")
-    status, out, _ = room.run(f"{commands or 'cat made'} | p25 show")
+    status, out, _ = room.run(f"p25-guess {room.put('made', octets)}")
+    count, command = re.match(r" *(\d+) units .* others  (.*)", out.decode()).groups()
+    assert (status, count) == (0, str(UNITS)) and command.startswith(f"p25-octets {words} < made" if words != "octets" else "p25 show < made")
+    status, out, _ = room.run(command)
     assert (status, len(re.findall("^unit ", out.decode(), re.MULTILINE))) == (0, UNITS)
 
 
 @pytest.mark.parametrize("name", NAMED)
 def test_named(room, name):
     octets, words = NAMED[name]
-    search = p25_guess.Search(str(room.path / room.put("made", octets)))
-    assert not search.is_sure and words in search.why
+    status, _, told = room.run(f"p25-guess {room.put('made', octets)}")
+    assert status == 1 and told.splitlines()[-1].startswith(f"p25-guess: made {words}")
 
 
 def test_count():

@@ -1,6 +1,5 @@
 """p25-octets and p25-guess: the forms of receivers."""
 
-import gzip
 import math
 import os
 import re
@@ -74,7 +73,7 @@ def test_levels(room):
 
 @pytest.mark.parametrize("form, first", [("octets", 18), ("dibits", 80), ("digits", 80), ("bits", 153), ("floats", 1152), ("floats -a", 1152)])
 def test_live(room, form, first):
-    """The first line is there 0.2 s after the octets that decide it; the best of the tries of a minute counts, for the sake of busy machines."""
+    """The first line is there 0.2 s after the octets that decide it, in the best of the tries of a minute."""
     made = received(form.split()[0], "", SAMPLES["terminators.bin"].read_bytes())
     began, best = time.monotonic(), 9.0
     while best >= 0.2 and time.monotonic() < began + 60:
@@ -158,31 +157,11 @@ def test_guess_commands(room, make, command):
 
 
 def control_channel(room):
-    """Units whose identifier is 7: terminators whose identifier is changed into that codeword, and bits after them."""
+    """Units whose identifier is 7, made of terminators, and bits after them."""
     flips = "61,64,65,73-77,80,83,84,87,88,92,95-97,99,104-106,108,112"
     unit = room.octets(f"p25-flip {flips}", room.build("tdu nac=293"))
     noise = SAMPLES["noise.bin"].read_bytes()
     return b"".join(unit + noise[20 * place : 20 * place + 72] for place in range(20))
-
-
-def wav():
-    samples = struct.pack("<9000h", *(int(8000 * math.sin(place / 7)) for place in range(1, 9001)))
-    return b"RIFF" + struct.pack("<I", 18036) + b"WAVEfmt " + struct.pack("<IHHIIHH", 16, 1, 1, 48000, 96000, 2, 16) + b"data" + struct.pack("<I", 18000) + samples
-
-
-@pytest.mark.parametrize(
-    "octets, told",
-    [
-        (lambda: SAMPLES["noise.bin"].read_bytes(), "made holds no bits of P25 Phase 1 in any form that is known"),
-        (lambda: gzip.compress(CALLS), "made is packed with gzip: unpack it first"),
-        (wav, "made is a WAV file of 16-bit samples, 48000 a second: sound or a discriminator, of which no symbols are read"),
-        (lambda: wav()[44:], "made looks like 16-bit samples, the lowest octet first: sound, IQ or a discriminator, of which no symbols are read"),
-        (lambda: b"".join(received("floats", "", CALLS)[place : place + 4][::-1] for place in range(0, 16384, 4)), "made looks like 32-bit floats with the highest octet first"),
-    ],
-)
-def test_guess_what_is_none(room, octets, told):
-    lines, words = guessed(room, room.put("made", octets()), 1)
-    assert words[-1].startswith(f"p25-guess: {told}")
 
 
 def test_guess_logs_and_names(room):

@@ -59,7 +59,7 @@ def total(room, shown, words=""):
 
 @pytest.mark.parametrize("unit", UNITS)
 def test_bits_that_are_looked_at(room, unit):
-    """A copy of the unit for each of its bits, and this bit wrong: all are whole, and their fixes are the divisor for each."""
+    """Of a copy of the unit for each of its bits, with this bit wrong, all are whole, and their fixes are the divisor for each."""
     octets = room.build(unit)
     copies = b"".join((bits(octets) ^ 1 << place).to_bytes(len(octets), "big") for place in range(8 * len(octets)))
     ((_, units, looked, wrong, _, _),) = total(room, room.octets("p25 show", copies))
@@ -87,7 +87,7 @@ def test_rates(room, long, rate):
 
 
 def test_rate_of_fronts(room, long):
-    """With the recording, syncs and identifiers of all units count, as they came: near the truth also where half of the units do not read."""
+    """With the recording, syncs and identifiers of all units count, as they came."""
     for name in ("traffic.bin", "terminators.bin", "shifted.bin"):
         assert room.text(f"p25 show < {name} | p25-rate --recording {name}").count(" 0    0.000 %") >= 3
     room.put("long.bin", long)
@@ -95,16 +95,14 @@ def test_rate_of_fronts(room, long):
     everything, front = total(room, room.octets("p25 follow < damaged.bin | p25 show"), "--recording damaged.bin")
     assert int(front[1]) > 1.2 * int(everything[1])
     assert 7.4 < float(front[4]) < 8.4 and float(everything[4]) < 8
-    # Fades of half a second in which a fifth of the bits is wrong: the whole units alone are far too good.
+    # Fades of half a second with a BER of 20 %.
     octets = bytearray(b"".join(room.octets(f"p25-damage {place} {20 if place % 3 == 0 else 1}", long[600 * place : 600 * place + 600]) for place in range(60)))
     room.put("fades.bin", bytes(octets))
     everything, front = total(room, room.octets("p25 follow < fades.bin | p25 show"), "--recording fades.bin")
     truth = 100 * bin(bits(bytes(octets)) ^ bits(long[:36000])).count("1") / (8 * 36000)
     assert abs(float(front[4]) - truth) < 0.25 * abs(float(everything[4]) - truth)
-    # By time all of them are counted too.
     rows = [line.split(",") for line in room.lines("p25 follow < fades.bin | p25 show | p25-rate -t 7 -c --recording fades.bin")][1:]
     assert [sum(int(row[place]) for row in rows) for place in (11, 12)] == [int(front[1]), int(front[3])]
-    # Noise has none.
     room.put("more.bin", bytes(octets) + noise(1200 * 120))
     assert int(total(room, room.octets("p25 follow < more.bin | p25 show"), "--recording more.bin")[1][1]) < int(front[1]) + 3
 
@@ -125,8 +123,8 @@ def test_rate_by_time(room, long, seconds):
     assert len(text) == len(rows) + 1
 
 
-# A call of which one unit of six is lost, and a pause as long as ten.
 def loss(room):
+    """A call of which one unit of six is lost, and a pause as long as ten."""
     units = [*UNITS[:3], *UNITS[1:3], UNITS[4], 2160, UNITS[0], UNITS[1], 216, *UNITS[1:3], UNITS[4]]
     return room.octets("p25 show", room.build(*units))
 
@@ -300,7 +298,7 @@ def test_split_ends_anywhere(room, ragged, size):
 
 
 def test_split_ends_at_each_octet(room):
-    """Of units and of what lies between them; the voice of one ends with a part of a sync that goes on after it, which the unit covers."""
+    """The voice of a unit ends with a part of a sync that goes on after it."""
     shifted = SAMPLES["shifted.bin"].read_bytes()
     voice = room.build(f"ldu1 nac=293 lc={'0' * 18} lsd=0000 voice={'0' * 319}155d7", "tdu nac=293", status=3)[:216]
     room.put("made", bytes(4090) + shifted + bytes(9) + voice + b"\x5f\xf7\x7f\xf0" + bytes(8) + shifted + bytes(2000))
@@ -312,7 +310,7 @@ def test_split_ends_at_each_octet(room):
 
 @pytest.mark.parametrize("before", [0, 5000])
 def test_split_live(room, before):
-    """A line is there while the pipe is open, in the second chunk too, and an interrupt shows what is left."""
+    """A line is there while the pipe is open, and an interrupt shows what is left."""
     run = subprocess.Popen(["p25-split", "-", "4096"], stdin=subprocess.PIPE, stdout=subprocess.PIPE, bufsize=0)
     run.stdin.write(bytes(before) + SAMPLES["call.bin"].read_bytes() + SAMPLES["call.bin"].read_bytes()[:50])
     lines = b""
@@ -342,7 +340,7 @@ def test_split_of_what_is_longer_than_p25_reads(room):
 
 
 def test_a_day_takes_a_minute_and_100_mb(room):
-    """A twentieth of a day of lines of calls, one after the other, takes a twentieth of a minute of a processor, and no more memory."""
+    """A twentieth of a day takes a twentieth of a minute of a processor, and no more memory."""
     room.put("some.bin", 900 * CALLS)
     before = os.times()
     room.octets("p25-split some.bin > lines; p25-talkers -c < lines > talkers")

@@ -1,4 +1,4 @@
-"""p25-page: the page of samples and of recordings that are made here, as tidy checks it and as Chromium shows it.
+"""p25-page: its page, as tidy checks it and as Chromium shows it.
 
 With P25_KEEP=FOLDER in the environment pages and pictures stay there.
 """
@@ -12,7 +12,7 @@ import subprocess
 import urllib.request
 
 import pytest
-from conftest import SAMPLES, ldu1, need
+from conftest import SAMPLES, ldu1, lines_of_calls, need
 from test_talkers import EMERGENCY
 
 TRAFFIC = SAMPLES["traffic.bin"].read_bytes()
@@ -21,7 +21,7 @@ BEGUN = "--begin 2026-11-28T08:00:00+01:00"
 
 
 def page(room, name, words="", given=b"", told=""):
-    """Makes a page, with which tidy finds no fault and which loads nothing, and returns where it is and its text."""
+    """Returns the path and the text of a page, with which tidy finds no fault and which loads nothing."""
     need("tidy")
     path = os.path.join(KEEP or room.path, f"{name}.html")
     status, text, error = room.run(f"p25-page {words}", given)
@@ -71,7 +71,7 @@ class Browser:
         self.command("Emulation.setEmulatedMedia", features=[{"name": "prefers-color-scheme", "value": scheme}])
 
     def processor(self):
-        """Answers how many seconds of a processor the browser has taken, with all its processes."""
+        """Returns the seconds of a processor that the browser has taken, with all its processes."""
         parents, ticks = {}, {}
         for name in filter(str.isdigit, os.listdir("/proc")):
             try:
@@ -119,7 +119,7 @@ class Browser:
             file.write(base64.b64decode(taken["data"]))
 
     def requests(self):
-        """Answers what was asked for, but the page itself."""
+        """Returns what was requested beside the page."""
         urls = []
         for entry in self.log("performance"):
             message = json.loads(entry["message"])["message"]
@@ -133,41 +133,6 @@ class Browser:
         finally:
             self.driver.terminate()
             self.driver.wait()
-
-
-def lines_of_a_day(calls, seconds, bad_names=False):
-    """Gives the lines of show of so many calls of so many seconds, one after the other with as much pause, of four networks."""
-    at, voice, count = 0, "0" * 324, 0
-    pieces = []
-
-    def unit(kind, bits, rest, nac, fix=0):
-        nonlocal at
-        pieces.append(f"unit at={at} bits={bits} fix={fix} status={'1' * (bits // 72)} {kind} nac={nac} {rest}")
-        at += bits
-
-    for call in range(calls):
-        nac = ("293", "2a1", "f7e", "001")[call % 4]
-        lc = f"0000{128 if call % 97 == 5 else 0:02x}00{100 + call % 37:04x}{4097 + call % 211:06x}"
-        alg = ("80", "80", "84")[call % 3]
-        unit("hdu", 792, f"mi={'0' * 18} mfid=00 algid={alg} kid=0000 tgid=0064", nac, call % 9)
-        for pair in range(max(1, int(seconds / 0.36))):
-            if (call + pair) % 61 == 7:
-                pieces.append(f"gap at={at} bits=1728")
-                at += 1728
-            else:
-                unit("ldu1", 1728, f"lc={lc} lsd=0000 voice={voice}", nac, (call + pair) % 17)
-            if (call + pair) % 53 == 3:
-                pieces.append(f"broken at={at} bits=1728 nac={nac} duid=a fields=encryption_sync,low_speed_1")
-                at += 1728
-            else:
-                unit("ldu2", 1728, f"mi={'0' * 18} algid={alg} kid=0000 lsd=0000 voice={voice}", nac, (call + pair) % 13)
-        unit("tdulc", 432, f"lc={lc}", nac)
-        pause = int(seconds * 9600)
-        while pause > 0:
-            pieces.append(f"gap at={at} bits={min(4096, pause)}")
-            at += min(4096, pause)
-            pause -= 4096
-    return ("\n".join(pieces) + "\n").encode()
 
 
 @pytest.fixture(scope="module")
@@ -193,7 +158,7 @@ def test_two_radios_in_one_run(room):
 
 
 def test_honest_numbers(room):
-    """What is known of bit errors is said of whole units, beside the share of the others, with the odds that WEAK.md measured."""
+    """Bit errors are those of whole units, beside the share of the others, with the odds of WEAK.md."""
     room.put("poor.bin", room.octets("p25-damage 3 7 < traffic.bin"))
     reception = summary(page(room, "poor", "poor.bin")[1])[-1]
     assert re.fullmatch(
@@ -227,7 +192,7 @@ def test_numbers(room):
     assert "{:,} whole, {:,} broken, {:,} syncs".format(*counts) in text
     lost, sent = (sum(int(row[name]) for row in rows) for name in ("lost", "sent"))
     assert f"of {sent:,} voice units" in text and f"and {lost:,} were not heard (lost)" in text
-    # The slices have all bits looked at and all bit errors of the calls, and what is in no whole unit within them.
+    # The slices together have what the calls have.
     sums = [sum(column) for column in zip(*(row[1:] for row in data["slices"]))]
     places = [(int(at), int(at) + int(bits)) for at, bits in re.findall(r"call at=(\d+) bits=(\d+)", room.text("p25 calls", damaged))]
     units = [(int(at), int(bits)) for at, bits in re.findall(r"^unit at=(\d+) bits=(\d+)", lines, re.M)]
@@ -257,7 +222,7 @@ def test_escape(room, browser):
 
 @pytest.fixture
 def traffic(room):
-    """The page of a sample; it is the same of its lines, of a file of lines, and of the recording."""
+    """The page of a sample, the same of its lines, of a file of lines, and of the recording."""
     lines = room.put("traffic.show", room.octets("p25 show < traffic.bin"))
     pages = [page(room, f"traffic {place}", f"{BEGUN} {words}", given)
              for place, (words, given) in enumerate((("--recording traffic.bin", room.get(lines)), (lines, b""), ("traffic.bin", b"")))]
@@ -297,7 +262,7 @@ def test_acts(browser, traffic):
     assert browser.texts(times) == ["08:00:00.0", "08:00:01.7", "08:00:02.9", "08:00:03.9"]
     assert browser.texts("#emergencies td") == ["radio 4097", "group 100", "2026-11-28 08:00:03", "0.8 s", "2a1", "clear"]
     assert browser.texts("#calls td:nth-child(6)") == ["clear", "AES-256, key 0123", "clear", "clear"]
-    # Sorted by clicks and by the keyboard; a screen reader is told.
+    # Sorted by clicks and by the keyboard.
     for lengths in (["1.2 s", "0.8 s", "0.7 s", "0.5 s"], ["0.5 s", "0.7 s", "0.8 s", "1.2 s"]):
         browser.click("#calls th:nth-child(4) button")
         assert browser.texts("#calls td:nth-child(4)") == lengths
@@ -316,7 +281,7 @@ def test_acts(browser, traffic):
     browser.keys("#filter-calls", "\ue003" * 20)
     browser.keys("#filter-talkers", "4098")
     assert browser.texts("#talkers td:nth-child(1)") == ["4098"]
-    # The chart: bars, a click, zoom by button, by the keyboard and by dragging; the table follows.
+    # Bars, a click, zoom by button, by the keyboard and by dragging.
     assert browser.run("return [...document.querySelectorAll('.bar')].map(e => e.getAttribute('class'))") == ["bar clear", "bar secret", "bar clear", "bar alarm"]
     browser.click(".bar.alarm")
     assert browser.texts("#picked") == ["08:00:03.9, for 0.8 s: radio 4097 to group 100, EMERGENCY, clear; 4 of 4 voice units heard"]
@@ -385,7 +350,7 @@ def test_names_with_commas_and_a_filter(room, browser):
 @pytest.mark.parametrize("calls, seconds", [(2000, 21.0), (60000, 0.7)])
 def test_day(room, browser, calls, seconds):
     """A day of 2,000 calls, and one of more than are listed: at most 2 MB, and quick in the browser."""
-    path, text = page(room, "day", "--begin 2026-11-28T00:00:00Z", lines_of_a_day(calls, seconds))
+    path, text = page(room, "day", "--begin 2026-11-28T00:00:00Z", lines_of_calls(calls, max(1, int(seconds / 0.36))))
     assert len(text.encode()) <= 2_000_000 and f"{calls:,} calls" in text
     browser.size(1400, 900)
     begun = browser.processor()

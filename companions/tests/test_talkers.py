@@ -268,7 +268,7 @@ def time_of(line):
 
 
 def test_now_is_the_first_bit_and_silence_counts(room):
-    """The first bit comes two seconds after the script, and three seconds of silence are left out between two calls."""
+    """The first bit comes two seconds after the script, and three seconds are left out between two calls."""
     first, second = (room.octets("p25 show", room.build(hdu(100), *pairs(3, lc), tdulc(lc))) for lc in (A, B))
     second = b"".join(b"%s at=%d %s\n" % (kind, int(at[3:]) + 11592, rest) for kind, at, rest in (line.split(b" ", 2) for line in second.splitlines()))
     live = Live(room, "p25-talkers --begin now")
@@ -309,7 +309,7 @@ def test_live_lines(room):
 @pytest.mark.parametrize("pipe", ["p25 show | p25-talkers", "p25-split - | p25-talkers", "p25-split - | p25-calls -v | p25-talkers"])
 def test_interrupt_of_a_pipe(room, pipe):
     octets = SAMPLES["traffic.bin"].read_bytes()[:747]
-    # How long the pipe takes to begin and to read this, on a machine as busy as it is.
+    # How long the pipe takes, on a machine as busy as it is.
     began = time.monotonic()
     room.octets(pipe, octets)
     took = time.monotonic() - began
@@ -397,7 +397,7 @@ def test_calls_of_samples(room, name):
 
 
 def test_calls_of_damaged_recordings(room, mixed):
-    """Of hundreds, one after the other, the calls are those of p25, also by -p, by chunks of p25-split, and after -v."""
+    """The calls of hundreds are those of p25, also by -p, by chunks of p25-split, and after -v."""
     some = room.put("some.bin", mixed[0] + SAMPLES["shifted.bin"].read_bytes() + SAMPLES["traffic.bin"].read_bytes())
     calls = room.put("all.calls", b"")
     room.run(f"for seed in $(seq 1 20); do for rate in 0.5 2 4 6 8 10 13; do p25-damage $seed $rate < {some} > made; p25 show < made >> shown; p25 calls < made | sed '$d' >> {calls}; done; done")
