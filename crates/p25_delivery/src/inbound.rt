@@ -48,7 +48,7 @@ impl Inbound {
     }
 
     /// Reserves capacity for 1 to 16 more calls. `AllocError` is returned if and only if the allocation fails, which
-    /// can happen only if there was no such capacity; the state and the capacity are unchanged.
+    /// can happen only if there was no such capacity; the state is unchanged, and no capacity is lost.
     pub fn reserve(&mut self, calls: u32) -> Result<(), AllocError>
         requires some { 0 < calls }
         requires most { calls ≤ 16 }

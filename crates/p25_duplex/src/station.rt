@@ -46,7 +46,7 @@ impl Station {
     }
 
     // Reserves capacity for one more step. `AllocError` is returned if the allocation fails, which can happen only if
-    // no capacity was left; the station and its capacity are unchanged.
+    // no capacity was left; the station is unchanged, and no capacity is lost.
     pub(crate) fn reserve(&mut self) -> Result<(), AllocError>
         ensures state { self.new.state ≡ self.old.state }
         ensures spare { self.old.spare ≤ self.new.spare }

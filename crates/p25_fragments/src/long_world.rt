@@ -113,7 +113,7 @@ impl LongWorld {
 
     /// Reserves capacity for 1 to 8 more steps: for each, two steps of the inner world, one long message in each list
     /// and one mark. `AllocError` is returned if the allocation fails, which can happen only if there was no such
-    /// capacity; the world and its capacity are unchanged.
+    /// capacity; the world is unchanged, and no capacity is lost.
     pub fn reserve(&mut self, steps: u32) -> Result<(), AllocError>
         requires some { 0 < steps }
         requires most { steps ≤ 8 }

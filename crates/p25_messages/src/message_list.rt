@@ -73,7 +73,7 @@ impl<const MOST: usize> MessageListOf<MOST> {
     }
 
     /// Reserves capacity for 1 to 16 more messages. `AllocError` is returned if the allocation fails, which can happen
-    /// only if there was no such capacity; the messages and the capacity are unchanged.
+    /// only if there was no such capacity; the messages are unchanged, and no capacity is lost.
     pub fn reserve(&mut self, messages: u32) -> Result<(), AllocError>
         requires some { 0 < messages }
         requires most { messages ≤ 16 }

@@ -102,7 +102,7 @@ impl World {
     }
 
     /// Reserves capacity for 1 to 16 more steps. `AllocError` is returned if the allocation fails, which can happen
-    /// only if there was no such capacity; the world and its capacity are unchanged.
+    /// only if there was no such capacity; the world is unchanged, and no capacity is lost.
     pub fn reserve(&mut self, steps: u32) -> Result<(), AllocError>
         requires some { 0 < steps }
         requires most { steps ≤ 16 }
