@@ -3,9 +3,9 @@ use Rattle.std.proofs.Common.{◌≡◌, ℕ, ◌+◌, ◌-◌, ◌<◌, ◌≤�
 use Rattle.std.proofs.{Math.Seq.{take-add}, lemmas.List.{take-append-drop, take-append-le, drop-append-le, drop-drop, length-take-le, take_at, drop_at}}
 use Rattle.p25_units.specs.{Items.{covered, place_of, unit_item_of}, declared.item.Item.{Item}}
 use Rattle.p25_units.proofs.ItemsLaws.{place_of-unit_item_of}
-use Rattle.p25_stream.specs.{Items.{first_item, items_of}, Written.{written}}
+use Rattle.p25_stream.specs.{Items.{items_of}, Written.{written}}
 use Rattle.p25_stream.proofs.{ItemsLaws.{place_of-first_item}, WrittenLaws.{written-cons, written-nil}}
-use Rattle.p25_follow.specs.{Chains.{chain_by, with_front}, Expected.{kind_length}, Followed.{follow_of, followed_by, is_rest, unit_name}, FollowedUnits.{units_by, written_units}, Steps.{step_of}}
+use Rattle.p25_follow.specs.{Chains.{chain_by, with_front}, Expected.{kind_length}, Followed.{follow_of, followed_by, is_rest, unit_name}, FollowedUnits.{units_by, written_units}}
 use Rattle.p25_follow.specs.StretchLaws.{units_among}
 use Rattle.p25_follow.proofs.{ChainLaws.{along-chain}, FollowingLaws.{Starts, along-items, followed-end, followed-rest, followed-unit}, LengthLaws.{length-chain_of}}
 use Rattle.p25_follow.proofs.{AfterUnitLaws.{Sound, none-sound, sound-some, some-sound, unit-sound}, FoundLaws.{written-found}}

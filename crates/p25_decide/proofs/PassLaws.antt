@@ -5,7 +5,7 @@ use Rattle.p25_units.specs.{Items.{covered}, declared.item.Item.{Item}}
 use Rattle.p25_stream.specs.Items.{items_of}
 use Rattle.p25_follow.specs.{Chains.{settled_of}, Expected.{kind_length}, Followed.{is_rest, unit_name}, Following.{Follow, behind_item, follow, fresh_follow, left_of}, Steps.{step_of}}
 use Rattle.p25_follow.proofs.{AfterUnitLaws.{Sound, none-sound, some-sound, sound-some, unit-sound}, ChainLaws.{left_of-none, left_of-step, left_of-stop, left_of-waits}}
-use Rattle.p25_follow.proofs.{FollowingLaws.{Starts, starts-of}, StepLaws.{step_of-there}}
+use Rattle.p25_follow.proofs.{FollowingLaws.{starts-of}, StepLaws.{step_of-there}}
 use Rattle.p25_decide.specs.{DecidedFollowing.{before_item, changed_by, own_item, settled_over}, DecidedStretches.{chain_over, stretches_over}}
 use Rattle.p25_decide.proofs.{OverLaws.{over-end, over-rest, over-unit}, SettledLaws.{chain-over-settles, length-settled}}
 

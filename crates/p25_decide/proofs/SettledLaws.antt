@@ -1,15 +1,14 @@
 -- One pass decides: the settled bits of a stretch come first, with their units changed, whatever bits come after them; and so item by item.
-use Rattle.std.proofs.Common.{◌≡◌, ℕ, zero, suc, ◌+◌, ◌-◌, ◌<◌, ◌≤◌, ◌||◌, Bool, true, false, nat_le, inl, inr, List, [], ◌∷◌, ◌++◌, length, take, drop, Option, Some, None, refl, ap, ap₂, sym, subst, ◌∙◌, arith, append_assoc, append-nil, length-append, length-drop}
-use Rattle.std.proofs.lemmas.{Bool.{cases_Bool, cases_lt, le-leb, lt-leb}, List.{take-append-le, drop-append-le, length-take-le, take_at, drop_at}}
+use Rattle.std.proofs.Common.{◌≡◌, ℕ, zero, suc, ◌+◌, ◌<◌, ◌≤◌, ◌||◌, Bool, true, false, nat_le, inl, inr, List, [], ◌∷◌, ◌++◌, length, take, drop, Option, Some, None, refl, ap, ap₂, sym, ◌∙◌, arith, append_assoc, append-nil, length-append, length-drop}
+use Rattle.std.proofs.lemmas.{Bool.{cases_lt, le-leb, lt-leb}, List.{take-append-le, drop-append-le, length-take-le, take_at, drop_at}}
 use Rattle.p25_units.specs.{Items.{covered, place_of, unit_item_of}, declared.item.Item.{Item}}
 use Rattle.p25_units.proofs.ItemsLaws.{place_of-unit_item_of}
-use Rattle.p25_stream.specs.Items.{items_of}
-use Rattle.p25_follow.specs.{Chains.{chain_by, chain_of, settled_of, with_front}, Expected.{kind_length}, Followed.{is_rest, unit_name}, FollowedUnits.{units_step, written_units, written_units_in}}
-use Rattle.p25_follow.specs.{Following.{Follow, behind_item, follow, fresh_follow, left_of}, Steps.{step_of}}
-use Rattle.p25_follow.proofs.{AfterUnitLaws.{Sound, none-sound, sound-some, some-sound, unit-sound}, ChainLaws.{chain_by-none, chain_by-step, chain_by-stop, chain_by-waits, chain-settles, left_of-none, left_of-step, left_of-stop, left_of-waits}}
-use Rattle.p25_follow.proofs.{FollowingLaws.{Starts, along-items}, LengthLaws.{length-chain_of, length-with_front}, StepLaws.{step_of-append, step_of-there}, WrittenUnitsLaws.{written-step}}
-use Rattle.p25_decide.specs.{DecidedFollowing.{before_item, changed_by, own_item, settled_over, settled_units_in}, DecidedStretches.{chain_over, over_units, stretches_over}}
-use Rattle.p25_decide.proofs.OverLaws.{covers-written, over-end, over-first, over-rest, over-unit}
+use Rattle.p25_follow.specs.{Chains.{chain_by, settled_of, with_front}, Expected.{kind_length}, FollowedUnits.{units_step, written_units, written_units_in}}
+use Rattle.p25_follow.specs.{Following.{left_of}, Steps.{step_of}}
+use Rattle.p25_follow.proofs.{AfterUnitLaws.{Sound, sound-some, some-sound}, ChainLaws.{chain_by-none, chain_by-step, chain_by-stop, chain_by-waits, chain-settles, left_of-none, left_of-step, left_of-stop, left_of-waits}}
+use Rattle.p25_follow.proofs.{LengthLaws.{length-chain_of, length-with_front}, StepLaws.{step_of-append, step_of-there}, WrittenUnitsLaws.{written-step}}
+use Rattle.p25_decide.specs.{DecidedFollowing.{settled_over, settled_units_in}, DecidedStretches.{chain_over, over_units}}
+use Rattle.p25_decide.proofs.OverLaws.{covers-written, over-first}
 
 -- as many bits as there are: those that are settled, and those that are left
 pub length-settled : (before : Option (ℕ × ℕ)) (bits : List Bool) → length (settled_of before bits) + length (left_of before bits).stretch ≡ length bits
