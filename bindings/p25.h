@@ -16,7 +16,7 @@
    - a bool is true or false: as an octet, 1 or 0;
    - while a call runs no thread writes what it reads, and none reads or writes what it writes.
    A call checks all else itself, and answers by one of the numbers named below. That it takes no memory, keeps nothing, and calls
-   nothing but memcpy and memset, so that calls from several threads on different octets do not meet, is looked at by a test, and not proved.
+   nothing but memcpy, memmove, memset and memcmp, so that calls from several threads on different octets do not meet, is looked at by a test, and not proved.
 
    Stack, as stack.c measured it on x86-64 over recordings of all kinds of units: p25_follower_take takes up to 54,000 octets; the calls
    that build, repair, bridge or relay a unit, and p25_soften, 47,000; those that tell items, and p25_unit_fields, 38,000; p25_packet_read,
@@ -36,7 +36,8 @@ extern "C" {
 uint32_t p25_version(void);
 
 /* The release of this header, and whether a library has all that it declares: one of the same first number, and no earlier one. A program
-   that may meet another library than it was built with asks so once, at its start. */
+   that may meet another library than it was built with asks so once, at its start. Every struct of this header keeps its size and its members
+   while the first number and the soname stay. */
 #define P25_VERSION UINT32_C(10000)
 #define P25_VERSION_FITS() (p25_version() / 10000 == P25_VERSION / 10000 && p25_version() >= P25_VERSION)
 
@@ -212,7 +213,10 @@ void p25_follower_begin(p25_follower *follower);
 
    Answers how many octets it wrote, at most P25_FOLLOW_ROOM; or the first of these that applies, and then *follower and `into` stay:
    P25_OUTSIDE, where the item does not begin where the one before it ended, its numbers are those of no item, the octets lack a bit of it,
-   or the numbers of *follower fit none, which does not happen to one that these calls set; or P25_NO_ROOM. */
+   or the numbers of *follower fit none; or P25_NO_ROOM. The numbers are those of no item if its kind is none of the five; if of a unit or a
+   broken one the nac is above 4095, the duid above 15, or the bits are fewer than 144 or no multiple of 72; or if a nounit or a gap has more
+   than 4,096 bits. Numbers of *follower fit none if stretch is 6,912 or more, or above 0 without a unit, nac is above 4095, duid above 15,
+   waits above 7, or waiting has more bits. Nothing else is looked at: a gap of no bits, or a unit of a duid that is not read, is taken. */
 int32_t p25_follower_take(p25_follower *follower, const uint8_t *octets, size_t n, uint64_t begin, const p25_item *item, uint8_t *into,
                           size_t room);
 
@@ -221,7 +225,8 @@ int32_t p25_follower_take(p25_follower *follower, const uint8_t *octets, size_t 
 int32_t p25_follower_finish(p25_follower *follower, uint8_t *into, size_t room);
 
 /* Writes what `p25 relay` writes in place of the item that begins at bit `from` of a recording, of which octets are given as to
-   p25_next_item: of a whole unit what p25_bridge_at writes; of a broken one its bits, with sync and identifier under the network access
+   p25_next_item. They have to decide the item, as they do once p25_next_item or p25_stream_next has told it: the call takes them for all of the
+   recording, and a unit of which bits are missing comes as it was, under its old access code. Of a whole unit what p25_bridge_at writes; of a broken one its bits, with sync and identifier under the network access
    code (NAC) nac, 0 to 4095, and the status symbol, 0 to 3, everywhere; of all else its bits as they are. It is as many bits as the item
    covers; after the last one the octet is filled by 0. Answers how many octets it wrote, at most 3,240, and 0 where no item is left; or,
    in this order, P25_WRONG_NAC, P25_WRONG_STATUS, P25_OUTSIDE or P25_NO_ROOM, and then writes nothing. */
@@ -378,11 +383,11 @@ typedef struct p25_packet {
     uint8_t full;               /* the full message flag */
     uint8_t blocks;             /* the number of blocks to follow, 0 to 127 */
     uint8_t pad;                /* the number of pad octets, 0 to 31 */
-    uint8_t syn;                /* of a confirmed packet the flag Syn */
-    uint8_t number;             /* of a confirmed packet N(S), 0 to 7 */
-    uint8_t response_class;     /* of a response its class, 0 to 3 */
-    uint8_t response_type;      /* and its type, 0 to 7 */
-    uint8_t response_status;    /* and its status, 0 to 7 */
+    uint8_t syn;                /* the first bit of octet 8 of the header, whatever the format: of a confirmed packet the flag Syn */
+    uint8_t number;             /* the next three bits of octet 8, whatever the format: of a confirmed packet N(S), 0 to 7 */
+    uint8_t response_class;     /* the first two bits of octet 1, whatever the format: of a response its class, 0 to 3 */
+    uint8_t response_type;      /* the next three bits of octet 1, whatever the format: of a response its type, 0 to 7 */
+    uint8_t response_status;    /* the last three bits of octet 1, whatever the format: of a response its status, 0 to 7 */
     uint8_t bad;                /* of a confirmed packet how many blocks fail */
     uint8_t good[127];          /* of a confirmed packet for each block whether its check (CRC-9) agrees */
     uint8_t serials[127];       /* and its serial number, 0 to 127, where it does */
@@ -399,8 +404,8 @@ enum {
 };
 
 /* Sets *packet to the packet (PDU) of the unit that begins at bit `from` of a recording, of which octets are given as to p25_next_item,
-   and answers how many of its blocks fail: 0 of a whole unit, and more of a broken one whose blocks fail. What its kind of packet
-   has not is 0. Answers P25_OUTSIDE as p25_next_item does; P25_NO_UNIT where no unit of a packet begins there, since its sync, its
+   and answers how many of its blocks fail: 0 of a whole unit, and more of a broken one whose blocks fail. The members bad, good and
+   serials of a packet that is not confirmed are 0. Answers P25_OUTSIDE as p25_next_item does; P25_NO_UNIT where no unit of a packet begins there, since its sync, its
    identifier or its DUID is another or fewer than 360 bits are left; or one of the numbers above. *packet stays then. */
 int32_t p25_packet_read(const uint8_t *octets, size_t n, uint64_t begin, uint64_t from, p25_packet *packet);
 
@@ -414,7 +419,9 @@ int32_t p25_build_packet(const p25_packet *packet, uint8_t status, uint8_t *octe
 /* Names of answers --------------------------------------------------------------------------------------------------------- */
 
 /* Answers the word of an answer below 0 of the calls above: "outside", "room", "unit" and so on, as the errors of the Python package have
-   it; "" where there is none. A program prints it: fprintf(stderr, "%s\n", p25_answer_name(answer)). It stands in this header alone. */
+   it; "" where there is none. A program prints it: fprintf(stderr, "%s\n", p25_answer_name(answer)). It stands in this header alone, and not where
+   P25_NO_INLINE is defined, as for a tool that reads the header and is no compiler. */
+#ifndef P25_NO_INLINE
 static inline const char *p25_answer_name(int32_t answer) {
     switch (answer) {
         case P25_OUTSIDE: return "outside";
@@ -438,6 +445,7 @@ static inline const char *p25_answer_name(int32_t answer) {
         default: return "";
     }
 }
+#endif
 
 /* Code words ---------------------------------------------------------------------------------------------------------------- */
 
