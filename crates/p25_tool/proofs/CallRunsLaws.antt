@@ -17,7 +17,7 @@ use Rattle.p25_tool.specs.{declared.outcome.Outcome.TheVariants.{Done as DoneOut
 use Rattle.p25_tool.specs.{Outputs.{CanWantMemory, command_future}, Runs.{Ran, answer_of}, Recorded.{IsRecording}, RecordedRuns.{HasWrittenUnits, IsUnitCommand}, Words.{command_of}}
 use Rattle.p25_tool.specs.Scripts.{HasDuplexRun, HasLongRun, HasRun, IsDuplexScriptOf, IsLongScriptOf, IsScriptOf}
 use Rattle.p25_stream.specs.Arrivals.{Arrival}
-use Rattle.p25_tool.proofs.{RecordedRunsLaws.{HasFitCode, command-fit, units-run}, RunsLaws.{answer-without-faults, memory-command}, ScriptsLaws.{duplex-script-run, long-script-run, script-run}}
+use Rattle.p25_tool.proofs.{RecordedRunsLaws.{command-fit, units-run}, RunsLaws.{answer-without-faults, memory-command}, ScriptsLaws.{duplex-script-run, long-script-run, script-run}}
 
 -- the run of a command that reads, by what it is named and a future that is its own
 pub alike-run : {P : Type 0} (moves : P → List Event → P → Type 0) (first last : P) (f : Future) (named command : Command) (end : FilterEnd)
@@ -164,7 +164,9 @@ module _ (told left first last : Option (List ℕ)) (events : List Event) (outco
     recorded = λ command arrivals input same units is recorded few no_read no_write.
         let run = run-of command same in
         units-run arrivals input recorded command told left first last
-        (subst (λ named. IfSome named HasFitCode) same (command-fit words)) units few is run.end outcome
+        (λ nac status.
+        let fit = command-fit nac status words in
+        ((λ is. fit.0 (same ∙ ap (λ (c : Command). Some c) is)), (λ is. fit.1 (same ∙ ap (λ (c : Command). Some c) is)))) units few is run.end outcome
         run.outcome_is (command-filtered command run) (command-complete command run input is no_read no_write);
     read_fault = call-read_fault (command_of words) call;
     write_fault = call-write_fault (command_of words) call;

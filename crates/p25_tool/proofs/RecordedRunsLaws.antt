@@ -1,6 +1,6 @@
 -- A recording of data units within the correction radius: a command that works on data units ends as Done, with the output of its law of recordings.
 use Rattle.std.proofs.Common.{◌≡◌, ℕ, ◌<◌, ◌≤◌, Bool, true, false, cond, nat_eq, List, [], ◌∷◌, length, codes, Option, Some, None, ◌⊎◌, inl, inr, refl, ap, sym, subst, ◌∙◌, arith}
-use Rattle.std.specs.{Prelude.{IfSome, option_map}, Str.{bytes_eq}}
+use Rattle.std.specs.{Prelude.{option_map}, Str.{bytes_eq}}
 use Rattle.p25_status.specs.declared.symbols.Status.{Status}
 use Rattle.p25_text.specs.Values.{nac_in}
 use Rattle.p25_text.proofs.ValueLaws.{nac_in-text}
@@ -10,53 +10,61 @@ use Rattle.p25_filter.specs.{Runs.{Filtered, input_most}, declared.ending.Ending
 use Rattle.p25_tool.specs.{declared.command.Command.{Command}, declared.command.Command.TheVariants.{Show, Check, Repair, Bridge, Relay, Follow, Build, Sample}, declared.outcome.Outcome.{Outcome}}
 use Rattle.p25_tool.specs.{declared.outcome.Outcome.TheVariants.{Done, Memory, TooLong}, Outcomes.{filter_outcome}, Outputs.{CanWantMemory, command_future, ending_by, output_by}}
 use Rattle.p25_tool.specs.{Recorded.{IsRecording}, RecordedRuns.{AreWrittenOf, HasWrittenUnits, IsUnitCommand}, Runs.{answer_of, ending_or}}
-use Rattle.p25_tool.specs.{Words.{command_at, command_of, forwarded, one_word_commands, sample_of, status_in}, Written.{HasEnded}}
+use Rattle.p25_tool.specs.{Words.{command_of, forwarded, forwarding_of, one_word_command, sample_of, status_in}, Written.{HasEnded}}
 use Rattle.p25_tool.proofs.{RecordedLaws.{bridges-units, checks-units, follows-arrived, relays-units, repairs-units, shows-units}, RunsLaws.{answer-short}, WrittenLaws.{ended-wrote}}
 
--- the network access code of a command is below 4096, if it has one
+-- where a command forwards under a network access code, the code is one
 abbrev pub HasFitCode : Command → Type 0
-HasFitCode (Bridge nac status) = nac < 4096
-HasFitCode (Relay nac status) = nac < 4096
-HasFitCode command = Unit {0}
+HasFitCode command = (nac : ℕ) (status : Status) → (command ≡ Bridge nac status → nac < 4096) × (command ≡ Relay nac status → nac < 4096)
 
--- so it is if words name the command
-chosen : (which : Bool) (x y : Option Command) → IfSome x HasFitCode → IfSome y HasFitCode → IfSome (cond which x y) HasFitCode
-chosen true x y one other = one
-chosen false x y one other = other
+-- so it is where words name the command
+module _ (nac : ℕ) (status : Status) where
+  abbrev IsFit : Option Command → Type 0
+  IsFit named = (named ≡ Some (Bridge nac status) → nac < 4096) × (named ≡ Some (Relay nac status) → nac < 4096)
 
-abbrev AreFit : List (List ℕ × Command) → Type 0
-AreFit [] = Unit {0}
-AreFit (row ∷ rows) = HasFitCode row.1 × AreFit rows
+  either : (which : Bool) (x y : Option Command) → IsFit x → IsFit y → IsFit (cond which x y)
+  either true x y one other = one
+  either false x y one other = other
 
-table-fit : (rows : List (List ℕ × Command)) (word : List ℕ) → AreFit rows → IfSome (command_at rows word) HasFitCode
-table-fit [] word all = tt
-table-fit (row ∷ rows) word all = chosen (bytes_eq word row.0) (Some row.1) (command_at rows word) all.0 (table-fit rows word all.1)
+  one-fit : (word : List ℕ) → IsFit (one_word_command word)
+  one-fit word =
+      either (bytes_eq word (codes "show")) _ _ ((λ is. absurd (cc is)), (λ is. absurd (cc is)))
+      (either (bytes_eq word (codes "check")) _ _ ((λ is. absurd (cc is)), (λ is. absurd (cc is)))
+      (either (bytes_eq word (codes "repair")) _ _ ((λ is. absurd (cc is)), (λ is. absurd (cc is)))
+      (either (bytes_eq word (codes "follow")) _ _ ((λ is. absurd (cc is)), (λ is. absurd (cc is)))
+      (either (bytes_eq word (codes "calls")) _ _ ((λ is. absurd (cc is)), (λ is. absurd (cc is)))
+      (either (bytes_eq word (codes "soft")) _ _ ((λ is. absurd (cc is)), (λ is. absurd (cc is)))
+      (either (bytes_eq word (codes "stations")) _ _ ((λ is. absurd (cc is)), (λ is. absurd (cc is)))
+      (either (bytes_eq word (codes "fragments")) _ _ ((λ is. absurd (cc is)), (λ is. absurd (cc is)))
+      (either (bytes_eq word (codes "duplex")) _ _ ((λ is. absurd (cc is)), (λ is. absurd (cc is))) ((λ is. absurd (cc is)), (λ is. absurd (cc is)))))))))))
 
-build-fit : (symbol : Option Status) → IfSome (option_map Build symbol) HasFitCode
-build-fit None = tt
-build-fit (Some symbol) = tt
+  build-fit : (symbol : Option Status) → IsFit (option_map Build symbol)
+  build-fit None = ((λ is. absurd (cc is)), (λ is. absurd (cc is)))
+  build-fit (Some symbol) = ((λ is. absurd (cc is)), (λ is. absurd (cc is)))
 
-sample-fit : (count : Option ℕ) → IfSome (sample_of count) HasFitCode
-sample-fit None = tt
-sample-fit (Some count) = chosen (nat_eq count 0) None (Some (Sample count)) tt tt
+  sample-fit : (count : Option ℕ) → IsFit (sample_of count)
+  sample-fit None = ((λ is. absurd (cc is)), (λ is. absurd (cc is)))
+  sample-fit (Some count) = either (nat_eq count 0) None (Some (Sample count)) ((λ is. absurd (cc is)), (λ is. absurd (cc is))) ((λ is. absurd (cc is)), (λ is. absurd (cc is)))
 
-forwarded-fit : (word : List ℕ) (code : Option ℕ) (symbol : Option Status) → IfSome code (λ nac. nac < 4096) → IfSome (forwarded word code symbol) HasFitCode
-forwarded-fit word (Some code) (Some symbol) fits =
-    chosen (bytes_eq word (codes "bridge")) (Some (Bridge code symbol)) _ fits (chosen (bytes_eq word (codes "relay")) (Some (Relay code symbol)) None fits tt)
-forwarded-fit word (Some code) None fits = tt
-forwarded-fit word None symbol fits = tt
+  forwarding-fit : (word text : List ℕ) (code : ℕ) (symbol : Status) → nac_in text ≡ Some code → IsFit (forwarding_of word code symbol)
+  forwarding-fit word text code symbol read =
+      let fits : code < 4096 = (nac_in-text text code read).1 in
+      either (bytes_eq word (codes "bridge")) (Some (Bridge code symbol)) _
+      ((λ is. let same : code ≡ nac = cc is in omega (arith, fits)), (λ is. absurd (cc is)))
+      (either (bytes_eq word (codes "relay")) (Some (Relay code symbol)) None
+      ((λ is. absurd (cc is)), (λ is. let same : code ≡ nac = cc is in omega (arith, fits))) ((λ is. absurd (cc is)), (λ is. absurd (cc is))))
 
-code-fit : (text : List ℕ) (code : Option ℕ) → nac_in text ≡ code → IfSome code (λ nac. nac < 4096)
-code-fit text None read = tt
-code-fit text (Some code) read = (nac_in-text text code read).1
+  forwarded-fit : (word text : List ℕ) (code : Option ℕ) (symbol : Option Status) → nac_in text ≡ code → IsFit (forwarded word code symbol)
+  forwarded-fit word text (Some code) (Some symbol) read = forwarding-fit word text code symbol read
+  forwarded-fit word text code symbol read = ((λ is. absurd (cc is)), (λ is. absurd (cc is)))
 
-pub command-fit : (words : List (List ℕ)) → IfSome (command_of words) HasFitCode
-command-fit (word ∷ []) = table-fit one_word_commands word (tt, tt, tt, tt, tt, tt, tt, tt, tt, tt)
-command-fit (first ∷ second ∷ []) =
-    chosen (bytes_eq first (codes "build")) (option_map Build (status_in second)) _ (build-fit (status_in second))
-    (chosen (bytes_eq first (codes "sample")) (sample_of (number_below 10001 second)) None (sample-fit (number_below 10001 second)) tt)
-command-fit (first ∷ second ∷ third ∷ []) = forwarded-fit first (nac_in second) (status_in third) (code-fit second (nac_in second) refl)
-command-fit words = tt
+  pub command-fit : (words : List (List ℕ)) → IsFit (command_of words)
+  command-fit (word ∷ []) = one-fit word
+  command-fit (first ∷ second ∷ []) =
+      either (bytes_eq first (codes "build")) (option_map Build (status_in second)) _ (build-fit (status_in second))
+      (either (bytes_eq first (codes "sample")) (sample_of (number_below 10001 second)) None (sample-fit (number_below 10001 second)) ((λ is. absurd (cc is)), (λ is. absurd (cc is))))
+  command-fit (first ∷ second ∷ third ∷ []) = forwarded-fit first second (nac_in second) (status_in third) refl
+  command-fit words = ((λ is. absurd (cc is)), (λ is. absurd (cc is)))
 
 -- a command that works on units takes no memory
 no-memory : (command : Command) → IsUnitCommand command → CanWantMemory command → ⊥
@@ -83,8 +91,8 @@ module _ (arrivals : List Arrival) (input : List ℕ) (recorded : IsRecording ar
   units-written Show fits units = shows-units true arrivals input recorded
   units-written Check fits units = (checks-units arrivals input recorded).0
   units-written Repair fits units = repairs-units true arrivals input recorded
-  units-written (Bridge nac status) fits units = bridges-units true nac status arrivals input fits recorded
-  units-written (Relay nac status) fits units = relays-units true nac status arrivals input fits recorded
+  units-written (Bridge nac status) fits units = bridges-units true nac status arrivals input ((fits nac status).0 refl) recorded
+  units-written (Relay nac status) fits units = relays-units true nac status arrivals input ((fits nac status).1 refl) recorded
   units-written Follow fits units = follows-arrived true arrivals input recorded
   units-written command fits units = absurd units
 
