@@ -1,37 +1,36 @@
 """The shared library, its calls with their types, and how octets are handed to them."""
 
+import collections.abc
 import ctypes
 import enum
 import os
 from typing import TYPE_CHECKING, Any, Callable, Dict, Iterable, Tuple, Union
+
+from ._calls import CALLS, VERSION, WORDS
 
 if TYPE_CHECKING:
     from _typeshed import ReadableBuffer
 
     Octets = Union[ReadableBuffer, Iterable[int]]
 
-U8, U16, U32, U64, I32 = ctypes.c_uint8, ctypes.c_uint16, ctypes.c_uint32, ctypes.c_uint64, ctypes.c_int32
-# A pointer to octets that are only read takes bytes as they are, or an address; one that is written takes an array.
-READ, WRITE, SIZE = ctypes.c_char_p, ctypes.c_void_p, ctypes.c_size_t
-
 
 class Cause(str, enum.Enum):
-    """Why a call gave no answer. Each is its word too: Cause.UNIT == "unit"."""
+    """Why a call returned no value. Each is its word too: Cause.UNIT == "unit"."""
 
     LONG = "long"
     """A line has more than 8,192 octets."""
     FORM = "form"
     """A line is not words of octets 21 to 7E hex with single spaces between them."""
     KIND = "kind"
-    """The first word of a line is no kind of unit."""
+    """The first word of a line names no type of data unit."""
     KEY = "key"
     """A line has too few or too many words, or a key that is not the next of its kind."""
     VALUE = "value"
     """A value of a line is not of its form, or values do not fit each other."""
     ROOM = "room"
-    """A unit has more octets than there is room for."""
+    """A data unit has more octets than the buffer."""
     UNIT = "unit"
-    """The octets do not begin with a whole unit."""
+    """The octets do not begin with a whole data unit."""
     NAC = "nac"
     """A network access code (NAC) is not one of 0 to 4095."""
     STATUS = "status"
@@ -41,36 +40,31 @@ class Cause(str, enum.Enum):
     SERIAL = "serial"
     """The serial number of a block is not one of 0 to 127."""
     LETTERS = "letters"
-    """A letter is none of the code: a symbol is above 63, or a number has more bits than a word."""
+    """A letter is none of the code: a symbol is above 63, or a number has more bits than a codeword."""
     LENGTH = "length"
-    """There are more or fewer octets, symbols or levels than are asked for."""
+    """There are more or fewer octets, symbols or levels than the call takes."""
     FINISHED = "finished"
     """A stream that was finished is given octets."""
+    DIBITS = "dibits"
+    """A stream is given octets while dibits wait for their octet."""
+    THREADS = "threads"
+    """A stream is used by two threads at once."""
     PLACE = "place"
     """An item does not begin where the one before it ended, the first at bit 0."""
     PACKET = "packet"
-    """What is given is no packet that can be sent."""
+    """The values are those of no packet that can be transmitted."""
 
 
 class Error(ValueError):
-    """A call gave no answer. `cause` says why, and the text is its word."""
+    """A call returned no value. `cause` states why, and the text is its word."""
 
     def __init__(self, cause: Union[Cause, str]) -> None:
         self.cause = Cause(cause)
         super().__init__(self.cause.value)
 
 
-CAUSES: Dict[int, Cause] = {
-    -2: Cause.ROOM,
-    -3: Cause.UNIT,
-    -4: Cause.NAC,
-    -5: Cause.STATUS,
-    -11: Cause.LONG,
-    -12: Cause.FORM,
-    -13: Cause.KIND,
-    -14: Cause.KEY,
-    -15: Cause.VALUE,
-}
+# The cause of each number below 0 that has one in Python.
+CAUSES: Dict[int, Cause] = {number: Cause(word) for number, word in WORDS.items() if word in {it.value for it in Cause}}
 
 
 def _load() -> ctypes.PyDLL:
@@ -93,25 +87,25 @@ def _load() -> ctypes.PyDLL:
 library = _load()
 
 
-def call(name: str, result: Any, *arguments: Any) -> Callable[..., Any]:
-    """Answers the function of the library of this name, with the types of what it answers and takes."""
+def call(name: str) -> Callable[..., Any]:
+    """Returns the function of the library of this name, with the types of what it returns and takes."""
     function: Any = getattr(library, name)
-    function.restype, function.argtypes = result, arguments
+    function.restype, function.argtypes = CALLS[name]
     return function  # type: ignore[no-any-return]
 
 
-_version = call("p25_version", U32)
-
-
-def version() -> Tuple[int, int, int]:
-    """Answers the release of the library as three numbers, as (1, 0, 0)."""
-    number = _version()
+def _parts_of(number: int) -> Tuple[int, int, int]:
     return number // 10000, number // 100 % 100, number % 100
 
 
-# The calls below are those of the first release; a library of another first number may have others.
-if version()[0] != 1:
-    raise ImportError("libp25.so is of release {}.{}.{}, and this module wants 1".format(*version()))
+def version() -> Tuple[int, int, int]:
+    """Returns the release of the library as three numbers, as (1, 1, 0)."""
+    return _parts_of(call("p25_version")())
+
+
+# A library has the calls of this package if its first number is the same and it is no earlier one.
+if version()[0] != VERSION // 10000 or version() < _parts_of(VERSION):
+    raise ImportError("libp25.so is release {}.{}.{}, and this package needs {}.{}.{} or later".format(*version(), *_parts_of(VERSION)))
 
 
 class _PyBuffer(ctypes.Structure):
@@ -132,28 +126,34 @@ class _PyBuffer(ctypes.Structure):
 
 
 def checked(octets: Any) -> Any:
-    """Answers what octets are given by: bytes, or a buffer whose items are octets; a list of numbers becomes bytes."""
+    """Returns the octets as bytes or as a buffer whose items are octets; a list of numbers becomes bytes.
+
+    TypeError for a number, a text, a set, a mapping, a list with a bool, and a buffer whose items are no octets, as numpy's of bool.
+    """
     if isinstance(octets, (bytes, bytearray)):
         return octets
-    if isinstance(octets, (int, str)):
-        raise TypeError(f"octets are wanted, and not {type(octets).__name__}")
+    if isinstance(octets, (int, str, collections.abc.Set, collections.abc.Mapping)):
+        raise TypeError(f"octets are needed, and not {type(octets).__name__}")
     try:
         view = memoryview(octets)
     except TypeError:
-        return bytes(octets)
-    if view.itemsize != 1:
-        raise TypeError(f"octets are wanted, and not items of {view.itemsize} octets")
+        numbers = list(octets)
+        if any(isinstance(it, bool) for it in numbers):
+            raise TypeError("octets are needed, and not bool") from None
+        return bytes(numbers)
+    if view.itemsize != 1 or view.format not in ("B", "b", "c"):
+        raise TypeError(f"octets are needed, and not items of the format {view.format}")
     return octets if view.c_contiguous else bytes(view)
 
 
 def octets_of(octets: "Octets") -> bytes:
-    """Answers octets as bytes. TypeError for a number, a text, and a buffer whose items are not octets."""
+    """Returns octets as bytes. TypeError as `checked` raises it."""
     given = checked(octets)
     return given if isinstance(given, bytes) else bytes(given)
 
 
 class View:
-    """Octets where they lie, without a copy: what they are given by is kept as long as the view is."""
+    """Octets at their address, without a copy: the object that has them is kept as long as the view is."""
 
     def __init__(self, octets: "Octets") -> None:
         given = checked(octets)
@@ -167,17 +167,17 @@ class View:
 
 
 def number_of(value: int, most: int, cause: Cause) -> int:
-    """Answers a number from 0 to the most, and raises Error with the cause where it is none. TypeError where it is no whole number."""
+    """Returns a number from 0 to the most, and raises Error with the cause if it is none. TypeError if it is no whole number."""
     number = value.__index__() if hasattr(value, "__index__") else None
     if number is None:
-        raise TypeError(f"a whole number is wanted, and not {type(value).__name__}")
+        raise TypeError(f"a whole number is needed, and not {type(value).__name__}")
     if not 0 <= number <= most:
         raise Error(cause)
     return number
 
 
 def exactly(octets: "Octets", length: int) -> bytes:
-    """Answers octets of this number, and raises Error(length) where there are more or fewer."""
+    """Returns octets of this number, and raises Error(length) if there are more or fewer."""
     given = octets_of(octets)
     if len(given) != length:
         raise Error(Cause.LENGTH)

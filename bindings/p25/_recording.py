@@ -4,11 +4,15 @@ import ctypes
 import enum
 import struct
 import sys
+import threading
+import warnings
 from functools import partial
 from types import TracebackType
 from typing import TYPE_CHECKING, Any, AsyncIterator, BinaryIO, Callable, Iterator, List, Optional, Tuple, Type, Union
 
-from ._library import CAUSES, I32, READ, SIZE, U8, U16, U32, U64, WRITE, Cause, Error, View, call, checked, library, number_of, octets_of
+from . import _calls
+from ._calls import ADDRESS, SIZE, TEXT_ROOM, U64, UNIT_ROOM, ItemParts
+from ._library import CAUSES, Cause, Error, View, call, checked, library, number_of, octets_of
 
 if TYPE_CHECKING:
     from ._library import Octets
@@ -16,39 +20,37 @@ if TYPE_CHECKING:
 
 KINDS = ("", "unit", "broken", "nounit", "gap", "cut")
 FAULTS = {number: cause.value for number, cause in CAUSES.items() if number <= -11}
-TEXT_ROOM = 8192
-UNIT_ROOM = 3240
 
 
 class Kind(enum.IntEnum):
     """What an item is."""
 
-    UNIT = 1
-    """A whole unit."""
-    BROKEN = 2
-    """A unit of which some fields fail."""
-    NOUNIT = 3
-    """A sync after which no unit is read; one bit."""
-    GAP = 4
+    UNIT = _calls.UNIT
+    """A whole data unit."""
+    BROKEN = _calls.BROKEN
+    """A data unit of which some fields fail."""
+    NOUNIT = _calls.NOUNIT
+    """A sync after which no data unit is read; one bit."""
+    GAP = _calls.GAP
     """Bits with which no sync begins, at most 4,096."""
-    CUT = 5
+    CUT = _calls.CUT
     """A sync with too few bits after it, at the end."""
 
 
 class Duid(enum.IntEnum):
     """The data unit identifiers (DUID) that are read."""
 
-    HDU = 0
+    HDU = _calls.HDU
     """A header."""
-    TDU = 3
+    TDU = _calls.TDU
     """A terminator."""
-    LDU1 = 5
+    LDU1 = _calls.LDU1
     """Voice with link control (LC)."""
-    LDU2 = 10
+    LDU2 = _calls.LDU2
     """Voice with encryption sync (ES)."""
-    PDU = 12
+    PDU = _calls.PDU
     """A packet of data."""
-    TDULC = 15
+    TDULC = _calls.TDULC
     """A terminator with link control (LC)."""
 
 
@@ -56,23 +58,10 @@ _KIND = (None, Kind.UNIT, Kind.BROKEN, Kind.NOUNIT, Kind.GAP, Kind.CUT)
 _DUID = tuple(Duid(it) if it in set(Duid) else it for it in range(16))
 
 
-class _Parts(ctypes.Structure):
-    # p25_item of p25.h
-    _fields_ = (
-        ("place", U64),
-        ("bits", U32),
-        ("fixes", U32),
-        ("text_length", U32),
-        ("nac", U16),
-        ("duid", U8),
-        ("kind", U8),
-    )
-
-
-_next_item = call("p25_next_item", I32, WRITE, SIZE, U64, U64, ctypes.c_bool, ctypes.POINTER(_Parts), WRITE, SIZE)
-_build = call("p25_build", I32, READ, SIZE, U8, WRITE, SIZE)
-_repair = call("p25_repair", I32, READ, SIZE, WRITE, SIZE)
-_bridge = call("p25_bridge", I32, READ, SIZE, U16, U8, WRITE, SIZE)
+_next_item = call("p25_next_item")
+_build = call("p25_build")
+_repair = call("p25_repair")
+_bridge = call("p25_bridge")
 
 
 class Item:
@@ -124,6 +113,11 @@ class Item:
         return fields_at(self._octets, self.place) if self.kind_id == Kind.UNIT else None
 
     @property
+    def line(self) -> str:
+        """Of a whole data unit the words of its text that `build` takes; else ""."""
+        return self.text.split(" ", 5)[-1] if self.kind_id == Kind.UNIT else ""
+
+    @property
     def link(self) -> "Optional[LinkControl]":
         """Of a whole unit with link control (LC), an LDU1 or a TDULC, what it says; else None."""
         from ._values import read_link
@@ -139,7 +133,7 @@ class Item:
         return packet_at(self._octets, self.place) if self.duid == Duid.PDU else None
 
     def value(self, key: str) -> Optional[str]:
-        """Answers the text of the value that stands in the line after KEY=, as item.value("lc"), or None."""
+        """Returns the text of the value that stands in the line after KEY=, as item.value("lc"), or None."""
         for word in self.text.split(" "):
             if word.startswith(f"{key}="):
                 return word[len(key) + 1 :]
@@ -170,19 +164,20 @@ class Item:
 
 
 def _text_at(address: Any, length: int, begin: int, place: int, ended: bool) -> str:
-    """Answers the text of the item at a place of octets, the first of which stands at `begin`."""
-    parts, text = _Parts(), ctypes.create_string_buffer(TEXT_ROOM)
+    """Returns the text of the item at a place of octets, the first of which stands at `begin`."""
+    parts, text = ItemParts(), ctypes.create_string_buffer(TEXT_ROOM)
     _next_item(address, length, begin, place, ended, ctypes.byref(parts), text, TEXT_ROOM)
     return ctypes.string_at(text, parts.text_length).decode("ascii")
 
 
 def _text_of(octets: bytes, place: int) -> str:
-    """Answers the text of the item at a place, by the octets that hold its bits and those that decide it."""
+    """Returns the text of the item at a place, by the octets that hold its bits and those that decide it."""
     return _text_at(octets, len(octets), place - place % 8, place, True)
 
 
 # The numbers of an item as p25_items writes them, and how many items one call is asked for.
 _ROW = struct.Struct("=QIIIHBB")
+assert _ROW.size == ctypes.sizeof(ItemParts)
 _rows_of, _AT_ONCE = _ROW.iter_unpack, 1024
 # What p25_items is given is made ready here: to convert all of it anew costs more than to tell a few items.
 _many_items: Any = library["p25_items"]
@@ -192,79 +187,139 @@ _OPEN, _ENDED = _flag_of(False), _flag_of(True)
 _joined, _new = b"".join, Item.__new__
 
 
+# Of each octet its two lowest bits, at each of the four positions of an octet.
+_DIBIT_AT = tuple(bytes((it & 3) << shift for it in range(256)) for shift in (6, 4, 2, 0))
+# Items that were found and not taken: their numbers, the octets, what a call is given for these, the bit of the recording at which they begin,
+# whether no more follow, whether they may have more items, and the bit at which the last of these items ends.
+_Batch = Tuple[Iterator[Any], "Union[bytes, memoryview]", Any, int, Any, bool, int]
+
+
+def packed(dibits: bytes, tables: "Tuple[bytes, ...]" = _DIBIT_AT) -> bytes:
+    """Returns the octets of dibits, four in each."""
+    parts = (int.from_bytes(dibits[at::4].translate(tables[at]), "big") for at in range(4))
+    return sum(parts).to_bytes(len(dibits) // 4, "big")
+
+
 class Stream:
-    """A recording that comes piece by piece.
+    """A recording that comes in chunks.
 
-    `feed` takes the next octets, and `finish` says that none follow. Each yields the items that are decided then, as the library
-    decides them: a unit as soon as its last bit is there. Items that a caller does not take come with the next call. What no item needs any
-    more is not kept. In a `with`, the end of the block finishes it.
+    `feed` takes the next octets, `feed_dibits` the next dibits and `feed_levels` the next soft symbols, in any number; `finish` states that
+    none follow. Each yields the items that are decided then, as the library decides them: a data unit as soon as its last bit is there.
+    Items that a caller does not take come with the next call. Octets that no item needs any more are not kept.
 
-    One stream is for one thread at a time; streams of their own in several threads do not meet.
+    In a `with`, the end of the block finishes the stream. If items are left then, a warning says so, and `finish` yields them.
+
+    One stream is for one thread at a time: Error(threads) if two use it at once. Streams of their own in several threads do not meet.
     """
 
     def __init__(self) -> None:
-        # Octets from bit `begin` of the recording on, of which the next item begins at bit `at`; `address` is what a call is given for them,
-        # and `last` whether no more follow.
-        self._octets: "Union[bytes, memoryview]" = b""
-        self._address: Any = b""
-        self._begin, self._at, self._last = 0, 0, _OPEN
-        # Pieces that came since they were looked at, the end as an empty one.
+        self._batch: _Batch = (iter(()), b"", b"", 0, _OPEN, False, 0)
+        # The bit after the last item that was taken.
+        self._reached = 0
+        # Chunks that came since they were looked at, the end as an empty one, and dibits that wait for their octet.
         self._pieces: List[bytes] = []
+        self._dibits = b""
         self._ended = False
-        # The numbers of items that are told and not taken, and whether these octets may have more.
-        self._told: Iterator[Any] = iter(())
-        self._more = False
+        # Items that were left at the end of a `with`.
+        self._left: List[Item] = []
+        self._lock = threading.Lock()
         self._rows = ctypes.create_string_buffer(_AT_ONCE * _ROW.size)
         self._into, numbers = ctypes.byref(self._rows), memoryview(self._rows)
         self._numbers = [numbers[: it * _ROW.size] for it in range(16)] + [numbers]
 
     def feed(self, octets: "Octets") -> Iterator[Item]:
-        """Takes octets, of any number, and answers an iterator over the items that are decided. Error(finished) after `finish`."""
-        if self._ended:
-            raise Error(Cause.FINISHED)
-        self._pieces.append(octets if type(octets) is bytes else octets_of(octets))
+        """Takes octets, of any number, and returns an iterator over the items that are decided. Error(finished) after `finish`, and
+        Error(dibits) if dibits wait for their octet."""
+        given = octets if type(octets) is bytes else octets_of(octets)
+        if self._dibits:
+            raise Error(Cause.DIBITS)
+        self._append(given)
         return self._items()
 
-    def finish(self) -> Iterator[Item]:
-        """Answers an iterator over all items that are left, the last of which ends where the recording does."""
-        if not self._ended:
-            self._pieces.append(b"")
-            self._ended = True
+    def feed_dibits(self, dibits: "Octets") -> Iterator[Item]:
+        """Takes dibits, one in each octet as its two lowest bits, of any number, and returns an iterator over the items that are decided.
+        Dibits that fill no octet wait for the next ones. Error(finished) after `finish`."""
+        given = self._dibits + octets_of(dibits)
+        whole = len(given) // 4 * 4
+        self._append(packed(given[:whole]))
+        self._dibits = given[whole:]
         return self._items()
+
+    def feed_levels(self, levels: "Octets") -> Iterator[Item]:
+        """Takes soft symbols, as `hard_octets` does, of any number, and does with the dibits that they are nearest to what `feed_dibits`
+        does. `Softener` decodes broken packets from them too."""
+        from ._signals import hard_dibits
+
+        return self.feed_dibits(hard_dibits(levels))
+
+    def finish(self) -> Iterator[Item]:
+        """Returns an iterator over all items that are left, the last of which ends where the recording does. Dibits that fill no octet are
+        left out."""
+        if not self._ended:
+            self._append(b"")
+            self._ended, self._dibits = True, b""
+        return self._items()
+
+    def _append(self, octets: bytes) -> None:
+        """Appends a chunk, or the end."""
+        if not self._lock.acquire(False):
+            raise Error(Cause.THREADS)
+        try:
+            if self._ended:
+                raise Error(Cause.FINISHED)
+            self._pieces.append(octets)
+        finally:
+            self._lock.release()
 
     def _items(self) -> Iterator[Item]:
         while True:
-            told = self._told
-            for at, bits, fixes, _, nac, duid, kind in told:
-                item, octets = _new(Item), self._octets
-                item.kind_id, item.place, item.bits, item.fixes = _KIND[kind], self._begin + at, bits, fixes  # type: ignore[assignment]
-                self._at = end = at + bits
+            while self._left:
+                yield self._left.pop(0)
+            batch = self._batch
+            rows, octets, address, begin, last, _, _ = batch
+            for at, bits, fixes, _, nac, duid, kind in rows:
+                item, end = _new(Item), at + bits
+                item.kind_id, item.place, item.bits, item.fixes = _KIND[kind], begin + at, bits, fixes  # type: ignore[assignment]
+                self._reached = begin + end
                 item._octets = bytes(octets[at >> 3 : (end + 7) >> 3])
                 if kind < 3:
                     item.nac, item.duid, item._text = nac, _DUID[duid], None
                 else:
                     # Further octets decide these, so the text is taken while they are there. It is short.
                     item.nac = item.duid = None
-                    item._text = _text_at(self._address, len(octets), self._begin, item.place, self._last is _ENDED)
+                    item._text = _text_at(address, len(octets), begin, item.place, last is _ENDED)
                 yield item
-            if told is self._told:
-                at, pieces, octets = self._at, self._pieces, self._octets
-                if not self._more:
-                    if not pieces:
-                        return
-                    # What no item needs any more is let go.
-                    self._octets = self._address = octets = _joined((octets[at >> 3 :], *pieces))
-                    self._begin += at & -8
-                    self._at = at = at & 7
-                    pieces.clear()
-                    if self._ended:
-                        self._last = _ENDED
-                place = _WITHIN[at] if at < 8 else _place_of(at)
-                count = _many_items(self._address, _length_of(len(octets)), _FIRST, place, self._last, self._into, _ROOM)
-                if count < 0:
-                    raise ValueError("outside")
-                self._more = count == _AT_ONCE
-                self._told = _rows_of(self._numbers[count] if count < 16 else self._numbers[16][: count * _ROW.size])
+            if batch is self._batch and not self._find():
+                return
+
+    def _find(self) -> bool:
+        """Finds the next items, and returns whether there were octets to look at."""
+        if not self._lock.acquire(False):
+            raise Error(Cause.THREADS)
+        try:
+            _, octets, address, begin, last, more, at = self._batch
+            if not more:
+                if not self._pieces:
+                    return False
+                # What no item needs any more is dropped.
+                octets = address = _joined((octets[at >> 3 :], *self._pieces))
+                begin += at & -8
+                at &= 7
+                self._pieces.clear()
+                if self._ended:
+                    last = _ENDED
+            place = _WITHIN[at] if at < 8 else _place_of(at)
+            count = _many_items(address, _length_of(len(octets)), _FIRST, place, last, self._into, _ROOM)
+            if count < 0:
+                raise ValueError("outside")
+            if count > 0:
+                at, bits, *_ = _ROW.unpack_from(self._rows, (count - 1) * _ROW.size)
+                at += bits
+            rows = self._numbers[count] if count < 16 else self._numbers[16][: count * _ROW.size]
+            self._batch = (_rows_of(rows), octets, address, begin, last, count == _AT_ONCE, at)
+            return True
+        finally:
+            self._lock.release()
 
     def read(self, file: BinaryIO, size: int = 65536) -> Iterator[Item]:
         """Yields the items of an open file of octets as they are decided, up to its end, and finishes the stream. Of a file that has `read1`,
@@ -290,11 +345,16 @@ class Stream:
         return self
 
     def __exit__(self, kind: Optional[Type[BaseException]], error: Optional[BaseException], trace: Optional[TracebackType]) -> None:
-        self.finish()
+        self._left = list(self.finish())
+        if self._left and kind is None:
+            warnings.warn(f"{len(self._left)} items of a p25.Stream were not taken in its block: finish() yields them", stacklevel=2)
+
+    def __reduce__(self) -> Any:
+        raise TypeError("a p25.Stream cannot be pickled: keep the octets, or the items")
 
     def __repr__(self) -> str:
-        held = len(self._octets) - self._at // 8 + sum(map(len, self._pieces))
-        return f"<p25.Stream at bit {self._begin + self._at}, {held} octets held{', finished' if self._ended else ''}>"
+        held = len(self._batch[1]) - (self._reached - self._batch[3]) // 8 + sum(map(len, self._pieces))
+        return f"<p25.Stream at bit {self._reached}, {held} octets held{', finished' if self._ended else ''}>"
 
 
 def items(octets: "Octets") -> Iterator[Item]:
@@ -303,13 +363,13 @@ def items(octets: "Octets") -> Iterator[Item]:
     if len(given) == 0:
         return
     view, stream = View(given), Stream()
-    stream._octets = given if isinstance(given, bytes) else memoryview(given).cast("B")
-    stream._address, stream._more, stream._ended, stream._last = WRITE(view.address), True, True, _ENDED
+    octets = given if isinstance(given, bytes) else memoryview(given).cast("B")
+    stream._batch, stream._ended = (iter(()), octets, ADDRESS(view.address), 0, _ENDED, True, 0), True
     yield from stream._items()
 
 
 def _unit(function: Any, *arguments: Any) -> bytes:
-    """Answers the octets of the unit that a call of the library writes."""
+    """Returns the octets of the unit that a call of the library writes."""
     unit = ctypes.create_string_buffer(UNIT_ROOM)
     answer = function(*arguments, unit, UNIT_ROOM)
     if answer < 0:
@@ -318,7 +378,7 @@ def _unit(function: Any, *arguments: Any) -> bytes:
 
 
 def build(line: "Union[str, Octets]", status: int = 0) -> bytes:
-    """Answers the octets of the unit of a line, as `p25 build STATUS` reads it, a str or octets without an end of the line.
+    """Returns the octets of the unit of a line, as `p25 build STATUS` reads it, a str or octets without an end of the line.
 
     The status symbol, 0 to 3, stands everywhere in it. Error has the cause, as `p25 build` prints it: long, form, kind, key or value; or
     status, where the status symbol is none.
@@ -328,13 +388,13 @@ def build(line: "Union[str, Octets]", status: int = 0) -> bytes:
 
 
 def repair_unit(octets: "Octets") -> bytes:
-    """Answers the unit with which the octets begin as it was sent. Error(unit) where they begin with no whole unit."""
+    """Returns the unit with which the octets begin as it was sent. Error(unit) where they begin with no whole unit."""
     given = octets_of(octets)
     return _unit(_repair, given, len(given))
 
 
 def bridge_unit(octets: "Octets", nac: int, status: int) -> bytes:
-    """Answers the unit with which the octets begin, under a network access code (NAC), 0 to 4095, and with a status symbol, 0 to 3,
+    """Returns the unit with which the octets begin, under a network access code (NAC), 0 to 4095, and with a status symbol, 0 to 3,
     everywhere.
 
     Error has the cause nac, status, or unit where they begin with no whole unit.
@@ -344,7 +404,7 @@ def bridge_unit(octets: "Octets", nac: int, status: int) -> bytes:
 
 
 def _cut(octets: bytes, place: int, bits: int) -> bytes:
-    """Answers the bits from a place on as octets, with zeros after them where they fill no octet."""
+    """Returns the bits from a place on as octets, with zeros after them where they fill no octet."""
     first, last = place // 8, (place + bits + 7) // 8
     number = int.from_bytes(octets[first:last], "big") >> (8 * last - place - bits) & ((1 << bits) - 1)
     return (number << -bits % 8).to_bytes((bits + 7) // 8, "big")
@@ -360,7 +420,7 @@ def put_bits(octets: bytearray, place: int, unit: bytes, bits: int) -> None:
 
 
 def repair(octets: "Octets") -> bytes:
-    """Answers the recording in which each whole unit is as it was sent, as `p25 repair` writes it. All other bits stay."""
+    """Returns the recording in which each whole unit is as it was sent, as `p25 repair` writes it. All other bits stay."""
     given = octets_of(octets)
     repaired = bytearray(given)
     for item in items(given):
@@ -370,14 +430,14 @@ def repair(octets: "Octets") -> bytes:
 
 
 def bridge(octets: "Octets", nac: int, status: int) -> bytes:
-    """Answers the whole units of a recording one after the other, under a network access code (NAC), 0 to 4095, and with a status
+    """Returns the whole units of a recording one after the other, under a network access code (NAC), 0 to 4095, and with a status
     symbol, 0 to 3, everywhere, as `p25 bridge NAC STATUS` writes them. Error has the cause nac or status."""
     given, nac, status = octets_of(octets), number_of(nac, 4095, Cause.NAC), number_of(status, 3, Cause.STATUS)
     return b"".join(bridge_unit(it.octets, nac, status) for it in items(given) if it.kind_id == Kind.UNIT)
 
 
-def main(words: "list[str]") -> int:
-    """Prints what `p25 show` prints of a file or of standard input, and answers the status."""
+def main(words: List[str]) -> int:
+    """Prints what `p25 show` prints of a file or of standard input, and returns the status."""
     if len(words) > 1 or words[:1] in (["-h"], ["--help"]):
         print("usage: python3 -m p25 [FILE]", file=sys.stderr)
         return 1

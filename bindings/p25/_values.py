@@ -2,10 +2,12 @@
 
 import ctypes
 import enum
-from typing import TYPE_CHECKING, Any, Dict, Iterable, Iterator, NamedTuple, Optional, Tuple
+from typing import TYPE_CHECKING, Any, Iterable, Iterator, NamedTuple, Optional, Tuple
 
-from ._library import CAUSES, I32, SIZE, U8, U16, U32, U64, WRITE, Cause, Error, call, exactly, number_of
-from ._recording import UNIT_ROOM, Duid, Item, Kind, items
+from . import _calls
+from ._calls import UNIT_ROOM, CallerState, CallParts, FieldParts, ItemParts, LinkParts, PacketParts
+from ._library import CAUSES, Cause, Error, call, exactly, number_of
+from ._recording import Duid, Item, Kind, items
 
 if TYPE_CHECKING:
     from ._library import Octets
@@ -14,22 +16,22 @@ if TYPE_CHECKING:
 class LinkKind(enum.IntEnum):
     """What link control (LC) is of, by its first octet."""
 
-    OTHER = 0
+    OTHER = _calls.LINK_OTHER
     """All else, which is not interpreted."""
-    GROUP = 1
+    GROUP = _calls.LINK_GROUP
     """A call to a group (00 hex)."""
-    INDIVIDUAL = 2
+    INDIVIDUAL = _calls.LINK_INDIVIDUAL
     """A call from unit to unit (03 hex)."""
 
 
 class CallEnd(enum.IntEnum):
     """How a call ends."""
 
-    OPEN = 0
+    OPEN = _calls.END_OPEN
     """Without a terminator."""
-    TDU = 1
+    TDU = _calls.END_TDU
     """With a terminator."""
-    TDULC = 2
+    TDULC = _calls.END_TDULC
     """With a terminator with link control (LC)."""
 
 
@@ -124,15 +126,15 @@ class Packet(NamedTuple):
     llid: int
     """The logical link identifier (LLID), 24 bits."""
     syn: bool
-    """Of a confirmed packet the flag Syn."""
+    """The first bit of octet 8 of the header, whatever the format: of a confirmed packet the flag Syn."""
     number: int
-    """Of a confirmed packet N(S)."""
+    """The next three bits of octet 8, whatever the format: of a confirmed packet N(S)."""
     response_class: int
-    """Of a response its class."""
+    """The first two bits of octet 1 of the header, whatever the format: of a response its class."""
     response_type: int
-    """Of a response its type."""
+    """The next three bits of octet 1, whatever the format: of a response its type."""
     response_status: int
-    """Of a response its status."""
+    """The last three bits of octet 1, whatever the format: of a response its status."""
     good: Tuple[bool, ...]
     """Of a confirmed packet for each block whether its check agrees."""
     serials: Tuple[int, ...]
@@ -141,96 +143,19 @@ class Packet(NamedTuple):
     """Of a confirmed packet 16 octets for each block, zeros where its check does not agree; of another the octets before the packet CRC."""
 
 
-class _Link(ctypes.Structure):
-    # p25_link of p25.h
-    _fields_ = (("source", U32), ("destination", U32), ("group", U16), ("kind", U8), ("mfid", U8), ("emergency", U8))
-
-
-class _Fields(ctypes.Structure):
-    # p25_fields of p25.h
-    _fields_ = (
-        ("nac", U16),
-        ("kid", U16),
-        ("tgid", U16),
-        ("duid", U8),
-        ("mfid", U8),
-        ("algid", U8),
-        ("has_lc", U8),
-        ("has_mi", U8),
-        ("has_tgid", U8),
-        ("has_voice", U8),
-        ("lc", U8 * 9),
-        ("mi", U8 * 9),
-        ("lsd", U8 * 2),
-        ("voice", U8 * 162),
-    )
-
-
-class _Call(ctypes.Structure):
-    # p25_call of p25.h
-    _fields_ = (
-        ("place", U64),
-        ("bits", U64),
-        ("links", U32),
-        ("broken", U32),
-        ("nac", U16),
-        ("late", U8),
-        ("end", U8),
-        ("has_lc", U8),
-        ("has_algid", U8),
-        ("algid", U8),
-        ("lc", U8 * 9),
-    )
-
-
-class _Caller(ctypes.Structure):
-    # p25_caller of p25.h
-    _fields_ = (("reached", U64), ("taken", U32), ("is_open", U8), ("run", _Call))
-
-
-class _Packet(ctypes.Structure):
-    # p25_packet of p25.h
-    _fields_ = (
-        ("llid", U32),
-        ("nac", U16),
-        ("length", U16),
-        ("head", U8 * 10),
-        ("format", U8),
-        ("full", U8),
-        ("blocks", U8),
-        ("pad", U8),
-        ("syn", U8),
-        ("number", U8),
-        ("response_class", U8),
-        ("response_type", U8),
-        ("response_status", U8),
-        ("bad", U8),
-        ("good", U8 * 127),
-        ("serials", U8 * 127),
-        ("octets", U8 * 2032),
-    )
-
-
-class _Item(ctypes.Structure):
-    # p25_item of p25.h
-    _fields_ = (("place", U64), ("bits", U32), ("fixes", U32), ("text_length", U32), ("nac", U16), ("duid", U8), ("kind", U8))
-
-
-_link_read = call("p25_link_read", None, ctypes.c_char_p, ctypes.POINTER(_Link))
-_unit_fields = call("p25_unit_fields", I32, ctypes.c_char_p, SIZE, U64, U64, ctypes.POINTER(_Fields))
-_build_fields = call("p25_build_fields", I32, ctypes.POINTER(_Fields), U8, WRITE, SIZE)
-_caller_begin = call("p25_caller_begin", None, ctypes.POINTER(_Caller))
-_caller_take = call("p25_caller_take", I32, ctypes.POINTER(_Caller), ctypes.POINTER(_Item), ctypes.POINTER(_Fields), ctypes.POINTER(_Call))
-_caller_finish = call("p25_caller_finish", I32, ctypes.POINTER(_Caller), ctypes.POINTER(_Call))
-_packet_read = call("p25_packet_read", I32, ctypes.c_char_p, SIZE, U64, U64, ctypes.POINTER(_Packet))
-_build_packet = call("p25_build_packet", I32, ctypes.POINTER(_Packet), U8, WRITE, SIZE)
-
-_VALUE_CAUSES: Dict[int, Cause] = {**CAUSES, -8: Cause.DUID, -9: Cause.PACKET}
+_link_read = call("p25_link_read")
+_unit_fields = call("p25_unit_fields")
+_build_fields = call("p25_build_fields")
+_caller_begin = call("p25_caller_begin")
+_caller_take = call("p25_caller_take")
+_caller_finish = call("p25_caller_finish")
+_packet_read = call("p25_packet_read")
+_build_packet = call("p25_build_packet")
 
 
 def read_link(lc: "Octets") -> LinkControl:
-    """Answers what the nine octets of link control (LC) say. Error(length) where there are more or fewer."""
-    octets, link = exactly(lc, 9), _Link()
+    """Returns what the nine octets of link control (LC) say. Error(length) where there are more or fewer."""
+    octets, link = exactly(lc, 9), LinkParts()
     _link_read(octets, ctypes.byref(link))
     if link.kind == LinkKind.GROUP:
         return LinkControl(octets, LinkKind.GROUP, link.mfid, link.source, group=link.group, emergency=link.emergency == 1)
@@ -239,14 +164,14 @@ def read_link(lc: "Octets") -> LinkControl:
     return LinkControl(octets, LinkKind.OTHER)
 
 
-def _told_fields(octets: bytes, place: int) -> Optional[_Fields]:
-    """Answers the fields of the whole unit at a place, by the octets that hold its bits."""
-    told = _Fields()
+def _told_fields(octets: bytes, place: int) -> Optional[FieldParts]:
+    """Returns the fields of the whole unit at a place, by the octets that hold its bits."""
+    told = FieldParts()
     return told if _unit_fields(octets, len(octets), place - place % 8, place, ctypes.byref(told)) == 1 else None
 
 
 def fields_at(octets: bytes, place: int) -> Optional[Fields]:
-    """Answers the fields of the whole unit at a place, by the octets that hold its bits, or None where there is none."""
+    """Returns the fields of the whole unit at a place, by the octets that hold its bits, or None where there is none."""
     told = _told_fields(octets, place)
     if told is None:
         return None
@@ -266,11 +191,11 @@ def fields_at(octets: bytes, place: int) -> Optional[Fields]:
 
 
 def packet_at(octets: bytes, place: int) -> Optional[Packet]:
-    """Answers the packet of the unit at a place, by the octets that hold its bits, or None where none is read."""
-    told = _Packet()
+    """Returns the packet of the unit at a place, by the octets that hold its bits, or None where none is read."""
+    told = PacketParts()
     if _packet_read(octets, len(octets), place - place % 8, place, ctypes.byref(told)) < 0:
         return None
-    blocks = told.blocks if told.format == 0x16 else 0
+    blocks = told.blocks if told.format == _calls.CONFIRMED else 0
     return Packet(
         told.nac,
         bytes(told.head),
@@ -291,18 +216,18 @@ def packet_at(octets: bytes, place: int) -> Optional[Packet]:
 
 
 def _written(function: Any, given: ctypes.Structure, status: int) -> bytes:
-    """Answers the octets of the unit that a call of the library builds of a struct."""
+    """Returns the octets of the unit that a call of the library builds of a struct."""
     unit = ctypes.create_string_buffer(UNIT_ROOM)
     answer = function(ctypes.byref(given), number_of(status, 3, Cause.STATUS), unit, UNIT_ROOM)
     if answer < 0:
-        raise Error(_VALUE_CAUSES[answer])
+        raise Error(CAUSES[answer])
     return unit.raw[:answer]
 
 
 def build_fields(fields: Fields, status: int = 0) -> bytes:
-    """Answers the octets of the voice unit of fields, with the status symbol, 0 to 3, everywhere. Its `duid` says which fields are looked
+    """Returns the octets of the voice unit of fields, with the status symbol, 0 to 3, everywhere. Its `duid` says which fields are looked
     at; one that is None is of zeros. Error has the cause nac, status, duid where no voice unit has it, or length."""
-    given = _Fields(nac=number_of(fields.nac, 4095, Cause.NAC), duid=number_of(fields.duid, 15, Cause.DUID))
+    given = FieldParts(nac=number_of(fields.nac, 4095, Cause.NAC), duid=number_of(fields.duid, 15, Cause.DUID))
     for name, most in (("kid", 65535), ("tgid", 65535), ("mfid", 255), ("algid", 255)):
         setattr(given, name, number_of(getattr(fields, name) or 0, most, Cause.VALUE))
     for name, count in (("lc", 9), ("mi", 9), ("lsd", 2)):
@@ -315,15 +240,15 @@ def build_fields(fields: Fields, status: int = 0) -> bytes:
 
 
 def build_packet(nac: int, head: "Octets", data: "Octets" = b"", serials: "Optional[Iterable[int]]" = None, status: int = 0) -> bytes:
-    """Answers the octets of the unit of a packet (PDU), with the status symbol, 0 to 3, everywhere.
+    """Returns the octets of the unit of a packet (PDU), with the status symbol, 0 to 3, everywhere.
 
     `head` are the ten octets of its header without the check. `data` are of a confirmed packet 16 octets for each block, whose serial numbers
     are `serials`, or 0, 1, 2 and so on; of another packet the octets before the packet CRC, twelve for each block less four. Error has the
     cause nac, status, length, serial, or packet where the format is none of 0x16, 0x15 and 0x03.
     """
     header = exactly(head, 10)
-    blocks, is_confirmed = header[6] % 128, header[0] % 32 == 0x16
-    given = _Packet(nac=number_of(nac, 4095, Cause.NAC))
+    blocks, is_confirmed = header[6] % 128, header[0] % 32 == _calls.CONFIRMED
+    given = PacketParts(nac=number_of(nac, 4095, Cause.NAC))
     given.head[:] = list(header)
     octets = exactly(data, 16 * blocks if is_confirmed else max(12 * blocks - 4, 0))
     given.octets[: len(octets)] = list(octets)
@@ -336,17 +261,17 @@ def build_packet(nac: int, head: "Octets", data: "Octets" = b"", serials: "Optio
     return _written(_build_packet, given, status)
 
 
-def item_struct(item: Item) -> _Item:
-    """Answers the numbers of an item as the library takes them."""
-    return _Item(item.place, item.bits, item.fixes, 0, item.nac or 0, item.duid or 0, item.kind_id)
+def item_struct(item: Item) -> ItemParts:
+    """Returns the numbers of an item as the library takes them."""
+    return ItemParts(item.place, item.bits, item.fixes, 0, item.nac or 0, item.duid or 0, item.kind_id)
 
 
 class Caller:
     """Groups the items of a recording into calls: `take` each in its turn, gaps too, and at the end `finish`."""
 
     def __init__(self) -> None:
-        self._state, self._call = _Caller(), _Call()
-        self._none = _Fields()
+        self._state, self._call = CallerState(), CallParts()
+        self._none = FieldParts()
         _caller_begin(ctypes.byref(self._state))
 
     @property
@@ -355,7 +280,7 @@ class Caller:
         return bool(self._state.is_open)
 
     def take(self, item: Item) -> Optional[Call]:
-        """Takes the next item and answers the call that ends, or None: it ends with this item, its terminator, or with the unit before, where
+        """Takes the next item and returns the call that ends, or None: it ends with this item, its terminator, or with the unit before, where
         there is a break after that one. Error(place) where the item does not begin where the one before it ended, the first at bit 0."""
         told = item_struct(item)
         fields = _told_fields(item._octets, item.place) if item.kind_id == Kind.UNIT else None
@@ -363,7 +288,7 @@ class Caller:
         return self._answered(answer)
 
     def finish(self) -> Optional[Call]:
-        """Answers the call that is still open, or None. The caller is then as a new one."""
+        """Returns the call that is still open, or None. The caller is then as a new one."""
         return self._answered(_caller_finish(ctypes.byref(self._state), ctypes.byref(self._call)))
 
     def _answered(self, answer: int) -> Optional[Call]:

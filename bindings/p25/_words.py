@@ -1,9 +1,10 @@
-"""Code words, blocks, checks and network identifiers."""
+"""Codewords, blocks, CRCs and network identifiers."""
 
 import ctypes
 from typing import TYPE_CHECKING, Iterable, Optional, Tuple, TypeVar
 
-from ._library import I32, READ, SIZE, U8, U16, U32, U64, WRITE, Cause, Error, call, exactly, number_of, octets_of
+from ._calls import NO_LETTERS, U8, U16, U32
+from ._library import Cause, Error, call, exactly, number_of, octets_of
 
 if TYPE_CHECKING:
     from ._library import Octets
@@ -12,8 +13,8 @@ Word = TypeVar("Word")
 
 
 def _reading(word: Word, answer: int) -> Optional[Tuple[Word, int]]:
-    """Answers a word with what a reading of it answered, or None where that was beyond the radius."""
-    if answer == -2:
+    """Returns a codeword with what its decoding returned, or None if it is uncorrectable."""
+    if answer == NO_LETTERS:
         raise Error(Cause.LETTERS)
     return None if answer < 0 else (word, answer)
 
@@ -23,16 +24,16 @@ class SymbolCode:
 
     def __init__(self, n: int, k: int) -> None:
         self.n, self.k = n, k
-        self._read = call(f"p25_rs_{n}_{k}_read", I32, WRITE)
-        self._read_erased = call(f"p25_rs_{n}_{k}_read_erased", I32, WRITE, WRITE)
-        self._write = call(f"p25_rs_{n}_{k}_write", I32, WRITE)
+        self._read = call(f"p25_rs_{n}_{k}_read")
+        self._read_erased = call(f"p25_rs_{n}_{k}_read_erased")
+        self._write = call(f"p25_rs_{n}_{k}_write")
 
     def read(self, symbols: "Octets", erased: Optional[Iterable[object]] = None) -> Optional[Tuple[bytes, int]]:
-        """Answers the word that a received one is read as, and how many symbols that changes; None where no word is near enough.
+        """Returns the codeword that a received word decodes to, and how many symbols that changes; None if it is uncorrectable.
 
-        At most (n - k) / 2 wrong symbols are put right. With `erased`, n truth values, the symbols where it is true are not known: then
-        twice the wrong ones among the others, and the erased ones, are at most n - k. Error(letters) where an octet is above 63,
-        an erased one too, and Error(length) where there are not n of them.
+        At most (n - k) / 2 symbol errors are corrected. With `erased`, n truth values, the symbols where it is true are erased: then
+        twice the errors among the others, and the erasures, are at most n - k. Error(letters) if an octet is above 63, an erased one too,
+        and Error(length) if there are not n of them.
         """
         word = ctypes.create_string_buffer(exactly(symbols, self.n), self.n)
         if erased is None:
@@ -45,7 +46,7 @@ class SymbolCode:
         return _reading(word.raw, answer)
 
     def write(self, info: "Octets") -> bytes:
-        """Answers the word of an information of k octets. Error(letters) where one is above 63, Error(length) as above."""
+        """Returns the codeword of an information of k octets. Error(letters) if one is above 63, Error(length) as above."""
         word = ctypes.create_string_buffer(exactly(info, self.k), self.n)
         if self._write(word) < 0:
             raise Error(Cause.LETTERS)
@@ -61,18 +62,18 @@ class NumberCode:
     def __init__(self, name: str, n: int, k: int) -> None:
         self.n, self.k = n, k
         self._name = name
-        self._read = call(f"p25_{name}_read", I32, ctypes.POINTER(U32))
-        self._write = call(f"p25_{name}_write", U32, U32)
+        self._read = call(f"p25_{name}_read")
+        self._write = call(f"p25_{name}_write")
 
     def read(self, word: int) -> Optional[Tuple[int, int]]:
-        """Answers the word that a received one is read as, and how many bits that changes; None where no word is near enough.
-        Error(letters) where the number has more than n bits."""
+        """Returns the codeword that a received word decodes to, and how many bits that changes; None if it is uncorrectable.
+        Error(letters) if the number has more than n bits."""
         number = U32(number_of(word, (1 << self.n) - 1, Cause.LETTERS))
         answer = self._read(ctypes.byref(number))
         return _reading(number.value, answer)
 
     def write(self, info: int) -> int:
-        """Answers the word of an information. Error(letters) where that has more than k bits."""
+        """Returns the codeword of an information. Error(letters) if that has more than k bits."""
         return int(self._write(number_of(info, (1 << self.k) - 1, Cause.LETTERS)))
 
     def __repr__(self) -> str:
@@ -86,21 +87,21 @@ class BlockCode:
     def __init__(self, name: str, length: int) -> None:
         self.length = length
         self._name = name
-        self._read = call(f"p25_{name}_read", U32, READ, WRITE)
-        self._read_levels = call(f"p25_{name}_read_levels", U32, WRITE, WRITE)
-        self._write = call(f"p25_{name}_write", None, READ, WRITE)
+        self._read = call(f"p25_{name}_read")
+        self._read_levels = call(f"p25_{name}_read_levels")
+        self._write = call(f"p25_{name}_write")
 
     def read(self, bits: "Octets") -> Tuple[bytes, int]:
-        """Answers the octets of the first path that differs from the bits, 25 octets, in fewest, and in how many bits it differs. The
-        check of the block decides whether they are right. Error(length) where there are not 25 octets."""
+        """Returns the octets of the first path that differs from the bits, 25 octets, in fewest, and in how many bits it differs. The
+        check of the block decides whether they are right. Error(length) if there are not 25 octets."""
         octets = ctypes.create_string_buffer(self.length)
         distance = self._read(exactly(bits, 25), octets)
         return octets.raw, distance
 
     def read_levels(self, levels: Iterable[int]) -> Tuple[bytes, int]:
-        """Answers the octets of the first path that is nearest to 98 levels, and how far it is: the sum of the squares of what each level
+        """Returns the octets of the first path that is nearest to 98 levels, and how far it is: the sum of the squares of what each level
         is off. A level is a number from -128 to 127 for two bits: 96 is 01, 32 is 00, -32 is 10 and -96 is 11. Error(length)
-        where there are not 98, and Error(letters) where one is no such number."""
+        if there are not 98, and Error(letters) if one is no such number."""
         given = list(levels)
         if len(given) != 98:
             raise Error(Cause.LENGTH)
@@ -111,7 +112,7 @@ class BlockCode:
         return octets.raw, cost
 
     def write(self, octets: "Octets") -> bytes:
-        """Answers the 25 octets that carry a block. Error(length) where it has not its number of octets."""
+        """Returns the 25 octets that carry a block. Error(length) if it has not its number of octets."""
         bits = ctypes.create_string_buffer(25)
         self._write(exactly(octets, self.length), bits)
         return bits.raw
@@ -125,39 +126,39 @@ GOLAY_24, GOLAY_18 = NumberCode("golay24", 24, 12), NumberCode("golay18", 18, 6)
 HAMMING_10, LSD_16 = NumberCode("hamming10", 10, 6), NumberCode("lsd16", 16, 8)
 HALF_RATE, THREE_QUARTER_RATE = BlockCode("half_rate", 12), BlockCode("three_quarter_rate", 18)
 
-_nid_read = call("p25_nid_read", I32, U64, ctypes.POINTER(U16), ctypes.POINTER(U8))
-_nid_write = call("p25_nid_write", U64, U16, U8)
-_crc9 = call("p25_crc9", U16, U8, READ)
-_crc16 = call("p25_crc16", U16, READ, SIZE)
-_crc32 = call("p25_crc32", U32, READ, SIZE)
+_nid_read = call("p25_nid_read")
+_nid_write = call("p25_nid_write")
+_crc9 = call("p25_crc9")
+_crc16 = call("p25_crc16")
+_crc32 = call("p25_crc32")
 
 
 def read_nid(bits: int) -> Optional[Tuple[int, int, int]]:
-    """Answers the network access code (NAC) and the data unit identifier (DUID) of a network identifier (NID), 64 received bits, and
-    how many of the first 63 were wrong, at most 11; None where more are. Error(letters) where the number has more than 64 bits."""
+    """Returns the network access code (NAC) and the data unit identifier (DUID) of a network identifier (NID), 64 received bits, and
+    how many of the first 63 were wrong, at most 11; None where more are. Error(letters) if the number has more than 64 bits."""
     nac, duid = U16(), U8()
     answer = _nid_read(number_of(bits, (1 << 64) - 1, Cause.LETTERS), ctypes.byref(nac), ctypes.byref(duid))
     return None if answer < 0 else (nac.value, duid.value, answer)
 
 
 def write_nid(nac: int, duid: int) -> int:
-    """Answers the 64 bits of a network identifier (NID) as a number. Error has the cause nac (above 4095) or duid (above 15)."""
+    """Returns the 64 bits of a network identifier (NID) as a number. Error has the cause nac (above 4095) or duid (above 15)."""
     return int(_nid_write(number_of(nac, 4095, Cause.NAC), number_of(duid, 15, Cause.DUID)))
 
 
 def crc9(serial: int, octets: "Octets") -> int:
-    """Answers the nine check bits of a block of a confirmed packet (PDU), of its serial number and its sixteen octets. Error has
+    """Returns the nine check bits of a block of a confirmed packet (PDU), of its serial number and its sixteen octets. Error has
     the cause serial (above 127) or length."""
     return int(_crc9(number_of(serial, 127, Cause.SERIAL), exactly(octets, 16)))
 
 
 def crc16(octets: "Octets") -> int:
-    """Answers the sixteen check bits of the octets of the header of a packet (PDU)."""
+    """Returns the sixteen check bits of the octets of the header of a packet (PDU)."""
     given = octets_of(octets)
     return int(_crc16(given, len(given)))
 
 
 def crc32(octets: "Octets") -> int:
-    """Answers the 32 check bits of the data and pad octets of a packet (PDU)."""
+    """Returns the 32 check bits of the data and pad octets of a packet (PDU)."""
     given = octets_of(octets)
     return int(_crc32(given, len(given)))
