@@ -5,22 +5,21 @@
 
     python3 -m p25 FILE        prints what `p25 show < FILE` prints; of standard input, where there is no FILE
 
-The work is done by the shared library libp25.so, each call of which is proved to meet its contract; this package, which calls it by
-ctypes, is not proved. Recordings are octets, each octet's most significant bit first, and places count bits from the first one.
+The shared library libp25.so does the work, and each of its calls is proved to meet its contract; this package, which calls it by ctypes, is
+not proved. A recording is octets, each octet's most significant bit first; its positions (`place`) count bits from the first one.
 
-Where octets are asked for, bytes, a bytearray, a memoryview, an array of octets (as of mmap or numpy, dtype uint8), or a list of numbers
-below 256 will do. A number, a text, and an array of wider items raise TypeError. A call that gives no answer raises `Error`, a
-ValueError, whose `cause` says why.
+An argument of octets is bytes, a bytearray, a memoryview, an array of octets (as of mmap or numpy, dtype uint8), or a list of numbers below
+256. A number, a text, a set, a mapping, an array of bool or of wider items, and a list with a bool raise TypeError. A call that has no value
+to return raises `Error`, a ValueError, whose `cause` states why.
 
 Threads: a call takes about a millionth of a second and keeps the interpreter's lock, so threads make nothing quicker; processes do.
 """
 
+from ._calls import TEXT_ROOM, UNIT_ROOM
 from ._library import Cause, Error, version
 from ._recording import (
     FAULTS,
     KINDS,
-    TEXT_ROOM,
-    UNIT_ROOM,
     Duid,
     Item,
     Kind,
@@ -33,7 +32,7 @@ from ._recording import (
     repair,
     repair_unit,
 )
-from ._signals import Follower, follow, hard_octets, relay, soft, soften
+from ._signals import Follower, Softener, follow, hard_dibits, hard_octets, relay, soft, soften
 from ._values import (
     Call,
     CallEnd,
@@ -45,6 +44,7 @@ from ._values import (
     build_fields,
     build_packet,
     calls,
+    calls_with_units,
     read_link,
 )
 from ._words import (
@@ -97,6 +97,7 @@ __all__ = [
     "LinkKind",
     "NumberCode",
     "Packet",
+    "Softener",
     "Stream",
     "SymbolCode",
     "bridge",
@@ -105,10 +106,12 @@ __all__ = [
     "build_fields",
     "build_packet",
     "calls",
+    "calls_with_units",
     "crc9",
     "crc16",
     "crc32",
     "follow",
+    "hard_dibits",
     "hard_octets",
     "items",
     "main",

@@ -2,7 +2,7 @@
 
 import ctypes
 import enum
-from typing import TYPE_CHECKING, Any, Iterable, Iterator, NamedTuple, Optional, Tuple
+from typing import TYPE_CHECKING, Any, Iterable, Iterator, List, NamedTuple, Optional, Tuple
 
 from . import _calls
 from ._calls import UNIT_ROOM, CallerState, CallParts, FieldParts, ItemParts, LinkParts, PacketParts
@@ -104,8 +104,12 @@ class Call(NamedTuple):
 
     @property
     def link(self) -> Optional[LinkControl]:
-        """What its link control says."""
+        """What its link control states."""
         return None if self.lc is None else read_link(self.lc)
+
+    def has(self, item: Item) -> bool:
+        """Returns whether an item is a data unit of the call."""
+        return item.kind_id <= Kind.BROKEN and self.place <= item.place < self.place + self.bits
 
 
 class Packet(NamedTuple):
@@ -146,7 +150,8 @@ class Packet(NamedTuple):
 _link_read = call("p25_link_read")
 _unit_fields = call("p25_unit_fields")
 _build_fields = call("p25_build_fields")
-_caller_begin = call("p25_caller_begin")
+_caller_begin_at = call("p25_caller_begin_at")
+_caller_close = call("p25_caller_close")
 _caller_take = call("p25_caller_take")
 _caller_finish = call("p25_caller_finish")
 _packet_read = call("p25_packet_read")
@@ -267,48 +272,74 @@ def item_struct(item: Item) -> ItemParts:
 
 
 class Caller:
-    """Groups the items of a recording into calls: `take` each in its turn, gaps too, and at the end `finish`."""
+    """Groups the items of a recording into calls: `take` each in its turn, gaps too, and at the end `finish`.
 
-    def __init__(self) -> None:
+    The first item is at bit `at`. With `by_gap`, a call without a terminator ends with the item that decides it, such as a gap of 4,096 bits;
+    the calls are the same, but they come earlier.
+    """
+
+    def __init__(self, at: int = 0, by_gap: bool = False) -> None:
         self._state, self._call = CallerState(), CallParts()
         self._none = FieldParts()
-        _caller_begin(ctypes.byref(self._state))
+        _caller_begin_at(ctypes.byref(self._state), number_of(at, (1 << 60) - 1, Cause.PLACE), by_gap)
 
     @property
     def is_open(self) -> bool:
         """Whether a run of voice units is open that a further one may still join."""
         return bool(self._state.is_open)
 
+    @property
+    def run(self) -> Optional[Call]:
+        """The run of voice units that is open: a call once its `links` are above 0. None if there is none."""
+        return _call_of(self._state.run) if self.is_open else None
+
     def take(self, item: Item) -> Optional[Call]:
-        """Takes the next item and returns the call that ends, or None: it ends with this item, its terminator, or with the unit before, where
-        there is a break after that one. Error(place) where the item does not begin where the one before it ended, the first at bit 0."""
+        """Takes the next item and returns the call that ends, or None: it ends with this item, its terminator, or with the data unit before, if
+        there is a break after that one. Error(place) if the item does not begin where the one before it ended."""
         told = item_struct(item)
         fields = _told_fields(item._octets, item.place) if item.kind_id == Kind.UNIT else None
         answer = _caller_take(ctypes.byref(self._state), ctypes.byref(told), ctypes.byref(fields or self._none), ctypes.byref(self._call))
         return self._answered(answer)
 
+    def close(self) -> Optional[Call]:
+        """Ends the run that is open, and goes on: returns the call that is open, or None. The next item begins where the last one ended."""
+        return self._answered(_caller_close(ctypes.byref(self._state), ctypes.byref(self._call)))
+
     def finish(self) -> Optional[Call]:
-        """Returns the call that is still open, or None. The caller is then as a new one."""
+        """Returns the call that is still open, or None. The caller is then as a new one that begins at bit 0."""
         return self._answered(_caller_finish(ctypes.byref(self._state), ctypes.byref(self._call)))
 
     def _answered(self, answer: int) -> Optional[Call]:
         if answer < 0:
             raise Error(Cause.PLACE)
-        it = self._call
-        if answer == 0:
-            return None
-        lc = bytes(it.lc) if it.has_lc else None
-        algid = it.algid if it.has_algid else None
-        return Call(it.place, it.bits, it.nac, it.late == 1, CallEnd(it.end), it.links, it.broken, lc, algid)
+        return None if answer == 0 else _call_of(self._call)
+
+
+def _call_of(it: CallParts) -> Call:
+    lc = bytes(it.lc) if it.has_lc else None
+    algid = it.algid if it.has_algid else None
+    return Call(it.place, it.bits, it.nac, it.late == 1, CallEnd(it.end), it.links, it.broken, lc, algid)
 
 
 def calls(octets: "Octets") -> Iterator[Call]:
-    """Yields the calls of a whole recording, as `p25 calls` tells them."""
-    caller = Caller()
-    for item in items(octets):
-        ended = caller.take(item)
-        if ended is not None:
-            yield ended
+    """Yields the calls of a whole recording, as `p25 calls` prints them."""
+    for call, _ in calls_with_units(items(octets)):
+        yield call
+
+
+def calls_with_units(recording: Iterable[Item], at: int = 0, by_gap: bool = False) -> "Iterator[Tuple[Call, List[Item]]]":
+    """Yields each call of items that come in their turn, gaps too, with its data units, whole and broken, in order. `at` and `by_gap` are as of
+    a Caller."""
+    caller = Caller(at, by_gap)
+    units: List[Item] = []
+    for item in recording:
+        call = caller.take(item)
+        if item.kind_id <= Kind.BROKEN:
+            units.append(item)
+        if call is not None:
+            yield call, [it for it in units if call.has(it)]
+        run = caller.run
+        units = [] if run is None else [it for it in units if run.has(it)] if call is not None or run.place == item.place else units
     last = caller.finish()
     if last is not None:
-        yield last
+        yield last, [it for it in units if last.has(it)]
