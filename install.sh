@@ -143,6 +143,21 @@ Cflags: -I\${includedir}
 Libs: -L\${libdir} -lp25
 END
     put 644 "$made" lib/pkgconfig/p25.pc
+    put 644 "$top/bindings/p25-config.cmake" lib/cmake/p25/p25-config.cmake
+    cat >"$made" <<END
+set(PACKAGE_VERSION $release)
+if(PACKAGE_FIND_VERSION VERSION_GREATER PACKAGE_VERSION OR NOT PACKAGE_FIND_VERSION_MAJOR STREQUAL "${release%%.*}")
+  set(PACKAGE_VERSION_COMPATIBLE FALSE)
+else()
+  set(PACKAGE_VERSION_COMPATIBLE TRUE)
+endif()
+END
+    put 644 "$made" lib/cmake/p25/p25-config-version.cmake
+    "$top/packaging/page" "$top/docs/LIBRARY.md" >"$made"
+    put 644 "$made" share/p25/LIBRARY.md
+    for program in show.c codes.c recorder.c recorder.py; do
+        put 644 "$top/bindings/$program" "share/p25/examples/$program"
+    done
     echo "installed the library for C under $1/lib and $1/include"
 fi
 

@@ -305,36 +305,6 @@ int32_t p25_stream_next(p25_stream *stream, p25_item *item, char *text, size_t r
 /* States that no more octets come: what is held is then divided to its end. Dibits that fill no octet are left out. */
 void p25_stream_end(p25_stream *stream);
 
-/* Items of a stream ------------------------------------------------------------------------------------------------ */
-
-/* Each call does for an item that p25_stream_next has returned what the call of the same name does with octets. The
-   octets of the item are in the stream until octets or dibits are pushed. Each call returns P25_OUTSIDE before all
-   else if the numbers fit no stream. */
-
-/* Does what p25_item_octets does with an item of a stream. Since 1.1. */
-int32_t p25_stream_item_octets(const p25_stream *stream, const p25_item *item, uint8_t *into, size_t room);
-
-/* Does what p25_repair_at does with an item of a stream. Since 1.1. */
-int32_t p25_stream_repair(const p25_stream *stream, const p25_item *item, uint8_t *into, size_t room);
-
-/* Does what p25_bridge_at does with an item of a stream. Since 1.1. */
-int32_t p25_stream_bridge(const p25_stream *stream, const p25_item *item, uint16_t nac, uint8_t status, uint8_t *into,
-                          size_t room);
-
-/* Does what p25_relay_at does with an item of a stream: the stream has decided it. Since 1.1. */
-int32_t p25_stream_relay(const p25_stream *stream, const p25_item *item, uint16_t nac, uint8_t status, uint8_t *into,
-                         size_t room);
-
-/* Does what p25_unit_fields does with an item of a stream. Since 1.1. */
-int32_t p25_stream_fields(const p25_stream *stream, const p25_item *item, p25_fields *fields);
-
-/* Does what p25_packet_read does with an item of a stream. Since 1.1. */
-int32_t p25_stream_packet(const p25_stream *stream, const p25_item *item, p25_packet *packet);
-
-/* Does what p25_follower_take does with an item of a stream. Since 1.1. */
-int32_t p25_stream_follow(const p25_stream *stream, const p25_item *item, p25_follower *follower, uint8_t *into,
-                          size_t room);
-
 /* Data units whose sync is lost, found by their rhythm ------------------------------------------------------------- */
 
 enum {
@@ -619,6 +589,36 @@ int32_t p25_packet_read(const uint8_t *octets, size_t n, uint64_t begin, uint64_
    P25_WRONG_PACKET, if the format is none of the three, or a block of a confirmed packet is 0 in good or has a
    serial number above 127; P25_NO_ROOM. */
 int32_t p25_build_packet(const p25_packet *packet, uint8_t status, uint8_t *octets, size_t room);
+
+/* Items of a stream ------------------------------------------------------------------------------------------------ */
+
+/* Each call does for an item that p25_stream_next has returned what the call of the same name does with octets. The
+   octets of the item are in the stream until octets or dibits are pushed. Each call returns P25_OUTSIDE before all
+   else if the numbers fit no stream. */
+
+/* Does what p25_item_octets does with an item of a stream. Since 1.1. */
+int32_t p25_stream_item_octets(const p25_stream *stream, const p25_item *item, uint8_t *into, size_t room);
+
+/* Does what p25_repair_at does with an item of a stream. Since 1.1. */
+int32_t p25_stream_repair(const p25_stream *stream, const p25_item *item, uint8_t *into, size_t room);
+
+/* Does what p25_bridge_at does with an item of a stream. Since 1.1. */
+int32_t p25_stream_bridge(const p25_stream *stream, const p25_item *item, uint16_t nac, uint8_t status, uint8_t *into,
+                          size_t room);
+
+/* Does what p25_relay_at does with an item of a stream: the stream has decided it. Since 1.1. */
+int32_t p25_stream_relay(const p25_stream *stream, const p25_item *item, uint16_t nac, uint8_t status, uint8_t *into,
+                         size_t room);
+
+/* Does what p25_unit_fields does with an item of a stream. Since 1.1. */
+int32_t p25_stream_fields(const p25_stream *stream, const p25_item *item, p25_fields *fields);
+
+/* Does what p25_packet_read does with an item of a stream. Since 1.1. */
+int32_t p25_stream_packet(const p25_stream *stream, const p25_item *item, p25_packet *packet);
+
+/* Does what p25_follower_take does with an item of a stream. Since 1.1. */
+int32_t p25_stream_follow(const p25_stream *stream, const p25_item *item, p25_follower *follower, uint8_t *into,
+                          size_t room);
 
 /* Codewords of the Reed-Solomon codes ------------------------------------------------------------------------------ */
 

@@ -271,8 +271,8 @@ def try_follows(recording, levels, followed, relayed, softened):
 
 def try_layout():
     """Prints what `values layout` prints."""
-    values = p25._values
-    for it in (values._Link, values._Fields, values._Call, values._Caller, values._Packet, p25._signals._Follower):
+    it = p25._calls
+    for it in (it.LinkParts, it.FieldParts, it.CallParts, it.CallerState, it.PacketParts, it.FollowerState):
         print(ctypes.sizeof(it), *(getattr(it, part[0]).offset for part in it._fields_))
 
 

@@ -27,6 +27,7 @@
 
 mod answers;
 mod blocks;
+mod broken;
 mod building;
 mod calls;
 mod checks;

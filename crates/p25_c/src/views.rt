@@ -31,12 +31,8 @@ pub extern "C" fn p25_stream_item_octets(stream: &Stream, item: &ItemParts, into
     if !is_stream(stream) {
         return OUTSIDE;
     }
-    p25_item_octets(
-        &stream.octets[..stream.held as usize],
-        stream.begin,
-        item,
-        into,
-    )
+    let octets = &stream.octets[..stream.held as usize];
+    p25_item_octets(octets, stream.begin, item, into)
 }
 
 /// Does what `p25_repair_at` does with an item of a stream. Since 1.1.
