@@ -455,6 +455,16 @@ int32_t p25_unit_fields(const uint8_t *octets, size_t n, uint64_t begin, uint64_
    P25_WRONG_DUID, P25_NO_ROOM. */
 int32_t p25_build_fields(const p25_fields *fields, uint8_t status, uint8_t *octets, size_t room);
 
+/* Voice of broken data units --------------------------------------------------------------------------------------- */
+
+/* The nine voice frames of an LDU1 or an LDU2 are as received, whether its other fields decode or not. */
+
+/* Sets fields to the voice frames of the LDU1 or the LDU2, whole or broken, that begins at bit from of a recording,
+   whose octets are given as for p25_next_item, and returns P25_FIELDS: its members nac, duid, has_voice and voice.
+   All other members are 0, lsd too. Returns P25_OUTSIDE as p25_next_item does, or P25_NO_UNIT if no LDU1 or LDU2
+   begins there; then fields stays. Since 1.1. */
+int32_t p25_voice_frames(const uint8_t *octets, size_t n, uint64_t begin, uint64_t from, p25_fields *fields);
+
 /* Calls ------------------------------------------------------------------------------------------------------------ */
 
 /* How a call ends. */
