@@ -177,7 +177,7 @@ int32_t p25_next_item(const uint8_t *octets, size_t n, uint64_t begin, uint64_t 
 /* Sets items to the items from bit from of a recording on, in order: as many as there are, at most as many as the
    buffer holds, and at most 2,147,483,647. The arguments and the items are as for p25_next_item. No text is made,
    and text_length is 0. Returns how many items it set; the others stay. The next call begins where the last item
-   ends. Returns P25_OUTSIDE as p25_next_item does, and then all of items stays. */
+   ends. Returns P25_OUTSIDE as p25_next_item does, and then all of items stays. Since 1.1. */
 int32_t p25_items(const uint8_t *octets, size_t n, uint64_t begin, uint64_t from, bool ended, p25_item *items,
                   size_t room);
 
@@ -219,18 +219,19 @@ int32_t p25_bridge(const uint8_t *octets, size_t n, uint16_t nac, uint8_t status
 
    Else it writes nothing and returns the first of these that applies: P25_OUTSIDE, if begin is no multiple of 8, a
    bit of the item is not among the octets, or the item has more than 25,920 bits or begins after bit 2^59;
-   P25_NO_ROOM. */
+   P25_NO_ROOM. Since 1.1. */
 int32_t p25_item_octets(const uint8_t *octets, size_t n, uint64_t begin, const p25_item *item, uint8_t *into,
                         size_t room);
 
 /* Does what p25_repair does with the whole data unit that begins at bit from of a recording, whose octets are given
    as for p25_next_item. Returns how many octets it wrote, 18 to P25_UNIT_ROOM. Else it writes nothing and returns
-   the first of these that applies: P25_OUTSIDE, P25_NO_UNIT, P25_NO_ROOM. */
+   the first of these that applies: P25_OUTSIDE, P25_NO_UNIT, P25_NO_ROOM. Since 1.1. */
 int32_t p25_repair_at(const uint8_t *octets, size_t n, uint64_t begin, uint64_t from, uint8_t *into, size_t room);
 
 /* Does what p25_bridge does with the whole data unit that begins at bit from of a recording, whose octets are given
    as for p25_next_item. Returns how many octets it wrote, 18 to P25_UNIT_ROOM. Else it writes nothing and returns
-   the first of these that applies: P25_WRONG_NAC, P25_WRONG_STATUS, P25_OUTSIDE, P25_NO_UNIT, P25_NO_ROOM. */
+   the first of these that applies: P25_WRONG_NAC, P25_WRONG_STATUS, P25_OUTSIDE, P25_NO_UNIT, P25_NO_ROOM. Since
+   1.1. */
 int32_t p25_bridge_at(const uint8_t *octets, size_t n, uint64_t begin, uint64_t from, uint16_t nac, uint8_t status,
                       uint8_t *into, size_t room);
 
@@ -247,7 +248,7 @@ int32_t p25_bridge_at(const uint8_t *octets, size_t n, uint64_t begin, uint64_t 
 
    Returns how many octets it wrote, at most P25_UNIT_ROOM, and 0 if no item is left; the octets of the buffer after
    them stay. Else it writes nothing and returns the first of these that applies: P25_WRONG_NAC, P25_WRONG_STATUS,
-   P25_OUTSIDE, P25_NO_ROOM. */
+   P25_OUTSIDE, P25_NO_ROOM. Since 1.1. */
 int32_t p25_relay_at(const uint8_t *octets, size_t n, uint64_t begin, uint64_t from, uint16_t nac, uint8_t status,
                      uint8_t *into, size_t room);
 
@@ -272,7 +273,7 @@ typedef struct p25_stream {
     uint8_t octets[P25_STREAM_OCTETS]; /* the octets held come first */
 } p25_stream;
 
-/* Sets stream to one that begins at bit 0 and holds nothing. */
+/* Sets stream to one that begins at bit 0 and holds nothing. Since 1.1. */
 void p25_stream_begin(p25_stream *stream);
 
 /* Sets stream to one that holds nothing and whose first octet will be at bit begin of a recording, a multiple of 8
@@ -286,12 +287,12 @@ void p25_stream_begin_at(p25_stream *stream, uint64_t begin);
    dropped.
 
    Else it takes none, the stream stays, and it returns the first of these that applies: P25_OUTSIDE, P25_ENDED,
-   P25_DIBITS_WAIT. */
+   P25_DIBITS_WAIT. Since 1.1. */
 int32_t p25_stream_push(p25_stream *stream, const uint8_t *octets, size_t n);
 
 /* Takes dibits, one in each octet as its two lowest bits, from the first one on, as many as there is capacity for:
    four for each octet. Four make an octet of the recording, the first one highest. Returns how many it took, or the
-   first of these that applies, and then the stream stays: P25_OUTSIDE, P25_ENDED. */
+   first of these that applies, and then the stream stays: P25_OUTSIDE, P25_ENDED. Since 1.1. */
 int32_t p25_stream_push_dibits(p25_stream *stream, const uint8_t *dibits, size_t n);
 
 /* Sets item to the next item, as p25_next_item does, and moves on to the end of it. If text has no octets, no text
@@ -299,10 +300,11 @@ int32_t p25_stream_push_dibits(p25_stream *stream, const uint8_t *dibits, size_t
    dibits are pushed, for the calls that take a stream and an item. The items do not depend on the chunks.
 
    Returns P25_ITEM; or P25_NONE, if more octets decide, or if the stream has ended and all items have been returned;
-   or P25_OUTSIDE. At the last two all stays. */
+   or P25_OUTSIDE. At the last two all stays. Since 1.1. */
 int32_t p25_stream_next(p25_stream *stream, p25_item *item, char *text, size_t room);
 
-/* States that no more octets come: what is held is then divided to its end. Dibits that fill no octet are left out. */
+/* States that no more octets come: what is held is then divided to its end. Dibits that fill no octet are left out.
+   Since 1.1. */
 void p25_stream_end(p25_stream *stream);
 
 /* Data units whose sync is lost, found by their rhythm ------------------------------------------------------------- */
@@ -325,7 +327,7 @@ typedef struct p25_follower {
     uint8_t octets[864]; /* the bits that are not settled */
 } p25_follower;
 
-/* Sets follower to one that has taken no item. */
+/* Sets follower to one that has taken no item. Since 1.1. */
 void p25_follower_begin(p25_follower *follower);
 
 /* Sets follower to one that has taken no item and begins at bit place of a recording: its first item begins there,
@@ -348,7 +350,7 @@ void p25_follower_begin_at(p25_follower *follower, uint64_t place);
    DUID is above 15, or whose bits are fewer than 144 or no multiple of 72; and a nounit or a gap of more than 4,096
    bits. A follower is refused that keeps 6,912 bits or more, or some without a data unit before them, whose NAC is
    above 4095 or whose DUID is above 15, or of which 8 bits or more wait. Followers that these calls set are never
-   refused for their numbers. */
+   refused for their numbers. Since 1.1. */
 int32_t p25_follower_take(p25_follower *follower, const uint8_t *octets, size_t n, uint64_t begin, const p25_item *item,
                           uint8_t *into, size_t room);
 
@@ -357,7 +359,7 @@ int32_t p25_follower_take(p25_follower *follower, const uint8_t *octets, size_t 
    fills no octet is not written: a recording of whole octets has none.
 
    Else it writes nothing, follower stays, and it returns the first of these that applies: P25_OUTSIDE, if
-   p25_follower_take refuses the numbers of follower; P25_NO_ROOM. */
+   p25_follower_take refuses the numbers of follower; P25_NO_ROOM. Since 1.1. */
 int32_t p25_follower_finish(p25_follower *follower, uint8_t *into, size_t room);
 
 /* Soft symbols of a four-level signal ------------------------------------------------------------------------------ */
@@ -369,10 +371,11 @@ int32_t p25_follower_finish(p25_follower *follower, uint8_t *into, size_t room);
 enum { P25_LEVELS_MOST = 12960 };
 
 /* Returns the dibit that a level is nearest to, as p25_stream_push_dibits takes it: 1 from 64 up, 0 from 0 to 63, 2
-   from -64 to -1, and 3 below -64. */
+   from -64 to -1, and 3 below -64. Since 1.1. */
 uint8_t p25_level_dibit(int8_t level);
 
-/* Returns the level of a dibit, the two lowest bits of an octet: 32 for 0, 96 for 1, -32 for 2, -96 for 3. */
+/* Returns the level of a dibit, the two lowest bits of an octet: 32 for 0, 96 for 1, -32 for 2, -96 for 3. Since
+   1.1. */
 int8_t p25_dibit_level(uint8_t dibit);
 
 /* Writes the octets of soft symbols, four in each; if they fill no octet, its last bits are 0. If the levels are
@@ -382,7 +385,7 @@ int8_t p25_dibit_level(uint8_t dibit);
 
    Returns how many octets it wrote, at most P25_UNIT_ROOM; the octets of the buffer after them stay. Else it writes
    nothing and returns the first of these that applies: P25_OUTSIDE, if there are more than P25_LEVELS_MOST levels;
-   P25_NO_ROOM. */
+   P25_NO_ROOM. Since 1.1. */
 int32_t p25_soften(const int8_t *levels, size_t n, uint8_t *into, size_t room);
 
 /* Link control ----------------------------------------------------------------------------------------------------- */
@@ -405,7 +408,7 @@ typedef struct p25_link {
     uint8_t emergency;    /* to a group: 1 if the call is an emergency, else 0 */
 } p25_link;
 
-/* Sets link to what the nine octets of link control (LC) state. */
+/* Sets link to what the nine octets of link control (LC) state. Since 1.1. */
 void p25_link_read(const uint8_t lc[9], p25_link *link);
 
 /* Fields of data units --------------------------------------------------------------------------------------------- */
@@ -444,7 +447,7 @@ typedef struct p25_fields {
 
 /* Sets fields to those of the whole data unit that begins at bit from of a recording, whose octets are given as for
    p25_next_item, and returns P25_FIELDS. For an item that was returned, from is its place. Returns P25_OUTSIDE as
-   p25_next_item does, or P25_NO_UNIT if no whole data unit begins there; then fields stays. */
+   p25_next_item does, or P25_NO_UNIT if no whole data unit begins there; then fields stays. Since 1.1. */
 int32_t p25_unit_fields(const uint8_t *octets, size_t n, uint64_t begin, uint64_t from, p25_fields *fields);
 
 /* Writes the octets of the voice unit of fields, with the status symbol status, 0 to 3, everywhere. Its member duid
@@ -452,7 +455,7 @@ int32_t p25_unit_fields(const uint8_t *octets, size_t n, uint64_t begin, uint64_
    at has_lc and its kin. Returns how many octets it wrote, 18 to 216; the octets of the buffer after them stay.
 
    Else it writes nothing and returns the first of these that applies: P25_WRONG_NAC, P25_WRONG_STATUS,
-   P25_WRONG_DUID, P25_NO_ROOM. */
+   P25_WRONG_DUID, P25_NO_ROOM. Since 1.1. */
 int32_t p25_build_fields(const p25_fields *fields, uint8_t status, uint8_t *octets, size_t room);
 
 /* Voice of broken data units --------------------------------------------------------------------------------------- */
@@ -506,7 +509,7 @@ typedef struct p25_caller {
     p25_call run;     /* that run: a call once links is above 0 */
 } p25_caller;
 
-/* Sets caller to one that has taken no item. */
+/* Sets caller to one that has taken no item. Since 1.1. */
 void p25_caller_begin(p25_caller *caller);
 
 /* Sets caller to one that has taken no item and begins at bit place of a recording: its first item begins there. So
@@ -528,12 +531,12 @@ void p25_caller_begin_at(p25_caller *caller, uint64_t place, bool by_gap);
    Returns P25_OUTSIDE if the item may not be taken, and then caller and call stay: it does not begin where the one
    before it ended; it begins at bit 2^60 or after it; 2^32 - 1 items were taken; or the open run of caller ends
    after its member reached, or has more LDU1, LDU2 or broken data units than items were taken. The last does not
-   happen to one that these calls set. */
+   happen to one that these calls set. Since 1.1. */
 int32_t p25_caller_take(p25_caller *caller, const p25_item *item, const p25_fields *fields, p25_call *call);
 
 /* Ends a recording: returns P25_CALL and sets call to the call that is still open, or returns P25_NO_CALL if none
    is. Then caller is one that has taken no item. Returns P25_OUTSIDE if p25_caller_take refuses the numbers of
-   caller, and then it stays. If no call is returned, call stays. */
+   caller, and then it stays. If no call is returned, call stays. Since 1.1. */
 int32_t p25_caller_finish(p25_caller *caller, p25_call *call);
 
 /* Ends the run that is open, and goes on: returns P25_CALL and sets call to the call that is open, or returns
@@ -585,7 +588,7 @@ typedef struct p25_packet {
 
    Else packet stays, and it returns: P25_OUTSIDE as p25_next_item does; P25_NO_UNIT, if no packet begins there,
    since its sync, its network identifier (NID) or its DUID is another, or fewer than 360 bits are left;
-   P25_PACKET_HEADER; P25_PACKET_CUT; P25_PACKET_FORMAT; P25_PACKET_CRC. */
+   P25_PACKET_HEADER; P25_PACKET_CUT; P25_PACKET_FORMAT; P25_PACKET_CRC. Since 1.1. */
 int32_t p25_packet_read(const uint8_t *octets, size_t n, uint64_t begin, uint64_t from, p25_packet *packet);
 
 /* Packets built ---------------------------------------------------------------------------------------------------- */
@@ -597,7 +600,7 @@ int32_t p25_packet_read(const uint8_t *octets, size_t n, uint64_t begin, uint64_
 
    Else it writes nothing and returns the first of these that applies: P25_WRONG_NAC; P25_WRONG_STATUS;
    P25_WRONG_PACKET, if the format is none of the three, or a block of a confirmed packet is 0 in good or has a
-   serial number above 127; P25_NO_ROOM. */
+   serial number above 127; P25_NO_ROOM. Since 1.1. */
 int32_t p25_build_packet(const p25_packet *packet, uint8_t status, uint8_t *octets, size_t room);
 
 /* Items of a stream ------------------------------------------------------------------------------------------------ */
@@ -683,15 +686,15 @@ int32_t p25_rs_24_16_write(uint8_t symbols[24]);
 /* Codewords of the Reed-Solomon codes with erasures as octets ------------------------------------------------------ */
 
 /* Decodes a received word of the code (36,20) as p25_rs_36_20_read_erased does. A symbol whose mark is not 0 is
-   erased. */
+   erased. Since 1.1. */
 int32_t p25_rs_36_20_read_marked(uint8_t symbols[36], const uint8_t marks[36]);
 
 /* Decodes a received word of the code (24,12) as p25_rs_24_12_read_erased does. A symbol whose mark is not 0 is
-   erased. */
+   erased. Since 1.1. */
 int32_t p25_rs_24_12_read_marked(uint8_t symbols[24], const uint8_t marks[24]);
 
 /* Decodes a received word of the code (24,16) as p25_rs_24_16_read_erased does. A symbol whose mark is not 0 is
-   erased. */
+   erased. Since 1.1. */
 int32_t p25_rs_24_16_read_marked(uint8_t symbols[24], const uint8_t marks[24]);
 
 /* Codewords of the binary codes, and network identifiers ----------------------------------------------------------- */

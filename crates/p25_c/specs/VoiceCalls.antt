@@ -135,18 +135,23 @@ abbrev pub is_over : Option Call → ℕ → Bool
 is_over None reached = false
 is_over (Some call) reached = nat_lt (call.place + call.bits + 3456) reached
 
--- the run that is open after an item, and whether it ends with this item, since it is over and the caller ends calls so
+-- the run that is open ends, since it is over and the caller ends calls so
+abbrev pub ends_so : ℕ → Option Call → ℕ → Bool
+ends_so gap pending reached = is_set gap && is_over pending reached
+
+-- the run that is open after an item
 abbrev pub item_pending : CallerState → ItemParts → FieldParts → Option Call
 item_pending state item fields = unit_pending (pending_held state) (unit_told item fields)
 
-abbrev pub ends_so : CallerState → ItemParts → FieldParts → Bool
-ends_so state item fields = is_set state.by_gap && is_over (item_pending state item fields) (item.place + item.bits)
+-- it ends with this item
+abbrev pub ends_with : CallerState → ItemParts → FieldParts → Bool
+ends_with state item fields = ends_so state.by_gap (item_pending state item fields) (item.place + item.bits)
 
 -- what a caller answers to an item: the call that it ends, where it ends one; None where it may not be taken
 abbrev pub item_answer_of : CallerState → ItemParts → FieldParts → Option Call
 item_answer_of state item fields =
     option_or (unit_answer (pending_held state) (unit_told item fields))
-    (if ends_so state item fields then linked_pending (item_pending state item fields) else None)
+    (if ends_with state item fields then linked_pending (item_pending state item fields) else None)
 
 abbrev pub call_asked : CallerState → ItemParts → FieldParts → Option (Option Call)
 call_asked state item fields = if may_take state item then Some (item_answer_of state item fields) else None
@@ -171,7 +176,7 @@ call_left (Some (Some call)) before = call_told call
 abbrev pub caller_left : CallerState → ItemParts → FieldParts → CallerState
 caller_left state item fields =
     if may_take state item
-    then state_told state.by_gap (item.place + item.bits) (state.taken + 1) (if ends_so state item fields then None else item_pending state item fields)
+    then state_told state.by_gap (item.place + item.bits) (state.taken + 1) (if ends_with state item fields then None else item_pending state item fields)
     else state
 
 -- and at the end one that no item was taken by

@@ -1,9 +1,9 @@
 //! Calls
 
-ghost use Rattle.std.specs.Prelude.{◌≡◌, ◌^◌, ◌<◌, None, Some};
+ghost use Rattle.std.specs.Prelude.{◌≡◌, if◌then◌else◌, None, Some};
 ghost use Rattle.p25_calls.specs.Taking.{linked_pending};
 ghost use Rattle.p25_c.specs.Values.{flag};
-ghost use Rattle.p25_c.specs.VoiceCalls.{call_answer, call_asked, call_held, call_left, call_told, caller_left, closed_left, finished_left, has_unit, is_kept, is_over, last_asked, no_call, pending_held, state_told, unit_told};
+ghost use Rattle.p25_c.specs.VoiceCalls.{call_answer, call_asked, call_held, call_left, call_told, caller_left, closed_left, ends_so, finished_left, has_unit, is_kept, is_over, last_asked, no_call, pending_held, state_told, unit_told};
 
 use crate::answers::OUTSIDE;
 use crate::fields::FieldParts;
@@ -83,7 +83,7 @@ pub struct CallerState {
     pub run: CallParts,
 }
 
-/// Sets `caller` to one that has taken no item.
+/// Sets `caller` to one that has taken no item. Since 1.1.
 #[unsafe(no_mangle)]
 pub extern "C" fn p25_caller_begin(caller: &mut CallerState)
     ensures { caller.new ≡ state_told 0 0 0 None }
@@ -115,7 +115,7 @@ pub extern "C" fn p25_caller_begin_at(caller: &mut CallerState, place: u64, by_g
 /// Returns `P25_OUTSIDE` if the item may not be taken, and then `caller` and `call` stay: it does not begin where the one before
 /// it ended; it begins at bit 2^60 or after it; 2^32 - 1 items were taken; or the open run of `caller` ends after its member
 /// reached, or has more LDU1, LDU2 or broken data units than items were taken. The last does not happen to one that these calls
-/// set.
+/// set. Since 1.1.
 #[unsafe(no_mangle)]
 pub extern "C" fn p25_caller_take(
     caller: &mut CallerState,
@@ -138,16 +138,33 @@ pub extern "C" fn p25_caller_take(
     let mut pending = pending_held(caller);
     let ended = take_unit(&mut pending, &unit);
     let reached = item.place + u64::from(item.bits);
-    let over = caller.by_gap != 0 && is_over(&pending, reached);
-    let last = if over { linked(&pending) } else { None };
-    let left = if over { None } else { pending };
-    *caller = state_told(caller.by_gap, reached, caller.taken + 1, &left);
+    let last = settle(caller.by_gap, &mut pending, reached);
+    *caller = state_told(caller.by_gap, reached, caller.taken + 1, &pending);
     tell_call(&ended.or(last), call)
+}
+
+// Ends the run that is open where it is over and the caller ends calls so, and answers the call that it is.
+fn settle(by_gap: u8, pending: &mut Option<Call>, reached: u64) -> Option<Call>
+    ensures call { result ≡ (if ends_so by_gap pending.old reached then linked_pending pending.old else None) }
+    ensures left { pending.new ≡ (if ends_so by_gap pending.old reached then None else pending.old) }
+{
+    if !ends_so(by_gap, pending, reached) {
+        return None;
+    }
+    let last = linked(pending);
+    *pending = None;
+    last
+}
+
+// Whether the run that is open ends, since it is over and the caller ends calls so.
+fn ends_so(by_gap: u8, pending: &Option<Call>, reached: u64) -> bool
+    ensures { result ≡ ends_so by_gap pending.now reached }
+{
+    by_gap != 0 && is_over(pending, reached)
 }
 
 // Whether no unit can join the run that is open any more, where the recording was read up to a bit.
 fn is_over(pending: &Option<Call>, reached: u64) -> bool
-    requires reached { reached < 2 ^ 61 }
     ensures { result ≡ is_over pending.now reached }
 {
     match pending {
@@ -172,7 +189,7 @@ fn linked(pending: &Option<Call>) -> Option<Call>
 
 /// Ends a recording: returns `P25_CALL` and sets `call` to the call that is still open, or returns `P25_NO_CALL` if none is. Then
 /// `caller` is one that has taken no item. Returns `P25_OUTSIDE` if `p25_caller_take` refuses the numbers of `caller`, and then
-/// it stays. If no call is returned, `call` stays.
+/// it stays. If no call is returned, `call` stays. Since 1.1.
 #[unsafe(no_mangle)]
 pub extern "C" fn p25_caller_finish(caller: &mut CallerState, call: &mut CallParts) -> i32
     ensures answer { result ≡ call_answer (last_asked caller.old) }

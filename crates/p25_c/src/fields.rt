@@ -63,7 +63,7 @@ pub struct FieldParts {
 
 /// Sets `fields` to those of the whole data unit that begins at bit `from` of a recording, whose octets are given as for
 /// `p25_next_item`, and returns `P25_FIELDS`. For an item that was returned, `from` is its place. Returns `P25_OUTSIDE` as
-/// `p25_next_item` does, or `P25_NO_UNIT` if no whole data unit begins there; then `fields` stays.
+/// `p25_next_item` does, or `P25_NO_UNIT` if no whole data unit begins there; then `fields` stays. Since 1.1.
 #[unsafe(no_mangle)]
 pub extern "C" fn p25_unit_fields(
     octets: &[u8],
@@ -182,7 +182,7 @@ pub(crate) fn frame_octets(frames: &[VoiceFrame; 9]) -> [[u8; 18]; 9]
 /// kin. Returns how many octets it wrote, 18 to 216; the octets of the buffer after them stay.
 ///
 /// Else it writes nothing and returns the first of these that applies: `P25_WRONG_NAC`, `P25_WRONG_STATUS`, `P25_WRONG_DUID`,
-/// `P25_NO_ROOM`.
+/// `P25_NO_ROOM`. Since 1.1.
 #[unsafe(no_mangle)]
 pub extern "C" fn p25_build_fields(fields: &FieldParts, status: u8, octets: &mut [u8]) -> i32
     ensures built { IsWritingUnder fields.now.nac status (λ symbol. fields_built symbol fields.now) octets.old octets.new result }

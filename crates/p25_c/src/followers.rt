@@ -55,7 +55,7 @@ pub struct FollowerState {
     pub octets: [u8; 864],
 }
 
-/// Sets `follower` to one that has taken no item.
+/// Sets `follower` to one that has taken no item. Since 1.1.
 #[unsafe(no_mangle)]
 pub extern "C" fn p25_follower_begin(follower: &mut FollowerState)
     ensures { follower.new ≡ fresh_follower }
@@ -89,7 +89,7 @@ pub extern "C" fn p25_follower_begin_at(follower: &mut FollowerState, place: u64
 /// An item is refused whose kind is none of the five; a whole or a broken data unit whose NAC is above 4095, whose DUID is above
 /// 15, or whose bits are fewer than 144 or no multiple of 72; and a nounit or a gap of more than 4,096 bits. A follower is
 /// refused that keeps 6,912 bits or more, or some without a data unit before them, whose NAC is above 4095 or whose DUID is above
-/// 15, or of which 8 bits or more wait. Followers that these calls set are never refused for their numbers.
+/// 15, or of which 8 bits or more wait. Followers that these calls set are never refused for their numbers. Since 1.1.
 #[unsafe(no_mangle)]
 pub extern "C" fn p25_follower_take(
     follower: &mut FollowerState,
@@ -121,7 +121,7 @@ pub extern "C" fn p25_follower_take(
 /// written: a recording of whole octets has none.
 ///
 /// Else it writes nothing, `follower` stays, and it returns the first of these that applies: `P25_OUTSIDE`, if
-/// `p25_follower_take` refuses the numbers of `follower`; `P25_NO_ROOM`.
+/// `p25_follower_take` refuses the numbers of `follower`; `P25_NO_ROOM`. Since 1.1.
 #[unsafe(no_mangle)]
 pub extern "C" fn p25_follower_finish(follower: &mut FollowerState, into: &mut [u8]) -> i32
     ensures written { IsWriting (last_octets follower.old) into.old into.new result }

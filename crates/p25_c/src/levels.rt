@@ -18,7 +18,7 @@ use p25_units::{Begun, Need, need, unit_item};
 const LEVELS_MOST: usize = 12_960;
 
 /// Returns the dibit that a level is nearest to, as `p25_stream_push_dibits` takes it: 1 from 64 up, 0 from 0 to 63, 2 from -64
-/// to -1, and 3 below -64.
+/// to -1, and 3 below -64. Since 1.1.
 #[unsafe(no_mangle)]
 pub extern "C" fn p25_level_dibit(level: i8) -> u8
     ensures { result ≡ hard_dibit level }
@@ -26,7 +26,7 @@ pub extern "C" fn p25_level_dibit(level: i8) -> u8
     hard(level)
 }
 
-/// Returns the level of a dibit, the two lowest bits of an octet: 32 for 0, 96 for 1, -32 for 2, -96 for 3.
+/// Returns the level of a dibit, the two lowest bits of an octet: 32 for 0, 96 for 1, -32 for 2, -96 for 3. Since 1.1.
 #[unsafe(no_mangle)]
 pub extern "C" fn p25_dibit_level(dibit: u8) -> i8
     ensures { result ≡ nominal_level (dibit % 4) }
@@ -41,6 +41,7 @@ pub extern "C" fn p25_dibit_level(dibit: u8) -> i8
 ///
 /// Returns how many octets it wrote, at most `P25_UNIT_ROOM`; the octets of the buffer after them stay. Else it writes nothing
 /// and returns the first of these that applies: `P25_OUTSIDE`, if there are more than `P25_LEVELS_MOST` levels; `P25_NO_ROOM`.
+/// Since 1.1.
 #[unsafe(no_mangle)]
 pub extern "C" fn p25_soften(levels: &[i8], into: &mut [u8]) -> i32
     ensures { IsWriting (octets_softened levels.now) into.old into.new result }

@@ -35,7 +35,7 @@ pub struct LinkParts {
     pub emergency: u8,
 }
 
-/// Sets `link` to what the nine octets of link control (LC) state.
+/// Sets `link` to what the nine octets of link control (LC) state. Since 1.1.
 #[unsafe(no_mangle)]
 pub extern "C" fn p25_link_read(lc: &[u8; 9], link: &mut LinkParts)
     ensures { link.new ≡ link_told (link_kind_of (record { 0 = lc.now })) }

@@ -17,7 +17,7 @@ const ITEMS_MOST: usize = 2_147_483_647;
 /// Sets `items` to the items from bit `from` of a recording on, in order: as many as there are, at most as many as the buffer
 /// holds, and at most 2,147,483,647. The arguments and the items are as for `p25_next_item`. No text is made, and text_length is
 /// 0. Returns how many items it set; the others stay. The next call begins where the last item ends. Returns `P25_OUTSIDE` as
-/// `p25_next_item` does, and then all of `items` stays.
+/// `p25_next_item` does, and then all of `items` stays. Since 1.1.
 #[unsafe(no_mangle)]
 pub extern "C" fn p25_items(
     octets: &[u8],

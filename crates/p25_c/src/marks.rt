@@ -9,6 +9,7 @@ ghost use Rattle.p25_word_calls.specs.Symbols.{IsSymbolReading};
 use p25_word_calls::read_with_erased;
 
 /// Decodes a received word of the code (36,20) as `p25_rs_36_20_read_erased` does. A symbol whose mark is not 0 is erased.
+/// Since 1.1.
 #[unsafe(no_mangle)]
 pub extern "C" fn p25_rs_36_20_read_marked(symbols: &mut [u8; 36], marks: &[u8; 36]) -> i32
     ensures { IsSymbolReading (λ received. rs_erased_reading_of 36 20 (without_erased received (map is_marked marks.now))) symbols.old symbols.new result }
@@ -19,6 +20,7 @@ pub extern "C" fn p25_rs_36_20_read_marked(symbols: &mut [u8; 36], marks: &[u8; 
 }
 
 /// Decodes a received word of the code (24,12) as `p25_rs_24_12_read_erased` does. A symbol whose mark is not 0 is erased.
+/// Since 1.1.
 #[unsafe(no_mangle)]
 pub extern "C" fn p25_rs_24_12_read_marked(symbols: &mut [u8; 24], marks: &[u8; 24]) -> i32
     ensures { IsSymbolReading (λ received. rs_erased_reading_of 24 12 (without_erased received (map is_marked marks.now))) symbols.old symbols.new result }
@@ -29,6 +31,7 @@ pub extern "C" fn p25_rs_24_12_read_marked(symbols: &mut [u8; 24], marks: &[u8; 
 }
 
 /// Decodes a received word of the code (24,16) as `p25_rs_24_16_read_erased` does. A symbol whose mark is not 0 is erased.
+/// Since 1.1.
 #[unsafe(no_mangle)]
 pub extern "C" fn p25_rs_24_16_read_marked(symbols: &mut [u8; 24], marks: &[u8; 24]) -> i32
     ensures { IsSymbolReading (λ received. rs_erased_reading_of 24 16 (without_erased received (map is_marked marks.now))) symbols.old symbols.new result }

@@ -21,7 +21,7 @@ use p25_units::{Body, Unit};
 ///
 /// Else it writes nothing and returns the first of these that applies: `P25_WRONG_NAC`; `P25_WRONG_STATUS`; `P25_WRONG_PACKET`,
 /// if the format is none of the three, or a block of a confirmed packet is 0 in good or has a serial number above 127;
-/// `P25_NO_ROOM`.
+/// `P25_NO_ROOM`. Since 1.1.
 #[unsafe(no_mangle)]
 pub extern "C" fn p25_build_packet(packet: &PacketParts, status: u8, octets: &mut [u8]) -> i32
     ensures built { IsWritingUnder packet.now.nac status (λ symbol. packet_built symbol packet.now) octets.old octets.new result }

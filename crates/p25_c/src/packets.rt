@@ -70,7 +70,7 @@ pub struct PacketParts {
 ///
 /// Else `packet` stays, and it returns: `P25_OUTSIDE` as `p25_next_item` does; `P25_NO_UNIT`, if no packet begins there, since
 /// its sync, its network identifier (NID) or its DUID is another, or fewer than 360 bits are left; `P25_PACKET_HEADER`;
-/// `P25_PACKET_CUT`; `P25_PACKET_FORMAT`; `P25_PACKET_CRC`.
+/// `P25_PACKET_CUT`; `P25_PACKET_FORMAT`; `P25_PACKET_CRC`. Since 1.1.
 #[unsafe(no_mangle)]
 pub extern "C" fn p25_packet_read(
     octets: &[u8],

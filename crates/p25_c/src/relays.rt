@@ -22,7 +22,7 @@ use p25_stream::find_item;
 ///
 /// Returns how many octets it wrote, at most `P25_UNIT_ROOM`, and 0 if no item is left; the octets of the buffer after them stay.
 /// Else it writes nothing and returns the first of these that applies: `P25_WRONG_NAC`, `P25_WRONG_STATUS`, `P25_OUTSIDE`,
-/// `P25_NO_ROOM`.
+/// `P25_NO_ROOM`. Since 1.1.
 #[unsafe(no_mangle)]
 pub extern "C" fn p25_relay_at(
     octets: &[u8],

@@ -22,7 +22,7 @@ const ITEM_BITS: u32 = 25_920;
 /// `P25_UNIT_ROOM`; the octets of the buffer after them stay.
 ///
 /// Else it writes nothing and returns the first of these that applies: `P25_OUTSIDE`, if `begin` is no multiple of 8, a bit of
-/// the item is not among the octets, or the item has more than 25,920 bits or begins after bit 2^59; `P25_NO_ROOM`.
+/// the item is not among the octets, or the item has more than 25,920 bits or begins after bit 2^59; `P25_NO_ROOM`. Since 1.1.
 #[unsafe(no_mangle)]
 pub extern "C" fn p25_item_octets(
     octets: &[u8],
@@ -78,7 +78,7 @@ pub(crate) fn fill(bits: &mut BitBuf)
 
 /// Does what `p25_repair` does with the whole data unit that begins at bit `from` of a recording, whose octets are given as for
 /// `p25_next_item`. Returns how many octets it wrote, 18 to `P25_UNIT_ROOM`. Else it writes nothing and returns the first of
-/// these that applies: `P25_OUTSIDE`, `P25_NO_UNIT`, `P25_NO_ROOM`.
+/// these that applies: `P25_OUTSIDE`, `P25_NO_UNIT`, `P25_NO_ROOM`. Since 1.1.
 #[unsafe(no_mangle)]
 pub extern "C" fn p25_repair_at(octets: &[u8], begin: u64, from: u64, into: &mut [u8]) -> i32
     ensures { IsWriting (repaired_at begin from octets.now) into.old into.new result }
@@ -97,7 +97,7 @@ pub extern "C" fn p25_repair_at(octets: &[u8], begin: u64, from: u64, into: &mut
 
 /// Does what `p25_bridge` does with the whole data unit that begins at bit `from` of a recording, whose octets are given as for
 /// `p25_next_item`. Returns how many octets it wrote, 18 to `P25_UNIT_ROOM`. Else it writes nothing and returns the first of
-/// these that applies: `P25_WRONG_NAC`, `P25_WRONG_STATUS`, `P25_OUTSIDE`, `P25_NO_UNIT`, `P25_NO_ROOM`.
+/// these that applies: `P25_WRONG_NAC`, `P25_WRONG_STATUS`, `P25_OUTSIDE`, `P25_NO_UNIT`, `P25_NO_ROOM`. Since 1.1.
 #[unsafe(no_mangle)]
 pub extern "C" fn p25_bridge_at(
     octets: &[u8],

@@ -36,7 +36,7 @@ pub struct Stream {
     pub octets: [u8; 8_168],
 }
 
-/// Sets `stream` to one that begins at bit 0 and holds nothing.
+/// Sets `stream` to one that begins at bit 0 and holds nothing. Since 1.1.
 #[unsafe(no_mangle)]
 pub extern "C" fn p25_stream_begin(stream: &mut Stream)
     ensures { stream.new ≡ fresh_stream }
@@ -70,7 +70,7 @@ pub extern "C" fn p25_stream_begin_at(stream: &mut Stream, begin: u64)
 /// these are fewer than `P25_NEEDED`, so there is capacity for 4,928 octets or more. Octets before bit `from` may be dropped.
 ///
 /// Else it takes none, the stream stays, and it returns the first of these that applies: `P25_OUTSIDE`, `P25_ENDED`,
-/// `P25_DIBITS_WAIT`.
+/// `P25_DIBITS_WAIT`. Since 1.1.
 #[unsafe(no_mangle)]
 pub extern "C" fn p25_stream_push(stream: &mut Stream, octets: &[u8]) -> i32
     ensures { IsPushed octets.now stream.old stream.new result }
@@ -90,7 +90,7 @@ pub extern "C" fn p25_stream_push(stream: &mut Stream, octets: &[u8]) -> i32
 
 /// Takes dibits, one in each octet as its two lowest bits, from the first one on, as many as there is capacity for: four for each
 /// octet. Four make an octet of the recording, the first one highest. Returns how many it took, or the first of these that
-/// applies, and then the stream stays: `P25_OUTSIDE`, `P25_ENDED`.
+/// applies, and then the stream stays: `P25_OUTSIDE`, `P25_ENDED`. Since 1.1.
 #[unsafe(no_mangle)]
 pub extern "C" fn p25_stream_push_dibits(stream: &mut Stream, dibits: &[u8]) -> i32
     ensures { IsDibitsPushed dibits.now stream.old stream.new result }
@@ -110,7 +110,7 @@ pub extern "C" fn p25_stream_push_dibits(stream: &mut Stream, dibits: &[u8]) -> 
 /// pushed, for the calls that take a stream and an item. The items do not depend on the chunks.
 ///
 /// Returns `P25_ITEM`; or `P25_NONE`, if more octets decide, or if the stream has ended and all items have been returned; or
-/// `P25_OUTSIDE`. At the last two all stays.
+/// `P25_OUTSIDE`. At the last two all stays. Since 1.1.
 #[unsafe(no_mangle)]
 pub extern "C" fn p25_stream_next(stream: &mut Stream, item: &mut ItemParts, text: &mut [u8]) -> i32
     ensures answer { result ≡ item_answer (stream_asked stream.old) }
@@ -142,7 +142,7 @@ pub extern "C" fn p25_stream_next(stream: &mut Stream, item: &mut ItemParts, tex
     ITEM
 }
 
-/// States that no more octets come: what is held is then divided to its end. Dibits that fill no octet are left out.
+/// States that no more octets come: what is held is then divided to its end. Dibits that fill no octet are left out. Since 1.1.
 #[unsafe(no_mangle)]
 pub extern "C" fn p25_stream_end(stream: &mut Stream)
     ensures { stream.new ≡ record stream.old { ended = 1 } }
