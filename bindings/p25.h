@@ -349,8 +349,7 @@ void p25_follower_begin_at(p25_follower *follower, uint64_t place);
    An item is refused whose kind is none of the five; a whole or a broken data unit whose NAC is above 4095, whose
    DUID is above 15, or whose bits are fewer than 144 or no multiple of 72; and a nounit or a gap of more than 4,096
    bits. A follower is refused that keeps 6,912 bits or more, or some without a data unit before them, whose NAC is
-   above 4095 or whose DUID is above 15, or of which 8 bits or more wait. Followers that these calls set are never
-   refused for their numbers. Since 1.1. */
+   above 4095 or whose DUID is above 15, or of which 8 bits or more wait. Since 1.1. */
 int32_t p25_follower_take(p25_follower *follower, const uint8_t *octets, size_t n, uint64_t begin, const p25_item *item,
                           uint8_t *into, size_t room);
 
@@ -457,16 +456,6 @@ int32_t p25_unit_fields(const uint8_t *octets, size_t n, uint64_t begin, uint64_
    Else it writes nothing and returns the first of these that applies: P25_WRONG_NAC, P25_WRONG_STATUS,
    P25_WRONG_DUID, P25_NO_ROOM. Since 1.1. */
 int32_t p25_build_fields(const p25_fields *fields, uint8_t status, uint8_t *octets, size_t room);
-
-/* Voice of broken data units --------------------------------------------------------------------------------------- */
-
-/* The nine voice frames of an LDU1 or an LDU2 are as received, whether its other fields decode or not. */
-
-/* Sets fields to the voice frames of the LDU1 or the LDU2, whole or broken, that begins at bit from of a recording,
-   whose octets are given as for p25_next_item, and returns P25_FIELDS: its members nac, duid, has_voice and voice.
-   All other members are 0, lsd too. Returns P25_OUTSIDE as p25_next_item does, or P25_NO_UNIT if no LDU1 or LDU2
-   begins there; then fields stays. Since 1.1. */
-int32_t p25_voice_frames(const uint8_t *octets, size_t n, uint64_t begin, uint64_t from, p25_fields *fields);
 
 /* Calls ------------------------------------------------------------------------------------------------------------ */
 

@@ -73,7 +73,7 @@ static void by_stream_and_item(const p25_stream *stream, const p25_item *item) {
     const uint8_t *octets = stream->octets;
     size_t n = stream->held;
     uint64_t begin = stream->begin;
-    for (int i = 0; i < 8; i++) {
+    for (int i = 0; i < 7; i++) {
         int32_t a = 0, b = 0;
         size_t room = below(8) == 0 ? below(20) : sizeof one;
         memset(one, MARK, sizeof one);
@@ -93,12 +93,7 @@ static void by_stream_and_item(const p25_stream *stream, const p25_item *item) {
                 a = p25_stream_follow(stream, item, &one_follower, one, room);
                 b = p25_follower_take(&other_follower, octets, n, begin, item, other, room);
                 break;
-            default:
-                a = p25_unit_fields(octets, n, begin, item->place, &one_fields);
-                b = p25_voice_frames(octets, n, begin, item->place, &other_fields);
-                check(b == (item->kind <= P25_BROKEN && (item->duid == P25_LDU1 || item->duid == P25_LDU2) ? P25_FIELDS : P25_NO_UNIT), "voice frames are those of an LDU");
-                check(a != P25_FIELDS || b != P25_FIELDS || memcmp(one_fields.voice, other_fields.voice, sizeof one_fields.voice) == 0, "the voice frames of a whole unit");
-                continue;
+            default: break;
         }
         check(a == b && memcmp(one, other, sizeof one) == 0 && memcmp(&one_fields, &other_fields, sizeof one_fields) == 0 &&
                   memcmp(&one_packet, &other_packet, sizeof one_packet) == 0 && memcmp(&one_follower, &other_follower, sizeof one_follower) == 0,

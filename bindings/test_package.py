@@ -152,22 +152,6 @@ def test_calls_with_their_units(path):
             assert units[0].place == call.place and units[-1].place + units[-1].bits == call.place + call.bits
 
 
-@pytest.mark.parametrize("number", range(20))
-def test_voice_of_broken_units(number):
-    lot, sent = random.Random(number), bytes(random.Random(number).randrange(256) for _ in range(162))
-    unit = bytearray(p25.build(f"ldu{1 + number % 2} nac=293 {'mi' if number % 2 else 'lc'}={'00' * 9} {'algid=80 kid=0000 ' if number % 2 else ''}lsd=0000 voice={sent.hex()}"))
-    (whole,) = p25.items(bytes(unit))
-    assert b"".join(whole.voice) == sent and whole.voice == whole.fields.voice
-    # Words of the coded field, between the voice frames: bits of 12 to 24 words are inverted.
-    for group in range(6):
-        for bare in range(400 + 184 * group, 440 + 184 * group):
-            if lot.randrange(4) > 0:
-                at = bare + bare // 70 * 2
-                unit[at // 8] ^= 128 >> at % 8
-    (broken,) = p25.items(bytes(unit))
-    assert broken.kind == "broken" and broken.fields is None and b"".join(broken.voice) == sent
-
-
 def test_a_call_ends_with_the_gap_that_decides_it():
     voice = b"".join(p25.build(f"ldu1 nac=293 lc=000000000100000200 lsd=0000 voice={'00' * 162}") for _ in range(3))
     items = list(p25.items(voice + bytes(2000)))

@@ -248,7 +248,6 @@ CALLS: Dict[str, Tuple[Any, Tuple[Any, ...]]] = {
     "p25_link_read": (None, (ADDRESS, POINTER(LinkParts))),
     "p25_unit_fields": (I32, (ADDRESS, SIZE, U64, U64, POINTER(FieldParts))),
     "p25_build_fields": (I32, (POINTER(FieldParts), U8, ADDRESS, SIZE)),
-    "p25_voice_frames": (I32, (ADDRESS, SIZE, U64, U64, POINTER(FieldParts))),
     "p25_caller_begin": (None, (POINTER(CallerState),)),
     "p25_caller_begin_at": (None, (POINTER(CallerState), U64, BOOL)),
     "p25_caller_take": (I32, (POINTER(CallerState), POINTER(ItemParts), POINTER(FieldParts), POINTER(CallParts))),

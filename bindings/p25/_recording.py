@@ -126,13 +126,6 @@ class Item:
         return None if fields is None or fields.lc is None else read_link(fields.lc)
 
     @property
-    def voice(self) -> Optional[Tuple[bytes, ...]]:
-        """Of an LDU1 or an LDU2, whole or broken, the nine voice frames of 18 octets as received; else None."""
-        from ._values import voice_at
-
-        return voice_at(self._octets, self.place) if self.duid in (Duid.LDU1, Duid.LDU2) else None
-
-    @property
     def packet(self) -> "Optional[Packet]":
         """Of a unit of a packet (PDU) the packet, also where blocks of it fail; None where none is read."""
         from ._values import packet_at

@@ -154,7 +154,6 @@ _caller_begin_at = call("p25_caller_begin_at")
 _caller_close = call("p25_caller_close")
 _caller_take = call("p25_caller_take")
 _caller_finish = call("p25_caller_finish")
-_voice_frames = call("p25_voice_frames")
 _packet_read = call("p25_packet_read")
 _build_packet = call("p25_build_packet")
 
@@ -194,15 +193,6 @@ def fields_at(octets: bytes, place: int) -> Optional[Fields]:
         bytes(told.lsd) if told.has_voice else None,
         tuple(voice[at : at + 18] for at in range(0, 162, 18)) if told.has_voice else None,
     )
-
-
-def voice_at(octets: bytes, place: int) -> Optional[Tuple[bytes, ...]]:
-    """Returns the voice frames of the LDU1 or LDU2 at a place, whole or broken, by the octets that hold its bits, or None if there is none."""
-    told = FieldParts()
-    if _voice_frames(octets, len(octets), place - place % 8, place, ctypes.byref(told)) != _calls.FIELDS:
-        return None
-    voice = bytes(told.voice)
-    return tuple(voice[at : at + 18] for at in range(0, 162, 18))
 
 
 def packet_at(octets: bytes, place: int) -> Optional[Packet]:

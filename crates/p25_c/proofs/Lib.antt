@@ -10,7 +10,6 @@ pub mod StreamsSteps
 pub mod StreamCallsLaws
 pub mod DibitsSteps
 pub mod PacketsLaws
-pub mod BrokenSteps
 pub mod ValueLaws
 pub mod BoundsLaws
 pub mod FollowerLaws

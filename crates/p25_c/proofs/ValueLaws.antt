@@ -1,7 +1,7 @@
 -- The laws of values: by the kinds of items and units, and of calls by induction on the items.
 use Rattle.std.proofs.Common.{◌≡◌, ℕ, ◌+◌, ◌-◌, ◌<◌, ◌≤◌, ◌^◌, ◌&&◌, not, cond, Bool, true, false, List, [], ◌∷◌, ◌++◌, length, Option, Some, None, inl, inr, refl, sym, ap, ap₂, subst, ◌∙◌, arith, append-nil, append_assoc}
 use Rattle.std.proofs.{lemmas.List.Elements.{All-head, All-tail}, lemmas.Bool.{and_right, cond-false, cond-true, eq-eqb, eqb-true, le-leb, le-ltb, lt-leb, lt-ltb, ltb-true, or_cases}}
-use Rattle.std.specs.{Prelude.{All, IfSome, nat_eq, nat_le, nat_lt, option_to_list}, Cmp.Derive.{both_true}, Option.{option_or}}
+use Rattle.std.specs.{Prelude.{All, IfSome, nat_eq, nat_le, nat_lt, option_to_list}, Cmp.{second_so, Derive.{both_true}}, Option.{option_or}}
 use Rattle.p25_calls.specs.{CallLaws.{LieFrom}, Calls.{call_of, calls_by}, Seen.{algid_in, is_header, is_link_unit, is_terminator, is_voice, link_in, unit_end, unit_of}}
 use Rattle.p25_calls.specs.Taking.{CallerParts, IsPending, answer_to, answers_by, behind_item, broken_off, call_of_one, ended_call, extended, goes_on, if_linked, linked_pending, open_call, pending_run, run_with, terminated, unit_answer, unit_pending}
 use Rattle.p25_calls.specs.{declared.call.Call.{Call}, declared.seen.UnitSeen.{UnitSeen}}
@@ -241,10 +241,6 @@ kept-if : (ends : Bool) (pending : Option Call) (end taken : ℕ) → IfSome pen
 kept-if true pending end taken held = tt
 kept-if false pending end taken held = held
 
-second-true : (a b : Bool) → (a && b) ≡ true → b ≡ true
-second-true true b is = is
-second-true false b is = cc
-
 unit-ends : (item : Item) → IfSome (unit_of item) (λ (unit : UnitSeen). unit_end unit ≡ place_of item + covered item)
 unit-ends (Whole place frame fixes) = refl
 unit-ends (Broken place count nac duid fields) = refl
@@ -271,24 +267,30 @@ told-answers (item ∷ items) others gap reached taken pending held lie few belo
     ap₂ (λ (xs : List Call) (s : CallerState). xs ++ told_by s items others) (ap told (asked-is gap reached taken pending item others may)) (left-is gap reached taken pending item others may)
     ∙ ap (λ (xs : List Call). option_to_list (answer_with gap pending found end) ++ xs)
     (told-answers items others gap end (taken + 1) (kept_with gap pending found end) kept later (omega (arith, few)) (All-tail Begins item items below))
-    ∙ early found pending reached taken end items ends held (unit-ends item) (omega (arith, parts.0)) later (second-true (is_set gap) (is_over (unit_pending pending found) end))
+    ∙ early found pending reached taken end items ends held (unit-ends item) (omega (arith, parts.0)) later (second_so (is_set gap) (is_over (unit_pending pending found) end))
     ∙ sym (answers-one (caller_at reached taken pending) item items)
 
 -- ---- from any place on
 
 -- items from a place on are those after a gap of so many bits
+zero-more : (n : ℕ) → 0 + n ≡ n
+zero-more n = omega arith
+
 gap-lies : (place : ℕ) (items : List Item) → LieFrom place items → LieFrom 0 (Gap 0 place ∷ items)
 unfolding LieFrom
-gap-lies place items lie = (refl, lie)
+gap-lies place items lie = (refl, subst (λ (n : ℕ). LieFrom n items) (sym (zero-more place)) lie)
 
 gap-calls : (place : ℕ) (items : List Item) → calls_by true (Gap 0 place ∷ items) ≡ calls_by true items
 unfolding calls_by
 gap-calls place items = refl
 
+gap-answers : (place : ℕ) (items : List Item) → answers_by true (caller_at 0 0 None) (Gap 0 place ∷ items) ≡ answers_by true (caller_at place 1 None) items
+gap-answers place items = answers-one (caller_at 0 0 None) (Gap 0 place) items ∙ ap (λ (n : ℕ). answers_by true (caller_at n 1 None) items) (zero-more place)
+
 pub calls-told : CallsAreTold
 calls-told gap place items others lie few below =
     told-answers items others gap place 0 None tt lie (omega (arith, few)) below
     ∙ answers-taken items place 0 1 None
-    ∙ sym (answers-one (caller_at 0 0 None) (Gap 0 place) items)
+    ∙ sym (gap-answers place items)
     ∙ answers-are-calls true (Gap 0 place ∷ items) (gap-lies place items lie)
     ∙ gap-calls place items

@@ -15,7 +15,6 @@ pub mod Values
 pub mod Fields
 pub mod VoiceCalls
 pub mod Packets
-pub mod Broken
 pub mod ValueLaws
 pub mod BoundsLaws
 pub mod FollowerLaws

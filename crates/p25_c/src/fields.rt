@@ -19,7 +19,7 @@ use p25_voice_units::{Voice, VoiceFrame};
 // What `p25_unit_fields` returns when it sets the fields.
 
 /// the fields are those of the data unit
-pub(crate) const FIELDS: i32 = 1;
+const FIELDS: i32 = 1;
 
 /// The fields of a data unit. Its DUID states which of them it has; the others are 0. TIA-102.BAAA, Voice Data Units.
 ///
@@ -103,7 +103,7 @@ fn tell_fields(found: &Item, fields: &mut FieldParts) -> i32
 }
 
 // Fields of which none is there.
-pub(crate) fn no_fields(nac: u16, duid: u8) -> FieldParts
+fn no_fields(nac: u16, duid: u8) -> FieldParts
     ensures { result ≡ no_fields nac duid }
 {
     FieldParts {
@@ -167,7 +167,7 @@ fn voice_fields(nac: u16, voice: &VoiceUnit) -> FieldParts
 }
 
 // The octets of voice frames.
-pub(crate) fn frame_octets(frames: &[VoiceFrame; 9]) -> [[u8; 18]; 9]
+fn frame_octets(frames: &[VoiceFrame; 9]) -> [[u8; 18]; 9]
     ensures { result ≡ frame_octets frames.now }
 {
     let mut octets = [[0; 18]; 9];

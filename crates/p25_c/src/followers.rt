@@ -89,7 +89,7 @@ pub extern "C" fn p25_follower_begin_at(follower: &mut FollowerState, place: u64
 /// An item is refused whose kind is none of the five; a whole or a broken data unit whose NAC is above 4095, whose DUID is above
 /// 15, or whose bits are fewer than 144 or no multiple of 72; and a nounit or a gap of more than 4,096 bits. A follower is
 /// refused that keeps 6,912 bits or more, or some without a data unit before them, whose NAC is above 4095 or whose DUID is above
-/// 15, or of which 8 bits or more wait. Followers that these calls set are never refused for their numbers. Since 1.1.
+/// 15, or of which 8 bits or more wait. Since 1.1.
 #[unsafe(no_mangle)]
 pub extern "C" fn p25_follower_take(
     follower: &mut FollowerState,
@@ -100,7 +100,6 @@ pub extern "C" fn p25_follower_take(
 ) -> i32
     ensures written { IsWriting (followed_octets follower.old item.now begin octets.now) into.old into.new result }
     ensures left { follower.new ≡ follower_left follower.old item.now begin octets.now (length into.old) }
-    ensures fits { is_follower follower.old ≡ true → is_follower follower.new ≡ true }
 {
     if !may_follow(follower, item, begin, octets) {
         return OUTSIDE;
@@ -126,7 +125,6 @@ pub extern "C" fn p25_follower_take(
 pub extern "C" fn p25_follower_finish(follower: &mut FollowerState, into: &mut [u8]) -> i32
     ensures written { IsWriting (last_octets follower.old) into.old into.new result }
     ensures left { follower.new ≡ ended_left follower.old (length into.old) }
-    ensures fits { is_follower follower.old ≡ true → is_follower follower.new ≡ true }
 {
     if !is_follower(follower) {
         return OUTSIDE;
@@ -250,8 +248,7 @@ fn name_held(follower: &FollowerState) -> Option<Nid>
 
 // A follower as numbers, where the next item begins at a bit.
 fn follower_told(reached: u64, followed: &Followed) -> FollowerState
-    ensures value { result ≡ follower_told reached followed.now }
-    ensures fits { is_follower result ≡ true }
+    ensures { result ≡ follower_told reached followed.now }
 {
     let follower = followed.follower();
     let stretch = follower.stretch();

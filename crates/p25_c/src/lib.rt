@@ -27,7 +27,6 @@
 
 mod answers;
 mod blocks;
-mod broken;
 mod building;
 mod calls;
 mod checks;
