@@ -7,3 +7,5 @@ pub mod KeptLaws
 pub mod UnitKeptLaws
 pub mod OverLaws
 pub mod RecordingsLaws
+pub mod SettledLaws
+pub mod PassLaws

@@ -3,9 +3,9 @@ use Rattle.std.proofs.Common.{◌≡◌, ℕ, ◌+◌, ◌-◌, ◌<◌, ◌≤�
 use Rattle.std.proofs.{Math.Seq.{take-add}, lemmas.List.{take-append-drop, take-append-le, drop-append-le, drop-drop, length-take-le, take_at, drop_at}}
 use Rattle.p25_units.specs.{Items.{covered, place_of, unit_item_of}, declared.item.Item.{Item}}
 use Rattle.p25_units.proofs.ItemsLaws.{place_of-unit_item_of}
-use Rattle.p25_stream.specs.{Items.{first_item, items_of}, Written.{written}}
+use Rattle.p25_stream.specs.{Items.{items_of}, Written.{written}}
 use Rattle.p25_stream.proofs.{ItemsLaws.{place_of-first_item}, WrittenLaws.{written-cons, written-nil}}
-use Rattle.p25_follow.specs.{Chains.{chain_by, with_front}, Expected.{kind_length}, Followed.{follow_of, followed_by, is_rest, unit_name}, FollowedUnits.{units_by, written_units}, Steps.{step_of}}
+use Rattle.p25_follow.specs.{Chains.{chain_by, with_front}, Expected.{kind_length}, Followed.{follow_of, followed_by, is_rest, unit_name}, FollowedUnits.{units_by, written_units}}
 use Rattle.p25_follow.specs.StretchLaws.{units_among}
 use Rattle.p25_follow.proofs.{ChainLaws.{along-chain}, FollowingLaws.{Starts, along-items, followed-end, followed-rest, followed-unit}, LengthLaws.{length-chain_of}}
 use Rattle.p25_follow.proofs.{AfterUnitLaws.{Sound, none-sound, sound-some, some-sound, unit-sound}, FoundLaws.{written-found}}
@@ -38,7 +38,7 @@ over-skip change at count (unit ∷ units) bits there from =
     ∙ append_assoc (take count bits) (take later (drop count bits)) (tail (drop later (drop count bits)))
 
 -- a unit with which bits start
-over-first : (change : Item → List Bool → List Bool) (at : ℕ) (unit : Item) (units : List Item) (bits : List Bool) → place_of unit ≡ at
+pub over-first : (change : Item → List Bool → List Bool) (at : ℕ) (unit : Item) (units : List Item) (bits : List Bool) → place_of unit ≡ at
     → over_units change at (unit ∷ units) bits ≡ change unit (take (covered unit) bits) ++ over_units change (at + covered unit) units (drop (covered unit) bits)
 unfolding over_units
 over-first change at unit units bits place =
@@ -133,7 +133,7 @@ over-append change at (unit ∷ units) later ys ws within from =
     ∙ sym (append_assoc (take n ys) (own ++ mine) theirs)
 
 -- a unit whose sync and NID are restored covers its own bits
-covers-written : (at nac kind : ℕ) (bits : List Bool) → nac < 4096 → 144 ≤ kind_length kind → kind < 16 → length bits ≡ kind_length kind
+pub covers-written : (at nac kind : ℕ) (bits : List Bool) → nac < 4096 → 144 ≤ kind_length kind → kind < 16 → length bits ≡ kind_length kind
     → covered (unit_item_of at (with_front (nac, kind) bits)) ≡ kind_length kind
 covers-written at nac kind bits nac_fits few kind_fits long =
     let found = written-found at nac kind bits [] nac_fits few kind_fits long in
@@ -161,16 +161,16 @@ units-within end =
 
 -- ---- along the stretches of a recording
 
-over-end : (change : Item → List Bool → List Bool) (at : ℕ) (before : Option (ℕ × ℕ)) (stretch bits : List Bool) → stretches_over change at before stretch [] bits ≡ chain_over change at before stretch None
+pub over-end : (change : Item → List Bool → List Bool) (at : ℕ) (before : Option (ℕ × ℕ)) (stretch bits : List Bool) → stretches_over change at before stretch [] bits ≡ chain_over change at before stretch None
 unfolding stretches_over
 over-end change at before stretch bits = refl
 
-over-rest : (change : Item → List Bool → List Bool) (at : ℕ) (before : Option (ℕ × ℕ)) (stretch : List Bool) (item : Item) (items : List Item) (bits : List Bool) → is_rest item ≡ true
+pub over-rest : (change : Item → List Bool → List Bool) (at : ℕ) (before : Option (ℕ × ℕ)) (stretch : List Bool) (item : Item) (items : List Item) (bits : List Bool) → is_rest item ≡ true
     → stretches_over change at before stretch (item ∷ items) bits ≡ stretches_over change at before (stretch ++ take (covered item) bits) items (drop (covered item) bits)
 unfolding stretches_over
 over-rest change at before stretch item items bits rest = rw rest
 
-over-unit : (change : Item → List Bool → List Bool) (at : ℕ) (before : Option (ℕ × ℕ)) (stretch : List Bool) (item : Item) (items : List Item) (bits : List Bool) → is_rest item ≡ false
+pub over-unit : (change : Item → List Bool → List Bool) (at : ℕ) (before : Option (ℕ × ℕ)) (stretch : List Bool) (item : Item) (items : List Item) (bits : List Bool) → is_rest item ≡ false
     → stretches_over change at before stretch (item ∷ items) bits
     ≡ chain_over change at before stretch (unit_name item)
     ++ (change item (take (covered item) bits) ++ stretches_over change (at + length stretch + covered item) (unit_name item) [] items (drop (covered item) bits))

@@ -1,9 +1,9 @@
 -- A recording decided, by the units that the scan finds in the followed bits: those of the recording, and those whose sync and NID are
 -- restored.
-use Rattle.std.proofs.Common.{◌≡◌, ℕ, ◌%◌, Bool, true, List, [], Option, None, eqb, cond, refl, ap, sym, ◌∙◌, ℤ}
-use Rattle.p25_units.specs.{Items.{covered, place_of}, declared.item.Item.{Item}, declared.item.Item.TheVariants.{Whole, Broken, NoUnit, Gap, Cut}}
+use Rattle.std.proofs.Common.{◌≡◌, ◌%◌, Bool, true, List, [], None, eqb, cond, refl, ap, ◌∙◌, ℤ}
+use Rattle.p25_units.specs.{declared.item.Item.{Item}, declared.item.Item.TheVariants.{Whole, Broken, NoUnit, Gap, Cut}}
 use Rattle.p25_stream.specs.Items.{items_of}
-use Rattle.p25_follow.specs.{Followed.{follow_of, is_rest}, FollowedUnits.{units_by}}
+use Rattle.p25_follow.specs.{Followed.{follow_of, is_rest}}
 use Rattle.p25_follow.proofs.NeverWorseLaws.{never-worse}
 use Rattle.p25_soft.specs.Levels.{hard_bits}
 use Rattle.p25_decide.specs.{DecidedRecordings.{decide_of, decided_of, item_decided, unit_decided}, DecidedStretches.{over_units, stretches_over}}

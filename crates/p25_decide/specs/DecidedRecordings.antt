@@ -1,5 +1,5 @@
 -- A recording of soft symbols, with the coded fields of its units decoded from the soft symbols.
-use Rattle.std.specs.Prelude.{ℕ, ◌/◌, ◌%◌, ◌==◌, if◌then◌else◌, Bool, List, ℤ}
+use Rattle.std.specs.Prelude.{◌/◌, ◌%◌, ◌==◌, if◌then◌else◌, Bool, List, ℤ}
 use Rattle.p25_bits.specs.Bits.{part}
 use Rattle.p25_bch_nid.specs.Duids.{duid_pdu}
 use Rattle.p25_units.specs.{Items.{covered, place_of}, Units.{body_duid}, declared.item.Item.{Item}, declared.item.Item.TheVariants.{Whole, Broken}}

@@ -2,3 +2,4 @@ pub mod LevelCosts
 pub mod DecidedUnits
 pub mod DecidedRecordings
 pub mod DecidedStretches
+pub mod DecidedFollowing

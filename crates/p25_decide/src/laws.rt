@@ -1,6 +1,6 @@
 //! Laws of fields that are decoded from soft symbols. Each function states what is proved, and calls at most other theorems.
 
-ghost use Rattle.std.specs.Prelude.{◌≡◌, ℕ, ◌+◌, ◌-◌, ◌*◌, ◌/◌, ◌<◌, ◌≤◌, ◌⊎◌, List, Bool, ℤ, All, Option, Some, None, [], length, slice_get, take};
+ghost use Rattle.std.specs.Prelude.{◌≡◌, ℕ, ◌+◌, ◌-◌, ◌*◌, ◌/◌, ◌<◌, ◌≤◌, ◌⊎◌, List, Bool, ℤ, All, Option, Some, None, [], length, slice_get, take, true};
 ghost use Rattle.p25_code.specs.LeastCost.{IsCheapest, IsSpread, cheapest_word, pairs_cost};
 ghost use Rattle.p25_bits.specs.Distance.{distance_by};
 ghost use Rattle.p25_coded_fields.specs.Decided.{InnerWords, read_erasing, symbols_decided, symbols_read, word_decided};
@@ -11,7 +11,8 @@ ghost use Rattle.p25_hamming.specs.{Hamming10.{IsHamming10, hamming10_word}, Lsd
 ghost use Rattle.p25_voice_units.specs.Lengths.{voice_length_of};
 ghost use Rattle.p25_soft.specs.Levels.{hard_bits};
 ghost use Rattle.p25_stream.specs.Items.{items_of};
-ghost use Rattle.p25_decide.specs.{DecidedRecordings.{decide_of, item_decided}, DecidedStretches.{stretches_over}};
+ghost use Rattle.p25_follow.specs.Following.{fresh_follow};
+ghost use Rattle.p25_decide.specs.{DecidedRecordings.{decide_of, item_decided}, DecidedStretches.{stretches_over}, DecidedFollowing.{changed_by}};
 ghost use Rattle.p25_decide.specs.{LevelCosts.{level_cost, word_level_costs}, DecidedUnits.{decided_bare, with_words}};
 
 use p25_code::NumberCode;
@@ -93,7 +94,10 @@ pub fn unit_laws()
 ///
 /// - `stretches`: one pass over the items of the bits as they came writes the same. Each unit that the scan finds is decided by itself, and
 ///   each stretch after a unit comes as its chain, in which each unit whose sync and NID are restored is decided.
+/// - `follower`: so does a follower that writes the settled bits of a stretch, decided, as soon as they are settled.
 pub fn recording_laws()
     ensures stretches { (levels : List ℤ) → let bits = hard_bits levels in
         decide_of levels ≡ stretches_over (item_decided levels) 0 None [] (items_of 0 bits) bits }
+    ensures follower { (levels : List ℤ) → let bits = hard_bits levels in
+        decide_of levels ≡ changed_by (item_decided levels) true 0 fresh_follow (items_of 0 bits) bits }
 {}

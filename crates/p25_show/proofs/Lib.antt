@@ -1,3 +1,5 @@
 pub mod CallsLaws
 pub mod NeedsLaws
 pub mod ReadingsLaws
+pub mod TablesLaws
+pub mod UnhiddenLaws

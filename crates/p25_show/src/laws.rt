@@ -11,6 +11,7 @@ ghost use Rattle.p25_tool.specs.{CallClauses.{CallSays}, CallRuns.{IsCallRun}, W
 ghost use Rattle.p25_tool.specs.declared.outcome.Outcome.{Outcome};
 ghost use Rattle.p25_show.specs.{Calls.{ShowSays}, Needs.{need_at}};
 ghost use Rattle.p25_show.specs.Readings.{BlocksAreRead, ChecksAreMade, CodesAreRead, IsNearestBlock, IsUnitRead, identifier_read};
+ghost use Rattle.p25_show.specs.{Tables.{ExaminedRows, LineRows, PacketRows, VoiceRows}, Unhidden.{AloneIsFound, FoundHasLine, UnhiddenIsFound}};
 
 use p25_io::{Sink, Source};
 use p25_tool::laws::stream_laws;
@@ -65,6 +66,32 @@ pub fn reading_laws()
     half_blocks();
     three_quarter_blocks();
 }
+
+/// **Theorem.** The tables of the page that explains `show`, row by row.
+///
+/// - `voice`: the decoding of a voice unit, by its DUID: the positions of its inner codewords, their decoder, the outer codeword, the octets of
+///   its fields, and the fields that fail, in order.
+/// - `packets`: the decoding of a packet, by the format in its header.
+/// - `examined`: the bits that `fixes_of` counts, by the type of data unit.
+/// - `lines`: the line of a data unit, by its type: the keys in their order, each with its octets.
+pub fn table_laws()
+    ensures voice { VoiceRows }
+    ensures packets { PacketRows }
+    ensures examined { ExaminedRows }
+    ensures lines { LineRows }
+{}
+
+/// **Theorem.** When a data unit within its correction radius has its line, by conditions that can be tested on a recording.
+///
+/// - `unhidden`: it is found among the items, whole and as received, if each sync in the 25,919 bits before it is in a unit with a line
+///   (whole, broken or cut) that ends before it. The recording and its lines decide this condition.
+/// - `alone`: it is found if no sync begins in these bits. The recording alone decides this condition.
+/// - `line`: a unit that is found has its line among the lines.
+pub fn unhidden_laws()
+    ensures unhidden { UnhiddenIsFound }
+    ensures alone { AloneIsFound }
+    ensures line { FoundHasLine }
+{}
 
 // The decoding of a block at half rate.
 fn half_blocks()

@@ -1,6 +1,6 @@
 -- A recording of data units within the correction radius: a command that works on data units ends as Done, with the output of its law of recordings.
 use Rattle.std.proofs.Common.{◌≡◌, ℕ, ◌<◌, ◌≤◌, Bool, true, false, cond, nat_eq, List, [], ◌∷◌, length, codes, Option, Some, None, ◌⊎◌, inl, inr, refl, ap, sym, subst, ◌∙◌, arith}
-use Rattle.std.specs.{Prelude.{All, IfSome, option_map}, Str.{bytes_eq}}
+use Rattle.std.specs.{Prelude.{IfSome, option_map}, Str.{bytes_eq}}
 use Rattle.p25_status.specs.declared.symbols.Status.{Status}
 use Rattle.p25_text.specs.Values.{nac_in}
 use Rattle.p25_text.proofs.ValueLaws.{nac_in-text}
@@ -24,9 +24,13 @@ chosen : (which : Bool) (x y : Option Command) → IfSome x HasFitCode → IfSom
 chosen true x y one other = one
 chosen false x y one other = other
 
-table-fit : (rows : List (List ℕ × Command)) (word : List ℕ) → All (λ row. HasFitCode row.1) rows → IfSome (command_at rows word) HasFitCode
+abbrev AreFit : List (List ℕ × Command) → Type 0
+AreFit [] = Unit {0}
+AreFit (row ∷ rows) = HasFitCode row.1 × AreFit rows
+
+table-fit : (rows : List (List ℕ × Command)) (word : List ℕ) → AreFit rows → IfSome (command_at rows word) HasFitCode
 table-fit [] word all = tt
-table-fit (row ∷ rows) word (one ∷ all) = chosen (bytes_eq word row.0) (Some row.1) (command_at rows word) one (table-fit rows word all)
+table-fit (row ∷ rows) word all = chosen (bytes_eq word row.0) (Some row.1) (command_at rows word) all.0 (table-fit rows word all.1)
 
 build-fit : (symbol : Option Status) → IfSome (option_map Build symbol) HasFitCode
 build-fit None = tt
@@ -47,7 +51,7 @@ code-fit text None read = tt
 code-fit text (Some code) read = (nac_in-text text code read).1
 
 pub command-fit : (words : List (List ℕ)) → IfSome (command_of words) HasFitCode
-command-fit (word ∷ []) = table-fit one_word_commands word (tt ∷ tt ∷ tt ∷ tt ∷ tt ∷ tt ∷ tt ∷ tt ∷ tt ∷ [])
+command-fit (word ∷ []) = table-fit one_word_commands word (tt, tt, tt, tt, tt, tt, tt, tt, tt, tt)
 command-fit (first ∷ second ∷ []) =
     chosen (bytes_eq first (codes "build")) (option_map Build (status_in second)) _ (build-fit (status_in second))
     (chosen (bytes_eq first (codes "sample")) (sample_of (number_below 10001 second)) None (sample-fit (number_below 10001 second)) tt)
