@@ -155,7 +155,7 @@ END
     put 644 "$made" lib/cmake/p25/p25-config-version.cmake
     "$top/packaging/page" "$top/docs/LIBRARY.md" >"$made"
     put 644 "$made" share/p25/LIBRARY.md
-    for program in show.c codes.c; do
+    for program in show.c codes.c recorder.c recorder.py; do
         put 644 "$top/bindings/$program" "share/p25/examples/$program"
     done
     echo "installed the library for C under $1/lib and $1/include"

@@ -64,6 +64,43 @@ static bool are_same(const p25_item *a, const p25_item *b) {
     return a->place == b->place && a->bits == b->bits && a->fixes == b->fixes && a->nac == b->nac && a->duid == b->duid && a->kind == b->kind;
 }
 
+/* Compares each call that takes a stream and an item with the call that takes octets. */
+static void by_stream_and_item(const p25_stream *stream, const p25_item *item) {
+    static p25_fields one_fields, other_fields;
+    static p25_packet one_packet, other_packet;
+    static p25_follower one_follower, other_follower;
+    static uint8_t one[P25_FOLLOW_ROOM], other[P25_FOLLOW_ROOM];
+    const uint8_t *octets = stream->octets;
+    size_t n = stream->held;
+    uint64_t begin = stream->begin;
+    for (int i = 0; i < 7; i++) {
+        int32_t a = 0, b = 0;
+        size_t room = below(8) == 0 ? below(20) : sizeof one;
+        memset(one, MARK, sizeof one);
+        memset(other, MARK, sizeof other);
+        memset(&one_fields, MARK, sizeof one_fields);
+        memset(&other_fields, MARK, sizeof other_fields);
+        switch (i) {
+            case 0: a = p25_stream_item_octets(stream, item, one, room), b = p25_item_octets(octets, n, begin, item, other, room); break;
+            case 1: a = p25_stream_repair(stream, item, one, room), b = p25_repair_at(octets, n, begin, item->place, other, room); break;
+            case 2: a = p25_stream_bridge(stream, item, 0x123, 2, one, room), b = p25_bridge_at(octets, n, begin, item->place, 0x123, 2, other, room); break;
+            case 3: a = p25_stream_relay(stream, item, 0x123, 2, one, room), b = p25_relay_at(octets, n, begin, item->place, 0x123, 2, other, room); break;
+            case 4: a = p25_stream_fields(stream, item, &one_fields), b = p25_unit_fields(octets, n, begin, item->place, &other_fields); break;
+            case 5: a = p25_stream_packet(stream, item, &one_packet), b = p25_packet_read(octets, n, begin, item->place, &other_packet); break;
+            case 6:
+                p25_follower_begin_at(&one_follower, item->place);
+                other_follower = one_follower;
+                a = p25_stream_follow(stream, item, &one_follower, one, room);
+                b = p25_follower_take(&other_follower, octets, n, begin, item, other, room);
+                break;
+            default: break;
+        }
+        check(a == b && memcmp(one, other, sizeof one) == 0 && memcmp(&one_fields, &other_fields, sizeof one_fields) == 0 &&
+                  memcmp(&one_packet, &other_packet, sizeof one_packet) == 0 && memcmp(&one_follower, &other_follower, sizeof one_follower) == 0,
+              "what takes a stream and an item answers as what takes octets");
+    }
+}
+
 /* Takes the items that a stream can tell, of which the lines are those of the recording; leaves the text out where it is not asked for. */
 static void take_items(p25_stream *stream, const struct buffer *recording, struct lines *lines, bool with_text) {
     struct buffer told = take(sizeof(p25_item));
@@ -84,6 +121,7 @@ static void take_items(p25_stream *stream, const struct buffer *recording, struc
         check(!with_text || strcmp(line, (char *)text.at) == 0, "the text of an item of a stream");
         check(is_next(lines, line, same.text_length), "the next line of p25 show");
         check(stream->from == from + item->bits, "a stream goes on behind an item");
+        by_stream_and_item(stream, item);
         uint8_t here[P25_UNIT_ROOM];
         uint8_t there[P25_UNIT_ROOM];
         int32_t count = p25_item_octets(stream->octets, stream->held, stream->begin, item, here, sizeof here);
@@ -272,6 +310,38 @@ static void strange_streams(void) {
     give_back(&text);
 }
 
+/* A stream that fits none, and beginnings at a place. */
+static void beginnings(void) {
+    static p25_stream stream;
+    static p25_fields fields;
+    static p25_packet packet;
+    p25_follower follower;
+    p25_caller caller;
+    p25_call call;
+    p25_item item = {0, 144, 0, 0, 0, 0, P25_GAP};
+    uint8_t into[8];
+    p25_stream_begin_at(&stream, 4);
+    p25_follower_begin(&follower);
+    check(p25_stream_push(&stream, into, 1) == P25_OUTSIDE && p25_stream_item_octets(&stream, &item, into, 8) == P25_OUTSIDE &&
+              p25_stream_repair(&stream, &item, into, 8) == P25_OUTSIDE && p25_stream_bridge(&stream, &item, 4096, 4, into, 8) == P25_OUTSIDE &&
+              p25_stream_relay(&stream, &item, 4096, 4, into, 8) == P25_OUTSIDE && p25_stream_fields(&stream, &item, &fields) == P25_OUTSIDE &&
+              p25_stream_packet(&stream, &item, &packet) == P25_OUTSIDE && p25_stream_follow(&stream, &item, &follower, into, 8) == P25_OUTSIDE,
+          "a stream that fits none");
+    p25_stream_begin_at(&stream, 8000);
+    memset(stream.octets, 0, 20);
+    check(p25_build("tdu nac=293", 11, 1, stream.octets, 18) == 18, "a unit in a stream that begins later");
+    stream.held = 18;
+    check(p25_stream_next(&stream, &item, NULL, 0) == P25_ITEM && item.place == 8000, "its item is at its place");
+    p25_caller_begin_at(&caller, 8000, false);
+    check(p25_caller_take(&caller, &item, &fields, &call) == P25_NO_CALL && caller.reached == 8144, "a caller that begins later takes it");
+    p25_caller_begin_at(&caller, 8001, true);
+    check(p25_caller_take(&caller, &item, &fields, &call) == P25_OUTSIDE && caller.by_gap == 1, "one that begins elsewhere does not");
+    check(p25_caller_close(&caller, &call) == P25_NO_CALL && caller.reached == 8001 && caller.by_gap == 1, "a caller that is closed goes on");
+    check(p25_caller_finish(&caller, &call) == P25_NO_CALL && caller.reached == 0 && caller.by_gap == 1, "and one that is finished begins anew");
+    caller.is_open = 1, caller.run.bits = 1;
+    check(p25_caller_close(&caller, &call) == P25_OUTSIDE, "a caller that fits none is not closed");
+}
+
 /* NULL where the length is 0: it is not followed. */
 static void no_octets(void) {
     static p25_stream stream;
@@ -356,6 +426,7 @@ static void edges(void) {
     }
     no_octets();
     marks();
+    beginnings();
     strange_streams();
 }
 

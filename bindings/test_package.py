@@ -4,6 +4,7 @@
 """
 
 import array
+import ctypes
 import hashlib
 import os
 import pathlib
@@ -143,11 +144,44 @@ def test_calls_with_their_units(path):
     octets = path.read_bytes()
     items = list(p25.items(octets))
     wanted = program(["calls"], octets).decode().splitlines()
-    found = list(p25.calls_with_units(items))
-    assert [f"{it.place} {it.bits}" for it, _ in found] == [" ".join(part.split("=")[1] for part in line.split()[1:3]) for line in wanted[:-1]]
-    for call, units in found:
-        assert units == [it for it in items if call.has(it)]
-        assert units[0].place == call.place and units[-1].place + units[-1].bits == call.place + call.bits
+    for by_gap in (False, True):
+        found = list(p25.calls_with_units(items, by_gap=by_gap))
+        assert [f"{it.place} {it.bits}" for it, _ in found] == [" ".join(part.split("=")[1] for part in line.split()[1:3]) for line in wanted[:-1]]
+        for call, units in found:
+            assert units == [it for it in items if call.has(it)]
+            assert units[0].place == call.place and units[-1].place + units[-1].bits == call.place + call.bits
+
+
+def test_a_call_ends_with_the_gap_that_decides_it():
+    voice = b"".join(p25.build(f"ldu1 nac=293 lc=000000000100000200 lsd=0000 voice={'00' * 162}") for _ in range(3))
+    items = list(p25.items(voice + bytes(2000)))
+    for by_gap, wanted in ((False, None), (True, items[3].place)):
+        caller, ends = p25.Caller(by_gap=by_gap), None
+        for item in items:
+            call = caller.take(item)
+            if call is not None:
+                ends = item.place
+                assert (call.place, call.links, call.end) == (0, 3, p25.CallEnd.OPEN)
+        assert ends == wanted
+    caller = p25.Caller()
+    assert [caller.take(it) for it in items[:3]] == [None] * 3 and caller.run.links == 3
+    closed = caller.close()
+    assert closed.links == 3 and caller.close() is None and not caller.is_open
+    assert caller.take(items[3]) is None
+
+
+def test_callers_and_followers_begin_at_any_position():
+    octets = SAMPLES[-1].read_bytes()
+    items = list(p25.items(octets))
+    first = next(i for i, it in enumerate(items) if i > 0 and it.kind_id <= p25.Kind.BROKEN)
+    caller, follower = p25.Caller(at=items[first].place), p25.Follower(at=items[first].place)
+    for item in items[first:]:
+        caller.take(item)
+        follower.take(item)
+    with pytest.raises(p25.Error, match="place"):
+        p25.Caller(at=1).take(items[0])
+    with pytest.raises(p25.Error, match="place"):
+        p25.Caller(at=1 << 60)
 
 
 def test_lines_of_units_are_built():
@@ -160,7 +194,13 @@ def test_pickled():
         pickle.dumps(p25.Stream())
 
 
-VERSIONS = [(0, False), (9900, False), (10000, True), (10203, True), (20000, False)]
+def test_layouts_are_those_of_the_rule():
+    for name in ("ItemParts", "Stream", "FollowerState", "LinkParts", "FieldParts", "CallParts", "CallerState", "PacketParts"):
+        struct = getattr(_calls, name)
+        assert f"of {ctypes.sizeof(struct)} octets" in struct.__doc__
+
+
+VERSIONS = [(10000, False), (10099, False), (10100, True), (10203, True), (20000, False)]
 
 
 @pytest.mark.parametrize("number, fits", VERSIONS)
@@ -175,7 +215,7 @@ def test_a_library_of_another_release(tmp_path, number, fits):
     assert (made.returncode == 0) == fits
     if not fits:
         release = f"{number // 10000}.{number // 100 % 100}.{number % 100}"
-        assert made.stderr.splitlines()[-1] == f"ImportError: libp25.so is release {release}, and this package needs 1.0.0 or later"
+        assert made.stderr.splitlines()[-1] == f"ImportError: libp25.so is release {release}, and this package needs 1.1.0 or later"
 
 
 @pytest.mark.parametrize("epoch", ["", "1700000000"])

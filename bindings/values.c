@@ -303,7 +303,7 @@ static void layout(void) {
     AT(p25_call, place), AT(p25_call, bits), AT(p25_call, links), AT(p25_call, broken), AT(p25_call, nac), AT(p25_call, late);
     AT(p25_call, end), AT(p25_call, has_lc), AT(p25_call, has_algid), AT(p25_call, algid), AT(p25_call, lc);
     printf("\n%zu", sizeof(p25_caller));
-    AT(p25_caller, reached), AT(p25_caller, taken), AT(p25_caller, is_open), AT(p25_caller, run);
+    AT(p25_caller, reached), AT(p25_caller, taken), AT(p25_caller, is_open), AT(p25_caller, by_gap), AT(p25_caller, run);
     printf("\n%zu", sizeof(p25_packet));
     AT(p25_packet, llid), AT(p25_packet, nac), AT(p25_packet, length), AT(p25_packet, head), AT(p25_packet, format), AT(p25_packet, full);
     AT(p25_packet, blocks), AT(p25_packet, pad), AT(p25_packet, syn), AT(p25_packet, number), AT(p25_packet, response_class);

@@ -73,7 +73,7 @@ class items(gr.sync_block):
         gr.sync_block.__init__(self, "p25 items", [{"float": numpy.float32, "byte": numpy.uint8}[takes]], None)
         self.message_port_register_out(pmt.intern("items"))
         self.message_port_register_out(pmt.intern("calls"))
-        self._stream, self._caller = p25.Stream(), p25.Caller() if calls else None
+        self._stream, self._caller = p25.Stream(), p25.Caller(by_gap=True) if calls else None
         self._first = (p25.Stream(), p25.Follower()) if follow else None
         forms = _forms() if takes == "float" else None
         self._levels = forms.converter("floats", forms.Turns(), adapts=True) if forms else None

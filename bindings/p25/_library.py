@@ -99,7 +99,7 @@ def _parts_of(number: int) -> Tuple[int, int, int]:
 
 
 def version() -> Tuple[int, int, int]:
-    """Returns the release of the library as three numbers, as (1, 0, 0)."""
+    """Returns the release of the library as three numbers, as (1, 1, 0)."""
     return _parts_of(call("p25_version")())
 
 

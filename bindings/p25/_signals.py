@@ -16,7 +16,7 @@ if TYPE_CHECKING:
 _level_dibit = call("p25_level_dibit")
 _soften = call("p25_soften")
 _relay_at = call("p25_relay_at")
-_follower_begin = call("p25_follower_begin")
+_follower_begin_at = call("p25_follower_begin_at")
 _follower_take = call("p25_follower_take")
 _follower_finish = call("p25_follower_finish")
 
@@ -27,11 +27,12 @@ _PLACED = tuple(bytes(it << shift for it in _HARD) for shift in (6, 4, 2, 0))
 
 class Follower:
     """Writes the units of a recording whose sync is lost where they lie end to end after others: `take` each item in its turn, gaps too, and
-    at the end `finish`. What they return is, joined, what `p25 follow` writes; it can be fed to a `Stream` as it comes."""
+    at the end `finish`. What they return is, joined, what `p25 follow` writes; it can be fed to a `Stream` as it comes. The first item is at bit
+    `at`."""
 
-    def __init__(self) -> None:
+    def __init__(self, at: int = 0) -> None:
         self._state, self._room = FollowerState(), ctypes.create_string_buffer(FOLLOW_ROOM)
-        _follower_begin(ctypes.byref(self._state))
+        _follower_begin_at(ctypes.byref(self._state), number_of(at, (1 << 59), Cause.PLACE))
 
     def take(self, item: Item) -> bytes:
         """Takes the next item and returns the octets that are settled by it. Error(place) where the item does not begin where the one before it

@@ -150,7 +150,8 @@ class Packet(NamedTuple):
 _link_read = call("p25_link_read")
 _unit_fields = call("p25_unit_fields")
 _build_fields = call("p25_build_fields")
-_caller_begin = call("p25_caller_begin")
+_caller_begin_at = call("p25_caller_begin_at")
+_caller_close = call("p25_caller_close")
 _caller_take = call("p25_caller_take")
 _caller_finish = call("p25_caller_finish")
 _packet_read = call("p25_packet_read")
@@ -271,12 +272,16 @@ def item_struct(item: Item) -> ItemParts:
 
 
 class Caller:
-    """Groups the items of a recording into calls: `take` each in its turn, gaps too, and at the end `finish`."""
+    """Groups the items of a recording into calls: `take` each in its turn, gaps too, and at the end `finish`.
 
-    def __init__(self) -> None:
+    The first item is at bit `at`. With `by_gap`, a call without a terminator ends with the item that decides it, such as a gap of 4,096 bits;
+    the calls are the same, but they come earlier.
+    """
+
+    def __init__(self, at: int = 0, by_gap: bool = False) -> None:
         self._state, self._call = CallerState(), CallParts()
         self._none = FieldParts()
-        _caller_begin(ctypes.byref(self._state))
+        _caller_begin_at(ctypes.byref(self._state), number_of(at, (1 << 60) - 1, Cause.PLACE), by_gap)
 
     @property
     def is_open(self) -> bool:
@@ -295,6 +300,10 @@ class Caller:
         fields = _told_fields(item._octets, item.place) if item.kind_id == Kind.UNIT else None
         answer = _caller_take(ctypes.byref(self._state), ctypes.byref(told), ctypes.byref(fields or self._none), ctypes.byref(self._call))
         return self._answered(answer)
+
+    def close(self) -> Optional[Call]:
+        """Ends the run that is open, and goes on: returns the call that is open, or None. The next item begins where the last one ended."""
+        return self._answered(_caller_close(ctypes.byref(self._state), ctypes.byref(self._call)))
 
     def finish(self) -> Optional[Call]:
         """Returns the call that is still open, or None. The caller is then as a new one that begins at bit 0."""
@@ -318,9 +327,10 @@ def calls(octets: "Octets") -> Iterator[Call]:
         yield call
 
 
-def calls_with_units(recording: Iterable[Item]) -> "Iterator[Tuple[Call, List[Item]]]":
-    """Yields each call of items that come in their turn, gaps too, with its data units, whole and broken, in order."""
-    caller = Caller()
+def calls_with_units(recording: Iterable[Item], at: int = 0, by_gap: bool = False) -> "Iterator[Tuple[Call, List[Item]]]":
+    """Yields each call of items that come in their turn, gaps too, with its data units, whole and broken, in order. `at` and `by_gap` are as of
+    a Caller."""
+    caller = Caller(at, by_gap)
     units: List[Item] = []
     for item in recording:
         call = caller.take(item)

@@ -11,7 +11,7 @@ use Rattle.p25_recording_filters.specs.{Commands.{FollowedParts, followed_report
 use Rattle.p25_recording_filters.proofs.ReportsLaws.{reported-cons, reported-followed, reported-nil}
 use Rattle.p25_stream.specs.Items.{items_of}
 use Rattle.p25_units.specs.{Items.{covered, place_of}, Units.{whole_octets}, declared.item.Item.{Item}, declared.item.Item.TheVariants.{Whole, Broken, NoUnit, Gap, Cut}}
-use Rattle.p25_c.specs.{Calls.{Given, IsPiece}, FollowerLaws.{FollowersFollow, ItemsAreCut, followed_series}}
+use Rattle.p25_c.specs.{Calls.{Given, IsPiece}, FollowerLaws.{FollowersFollow, FollowersFollowFrom, ItemsAreCut, followed_series}}
 use Rattle.p25_c.specs.{Followers.{follower_told, fresh_follower, has_name, item_held, name_duid, name_nac, parts_held}, Items.{is_inside, parts_of}, Places.{filled, has_item}}
 use Rattle.p25_c.specs.{Rooms.{write_left, written}, Values.{is_set}, declared.followers.FollowerState.{FollowerState}}
 use Rattle.p25_c.proofs.RelaysSteps.{placed-of}
@@ -100,6 +100,12 @@ followers-follow octets =
     let begins : parts_held fresh_follower ≡ record { follower = fresh_follow; kept = [] }
     = ap (λ (kept : List Bool). record { follower = fresh_follow; kept = kept }) (bits_of-zero 0) in
     series-reported items bits fresh_follower (record { follower = fresh_follow; kept = [] }) begins ∙ reported-followed true items bits
+
+pub followers-follow-from : FollowersFollowFrom
+followers-follow-from place items bits =
+    let begins : parts_held (record fresh_follower { reached = place }) ≡ record { follower = fresh_follow; kept = [] }
+    = ap (λ (kept : List Bool). record { follower = fresh_follow; kept = kept }) (bits_of-zero 0) in
+    series-reported items bits (record fresh_follower { reached = place }) (record { follower = fresh_follow; kept = [] }) begins ∙ reported-followed true items bits
 
 -- ---- the bits of an item
 

@@ -67,6 +67,6 @@ call-back call =
     ∙ ap (λ (l : Option LinkControl). call-by call call.late call.end l algid) (link-back call.link)
     ∙ ap (λ (n : Option ℕ). call-by call call.late call.end call.link n) (number-back call.algid)
 
-pub pending-back : (reached taken : ℕ) (pending : Option Call) → pending_held (state_told reached taken pending) ≡ pending
-pending-back reached taken None = refl
-pending-back reached taken (Some call) = ap (λ (c : Call). Some c) (call-back call)
+pub pending-back : (gap reached taken : ℕ) (pending : Option Call) → pending_held (state_told gap reached taken pending) ≡ pending
+pending-back gap reached taken None = refl
+pending-back gap reached taken (Some call) = ap (λ (c : Call). Some c) (call-back call)

@@ -1,7 +1,7 @@
 -- What a follower writes of a recording, and that it does not matter which octets it is given with an item.
-use Rattle.std.specs.Prelude.{◌≡◌, ℕ, ◌+◌, ◌-◌, Bool, true, List, [], ◌∷◌, ◌++◌, length, take, drop}
+use Rattle.std.specs.Prelude.{◌≡◌, ℕ, ◌+◌, ◌-◌, Bool, true, List, [], ◌∷◌, ◌++◌, length, take, drop, None}
 use Rattle.p25_bits.specs.Bits.{octet_bits, part}
-use Rattle.p25_follow.specs.Followed.{follow_of}
+use Rattle.p25_follow.specs.Followed.{follow_of, followed_by}
 use Rattle.p25_recording_filters.specs.Commands.{followed_reporting}
 use Rattle.p25_stream.specs.Items.{items_of}
 use Rattle.p25_units.specs.{Items.{covered, place_of}, Units.{whole_octets}, declared.item.Item.{Item}}
@@ -21,6 +21,12 @@ followed_series state (item ∷ items) bits =
 abbrev pub FollowersFollow : Type 0
 FollowersFollow =
     (octets : List ℕ) → followed_series fresh_follower (items_of 0 (octet_bits octets)) (octet_bits octets) ≡ whole_octets (follow_of (octet_bits octets))
+
+-- and what one that has begun at a place writes of any items that lie end to end over some bits is what is written of these
+abbrev pub FollowersFollowFrom : Type 0
+FollowersFollowFrom =
+    (place : ℕ) (items : List Item) (bits : List Bool)
+    → followed_series (record fresh_follower { reached = place }) items bits ≡ whole_octets (followed_by true None [] items bits)
 
 -- the bits that it looks at of an item are the same in every piece of the recording that has them
 abbrev pub ItemsAreCut : Type 0

@@ -30,9 +30,9 @@ told_by state [] others = told (last_asked state)
 told_by state (item ∷ items) others =
     told (call_asked state (parts_of item) (fields_with item others)) ++ told_by (caller_left state (parts_of item) (fields_with item others)) items others
 
--- what a caller that has begun answers to items that lie end to end from place 0 on are their calls: to fewer than 2^32 items, which begin
--- below 2^60
+-- what a caller that has begun at a place answers to items that lie end to end from there on are their calls, whether a run ends with the
+-- gap that decides it or not: to fewer than 2^32 items, which begin below 2^60
 abbrev pub CallsAreTold : Type 0
 CallsAreTold =
-    (items : List Item) (others : FieldParts) → LieFrom 0 items → length items < 2 ^ 32 → All (λ item. place_of item < 2 ^ 60) items
-    → told_by (state_told 0 0 None) items others ≡ calls_of items
+    (gap place : ℕ) (items : List Item) (others : FieldParts) → LieFrom place items → length items < 2 ^ 32
+    → All (λ item. place_of item < 2 ^ 60) items → told_by (state_told gap place 0 None) items others ≡ calls_of items

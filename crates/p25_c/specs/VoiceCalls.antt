@@ -1,5 +1,6 @@
 -- Calls told as numbers and octets, and what a caller keeps between items.
-use Rattle.std.specs.Prelude.{ℕ, ℤ, pos, negsuc, ◌+◌, ◌-◌, ◌^◌, ◌==◌, ◌&&◌, nat_le, nat_lt, Bool, true, false, if◌then◌else◌, List, replicate, Option, Some, None}
+use Rattle.std.specs.Option.{option_or}
+use Rattle.std.specs.Prelude.{ℕ, ℤ, pos, negsuc, ◌+◌, ◌-◌, ◌^◌, ◌==◌, ◌&&◌, ◌||◌, nat_le, nat_lt, Bool, true, false, if◌then◌else◌, List, replicate, Option, Some, None}
 use Rattle.p25_calls.specs.{Seen.{broken_unit}, Taking.{linked_pending, unit_answer, unit_pending}, declared.call.Call.{Call}, declared.call.CallEnd.{CallEnd}}
 use Rattle.p25_calls.specs.{declared.call.CallEnd.TheVariants.{Tdu, Tdulc, Open}, declared.seen.UnitSeen.{UnitSeen}}
 use Rattle.p25_link.specs.declared.link_control.LinkControl.{LinkControl}
@@ -89,10 +90,11 @@ no_call = record {
 
 -- ---- what a caller keeps
 
--- a caller by where the last item that was taken ended, how many were taken, and the run that a further unit may still join
-abbrev pub state_told : ℕ → ℕ → Option Call → CallerState
-state_told reached taken None = record { reached = reached; taken = taken; is_open = 0; run = no_call }
-state_told reached taken (Some call) = record { reached = reached; taken = taken; is_open = 1; run = call_told call }
+-- a caller by whether a run ends with the gap after which no unit can join it, where the last item that was taken ended, how many were
+-- taken, and the run that a further unit may still join
+abbrev pub state_told : ℕ → ℕ → ℕ → Option Call → CallerState
+state_told gap reached taken None = record { reached = reached; taken = taken; is_open = 0; by_gap = gap; run = no_call }
+state_told gap reached taken (Some call) = record { reached = reached; taken = taken; is_open = 1; by_gap = gap; run = call_told call }
 
 -- the run that is open
 abbrev pub pending_held : CallerState → Option Call
@@ -128,9 +130,31 @@ unit_told item fields =
 
 -- ---- what is answered
 
+-- no unit can join the run that is open any more, where the recording was read up to a bit: that lies more than 3,456 bits after its end
+abbrev pub is_over : Option Call → ℕ → Bool
+is_over None reached = false
+is_over (Some call) reached = nat_lt (call.place + call.bits + 3456) reached
+
+-- the run that is open ends, since it is over and the caller ends calls so
+abbrev pub ends_so : ℕ → Option Call → ℕ → Bool
+ends_so gap pending reached = is_set gap && is_over pending reached
+
+-- the run that is open after an item
+abbrev pub item_pending : CallerState → ItemParts → FieldParts → Option Call
+item_pending state item fields = unit_pending (pending_held state) (unit_told item fields)
+
+-- it ends with this item
+abbrev pub ends_with : CallerState → ItemParts → FieldParts → Bool
+ends_with state item fields = ends_so state.by_gap (item_pending state item fields) (item.place + item.bits)
+
 -- what a caller answers to an item: the call that it ends, where it ends one; None where it may not be taken
+abbrev pub item_answer_of : CallerState → ItemParts → FieldParts → Option Call
+item_answer_of state item fields =
+    option_or (unit_answer (pending_held state) (unit_told item fields))
+    (if ends_with state item fields then linked_pending (item_pending state item fields) else None)
+
 abbrev pub call_asked : CallerState → ItemParts → FieldParts → Option (Option Call)
-call_asked state item fields = if may_take state item then Some (unit_answer (pending_held state) (unit_told item fields)) else None
+call_asked state item fields = if may_take state item then Some (item_answer_of state item fields) else None
 
 -- what a caller answers at the end
 abbrev pub last_asked : CallerState → Option (Option Call)
@@ -151,8 +175,18 @@ call_left (Some (Some call)) before = call_told call
 -- the caller that is left: behind the item, where it may be taken
 abbrev pub caller_left : CallerState → ItemParts → FieldParts → CallerState
 caller_left state item fields =
-    if may_take state item then state_told (item.place + item.bits) (state.taken + 1) (unit_pending (pending_held state) (unit_told item fields)) else state
+    if may_take state item
+    then state_told state.by_gap (item.place + item.bits) (state.taken + 1) (if ends_with state item fields then None else item_pending state item fields)
+    else state
 
 -- and at the end one that no item was taken by
 abbrev pub finished_left : CallerState → CallerState
-finished_left state = if is_kept state then state_told 0 0 None else state
+finished_left state = if is_kept state then state_told state.by_gap 0 0 None else state
+
+-- and where the run that is open is ended, one that goes on at the same place
+abbrev pub closed_left : CallerState → CallerState
+closed_left state = if is_kept state then state_told state.by_gap state.reached state.taken None else state
+
+-- an item is a unit of a call: a whole or a broken unit that begins within it
+abbrev pub has_unit : CallParts → ItemParts → Bool
+has_unit call item = (item.kind == 1 || item.kind == 2) && nat_le call.place item.place && nat_lt item.place (call.place + call.bits)

@@ -1,7 +1,7 @@
-//! Blocks of packets (PDU) by the trellis codes: 196 bits in 25 octets, or 98 levels.
+//! Blocks of packets
 //!
-//! Bits are in the order of sending, the highest bit of the first octet first; so the last octet holds four of them, in its upper half.
-//! There is a level for every two bits, a number from -128 to 127: 96 stands for 01, 32 for 00, -32 for 10 and -96 for 11.
+//! A block at half rate carries 12 octets, one at three-quarter rate 18, by a trellis path of 196 bits, interleaved in the order
+//! of transmission. The bits fill 25 octets, the most significant bit first, but for the last four bits of the last octet.
 
 ghost use Rattle.std.specs.Prelude.{◌≡◌, ◌++◌};
 ghost use Rattle.p25_bits.specs.Bits.{bits_of, octet_bits};
@@ -14,8 +14,9 @@ use p25_soft::read_soft;
 use p25_trellis::{Half, ThreeQuarter};
 use p25_word_calls::{read_octet_block, write_octet_block};
 
-/// Sets the octets to those of the first nearest path to 196 bits at half rate, and answers in how many bits the two differ: 2
-/// wrong bits are always put right. The last four bits of the last octet are not looked at.
+/// Sets the octets to those of the first path at half rate that differs from the bits in the fewest, and returns in how many.
+/// There always is one: the CRC of the block decides. Two bit errors are corrected in any case. The call does not look at the
+/// last four bits of the last octet.
 #[unsafe(no_mangle)]
 pub extern "C" fn p25_half_rate_read(bits: &[u8; 25], octets: &mut [u8; 12]) -> u32
     ensures octets { octets.new ≡ half_octets (block_bits bits.now) }
@@ -24,8 +25,9 @@ pub extern "C" fn p25_half_rate_read(bits: &[u8; 25], octets: &mut [u8; 12]) -> 
     read_octet_block::<Half>(bits, octets)
 }
 
-/// Sets the octets to those of the first nearest path to 196 bits at three-quarter rate, and answers in how many bits the two
-/// differ: 1 wrong bit is always put right. The last four bits of the last octet are not looked at.
+/// Sets the octets to those of the first path at three-quarter rate that differs from the bits in the fewest, and returns in how
+/// many. There always is one: the CRC of the block decides. One bit error is corrected in any case. The call does not look at the
+/// last four bits of the last octet.
 #[unsafe(no_mangle)]
 pub extern "C" fn p25_three_quarter_rate_read(bits: &[u8; 25], octets: &mut [u8; 18]) -> u32
     ensures octets { octets.new ≡ three_quarter_octets (block_bits bits.now) }
@@ -34,8 +36,9 @@ pub extern "C" fn p25_three_quarter_rate_read(bits: &[u8; 25], octets: &mut [u8;
     read_octet_block::<ThreeQuarter>(bits, octets)
 }
 
-/// Sets the octets to those of the first path at half rate whose nominal levels lie nearest to 98 levels, and answers the sum of
-/// the squares of level minus nominal level.
+/// Sets the octets to those of the first path at half rate that is nearest to 98 soft symbols, one for each two bits in the order
+/// of transmission: 96 is 01, 32 is 00, -32 is 10 and -96 is 11. Returns its distance: the sum of the squares of the differences,
+/// which no path has smaller.
 #[unsafe(no_mangle)]
 pub extern "C" fn p25_half_rate_read_levels(levels: &[i8; 98], octets: &mut [u8; 12]) -> u32
     ensures least { IsFirstLeastReading 4 2 (soft_cost half_point levels.now) octets.new result }
@@ -44,8 +47,8 @@ pub extern "C" fn p25_half_rate_read_levels(levels: &[i8; 98], octets: &mut [u8;
     read_soft::<Half>(levels, octets)
 }
 
-/// Sets the octets to those of the first path at three-quarter rate whose nominal levels lie nearest to 98 levels, and answers the
-/// sum of the squares of level minus nominal level.
+/// Sets the octets to those of the first path at three-quarter rate that is nearest to 98 soft symbols, and returns its distance,
+/// as `p25_half_rate_read_levels` does.
 #[unsafe(no_mangle)]
 pub extern "C" fn p25_three_quarter_rate_read_levels(
     levels: &[i8; 98],
@@ -57,7 +60,7 @@ pub extern "C" fn p25_three_quarter_rate_read_levels(
     read_soft::<ThreeQuarter>(levels, octets)
 }
 
-/// Sets the bits to the block of 12 octets at half rate, and the last four to 0.
+/// Sets the bits to the block of 12 octets at half rate, and the last four bits of the last octet to 0.
 #[unsafe(no_mangle)]
 pub extern "C" fn p25_half_rate_write(octets: &[u8; 12], bits: &mut [u8; 25])
     ensures { octet_bits bits.new ≡ half_block octets.now ++ bits_of 4 0 }
@@ -65,7 +68,7 @@ pub extern "C" fn p25_half_rate_write(octets: &[u8; 12], bits: &mut [u8; 25])
     write_octet_block::<Half>(octets, bits);
 }
 
-/// Sets the bits to the block of 18 octets at three-quarter rate, and the last four to 0.
+/// Sets the bits to the block of 18 octets at three-quarter rate, and the last four bits of the last octet to 0.
 #[unsafe(no_mangle)]
 pub extern "C" fn p25_three_quarter_rate_write(octets: &[u8; 18], bits: &mut [u8; 25])
     ensures { octet_bits bits.new ≡ three_quarter_block octets.now ++ bits_of 4 0 }

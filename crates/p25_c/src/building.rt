@@ -1,30 +1,30 @@
-//! Octets of units: built from lines, repaired, and under another network access code (NAC).
+//! Data units built from lines, repaired, and with another access code
 
 ghost use Rattle.std.specs.Prelude.{◌≡◌, ℕ, ◌*◌, ◌<◌, ◌≤◌, pos, Ok, Err, IfOk, IfErr};
 ghost use Rattle.p25_c.specs.{Building.{IsRefused, IsWritingUnder, built, fault_answer, unit_bridged, unit_repaired, wrong_status}, Rooms.{IsWriting}};
 ghost use Rattle.p25_status.specs.{Status.{status_number}, declared.symbols.Status.{Status as Symbol}};
 ghost use Rattle.p25_units.specs.Units.{IsWholeBody, frame_length_of, image_octets, whole_octets};
 
+use crate::answers::{
+    LINE_FORM, LINE_KEY, LINE_KIND, LINE_LONG, LINE_VALUE, NO_ROOM, WRONG_NAC, WRONG_STATUS,
+};
 use crate::repeats::{p25_bridge_at, p25_repair_at};
-use crate::room::{NO_ROOM, counted};
+use crate::room::counted;
 use p25_bits::BitBuf;
 use p25_line::LineFault;
 use p25_status::Status;
 use p25_text::read_line;
 use p25_units::{Frame, Unit, image};
 
-// No whole unit begins there; a network access code (NAC) has 12 bits; a status symbol is 0 to 3.
-pub(crate) const NO_UNIT: i32 = -3;
+/// The octets of the longest data unit: a buffer of so many is always large enough for one.
+const UNIT_ROOM: usize = 3_240;
 
-const WRONG_NAC: i32 = -4;
-
-const WRONG_STATUS: i32 = -5;
-
-/// Writes the octets of the unit of a line into `octets`, as the command `build` writes them, with one status symbol everywhere,
-/// and answers how many. The octets of `octets` after them stay.
+/// Writes the octets of the data unit of a line, as `p25 build` reads it, without its end of line: hdu, ldu1, ldu2, tdu, tdulc,
+/// confirmed, plain or response, with its keys and values. All its status symbols are `status`, 0 to 3. Returns how many octets
+/// it wrote, 18 to `P25_UNIT_ROOM`; the octets of the buffer after them stay.
 ///
-/// Where it does not, all of `octets` stays, and it answers the first of these that applies: -5, `status` is above 3; -11 to -15,
-/// the line is refused as Long, Form, Kind, Key or Value; -2, the unit has more octets than `octets`.
+/// Else it writes nothing and returns the first of these that applies: `P25_WRONG_STATUS`; the fault of the line,
+/// `P25_LINE_LONG`, `P25_LINE_FORM`, `P25_LINE_KIND`, `P25_LINE_KEY` or `P25_LINE_VALUE`; `P25_NO_ROOM`.
 #[unsafe(no_mangle)]
 pub extern "C" fn p25_build(line: &[u8], status: u8, octets: &mut [u8]) -> i32
     ensures strange { 4 ≤ status → IsWriting (Err wrong_status) octets.old octets.new result }
@@ -44,11 +44,11 @@ fn fault_answer(fault: LineFault) -> i32
     ensures { result ≡ fault_answer fault }
 {
     match fault {
-        LineFault::Long => -11,
-        LineFault::Form => -12,
-        LineFault::Kind => -13,
-        LineFault::Key => -14,
-        LineFault::Value => -15,
+        LineFault::Long => LINE_LONG,
+        LineFault::Form => LINE_FORM,
+        LineFault::Kind => LINE_KIND,
+        LineFault::Key => LINE_KEY,
+        LineFault::Value => LINE_VALUE,
     }
 }
 
@@ -75,11 +75,12 @@ pub(crate) fn write_bits(bits: &BitBuf, room: &mut [u8]) -> i32
     counted(count)
 }
 
-/// Writes the whole unit that `octets` begin with into `into` as it was sent, as the command `repair` writes it, and answers how
-/// many octets it has. The octets of `into` after them stay.
+/// Writes the data unit with which the octets begin as it was transmitted, as `p25 repair` writes it: the bit errors that its
+/// codes correct are corrected, and its status symbols are those received. Returns how many octets it wrote, 18 to
+/// `P25_UNIT_ROOM`; the octets of the buffer after them stay.
 ///
-/// Where it does not, all of `into` stays, and it answers the first of these that applies: -3, the item at the first bit is no
-/// whole unit; -2, the unit has more octets than `into`.
+/// Else it writes nothing and returns the first of these that applies: `P25_NO_UNIT`, if the item at the first bit is no whole
+/// data unit; `P25_NO_ROOM`.
 #[unsafe(no_mangle)]
 pub extern "C" fn p25_repair(octets: &[u8], into: &mut [u8]) -> i32
     ensures { IsWriting (unit_repaired octets.now) into.old into.new result }
@@ -87,11 +88,12 @@ pub extern "C" fn p25_repair(octets: &[u8], into: &mut [u8]) -> i32
     p25_repair_at(octets, 0, 0, into)
 }
 
-/// Writes the whole unit that `octets` begin with into `into` under another network access code (NAC) and with one status symbol
-/// everywhere, as the command `bridge` writes it, and answers how many octets it has. The octets of `into` after them stay.
+/// Writes the data unit with which the octets begin under the network access code (NAC) `nac`, 0 to 4095, and with the status
+/// symbol `status`, 0 to 3, everywhere, as `p25 bridge` writes it. Returns how many octets it wrote, 18 to `P25_UNIT_ROOM`; the
+/// octets of the buffer after them stay.
 ///
-/// Where it does not, all of `into` stays, and it answers the first of these that applies: -4, `nac` is above 4095; -5, `status`
-/// is above 3; -3, the item at the first bit is no whole unit; -2, the unit has more octets than `into`.
+/// Else it writes nothing and returns the first of these that applies: `P25_WRONG_NAC`, `P25_WRONG_STATUS`, `P25_NO_UNIT` as
+/// `p25_repair` does, `P25_NO_ROOM`.
 #[unsafe(no_mangle)]
 pub extern "C" fn p25_bridge(octets: &[u8], nac: u16, status: u8, into: &mut [u8]) -> i32
     ensures { IsWritingUnder nac status (λ symbol. unit_bridged nac symbol octets.now) into.old into.new result }

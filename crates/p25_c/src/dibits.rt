@@ -4,7 +4,7 @@ ghost use Rattle.std.specs.Prelude.{◌≡◌, ◌+◌, ◌-◌, ◌*◌, ◌<�
 ghost use Rattle.p25_bits.specs.{Bits.{bits_of}, Numbers.{number_bits}};
 ghost use Rattle.p25_c.specs.Streams.{HasTaken, is_stream};
 
-use crate::stream::{ROOM, Stream};
+use crate::stream::{STREAM_OCTETS, Stream};
 
 // Appends dibits, as many as there is room for, and answers how many.
 pub(crate) fn append_dibits(stream: &mut Stream, dibits: &[u8]) -> i32
@@ -12,7 +12,7 @@ pub(crate) fn append_dibits(stream: &mut Stream, dibits: &[u8]) -> i32
     ensures answer { result ≡ pos (min (length dibits.now) (4 * (8168 - stream.old.held))) }
     ensures taken { HasTaken (number_bits 2 (take (4 * (8168 - stream.old.held)) dibits.now)) stream.old stream.new }
 {
-    let count = dibits.len().min(4 * (ROOM - stream.held as usize));
+    let count = dibits.len().min(4 * (STREAM_OCTETS - stream.held as usize));
     for i in 0..count {
         append_dibit(stream, dibits[i]);
     }

@@ -1,48 +1,69 @@
-//! The fields of a unit without a text, and voice units built from them.
+//! Fields of data units
+//!
+//! What a data unit carries as numbers and octets, without its text. Each struct is of fixed size and contains no pointer. A
+//! member that states yes or no is set to 1 or 0; a call takes 0 for no and all else for yes.
 
 ghost use Rattle.std.specs.Prelude.{◌≡◌, ℕ, ◌≤◌, pos, true};
 ghost use Rattle.p25_c.specs.Building.{IsWritingUnder};
 ghost use Rattle.p25_c.specs.Fields.{fields_answer, fields_built, fields_left, frame_octets, frames_held, item_unit, no_fields, unit_answer, unit_left, voice_fields, voice_held};
 ghost use Rattle.p25_c.specs.Items.{items_asked};
 
-use crate::building::{NO_UNIT, sent_symbol, write_whole};
-use crate::items::{OUTSIDE, blank, find_at, is_inside};
+use crate::answers::{NO_UNIT, OUTSIDE, WRONG_DUID};
+use crate::building::{sent_symbol, write_whole};
+use crate::items::{blank, find_at, is_inside};
 use p25_bch_nid::{HDU, LDU1, LDU2, PDU, TDU, TDULC};
 use p25_link::{EncryptionSync, HeaderWord, LinkControl};
 use p25_units::{Body, Item, Unit, VoiceUnit};
 use p25_voice_units::{Voice, VoiceFrame};
 
-// The fields are told; no voice unit has this data unit identifier (DUID).
-const TOLD: i32 = 1;
+// What `p25_unit_fields` returns when it sets the fields.
 
-const WRONG_DUID: i32 = -8;
+/// the fields are those of the data unit
+const FIELDS: i32 = 1;
 
-/// The fields of a unit. Those that its kind has are there, and the others are 0: `has_lc` says whether `lc` is there, link control
-/// (LC), of an LDU1 and a TDULC; `has_mi` whether `mi`, `algid` and `kid` are, message indicator, algorithm and key, of an HDU and an
-/// LDU2; `has_tgid` whether `mfid` and `tgid` are, manufacturer and talk group, of an HDU; `has_voice` whether `lsd` and `voice` are,
-/// low speed data (LSD) and the nine voice frames as received, of an LDU1 and an LDU2. Each of these four is 1 or 0.
+/// The fields of a data unit. Its DUID states which of them it has; the others are 0. TIA-102.BAAA, Voice Data Units.
+///
+///     HDU     mi algid kid   mfid tgid
+///     LDU1    lc             lsd voice
+///     LDU2    mi algid kid   lsd voice
+///     TDULC   lc
+///     TDU, PDU have none beside nac and duid
 #[derive(Clone, Copy)]
 #[repr(C)]
 pub struct FieldParts {
+    /// the network access code (NAC), 0 to 4095
     pub nac: u16,
+    /// the key (KID)
     pub kid: u16,
+    /// the talk group (TGID)
     pub tgid: u16,
+    /// the data unit identifier (DUID)
     pub duid: u8,
+    /// the manufacturer (MFID)
     pub mfid: u8,
+    /// the algorithm (ALGID); 80 hex means that the voice is not encrypted
     pub algid: u8,
+    /// whether lc is there
     pub has_lc: u8,
+    /// whether mi, algid and kid are there
     pub has_mi: u8,
+    /// whether mfid and tgid are there
     pub has_tgid: u8,
+    /// whether lsd and voice are there
     pub has_voice: u8,
+    /// link control (LC), which p25_link_read reads
     pub lc: [u8; 9],
+    /// the message indicator (MI)
     pub mi: [u8; 9],
+    /// low speed data (LSD)
     pub lsd: [u8; 2],
+    /// nine voice frames of 144 bits as received, in the order of transmission
     pub voice: [[u8; 18]; 9],
 }
 
-/// Sets `fields` to those of the whole unit that begins at bit `from` of a recording, of which these are some octets: the first of them
-/// stands at bit `begin`. Answers 1, or -1 where `p25_next_item` answers -1, or -3 where no whole unit begins there. At -1 and -3
-/// `fields` stays.
+/// Sets `fields` to those of the whole data unit that begins at bit `from` of a recording, whose octets are given as for
+/// `p25_next_item`, and returns `P25_FIELDS`. For an item that was returned, `from` is its place. Returns `P25_OUTSIDE` as
+/// `p25_next_item` does, or `P25_NO_UNIT` if no whole data unit begins there; then `fields` stays. Since 1.1.
 #[unsafe(no_mangle)]
 pub extern "C" fn p25_unit_fields(
     octets: &[u8],
@@ -75,7 +96,7 @@ fn tell_fields(found: &Item, fields: &mut FieldParts) -> i32
                 Body::Voice(voice) => voice_fields(nac, voice),
                 Body::Packet(_) => no_fields(nac, PDU),
             };
-            TOLD
+            FIELDS
         }
         Item::Broken { .. } | Item::NoUnit { .. } | Item::Gap { .. } | Item::Cut { .. } => NO_UNIT,
     }
@@ -156,12 +177,12 @@ fn frame_octets(frames: &[VoiceFrame; 9]) -> [[u8; 18]; 9]
     octets
 }
 
-/// Writes the octets of the voice unit of `fields` into `octets`, with one status symbol everywhere, and answers how many, 18 to
-/// 216. The octets of `octets` after them stay. `duid` says which unit it is and so which fields are looked at: those that `p25_unit_fields` sets
-/// of such a unit; whether they are there, as `has_lc`, is not looked at.
+/// Writes the octets of the voice unit of `fields`, with the status symbol `status`, 0 to 3, everywhere. Its member duid states
+/// which data unit it is, and so which members the call looks at: those of the table above. It does not look at has_lc and its
+/// kin. Returns how many octets it wrote, 18 to 216; the octets of the buffer after them stay.
 ///
-/// Where it does not, all of `octets` stays, and it answers the first of these that applies: -4, `nac` is above 4095; -5, `status`
-/// is above 3; -8, `duid` is that of no voice unit; -2, the unit has more octets than `octets`.
+/// Else it writes nothing and returns the first of these that applies: `P25_WRONG_NAC`, `P25_WRONG_STATUS`, `P25_WRONG_DUID`,
+/// `P25_NO_ROOM`. Since 1.1.
 #[unsafe(no_mangle)]
 pub extern "C" fn p25_build_fields(fields: &FieldParts, status: u8, octets: &mut [u8]) -> i32
     ensures built { IsWritingUnder fields.now.nac status (λ symbol. fields_built symbol fields.now) octets.old octets.new result }

@@ -1,4 +1,4 @@
-//! Units found by rhythm, as the items of a recording come: what is kept between them stands with the caller of these functions.
+//! Data units whose sync is lost, found by their rhythm
 
 ghost use Rattle.std.specs.Prelude.{◌≡◌, ◌<◌, ◌≤◌, Ok, true, length};
 ghost use Rattle.p25_c.specs.Followers.{ended_left, followed_octets, follower_left, follower_told, fresh_follower, is_follower, is_item_told, item_held, last_octets, may_follow, name_held, parts_held};
@@ -6,10 +6,11 @@ ghost use Rattle.p25_c.specs.Rooms.{IsWriting};
 ghost use Rattle.p25_follow.specs.{Expected.{names_of}, Relayed.{IsFitItem}};
 ghost use Rattle.p25_units.specs.Items.{IsSoundItem, covered, place_of};
 
+use crate::answers::{NO_ROOM, OUTSIDE};
 use crate::building::write_bits;
-use crate::items::{ItemParts, OUTSIDE};
+use crate::items::{BROKEN, CUT, GAP, ItemParts, NOUNIT, UNIT};
 use crate::repeats::{cut, fill, has_item};
-use crate::room::{NO_ROOM, counted};
+use crate::room::counted;
 use p25_bch_nid::Nid;
 use p25_bits::BitBuf;
 use p25_follow::Follower;
@@ -17,6 +18,12 @@ use p25_line::Line;
 use p25_recording_filters::{Followed, Report};
 use p25_status::SENT_BLOCK_LENGTH;
 use p25_units::{FieldList, Item};
+
+/// The octets that `p25_follower_take` writes at most: a buffer of so many is always large enough.
+const FOLLOW_ROOM: usize = 4_104;
+
+/// The octets that `p25_follower_finish` writes at most.
+const STRETCH_ROOM: usize = 864;
 
 // The most bits of a stretch that are kept, and one more; the most bits of an item of a stretch.
 const STRETCH_END: u16 = 6_912;
@@ -26,23 +33,29 @@ const STRETCH_ITEM: u32 = 4_096;
 // How many bits are sent for each status symbol: a unit has whole blocks of them, at least two.
 const BLOCK: u32 = SENT_BLOCK_LENGTH as u32;
 
-/// What is kept between the items of a recording: the next one begins at bit `reached`. Where `has_unit` is not 0 the last unit has this
-/// NAC and DUID, and the first `stretch` bits of `octets` are those after it that are not settled yet. `waits` bits that fill no octet
-/// wait to be written, at most 7, as the number `waiting`.
+/// What is kept between the items of a recording. A program only reads it.
 #[derive(Clone, Copy)]
 #[repr(C)]
 pub struct FollowerState {
+    /// the bit at which the next item begins
     pub reached: u64,
+    /// of the last data unit the network access code (NAC)
     pub nac: u16,
+    /// how many bits after it are not settled yet, fewer than 6,912
     pub stretch: u16,
+    /// its data unit identifier (DUID)
     pub duid: u8,
+    /// whether there is one
     pub has_unit: u8,
+    /// how many bits wait until they fill an octet, at most 7
     pub waits: u8,
+    /// these bits as a number
     pub waiting: u8,
+    /// the bits that are not settled
     pub octets: [u8; 864],
 }
 
-/// Sets `follower` to one that no item was taken by.
+/// Sets `follower` to one that has taken no item. Since 1.1.
 #[unsafe(no_mangle)]
 pub extern "C" fn p25_follower_begin(follower: &mut FollowerState)
     ensures { follower.new ≡ fresh_follower }
@@ -50,15 +63,33 @@ pub extern "C" fn p25_follower_begin(follower: &mut FollowerState)
     *follower = fresh();
 }
 
-/// Takes an item of a recording, of which the octets from bit `begin` on are given, and writes what the command `follow` writes then: the
-/// recording, with the fronts of the units written that lie end to end after others and whose sync the scan does not find. Each item is
-/// taken in its turn, the first at place 0. Of a stretch without a unit fewer than 6,912 bits are kept back until it is settled. Answers
-/// how many octets it wrote, at most 4,104; the octets of `into` after them stay. All that is written is as many bits as were taken.
+/// Sets `follower` to one that has taken no item and begins at bit `place` of a recording: its first item begins there, and the
+/// first bit that it writes is the recording's from there on. Since 1.1.
+#[unsafe(no_mangle)]
+pub extern "C" fn p25_follower_begin_at(follower: &mut FollowerState, place: u64)
+    ensures { follower.new ≡ record fresh_follower { reached = place } }
+{
+    *follower = FollowerState {
+        reached: place,
+        ..fresh()
+    };
+}
+
+/// Takes an item and writes what `p25 follow` writes then: the recording, with sync and network identifier (NID) written of the
+/// data units that lie end to end after others and whose sync is not found. It takes each item of a recording in order, gaps too,
+/// the first at bit 0. The octets contain all bits of the item; their first one is at bit `begin`, as for `p25_item_octets`.
+/// After a data unit fewer than 6,912 bits are kept back until it is settled whether a data unit begins there. So the output is
+/// as long as the recording, once `p25_follower_finish` has written the rest: a stream of it returns the items with those that
+/// were found.
 ///
-/// Where it does not, all of `into` and of `follower` stays, and it answers the first of these that applies: -1, the item may not be
-/// taken, since it does not begin where the one before it ended, its numbers are those of no item, these octets lack a bit of it, or
-/// the numbers of `follower` fit none: 6,912 bits or more are kept, or some without a unit before them, its network access code (NAC) is
-/// above 4,095, its kind above 15, or 8 bits or more wait for their octet; -2, there are more octets to be written than `into` has.
+/// Returns how many octets it wrote, at most `P25_FOLLOW_ROOM`; the octets of the buffer after them stay. Else it writes nothing,
+/// `follower` stays, and it returns the first of these that applies: `P25_OUTSIDE`, if the item does not begin where the one
+/// before it ended, a bit of it is not among the octets, or the numbers of the item or of `follower` are refused; `P25_NO_ROOM`.
+///
+/// An item is refused whose kind is none of the five; a whole or a broken data unit whose NAC is above 4095, whose DUID is above
+/// 15, or whose bits are fewer than 144 or no multiple of 72; and a nounit or a gap of more than 4,096 bits. A follower is
+/// refused that keeps 6,912 bits or more, or some without a data unit before them, whose NAC is above 4095 or whose DUID is above
+/// 15, or of which 8 bits or more wait. Since 1.1.
 #[unsafe(no_mangle)]
 pub extern "C" fn p25_follower_take(
     follower: &mut FollowerState,
@@ -84,11 +115,12 @@ pub extern "C" fn p25_follower_take(
     write_octets(out.octets(), into)
 }
 
-/// Ends a recording: writes the bits that were kept back. Answers how many octets it wrote, at most 864, and `follower` is then one that
-/// no item was taken by. A last bit that fills no octet is not written: a recording of whole octets has none.
+/// Ends a recording: writes the bits that were kept back, and sets `follower` to one that has taken no item. Returns how many
+/// octets it wrote, at most `P25_STRETCH_ROOM`; the octets of the buffer after them stay. A last bit that fills no octet is not
+/// written: a recording of whole octets has none.
 ///
-/// Where it does not, all of `into` and of `follower` stays, and it answers -1 where the numbers of `follower` fit none, as
-/// `p25_follower_take` does, or -2 where there are more octets to be written than `into` has.
+/// Else it writes nothing, `follower` stays, and it returns the first of these that applies: `P25_OUTSIDE`, if
+/// `p25_follower_take` refuses the numbers of `follower`; `P25_NO_ROOM`. Since 1.1.
 #[unsafe(no_mangle)]
 pub extern "C" fn p25_follower_finish(follower: &mut FollowerState, into: &mut [u8]) -> i32
     ensures written { IsWriting (last_octets follower.old) into.old into.new result }
@@ -149,11 +181,11 @@ fn is_item_told(item: &ItemParts) -> bool
     ensures { result ≡ is_item_told item.now }
 {
     match item.kind {
-        1 | 2 => {
+        UNIT | BROKEN => {
             item.nac <= 4_095 && item.duid <= 15 && item.bits % BLOCK == 0 && item.bits >= 2 * BLOCK
         }
-        3 | 4 => item.bits <= STRETCH_ITEM,
-        5 => true,
+        NOUNIT | GAP => item.bits <= STRETCH_ITEM,
+        CUT => true,
         _ => false,
     }
 }
@@ -169,14 +201,14 @@ fn item_held(item: &ItemParts) -> Item
     ensures place { place_of result ≡ 0 }
 {
     match item.kind {
-        1 | 2 => Item::Broken {
+        UNIT | BROKEN => Item::Broken {
             place: 0,
             length: item.bits,
             nac: item.nac,
             duid: item.duid,
             fields: FieldList::new(),
         },
-        5 => Item::Cut {
+        CUT => Item::Cut {
             place: 0,
             have: item.bits,
         },

@@ -1,49 +1,107 @@
-//! The items of a recording, one a call.
+//! Items of a recording, one in each call
+//!
+//! A recording is octets, each octet's most significant bit first. Positions count bits from the first one of the recording.
+//! Items lie end to end and cover every bit.
 
 ghost use Rattle.std.specs.Prelude.{◌≡◌, ◌≤◌, [], ◌∷◌, false, true, pos, List, Some, length};
 ghost use Rattle.p25_c.specs.{Items.{is_inside, item_answer, item_left, item_text_left, items_asked, parts_of}, Rooms.{text_left}};
 ghost use Rattle.p25_text.specs.ItemTexts.{item_text_of};
 ghost use Rattle.p25_units.specs.{Items.{IsSoundItem}, declared.item.Item.{Item as item_type}};
 
+use crate::answers::OUTSIDE;
 use p25_line::Line;
 use p25_stream::find_item;
 use p25_text::item_text;
 use p25_units::{Body, Frame, Item, Statuses, Unit, VoiceUnit};
 
-// An item is told; none is; the place is not one of these octets.
+// The data unit identifiers (DUID).
+
+/// the header (HDU)
+const HDU: u8 = p25_bch_nid::HDU;
+
+/// the terminator (TDU)
+const TDU: u8 = p25_bch_nid::TDU;
+
+/// voice with link control (LDU1)
+const LDU1: u8 = p25_bch_nid::LDU1;
+
+/// voice with encryption sync (LDU2)
+const LDU2: u8 = p25_bch_nid::LDU2;
+
+/// a packet (PDU)
+const PDU: u8 = p25_bch_nid::PDU;
+
+/// the terminator with link control (TDULC)
+const TDULC: u8 = p25_bch_nid::TDULC;
+
+// The kinds of items, each with the word that begins its line.
+
+/// unit: a whole data unit
+pub(crate) const UNIT: u8 = 1;
+
+/// broken: a data unit of which some fields fail
+pub(crate) const BROKEN: u8 = 2;
+
+/// nounit: a sync after which no data unit is read; one bit
+pub(crate) const NOUNIT: u8 = 3;
+
+/// gap: bits with which no sync begins, at most 4,096
+pub(crate) const GAP: u8 = 4;
+
+/// cut: a sync with too few bits after it, at the end of the recording
+pub(crate) const CUT: u8 = 5;
+
+// What a call returns that looks for an item.
+
+/// there is an item
 pub(crate) const ITEM: i32 = 1;
 
-pub(crate) const NO_ITEM: i32 = 0;
+/// there is none: more octets decide, or the recording has ended and all its items have been returned
+pub(crate) const NONE: i32 = 0;
 
-pub(crate) const OUTSIDE: i32 = -1;
+// Numbers by which a program makes its buffers.
+
+/// The octets of the longest text of an item with its zero: a buffer of so many is always large enough for one.
+const TEXT_ROOM: usize = 8_192;
+
+/// The octets, from the one that contains the bit at which an item is asked for, that always decide it.
+pub(crate) const NEEDED: usize = 3_241;
 
 // The largest place at which an item is asked for.
 const PLACE_MOST: u64 = 1 << 59;
 
-/// What is told of an item in numbers. `kind` is 1 of a whole unit, 2 of a broken one, 3 of a sync without a unit, 4 of a gap
-/// and 5 of what is cut off. It covers `bits` bits from bit `place` of the recording on. `fixes` is the number of wrong bits of a
-/// whole unit, `nac` and `duid` are those of a unit, whole or broken; of all others they are 0. `text_length` is the number of
-/// octets of its text, at most 8,191.
+/// An item of a recording: a data unit, or what lies between data units.
 #[derive(Clone, Copy)]
 #[repr(C)]
 pub struct ItemParts {
+    /// the bit at which it begins
     pub place: u64,
+    /// how many bits it covers, at least 1: the next item begins at place + bits
     pub bits: u32,
+    /// of a whole data unit how many bit errors were corrected, else 0
     pub fixes: u32,
+    /// the octets of its text, without the zero at its end: at most 8,191
     pub text_length: u32,
+    /// of a whole or a broken data unit the network access code (NAC), 0 to 4095, else 0
     pub nac: u16,
+    /// of a whole or a broken data unit the data unit identifier (DUID), 0 to 15, else 0
     pub duid: u8,
+    /// one of the kinds above
     pub kind: u8,
 }
 
-/// Tells the item that begins at bit `from` of a recording, of which these are some octets: the first of them stands at bit
-/// `begin`. `ended` says that no octets come after them. Where it is false, only an item is told that stays, whatever octets come.
+/// Sets `item` to the item that begins at bit `from` of a recording, and returns `P25_ITEM`. The octets are a part of the
+/// recording whose first octet is at bit `begin`, a multiple of 8; `ended` states that no octets follow. The first call has
+/// `begin` and `from` 0, and each later one has `from` = item.place + item.bits. Octets that end at or before that bit may be
+/// dropped.
 ///
-/// Answers 1 where an item is told: `item` is set to its numbers, and `text` begins with its text and a zero after it where there
-/// is room for both, and else stays as it is. Answers 0 where there is none: where more octets decide, or, once the octets have
-/// ended, where `from` is their end. Answers -1 where `begin` is no multiple of 8, or `from` is before `begin`, after the end of
-/// the octets or above 2^59. At 0 and -1 `item` and `text` stay as they are. The items of the whole recording come in order where
-/// each call asks for the place at which the item before it ends.
+/// If the buffer has more octets than the text, `text` becomes the line of `p25 show` with a zero in place of the end of the
+/// line; else it stays. If `ended` is false, an item is returned once the bits are there that decide it, so octets that follow
+/// change nothing in it. A gap is decided 48 bits after its last bit.
+///
+/// Returns `P25_NONE` if there is no item. Returns `P25_OUTSIDE` if `begin` is no multiple of 8, or if `from` is before `begin`,
+/// after the end of the octets or above 2^59. Then `item` and `text` stay. `p25_items` with a buffer of one item makes no text
+/// and takes less time.
 #[unsafe(no_mangle)]
 pub extern "C" fn p25_next_item(
     octets: &[u8],
@@ -63,7 +121,7 @@ pub extern "C" fn p25_next_item(
     }
     let mut found = blank();
     if !find_at(octets, begin, from, ended, &mut found) {
-        return NO_ITEM;
+        return NONE;
     }
     tell_item(&found, item, text);
     ITEM
@@ -126,12 +184,12 @@ pub(crate) fn item_parts(found: &Item, text_length: u32) -> ItemParts
     let (kind, nac, duid, fixes) = match found {
         Item::Whole { frame, fixes, .. } => {
             let unit = &frame.unit;
-            (1, unit.nac(), unit.body().duid(), *fixes)
+            (UNIT, unit.nac(), unit.body().duid(), *fixes)
         }
-        Item::Broken { nac, duid, .. } => (2, *nac, *duid, 0),
-        Item::NoUnit { .. } => (3, 0, 0, 0),
-        Item::Gap { .. } => (4, 0, 0, 0),
-        Item::Cut { .. } => (5, 0, 0, 0),
+        Item::Broken { nac, duid, .. } => (BROKEN, *nac, *duid, 0),
+        Item::NoUnit { .. } => (NOUNIT, 0, 0, 0),
+        Item::Gap { .. } => (GAP, 0, 0, 0),
+        Item::Cut { .. } => (CUT, 0, 0, 0),
     };
     ItemParts {
         place: found.place(),

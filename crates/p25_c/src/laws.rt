@@ -2,7 +2,7 @@
 
 ghost use Rattle.p25_c.specs.BoundsLaws.{BridgedAreUnits, BuiltAreUnits, CutsAreShort, EnoughDecide, ItemsAreBounded, RepairedAreUnits, StreamsHaveRoom};
 ghost use Rattle.p25_c.specs.{Calls.{CallsTellAll, CallsTellTheFirst, SetsAreItems}, StreamCalls.{StreamsTellAll, StreamsTellTheFirst}};
-ghost use Rattle.p25_c.specs.{FollowerLaws.{FollowersFollow, ItemsAreCut}, ValueLaws.{CallsAreTold, FieldsComeBack, UnitsAreTold}};
+ghost use Rattle.p25_c.specs.{FollowerLaws.{FollowersFollow, FollowersFollowFrom, ItemsAreCut}, ValueLaws.{CallsAreTold, FieldsComeBack, UnitsAreTold}};
 
 /// **Theorem.** Calls that ask for place 0 and then for the place at which the item before ends tell the items of the recording in
 /// order, whatever pieces of it they are given.
@@ -49,7 +49,8 @@ pub(crate) fn bounds_laws()
 ///
 /// - `units`: the numbers of an item, with its fields where it is a whole unit, tell a caller the unit that the item is.
 /// - `fields`: the voice unit of the fields of a voice unit is that unit.
-/// - `calls`: a caller that has begun answers, to items that lie end to end from place 0 on and at the end, the calls of these items.
+/// - `calls`: a caller that has begun at a place returns, of items that lie end to end from there on and at the end, the calls of these
+///   items, whether it ends a call with the gap that decides it or not.
 pub(crate) fn value_laws()
     ensures units { UnitsAreTold }
     ensures fields { FieldsComeBack }
@@ -60,8 +61,11 @@ pub(crate) fn value_laws()
 ///
 /// - `follows`: what a follower that has begun writes of the items of a recording, which it takes in turn by their numbers, and at the end,
 ///   are the octets of the recording followed.
+/// - `from`: what one that has begun at a place writes of any items that lie end to end over some bits, and at the end, is what is written
+///   of these.
 /// - `cut`: the bits that it looks at of an item are the same in every piece of the recording that has them.
 pub(crate) fn follower_laws()
     ensures follows { FollowersFollow }
+    ensures from { FollowersFollowFrom }
     ensures cut { ItemsAreCut }
 {}

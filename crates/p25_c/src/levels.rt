@@ -1,23 +1,24 @@
-//! Levels of a four-level signal: the dibits that they are nearest to, and units whose failing blocks are read from them.
+//! Soft symbols of a four-level signal
 //!
-//! There is a level for every two bits, a number from -128 to 127: 96 stands for 01, 32 for 00, -32 for 10 and -96 for 11.
+//! A soft symbol is a level, a number from -128 to 127, for every two bits: 96 is 01, 32 is 00, -32 is 10 and -96 is 11.
 
 ghost use Rattle.std.specs.Prelude.{◌≡◌, ◌%◌, length};
 ghost use Rattle.p25_c.specs.{Levels.{octets_softened, softened_by}, Rooms.{IsWriting}};
 ghost use Rattle.p25_soft.specs.Levels.{hard_bits, hard_dibit, nominal_level};
 ghost use Rattle.p25_units.specs.Needs.{need_of};
 
+use crate::answers::OUTSIDE;
 use crate::building::write_bits;
-use crate::items::OUTSIDE;
 use crate::repeats::fill;
 use p25_bits::BitBuf;
 use p25_soft::{hard, hard_bits_of, nominal, soften};
 use p25_units::{Begun, Need, need, unit_item};
 
-// The most levels that a unit has.
+/// The soft symbols of the longest data unit.
 const LEVELS_MOST: usize = 12_960;
 
-/// Answers the dibit whose level a level is nearest to: 1 from 64 up, 0 from 0 to 63, 2 from -64 to -1, and 3 below -64.
+/// Returns the dibit that a level is nearest to, as `p25_stream_push_dibits` takes it: 1 from 64 up, 0 from 0 to 63, 2 from -64
+/// to -1, and 3 below -64. Since 1.1.
 #[unsafe(no_mangle)]
 pub extern "C" fn p25_level_dibit(level: i8) -> u8
     ensures { result ≡ hard_dibit level }
@@ -25,7 +26,7 @@ pub extern "C" fn p25_level_dibit(level: i8) -> u8
     hard(level)
 }
 
-/// Answers the level that stands for a dibit, of which the two lowest bits are looked at: 32 for 0, 96 for 1, -32 for 2, -96 for 3.
+/// Returns the level of a dibit, the two lowest bits of an octet: 32 for 0, 96 for 1, -32 for 2, -96 for 3. Since 1.1.
 #[unsafe(no_mangle)]
 pub extern "C" fn p25_dibit_level(dibit: u8) -> i8
     ensures { result ≡ nominal_level (dibit % 4) }
@@ -33,13 +34,14 @@ pub extern "C" fn p25_dibit_level(dibit: u8) -> i8
     nominal(dibit % 4)
 }
 
-/// Writes the bits that levels are nearest to as octets, four levels in each. Where they are those of one whole or broken unit, no more
-/// and no fewer, the blocks that fail of a packet (PDU) are those of the paths that lie nearest to the levels, as the command `soft`
-/// reads them; they are not judged again. Where the levels fill no octet, its last bits are 0. Answers how many octets it wrote, at most
-/// 3,240; the octets of `into` after them stay.
+/// Writes the octets of soft symbols, four in each; if they fill no octet, its last bits are 0. If the levels are those of one
+/// whole or broken data unit, no more and no fewer, the blocks that fail of a packet (PDU) are decoded from the levels, as `p25
+/// soft` decodes them. Give it the levels of a broken data unit that begins at an even bit. The CRCs of these blocks are not
+/// looked at: `p25_packet_read` of the output does that.
 ///
-/// Where it does not, all of `into` stays, and it answers the first of these that applies: -1, there are more than 12,960 levels; -2,
-/// there are more octets than `into` has.
+/// Returns how many octets it wrote, at most `P25_UNIT_ROOM`; the octets of the buffer after them stay. Else it writes nothing
+/// and returns the first of these that applies: `P25_OUTSIDE`, if there are more than `P25_LEVELS_MOST` levels; `P25_NO_ROOM`.
+/// Since 1.1.
 #[unsafe(no_mangle)]
 pub extern "C" fn p25_soften(levels: &[i8], into: &mut [u8]) -> i32
     ensures { IsWriting (octets_softened levels.now) into.old into.new result }

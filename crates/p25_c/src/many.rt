@@ -1,11 +1,12 @@
-//! Many items of a recording in one call, by their numbers alone.
+//! Items of a recording, many in one call
 
 ghost use Rattle.std.specs.Prelude.{◌≡◌, ◌-◌, Some, true, length, drop};
 ghost use Rattle.p25_bits.specs.Bits.{octet_bits};
 ghost use Rattle.p25_c.specs.{Items.{is_inside, items_asked}, Many.{many_answer, many_left}};
 ghost use Rattle.p25_stream.specs.Items.{items_by};
 
-use crate::items::{ItemParts, OUTSIDE, blank, is_inside, item_parts};
+use crate::answers::OUTSIDE;
+use crate::items::{ItemParts, blank, is_inside, item_parts};
 use crate::room::counted;
 use p25_bits::BitBuf;
 use p25_stream::find_item_in;
@@ -13,11 +14,10 @@ use p25_stream::find_item_in;
 // The most items that one call tells.
 const ITEMS_MOST: usize = 2_147_483_647;
 
-/// Tells the items from bit `from` of a recording on by their numbers, in order: as many as there are and `items` has room for, and at
-/// most 2,147,483,647. What is given, and which items there are, is as `p25_next_item` says. No text is made, so `text_length` is 0.
-///
-/// Answers how many items are told: so many of `items`, from the first on, are set, and the others stay. Answers -1 where `p25_next_item`
-/// does; all of `items` stay then. A next call goes on where the last item that was told ends.
+/// Sets `items` to the items from bit `from` of a recording on, in order: as many as there are, at most as many as the buffer
+/// holds, and at most 2,147,483,647. The arguments and the items are as for `p25_next_item`. No text is made, and text_length is
+/// 0. Returns how many items it set; the others stay. The next call begins where the last item ends. Returns `P25_OUTSIDE` as
+/// `p25_next_item` does, and then all of `items` stays. Since 1.1.
 #[unsafe(no_mangle)]
 pub extern "C" fn p25_items(
     octets: &[u8],

@@ -1,4 +1,4 @@
-//! Words of the Reed-Solomon codes of which some symbols are marked as not known, by octets: 0 is no mark, and each other octet is one.
+//! Codewords of the Reed-Solomon codes with erasures as octets
 
 ghost use Rattle.std.specs.Prelude.{◌≡◌, length, map};
 ghost use Rattle.p25_c.specs.Marks.{is_marked};
@@ -8,7 +8,8 @@ ghost use Rattle.p25_word_calls.specs.Symbols.{IsSymbolReading};
 
 use p25_word_calls::read_with_erased;
 
-/// Reads a received word of the code (36,20) as `p25_rs_36_20_read_erased` does. The symbols whose mark is not 0 are not known.
+/// Decodes a received word of the code (36,20) as `p25_rs_36_20_read_erased` does. A symbol whose mark is not 0 is erased.
+/// Since 1.1.
 #[unsafe(no_mangle)]
 pub extern "C" fn p25_rs_36_20_read_marked(symbols: &mut [u8; 36], marks: &[u8; 36]) -> i32
     ensures { IsSymbolReading (λ received. rs_erased_reading_of 36 20 (without_erased received (map is_marked marks.now))) symbols.old symbols.new result }
@@ -18,7 +19,8 @@ pub extern "C" fn p25_rs_36_20_read_marked(symbols: &mut [u8; 36], marks: &[u8; 
     read_with_erased::<36, 20>(symbols, &erased)
 }
 
-/// Reads a received word of the code (24,12) as `p25_rs_24_12_read_erased` does. The symbols whose mark is not 0 are not known.
+/// Decodes a received word of the code (24,12) as `p25_rs_24_12_read_erased` does. A symbol whose mark is not 0 is erased.
+/// Since 1.1.
 #[unsafe(no_mangle)]
 pub extern "C" fn p25_rs_24_12_read_marked(symbols: &mut [u8; 24], marks: &[u8; 24]) -> i32
     ensures { IsSymbolReading (λ received. rs_erased_reading_of 24 12 (without_erased received (map is_marked marks.now))) symbols.old symbols.new result }
@@ -28,7 +30,8 @@ pub extern "C" fn p25_rs_24_12_read_marked(symbols: &mut [u8; 24], marks: &[u8; 
     read_with_erased::<24, 12>(symbols, &erased)
 }
 
-/// Reads a received word of the code (24,16) as `p25_rs_24_16_read_erased` does. The symbols whose mark is not 0 are not known.
+/// Decodes a received word of the code (24,16) as `p25_rs_24_16_read_erased` does. A symbol whose mark is not 0 is erased.
+/// Since 1.1.
 #[unsafe(no_mangle)]
 pub extern "C" fn p25_rs_24_16_read_marked(symbols: &mut [u8; 24], marks: &[u8; 24]) -> i32
     ensures { IsSymbolReading (λ received. rs_erased_reading_of 24 16 (without_erased received (map is_marked marks.now))) symbols.old symbols.new result }

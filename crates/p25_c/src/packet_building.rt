@@ -1,10 +1,11 @@
-//! Packets (PDU) built from numbers and octets.
+//! Packets built
 
 ghost use Rattle.std.specs.Prelude.{◌≡◌, ℕ, ◌-◌, ◌*◌, ◌<◌, ◌≤◌, pos, IfSome, slice_index, take, true};
 ghost use Rattle.p25_c.specs.{Building.{IsWritingUnder}, Packets.{confirmed_of, is_sendable_at, packet_built, packet_held, slot_held, slots_held}};
 ghost use Rattle.p25_packet_blocks.specs.{Heads.{confirmed_format, head_blocks, head_format}, Kinds.{IsPlainFormat}, Reading.{plain_by_parts}};
 ghost use Rattle.p25_packet_blocks.specs.Whole.{IsWholePacket};
 
+use crate::answers::WRONG_PACKET;
 use crate::building::{sent_symbol, write_whole};
 use crate::packets::PacketParts;
 use p25_packet_blocks::{
@@ -13,16 +14,14 @@ use p25_packet_blocks::{
 };
 use p25_units::{Body, Unit};
 
-// What is given is no packet that can be sent.
-const WRONG_PACKET: i32 = -9;
-
-/// Writes the octets of the unit of a packet (PDU) into `octets`, with one status symbol everywhere, and answers how many, 45 to 3,240. The octets of
-/// `octets` after them stay. Of `packet` the members `nac`, `head` and `octets` are looked at, and of a confirmed packet `good` and
-/// `serials` too: what else its header says is read from `head`.
+/// Writes the octets of the data unit of a packet (PDU), with the status symbol `status`, 0 to 3, everywhere, and with its CRCs.
+/// The call looks at the members nac, head and octets of `packet`, and of a confirmed packet at good and serials too; head states
+/// the format and how many blocks there are. Returns how many octets it wrote, 45 to `P25_UNIT_ROOM`; the octets of the buffer
+/// after them stay.
 ///
-/// Where it does not, all of `octets` stays, and it answers the first of these that applies: -4, `nac` is above 4095; -5, `status`
-/// is above 3; -9, `head` has a format that is none of 16, 15 and 03 hex, or a block of a confirmed packet is 0 in `good` or has
-/// a serial number above 127; -2, the unit has more octets than `octets`.
+/// Else it writes nothing and returns the first of these that applies: `P25_WRONG_NAC`; `P25_WRONG_STATUS`; `P25_WRONG_PACKET`,
+/// if the format is none of the three, or a block of a confirmed packet is 0 in good or has a serial number above 127;
+/// `P25_NO_ROOM`. Since 1.1.
 #[unsafe(no_mangle)]
 pub extern "C" fn p25_build_packet(packet: &PacketParts, status: u8, octets: &mut [u8]) -> i32
     ensures built { IsWritingUnder packet.now.nac status (λ symbol. packet_built symbol packet.now) octets.old octets.new result }

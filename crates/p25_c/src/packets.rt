@@ -1,54 +1,76 @@
-//! Packets (PDU) as numbers and octets.
+//! Packets
 
 ghost use Rattle.std.specs.{Prelude.{◌≡◌, ◌*◌, ◌≤◌, ◌==◌, count_by, length, map}, List.{flat_map}};
 ghost use Rattle.p25_c.specs.Packets.{head_told, is_bad, no_packet, packet_answer, packet_asked, packet_bad, packet_fault, packet_left, packet_told, slot_good, slot_octets, slot_serial, slots_told, unit_bits};
 
-use crate::building::NO_UNIT;
-use crate::items::{OUTSIDE, is_inside};
+use crate::answers::{NO_UNIT, OUTSIDE, PACKET_CRC, PACKET_CUT, PACKET_FORMAT, PACKET_HEADER};
+use crate::items::{NEEDED, is_inside};
 use p25_bits::BitBuf;
 use p25_packet_blocks::{Packet, PacketHead, Slot, read_packet_unit};
 use p25_status::Field;
 
-// As many octets as a unit that begins at any bit can lie in.
-const NEEDED: usize = 3_241;
-
 // How many bits the shortest unit of a packet has.
 const SHORTEST: usize = 360;
 
-/// A packet. `head` are the ten octets of its header, and `llid`, `format`, `full`, `blocks`, `pad`, `syn`, `number`, `response_class`,
-/// `response_type` and `response_status` are the fields that it has, by its format. `length` of the octets of `octets` are those behind the header, and the
-/// others are 0. Of a confirmed packet `bad` is the number of blocks that fail, and for each block there is an octet in `good`, 1 or 0,
-/// and in `serials`.
+// The formats of packets (PDU).
+
+/// confirmed
+const CONFIRMED: u8 = p25_packet_blocks::CONFIRMED_FORMAT;
+
+/// unconfirmed
+const PLAIN: u8 = p25_packet_blocks::PLAIN_FORMAT;
+
+/// a response
+const RESPONSE: u8 = p25_packet_blocks::RESPONSE_FORMAT;
+
+/// A packet (PDU). TIA-102.BAAA, Packet Data.
 #[derive(Clone, Copy)]
 #[repr(C)]
 pub struct PacketParts {
+    /// the logical link identifier (LLID), 24 bits: octets 3 to 5 of the header
     pub llid: u32,
+    /// the network access code (NAC) of its data unit, 0 to 4095
     pub nac: u16,
+    /// how many of the octets are data
     pub length: u16,
+    /// the header, without its CRC
     pub head: [u8; 10],
+    /// the format: one of the three above
     pub format: u8,
+    /// the full message flag
     pub full: u8,
+    /// the number of blocks to follow, 0 to 127
     pub blocks: u8,
+    /// the number of pad octets, 0 to 31
     pub pad: u8,
+    /// the first bit of octet 8 of the header, whatever the format: of a confirmed packet the flag Syn
     pub syn: u8,
+    /// the next three bits of octet 8, whatever the format: of a confirmed packet N(S)
     pub number: u8,
+    /// the first two bits of octet 1 of the header, whatever the format: of a response its class
     pub response_class: u8,
+    /// the next three bits of octet 1, whatever the format: of a response its type
     pub response_type: u8,
+    /// the last three bits of octet 1, whatever the format: of a response its status
     pub response_status: u8,
+    /// of a confirmed packet how many blocks fail, else 0
     pub bad: u8,
+    /// of a confirmed packet for each block 1 if its CRC-9 agrees, else 0; else zeros
     pub good: [u8; 127],
+    /// of a confirmed packet for each good block its serial number, 0 to 127; else zeros
     pub serials: [u8; 127],
+    /// its data: of a confirmed packet 16 octets for each block, zeros for one that fails; of another packet the octets before
+    /// the packet CRC; zeros after them
     pub octets: [u8; 2032],
 }
 
-/// Sets `packet` to the packet (PDU) of the unit that begins at bit `from` of a recording, of which these are some octets: the first of
-/// them stands at bit `begin`. Answers how many of its blocks fail. Each block of a confirmed packet is judged by its own check: one that
-/// fails is 0 in `good`, and its sixteen octets of `octets` are 0.
+/// Sets `packet` to the packet (PDU) of the data unit that begins at bit `from` of a recording, whose octets are given as for
+/// `p25_next_item`, and returns how many of its blocks fail: 0 of a whole data unit, and more of a broken one whose blocks fail.
+/// The CRC of each block of a confirmed packet decides about it.
 ///
-/// Answers less than 0 where there is no packet, and then `packet` stays: -1 where `p25_next_item` answers -1; -3 where no unit of a
-/// packet begins there, since its sync, its identifier or its data unit identifier (DUID) is another or fewer than 360 bits are left; -21
-/// where the check of its header does not agree; -22 where octets are wanting; -23 where its format is none of 16, 15 and 03 hex;
-/// -24 where its packet check does not agree.
+/// Else `packet` stays, and it returns: `P25_OUTSIDE` as `p25_next_item` does; `P25_NO_UNIT`, if no packet begins there, since
+/// its sync, its network identifier (NID) or its DUID is another, or fewer than 360 bits are left; `P25_PACKET_HEADER`;
+/// `P25_PACKET_CUT`; `P25_PACKET_FORMAT`; `P25_PACKET_CRC`. Since 1.1.
 #[unsafe(no_mangle)]
 pub extern "C" fn p25_packet_read(
     octets: &[u8],
@@ -93,10 +115,10 @@ fn packet_fault(field: Field) -> i32
     ensures { result ≡ packet_fault field }
 {
     match field {
-        Field::PacketHeader => -21,
-        Field::Length => -22,
-        Field::Format => -23,
-        Field::PacketCrc => -24,
+        Field::PacketHeader => PACKET_HEADER,
+        Field::Length => PACKET_CUT,
+        Field::Format => PACKET_FORMAT,
+        Field::PacketCrc => PACKET_CRC,
         _ => NO_UNIT,
     }
 }

@@ -1,24 +1,28 @@
-//! Items forwarded in place, under another network access code (NAC) and with one status symbol everywhere.
+//! Items forwarded in place
 
 ghost use Rattle.std.specs.Prelude.{◌<◌};
 ghost use Rattle.p25_c.specs.{Building.{IsWritingUnder}, Relays.{relayed_at}, Rooms.{IsWriting}};
 
+use crate::answers::OUTSIDE;
 use crate::building::{sent_symbol, write_bits};
-use crate::items::{OUTSIDE, blank, is_inside};
+use crate::items::{blank, is_inside};
 use crate::repeats::{cut, fill};
 use p25_bits::BitBuf;
 use p25_follow::relay_item;
 use p25_status::Status;
 use p25_stream::find_item;
 
-/// Writes what is forwarded in place of the item that begins at bit `from` of a recording, as the command `relay` writes it: of a whole unit
-/// what `p25_bridge_at` writes; of a broken one its bits, with the sync, the network identifier (NID) and the status symbols replaced;
-/// and all other bits as they are. It is as many bits as the item covers, as octets: the bits after the last are 0. Of the recording
-/// the octets from bit `begin` on are given. Answers how many octets it wrote, at most 3,240, and 0 where no item is left; the octets
-/// of `into` after them stay.
+/// Writes what `p25 relay` writes in place of the item that begins at bit `from` of a recording, whose octets are given as for
+/// `p25_next_item`: of a whole data unit what `p25_bridge_at` writes; of a broken one its bits, with the sync, the network
+/// identifier (NID) and the status symbols replaced by those of `nac`, 0 to 4095, and `status`, 0 to 3; of all else its bits as
+/// they are. It writes as many bits as the item covers, and zeros after them in the last octet.
 ///
-/// Where it does not, all of `into` stays, and it answers the first of these that applies: -4, `nac` is above 4095; -5, `status` is
-/// above 3; -1, where `p25_next_item` answers it; -2, there are more octets than `into` has.
+/// The octets must decide the item, as they do once `p25_next_item` or `p25_stream_next` has returned it. The call takes the
+/// octets for all of the recording: a data unit of which bits are missing is forwarded as it came, under its old access code.
+///
+/// Returns how many octets it wrote, at most `P25_UNIT_ROOM`, and 0 if no item is left; the octets of the buffer after them stay.
+/// Else it writes nothing and returns the first of these that applies: `P25_WRONG_NAC`, `P25_WRONG_STATUS`, `P25_OUTSIDE`,
+/// `P25_NO_ROOM`. Since 1.1.
 #[unsafe(no_mangle)]
 pub extern "C" fn p25_relay_at(
     octets: &[u8],

@@ -1,11 +1,12 @@
-//! Items at any bit of a recording: their octets, and units there repaired and under another network access code (NAC).
+//! Items at any bit: their octets, data units repaired, and with another access code
 
 ghost use Rattle.std.specs.Prelude.{◌≡◌, ◌+◌, ◌*◌, ◌^◌, ◌<◌, ◌≤◌, length};
 ghost use Rattle.p25_bits.specs.Bits.{octet_bits, part};
 ghost use Rattle.p25_c.specs.{Building.{IsWritingUnder}, Places.{bridged_at, filled, has_item, item_cut, repaired_at}, Rooms.{IsWriting}};
 
-use crate::building::{NO_UNIT, sent_symbol, write_bits};
-use crate::items::{ItemParts, OUTSIDE, blank, find_at, is_inside};
+use crate::answers::{NO_UNIT, OUTSIDE};
+use crate::building::{sent_symbol, write_bits};
+use crate::items::{ItemParts, blank, find_at, is_inside};
 use p25_bits::BitBuf;
 use p25_bits::laws::octets_fit;
 use p25_status::Status;
@@ -15,12 +16,13 @@ use p25_units::Item;
 // The most bits that an item covers.
 const ITEM_BITS: u32 = 25_920;
 
-/// Writes the bits of an item, which begins at any bit of a recording, as octets: the first bit is the highest of the first octet, and
-/// the bits after the last are 0. Of the recording the octets from bit `begin` on are given. Of the item its place and its number of bits
-/// are looked at. Answers how many octets it wrote, at most 3,240; the octets of `into` after them stay.
+/// Writes the bits of an item as octets, whatever bit it begins at: its first bit is the most significant one of the first octet,
+/// and the bits after its last one are 0. The octets are a part of the recording whose first octet is at bit `begin`, as for
+/// `p25_next_item`. The call looks at the members place and bits of the item. Returns how many octets it wrote, at most
+/// `P25_UNIT_ROOM`; the octets of the buffer after them stay.
 ///
-/// Where it does not, all of `into` stays, and it answers the first of these that applies: -1, `begin` is no multiple of 8, or the item
-/// has a bit that these octets do not, or more than 25,920 bits, or begins after bit 2^59; -2, it has more octets than `into`.
+/// Else it writes nothing and returns the first of these that applies: `P25_OUTSIDE`, if `begin` is no multiple of 8, a bit of
+/// the item is not among the octets, or the item has more than 25,920 bits or begins after bit 2^59; `P25_NO_ROOM`. Since 1.1.
 #[unsafe(no_mangle)]
 pub extern "C" fn p25_item_octets(
     octets: &[u8],
@@ -74,11 +76,9 @@ pub(crate) fn fill(bits: &mut BitBuf)
     bits.put_field(0, missing as u32);
 }
 
-/// Writes the whole unit that begins at bit `from` of a recording as it was sent, as the command `repair` writes it. Of the recording
-/// the octets from bit `begin` on are given. Answers how many octets it wrote; the octets of `into` after them stay.
-///
-/// Where it does not, all of `into` stays, and it answers the first of these that applies: -1, where `p25_next_item` answers it; -3, the
-/// item there is no whole unit; -2, the unit has more octets than `into`.
+/// Does what `p25_repair` does with the whole data unit that begins at bit `from` of a recording, whose octets are given as for
+/// `p25_next_item`. Returns how many octets it wrote, 18 to `P25_UNIT_ROOM`. Else it writes nothing and returns the first of
+/// these that applies: `P25_OUTSIDE`, `P25_NO_UNIT`, `P25_NO_ROOM`. Since 1.1.
 #[unsafe(no_mangle)]
 pub extern "C" fn p25_repair_at(octets: &[u8], begin: u64, from: u64, into: &mut [u8]) -> i32
     ensures { IsWriting (repaired_at begin from octets.now) into.old into.new result }
@@ -95,12 +95,9 @@ pub extern "C" fn p25_repair_at(octets: &[u8], begin: u64, from: u64, into: &mut
     write_bits(&bits, into)
 }
 
-/// Writes the whole unit that begins at bit `from` of a recording under another network access code (NAC) and with one status symbol
-/// everywhere, as the command `bridge` writes it. Of the recording the octets from bit `begin` on are given. Answers how many octets it
-/// wrote; the octets of `into` after them stay.
-///
-/// Where it does not, all of `into` stays, and it answers the first of these that applies: -4, `nac` is above 4095; -5, `status` is
-/// above 3; -1, where `p25_next_item` answers it; -3, the item there is no whole unit; -2, the unit has more octets than `into`.
+/// Does what `p25_bridge` does with the whole data unit that begins at bit `from` of a recording, whose octets are given as for
+/// `p25_next_item`. Returns how many octets it wrote, 18 to `P25_UNIT_ROOM`. Else it writes nothing and returns the first of
+/// these that applies: `P25_WRONG_NAC`, `P25_WRONG_STATUS`, `P25_OUTSIDE`, `P25_NO_UNIT`, `P25_NO_ROOM`. Since 1.1.
 #[unsafe(no_mangle)]
 pub extern "C" fn p25_bridge_at(
     octets: &[u8],

@@ -2,9 +2,6 @@
 
 ghost use Rattle.std.specs.Prelude.{◌≡◌, ◌≤◌, pos};
 
-// There is too little room: nothing is written.
-pub(crate) const NO_ROOM: i32 = -2;
-
 // A number of octets that were written, or of items that are told.
 pub(crate) fn counted(count: usize) -> i32
     requires { count ≤ 2147483647 }

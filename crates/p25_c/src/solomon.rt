@@ -1,7 +1,7 @@
-//! The Reed-Solomon codes over octets: (36,20) of the header (HDU), (24,12) of link control (LC), (24,16) of encryption sync (ES).
+//! Codewords of the Reed-Solomon codes
 //!
-//! A word is an array of octets from 0 to 63, one for each symbol of six bits, in the order of sending: first those of the
-//! information, then the check symbols.
+//! The codes are over GF(64). A codeword is an array of octets from 0 to 63, one for each symbol of six bits, in the order of
+//! transmission: first the symbols of the information, then the check symbols.
 
 ghost use Rattle.p25_code.specs.Erasures.{without_erased};
 ghost use Rattle.p25_reed_solomon.specs.RsReadings.{rs_erased_reading_of, rs_reading_of};
@@ -9,8 +9,9 @@ ghost use Rattle.p25_word_calls.specs.Symbols.{IsSymbolReading, IsSymbolWriting}
 
 use p25_word_calls::{read_symbols, read_with_erased, write_symbols};
 
-/// Reads a received word of the code (36,20) and answers how many symbols were wrong, at most 8: the octets become those of the
-/// one word that differs in so few. Answers -1 where there is none, and -2 where an octet is above 63; nothing is changed then.
+/// Decodes a received word of the code (36,20), of the header word (HDU), and returns how many symbol errors it corrected, at
+/// most 8: the octets become those of the only codeword that differs in so few. Returns `P25_BEYOND` if there is none, and
+/// `P25_NO_LETTERS` if an octet is above 63; then the octets stay.
 #[unsafe(no_mangle)]
 pub extern "C" fn p25_rs_36_20_read(symbols: &mut [u8; 36]) -> i32
     ensures { IsSymbolReading (rs_reading_of 36 20) symbols.old symbols.new result }
@@ -18,7 +19,9 @@ pub extern "C" fn p25_rs_36_20_read(symbols: &mut [u8; 36]) -> i32
     read_symbols::<36, 20>(symbols)
 }
 
-/// Reads a received word of the code (24,12), as `p25_rs_36_20_read` does. At most 6 wrong symbols are corrected.
+/// Decodes a received word of the code (24,12), of link control (LC), and returns how many symbol errors it corrected, at most 6:
+/// the octets become those of the only codeword that differs in so few. Returns `P25_BEYOND` if there is none, and
+/// `P25_NO_LETTERS` if an octet is above 63; then the octets stay.
 #[unsafe(no_mangle)]
 pub extern "C" fn p25_rs_24_12_read(symbols: &mut [u8; 24]) -> i32
     ensures { IsSymbolReading (rs_reading_of 24 12) symbols.old symbols.new result }
@@ -26,7 +29,9 @@ pub extern "C" fn p25_rs_24_12_read(symbols: &mut [u8; 24]) -> i32
     read_symbols::<24, 12>(symbols)
 }
 
-/// Reads a received word of the code (24,16), as `p25_rs_36_20_read` does. At most 4 wrong symbols are corrected.
+/// Decodes a received word of the code (24,16), of encryption sync (ES), and returns how many symbol errors it corrected, at most
+/// 4: the octets become those of the only codeword that differs in so few. Returns `P25_BEYOND` if there is none, and
+/// `P25_NO_LETTERS` if an octet is above 63; then the octets stay.
 #[unsafe(no_mangle)]
 pub extern "C" fn p25_rs_24_16_read(symbols: &mut [u8; 24]) -> i32
     ensures { IsSymbolReading (rs_reading_of 24 16) symbols.old symbols.new result }
@@ -34,10 +39,10 @@ pub extern "C" fn p25_rs_24_16_read(symbols: &mut [u8; 24]) -> i32
     read_symbols::<24, 16>(symbols)
 }
 
-/// Reads a received word of the code (36,20) of which the symbols where `erased` is true are not known. Answers how many symbols
-/// changed where twice the wrong ones among the others, and the erased ones, are at most 16 together for some word: the octets
-/// become those of that word. Answers -1 where there is none, and -2 where an octet is above 63, an erased one too; nothing is
-/// changed then.
+/// Decodes a received word of the code (36,20), whose symbols are erased where `erased` is true. A codeword is correctable if
+/// twice the symbol errors among the others, and the erasures, are at most 16 together. Returns how many symbols changed; the
+/// octets become those of that codeword. Returns `P25_BEYOND` if there is none, and `P25_NO_LETTERS` if an octet is above 63, an
+/// erased one too; then the octets stay.
 #[unsafe(no_mangle)]
 pub extern "C" fn p25_rs_36_20_read_erased(symbols: &mut [u8; 36], erased: &[bool; 36]) -> i32
     ensures { IsSymbolReading (λ received. rs_erased_reading_of 36 20 (without_erased received erased.now)) symbols.old symbols.new result }
@@ -45,8 +50,10 @@ pub extern "C" fn p25_rs_36_20_read_erased(symbols: &mut [u8; 36], erased: &[boo
     read_with_erased::<36, 20>(symbols, erased)
 }
 
-/// Reads a received word of the code (24,12) of which some symbols are not known, as `p25_rs_36_20_read_erased` does, with 12 for
-/// 16.
+/// Decodes a received word of the code (24,12), whose symbols are erased where `erased` is true. A codeword is correctable if
+/// twice the symbol errors among the others, and the erasures, are at most 12 together. Returns how many symbols changed; the
+/// octets become those of that codeword. Returns `P25_BEYOND` if there is none, and `P25_NO_LETTERS` if an octet is above 63, an
+/// erased one too; then the octets stay.
 #[unsafe(no_mangle)]
 pub extern "C" fn p25_rs_24_12_read_erased(symbols: &mut [u8; 24], erased: &[bool; 24]) -> i32
     ensures { IsSymbolReading (λ received. rs_erased_reading_of 24 12 (without_erased received erased.now)) symbols.old symbols.new result }
@@ -54,8 +61,10 @@ pub extern "C" fn p25_rs_24_12_read_erased(symbols: &mut [u8; 24], erased: &[boo
     read_with_erased::<24, 12>(symbols, erased)
 }
 
-/// Reads a received word of the code (24,16) of which some symbols are not known, as `p25_rs_36_20_read_erased` does, with 8 for
-/// 16.
+/// Decodes a received word of the code (24,16), whose symbols are erased where `erased` is true. A codeword is correctable if
+/// twice the symbol errors among the others, and the erasures, are at most 8 together. Returns how many symbols changed; the
+/// octets become those of that codeword. Returns `P25_BEYOND` if there is none, and `P25_NO_LETTERS` if an octet is above 63, an
+/// erased one too; then the octets stay.
 #[unsafe(no_mangle)]
 pub extern "C" fn p25_rs_24_16_read_erased(symbols: &mut [u8; 24], erased: &[bool; 24]) -> i32
     ensures { IsSymbolReading (λ received. rs_erased_reading_of 24 16 (without_erased received erased.now)) symbols.old symbols.new result }
@@ -63,8 +72,8 @@ pub extern "C" fn p25_rs_24_16_read_erased(symbols: &mut [u8; 24], erased: &[boo
     read_with_erased::<24, 16>(symbols, erased)
 }
 
-/// Sets the last 16 octets to the check symbols of the first 20, so that all are a word of the code (36,20), and answers 0.
-/// Answers -2 where one of the first 20 is above 63; nothing is changed then.
+/// Sets the last 16 octets to the check symbols of the first 20, so that all are a codeword of the code (36,20), and returns 0.
+/// Returns `P25_NO_LETTERS` if one of the first 20 is above 63; then the octets stay.
 #[unsafe(no_mangle)]
 pub extern "C" fn p25_rs_36_20_write(symbols: &mut [u8; 36]) -> i32
     ensures { IsSymbolWriting 36 20 symbols.old symbols.new result }
@@ -72,7 +81,8 @@ pub extern "C" fn p25_rs_36_20_write(symbols: &mut [u8; 36]) -> i32
     write_symbols::<36, 20>(symbols)
 }
 
-/// Sets the last 12 octets to the check symbols of the first 12, as `p25_rs_36_20_write` does.
+/// Sets the last 12 octets to the check symbols of the first 12, so that all are a codeword of the code (24,12), and returns 0.
+/// Returns `P25_NO_LETTERS` if one of the first 12 is above 63; then the octets stay.
 #[unsafe(no_mangle)]
 pub extern "C" fn p25_rs_24_12_write(symbols: &mut [u8; 24]) -> i32
     ensures { IsSymbolWriting 24 12 symbols.old symbols.new result }
@@ -80,7 +90,8 @@ pub extern "C" fn p25_rs_24_12_write(symbols: &mut [u8; 24]) -> i32
     write_symbols::<24, 12>(symbols)
 }
 
-/// Sets the last 8 octets to the check symbols of the first 16, as `p25_rs_36_20_write` does.
+/// Sets the last 8 octets to the check symbols of the first 16, so that all are a codeword of the code (24,16), and returns 0.
+/// Returns `P25_NO_LETTERS` if one of the first 16 is above 63; then the octets stay.
 #[unsafe(no_mangle)]
 pub extern "C" fn p25_rs_24_16_write(symbols: &mut [u8; 24]) -> i32
     ensures { IsSymbolWriting 24 16 symbols.old symbols.new result }

@@ -1,40 +1,42 @@
-//! Recordings that come piece by piece: a stream in a struct of the caller, which holds the octets that no item covers yet.
+//! Recordings that come in chunks
 //!
-//! A stream is its numbers, and nothing else is kept: a call takes any, and refuses one whose numbers fit no stream.
+//! A stream is a struct of the program, of 8,192 octets, which can be copied. It contains no pointer. Whatever its numbers are,
+//! each call returns: `P25_OUTSIDE`, if they fit no stream.
 
 ghost use Rattle.std.specs.Prelude.{◌≡◌, ◌-◌, ◌≤◌, true, min, pos, length};
 ghost use Rattle.p25_c.specs.Items.{item_answer, item_text_left};
 ghost use Rattle.p25_c.specs.Streams.{HasSameBits, IsAppended, IsDibitsPushed, IsPushed, fresh_stream, is_stream, item_told, stream_asked, stream_moved, stream_room};
 
+use crate::answers::{DIBITS_WAIT, ENDED, OUTSIDE};
 use crate::dibits::append_dibits;
-use crate::items::{
-    ITEM, ItemParts, NO_ITEM, OUTSIDE, blank, find_at, is_inside, item_parts, tell_item,
-};
+use crate::items::{ITEM, ItemParts, NONE, blank, find_at, is_inside, item_parts, tell_item};
 
-// The stream has ended; dibits wait for their octet.
-const ENDED: i32 = -6;
+/// The octets that a stream holds at most.
+pub(crate) const STREAM_OCTETS: usize = 8_168;
 
-const DIBITS_WAIT: i32 = -7;
-
-// How many octets a stream holds.
-pub(crate) const ROOM: usize = 8_168;
-
-/// A stream. Its `held` first octets stand from bit `begin` of the recording on, and the next item begins at bit `from`. Where `ended`
-/// is not 0 no more come. `dibits` dibits, at most 3, wait for their octet, as the number `waiting`. `unused` is not looked at.
+/// A recording that comes in chunks.
 #[derive(Clone, Copy)]
 #[repr(C)]
 pub struct Stream {
+    /// the bit of the recording at which the first octet held is, a multiple of 8
     pub begin: u64,
+    /// the bit at which the next item begins: one of those held or their end, at most 2^59
     pub from: u64,
+    /// how many octets are held, at most P25_STREAM_OCTETS
     pub held: u32,
+    /// 0: more may come
     pub ended: u8,
+    /// how many dibits wait for their octet, at most 3
     pub dibits: u8,
+    /// these dibits as a number
     pub waiting: u8,
+    /// no call looks at it
     pub unused: u8,
+    /// the octets held come first
     pub octets: [u8; 8_168],
 }
 
-/// Sets a stream to one that begins, at bit 0, and holds nothing.
+/// Sets `stream` to one that begins at bit 0 and holds nothing. Since 1.1.
 #[unsafe(no_mangle)]
 pub extern "C" fn p25_stream_begin(stream: &mut Stream)
     ensures { stream.new ≡ fresh_stream }
@@ -47,15 +49,28 @@ pub extern "C" fn p25_stream_begin(stream: &mut Stream)
         dibits: 0,
         waiting: 0,
         unused: 0,
-        octets: [0; ROOM],
+        octets: [0; STREAM_OCTETS],
     };
 }
 
-/// Takes octets, from the first one on, as many as there is room for, and answers how many: all of them, or 8,168 less those that are
-/// held from bit `from` on. Octets before that bit may be let go.
+/// Sets `stream` to one that holds nothing and whose first octet will be at bit `begin` of a recording, a multiple of 8 and at most
+/// 2^59, so that positions are those of the recording. Each call on it returns `P25_OUTSIDE` if `begin` is another number. A program
+/// that joins a recording late, or that has lost octets, goes on so. Since 1.1.
+#[unsafe(no_mangle)]
+pub extern "C" fn p25_stream_begin_at(stream: &mut Stream, begin: u64)
+    ensures { stream.new ≡ record fresh_stream { begin = begin; from = begin } }
+{
+    p25_stream_begin(stream);
+    stream.begin = begin;
+    stream.from = begin;
+}
+
+/// Takes octets, from the first one on, as many as there is capacity for, and returns how many: all of them, or
+/// `P25_STREAM_OCTETS` less the octets held from the one with bit `from` on. Once `p25_stream_next` has returned `P25_NONE`,
+/// these are fewer than `P25_NEEDED`, so there is capacity for 4,928 octets or more. Octets before bit `from` may be dropped.
 ///
-/// Where it refuses, the stream stays, and it answers the first of these that applies: -1, the numbers fit no stream; -6, it has
-/// ended; -7, dibits wait for their octet.
+/// Else it takes none, the stream stays, and it returns the first of these that applies: `P25_OUTSIDE`, `P25_ENDED`,
+/// `P25_DIBITS_WAIT`. Since 1.1.
 #[unsafe(no_mangle)]
 pub extern "C" fn p25_stream_push(stream: &mut Stream, octets: &[u8]) -> i32
     ensures { IsPushed octets.now stream.old stream.new result }
@@ -73,10 +88,9 @@ pub extern "C" fn p25_stream_push(stream: &mut Stream, octets: &[u8]) -> i32
     append(stream, octets)
 }
 
-/// Takes dibits, an octet for each, of which the two lowest bits are looked at: from the first one on, as many as there is room for.
-/// Four make an octet of the recording, the first one highest. Answers how many: all of them, or 4 for each octet of room.
-///
-/// Where it refuses, the stream stays, and it answers -1 or -6 as `p25_stream_push` does.
+/// Takes dibits, one in each octet as its two lowest bits, from the first one on, as many as there is capacity for: four for each
+/// octet. Four make an octet of the recording, the first one highest. Returns how many it took, or the first of these that
+/// applies, and then the stream stays: `P25_OUTSIDE`, `P25_ENDED`. Since 1.1.
 #[unsafe(no_mangle)]
 pub extern "C" fn p25_stream_push_dibits(stream: &mut Stream, dibits: &[u8]) -> i32
     ensures { IsDibitsPushed dibits.now stream.old stream.new result }
@@ -91,11 +105,12 @@ pub extern "C" fn p25_stream_push_dibits(stream: &mut Stream, dibits: &[u8]) -> 
     append_dibits(stream, dibits)
 }
 
-/// Tells the next item of a stream, as `p25_next_item` does, and moves on behind it. Where `text` is empty no text is made, and
-/// `text_length` is 0. What the stream holds of the item stays until octets or dibits are pushed.
+/// Sets `item` to the next item, as `p25_next_item` does, and moves on to the end of it. If `text` has no octets, no text is
+/// made, text_length is 0, and the call takes less time. The octets of the item stay in the stream until octets or dibits are
+/// pushed, for the calls that take a stream and an item. The items do not depend on the chunks.
 ///
-/// Answers 1 where an item is told, 0 where there is none: where more octets decide, or, once the stream has ended, where all items have
-/// been told. Answers -1 where the numbers fit no stream. At 0 and -1 all stays as it is.
+/// Returns `P25_ITEM`; or `P25_NONE`, if more octets decide, or if the stream has ended and all items have been returned; or
+/// `P25_OUTSIDE`. At the last two all stays. Since 1.1.
 #[unsafe(no_mangle)]
 pub extern "C" fn p25_stream_next(stream: &mut Stream, item: &mut ItemParts, text: &mut [u8]) -> i32
     ensures answer { result ≡ item_answer (stream_asked stream.old) }
@@ -116,7 +131,7 @@ pub extern "C" fn p25_stream_next(stream: &mut Stream, item: &mut ItemParts, tex
         stream.ended != 0,
         &mut found,
     ) {
-        return NO_ITEM;
+        return NONE;
     }
     if text.is_empty() {
         *item = item_parts(&found, 0);
@@ -127,7 +142,7 @@ pub extern "C" fn p25_stream_next(stream: &mut Stream, item: &mut ItemParts, tex
     ITEM
 }
 
-/// Sets that no more octets come: what is held is divided to its end. Dibits that wait for their octet are left out.
+/// States that no more octets come: what is held is then divided to its end. Dibits that fill no octet are left out. Since 1.1.
 #[unsafe(no_mangle)]
 pub extern "C" fn p25_stream_end(stream: &mut Stream)
     ensures { stream.new ≡ record stream.old { ended = 1 } }
@@ -136,10 +151,10 @@ pub extern "C" fn p25_stream_end(stream: &mut Stream)
 }
 
 // Whether the numbers fit a stream.
-fn is_stream(stream: &Stream) -> bool
+pub(crate) fn is_stream(stream: &Stream) -> bool
     ensures { result ≡ is_stream stream.now }
 {
-    if stream.held > ROOM as u32 || stream.dibits > 3 {
+    if stream.held > STREAM_OCTETS as u32 || stream.dibits > 3 {
         return false;
     }
     u32::from(stream.waiting) < 1 << (2 * u32::from(stream.dibits))
@@ -153,7 +168,7 @@ fn make_room(stream: &mut Stream, wanted: usize)
     ensures room { min wanted (8168 - stream.new.held) ≡ min wanted (stream_room stream.old) }
     ensures full { length stream.new.octets ≡ 8168 }
 {
-    if wanted > ROOM - stream.held as usize {
+    if wanted > STREAM_OCTETS - stream.held as usize {
         let_go(stream);
     }
 }
@@ -179,7 +194,7 @@ fn append(stream: &mut Stream, octets: &[u8]) -> i32
     ensures { IsAppended octets.now stream.old stream.new result }
 {
     let held = stream.held as usize;
-    let count = octets.len().min(ROOM - held);
+    let count = octets.len().min(STREAM_OCTETS - held);
     stream.octets[held..held + count].copy_from_slice(&octets[..count]);
     stream.held += count as u32;
     count as i32

@@ -1,4 +1,6 @@
-//! The binary words as numbers, and network identifiers (NID). The first bit that is sent is the highest of a number.
+//! Codewords of the binary codes, and network identifiers
+//!
+//! A codeword is a number whose highest bit is transmitted first.
 
 ghost use Rattle.p25_bits.specs.Bits.{bits_of};
 ghost use Rattle.p25_golay.specs.{Golay18.{IsGolay18}, Golay18Laws.{golay18_reading_of}, Golay24.{IsGolay24}, Golay24Laws.{golay24_reading_of}};
@@ -9,8 +11,23 @@ use p25_golay::{Golay18, Golay24};
 use p25_hamming::{Hamming10, Lsd16};
 use p25_word_calls::{read_identifier, read_number, write_identifier, write_number};
 
-/// Reads a received word of the Golay code (24,12) and answers how many bits were wrong, at most 3: the number becomes that of the
-/// one word that differs in so few. Answers -1 where there is none, and -2 where the number has more than 24 bits; it stays then.
+// What a `read` of a codeword returns in place of the number of letters, symbols or bits, that it corrected. The codeword stays then.
+
+/// uncorrectable: no codeword is within the correction radius
+const BEYOND: i32 = -1;
+
+/// no letters: an octet is above 63, or a number has a bit above those of a codeword
+const NO_LETTERS: i32 = -2;
+
+/// What a `write` returns if the information has more bits than the code takes.
+const NO_WORD: u32 = 0xFFFF_FFFF;
+
+/// What `p25_nid_write` returns if the NAC is above 4095 or the DUID is above 15.
+const NO_NID: u64 = 0xFFFF_FFFF_FFFF_FFFF;
+
+/// Decodes a received word of the Golay code (24,12), a number of 24 bits, and returns how many bit errors it corrected, at most
+/// 3: the number becomes the only codeword that differs in so few. Returns `P25_BEYOND` if there is none, and `P25_NO_LETTERS` if
+/// the number has more bits; then it stays.
 #[unsafe(no_mangle)]
 pub extern "C" fn p25_golay24_read(word: &mut u32) -> i32
     ensures { IsNumberReading 24 golay24_reading_of word.old word.new result }
@@ -18,7 +35,9 @@ pub extern "C" fn p25_golay24_read(word: &mut u32) -> i32
     read_number::<Golay24>(word)
 }
 
-/// Reads a received word of the Golay code (18,6), of 18 bits, as `p25_golay24_read` does. At most 3 wrong bits are corrected.
+/// Decodes a received word of the Golay code (18,6), a number of 18 bits, and returns how many bit errors it corrected, at most
+/// 3: the number becomes the only codeword that differs in so few. Returns `P25_BEYOND` if there is none, and `P25_NO_LETTERS` if
+/// the number has more bits; then it stays.
 #[unsafe(no_mangle)]
 pub extern "C" fn p25_golay18_read(word: &mut u32) -> i32
     ensures { IsNumberReading 18 golay18_reading_of word.old word.new result }
@@ -26,7 +45,9 @@ pub extern "C" fn p25_golay18_read(word: &mut u32) -> i32
     read_number::<Golay18>(word)
 }
 
-/// Reads a received word of the Hamming code (10,6), of 10 bits, as `p25_golay24_read` does. One wrong bit is corrected.
+/// Decodes a received word of the Hamming code (10,6), a number of 10 bits, and returns how many bit errors it corrected, at most
+/// 1: the number becomes the only codeword that differs in so few. Returns `P25_BEYOND` if there is none, and `P25_NO_LETTERS` if
+/// the number has more bits; then it stays.
 #[unsafe(no_mangle)]
 pub extern "C" fn p25_hamming10_read(word: &mut u32) -> i32
     ensures { IsNumberReading 10 hamming10_reading_of word.old word.new result }
@@ -34,7 +55,9 @@ pub extern "C" fn p25_hamming10_read(word: &mut u32) -> i32
     read_number::<Hamming10>(word)
 }
 
-/// Reads a received word of the low speed data (LSD), of 16 bits, as `p25_golay24_read` does. At most 2 wrong bits are corrected.
+/// Decodes a received word of the code (16,8) of low speed data (LSD), a number of 16 bits, and returns how many bit errors it
+/// corrected, at most 2: the number becomes the only codeword that differs in so few. Returns `P25_BEYOND` if there is none, and
+/// `P25_NO_LETTERS` if the number has more bits; then it stays.
 #[unsafe(no_mangle)]
 pub extern "C" fn p25_lsd16_read(word: &mut u32) -> i32
     ensures { IsNumberReading 16 lsd16_reading_of word.old word.new result }
@@ -42,8 +65,8 @@ pub extern "C" fn p25_lsd16_read(word: &mut u32) -> i32
     read_number::<Lsd16>(word)
 }
 
-/// Answers the word of the Golay code (24,12) with this information, of 12 bits: they are the word's highest. Answers FFFFFFFF hex,
-/// which is no word, where the information has more bits.
+/// Returns the codeword of the Golay code (24,12) with this information of 12 bits, which are its highest. Returns `P25_NO_WORD`
+/// if the information has more bits.
 #[unsafe(no_mangle)]
 pub extern "C" fn p25_golay24_write(info: u32) -> u32
     ensures { IsNumberWriting IsGolay24 12 24 info result }
@@ -51,7 +74,8 @@ pub extern "C" fn p25_golay24_write(info: u32) -> u32
     write_number::<Golay24>(info)
 }
 
-/// Answers the word of the Golay code (18,6) with this information, of 6 bits, as `p25_golay24_write` does.
+/// Returns the codeword of the Golay code (18,6) with this information of 6 bits, which are its highest. Returns `P25_NO_WORD` if
+/// the information has more bits.
 #[unsafe(no_mangle)]
 pub extern "C" fn p25_golay18_write(info: u32) -> u32
     ensures { IsNumberWriting IsGolay18 6 18 info result }
@@ -59,7 +83,8 @@ pub extern "C" fn p25_golay18_write(info: u32) -> u32
     write_number::<Golay18>(info)
 }
 
-/// Answers the word of the Hamming code (10,6) with this information, of 6 bits, as `p25_golay24_write` does.
+/// Returns the codeword of the Hamming code (10,6) with this information of 6 bits, which are its highest. Returns `P25_NO_WORD`
+/// if the information has more bits.
 #[unsafe(no_mangle)]
 pub extern "C" fn p25_hamming10_write(info: u32) -> u32
     ensures { IsNumberWriting IsHamming10 6 10 info result }
@@ -67,7 +92,8 @@ pub extern "C" fn p25_hamming10_write(info: u32) -> u32
     write_number::<Hamming10>(info)
 }
 
-/// Answers the word of the low speed data (LSD) with this information, of 8 bits, as `p25_golay24_write` does.
+/// Returns the codeword of the code (16,8) of low speed data (LSD) with this information of 8 bits, which are its highest.
+/// Returns `P25_NO_WORD` if the information has more bits.
 #[unsafe(no_mangle)]
 pub extern "C" fn p25_lsd16_write(info: u32) -> u32
     ensures { IsNumberWriting IsLsd16 8 16 info result }
@@ -75,8 +101,8 @@ pub extern "C" fn p25_lsd16_write(info: u32) -> u32
     write_number::<Lsd16>(info)
 }
 
-/// Reads a network identifier (NID) of 64 bits, sets its NAC and its DUID, and answers how many of the first 63 bits were wrong, at
-/// most 11. Answers -1 where no word of the code lies so near; the two stay then. The last bit is not looked at.
+/// Decodes a network identifier (NID) of 64 bits, sets its NAC and its DUID, and returns how many bit errors its first 63 bits
+/// have, at most 11. Returns `P25_BEYOND` if no codeword is so near; then the two stay. The call does not look at the last bit.
 #[unsafe(no_mangle)]
 pub extern "C" fn p25_nid_read(bits: u64, nac: &mut u16, duid: &mut u8) -> i32
     ensures { IsIdentifierReading (bits_of 64 bits) (nac.old, duid.old) (nac.new, duid.new) result }
@@ -84,8 +110,9 @@ pub extern "C" fn p25_nid_read(bits: u64, nac: &mut u16, duid: &mut u8) -> i32
     read_identifier(bits, nac, duid)
 }
 
-/// Answers the network identifier (NID), 64 bits, that is sent for a NAC, below 4,096, and a DUID, below 16. Answers a number of ones
-/// alone, which is none, where one of the two is above.
+/// Returns the network identifier (NID), 64 bits, of a NAC from 0 to 4095 and a DUID from 0 to 15: 12 bits of the NAC, 4 of the
+/// DUID, 47 of check, and the last bit, which is 1 for an LDU1 and an LDU2. Returns `P25_NO_NID` if the NAC or the DUID is
+/// larger.
 #[unsafe(no_mangle)]
 pub extern "C" fn p25_nid_write(nac: u16, duid: u8) -> u64
     ensures { IsIdentifierWriting nac duid result }
