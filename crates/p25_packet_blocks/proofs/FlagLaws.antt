@@ -29,8 +29,8 @@ flags_of_octets-20 octets long = rw long refl
 pub flags_of_octets-none : (octets : List ℕ) → length octets ≢ 8 → length octets ≢ 20 → flags_of_octets octets ≡ None
 unfolding flags_of_octets
 flags_of_octets-none octets not_8 not_20 =
-    cond-false (eqb (length octets) 8) _ _ (ne_eqb (length octets) 8 not_8)
-    ∙ cond-false (eqb (length octets) 20) _ _ (ne_eqb (length octets) 20 not_20)
+    cond-false _ _ _ (ne_eqb (length octets) 8 not_8)
+    ∙ cond-false _ _ _ (ne_eqb (length octets) 20 not_20)
 
 -- eight flags an octet are written by those octets
 octet_bits-octets_from : (n : ℕ) (flags : List Bool) → length flags ≡ 8 * n → octet_bits (octets_from n flags) ≡ flags
@@ -45,4 +45,4 @@ flags_of_octets-flag_octets flags (inr long) =
     let octets = octets_from 16 flags in
     let zeros : List ℕ = 0 ∷ 0 ∷ 0 ∷ 0 ∷ [] in
     let sixteen = length-numbers_from 8 16 flags in
-    cc (flag_octets-128 flags long, flags_of_octets-20 (octets ++ zeros) (length-append octets zeros ∙ ap (λ n. n + 4) sixteen), take_at octets zeros 16 sixteen, octet_bits-octets_from 16 flags long)
+    cc (flag_octets-128 flags long, flags_of_octets-20 (octets ++ zeros) (cc (length-append octets zeros, sixteen)), take_at octets zeros 16 sixteen, octet_bits-octets_from 16 flags long)

@@ -19,7 +19,7 @@ unfolding header_octets
 length-header_octets head is = simp (length-append, is.long)
 
 are_two : (number : ℕ) → number < 2 ^ 16 → AreOctets (two_octets number)
-are_two number small = All-cons (λ n. n < 256) (number / 256) (number % 256 ∷ []) (omega arith) (All-cons (λ n. n < 256) (number % 256) [] (omega arith) (All-nil (λ n. n < 256)))
+are_two number small = All-cons (λ n. n < 256) (number / 256) (number % 256 ∷ []) (omega arith) (All-cons _ (number % 256) [] (omega arith) (All-nil (λ n. n < 256)))
 
 pub AreOctets-header_octets : (head : PacketHead) → IsHead head → AreOctets (header_octets head)
 unfolding header_octets
@@ -49,7 +49,7 @@ checked_octets-is octets = refl
 
 pub length-checked_octets : (octets : List ℕ) → length (checked_octets octets) ≡ length octets + 4
 unfolding checked_octets
-length-checked_octets octets = length-append octets (four_octets (crc32_of octets))
+length-checked_octets octets = length-append octets _
 
 are_four : (number : ℕ) → number < 2 ^ 32 → AreOctets (four_octets number)
 are_four number small =
@@ -60,7 +60,7 @@ are_four number small =
 
 pub AreOctets-checked_octets : (octets : List ℕ) → AreOctets octets → AreOctets (checked_octets octets)
 unfolding checked_octets
-AreOctets-checked_octets octets small = All-append (λ n. n < 256) octets (four_octets (crc32_of octets)) small (are_four (crc32_of octets) (crc32_of-lt octets))
+AreOctets-checked_octets octets small = All-append (λ n. n < 256) octets _ small (are_four (crc32_of octets) (crc32_of-lt octets))
 
 -- The blocks of a packet.
 

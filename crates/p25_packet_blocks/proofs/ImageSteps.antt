@@ -33,9 +33,7 @@ good_more slots j block is keeps so_far = record {
   at = λ k inside. elim (cases_lt k j) [
     | inl before ↦ so_far.at k before
     | inr last ↦
-        let here : j ≡ k = omega arith in
-        let P : ℕ → Type 0 = λ n. (good : Block) × (get_or slots n Bad ≡ Good good) × IsDataBlock good in
-        subst P here (block, is, keeps)
+        subst (λ n. (good : Block) × (get_or slots n Bad ≡ Good good) × IsDataBlock good) (omega arith) (block, is, keeps)
   ];
 }
 

@@ -9,7 +9,7 @@ pub half_near : HalfNear
 half_near octets received count small long near =
     let law = half_is_rate in
     let reading
-    = IsNearReading-from 4 2 5 half_point received (nearest_octets 4 2 half_point received) (nearest_distance 4 half_point received)
+    = IsNearReading-from 4 2 5 half_point received _ (nearest_distance 4 half_point received)
     (same_from_sent_bits 4 5 half_point half_parted (omega arith) law.together law.stays_parted law.parts)
     long
     (nearest_reading 4 2 half_point received (omega arith)) in
@@ -19,7 +19,7 @@ pub three_quarter_near : ThreeQuarterNear
 three_quarter_near octets received count small long near =
     let law = three_quarter_is_rate in
     let reading
-    = IsNearReading-from 8 3 3 three_quarter_point received (nearest_octets 8 3 three_quarter_point received) (nearest_distance 8 three_quarter_point received)
+    = IsNearReading-from 8 3 3 three_quarter_point received _ (nearest_distance 8 three_quarter_point received)
     (same_from_sent_bits 8 3 three_quarter_point three_quarter_parted (omega arith) law.together law.stays_parted law.parts)
     long
     (nearest_reading 8 3 three_quarter_point received (omega arith)) in

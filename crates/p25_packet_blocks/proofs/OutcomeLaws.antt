@@ -31,10 +31,10 @@ counted-read block wrong (Ok head) read near is e =
 
 pub IsReadHead-of : (block : List Bool) (read : ReadHead) → read_head_of block ≡ Ok read → IsReadHead block read
 unfolding read_head_of
-IsReadHead-of block read e = counted-read block (nearest_distance 4 half_point block) (head_from (half_octets block)) read refl refl e
+IsReadHead-of block read e = counted-read block (nearest_distance 4 half_point block) _ read refl refl e
 
 pub read_head_of-few : (block : List Bool) (read : ReadHead) → read_head_of block ≡ Ok read → read.wrong ≤ 196
-read_head_of-few block read e = omega (arith, (IsReadHead-of block read e).wrong, nearest_distance-le 4 2 half_point block (omega arith))
+read_head_of-few block read e = omega (arith, (IsReadHead-of block read e).wrong, nearest_distance-le 4 2)
 
 pub IfOk-few : (block : List Bool) (reading : Result ReadHead Field) → reading ≡ read_head_of block → IfOk reading (λ read. read.wrong ≤ 196)
 IfOk-few block (Ok read) is = read_head_of-few block read (sym is)
@@ -61,7 +61,7 @@ head_reading_of-read bare read e = head_reading_of-is bare ∙ (IsReadHead-of (h
 
 pub head_from-unread : (block : List Bool) (field : Field) → read_head_of block ≡ Err field → head_from (half_octets block) ≡ Err field
 unfolding read_head_of
-head_from-unread block field e = counted-head (nearest_distance 4 half_point block) (head_from (half_octets block)) field e
+head_from-unread block field e = counted-head (nearest_distance 4 half_point block) _ field e
 
 pub head_reading_of-unread : (bare : List Bool) (field : Field) → read_head_of (header_bits bare) ≡ Err field → head_reading_of bare ≡ Err field
 head_reading_of-unread bare field e = head_reading_of-is bare ∙ head_from-unread (header_bits bare) field e
@@ -70,11 +70,11 @@ head_reading_of-unread bare field e = head_reading_of-is bare ∙ head_from-unre
 
 pub failing_slots_of-zero : (slots : List Slot) → failing_slots_of 0 slots ≡ []
 unfolding failing_slots_of
-failing_slots_of-zero slots = joined_below-zero (λ j. failing_slot j (get_or slots j Bad))
+failing_slots_of-zero slots = joined_below-zero _
 
 pub failing_slots_of-suc : (n : ℕ) (slots : List Slot) → failing_slots_of (suc n) slots ≡ failing_slots_of n slots ++ failing_slot n (get_or slots n Bad)
 unfolding failing_slots_of
-failing_slots_of-suc n slots = joined_below-suc n (λ j. failing_slot j (get_or slots j Bad))
+failing_slots_of-suc n slots = joined_below-suc n _
 
 pub failing_slots_of-more : (n : ℕ) (slots : List Slot) → failing_slots_of (n + 1) slots ≡ failing_slots_of n slots ++ failing_slot n (get_or slots n Bad)
 failing_slots_of-more n slots = simp (add-one, failing_slots_of-suc)
@@ -95,7 +95,7 @@ good_fails_not j Bad good = absurd (good refl)
 none_bad : (n : ℕ) (slots : List Slot) → failing_slots_of n slots ≡ [] → (j : ℕ) → j < n → get_or slots j Bad ≢ Bad
 none_bad zero slots none j inside = absurd (omega arith)
 none_bad (suc n) slots none j inside =
-    let two = no_fields (failing_slots_of n slots) (failing_slot n (get_or slots n Bad)) (rw (← failing_slots_of-suc, none)) in
+    let two = no_fields (failing_slots_of n slots) _ (rw (← failing_slots_of-suc, none)) in
     elim (cases_eq j n) [
       | inl last ↦ simp last (bad_fails n (get_or slots n Bad) two.1)
       | inr other ↦ none_bad n slots two.0 j (omega (arith, inside, other))
@@ -169,6 +169,4 @@ pub packet_outcome-fixes : (read : ReadHead) (bare : List Bool) (packet : Packet
 unfolding outcome_of
 packet_outcome-fixes read bare packet wrong (field ∷ fields) is there reads counted fail = tt
 packet_outcome-fixes read bare packet wrong [] is there reads counted none = λ nac.
-    counted
-    ∙ ap (λ n. n + body_distance read.head bare) (IsReadHead-of (header_bits bare) read is).wrong
-    ∙ packet_fixes-is nac read.head packet bare (head_reading_of-read bare read is) there (sym reads) (IsWholePacket-none packet none)
+    cc (counted, (IsReadHead-of (header_bits bare) read is).wrong, packet_fixes-is nac read.head packet bare (head_reading_of-read bare read is) there (sym reads) (IsWholePacket-none packet none))

@@ -28,20 +28,20 @@ packet_fixes nac (Confirmed packet) bare read sendable there =
     let sent : (j : ℕ) → j < n → body_block (Confirmed packet) j ≡ three_quarter_block (three_quarter_octets (block_bits bare j))
     = λ j inside. confirmed_sent packet j (block_bits bare j) (read.blocks j inside) in
     cc (
-      all_fixes 8 three_quarter_point n bare (unit_front nac 12) (packet_nulls n) (half_block (header_octets packet.head)) (body_block (Confirmed packet)) there (length-unit_front nac 12)
+      all_fixes 8 three_quarter_point n bare (unit_front nac 12) (packet_nulls n) _ _ there (length-unit_front nac 12)
           (ap half_block (sym read.header))
           (λ j inside. ap length (sent j inside) ∙ length-three_quarter (block_bits bare j))
-          (λ j inside. ap (distance_of (block_bits bare j)) (sent j inside) ∙ three_quarter_fixes (block_bits bare j)),
+          (λ j inside. cc (sent j inside, three_quarter_fixes (block_bits bare j))),
       body_distance-confirmed packet.head bare sendable.kind.format,
     )
 packet_fixes nac (Plain packet) bare read sendable there =
     let n = head_blocks packet.head in
     let sent : (j : ℕ) → j < n → body_block (Plain packet) j ≡ half_block (half_octets (block_bits bare j)) = λ j inside. plain_sent packet j (block_bits bare j) (read.blocks j inside) in
     cc (
-      all_fixes 4 half_point n bare (unit_front nac 12) (packet_nulls n) (half_block (header_octets packet.head)) (body_block (Plain packet)) there (length-unit_front nac 12)
+      all_fixes 4 half_point n bare (unit_front nac 12) (packet_nulls n) _ _ there (length-unit_front nac 12)
           (ap half_block (sym read.header))
           (λ j inside. ap length (sent j inside) ∙ length-half (block_bits bare j))
-          (λ j inside. ap (distance_of (block_bits bare j)) (sent j inside) ∙ half_fixes (block_bits bare j)),
+          (λ j inside. cc (sent j inside, half_fixes (block_bits bare j))),
       body_distance-plain packet.head bare sendable.kind.format,
     )
 
@@ -50,4 +50,4 @@ pub packet_fixes-is : (nac : ℕ) (head : PacketHead) (packet : Packet) (bare : 
 packet_fixes-is nac head packet bare read there is whole =
     let of = IsWholeRead-reading bare packet (packet_reading_of-good bare head read ∙ is) whole in
     let same : packet_head packet ≡ head = cc in
-    cc (same, packet_fixes nac packet bare of.read of.sendable (subst (λ (h : PacketHead). 308 + 196 * head_blocks h ≤ length bare) (sym same) there))
+    cc (same, packet_fixes nac packet bare of.read of.sendable (rw same there))

@@ -27,7 +27,7 @@ IsBlock-three_quarter octets long small = IsBlock-block_from 8 3 three_quarter_p
 pub header_block : (packet : Packet) → IsSendable packet → IsBlock 4 2 half_point (header_octets (packet_head packet)) (half_block (header_octets (packet_head packet)))
 header_block packet sendable =
     let head = IsSendable-head packet sendable in
-    IsBlock-half (header_octets (packet_head packet)) (length-header_octets (packet_head packet) head) (AreOctets-header_octets (packet_head packet) head)
+    IsBlock-half _ (length-header_octets (packet_head packet) head) (AreOctets-header_octets (packet_head packet) head)
 
 -- each block to follow
 pub IsBodyBlock-body_block : (packet : Packet) → IsSendable packet → (j : ℕ) → j < head_blocks (packet_head packet) → IsBodyBlock packet j (body_block packet j)
@@ -36,8 +36,7 @@ IsBodyBlock-body_block (Confirmed packet) sendable j inside =
     let good = sendable.good.at j inside in (
       good.0,
       good.1,
-      subst (IsBlock 8 3 three_quarter_point (confirmed_octets good.0)) (sym (body_block-confirmed packet j good.0 good.1))
-          (IsBlock-three_quarter (confirmed_octets good.0) (length-confirmed_octets good.0 good.2) (AreOctets-confirmed_octets good.0 good.2)),
+      rw (body_block-confirmed packet j good.0 good.1) (IsBlock-three_quarter (confirmed_octets good.0) (length-confirmed_octets good.0 good.2) (AreOctets-confirmed_octets good.0 good.2)),
     )
 IsBodyBlock-body_block (Plain packet) sendable j inside =
     let octets = octets_of_block packet sendable j inside in
@@ -48,8 +47,7 @@ pub body_block-only : (packet : Packet) → IsSendable packet → (j : ℕ) → 
 unfolding IsSendable IsBodyBlock
 body_block-only (Confirmed packet) sendable j inside bits is =
     let keeps = sendable.good.at j inside in
-    let keeping : IsDataBlock is.0 = subst IsDataBlock (sym (cc (is.1, keeps.1))) keeps.2 in
-    same_block_from 8 3 three_quarter_point (confirmed_octets is.0) bits refl (length-confirmed_octets is.0 keeping) is.2 ∙ sym (body_block-confirmed packet j is.0 is.1)
+    same_block_from 8 3 three_quarter_point (confirmed_octets is.0) bits refl (length-confirmed_octets is.0 (subst IsDataBlock (sym (cc (is.1, keeps.1))) keeps.2)) is.2 ∙ sym (body_block-confirmed packet j is.0 is.1)
 body_block-only (Plain packet) sendable j inside bits is =
     let octets = octets_of_block packet sendable j inside in
     same_block_from 4 2 half_point (part (12 * j) 12 (checked_octets packet.octets)) bits refl octets.0 is ∙ sym (body_block-plain packet j)
@@ -59,9 +57,9 @@ pub length-body_block : (packet : Packet) → IsSendable packet → (j : ℕ) �
 unfolding IsBodyBlock
 length-body_block (Confirmed packet) sendable j inside =
     let is = IsBodyBlock-body_block (Confirmed packet) sendable j inside in
-    length-block 8 3 three_quarter_point (confirmed_octets is.0) (body_block (Confirmed packet) j) is.2
+    length-block 8 3 three_quarter_point (confirmed_octets is.0) _ is.2
 length-body_block (Plain packet) sendable j inside =
-    length-block 4 2 half_point (part (12 * j) 12 (checked_octets packet.octets)) (body_block (Plain packet) j) (IsBodyBlock-body_block (Plain packet) sendable j inside)
+    length-block 4 2 half_point (part (12 * j) 12 (checked_octets packet.octets)) _ (IsBodyBlock-body_block (Plain packet) sendable j inside)
 
 -- an element that is there is the same with any default
 same_element : (bits : List Bool) (i : ℕ) (d : Bool) → i < length bits → get_or bits i d ≡ get_or bits i false
@@ -89,7 +87,7 @@ module _ (nac : ℕ) (packet : Packet) (sendable : IsSendable packet) where
   body = joined_below count (body_block packet)
 
   long_header : length header ≡ 196
-  long_header = length-block 4 2 half_point (header_octets (packet_head packet)) header (header_block packet sendable)
+  long_header = length-block 4 2 half_point _ header (header_block packet sendable)
 
   long_body : length body ≡ 196 * count
   long_body = length-joined_below 196 count (body_block packet) (length-body_block packet sendable)
@@ -126,13 +124,12 @@ module _ (nac : ℕ) (packet : Packet) (sendable : IsSendable packet) where
   -- a block to follow
   pub image_block : (j : ℕ) → j < count → block_bits (packet_image_of nac packet) j ≡ body_block packet j
   image_block j inside =
-      let there : 196 * j + 196 ≤ length body = omega (arith, long_body) in
       cc (
         long_start,
         grouped,
         append_assoc (front ++ header) body (packet_nulls count),
         part_behind (196 * j) 196 (front ++ header) (body ++ packet_nulls count),
-        part_left (196 * j) 196 body (packet_nulls count) there,
+        part_left (196 * j) 196 body (packet_nulls count) (omega (arith, long_body)),
         part-joined_below 196 count (body_block packet) j (length-body_block packet sendable) inside,
       )
 
@@ -140,21 +137,20 @@ module _ (nac : ℕ) (packet : Packet) (sendable : IsSendable packet) where
   pub image_nulls : (place : ℕ) → packet_bits count ≤ place → place < length (packet_image_of nac packet) → slice_get (packet_image_of nac packet) place ≡ Some false
   unfolding packet_nulls
   image_nulls place behind inside =
-      let left : place - packet_bits count < packet_bare_length count - packet_bits count = omega (arith, image_long) in
       cc (
         slice_get-get_or (packet_image_of nac packet) place false inside,
         grouped,
         get_or-append_right (front ++ header ++ body) (packet_nulls count) (packet_bits count) place false long_bits behind,
-        get_or-replicate (packet_bare_length count - packet_bits count) (place - packet_bits count) false false left,
+        get_or-replicate (packet_bare_length count - packet_bits count) (place - packet_bits count) false false (omega (arith, image_long)),
       )
 
   -- the image is as the standard says
   pub IsPacketImage-image : IsPacketImage nac packet (packet_image_of nac packet)
   IsPacketImage-image = record {
     long = image_long;
-    front = subst (IsFront nac 12) (sym image_front) (IsFront-unit_front nac 12);
-    header = subst (IsBlock 4 2 half_point (header_octets (packet_head packet))) (sym image_header) (header_block packet sendable);
-    blocks = λ j inside. subst (IsBodyBlock packet j) (sym (image_block j inside)) (IsBodyBlock-body_block packet sendable j inside);
+    front = rw image_front (IsFront-unit_front nac 12);
+    header = rw image_header (header_block packet sendable);
+    blocks = λ j inside. rw (image_block j inside) (IsBodyBlock-body_block packet sendable j inside);
     nulls = image_nulls;
   }
 
@@ -165,12 +161,18 @@ module _ (nac : ℕ) (packet : Packet) (sendable : IsSendable packet) where
       let head = packet_head packet in
       let first = unit_front-only nac 12 (take 112 bits) is.front in
       let second : part 112 196 bits ≡ header = same_block_from 4 2 half_point (header_octets head) (header_bits bits) refl (length-header_octets head (IsSendable-head packet sendable)) is.header in
-      let third : part 308 (196 * count) bits ≡ body
-      = sym (joined_below-parts 308 196 count bits) ∙ joined_below-same count (λ j. part (308 + 196 * j) 196 bits) (body_block packet)
-      (λ j inside. body_block-only packet sendable j inside (block_bits bits j) (is.blocks j inside)) in
-      let rest : drop (packet_bits count) bits ≡ replicate (packet_bare_length count - packet_bits count) false
-      = all_false (drop (packet_bits count) bits) (packet_bare_length count - packet_bits count) (simp (length-drop, is.long))
-      (λ i inside. get_or-drop (packet_bits count) bits i false ∙ get_or_from_slice_get bits (packet_bits count + i) false false
-      (is.nulls (packet_bits count + i) (omega arith) (omega (arith, length-drop (packet_bits count) bits)))) in
       let place : 308 + 196 * count ≡ packet_bits count = omega arith in
-      cc (take-append-drop (packet_bits count) bits, place, part_add 0 308 (196 * count) bits, part_add 0 112 196 bits, first, second, third, rest, grouped)
+      cc (
+        take-append-drop (packet_bits count) bits,
+        place,
+        part_add 0 308 (196 * count) bits,
+        part_add 0 112 196 bits,
+        first,
+        second,
+        (sym (joined_below-parts 308 196 count bits) ∙ joined_below-same count (λ j. part (308 + 196 * j) 196 bits) (body_block packet)
+            (λ j inside. body_block-only packet sendable j inside (block_bits bits j) (is.blocks j inside))),
+        (all_false (drop (packet_bits count) bits) (packet_bare_length count - packet_bits count) (simp (length-drop, is.long))
+            (λ i inside. get_or-drop (packet_bits count) bits i false ∙ get_or_from_slice_get bits (packet_bits count + i) false false
+            (is.nulls (packet_bits count + i) (omega arith) (omega (arith, length-drop (packet_bits count) bits))))),
+        grouped,
+      )

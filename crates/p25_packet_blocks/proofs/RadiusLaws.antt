@@ -74,15 +74,15 @@ module _ (half : HalfNear) (three_quarter : ThreeQuarterNear) (nac : ℕ) where
   -- a block that was received has its length
   long_block : (packet : Packet) (received : List Bool) → length received ≡ packet_bare_length (head_blocks (packet_head packet)) → (j : ℕ) → j < head_blocks (packet_head packet)
       → length (block_bits received j) ≡ 196
-  long_block packet received long j inside = length-part (308 + 196 * j) 196 received (omega arith)
+  long_block packet received long j inside = length-part _ 196 received (omega arith)
 
   -- the header
   pub head_within : (packet : Packet) (received : List Bool) → IsSendable packet → AreBlocksWithin packet (packet_image_of nac packet) received
       → half_octets (header_bits received) ≡ header_octets (packet_head packet)
   head_within packet received sendable within =
       let head = IsSendable-head packet sendable in
-      let long : length received ≡ packet_bare_length (head_blocks (packet_head packet)) = within.long ∙ image_long nac packet sendable in
-      half (header_octets (packet_head packet)) (header_bits received) (length-header_octets (packet_head packet) head) (AreOctets-header_octets (packet_head packet) head)
+      let long = within.long ∙ image_long nac packet sendable in
+      half _ (header_bits received) (length-header_octets (packet_head packet) head) (AreOctets-header_octets (packet_head packet) head)
       (length-part 112 196 received (omega arith)) (simp image_header at within.header)
 
   -- a slot
@@ -92,10 +92,9 @@ module _ (half : HalfNear) (three_quarter : ThreeQuarterNear) (nac : ℕ) where
   slot_within packet received sendable within j inside =
       let good = sendable.good.at j inside in
       let block = good.0 in
-      let sent = image_block nac (Confirmed packet) sendable j inside ∙ body_block-confirmed packet j block good.1 in
-      let long = long_block (Confirmed packet) received (simp (within.long, image_long)) j inside in
-      ap slot_from (three_quarter (confirmed_octets block) (block_bits received j) (length-confirmed_octets block good.2) (AreOctets-confirmed_octets block good.2) long
-      (simp sent at (within.blocks j inside)))
+      ap slot_from (three_quarter (confirmed_octets block) (block_bits received j) (length-confirmed_octets block good.2) (AreOctets-confirmed_octets block good.2)
+      (long_block (Confirmed packet) received (simp (within.long, image_long)) j inside)
+      (simp (image_block nac (Confirmed packet) sendable j inside ∙ body_block-confirmed packet j block good.1) at (within.blocks j inside)))
       ∙ slot_again block good.2
       ∙ sym good.1
 
@@ -105,9 +104,8 @@ module _ (half : HalfNear) (three_quarter : ThreeQuarterNear) (nac : ℕ) where
   unfolding IsSendable
   octets_within packet received sendable within j inside =
       let octets = octets_of_block packet sendable j inside in
-      let sent = image_block nac (Plain packet) sendable j inside ∙ body_block-plain packet j in
-      let long = long_block (Plain packet) received (simp (within.long, image_long)) j inside in
-      half (part (12 * j) 12 (checked_octets packet.octets)) (block_bits received j) octets.0 octets.1 long (simp sent at (within.blocks j inside))
+      half (part (12 * j) 12 (checked_octets packet.octets)) (block_bits received j) octets.0 octets.1 (long_block (Plain packet) received (simp (within.long, image_long)) j inside)
+      (simp (image_block nac (Plain packet) sendable j inside ∙ body_block-plain packet j) at (within.blocks j inside))
 
   -- what follows the header
   pub body_within : (packet : Packet) (received : List Bool) → IsSendable packet → AreBlocksWithin packet (packet_image_of nac packet) received
@@ -119,7 +117,7 @@ module _ (half : HalfNear) (three_quarter : ThreeQuarterNear) (nac : ℕ) where
       let counted : length packet.slots ≡ n = sendable.kind.count in
       packet_of_head-confirmed packet.head received sendable.kind.format
       ∙ ap (λ slots. Ok (Confirmed (make slots)))
-      (each_below-same n (λ j. slot_from (three_quarter_octets (block_bits received j))) (λ j. get_or packet.slots j Bad) (slot_within packet received sendable within)
+      (each_below-same n _ (λ j. get_or packet.slots j Bad) (slot_within packet received sendable within)
       ∙ each_below-list packet.slots Bad n (omega arith)
       ∙ take_all n packet.slots (omega arith))
   body_within (Plain packet) received sendable within =
@@ -127,11 +125,10 @@ module _ (half : HalfNear) (three_quarter : ThreeQuarterNear) (nac : ℕ) where
       let octets = packet.octets in
       let checked = checked_octets octets in
       let make : List ℕ → PlainParts = λ carried. record { head = packet.head; octets = carried } in
-      let read : octets_read n received ≡ take (12 * n) checked
-      = joined_below-same n (λ j. half_octets (block_bits received j)) (λ j. part (0 + 12 * j) 12 checked)
+      let read = joined_below-same n (λ j. half_octets (block_bits received j)) (λ j. part (0 + 12 * j) 12 checked)
       (λ j inside. octets_within packet received sendable within j inside ∙ ap (λ k. part k 12 checked) ((omega arith)))
       ∙ joined_below-parts 0 12 n checked in
-      let counted : length octets ≡ 12 * n - 4 = sendable.kind.count in
+      let counted = sendable.kind.count in
       let front : take (12 * n - 4) (octets_read n received) ≡ octets
       = cc (read, take-take (12 * n - 4) (12 * n) checked (omega arith), counted, checked_front octets) in
       packet_of_head-plain packet.head received sendable.kind.format

@@ -14,11 +14,11 @@ use Rattle.p25_packet_blocks.specs.Reading.{header_bits, block_bits, head_from, 
 
 pub head_from-good : (octets : List ℕ) (check : ℕ) → check ≡ octets_number (drop 10 octets) → check ≡ crc16_of (take 10 octets) → head_from octets ≡ Ok (record { 0 = take 10 octets })
 unfolding head_from
-head_from-good octets check is agrees = cond-true (eqb (octets_number (drop 10 octets)) (crc16_of (take 10 octets))) _ _ (eq-eqb _ _ (sym is ∙ agrees))
+head_from-good octets check is agrees = cond-true _ _ _ (eq-eqb _ _ (sym is ∙ agrees))
 
 pub head_from-bad : (octets : List ℕ) (check : ℕ) → check ≡ octets_number (drop 10 octets) → check ≢ crc16_of (take 10 octets) → head_from octets ≡ Err PacketHeader
 unfolding head_from
-head_from-bad octets check is differs = cond-false (eqb (octets_number (drop 10 octets)) (crc16_of (take 10 octets))) _ _ (ne_eqb _ _ (λ agrees. differs (is ∙ agrees)))
+head_from-bad octets check is differs = cond-false _ _ _ (ne_eqb _ _ (λ agrees. differs (is ∙ agrees)))
 
 pub head_reading_of-is : (bare : List Bool) → head_reading_of bare ≡ head_from (half_octets (header_bits bare))
 unfolding head_reading_of
@@ -29,11 +29,11 @@ head_reading_of-is bare = refl
 pub slot_from-good : (octets : List ℕ) → 256 * (slice_index octets 0 % 2) + slice_index octets 1 ≡ crc9_of (slice_index octets 0 / 2) (drop 2 octets)
     → slot_from octets ≡ Good (record { serial = slice_index octets 0 / 2; octets = drop 2 octets })
 unfolding slot_from
-slot_from-good octets agrees = cond-true (eqb (256 * (slice_index octets 0 % 2) + slice_index octets 1) (crc9_of (slice_index octets 0 / 2) (drop 2 octets))) _ _ (eq-eqb _ _ agrees)
+slot_from-good octets agrees = cond-true _ _ _ (eq-eqb _ _ agrees)
 
 pub slot_from-bad : (octets : List ℕ) → 256 * (slice_index octets 0 % 2) + slice_index octets 1 ≢ crc9_of (slice_index octets 0 / 2) (drop 2 octets) → slot_from octets ≡ Bad
 unfolding slot_from
-slot_from-bad octets differs = cond-false (eqb (256 * (slice_index octets 0 % 2) + slice_index octets 1) (crc9_of (slice_index octets 0 / 2) (drop 2 octets))) _ _ (ne_eqb _ _ differs)
+slot_from-bad octets differs = cond-false _ _ _ (ne_eqb _ _ differs)
 
 pub slots_read-zero : (bare : List Bool) → slots_read 0 bare ≡ []
 unfolding slots_read
@@ -83,14 +83,14 @@ or_none a b first second = rw (first, second) refl
 pub plain_from-none : (head : PacketHead) (octets : List ℕ) → head_blocks head ≡ 0 → plain_from head octets ≡ Ok (Plain (record { head = head; octets = take (12 * head_blocks head - 4) octets }))
 unfolding plain_from
 plain_from-none head octets none =
-    cond-true (eqb (head_blocks head) 0 || eqb (octets_number (drop (12 * head_blocks head - 4) octets)) (crc32_of (take (12 * head_blocks head - 4) octets))) _ _ (or_left _ _ (eq-eqb _ _ none))
+    cond-true _ _ _ (or_left _ _ (eq-eqb _ _ none))
 
 -- the packet CRC agrees
 pub plain_from-good : (head : PacketHead) (octets : List ℕ) → eqb (octets_number (drop (12 * head_blocks head - 4) octets)) (crc32_of (take (12 * head_blocks head - 4) octets)) ≡ true
     → plain_from head octets ≡ Ok (Plain (record { head = head; octets = take (12 * head_blocks head - 4) octets }))
 unfolding plain_from
 plain_from-good head octets agrees =
-    cond-true (eqb (head_blocks head) 0 || eqb (octets_number (drop (12 * head_blocks head - 4) octets)) (crc32_of (take (12 * head_blocks head - 4) octets))) _ _ (or_right _ _ agrees)
+    cond-true _ _ _ (or_right _ _ agrees)
 
 -- there is a block to follow, and the packet CRC does not agree
 pub plain_from-bad : (head : PacketHead) (octets : List ℕ) → head_blocks head ≢ 0 → eqb (octets_number (drop (12 * head_blocks head - 4) octets))
@@ -98,7 +98,7 @@ pub plain_from-bad : (head : PacketHead) (octets : List ℕ) → head_blocks hea
     → plain_from head octets ≡ Err PacketCrc
 unfolding plain_from
 plain_from-bad head octets some differs =
-    cond-false (eqb (head_blocks head) 0 || eqb (octets_number (drop (12 * head_blocks head - 4) octets)) (crc32_of (take (12 * head_blocks head - 4) octets))) _ _
+    cond-false _ _ _
     (or_none _ _ (ne_eqb _ _ some) differs)
 
 -- The packet by its format.
@@ -106,7 +106,7 @@ plain_from-bad head octets some differs =
 pub packet_of_head-confirmed : (head : PacketHead) (bare : List Bool) → head_format head ≡ 0x16
     → packet_of_head head bare ≡ Ok (Confirmed (record { head = head; slots = slots_read (head_blocks head) bare }))
 unfolding packet_of_head
-packet_of_head-confirmed head bare is = cond-true (eqb (head_format head) 0x16) _ _ (eq-eqb _ _ is)
+packet_of_head-confirmed head bare is = cond-true _ _ _ (eq-eqb _ _ is)
 
 pub packet_of_head-plain : (head : PacketHead) (bare : List Bool) → IsPlainFormat (head_format head) → packet_of_head head bare ≡ plain_from head (octets_read (head_blocks head) bare)
 unfolding packet_of_head
@@ -116,8 +116,8 @@ packet_of_head-plain head bare (inr is) = rw is refl
 pub packet_of_head-other : (head : PacketHead) (bare : List Bool) → head_format head ≢ 0x16 → head_format head ≢ 0x15 → head_format head ≢ 0x03 → packet_of_head head bare ≡ Err Format
 unfolding packet_of_head
 packet_of_head-other head bare not_16 not_15 not_03 =
-    cond-false (eqb (head_format head) 0x16) _ _ (ne_eqb _ _ not_16)
-    ∙ cond-false (eqb (head_format head) 0x15 || eqb (head_format head) 0x03) _ _ (or_none _ _ (ne_eqb _ _ not_15) (ne_eqb _ _ not_03))
+    cond-false _ _ _ (ne_eqb _ _ not_16)
+    ∙ cond-false _ _ _ (or_none _ _ (ne_eqb _ _ not_15) (ne_eqb _ _ not_03))
 
 -- The packet of a unit.
 

@@ -31,4 +31,4 @@ number_of_four octets n long =
 pub octets_put : (octets read block : List ℕ) (j : ℕ) → 12 * j + 12 ≤ length octets → length block ≡ 12 → take (12 * j) octets ≡ read
     → take (12 * (j + 1)) (put_mid (12 * j) (12 * j + 12 - 12 * j) octets block) ≡ read ++ block
 octets_put octets read block j there long so_far =
-    cc (take-put_mid (12 * j) (12 * j + 12 - 12 * j) octets block (12 * (j + 1)) (omega arith) (omega arith), so_far)
+    cc (take-put_mid (12 * j) _ octets block (12 * (j + 1)) (omega arith) (omega arith), so_far)

@@ -17,6 +17,6 @@ pub octets_of_block : (packet : PlainParts) → IsSendablePlain packet → (j : 
     (part (12 * j) 12 (checked_octets packet.octets))
 octets_of_block packet sendable j inside = (
   length-part (12 * j) 12 (checked_octets packet.octets) (omega (arith, length-checked_octets packet.octets, sendable.kind.count)),
-  All-take (λ n. n < 256) 12 (drop (12 * j) (checked_octets packet.octets))
+  All-take (λ n. n < 256) 12 _
       (All-drop (λ n. n < 256) (12 * j) (checked_octets packet.octets) (AreOctets-checked_octets packet.octets sendable.small)),
 )

@@ -17,7 +17,6 @@ use Rattle.p25_packet_blocks.proofs.{PlacesLaws.{image_long, image_front}, Radiu
 pub sent_header_bits-bare_of : (blocks : ℕ) (sent : List Bool) → 5 ≤ blocks → length sent ≡ 72 * blocks → sent_header_bits sent ≡ header_bits (bare_of sent)
 sent_header_bits-bare_of blocks sent five long =
     let bare = bare_of sent in
-    let join : List Bool → List Bool → List Bool = λ xs ys. xs ++ ys in
     cc (
       sent_header_bits-is sent,
       part-bare_of blocks 1 42 28 sent long (omega arith) (omega arith),
@@ -68,21 +67,21 @@ module _ (half : HalfNear) (three_quarter : ThreeQuarterNear) (nac : ℕ) (packe
   pub sent_within : (received : List Bool) → IsPacketWithin packet whole received → packet_unit_of received ≡ Ok (nac, packet)
   sent_within received within =
       let head = packet_head packet in
-      let long : length received ≡ 72 * length statuses = within.long ∙ long_whole in
+      let long = within.long ∙ long_whole in
       let blocks : AreBlocksWithin packet (packet_image_of nac packet) (bare_of received) = simp bare at within.blocks in
       let enough : packet_sent_length (head_blocks head) ≡ length received = omega (arith, long, counted) in
       packet_unit_of-good received (
         nac,
         12,
-      ) packet (has_sync-yes received (omega (arith, long, five)) (subst (λ (xs : List Bool). distance_of (take 48 received) xs ≤ sync_slack)
-      (front_of-sync nac 12 whole (omega (arith, long_whole, five)) front) within.sync))
+      ) packet (has_sync-yes received (omega (arith, long, five)) (rw (front_of-sync nac 12 whole (omega (arith, long_whole, five)) front) at within.sync))
       (identifier_of-near nac 12 received sending.nac_fits (omega arith) (omega (arith, long, five))
-      (subst (λ (xs : List Bool). distance_of (take 63 (identifier_bits received)) (take 63 xs) ≤ 11)
-      (front_of-identifier nac 12 whole (omega (arith, long_whole, five)) front) within.identifier)) refl
-      (sent_packet_of-whole received head (sent_head_of-bare_of (length statuses) received five long ∙ head_reading_of-is (bare_of received)
-      ∙ ap head_from (head_within half three_quarter nac packet (bare_of received) sendable blocks) ∙ head_again head (IsSendable-head packet sendable)) (omega (arith, enough))
-      ∙ ap (λ xs. packet_of_head head (bare_of xs)) (take_all (packet_sent_length (head_blocks head)) received (omega (arith, enough)))
-      ∙ body_within half three_quarter nac packet (bare_of received) sendable blocks)
+      (rw (front_of-identifier nac 12 whole (omega (arith, long_whole, five)) front) at within.identifier)) refl
+      (cc (
+        sent_packet_of-whole received head (sent_head_of-bare_of (length statuses) received five long ∙ head_reading_of-is (bare_of received)
+            ∙ ap head_from (head_within half three_quarter nac packet (bare_of received) sendable blocks) ∙ head_again head (IsSendable-head packet sendable)) (omega (arith, enough)),
+        take_all (packet_sent_length (head_blocks head)) received (omega (arith, enough)),
+        body_within half three_quarter nac packet (bare_of received) sendable blocks,
+      ))
 
   none_wrong : (bits : List Bool) (most : ℕ) → distance_of bits bits ≤ most
   none_wrong bits most = omega (arith, distance_of-same bits)
@@ -93,6 +92,6 @@ module _ (half : HalfNear) (three_quarter : ThreeQuarterNear) (nac : ℕ) (packe
       sent_within whole (record {
         long = refl;
         sync = none_wrong (take 48 whole) 4;
-        identifier = none_wrong (take 63 (identifier_bits whole)) 11;
-        blocks = record { long = refl; header = none_wrong (header_bits (bare_of whole)) 2; blocks = λ j inside. none_wrong (block_bits (bare_of whole) j) (block_radius packet) };
+        identifier = none_wrong _ 11;
+        blocks = record { long = refl; header = none_wrong _ 2; blocks = λ j inside. none_wrong _ (block_radius packet) };
       })

@@ -23,7 +23,6 @@ sent_head_of-is sent = refl
 pub sent_header_bits-take : (count : ℕ) (sent : List Bool) → 316 ≤ count → sent_header_bits (take count sent) ≡ sent_header_bits sent
 unfolding sent_header_bits
 sent_header_bits-take count sent long =
-    let join : List Bool → List Bool → List Bool = λ xs ys. xs ++ ys in
     cc (part-take 114 28 count sent (omega arith), part-take 144 70 count sent (omega arith), part-take 216 70 count sent (omega arith), part-take 288 28 count sent (omega arith))
 
 pub sent_head_of-take : (count : ℕ) (sent : List Bool) → 316 ≤ count → sent_head_of (take count sent) ≡ sent_head_of sent
@@ -64,12 +63,12 @@ sent_packet_of-bad sent field is = rw is refl
 pub sent_packet_of-short : (sent : List Bool) (head : PacketHead) → sent_head_of sent ≡ Ok head → length sent < packet_sent_length (head_blocks head) → sent_packet_of sent ≡ Err Length
 unfolding sent_packet_of sent_from
 sent_packet_of-short sent head is short =
-    rw is (cond-false (leb (packet_sent_length (head_blocks head)) (length sent)) _ _ (false_from_ne_true _ (λ fits. omega (arith, leb-true _ _ fits))))
+    rw is (cond-false (leb _ (length sent)) _ _ (false_from_ne_true _ (λ fits. omega (arith, leb-true _ _ fits))))
 
 pub sent_packet_of-whole : (sent : List Bool) (head : PacketHead) → sent_head_of sent ≡ Ok head → packet_sent_length (head_blocks head) ≤ length sent
     → sent_packet_of sent ≡ packet_of_head head (bare_of (take (packet_sent_length (head_blocks head)) sent))
 unfolding sent_packet_of sent_from
-sent_packet_of-whole sent head is fits = rw is (cond-true (leb (packet_sent_length (head_blocks head)) (length sent)) _ _ (le-leb _ _ fits))
+sent_packet_of-whole sent head is fits = rw is (cond-true _ _ _ (le-leb _ _ fits))
 
 -- From the sync on.
 
@@ -88,12 +87,12 @@ packet_unit_of-nid sent some none = simp (synced, none)
 pub packet_unit_of-duid : (sent : List Bool) (nid : ℕ × ℕ) → has_sync sent ≡ true → identifier_of sent ≡ Some nid → nid.1 ≢ 12 → packet_unit_of sent ≡ Err Duid
 unfolding identified_packet_of
 packet_unit_of-duid sent nid some is other =
-    cc (synced sent some, is, cond-false (eqb nid.1 12) (with_nac nid.0 (sent_packet_of sent)) (Err Duid) (ne_eqb _ _ other))
+    cc (synced sent some, is, cond-false _ (with_nac nid.0 (sent_packet_of sent)) (Err Duid) (ne_eqb _ _ other))
 
 identified : (sent : List Bool) (nid : ℕ × ℕ) → has_sync sent ≡ true → identifier_of sent ≡ Some nid → nid.1 ≡ 12 → packet_unit_of sent ≡ with_nac nid.0 (sent_packet_of sent)
 unfolding identified_packet_of
 identified sent nid some is duid =
-    cc (synced sent some, is, cond-true (eqb nid.1 12) (with_nac nid.0 (sent_packet_of sent)) (Err Duid) (eq-eqb _ _ duid))
+    cc (synced sent some, is, cond-true _ (with_nac nid.0 (sent_packet_of sent)) (Err Duid) (eq-eqb _ _ duid))
 
 pub packet_unit_of-bad : (sent : List Bool) (nid : ℕ × ℕ) (field : Field) → has_sync sent ≡ true → identifier_of sent ≡ Some nid → nid.1 ≡ 12 → sent_packet_of sent ≡ Err field
     → packet_unit_of sent ≡ Err field

@@ -64,9 +64,7 @@ IsHeadOf-octets octets long small agrees =
     record {
       is_head = record { long = length-take-le 10 octets (omega arith); small = All-take IsOctet 10 octets small };
       octets_are =
-          sym (take-append-drop 10 octets)
-          ∙ ap (λ xs. take 10 octets ++ xs) (sym (two_again (drop 10 octets) (omega (arith, length-drop 10 octets)) (All-drop IsOctet 10 octets small)) ∙ ap two_octets agrees)
-          ∙ sym (header_octets-is (record { 0 = take 10 octets }));
+          cc (take-append-drop 10 octets, two_again (drop 10 octets) (omega (arith, length-drop 10 octets)) (All-drop IsOctet 10 octets small), agrees, header_octets-is _);
     }
 
 IsHeadOf-from : (octets : List ℕ) (head : PacketHead) → length octets ≡ 12 → AreOctets octets → head_from octets ≡ Ok head → IsHeadOf octets head
@@ -90,7 +88,7 @@ unfolding nearest_octets
 AreOctets-three_quarter bits = All-numbers_from 8 18 _
 
 pub IsHeadOf-reading : (bare : List Bool) (head : PacketHead) → head_reading_of bare ≡ Ok head → IsHeadOf (half_octets (header_bits bare)) head
-IsHeadOf-reading bare head is = IsHeadOf-from (half_octets (header_bits bare)) head (length-half_octets (header_bits bare)) (AreOctets-half (header_bits bare)) (sym (head_reading_of-is bare) ∙ is)
+IsHeadOf-reading bare head is = IsHeadOf-from _ head (length-half_octets (header_bits bare)) (AreOctets-half (header_bits bare)) (sym (head_reading_of-is bare) ∙ is)
 
 -- A confirmed block.
 
@@ -106,7 +104,7 @@ IsBlockOf-octets a b rest long small agrees =
     let second = All-head IsOctet b rest behind in
     record {
       is_block = record { serial_fits = omega (arith, first); long = long; small = All-tail IsOctet b rest behind };
-      octets_are = sym (confirmed_octets-is (record { serial = a / 2; octets = rest }) ∙ ap₂ (λ x y. x ∷ y ∷ rest) (omega (arith, agrees, first, second)) (omega (arith, agrees, first, second)));
+      octets_are = sym (confirmed_octets-is _ ∙ ap₂ (λ x y. x ∷ y ∷ rest) (omega (arith, agrees, first, second)) (omega (arith, agrees, first, second)));
     }
 
 IsBlockOf-cons : (a b : ℕ) (rest : List ℕ) (block : Block) → length rest ≡ 16 → AreOctets (a ∷ b ∷ rest) → slot_from (a ∷ b ∷ rest) ≡ Good block → IsBlockOf (a ∷ b ∷ rest) block
@@ -146,12 +144,12 @@ module _ (head : PacketHead) (bare : List Bool) where
 
   slot_is : (j : ℕ) → j < head_blocks head → get_or (slots_read (head_blocks head) bare) j Bad ≡ slot_from (slot_octets j)
   unfolding slots_read
-  slot_is j inside = get_or-each_below (head_blocks head) (λ i. slot_from (slot_octets i)) j Bad inside
+  slot_is j inside = get_or-each_below (head_blocks head) _ j Bad inside
 
   block_is : AreGood (slots_read (head_blocks head) bare) → (j : ℕ) → j < head_blocks head
       → (block : Block) × (get_or (slots_read (head_blocks head) bare) j Bad ≡ Good block) × IsBlockOf (slot_octets j) block
   block_is good j inside =
-      let found = good_block (get_or (slots_read (head_blocks head) bare) j Bad) (good.at j (omega (arith, length-slots_read (head_blocks head) bare))) in
+      let found = good_block _ (good.at j (omega (arith, length-slots_read (head_blocks head) bare))) in
       (found.0, found.1, IsBlockOf-from (slot_octets j) found.0 (length-three_quarter_octets (block_bits bare j)) (AreOctets-three_quarter (block_bits bare j)) (sym (slot_is j inside) ∙ found.1))
 
   IsReadOf-confirmed : IsHead head → head_format head ≡ 0x16 → AreGood (slots_read (head_blocks head) bare)
@@ -186,12 +184,16 @@ module _ (head : PacketHead) (bare : List Bool) where
   checked_again : 0 < head_blocks head → octets_number (drop (12 * head_blocks head - 4) all_octets) ≡ crc32_of carried → checked_octets carried ≡ all_octets
   checked_again some agrees =
       let count = 12 * head_blocks head - 4 in
-      let last : length (drop count all_octets) ≡ 4 = omega (arith, length-drop count all_octets, length-octets_read (head_blocks head) bare) in
-      cc (checked_octets-is carried, agrees, four_again (drop count all_octets) last (All-drop IsOctet count all_octets small_octets), take-append-drop count all_octets)
+      cc (
+        checked_octets-is carried,
+        agrees,
+        four_again (drop count all_octets) (omega (arith, length-drop count all_octets, length-octets_read (head_blocks head) bare)) (All-drop IsOctet count all_octets small_octets),
+        take-append-drop count all_octets,
+      )
 
   octets_of_block : (j : ℕ) → j < head_blocks head → part (12 * j) 12 all_octets ≡ half_octets (block_bits bare j)
   unfolding octets_read
-  octets_of_block j inside = part-joined_below 12 (head_blocks head) (λ i. half_octets (block_bits bare i)) j (λ i below. length-half_octets (block_bits bare i)) inside
+  octets_of_block j inside = part-joined_below 12 (head_blocks head) _ j (λ i below. length-half_octets (block_bits bare i)) inside
 
   IsReadOf-plain : IsHead head → IsPlainFormat (head_format head) → (0 < head_blocks head → octets_number (drop (12 * head_blocks head - 4) all_octets) ≡ crc32_of carried)
       → IsReadOf head bare (Plain (record { head = head; octets = carried }))
@@ -204,21 +206,20 @@ module _ (head : PacketHead) (bare : List Bool) where
       small = All-take IsOctet (12 * head_blocks head - 4) all_octets small_octets;
     };
     blocks = λ j inside. let some : 0 < head_blocks head = omega arith in
-        sym (octets_of_block j inside) ∙ ap (λ (xs : List ℕ). part (12 * j) 12 xs) (sym (checked_again some (agrees some)));
+        cc (octets_of_block j inside, checked_again some (agrees some));
   }
 
   IsReadOf-plain_from : (packet : Packet) → IsHead head → IsPlainFormat (head_format head) → plain_from head all_octets ≡ Ok packet → IsReadOf head bare packet
   unfolding plain_from
   IsReadOf-plain_from packet is_head format is =
-      let made : Packet = Plain (record { head = head; octets = carried }) in
       let agree = eqb (octets_number (drop (12 * head_blocks head - 4) all_octets)) (crc32_of carried) in
       let test = eqb (head_blocks head) 0 || agree in
       elim (cases_Bool test) [
         | inr none ↦ absurd (cc)
         | inl some ↦
-            let same : made ≡ packet = cc in
+            let same : (Plain (record { head = head; octets = carried })) ≡ packet = cc in
             simp same at (IsReadOf-plain is_head format
-            (λ blocks. eqb-true _ _ (right_of (eqb (head_blocks head) 0) agree some (ne_eqb (head_blocks head) 0 (λ zero'. omega arith)))))
+            (λ blocks. eqb-true _ _ (right_of _ agree some (ne_eqb (head_blocks head) 0 (λ zero'. omega arith)))))
       ]
     where
       right_of : (a b : Bool) → (a || b) ≡ true → a ≡ false → b ≡ true
@@ -232,7 +233,7 @@ IsReadOf-head head bare packet is_head is whole =
     let format = head_format head in
     elim (cases_eq format 0x16) [
       | inl confirmed ↦
-          let made : Packet = Confirmed (record { head = head; slots = slots_read (head_blocks head) bare }) in
+          let made : Packet = Confirmed _ in
           let two : Ok made ≡ Ok packet = sym (packet_of_head-confirmed head bare confirmed) ∙ is in
           let same : made ≡ packet = cc in
           let good = subst IsWholePacket (sym same) whole in

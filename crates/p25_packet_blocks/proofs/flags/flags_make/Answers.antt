@@ -11,15 +11,13 @@ loop-place-init c = record { list = c.new-octets.ensures ∙ sym (numbers_from-z
 pub loop-place-preserved : goal.loop-place-preserved
 loop-place-preserved c = record {
   list =
-      c.push.ensures.list
-      ∙ ap (λ (xs : List ℕ). xs ++ c.field.result ∷ []) c.loop-place.invariant.list
-      ∙ octets_from_more [] c.loop-place.place c.field.result c.extend.new.self c.field.ensures.value;
+      cc (c.push.ensures.list, c.loop-place.invariant.list, octets_from_more [] c.loop-place.place c.field.result c.extend.new.self c.field.ensures.value);
   len = omega arith;
 }
 
 -- the bits are the flags, of which there are 64 or 128, and all octets of them were pushed before any zeros
 same : (c : After-len) → c.extend.new.self ≡ c.args.flags.now
-same c = c.extend.ensures.list ∙ ap₂ (λ (xs ys : List Bool). xs ++ ys) c.new-bits.ensures c.flags.view_is
+same c = c.extend.ensures.list ∙ ap₂ (λ xs ys. xs ++ ys) c.new-bits.ensures c.flags.view_is
 
 known : (c : After-len) → (length c.args.flags.now ≡ 64) ⊎ (length c.args.flags.now ≡ 128)
 known c =
@@ -28,14 +26,13 @@ known c =
 
 pushed : (c : After-len) (n : ℕ) → length c.args.flags.now ≡ 8 * n → c.loop-place.octets ≡ octets_from n c.args.flags.now
 pushed c n count =
-    let all : c.loop-place.place ≡ n = omega (arith, count, ap length (same c)) in
-    c.loop-place.invariant.list ∙ ap₂ octets_from all (same c)
+    c.loop-place.invariant.list ∙ ap₂ octets_from (omega (arith, count, ap length (same c))) (same c)
 
 pub returns-then-len-eq128-clause-octets : goal.returns-then-len-eq128-clause-octets
 returns-then-len-eq128-clause-octets c =
     let b = c.before.before.before.before.before in
     let count : length c.args.flags.now ≡ 128 = omega (arith, ap length (same b)) in
-    c.extend-then-len-eq128.ensures.list ∙ ap (λ (xs : List ℕ). xs ++ 0 ∷ 0 ∷ 0 ∷ 0 ∷ []) (pushed b 16 count) ∙ sym (flag_octets-128 c.args.flags.now count)
+    cc (c.extend-then-len-eq128.ensures.list, pushed b 16 count, flag_octets-128 c.args.flags.now count)
 
 pub returns-then-len-eq128-clause-read : goal.returns-then-len-eq128-clause-read
 returns-then-len-eq128-clause-read c = ap flags_of_octets (returns-then-len-eq128-clause-octets c) ∙ flags_of_octets-flag_octets c.args.flags.now (known c.before.before.before.before.before)

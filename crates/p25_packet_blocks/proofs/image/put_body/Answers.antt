@@ -9,11 +9,9 @@ put_confirmed-requires-clause-whole c = subst IsWholePacket c.in-Confirmed.is c.
 pub returns-in-Confirmed-clause-sendable : goal.returns-in-Confirmed-clause-sendable
 unfolding IsSendable
 returns-in-Confirmed-clause-sendable c =
-    let P : Packet → Type 0 = λ packet. IsHead (packet_head packet) → IsSendable packet in
-    subst P (sym c.in-Confirmed.is) c.put_confirmed.ensures.blocks
+    subst (λ packet. IsHead (packet_head packet) → IsSendable packet) (sym c.in-Confirmed.is) c.put_confirmed.ensures.blocks
 
 pub returns-in-Plain-clause-sendable : goal.returns-in-Plain-clause-sendable
 unfolding IsSendable
 returns-in-Plain-clause-sendable c =
-    let P : Packet → Type 0 = λ packet. IsHead (packet_head packet) → IsSendable packet in
-    subst P (sym c.in-Plain.is) c.put_plain.ensures.octets
+    subst (λ packet. IsHead (packet_head packet) → IsSendable packet) (sym c.in-Plain.is) c.put_plain.ensures.octets

@@ -4,21 +4,21 @@ use Rattle.p25_packet_blocks.proofs.{ImageLaws.{body_block-confirmed}, ImageStep
 use Rattle.p25_packet_blocks.proofs.image.put_confirmed.Goals as goal
 
 pub loop-j-init : goal.loop-j-init
-loop-j-init c = record { list = put_none c.args.out.now (body_block (Confirmed c.args.packet.now)); len = omega arith; blocks = good_none c.args.packet.now.slots }
+loop-j-init c = record { list = put_none c.args.out.now _; len = omega arith; blocks = good_none c.args.packet.now.slots }
 
 pub unreachable-requires : goal.unreachable-requires
 unreachable-requires c =
     let same = c.slots-slots.ensures.value in
-    let inside : c.loop-j.j < length c.args.packet.now.slots = omega (arith, ap length same) in
-    c.requires.whole.at c.loop-j.j inside (sym (ap (λ (slots : List Slot). get_or slots c.loop-j.j Bad) same) ∙ slot_at c.slots-slots.result.now c.loop-j.j c.get.result c.get.ensures ∙ c.in-Bad.is)
+    c.requires.whole.at c.loop-j.j (omega (arith, ap length same)) (cc (same, slot_at c.slots-slots.result.now c.loop-j.j c.get.result c.get.ensures, c.in-Bad.is))
 
 pub loop-j-preserved : goal.loop-j-preserved
 loop-j-preserved c =
+    let loop = c.loop-j in
     let packet = c.args.packet.now in
-    let j = c.loop-j.j in
-    let good = sym (ap (λ (slots : List Slot). get_or slots j Bad) c.slots-slots.ensures.value) ∙ slot_at c.slots-slots.result.now j c.get.result c.get.ensures ∙ c.in-Good.is in
+    let j = loop.j in
+    let good = sym (rw c.slots-slots.ensures.value) ∙ slot_at c.slots-slots.result.now j c.get.result c.get.ensures ∙ c.in-Good.is in
     record {
-      list = c.put_block.ensures.list ∙ put_more c.args.out.now c.loop-j.out _ (body_block (Confirmed packet)) j c.loop-j.invariant.list (sym (body_block-confirmed packet j c.in-Good.block good));
+      list = c.put_block.ensures.list ∙ put_more c.args.out.now loop.out _ _ j loop.invariant.list (sym (body_block-confirmed packet j c.in-Good.block good));
       len = omega arith;
-      blocks = good_more packet.slots j c.in-Good.block good c.put_block.ensures.block c.loop-j.invariant.blocks;
+      blocks = good_more packet.slots j c.in-Good.block good c.put_block.ensures.block loop.invariant.blocks;
     }

@@ -7,7 +7,7 @@ use Rattle.p25_packet_blocks.proofs.{ImageLaws.{checked_octets-is, body_block-pl
 use Rattle.p25_packet_blocks.proofs.image.put_plain.Goals as goal
 
 pub loop-j-init : goal.loop-j-init
-loop-j-init c = record { list = put_none c.args.out.now (body_block (Plain c.args.packet.now)); len = omega arith }
+loop-j-init c = record { list = put_none c.args.out.now _; len = omega arith }
 
 pub loop-j-preserved : goal.loop-j-preserved
 loop-j-preserved c =

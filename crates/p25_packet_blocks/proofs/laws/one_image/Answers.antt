@@ -5,4 +5,4 @@ use Rattle.p25_packet_blocks.proofs.laws.one_image.Goals as goal
 
 pub returns : goal.returns
 returns c = λ nac packet bits sendable.
-    (λ is. IsPacketImage-only nac packet sendable bits is, λ same. subst (IsPacketImage nac packet) (sym same) (IsPacketImage-image nac packet sendable))
+    (λ is. IsPacketImage-only nac packet sendable bits is, λ same. rw same (IsPacketImage-image nac packet sendable))

@@ -9,12 +9,11 @@ pub returns-then-from_be_bytes-crc16-clause-read : goal.returns-then-from_be_byt
 returns-then-from_be_bytes-crc16-clause-read c =
     let block = part c.args.at 196 c.args.bits.now in
     let octets = c.read_block-wrong.new.octets in
-    let long : length octets ≡ 12 = ap length c.read_block-wrong.ensures.octets ∙ length-half_octets block in
     let same = c.copy_from_slice.ensures.after in
-    let check : c.from_be_bytes.result ≡ octets_number (drop 10 octets) = c.from_be_bytes.ensures ∙ sym (number_of_two octets 10 (omega (arith, long))) in
     let make : List ℕ → PacketHead = λ head. record { 0 = head } in
     let head = make c.copy_from_slice.new.self in
-    let found = head_from-good octets c.from_be_bytes.result check (c.if-from_be_bytes-crc16.true ∙ c.crc16.ensures.value ∙ ap crc16_of same) in
+    let found = head_from-good octets c.from_be_bytes.result (c.from_be_bytes.ensures ∙ sym (number_of_two octets 10 (omega (arith, (ap length c.read_block-wrong.ensures.octets ∙ length-half_octets block)))))
+    (c.if-from_be_bytes-crc16.true ∙ c.crc16.ensures.value ∙ ap crc16_of same) in
     let read = ap head_from (sym c.read_block-wrong.ensures.octets) ∙ found ∙ sym (ap (λ xs. Ok (make xs)) same) in
     let counted : ℕ → ReadHead = λ wrong. record { head = head; wrong = wrong } in
     ap (λ wrong. Ok (counted wrong)) c.read_block-wrong.ensures.distance ∙ sym (read_head_of-good block head read)
@@ -26,8 +25,6 @@ pub returns-else-from_be_bytes-crc16-clause-read : goal.returns-else-from_be_byt
 returns-else-from_be_bytes-crc16-clause-read c =
     let block = part c.args.at 196 c.args.bits.now in
     let octets = c.read_block-wrong.new.octets in
-    let long : length octets ≡ 12 = ap length c.read_block-wrong.ensures.octets ∙ length-half_octets block in
-    let same = c.copy_from_slice.ensures.after in
-    let check : c.from_be_bytes.result ≡ octets_number (drop 10 octets) = c.from_be_bytes.ensures ∙ sym (number_of_two octets 10 (omega (arith, long))) in
-    let none = head_from-bad octets c.from_be_bytes.result check (λ agrees. c.if-from_be_bytes-crc16.false (agrees ∙ sym (c.crc16.ensures.value ∙ ap crc16_of same))) in
-    sym (read_head_of-bad block _ (ap head_from (sym c.read_block-wrong.ensures.octets) ∙ none))
+    sym (read_head_of-bad block _ (ap head_from (sym c.read_block-wrong.ensures.octets)
+    ∙ (head_from-bad octets c.from_be_bytes.result (c.from_be_bytes.ensures ∙ sym (number_of_two octets 10 (omega (arith, (ap length c.read_block-wrong.ensures.octets ∙ length-half_octets block)))))
+    (λ agrees. c.if-from_be_bytes-crc16.false (agrees ∙ sym (c.crc16.ensures.value ∙ ap crc16_of c.copy_from_slice.ensures.after))))))

@@ -10,10 +10,10 @@ returns-in_err-read c =
 
 pub read_blocks-requires-clause-there : goal.read_blocks-requires-clause-there
 read_blocks-requires-clause-there c =
+    let bare = c.args.bare.now in
     let read = c.in_ok-read.read in
-    let head = head_reading_of-read c.args.bare.now read (sym c.in_ok-read.ensures.read) in
-    let fits : packet_bits (head_blocks read.head) ≤ length c.args.bare.now = HasItsLength-head c.args.bare.now read.head c.requires.blocks head in
-    omega arith
+    let head = head_reading_of-read bare read (sym c.in_ok-read.ensures.read) in
+    omega (arith, HasItsLength-head bare read.head c.requires.blocks head)
 
 pub returns-in_err-read_blocks : goal.returns-in_err-read_blocks
 returns-in_err-read_blocks c =

@@ -15,7 +15,7 @@ loop-j-preserved c = record {
       ∙ ap₂ (λ (xs : List Slot) x. xs ++ x ∷ []) c.loop-j.invariant.so_far (c.slot_in.ensures ∙ ap slot_from c.read_block-wrong.ensures.octets)
       ∙ sym (slots_read-more c.loop-j.j c.args.bare.now);
   len = omega arith;
-  counted = omega (arith, c.loop-j.invariant.counted, c.read_block-wrong.ensures.distance, blocks_distance-more 8 three_quarter_point c.loop-j.j c.args.bare.now);
+  counted = omega (arith, c.loop-j.invariant.counted, c.read_block-wrong.ensures.distance, blocks_distance-more);
 }
 
 pub overflow_add-wrong : goal.overflow_add-wrong
@@ -24,9 +24,9 @@ overflow_add-wrong c =
       arith,
       c.loop-j.invariant.counted,
       c.read_block-wrong.ensures.distance,
-      three_quarter_distance-le c.loop-j.j c.args.bare.now,
-      nearest_distance-le 8 3 three_quarter_point (block_bits c.args.bare.now c.loop-j.j) (omega arith),
+      three_quarter_distance-le,
+      nearest_distance-le 8 3,
     )
 
 pub returns-clause-few : goal.returns-clause-few
-returns-clause-few c = omega (arith, c.loop-j.invariant.counted, three_quarter_distance-le c.loop-j.j c.args.bare.now)
+returns-clause-few c = omega (arith, c.loop-j.invariant.counted, three_quarter_distance-le)

@@ -5,6 +5,4 @@ use Rattle.p25_packet_blocks.proofs.tests.read_whole.Goals as goal
 pub read_packet-requires-clause-blocks : goal.read_packet-requires-clause-blocks
 unfolding HasItsLength
 read_packet-requires-clause-blocks c = λ head is.
-    let same : c.in_ok-head.head ≡ head = cc (c.in_ok-head.ensures, is) in
-    let P : PacketHead → Type 0 = λ h. packet_bits (head_blocks h) ≤ length c.args.bare.now in
-    subst P same (omega (arith, c.packet_length.ensures.value))
+    subst (λ h. packet_bits (head_blocks h) ≤ length c.args.bare.now) (cc (c.in_ok-head.ensures, is)) (omega (arith, c.packet_length.ensures.value))

@@ -8,58 +8,53 @@ use Rattle.p25_packet_blocks.proofs.unit.read_packet_unit.Goals as goal
 
 pub returns-then-not-is_sync : goal.returns-then-not-is_sync
 returns-then-not-is_sync c =
-    let far : sync_slack < distance_of (take 48 c.args.bits.now) sync_bits = grind (arith, c.if-not-is_sync.ensures) in
-    sym (packet_unit_of-sync c.args.bits.now (has_sync-no c.args.bits.now far))
+    let bits = c.args.bits.now in
+    sym (packet_unit_of-sync bits (has_sync-no bits (grind (arith, c.if-not-is_sync.ensures))))
 
 pub returns-in-None : goal.returns-in-None
 returns-in-None c =
-    let near : distance_of (take 48 c.args.bits.now) sync_bits ≤ sync_slack = grind (arith, c.if-not-is_sync.ensures) in
-    sym (packet_unit_of-nid c.args.bits.now (has_sync-yes c.args.bits.now (omega arith) near) (sym c.in-None.ensures.value))
+    let bits = c.args.bits.now in
+    sym (packet_unit_of-nid bits (has_sync-yes bits (omega arith) (grind (arith, c.if-not-is_sync.ensures))) (sym c.in-None.ensures.value))
 
 pub returns-then-nid-ne-PDU : goal.returns-then-nid-ne-PDU
 returns-then-nid-ne-PDU c =
-    let near : distance_of (take 48 c.args.bits.now) sync_bits ≤ sync_slack = grind (arith, c.if-not-is_sync.ensures) in
-    sym (packet_unit_of-duid c.args.bits.now (c.in-Some.front.nid.nac, c.in-Some.front.nid.duid) (has_sync-yes c.args.bits.now (omega arith) near) (sym c.in-Some.ensures.value) c.if-nid-ne-PDU.true)
+    let bits = c.args.bits.now in
+    sym (packet_unit_of-duid bits _ (has_sync-yes bits (omega arith) (grind (arith, c.if-not-is_sync.ensures))) (sym c.in-Some.ensures.value) c.if-nid-ne-PDU.true)
 
 pub returns-in_err-read : goal.returns-in_err-read
 returns-in_err-read c =
-    let near : distance_of (take 48 c.args.bits.now) sync_bits ≤ sync_slack = grind (arith, c.if-not-is_sync.ensures) in
+    let bits = c.args.bits.now in
     let p = err_from_is_err_and c.from_residual.result c.from_residual.ensures.1 in
-    let unread = sent_head_of-unread c.args.bits.now p.0 (sym c.in_err-read.ensures.read ∙ ap Err (sym p.2)) in
     p.1
-    ∙ sym (packet_unit_of-bad c.args.bits.now (c.in-Some.front.nid.nac, c.in-Some.front.nid.duid) p.0 (has_sync-yes c.args.bits.now (omega arith) near)
-    (sym c.in-Some.ensures.value) c.if-nid-ne-PDU.false (sent_packet_of-bad c.args.bits.now p.0 unread))
+    ∙ sym (packet_unit_of-bad bits _ p.0 (has_sync-yes bits (omega arith) (grind (arith, c.if-not-is_sync.ensures)))
+    (sym c.in-Some.ensures.value) c.if-nid-ne-PDU.false (sent_packet_of-bad bits p.0 (sent_head_of-unread bits p.0 (sym c.in_err-read.ensures.read ∙ ap Err (sym p.2)))))
 
 pub returns-then-len : goal.returns-then-len
 returns-then-len c =
-    let near : distance_of (take 48 c.args.bits.now) sync_bits ≤ sync_slack = grind (arith, c.if-not-is_sync.ensures) in
+    let bits = c.args.bits.now in
     let read = c.in_ok-read.read in
-    let short : length c.args.bits.now < packet_sent_length (head_blocks read.head) = omega (arith, c.len.ensures.value, c.packet_length-len.ensures.value, c.if-len.true) in
-    sym (packet_unit_of-bad c.args.bits.now (c.in-Some.front.nid.nac, c.in-Some.front.nid.duid) Length (has_sync-yes c.args.bits.now (omega arith) near)
+    sym (packet_unit_of-bad bits _ Length (has_sync-yes bits (omega arith) (grind (arith, c.if-not-is_sync.ensures)))
     (sym c.in-Some.ensures.value) c.if-nid-ne-PDU.false
-    (sent_packet_of-short c.args.bits.now read.head (sent_head_of-read c.args.bits.now read (sym c.in_ok-read.ensures.read)) short))
+    (sent_packet_of-short bits read.head (sent_head_of-read bits read (sym c.in_ok-read.ensures.read)) (omega (arith, c.len.ensures.value, c.packet_length-len.ensures.value, c.if-len.true))))
 
 -- the packet is that of the header and of the bits without status symbols
 whole : (read : ReadHead) (sent bare : List Bool) (count : ℕ) → sent_read_of sent ≡ Ok read → count ≡ packet_sent_length (head_blocks read.head) → count ≤ length sent
     → bare ≡ bare_of (take count sent) → sent_packet_of sent ≡ packet_of_head read.head bare
 whole read sent bare count is counted fits cut =
-    sent_packet_of-whole sent read.head (sent_head_of-read sent read is) (subst (λ (n : ℕ). n ≤ length sent) counted fits)
-    ∙ ap (packet_of_head read.head) (ap (λ n. bare_of (take n sent)) (sym counted) ∙ sym cut)
+    cc (sent_packet_of-whole sent read.head (sent_head_of-read sent read is) (rw counted at fits), counted, cut)
 
 pub returns-in_err-read_blocks : goal.returns-in_err-read_blocks
 returns-in_err-read_blocks c =
-    let near : distance_of (take 48 c.args.bits.now) sync_bits ≤ sync_slack = grind (arith, c.if-not-is_sync.ensures) in
+    let bits = c.args.bits.now in
     let p = err_from_is_err_and c.from_residual-in_err-read_blocks.result c.from_residual-in_err-read_blocks.ensures.1 in
-    let read = whole c.in_ok-read.read c.args.bits.now c.unweave.new.out c.packet_length-len.result (sym c.in_ok-read.ensures.read) c.packet_length-len.ensures.value
-    (omega (arith, c.len.ensures.value, c.if-len.false)) c.unweave.ensures.bare in
     p.1
-    ∙ sym (packet_unit_of-bad c.args.bits.now (c.in-Some.front.nid.nac, c.in-Some.front.nid.duid) p.0 (has_sync-yes c.args.bits.now (omega arith) near)
-    (sym c.in-Some.ensures.value) c.if-nid-ne-PDU.false (read ∙ sym c.in_err-read_blocks.ensures.packet ∙ ap Err (sym p.2)))
+    ∙ sym (packet_unit_of-bad bits _ p.0 (has_sync-yes bits (omega arith) (grind (arith, c.if-not-is_sync.ensures)))
+    (sym c.in-Some.ensures.value) c.if-nid-ne-PDU.false ((whole c.in_ok-read.read bits c.unweave.new.out c.packet_length-len.result (sym c.in_ok-read.ensures.read) c.packet_length-len.ensures.value
+    (omega (arith, c.len.ensures.value, c.if-len.false)) c.unweave.ensures.bare) ∙ sym c.in_err-read_blocks.ensures.packet ∙ ap Err (sym p.2)))
 
 pub returns : goal.returns
 returns c =
-    let near : distance_of (take 48 c.args.bits.now) sync_bits ≤ sync_slack = grind (arith, c.if-not-is_sync.ensures) in
-    let read = whole c.in_ok-read.read c.args.bits.now c.unweave.new.out c.packet_length-len.result (sym c.in_ok-read.ensures.read) c.packet_length-len.ensures.value
-    (omega (arith, c.len.ensures.value, c.if-len.false)) c.unweave.ensures.bare in
-    sym (packet_unit_of-good c.args.bits.now (c.in-Some.front.nid.nac, c.in-Some.front.nid.duid) c.read_blocks.new.self (has_sync-yes c.args.bits.now (omega arith) near)
-    (sym c.in-Some.ensures.value) c.if-nid-ne-PDU.false (read ∙ sym c.in_ok-read_blocks.ensures.packet))
+    let bits = c.args.bits.now in
+    sym (packet_unit_of-good bits _ c.read_blocks.new.self (has_sync-yes bits (omega arith) (grind (arith, c.if-not-is_sync.ensures)))
+    (sym c.in-Some.ensures.value) c.if-nid-ne-PDU.false ((whole c.in_ok-read.read bits c.unweave.new.out c.packet_length-len.result (sym c.in_ok-read.ensures.read) c.packet_length-len.ensures.value
+    (omega (arith, c.len.ensures.value, c.if-len.false)) c.unweave.ensures.bare) ∙ sym c.in_ok-read_blocks.ensures.packet))

@@ -6,7 +6,7 @@ use Rattle.p25_packet_blocks.proofs.head.PacketHead.confirmed.Goals as goal
 pub returns-clause-octets : goal.returns-clause-octets
 unfolding confirmed_head
 returns-clause-octets c =
-    c.head_by_octets.ensures ∙ ap (λ flag. head_by_octets 0x56 0xC0 c.args.llid (flag + c.args.blocks) c.args.pad (16 * c.args.number + 8)) (flag_bit c.from.result c.args.full c.from.ensures)
+    cc (c.head_by_octets.ensures, flag_bit c.from.result c.args.full c.from.ensures)
 
 pub returns-clause-format : goal.returns-clause-format
 unfolding head_format

@@ -5,13 +5,13 @@ use Rattle.p25_packet_blocks.proofs.OutcomeLaws.{read_head_of-few, packet_outcom
 use Rattle.p25_packet_blocks.proofs.packet.Packet.read.Goals as goal
 
 pub read_blocks-requires-clause-few : goal.read_blocks-requires-clause-few
-read_blocks-requires-clause-few c = read_head_of-few (header_bits c.args.bare.now) c.args.read c.requires.head
+read_blocks-requires-clause-few c = read_head_of-few _ c.args.read c.requires.head
 
 pub returns-in-Err-clause-outcome : goal.returns-in-Err-clause-outcome
 returns-in-Err-clause-outcome c = c.failing.ensures ∙ packet_outcome-bad c.args.read c.args.bare.now c.in-Err.field c.in-Err.ensures.packet
 
 pub returns-in-Err-clause-packet : goal.returns-in-Err-clause-packet
-returns-in-Err-clause-packet c = IfOk-none c.read_blocks.new.self c.in-Err.field (packet_of_head c.args.read.head c.args.bare.now) c.in-Err.ensures.packet
+returns-in-Err-clause-packet c = IfOk-none c.read_blocks.new.self c.in-Err.field _ c.in-Err.ensures.packet
 
 pub returns-in-Err-clause-wrong : goal.returns-in-Err-clause-wrong
 returns-in-Err-clause-wrong c = rw c.failing.ensures tt
@@ -22,11 +22,10 @@ returns-in-Ok-clause-outcome c =
     ∙ packet_outcome-good c.args.read c.args.bare.now c.read_blocks.new.self c.in-Ok.wrong c.in-Ok.ensures.packet c.in-Ok.ensures.wrong
 
 pub returns-in-Ok-clause-packet : goal.returns-in-Ok-clause-packet
-returns-in-Ok-clause-packet c = IfOk-same c.read_blocks.new.self (packet_of_head c.args.read.head c.args.bare.now) c.in-Ok.ensures.packet
+returns-in-Ok-clause-packet c = IfOk-same c.read_blocks.new.self _ c.in-Ok.ensures.packet
 
 pub returns-in-Ok-clause-wrong : goal.returns-in-Ok-clause-wrong
 returns-in-Ok-clause-wrong c =
     let packet = c.read_blocks.new.self in
-    subst (λ (outcome : ReadOutcome). IfRead outcome (λ wrong. (nac : ℕ) → wrong ≡ packet_fixes_of nac packet c.args.bare.now)) (sym c.outcome.ensures)
-    (packet_outcome-fixes c.args.read c.args.bare.now packet c.in-Ok.wrong (failing_blocks_of packet) c.requires.head c.requires.there c.in-Ok.ensures.packet c.in-Ok.ensures.wrong
+    rw c.outcome.ensures (packet_outcome-fixes c.args.read c.args.bare.now packet c.in-Ok.wrong (failing_blocks_of packet) c.requires.head c.requires.there c.in-Ok.ensures.packet c.in-Ok.ensures.wrong
     refl)

@@ -16,9 +16,11 @@ returns-in-Confirmed-clause-wrong c =
 
 pub returns-in-Plain-clause-packet : goal.returns-in-Plain-clause-packet
 returns-in-Plain-clause-packet c =
-    ap (λ (parts : ConfirmedParts). Ok (Confirmed parts)) c.new.ensures
-    ∙ confirmed-set c.args.read.head c.args.bare.now c.read_slots-wrong.new.slots c.from-blocks.result (sym c.format.ensures.value ∙ c.in-22.is)
-    (c.from-blocks.ensures ∙ c.blocks-in-22.ensures.value) c.read_slots-wrong.ensures.list
+    cc (
+      c.new.ensures,
+      confirmed-set c.args.read.head c.args.bare.now c.read_slots-wrong.new.slots c.from-blocks.result (sym c.format.ensures.value ∙ c.in-22.is)
+          (c.from-blocks.ensures ∙ c.blocks-in-22.ensures.value) c.read_slots-wrong.ensures.list,
+    )
 
 pub returns-in-Plain-clause-wrong : goal.returns-in-Plain-clause-wrong
 returns-in-Plain-clause-wrong c =
@@ -27,19 +29,14 @@ returns-in-Plain-clause-wrong c =
 
 pub returns-in-21-clause-packet : goal.returns-in-21-clause-packet
 returns-in-21-clause-packet c =
-    let format : IsPlainFormat (head_format c.args.read.head)
-    = elim c.in-21.is [ inl response ↦ inr (sym c.format.ensures.value ∙ response) | inr unconfirmed ↦ inl (sym c.format.ensures.value ∙ unconfirmed) ] in
-    c.read_plain.ensures.packet ∙ sym (packet_of_head-plain c.args.read.head c.args.bare.now format)
+    c.read_plain.ensures.packet ∙ sym (packet_of_head-plain c.args.read.head c.args.bare.now
+    (elim c.in-21.is [ inl response ↦ inr (sym c.format.ensures.value ∙ response) | inr unconfirmed ↦ inl (sym c.format.ensures.value ∙ unconfirmed) ]))
 
 pub returns-in-21-clause-wrong : goal.returns-in-21-clause-wrong
 returns-in-21-clause-wrong c =
-    let format : IsPlainFormat (head_format c.args.read.head)
-    = elim c.in-21.is [ inl response ↦ inr (sym c.format.ensures.value ∙ response) | inr unconfirmed ↦ inl (sym c.format.ensures.value ∙ unconfirmed) ] in
-    IfOk-plain c.args.read c.args.bare.now format c.read_plain.result c.read_plain.ensures.wrong
+    IfOk-plain c.args.read c.args.bare.now (elim c.in-21.is [ inl response ↦ inr (sym c.format.ensures.value ∙ response) | inr unconfirmed ↦ inl (sym c.format.ensures.value ∙ unconfirmed) ]) c.read_plain.result c.read_plain.ensures.wrong
 
 pub returns-in_default-clause-packet : goal.returns-in_default-clause-packet
 returns-in_default-clause-packet c =
-    let not_16 : head_format c.args.read.head ≢ confirmed_format = grind (arith, c.format.ensures.value) in
-    let not_15 : head_format c.args.read.head ≢ plain_format = grind (arith, c.format.ensures.value) in
-    let not_03 : head_format c.args.read.head ≢ response_format = grind (arith, c.format.ensures.value) in
-    sym (packet_of_head-other c.args.read.head c.args.bare.now not_16 not_15 not_03)
+    let value = c.format.ensures.value in
+    sym (packet_of_head-other c.args.read.head c.args.bare.now (grind (arith, value)) (grind (arith, value)) (grind (arith, value)))
