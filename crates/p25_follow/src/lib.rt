@@ -49,6 +49,9 @@ mod steps;
 mod tests;
 mod told;
 
+pub use expected::kind_length;
 pub use follower::{Follower, is_rest};
 pub use p25_units::Item;
 pub use relay::{relay_item, relay_item_in};
+pub use steps::step;
+pub use told::with_kind;

@@ -6,10 +6,10 @@ ghost use Rattle.p25_bits.specs.Bits.{part};
 use arrayvec::ArrayVec;
 use std::marker::Model;
 
-// A list of at most 12,976 levels: more than one for each two of the bits that a scanner holds, and a group of four.
+// A list of at most 16,420 levels: more than one for each two of the bits that a scanner holds, and a group of four.
 #[derive(Drop)]
 pub(crate) struct HeldLevels {
-    levels: ArrayVec<i8, 12_976>,
+    levels: ArrayVec<i8, 16_420>,
 }
 
 impl Model for HeldLevels {

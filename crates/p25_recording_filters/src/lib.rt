@@ -18,6 +18,7 @@
 //! `Recording::new(Check::new())` is the filter that takes octets, and `run_on` of p25_filter runs it.
 #![tactic(auto)]
 
+mod decide;
 mod held_levels;
 pub mod parts;
 mod recording;
@@ -27,6 +28,7 @@ mod soft;
 #[cfg(test)]
 mod tests;
 
+pub use decide::Decide;
 pub use recording::Recording;
 pub use report::Report;
 pub use reports::{Calls, Change, Changed, Check, Followed, Show};

@@ -7,6 +7,7 @@ mod followed;
 mod show;
 
 pub use calls::Calls;
+pub(crate) use changed::put_after;
 pub use changed::{Change, Changed, put_behind, put_octets};
 pub use check::Check;
 pub use followed::Followed;

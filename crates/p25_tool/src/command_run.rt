@@ -18,7 +18,7 @@ use p25_filter::{FilterEnd, LineFilter, LineMachine};
 use p25_fragments::LongWorld;
 use p25_io::{Pair, Port, Sink, Source, Tape};
 use p25_recording_filters::{
-    Calls, Change, Changed, Check, Followed, Recording, Report, Show, Soft,
+    Calls, Change, Changed, Check, Decide, Followed, Recording, Report, Show, Soft,
 };
 use p25_stations::World;
 use std::alloc::Global;
@@ -92,6 +92,7 @@ pub fn run_on<P: Port>(alloc: Global, words: &Words, port: &mut P) -> Outcome
         Command::Duplex => run_duplex(alloc, port),
         Command::Fragments => run_fragments(alloc, port),
         Command::Soft => run_soft(port),
+        Command::Decide => run_decide(port),
         Command::Sample { count } => run_sample(count, port),
     };
     outcome_of(end)
@@ -152,6 +153,13 @@ fn run_fragments<P: Port>(alloc: Global, port: &mut P) -> FilterEnd
     ensures { (events : List Event) × P.moves port.old events port.new × IsRun (command_future Fragments) events result }
 {
     run_lines(Script::new(ScriptWorld::Long(LongWorld::new(alloc))), port)
+}
+
+// Runs `decide`.
+#[inline(never)]
+fn run_decide<P: Port>(port: &mut P) -> FilterEnd {
+    let mut decide = Decide::new();
+    p25_filter::run_on(&mut decide, port)
 }
 
 // Runs `soft`.
