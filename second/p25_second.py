@@ -10,7 +10,7 @@ import levels
 import recordings
 import stations
 
-COMMANDS = 'show|check|repair|follow|calls|soft|(bridge|relay) [0-9a-f]{3} [0-3]|build [0-3]|' + '|'.join(stations.PLAYS)
+COMMANDS = 'show|check|repair|follow|calls|soft|decide|(bridge|relay) [0-9a-f]{3} [0-3]|build [0-3]|' + '|'.join(stations.PLAYS)
 
 
 def run(words, data):
@@ -22,8 +22,8 @@ def run(words, data):
         return stations.run(data, name)
     if name == 'build':
         return recordings.build(data, int(rest[0]))
-    if name == 'soft':
-        return levels.soft(data)
+    if name in ('soft', 'decide'):
+        return getattr(levels, name)(data)
     bits = recordings.bits_of(int.from_bytes(data, 'big'), 8 * len(data))
     return getattr(recordings, name)(bits, *(int(word, 16) for word in rest))
 
