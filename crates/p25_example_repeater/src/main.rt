@@ -5,7 +5,7 @@
 //! `run_on` reads and writes. A whole unit is encoded again under the other code. No item changes its length, so each keeps its position.
 #![tactic(auto)]
 
-ghost use Rattle.std.specs.Prelude.{◌≡◌, ◌++◌, [], length};
+ghost use Rattle.std.specs.Prelude.{◌≡◌, List, []};
 ghost use Rattle.p25_io.specs.Events.{Event};
 ghost use Rattle.p25_filter.specs.Traces.{IsRun};
 ghost use Rattle.p25_recording_filters.specs.Recordings.{fresh, recording_future};
