@@ -14,7 +14,7 @@ use Rattle.p25_bits.proofs.NumbersLaws.{bits_of-field, number_bits-append, numbe
 pub length-held : (words : List ℕ) (len : ℕ) → len ≤ 64 * length words → length (take len (number_bits 64 words)) ≡ len
 length-held words len fits = length-take-le len _ (omega (arith, length-number_bits))
 
--- where there is room for more bits than those held, the length stays in its bound
+-- if there is capacity for more bits after those held, the length stays within its bound
 pub length-room : (words : List ℕ) (len more : ℕ) (held : List Bool) → len ≤ 64 * length words → take len (number_bits 64 words) ≡ held → length held + more ≤ 25928 → len + more ≤ 25928
 length-room words len more held fits is room = omega (arith, length-held, ap length is)
 
@@ -35,11 +35,11 @@ unfolding bits_of
 top_bit true digit is = simp is
 top_bit false digit is = simp is
 
--- and it is the first of as many bits as there is room for
+-- and it is the first of as many bits as the capacity allows
 pub first_bit : (bit : Bool) (digit count : ℕ) → digit ≡ digit_of bit → 1 ≤ count → take 1 (take count (bits_of 64 (digit * 2 ^ 63 % 2 ^ 64))) ≡ bit ∷ []
 first_bit bit digit count is some = take-take 1 count _ some ∙ top_bit bit digit is
 
--- a number moved to the top of a word stands in its first bits
+-- a number moved to the top of a word is in its first bits
 pub first_bits : (width value : ℕ) → width ≤ 64 → value < 2 ^ width → take width (bits_of 64 (value * 2 ^ (64 - width) % 2 ^ 64)) ≡ bits_of width value
 first_bits width value few small =
     rw (shl_whole value width (64 - width) 64 small (omega arith)) (simp (take-bits_of, shl-shr))
@@ -56,7 +56,7 @@ pub field_is : (now bits : List Bool) (at width len word : ℕ) → width ≤ 64
 field_is now bits at width len word few there small read held =
     cc (mod-eq_of_lt (first-lt word width few small), field_of-bits_of width _, take-bits_of width 64 word few, take-part at 64 width bits few, part-take at width len bits there)
 
--- a bit at a place is one of its word's
+-- a bit at an offset is one of the bits of its word
 get_or-number_bits : (words : List ℕ) (i : ℕ) → i / 64 < length words → get_or (number_bits 64 words) i false ≡ eqb (bit_and (get_or words (i / 64) 0 / 2 ^ (63 - i % 64)) 1) 1
 get_or-number_bits words i inside =
     let q = i / 64 in
@@ -166,7 +166,7 @@ held_flipped now words len i held inside =
     let within : 63 - i % 64 < 64 = omega arith in
     simp (one_shl, number_bits-flipped, take-flipped, held)
 
--- a bit that is not the wanted one is inverted
+-- a bit that differs from a given bit is inverted
 pub flipped-set : (bits : List Bool) (i : ℕ) (is wanted : Bool) → slice_get bits i ≡ Some is → not (beq is wanted) ≡ true → flipped bits i ≡ set bits i wanted
 flipped-set [] i is wanted at differs = refl
 flipped-set (x ∷ bits) zero is wanted at differs = let same : is ≡ x = cc in rw (other x wanted (rw same at differs))
@@ -177,7 +177,7 @@ flipped-set (x ∷ bits) zero is wanted at differs = let same : is ≡ x = cc in
     other a b h = cc
 flipped-set (x ∷ bits) (suc i) is wanted at differs = rw (flipped-set bits i is wanted at differs)
 
--- a bit that is the wanted one stays
+-- a bit that equals a given bit stays
 pub set-same : (bits : List Bool) (i : ℕ) (is wanted : Bool) → slice_get bits i ≡ Some is → not (beq is wanted) ≡ false → bits ≡ set bits i wanted
 set-same [] i is wanted at same = refl
 set-same (x ∷ bits) zero is wanted at same = let held : is ≡ x = cc in rw (alike x wanted (rw held at same))
@@ -190,7 +190,7 @@ set-same (x ∷ bits) (suc i) is wanted at same = cc (set-same bits i is wanted 
 
 -- Longer runs of bits.
 
--- the bits of 64 places of a slice are appended
+-- the next 64 bits of a slice are appended
 pub extended_more : (start bits : List Bool) (k value count : ℕ) → 64 * k + 64 ≤ length bits → count ≡ 64 → value ≡ field_of (take count (drop (64 * k) bits))
     → (start ++ take (64 * k) bits) ++ bits_of 64 value ≡ start ++ take (64 * (k + 1)) bits
 extended_more start bits k value count there all is =
@@ -203,7 +203,7 @@ pub extended_all : (start bits rest : List Bool) (k width value : ℕ)
 extended_all start bits rest k width value left long is =
     simp (append_assoc, long, is, bits_of-field_of, left, take-append-drop)
 
--- bits that were moved to the front are those from there on
+-- bits that were moved to the beginning are those from `n` on
 pub drop_moved : (now bits moved : List Bool) (n len count : ℕ) → n ≤ len → len - n ≤ count → take count moved ≡ part n count bits → take len bits ≡ now → take (len - n) moved ≡ drop n now
 drop_moved now bits moved n len count inside enough front held =
     let split : n + (len - n) ≡ len = omega arith in

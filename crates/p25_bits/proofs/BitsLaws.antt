@@ -21,7 +21,7 @@ field_after-append high (x ∷ xs) ys = field_after-append (2 * high + digit_of 
 carried : (high digit power next : ℕ) → next ≡ power * 2 → (2 * high + digit) * power ≡ high * next + digit * power
 carried high digit power next e = rw (e, add-mul) (rw (mul_comm 2 high, mul_assoc, mul_comm 2 power))
 
--- what stands before the bits counts as often as the bits have values
+-- a number before the bits is multiplied by the number of values of the bits
 pub field_after-is : (high : ℕ) (bits : List Bool) → field_after high bits ≡ high * 2 ^ length bits + field_of bits
 unfolding field_after field_of
 field_after-is high [] = omega arith
@@ -72,7 +72,7 @@ field_of-bits_of zero number = simp (field_of-nil, mod-one)
 field_of-bits_of (suc width) number =
     rw (field_of-cons, digit_of-bit_at, length-bits_of width number, field_of-bits_of width number, ← mod-pow-add number 1 width) (ap (λ n. number % 2 ^ n) (omega arith))
 
--- the low bits of a number are not changed by what stands above them
+-- the low bits of a number do not depend on the bits above them
 pub bits_of-above : (width k high low : ℕ) → width ≤ k → bits_of width (high * 2 ^ k + low) ≡ bits_of width low
 unfolding bits_of
 bits_of-above zero k high low h = refl
@@ -104,7 +104,7 @@ bits_of-add (suc high) low number =
     let swapped : low + high ≡ high + low = omega arith in
     simp (e, swapped, shr-shr, bits_of-add high low number)
 
--- the first bits of a number are those of what stands above the others
+-- the first bits of a number are those of its quotient by a power of two
 pub take-bits_of : (k width number : ℕ) → k ≤ width → take k (bits_of width number) ≡ bits_of k (number / 2 ^ (width - k))
 take-bits_of k width number h =
     let split : width ≡ k + (width - k) = omega arith in
@@ -116,7 +116,7 @@ drop-bits_of k width number h =
     let split : width ≡ k + (width - k) = omega arith in
     cc (split, bits_of-add k _ number, drop_at _ (bits_of _ number) k (length-bits_of k (number / 2 ^ (width - k))))
 
--- what stands above the bits does not matter
+-- the bits of a number do not depend on the bits above them
 pub bits_of-mod : (width number : ℕ) → bits_of width (number % 2 ^ width) ≡ bits_of width number
 bits_of-mod width number =
     let all : width ≤ width = omega arith in
@@ -133,7 +133,7 @@ pub octet_bits-append : (xs ys : List ℕ) → octet_bits (xs ++ ys) ≡ octet_b
 unfolding octet_bits
 octet_bits-append xs ys = flat_map-append _ xs ys
 
--- the bits of a first octet stand first
+-- the bits of the first octet are the first
 pub octet_bits-cons : (x : ℕ) (xs : List ℕ) → octet_bits (x ∷ xs) ≡ bits_of 8 x ++ octet_bits xs
 unfolding octet_bits
 octet_bits-cons x xs = refl
@@ -188,7 +188,7 @@ pub digit_of-byte : (n : ℕ) (bit : Bool) → n ≡ mir.Val.bool_byte bit → n
 digit_of-byte n true e = e
 digit_of-byte n false e = e
 
--- a bit at a place of the bits of a number
+-- a bit at an index of the bits of a number
 pub get_or-bits_of : (width number place : ℕ) (d : Bool) → place < width → get_or (bits_of width number) place d ≡ eqb (bit_at number (width - 1 - place)) 1
 unfolding bits_of
 get_or-bits_of zero number place d h = absurd (omega arith)

@@ -12,7 +12,7 @@ unfolding distance_by
 distance_by-same same alike [] = refl
 distance_by-same same alike (x ∷ xs) = rw alike (omega (arith, distance_by-same same alike xs))
 
--- where a test is symmetric, so is the distance
+-- if a test is symmetric, so is the distance
 pub distance_by-sym : {X : Type 0} (same : X → X → Bool) → ((x y : X) → same x y ≡ same y x) → (xs ys : List X) → distance_by same xs ys ≡ distance_by same ys xs
 unfolding distance_by
 distance_by-sym same turned [] [] = refl
@@ -62,7 +62,7 @@ distance_by-append same [] ys [] vs long = omega arith
 distance_by-append same (x ∷ xs) ys (u ∷ us) vs long = omega (arith, distance_by-append same xs ys us)
 distance_by-append same xs ys us vs long = absurd (omega arith)
 
--- no places, no distance
+-- the distance of an empty list is 0
 pub distance_by-nil : {X : Type 0} (same : X → X → Bool) (ys : List X) → distance_by same [] ys ≡ 0
 unfolding distance_by
 distance_by-nil same ys = refl
@@ -95,7 +95,7 @@ same_from_distance_of = same_from_distance_by beq beq-alike
 pub distance_of-triangle : (xs ys zs : List Bool) → length xs ≡ length ys → distance_of xs zs ≤ distance_of xs ys + distance_of ys zs
 distance_of-triangle = distance_by-triangle beq (λ x y z a b. rw (beq-alike y z b) at a)
 
--- what stands before a place of two lists, and what stands from it on: their distances add up
+-- the distance of two lists is the sum of the distances of their parts before an index and from it on
 pub distance_of-split : (n : ℕ) (xs ys : List Bool) → length xs ≡ length ys → distance_of (take n xs) (take n ys) + distance_of (drop n xs) (drop n ys) ≡ distance_of xs ys
 unfolding distance_by
 distance_of-split (suc n) [] (y ∷ ys) long = absurd (omega arith)
@@ -103,7 +103,7 @@ distance_of-split (suc n) (x ∷ xs) [] long = absurd (omega arith)
 distance_of-split (suc n) (x ∷ xs) (y ∷ ys) long = omega (arith, distance_of-split n)
 distance_of-split n xs ys long = omega arith
 
--- so the beginnings of two lists differ in no more places than the lists, and so do any two parts
+-- so the beginnings of two lists differ in no more positions than the lists, and so do any two parts
 pub distance_of-take : (n : ℕ) (xs ys : List Bool) → length xs ≡ length ys → distance_of (take n xs) (take n ys) ≤ distance_of xs ys
 distance_of-take n xs ys long = omega (arith, distance_of-split)
 
@@ -118,7 +118,7 @@ distance_of-flipped [] place = omega arith
 distance_of-flipped (bit ∷ bits) zero = omega (arith, cond-le, distance_of-same bits)
 distance_of-flipped (bit ∷ bits) (suc place) = omega (arith, cond-true {A = ℕ} _ 0 1 (beq-same bit), distance_of-flipped bits place)
 
--- lists of one length are the same where they differ in no place
+-- lists of one length are equal exactly if they differ in no position
 pub pointwise-distance_of : (xs ys : List Bool) → length xs ≡ length ys → nat_eq (distance_of xs ys) 0 ≡ pointwise beq xs ys
 pointwise-distance_of xs ys long =
     let tells = pointwise_decides booleans_Decides xs ys in
@@ -126,14 +126,14 @@ pointwise-distance_of xs ys long =
     (λ e. tells.1 (same_from_distance_of xs ys long ((unsigned_Decides _ 0).0 e)))
     (λ e. (unsigned_Decides _ 0).1 (rw (← tells.0) (distance_of-same xs)))
 
--- the exclusive or of two digits has a 1 exactly where they differ
+-- the exclusive or of two digits has a 1 exactly if they differ
 ones_digits : (x y : Bool) → count_ones (bit_xor (digit_of x) (digit_of y)) ≡ cond (beq x y) 0 1
 unfolding count_ones
 ones_digits true true = refl
 ones_digits false true = refl
 ones_digits x y = refl
 
--- the number of places in which two lists of one length differ is the weight of the exclusive or of their numbers
+-- the number of positions in which two lists of one length differ is the weight of the exclusive or of their numbers
 pub ones-xor : (xs ys : List Bool) → length xs ≡ length ys → count_ones (bit_xor (field_of xs) (field_of ys)) ≡ distance_of xs ys
 unfolding distance_by count_ones
 ones-xor [] [] same = simp field_of-nil

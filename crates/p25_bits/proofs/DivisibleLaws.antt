@@ -7,7 +7,7 @@ use Rattle.std.specs.Int.Bits.{xor_assoc, xor_self, xor_zero_l, xor_zero_r}
 use Rattle.p25_bits.specs.{Bits.{digit_of, bits_of, field_after}, Divisible.{multiple_of, IsDivisible, HasDegree, IsRemainder}}
 use Rattle.p25_bits.proofs.BitsLaws.{digit_of-bit_at, digit_of-le, field_of-after, field_of-bits_of}
 
--- of four, the two in the middle change places
+-- the middle two of four numbers are exchanged
 pub xor_middle : (a b c d : ℕ) → bit_xor (bit_xor a b) (bit_xor c d) ≡ bit_xor (bit_xor a c) (bit_xor b d)
 xor_middle a b c d =
     cc (xor_assoc a b _, xor_assoc b c d, xor_comm b c, xor_assoc c b d, xor_assoc a c _)
@@ -93,7 +93,7 @@ chosen-lt : (bit : Bool) (g k : ℕ) → g < 2 ^ k → cond bit g 0 < 2 ^ k
 chosen-lt true g k h = h
 chosen-lt false g k h = pow_pos k
 
--- what is left where the higher coefficients are all 0
+-- the last step of a division leaves 0 if it starts from 0 and its result is of lower degree than the generator
 last_coefficient : (generator degree : ℕ) (bit : Bool) → HasDegree generator degree → bit_xor (2 * 0) (cond bit generator 0) < 2 ^ degree → bit_xor (2 * 0) (cond bit generator 0) ≡ 0
 last_coefficient generator degree true g small = absurd (omega arith)
 last_coefficient generator degree false g small = xor_zero_l 0
@@ -133,7 +133,7 @@ IsRemainder-unique generator degree number r s g first second =
     let e = xor_middle number r number s ∙ simp xor_self in
     same_from_xor r s (IsDivisible-lower generator degree _ g (simp e at (IsDivisible-sum generator _ _ first.divisible second.divisible)) (xor_lt degree r s first.lower second.lower))
 
--- a polynomial is divisible exactly where its remainder is 0
+-- a polynomial is divisible exactly if its remainder is 0
 pub divisible_from_remainder : (generator degree number : ℕ) → IsRemainder generator degree number 0 → IsDivisible generator number
 divisible_from_remainder generator degree number r = simp xor_zero_r at r.divisible
 
@@ -149,7 +149,7 @@ IsRemainder-lower generator degree number small =
 next_sum : (number r digit : ℕ) → digit < 2 → bit_xor (2 * number + digit) (2 * r + digit) ≡ 2 * bit_xor number r
 next_sum number r digit small = simp (xor_doubled, xor_self) (omega arith)
 
--- one more coefficient where the register stays low
+-- one more coefficient, if the register stays of lower degree than the generator
 pub remainder_kept : (generator degree number r digit : ℕ) → digit < 2
     → IsRemainder generator degree number r → 2 * r + digit < 2 ^ degree → IsRemainder generator degree (2 * number + digit) (2 * r + digit)
 remainder_kept generator degree number r digit small is low =
@@ -161,7 +161,7 @@ remainder_lower generator degree r digit g small lower high =
     let e : degree + 1 ≡ suc degree = omega arith in
     xor_same_top degree _ generator high (omega arith) g.highest (simp e at g.none_above)
 
--- one more coefficient where the register reaches the generator's degree
+-- one more coefficient, if the register reaches the degree of the generator
 pub remainder_reduced : (generator degree number r digit : ℕ) → HasDegree generator degree → digit < 2 → IsRemainder generator degree number r → 2 ^ degree ≤ 2 * r + digit
     → IsRemainder generator degree (2 * number + digit) (bit_xor (2 * r + digit) generator)
 remainder_reduced generator degree number r digit g small is high =
@@ -171,7 +171,7 @@ remainder_reduced generator degree number r digit g small is high =
       divisible = rw (xor_assoc _ _ generator) at (IsDivisible-sum generator _ generator doubled (IsDivisible-itself generator));
     }
 
--- the quotient by a power of two is 1 exactly where the number lies between it and its double
+-- the quotient by a power of two is 1 exactly if the number is between it and its double
 pub reaches : (n k : ℕ) → n / 2 ^ k ≡ 1 → 2 ^ k ≤ n
 reaches n k one =
     let once : n / 2 ^ k * 2 ^ k ≡ 1 * 2 ^ k = simp one in

@@ -33,7 +33,7 @@ IsDivisible-times_power generator number zero is = subst (IsDivisible generator)
 IsDivisible-times_power generator number (suc k) is =
     simp times_next (IsDivisible-doubled generator _ (IsDivisible-times_power generator number k is))
 
--- more coefficients after a polynomial, both times a power of x: the remainder of what stood before them is enough
+-- more coefficients after a polynomial, both times a power of x: the remainder of the polynomial alone is enough
 pub IsRemainder-more : (generator degree before width number raised r s : ℕ) → number < 2 ^ width → IsRemainder generator degree (before * 2 ^ raised) r
     → IsRemainder generator degree (bit_xor (r * 2 ^ width) (number * 2 ^ raised)) s → IsRemainder generator degree ((before * 2 ^ width + number) * 2 ^ raised) s
 IsRemainder-more generator degree before width number raised r s small first second =

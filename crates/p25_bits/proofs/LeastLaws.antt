@@ -35,7 +35,7 @@ IsLowestLeast-kept bound value number least new was is more = record {
   lowest = was.lowest;
 }
 
--- one number more is the lowest least where it has less
+-- with one number more, that number is the lowest least if its value is less
 pub IsLowestLeast-more : (bound : ℕ) (value : ℕ → ℕ) (number : ℕ) → IsLowestLeast bound value number (value number)
     → let next = if nat_lt (value bound) (value number) then bound else number in IsLowestLeast (suc bound) value next (value next)
 IsLowestLeast-more bound value number was =
@@ -70,7 +70,7 @@ pub lowest_least-is : (bound : ℕ) (value : ℕ → ℕ) (number least : ℕ) �
 lowest_least-is bound value number least is =
     one_lowest_least bound value number (lowest_least bound value) least (value (lowest_least bound value)) is (IsLowestLeast-lowest_least bound value (omega (arith, is.below)))
 
--- a number is the lowest least where all others have more
+-- a number is the lowest least if the values of all others are greater
 pub lowest_least-alone : (bound : ℕ) (value : ℕ → ℕ) (number : ℕ) → number < bound → ((j : ℕ) → j < bound → j ≢ number → value number < value j)
     → number ≡ lowest_least bound value
 lowest_least-alone bound value number below more =
@@ -87,7 +87,7 @@ lowest_least-alone bound value number below more =
       lowest = λ j less. more j (omega arith) (omega arith);
     })
 
--- a number below another stands in its place among those beside that one, and a number above it one place before
+-- among the numbers beside another, a smaller number is at its own index, and a larger one at the index before
 numbers_beside-below : (one j : ℕ) → j < one → numbers_beside one j ≡ j
 unfolding numbers_beside
 numbers_beside-below one j less = cond-true (nat_lt j one) j _ (lt-ltb j one less)

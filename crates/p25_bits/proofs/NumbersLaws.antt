@@ -114,7 +114,7 @@ All-numbers_from width zero bits = All-nil (λ number. number < 2 ^ width)
 All-numbers_from width (suc n) bits = All-cons (λ number. number < 2 ^ width)
     _ _ (field-lt width 0 bits) (All-numbers_from width n (drop width bits))
 
--- the number at a place
+-- the number at an index
 pub get_or-numbers_from : (width n : ℕ) (bits : List Bool) (j d : ℕ) → j < n → get_or (numbers_from width n bits) j d ≡ field_of (part (width * j) width bits)
 unfolding numbers_from
 get_or-numbers_from width zero bits j d inside = absurd (omega arith)
@@ -174,7 +174,7 @@ number_bits-numbers_from width (suc n) bits there =
       take-add width (width * n) bits,
     )
 
--- Lists made place by place.
+-- Lists made element by element.
 
 pub each_below-zero : {X : Type 0} (f : ℕ → X) → each_below 0 f ≡ []
 unfolding each_below
@@ -184,7 +184,7 @@ pub each_below-suc : {X : Type 0} (n : ℕ) (f : ℕ → X) → each_below (suc 
 unfolding each_below
 each_below-suc n f = refl
 
--- one more place, as a loop counts
+-- one more element, as a loop counts
 pub each_below-more : {X : Type 0} (n : ℕ) (f : ℕ → X) → each_below (n + 1) f ≡ each_below n f ++ f n ∷ []
 each_below-more n f = rw add-one (each_below-suc n f)
 
@@ -193,7 +193,7 @@ unfolding each_below
 length-each_below zero f = refl
 length-each_below (suc n) f = simp length-append (omega (arith, length-each_below n f))
 
--- the element at a place
+-- the element at an index
 pub get_or-each_below : {X : Type 0} (n : ℕ) (f : ℕ → X) (j : ℕ) (d : X) → j < n → get_or (each_below n f) j d ≡ f j
 unfolding each_below
 get_or-each_below zero f j d inside = absurd (omega arith)
@@ -235,7 +235,7 @@ take-each_below m (suc n) f fits =
           rw (take_all, here)
     ]
 
--- a list has at each place its element there
+-- a list has at each index its element there
 pub each_below-list : {X : Type 0} (xs : List X) (d : X) (n : ℕ) → n ≤ length xs → each_below n (λ j. get_or xs j d) ≡ take n xs
 unfolding each_below
 each_below-list xs d zero inside = refl
@@ -262,7 +262,7 @@ length-joined_below size zero f long = omega arith
 length-joined_below size (suc n) f long =
     simp length-append (omega (arith, length-joined_below size n f (λ j inside. long j (omega arith))))
 
--- the list at a place
+-- the list at an index
 pub part-joined_below : {X : Type 0} (size n : ℕ) (f : ℕ → List X) (j : ℕ) → ((i : ℕ) → i < n → length (f i) ≡ size) → j < n → part (size * j) size (joined_below n f) ≡ f j
 unfolding joined_below
 part-joined_below size zero f j long inside = absurd (omega arith)

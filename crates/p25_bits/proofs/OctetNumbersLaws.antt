@@ -12,7 +12,7 @@ octets_number-nil = refl
 raised : (high octet power next : ℕ) → next ≡ power * 256 → (256 * high + octet) * power ≡ high * next + octet * power
 raised high octet power next e = rw (e, add-mul) (rw (mul_comm 256 high, mul_assoc, mul_comm 256 power))
 
--- what stands before the octets counts as often as the octets have values
+-- a number before the octets is multiplied by the number of values of the octets
 pub number_after-is : (high : ℕ) (octets : List ℕ) → number_after high octets ≡ high * 256 ^ length octets + octets_number octets
 unfolding number_after octets_number
 number_after-is high [] = omega arith

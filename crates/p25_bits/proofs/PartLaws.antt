@@ -3,7 +3,7 @@ use Rattle.std.proofs.Common.{◌≡◌, ℕ, zero, suc, ◌+◌, ◌-◌, ◌<�
 use Rattle.std.proofs.{Math.Seq.{take-add, drop-append-add, get_or-take}, lemmas.List.{take-take, drop-take, drop-drop, take-append-le, drop-append-le, length-take-le, take_at, get_or-drop, take_all}}
 use Rattle.p25_bits.specs.Bits.{part}
 
--- what the second of two lists has from a place on
+-- the second of two lists from an index on
 pub drop_behind : {X : Type 0} (at more : ℕ) (xs ys : List X) → length xs ≡ at → drop (at + more) (xs ++ ys) ≡ drop more ys
 drop_behind at more xs ys before = rw (← before, drop-append-add)
 
@@ -36,11 +36,11 @@ part_left at count xs ys inside =
     let left : count ≤ length (drop at xs) = omega (arith, length-drop at xs) in
     simp (drop-append-le, take-append-le)
 
--- a part of the second of two lists, by its place in that list
+-- a part of the second of two lists, by its index in that list
 pub part_behind : {X : Type 0} (at count : ℕ) (xs ys : List X) → part (length xs + at) count (xs ++ ys) ≡ part at count ys
 part_behind at count xs ys = simp drop-append-add
 
--- a part of the second of two lists, by its place in both
+-- a part of the second of two lists, by its index in both
 pub part_right : {X : Type 0} (at count : ℕ) (xs ys : List X) → length xs ≤ at → part at count (xs ++ ys) ≡ part (at - length xs) count ys
 part_right at count xs ys behind =
     ap (λ n. part n count (xs ++ ys)) (omega arith) ∙ part_behind _ count xs ys
@@ -76,11 +76,11 @@ drop-part at count from xs inside =
     let split : count ≡ from + (count - from) = omega arith in
     cc (drop-take from (count - from) (drop at xs), drop-drop from at xs)
 
--- a part of what a list has from a place on
+-- a part of the elements of a list from an index on
 pub part-drop : {X : Type 0} (at count from : ℕ) (xs : List X) → part at count (drop from xs) ≡ part (from + at) count xs
 part-drop at count from xs = simp drop-drop
 
--- what a list has from a place on is a part
+-- the elements of a list from an index on are a part
 pub drop-is_part : {X : Type 0} (from : ℕ) (xs : List X) → drop from xs ≡ part from (length xs - from) xs
 drop-is_part from xs =
     sym (take_all _ _ (omega (arith, length-drop from xs)))

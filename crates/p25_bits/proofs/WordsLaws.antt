@@ -24,7 +24,7 @@ shr_two : (word at : ℕ) → at < 64 → word / 2 / 2 ^ (63 - at) ≡ word / 2 
 shr_two word at inside =
     shr-shr word 1 _ ∙ ap (λ n. word / 2 ^ n) (omega arith)
 
--- the 64 bits from a place on of two words
+-- the 64 bits from an offset on in two words
 pub across_is : (high low at : ℕ) → at < 64 → low < 2 ^ 64 → bits_of 64 (bit_or (high * 2 ^ at % 2 ^ 64) (low / 2 / 2 ^ (63 - at))) ≡ part at 64 (bits_of 64 high ++ bits_of 64 low)
 across_is high low at inside small =
     let left : 64 - at + at ≡ 64 = omega arith in
@@ -60,7 +60,7 @@ beginning_is word at next inside small small_next =
     = cc (mul-mod_first _ _ _, mul_assoc _ 2 _, pow-add 2 1 _, ones_shl 64 _ rest) in
     cc (and_high_mask 64 _ rest word small, or_shifted high _ _ below, bits_of-joined at (64 - at) high _ below, take-bits_of at 64 word (omega arith), take-bits_of _ 64 next rest)
 
--- the last bits of a word, moved to the front
+-- the last bits of a word, moved to its beginning
 pub ending_is : (word count : ℕ) → count < 64 → take count (bits_of 64 (word * 2 % 2 ^ 64 * 2 ^ (63 - count) % 2 ^ 64)) ≡ drop (64 - count) (bits_of 64 word)
 ending_is word count inside =
     let right : count + (64 - count) ≡ 64 = omega arith in
@@ -74,11 +74,11 @@ ending_is word count inside =
 
 -- A list of words.
 
--- a place by its word and its place within it
+-- an offset by its word and the offset within the word
 place_of : (at : ℕ) → 64 * (at / 64) + at % 64 ≡ at
 place_of at = omega arith
 
--- the 64 bits from a place on stand in two words
+-- the 64 bits from an offset on are in two words
 pub part_window : (words : List ℕ) (at : ℕ) → at / 64 + 1 < length words
     → part at 64 (number_bits 64 words) ≡ part (at % 64) 64 (bits_of 64 (get_or words (at / 64) 0) ++ bits_of 64 (get_or words (at / 64 + 1) 0))
 part_window words at inside =
@@ -90,7 +90,7 @@ part_window words at inside =
     let both : at % 64 + 64 ≤ length (first ++ second) = omega (arith, length-append first second, length-bits_of) in
     ap (λ n. part n 64 (number_bits 64 words)) (sym (place_of at)) ∙ rw (← part-drop, drop-number_bits, number_bits-drop_more, number_bits-drop_more, ← append_assoc, part_left)
 
--- the first bits up to a place within a word
+-- the first bits up to an offset within a word
 pub take_within : (words : List ℕ) (q m : ℕ) → q < length words → m ≤ 64 → take (64 * q + m) (number_bits 64 words) ≡ number_bits 64 (take q words) ++ take m (bits_of 64 (get_or words q 0))
 take_within words q m here few =
     let there : q ≤ length words = omega arith in
@@ -133,7 +133,7 @@ append_more now later other front window at from k written read so_far =
     let count : 64 * k + 64 ≡ 64 * (k + 1) = omega arith in
     simp (more, written, so_far, read, append_assoc, part_add, count)
 
--- one more word of bits is moved to the front
+-- one more word of bits is moved to the beginning
 pub moved_more : (words old : List ℕ) (by k word : ℕ) → k < length words → length words ≡ length old → bits_of 64 word ≡ part (by + 64 * k) 64 (number_bits 64 words)
     → take (64 * k) (number_bits 64 words) ≡ part by (64 * k) (number_bits 64 old) → drop k words ≡ drop k old
     → (take (64 * (k + 1)) (number_bits 64 (set words k word)) ≡ part by (64 * (k + 1)) (number_bits 64 old)) × (drop (k + 1) (set words k word) ≡ drop (k + 1) old)

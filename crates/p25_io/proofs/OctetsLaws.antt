@@ -4,7 +4,7 @@ use Rattle.std.proofs.{lemmas.List.{take_min, take-append-le}, Math.Seq.{take-ap
 use Rattle.std.specs.Io.KnownBytes.{prepend_known, append_known}
 use Rattle.p25_io.specs.{Faults.{Rose}, Octets.{Taken, Appended, AppendedBeginning}}
 
--- equal octets may stand for each other
+-- equal octets can replace each other
 pub Taken-same : {first now : Option (List ℕ)} {xs ys : List ℕ} → xs ≡ ys → Taken first xs now → Taken first ys now
 Taken-same {first = first} {now = now} same p = subst (λ l. Taken first l now) same p
 
@@ -25,7 +25,7 @@ Taken-trans {third = None} {xs = xs} p q = record { left = p.left ∙ ap (prepen
 Taken-trans {third = Some zs} {xs = xs} {ys = ys} p q =
     record { left = p.left ∙ ap (prepend_known xs) q.left ∙ ap Some (sym (append_assoc xs ys zs)) }
 
--- of told octets, those taken stand before those left
+-- the taken octets are the first of the exposed ones, and the others are left
 pub Taken-told : {all xs : List ℕ} {now : Option (List ℕ)} → Taken (Some all) xs now → (rest : List ℕ) × (now ≡ Some rest) × (all ≡ xs ++ rest)
 Taken-told {all = all} {now = None} p = let wrong : Some all ≡ None = p.left in cc
 Taken-told {all = all} {xs = xs} {now = Some rest} p =
@@ -43,12 +43,12 @@ Appended-trans {first = None} {ys = ys} p q = record { written = q.written ∙ a
 Appended-trans {first = Some zs} {xs = xs} {ys = ys} p q =
     record { written = q.written ∙ ap (λ w. append_known w ys) p.written ∙ ap Some (append_assoc zs xs ys) }
 
--- a whole piece, and then a beginning of the next
+-- a whole chunk, and then a beginning of the next
 pub AppendedBeginning-next : {first second third : Option (List ℕ)} {xs ys : List ℕ} → Appended first xs second → AppendedBeginning second ys third → AppendedBeginning first (xs ++ ys) third
 AppendedBeginning-next {xs = xs} {ys = ys} p q =
     record { count = length xs + q.count; beginning = Appended-same (sym (take-append-add xs ys q.count)) (Appended-trans p q.beginning) }
 
--- a beginning of a piece is a beginning of a longer one
+-- a beginning of a chunk is a beginning of a longer one
 pub AppendedBeginning-longer : {first now : Option (List ℕ)} {xs : List ℕ} (ys : List ℕ) → AppendedBeginning first xs now → AppendedBeginning first (xs ++ ys) now
 AppendedBeginning-longer {xs = xs} ys p =
     let count = min p.count (length xs) in
@@ -59,7 +59,7 @@ AppendedBeginning-longer {xs = xs} ys p =
 pub Rose-within : (first before now last : ℕ) → first ≤ before → Rose before now → now ≤ last → Rose first last
 Rose-within first before now last earlier rose later = omega arith
 
--- a beginning of a piece is as long as what is written grew
+-- a beginning of a chunk is as long as the growth of the written octets
 pub beginning-grown : (before piece now : List ℕ) (count : ℕ) → count ≡ length now - length before → AppendedBeginning (Some before) piece (Some now)
     → (count ≤ length piece) × Appended (Some before) (take count piece) (Some now)
 beginning-grown before piece now count grown begun =

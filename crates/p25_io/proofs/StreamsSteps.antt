@@ -12,7 +12,7 @@ refusals_in-append (WriteFailed piece count ∷ xs) ys = omega (arith, refusals_
 refusals_in-append (Read octets ∷ xs) ys = refusals_in-append xs ys
 refusals_in-append (ReadFailed ∷ xs) ys = refusals_in-append xs ys
 
--- what answers come to
+-- the octets, the flushes and the faults of the results of a writer
 pub Took-answered : {W : Type 0} (contents : W → Option (List ℕ)) (before now : AskedWriter W) (octets : List ℕ) (writes flushes : List Event)
     → Answered contents before octets writes flushes now → octets_written writes ≡ octets
     → Took contents before octets (writes_in flushes) (refusals_in writes + write_faults_in flushes) now

@@ -11,7 +11,7 @@ abbrev pub AllFit : {X : Type 0} → (X → Type 0) → List X → Type 0
 AllFit Fits [] = Unit {0}
 AllFit Fits (entry ∷ entries) = Fits entry × AllFit Fits entries
 
--- what holds of each entry: its text has no comma, is read as the entry, and is what the entry is read from
+-- the laws of each entry: its text has no comma and decodes to the entry, and a text that decodes to an entry is the text of that entry
 pub record EntryLaws {X : Type 0} (text : X → List ℕ) (read : List ℕ → Option X) (Fits : X → Type 0) (is_part : List ℕ → Bool) : Type 0 where
   pub lacks : (part : List ℕ) → is_part part ≡ true → Lacks 44 part
   pub written : (entry : X) → Fits entry → is_part (text entry) ≡ true
@@ -40,7 +40,7 @@ module _ {X : Type 0} {text : X → List ℕ} {read : List ℕ → Option X} {Fi
   text-entries_in [] (entry ∷ entries) found = cc
   text-entries_in (part ∷ parts) entries found = entries_more part parts (read part) (entries_in read parts) entries refl found (λ rest h. text-entries_in parts rest h)
 
-  -- a list is read from its text, where that is not `-`
+  -- the text of a list decodes to it, if that text is not `-`
   pub list_in-text : (entries : List X) → AllFit Fits entries → (0 < length entries → bytes_eq (list_text text entries) dash ≡ false) → list_in read (list_text text entries) ≡ Some entries
   unfolding comma_text
   list_in-text [] fits other = refl
@@ -57,7 +57,7 @@ module _ {X : Type 0} {text : X → List ℕ} {read : List ℕ → Option X} {Fi
   joined word [] same fits = absurd (omega (arith, ap length same, length-slice_split (λ octet. octet == 44) word))
   joined word (entry ∷ entries) same fits = (ap (join_with_byte 44) same ∙ join_with_byte-slice_split 44 word, fits)
 
-  -- a word that is read as a list is its text
+  -- a word that decodes to a list is its text
   pub text-list_in : (word : List ℕ) (entries : List X) → list_in read word ≡ Some entries → (list_text text entries ≡ word) × AllFit Fits entries
   text-list_in word entries found =
       let empty : List X = [] in

@@ -6,7 +6,7 @@ use Rattle.std.specs.Prelude.{nat_le}
 use Rattle.p25_line.proofs.JoinLaws.{Lacks}
 use Rattle.p25_line.specs.CommaLists.{comma_parts, parts_from}
 
--- no comma stands from one place up to another
+-- there is no comma from one index up to another
 abbrev pub NoComma : List ℕ → ℕ → ℕ → Type 0
 NoComma word start end = (k : ℕ) → start ≤ k → k < end → get_or word k 0 ≢ 44
 
@@ -66,7 +66,7 @@ part-last word part start within none same =
     let lacks = subst (Lacks 44) all (lacks-part word start (length word - start) (simp whole none)) in
     cc (parts_from-within word start within, slice_split_none (λ octet. octet == 44) (drop start word) lacks, all, same, parts_from-past word (start + length part + 1) (omega arith))
 
--- there is a part at each place within a word
+-- there is a part at each index within a word
 pub some_parts : (word : List ℕ) (start : ℕ) → start ≤ length word → 0 < length (parts_from word start)
 some_parts word start within =
     omega (arith, ap length (parts_from-within word start within), length-slice_split (λ octet. octet == 44) (drop start word))

@@ -6,7 +6,7 @@ use Rattle.p25_line.specs.{Words.{is_printed, is_word, parts_of, words_in, words
 use Rattle.p25_line.specs.declared.fault.LineFault.TheVariants.{Form}
 use Rattle.p25_line.proofs.WordsLaws.{printed-spaces, words_in-words, words_in-none, words_or_fault-long, words_or_fault-words}
 
--- an octet does not stand among others
+-- an octet is not among others
 abbrev pub Lacks : ℕ → List ℕ → Type 0
 Lacks separator octets = All (λ octet. (octet == separator) ≡ false) octets
 
@@ -66,7 +66,7 @@ Accepted-words line words found =
       | inr short ↦ accepted-words line words short (rw (← words_or_fault-words, found))
     ]
 
--- what a list of words tells of an accepted line
+-- the words of an accepted line, and its marks
 pub record Known (line : List ℕ) (list : Marks) (words : List (List ℕ)) : Type 0 where
   pub found : words_or_fault line ≡ Ok words
   pub some : 0 < length words

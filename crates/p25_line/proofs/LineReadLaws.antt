@@ -33,7 +33,7 @@ pub named-not_long : {K X : Type 0} (read : K → List (List ℕ) → Result X L
 named-not_long read others never (Some kind) e = never kind e
 named-not_long read others never None e = cc
 
--- a line is read as its words are, and refused as it has none
+-- the decoding of a line is that of its words, and a line without words is refused
 pub line_read-found : {X : Type 0} (read : List (List ℕ) → Result X LineFault) (line : List ℕ) (words : List (List ℕ)) → words_or_fault line ≡ Ok words → line_read read line ≡ read words
 unfolding line_read
 line_read-found read line words found = simp found
@@ -42,21 +42,21 @@ pub line_read-refused : {X : Type 0} (read : List (List ℕ) → Result X LineFa
 unfolding line_read
 line_read-refused read line fault refused = simp refused
 
--- what is kept between values, their words, and what words are read as: each undoes the other for values that fit
+-- the laws of values, their words, and the decoding of words: each is the inverse of the other for values that fit
 pub record WordLaws {X : Type 0} (words : X → List (List ℕ)) (read : List (List ℕ) → Result X LineFault) (Fits : X → Type 0) : Type 0 where
   pub some : (value : X) → 0 < length (words value)
   pub are_words : (value : X) → Fits value → list_all is_word (words value) ≡ true
   pub back : (value : X) → Fits value → read (words value) ≡ Ok value
   pub again : (others : List (List ℕ)) (value : X) → read others ≡ Ok value → (words value ≡ others) × Fits value
 
--- the line of a value is read as it, where the line is not too long
+-- the line of a value decodes to it, if the line is not too long
 pub line_read-words : {X : Type 0} {words : X → List (List ℕ)} {read : List (List ℕ) → Result X LineFault} {Fits : X → Type 0} → WordLaws words read Fits → (value : X) → Fits value
     → length (join_with_byte 32 (words value)) ≤ 8192 → line_read read (join_with_byte 32 (words value)) ≡ Ok value
 unfolding line_read
 line_read-words {words = words} {read = read} laws value fits short =
     cc (words_or_fault-join (words value) (laws.some value) (laws.are_words value fits) short, laws.back value fits)
 
--- what a line shows that is read as a value
+-- the facts about a line that decodes to a value
 pub record IsLineOf {X : Type 0} (words : X → List (List ℕ)) (Fits : X → Type 0) (line : List ℕ) (value : X) : Type 0 where
   pub text : join_with_byte 32 (words value) ≡ line
   pub fits : Fits value
@@ -76,7 +76,7 @@ pub words-line_read : {X : Type 0} {words : X → List (List ℕ)} {read : List 
 unfolding line_read
 words-line_read laws line value found = from_found laws line (words_or_fault line) value refl found
 
--- as a reader tells it
+-- as a reader returns it
 pub line_read-facts : {X : Type 0} {words : X → List (List ℕ)} {read : List (List ℕ) → Result X LineFault} {Fits : X → Type 0}
     → WordLaws words read Fits → (line : List ℕ) (result : Result X LineFault)
     → result ≡ line_read read line → (IfOk result (λ value. join_with_byte 32 (words value) ≡ line)) × (IfOk result Fits)

@@ -6,7 +6,7 @@ use Rattle.p25_line.specs.{Marks.{Marks}, Words.{AreWordsOf, marked, parts_of, w
 use Rattle.p25_line.specs.{declared.fault.LineFault.TheVariants.{Form, Long}, declared.word_list.Span.{Span}}
 use Rattle.p25_line.proofs.{JoinLaws.{Accepted-words, Known, Known-words}, WordsLaws.{words_or_fault-long, words_or_fault-words}}
 
--- a line that has words has what stands between its spaces
+-- a line that has words has the octets between its spaces
 are-words : (line : List ℕ) (list : Marks) (words : List (List ℕ)) → Known line list words → AreWordsOf line list
 are-words line list words known =
     let parts = (Accepted-words line words known.found).parts in

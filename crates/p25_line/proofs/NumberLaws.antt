@@ -23,7 +23,7 @@ number_below-decimal (suc top) number below fits =
           ∙ number_below-decimal top number lower (omega arith)
     ]
 
--- a word that is read as a number is its text
+-- a word that decodes to a number is its text
 pub decimal-number_below : (most : ℕ) (word : List ℕ) (number : ℕ) → number_below most word ≡ Some number → (decimal number ≡ word) × (number < most)
 unfolding number_below
 decimal-number_below zero word number found = cc
@@ -37,7 +37,7 @@ decimal-number_below (suc top) word number found =
           (facts.0, omega (arith, facts.1))
     ]
 
--- a word that is no such text is read as none
+-- a word that is no such text has no decoding
 pub number_below-none : (most : ℕ) (word : List ℕ) → ((number : ℕ) → number < most → decimal number ≡ word → ⊥) → number_below most word ≡ None
 unfolding number_below
 number_below-none zero word refused = refl

@@ -34,7 +34,7 @@ Digits-passed most word passed =
       digits = third.1;
     }
 
--- the text of one octet or more is read as them
+-- the text of one octet or more decodes to them
 pub octets_up_to-digits : (most : ℕ) (word octets : List ℕ) → 0 < length octets → length octets ≤ most → AllOctets octets → encode_lower octets ≡ word → octets_up_to most word ≡ Some octets
 octets_up_to-digits most word octets some few fits text =
     let count : length word ≡ 2 * length octets = rw (← text, length-encode_with) in
@@ -58,7 +58,7 @@ octets_text-some : (octets : List ℕ) → 0 < length octets → octets_text oct
 octets_text-some [] some = absurd (omega arith)
 octets_text-some (octet ∷ octets) some = refl
 
--- and a word that is read as octets is their text
+-- and a word that decodes to octets is their text
 pub record IsTextOf (most : ℕ) (word octets : List ℕ) : Type 0 where
   pub text : octets_text octets ≡ word
   pub few : length octets ≤ most

@@ -34,7 +34,7 @@ decimal_two n lo hi = rw (decimal_step n lo (omega arith), decimal_digit (n / 10
 pub length_two : (n : ℕ) → 10 ≤ n → n < 100 → length (decimal n) ≡ 2
 length_two n lo hi = simp decimal_two
 
--- the last two digits of a number stand after those of its hundreds
+-- the last two digits of a number are after those of its hundreds
 pub decimal_pair : (n : ℕ) → 100 ≤ n → n < 2 ^ 64 → decimal n ≡ decimal (n / 100) ++ pair (n % 100)
 decimal_pair n lo hi =
     let a : n / 10 / 10 ≡ n / 100 = omega arith in

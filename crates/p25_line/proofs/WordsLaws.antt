@@ -5,7 +5,7 @@ use Rattle.std.proofs.lemmas.Slice.Eq.{bytes_eq-Decides}
 use Rattle.std.specs.{Prelude.{nat_lt, ok_or}, List.{find, onto_first, list_all, All}, Str.{bytes_eq}}
 use Rattle.p25_line.specs.{Values.{is_lower_digit}, Words.{is_printed, is_word, parts_of, words_in, words_or_fault}, declared.fault.LineFault.TheVariants.{Form, Long}}
 
--- an octet that may stand in a line of words
+-- an octet that may be in a line of words
 abbrev pub is_allowed : ℕ → Bool
 is_allowed octet = (octet == 32) || is_printed octet
 
@@ -28,7 +28,7 @@ allowed_more octet [] rest false same some = absurd (omega arith)
 allowed_more octet (part ∷ parts) rest false same some =
     simp (and_assoc, same)
 
--- each part is printed exactly where each octet is allowed
+-- each part is printed exactly if each octet is allowed
 pub printed-parts : (line : List ℕ) → list_all (list_all is_printed) (parts_of line) ≡ list_all is_allowed line
 printed-parts [] = refl
 printed-parts (octet ∷ line) =
@@ -41,17 +41,17 @@ words-printed (word ∷ words) all =
     let printed = and_parts (nat_lt 0 (length word)) (list_all is_printed word) parts.0 in
     cc (printed.1, words-printed words parts.1)
 
--- where each part is a word, the parts are the words
+-- if each part is a word, the parts are the words
 pub words_in-words : (line : List ℕ) → list_all is_word (parts_of line) ≡ true → words_in line ≡ Some (parts_of line)
 unfolding words_in
 words_in-words line all = cond-true (list_all is_word (parts_of line)) (Some (parts_of line)) None all
 
--- where some part is no word, there are no words
+-- if some part is no word, there are no words
 pub words_in-none : (line : List ℕ) → list_all is_word (parts_of line) ≡ false → words_in line ≡ None
 unfolding words_in
 words_in-none line other = cond-false (list_all is_word (parts_of line)) (Some (parts_of line)) None other
 
--- the answers to a line, by its length and its words
+-- the results for a line, by its length and its words
 pub words_or_fault-long : (line : List ℕ) → 8192 < length line → words_or_fault line ≡ Err Long
 unfolding words_or_fault
 words_or_fault-long line long = grind arith

@@ -8,7 +8,7 @@ use Rattle.p25_line.specs.{Marks.{Marks}, Words.{is_printed, is_word, parts_of, 
 use Rattle.p25_line.specs.declared.word_list.Span.{Span}
 use Rattle.p25_line.proofs.WordsLaws.{printed-spaces, printed-parts, words-printed, words_in-words, words_in-none, words_or_fault-long, words_or_fault-words, is_allowed}
 
--- the list of spans has room, or is full
+-- the list of spans has capacity, or is full
 pub noted-room : (spans : List Span) (span : Span) → (length spans == 16) ≡ false → length spans ≤ 16 → spans ++ span ∷ [] ≡ take 16 (spans ++ span ∷ [])
 noted-room spans span other most =
     let room : length spans < 16 = grind arith in
@@ -160,14 +160,14 @@ pub none-end : (line : List ℕ) (list : Marks) (start i : ℕ) → Cut line lis
 none-end line list start i cut end =
     words_in-none line (cc (rest-decides line list start i cut, drop_all start line (omega arith)))
 
--- where the rest of a line begins with a space, its first part is no word
+-- if the rest of a line begins with a space, its first part is no word
 none-space : (line : List ℕ) (list : Marks) (start i : ℕ) → Cut line list start i → i < length line → get_or line i 0 ≡ 32 → i ≡ start
     → list_all is_word (parts_of (drop start line)) ≡ false
 none-space line list start i cut inside space same =
     let none : i - start ≡ 0 = omega arith in
     cc (parts-space line list start i cut inside space, none)
 
--- where the parts of the rest are words, an octet that is not printed is a space
+-- if the parts of the rest are words, an octet that is not printed is a space
 space-words : (line : List ℕ) (start i : ℕ) → start ≤ i → i < length line → is_printed (get_or line i 0) ≡ false
     → list_all is_word (parts_of (drop start line)) ≡ true → get_or line i 0 ≡ 32
 space-words line start i order inside bad all =

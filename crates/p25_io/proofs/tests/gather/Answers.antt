@@ -3,7 +3,7 @@ use borrow.Rule.Slice.PartMut.{put_mid, post_of}
 use Rattle.p25_io.proofs.OctetsLaws.{Taken-same, Taken-trans}
 use Rattle.p25_io.proofs.tests.gather.Goals as goal
 
--- what is held after a read into the rest of the room
+-- the octets held after a read into the rest of the buffer
 take-put_rest : (room buf : List ℕ) (held count : ℕ) → held ≤ length room → count ≤ length buf
     → take (held + count) (put_mid held (length room - held) room buf) ≡ take held room ++ take count buf
 take-put_rest room buf held count within fits =
@@ -12,7 +12,7 @@ take-put_rest room buf held count within fits =
     subst (λ n. take (n + count) (take held room ++ (buf ++ rest)) ≡ take held room ++ take count buf) beginning
     (take-append-add (take held room) (buf ++ rest) count ∙ ap (λ l. take held room ++ l) (take-append-le count buf rest fits))
 
--- it fits the room
+-- they fit into the buffer
 put_rest_fits : (room buf : List ℕ) (held count : ℕ) → held ≤ length room → count ≤ length buf
     → held + count ≤ length (put_mid held (length room - held) room buf)
 put_rest_fits room buf held count within fits = simp (length-append, length-take) (omega arith)

@@ -4,7 +4,7 @@ use Rattle.std.specs.Prelude.{flat_map, OnErr}
 use Rattle.p25_io.proofs.OctetsLaws.{AppendedBeginning-same, AppendedBeginning-next, AppendedBeginning-longer}
 use Rattle.p25_io.proofs.tests.put_all.Goals as goal
 
--- the pieces before one, that piece, and those after it
+-- the chunks before one, that chunk, and those after it
 flat_map-around : {X : Type 0} (f : X → List ℕ) (xs : List X) (i : ℕ) (d : X) → i < length xs
     → flat_map f xs ≡ (flat_map f (take i xs) ++ f (get_or xs i d)) ++ flat_map f (drop (suc i) xs)
 flat_map-around f xs i d below =
