@@ -144,7 +144,7 @@ module _ {F : Type 0} (K : Field F) where
           ∙ mul_comm K 𝟙 (shifted K s f i)
           ∙ mul_one K (shifted K s f i)
 
-  -- the product has no coefficient where the terms that would make it are zero
+  -- a coefficient of the product is zero if each of its terms has a factor that is zero
   pub product_zero : (f g : ℕ → F) (n : ℕ) → ((i j : ℕ) → i + j ≡ n → (f i ≡ 𝟘) ⊎ (g j ≡ 𝟘)) → product_at K f g n ≡ 𝟘
   product_zero f g n e =
       sum_of_zeros K _ _ (λ i low. elim (e i (n - i) (omega arith)) [
@@ -196,7 +196,7 @@ module _ {F : Type 0} (K : Field F) where
         | inr more ↦ elim (cases_eq d e) [ inl same ↦ same | inr apart ↦ absurd (first.leading (second.above d (omega arith))) ]
       ]
 
-  -- the factor other than a divisor is determined, where what is left is short
+  -- two quotients by a divisor are equal if the products, each plus a remainder of lower degree than the divisor, are equal
   pub same_quotient : (n : ℕ) (b q p r t : ℕ → F) (d : ℕ) → IsDegree K b d
       → IsShort K n q → IsShort K n p → IsShort K d r → IsShort K d t → ((i : ℕ) → product_at K b q i ⊕ r i ≡ product_at K b p i ⊕ t i) → (i : ℕ) → q i ≡ p i
   same_quotient n b q p r t d degree short_q short_p short_r short_t same i =

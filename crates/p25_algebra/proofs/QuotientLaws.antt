@@ -13,7 +13,7 @@ module _ {F : Type 0} (K : Field F) where
 
   infixl 65 ◌⊕◌
   infixl 70 ◌⊗◌
-  -- a shift by one place
+  -- a shift by one position
   pub shifted-first : (f : ℕ → F) → shifted K 1 f 0 ≡ 𝟘
   shifted-first f = shifted_below K 1 f 0 (omega arith)
 

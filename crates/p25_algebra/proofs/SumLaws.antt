@@ -59,7 +59,7 @@ module _ {F : Type 0} (K : Field F) where
   sum_first zero t = simp (zero_add, add_zero)
   sum_first (suc n) t = cc (sum_first n t, add_assoc K _ _ _)
 
-  -- two sums change places
+  -- the order of two sums can be exchanged
   pub sum_exchange : (n m : ℕ) (t : ℕ → ℕ → F) → sum_below K n (λ i. sum_below K m (λ j. t i j)) ≡ sum_below K m (λ j. sum_below K n (λ i. t i j))
   unfolding sum_below
   sum_exchange zero m t = sym (sum_of_zeros m _ (λ j h. refl))

@@ -79,7 +79,7 @@ module _ {F : Type 0} (K : Field F) where
       let (h, q) = quotient_at n _ z in
       (led_by _ h, quotient_more n f h z q)
 
-  -- n coefficients are all zero where the polynomial has n different zeros
+  -- n coefficients are all zero if the polynomial has n different zeros
   pub few_zeros : (n m : ℕ) (f z : ℕ → F) → n ≤ m → AreApart m z → ((j : ℕ) → j < m → value_at K n f (z j) ≡ 𝟘) → (i : ℕ) → i < n → f i ≡ 𝟘
   few_zeros (suc n) (suc m) f z le apart zeros i h =
       let (g, q) = quotient_at n f (z m) in

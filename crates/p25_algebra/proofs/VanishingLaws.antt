@@ -30,7 +30,7 @@ module _ {F : Type 0} (K : Field F) where
   pub weight_one : (x : F) → x ≢ 𝟘 → weight_by (K.is_zero x) ≡ 1
   weight_one x h = elim (K.is_zero x) as (λ w. weight_by w ≡ 1) [ inl same ↦ absurd (h same) | inr apart ↦ refl ]
 
-  -- where one list of factors is zero wherever another is, it has no more that are not zero
+  -- if one list of factors is zero wherever another is, it has at most as many that are not zero
   pub nonzeros_mono : (n : ℕ) (f g : ℕ → F) → ((i : ℕ) → i < n → g i ≡ 𝟘 → f i ≡ 𝟘) → nonzeros K n f ≤ nonzeros K n g
   unfolding nonzeros
   nonzeros_mono zero f g down = omega arith
@@ -118,8 +118,7 @@ module _ {F : Type 0} (K : Field F) where
   last_is_other n x decided apart live (suc m) s v other few none =
       other (last_too n x v s live (before_last n x decided apart m s v (omega (arith, nonzeros-suc n v, weight_one (v n) other)) none) (none s (omega arith) (omega arith)))
 
-  -- where at most m factors are not zero and the sums vanish for m successive exponents from s on,
-  -- every factor is zero
+  -- if at most m factors are not zero and the sums vanish for m successive exponents from s on, every factor is zero
   pub vanishing : (n m s : ℕ) (x v : ℕ → F) → AreApart n x → ((j : ℕ) → j < n → x j ≢ 𝟘) → nonzeros K n v ≤ m → ((i : ℕ) → s ≤ i → i < s + m → power_sum K n x v i ≡ 𝟘) → (j : ℕ) → j < n → v j ≡ 𝟘
   vanishing zero m s x v apart live few none j h = absurd (omega arith)
   vanishing (suc n) m s x v apart live few none j h =

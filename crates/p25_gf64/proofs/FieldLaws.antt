@@ -33,7 +33,7 @@ module _ {F : Type 0} (K : Field F) where
   pub add_swap : (p q r s : F) → (p ⊕ q) ⊕ (r ⊕ s) ≡ (p ⊕ r) ⊕ (q ⊕ s)
   add_swap p q r s = simp (add_assoc, add_left_comm)
 
-  -- elements are equal where their sum is zero
+  -- elements are equal if their sum is zero
   pub same_from_sum : (x y : F) → x ⊕ y ≡ 𝟘 → x ≡ y
   same_from_sum x y e = sym (add_zero x) ∙ ap (λ w. x ⊕ w) (sym e) ∙ add_twice x y
 
@@ -76,11 +76,11 @@ module _ {F : Type 0} (K : Field F) where
   pub mul_cancel : (x y z : F) → x ≢ 𝟘 → x ⊗ y ≡ x ⊗ z → y ≡ z
   mul_cancel x y z apart e = sym (inverse_mul x y apart) ∙ ap (λ w. inverse x ⊗ w) e ∙ inverse_mul x z apart
 
-  -- where a product is zero and one factor is not, the other is
+  -- if a product is zero and one factor is not, the other is
   pub other_zero : (x y : F) → x ≢ 𝟘 → x ⊗ y ≡ 𝟘 → y ≡ 𝟘
   other_zero x y apart e = mul_cancel x y 𝟘 apart (e ∙ sym (mul_zero x))
 
-  -- a product is zero only where a factor is
+  -- a product is zero only if a factor is
   pub zero_factor : (x y : F) → x ⊗ y ≡ 𝟘 → (x ≡ 𝟘) ⊎ (y ≡ 𝟘)
   zero_factor x y e = elim (K.is_zero x) [ inl h ↦ inl h | inr h ↦ inr (other_zero x y h e) ]
 

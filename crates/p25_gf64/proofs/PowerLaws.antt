@@ -53,7 +53,7 @@ module _ {F : Type 0} (K : Field F) where
   power_ne_zero x zero apart = K.laws.one_ne_zero
   power_ne_zero x (suc n) apart = mul_ne_zero K x (power K x n) apart (power_ne_zero x n apart)
 
-  -- where the power p is one, exponents count modulo p
+  -- if the power p is one, exponents count modulo p
   pub power-mod : (x : F) (p n : ℕ) → power K x p ≡ 𝟙 → 0 < p → power K x n ≡ power K x (n % p)
   power-mod x p n e h =
       let split : n ≡ p * (n / p) + n % p = omega arith in
@@ -62,7 +62,7 @@ module _ {F : Type 0} (K : Field F) where
       ∙ ap (λ w. w ⊗ power K x (n % p)) (power-mul x p (n / p) ∙ ap (λ w. power K w (n / p)) e ∙ power_of_one (n / p))
       ∙ one_mul K (power K x (n % p))
 
-  -- where no power between 0 and p is one, exponents below p with one power are one exponent
+  -- if no power between 0 and p is one, exponents below p with equal powers are equal
   pub same_exponent : (x : F) (p : ℕ) → x ≢ 𝟘 → ((n : ℕ) → 0 < n → n < p → power K x n ≢ 𝟙) → (i j : ℕ) → i < p → j < p → power K x i ≡ power K x j → i ≡ j
   same_exponent x p apart order i j hi hj e =
       elim (cases_order i j) [ inl same ↦ same | inr (inl less) ↦ absurd (below i j less hj e) | inr (inr more) ↦ absurd (below j i more hi (sym e)) ]

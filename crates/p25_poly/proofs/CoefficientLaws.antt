@@ -27,7 +27,7 @@ module _ {F : Type 0} (K : Field F) where
   pub coefficient_read : (cs : List F) (i : ℕ) (x : F) → i < length cs → x ≡ get_or cs i x → x ≡ coefficient K cs i
   coefficient_read cs i x h e = get_or_read cs i x h e 𝟘
 
-  -- a list whose front is replaced has the coefficients of the front, and then its own
+  -- a list whose first elements are replaced has the coefficients of these, and then its own
   pub front_replaced : (front cs : List F) (n i : ℕ) → length front ≡ n → i < n → coefficient K (front ++ drop n cs) i ≡ coefficient K front i
   front_replaced front cs n i long below = get_or_append_left front _ 𝟘 i (omega arith)
 
@@ -47,7 +47,7 @@ module _ {F : Type 0} (K : Field F) where
   nothing_added a factor s f k h =
       simp (add_zero, mul_zero, shifted_below)
 
-  -- a place that is written has the value, and the others are as before
+  -- a coefficient that is written has the value, and the others are as before
   pub written_at : (cs : List F) (i : ℕ) (x : F) → i < length cs → coefficient K (set cs i x) i ≡ x
   written_at cs i x h = get_or-set_same cs i x 𝟘 h
 
@@ -68,7 +68,7 @@ module _ {F : Type 0} (K : Field F) where
       unshifted : i - 0 ≡ i
       unshifted = omega arith
 
-  -- so is the other list where the factor is one
+  -- so is the other list, if the factor is one
   pub one_added : (old other new : List F) (one : F) → one ≡ 𝟙 → length old ≡ length other
       → length new ≡ length old → ((k : ℕ) → k < length old → coefficient K new k ≡ coefficient K old k ⊕ one ⊗ shifted K 0 (coefficient K other) k)
       → (i : ℕ) → coefficient K new i ≡ coefficient K old i ⊕ coefficient K other i
@@ -92,7 +92,7 @@ module _ {F : Type 0} (K : Field F) where
       more : suc (n - i) ≡ n - (i - 1)
       more = omega arith
 
-  -- where the degrees add to less than n, one of two coefficients whose places add to n or more is zero
+  -- if the degrees add to less than n, one of two coefficients whose indices add to n or more is zero
   pub beyond_degrees : (n m : ℕ) (f g : ℕ → F) → IsShort K m f → IsShort K m g → ((d e : ℕ) → IsDegree K f d → IsDegree K g e → d + e < n) → (i j : ℕ) → n ≤ i + j → (f i ≡ 𝟘) ⊎ (g j ≡ 𝟘)
   beyond_degrees n m f g short_f short_g fits i j h =
       elim (zero_or_degree K m f short_f) [
@@ -106,7 +106,7 @@ module _ {F : Type 0} (K : Field F) where
         ]
       ]
 
-  -- n rows of the product are the product, where it fits
+  -- n rows of the product are the product, if it fits
   pub rows_are_product : (n m : ℕ) (f g h : ℕ → F) → m ≡ n → IsShort K n f → IsShort K n g → IsShort K n h → ((d e : ℕ) → IsDegree K f d → IsDegree K g e → d + e < n)
       → ((k : ℕ) → k < n → h k ≡ sum_below K m (λ i. f i ⊗ shifted K i g k)) → (k : ℕ) → h k ≡ product_at K f g k
   rows_are_product n m f g h all short_f short_g short_h fits rows k =

@@ -95,7 +95,7 @@ moved_everywhere c s p last old other new padded short fits most moved k =
 moved_padded : (c : Sym) (s last : ℕ) (old other new : List Sym) → IsPadded old → IsMoved 0 last c s old other new → IsPadded new
 moved_padded c s last old other new padded moved = record { blank = λ k low. moved.before k (omega arith) ∙ padded.blank k low }
 
--- 16 places, and 16 more
+-- 16 positions, and 16 more
 pub moved_twice : (c : Sym) (s : ℕ) (old other mid new : List Sym) → IsMoved 0 16 c s old other mid → IsMoved 16 32 c s mid other new → IsMoved 0 32 c s old other new
 moved_twice c s old other mid new first second = record {
   sum = λ k from low.
@@ -109,7 +109,7 @@ moved_twice c s old other mid new first second = record {
 
 -- ---- steps
 
--- sides change places
+-- the two sides are exchanged
 pub pair_swapped : (count : ℕ) (series : ℕ → Sym) (front back : Side) → back.degree ≤ count → IsPair count series front back → IsPair count series back front
 pair_swapped count series front back most pair = record {
   front_side = pair.back_side;
@@ -121,7 +121,7 @@ pair_swapped count series front back most pair = record {
   crosswise = λ x. add_comm gf64 _ _ ∙ pair.crosswise x;
 }
 
--- the front side loses its leading coefficient
+-- the side `front` loses its leading coefficient
 module _ (count : ℕ) (series : ℕ → Sym) (front back less : Side) (lower : back.degree ≤ front.degree) (half : count ≤ 2 * back.degree)
     (live : behind back.rest back.degree ≢ gf64.zero) (pair : IsPair count series front back) (reduced : IsReduced front back less) where
   shift : ℕ
@@ -248,7 +248,7 @@ pair_first count series front back some few power_at power_others no_factor fron
     same : (i : ℕ) → i - 0 ≡ i
     same i = omega arith
 
--- where the back side's degree is below half, it is the key
+-- if the degree of the side `back` is below half, it is the key
 pub pair_key : (count : ℕ) (syndromes : List Sym) (front back : Side) (locator evaluator : Poly)
     → length syndromes ≡ count → 2 ≤ count → 2 * (count / 2) ≡ count → IsPair count (coefficient gf64 syndromes) front back
     → 2 * back.degree < count → count ≤ 2 * front.degree

@@ -66,7 +66,7 @@ met_with_front n system x first rest = record { each = each }
 pub met_rest : (n : ℕ) (system : List Row) (x : ℕ → Sym) → AreMet n system x → AreMet n (drop 1 system) x
 met_rest n system x met = record { each = λ r h. rw get_or-drop (met.each _ (omega (arith, length-drop 1 system))) }
 
--- a row of zeros holds exactly where its right side is zero
+-- a row of zeros holds exactly if its right side is zero
 pub blank_met : (n : ℕ) (row : Row) (x : ℕ → Sym) → ((k : ℕ) → k < n → coefficient gf64 row.cells k ≡ gf64.zero) → row.right ≡ gf64.zero → IsMet n row x
 blank_met n row x none right = simp (dot_of_zeros, right)
 

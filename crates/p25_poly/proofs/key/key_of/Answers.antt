@@ -4,7 +4,7 @@ use Rattle.p25_algebra.specs.Series.{coefficient}
 use Rattle.p25_poly.specs.Euclid.{behind}
 use Rattle.p25_poly.proofs.key.key_of.Goals as goal
 
--- the last 32 symbols are those behind the first 32
+-- the last 32 symbols are those after the first 32
 last_symbols : (symbols : List Sym) (k : ℕ) → length symbols ≡ 64 → coefficient gf64 (take 32 (drop 32 symbols)) k ≡ behind symbols k
 last_symbols symbols k full =
     ap (λ (s : List Sym). coefficient gf64 s k) (take_all 32 (drop 32 symbols) (omega (arith, length-drop 32 symbols, full)))
