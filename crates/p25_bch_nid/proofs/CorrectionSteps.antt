@@ -18,19 +18,19 @@ use Rattle.p25_reed_solomon.specs.{Words.{value_of}, Errors.{AreErrors}}
 use Rattle.p25_reed_solomon.proofs.WrongLaws.{difference_errors}
 use Rattle.p25_bch_nid.proofs.SyndromesSteps.{value}
 
--- the generator divides a word's number exactly where the remainder is zero
+-- the generator divides the number of a word exactly if the remainder is zero
 word_from_remainder : (word : List Bool) → length word ≡ 63 → IsRemainder generator 47 (field_of word) 0 → IsBch63 word
 word_from_remainder word long is = from_divisible word long (divisible_from_remainder generator 47 (field_of word) is)
 
 remainder_from_word : (word : List Bool) → IsBch63 word → IsRemainder generator 47 (field_of word) 0
 remainder_from_word word is = record { lower = lit< tt; divisible = rw (xor_zero_r) (to_divisible word is) }
 
--- the symbols of bits, place by place
+-- the symbols of bits, coefficient by coefficient
 coefficient-symbols_of : (bits : List Bool) (j : ℕ) → coefficient gf64 (symbols_of bits) j ≡ bit_coefficient gf64 (get_or bits j false)
 coefficient-symbols_of (bit ∷ bits) (suc j) = coefficient-symbols_of bits j
 coefficient-symbols_of bits j = refl
 
--- a bit is inverted exactly where its symbol and the other's don't add to zero
+-- a bit, inverted exactly if its symbol and that of another bit do not add to zero, is that other bit
 inverted : (wrong x y : Bool) → IsTrue wrong ↔ (gf64.add (bit_coefficient gf64 x) (bit_coefficient gf64 y) ≢ gf64.zero) → cond wrong (not x) x ≡ y
 inverted true true true is = absurd (is.0 refl (add_self gf64 gf64.one))
 inverted true false false is = absurd (is.0 refl (add_self gf64 gf64.zero))
@@ -53,7 +53,7 @@ errors_of_bits received sent number syndromes long is are of_code near =
     (λ r low. cc (are r (omega arith), is, value_of_number received _ long))
     (omega (arith, distance_of_symbols))
 
--- what was sent
+-- the corrected word is the transmitted word
 corrected_is : (received sent made wrong : List Bool) → length received ≡ 63 → length made ≡ 63 → IsBch63 sent
     → ((j : ℕ) → j < 63 → get_or made j false ≡ cond (get_or wrong j false) (not (get_or received j false)) (get_or received j false))
     → ((j : ℕ) → j < 63 → IsTrue (get_or wrong j false) ↔ (gf64.add (coefficient gf64 (symbols_of received) j) (coefficient gf64 (symbols_of sent) j) ≢ gf64.zero)) → made ≡ sent
@@ -64,7 +64,7 @@ corrected_is received sent made wrong long full of_code is exactly =
     ∙ inverted _ _ _
     (simp coefficient-symbols_of at (exactly j inside)))
 
--- a bit of a sum is the bit of the first number, inverted where the second has a 1
+-- a bit of a sum is the bit of the first number, inverted if the second number has a 1
 xored : (a b e : ℕ) → eqb (bit_at (bit_xor a b) e) 1 ≡ cond (eqb (bit_at b e) 1) (not (eqb (bit_at a e) 1)) (eqb (bit_at a e) 1)
 xored a b e = cc (bit_at_xor a b e, of_bits _ _ (bit_at-lt a e) (bit_at-lt b e))
   where
@@ -75,7 +75,7 @@ xored a b e = cc (bit_at_xor a b e, of_bits _ _ (bit_at-lt a e) (bit_at-lt b e))
     of_bits (suc zero) (suc zero) x_low y_low = refl
     of_bits x y x_low y_low = absurd (omega arith)
 
--- what was sent, by numbers
+-- the corrected word is the transmitted word, by numbers
 pub corrected_number : (received sent made : List Bool) (number wrong : ℕ) → length received ≡ 63 → number ≡ field_of received → made ≡ bits_of 63 (bit_xor number wrong) → IsBch63 sent
     → ((j : ℕ) → j < 63 → IsTrue (eqb (bit_at wrong (63 - 1 - j)) 1) ↔ (gf64.add (coefficient gf64 (symbols_of received) j) (coefficient gf64 (symbols_of sent) j) ≢ gf64.zero)) → made ≡ sent
 corrected_number received sent made number wrong long is is_made of_code exactly =
@@ -110,7 +110,7 @@ pub numbers_apart : (m n : ℕ) → m < 2 ^ 63 → n < 2 ^ 63 → count_ones (bi
 numbers_apart m n m_fits n_fits =
     cc (number_back m m_fits, number_back n n_fits, ones-xor (bits_of 63 m) (bits_of 63 n) (simp length-bits_of))
 
--- an answer that meets the law of the reading is the reading
+-- a result that meets the law of the decoding is the decoding
 pub read_as : (received : ℕ) (answer : Option (List Bool)) → IsReadAs beq IsBch63 11 (bits_of 63 received) answer → answer ≡ bch63_reading_of (bits_of 63 received)
 read_as received answer is =
     one_reading bch63_is_code _ answer _ (length-bits_of 63 received) is (bch63_reads_as _)

@@ -14,7 +14,7 @@ cond-lt_two false = lit< tt
 pub parity_of-lt : (duid : ℕ) → parity_of duid < 2
 parity_of-lt duid = cond-lt_two _
 
--- a word with its information in front, and P
+-- the information, its check bits after it, and P
 pub IsSent-from_parts : (nac duid r parity : ℕ) → 16 * nac + duid < 2 ^ 16 → r < 2 ^ 47 → IsDivisible generator (bit_xor ((16 * nac + duid) * 2 ^ 47) r) → parity ≡ parity_of duid
     → IsSent nac duid (2 * ((16 * nac + duid) * 2 ^ 47 + r) + parity)
 IsSent-from_parts nac duid r parity small low word is =

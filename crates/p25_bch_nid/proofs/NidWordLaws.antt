@@ -40,7 +40,7 @@ identifier_of_word-encoding nac duid word low small is =
     let next : part 12 4 word ≡ bits_of 4 duid = cc (drop-take 12 4 word, drop_at _ (bits_of 4 duid) 12 (length-bits_of 12 nac)) in
     simp (first, field_of-bits_of, mod-eq_of_lt, next)
 
--- so what is sent for an identifier is read as that
+-- so the transmitted bits of an identifier decode to it
 pub nid_reading_of-nid_word : (nac duid : ℕ) → nac < 2 ^ 12 → duid < 2 ^ 4 → nid_reading_of (nid_word nac duid) ≡ Some (nac, duid)
 nid_reading_of-nid_word nac duid low small =
     let word = take 63 _ in
@@ -64,7 +64,7 @@ identifier_of_word-sent word is =
     long_next : length (part 12 4 word) ≡ 4
     long_next = length-take-le 4 (drop 12 word) (omega (arith, is.long, length-drop 12 word))
 
--- so what was received lies within 11 bits of what is sent for the identifier that was read
+-- so the first 63 received bits differ in at most 11 from the transmitted bits of the decoded identifier
 pub nid_reading_of-near : (bits : List Bool) (nid : ℕ × ℕ) → nid_reading_of bits ≡ Some nid → distance_of (take 63 bits) (take 63 (nid_word nid.0 nid.1)) ≤ 11
 unfolding IsNidReading
 nid_reading_of-near bits nid read = near (simp read at (IsNidReading-nid_reading_of bits))

@@ -36,7 +36,7 @@ duid_in word =
 pub identifier_made : (word : ℕ) → word < 2 ^ 63 → (word / 2 ^ 51, word / 2 ^ 47 % 16) ≡ identifier_of_word (bits_of 63 word)
 identifier_made word below = simp (nac_in, duid_in)
 
--- a word that was read is a word of the code within 11 bits, and what is sent for the identifier in it
+-- a decoded word is the transmitted codeword of the identifier in it, at a distance of at most 11 bits
 pub word_read : (bits sent : ℕ) (nid : ℕ × ℕ) → Some (bits_of 63 sent) ≡ bch63_reading_of (bits_of 63 (bits / 2 ^ 1)) → nid ≡ identifier_of_word (bits_of 63 sent)
     → (take 63 (nid_word nid.0 nid.1) ≡ bits_of 63 sent) × (distance_of (bits_of 63 (bits / 2 ^ 1)) (bits_of 63 sent) ≤ 11)
 unfolding IsReadAs
@@ -44,7 +44,7 @@ word_read bits sent nid read begins =
     let found = rw (← read) at (bch63_reads_as (bits_of 63 (bits / 2 ^ 1))) in
     (cc (begins, identifier_of_word-sent _ found.word_of_set), found.within)
 
--- its wrong bits are those that the exclusive or counts
+-- the exclusive or counts its bit errors
 pub wrong_in : (bits sent : ℕ) (nid : ℕ × ℕ) → bits < 2 ^ 64 → sent < 2 ^ 63 → Some (bits_of 63 sent) ≡ bch63_reading_of (bits_of 63 (bits / 2 ^ 1)) → nid ≡ identifier_of_word (bits_of 63 sent)
     → count_ones (bit_xor (bits / 2 ^ 1) sent) ≡ distance_of (take 63 (bits_of 64 bits)) (take 63 (nid_word nid.0 nid.1))
 wrong_in bits sent nid fits small read begins =
@@ -55,12 +55,12 @@ pub wrong-le : (bits sent : ℕ) (nid : ℕ × ℕ) → bits < 2 ^ 64 → sent <
 wrong-le bits sent nid fits small read begins =
     omega (arith, distance_of-bits_of, (word_read bits sent nid read begins).1)
 
--- a word is read as the code reads it
+-- the decoding of an identifier is the identifier in the decoding of its codeword
 pub code_reading : (bits : ℕ) (answer : Option (List Bool)) → answer ≡ bch63_reading_of (bits_of 63 (bits / 2 ^ 1)) → nid_reading_of (bits_of 64 bits) ≡ option_map identifier_of_word answer
 unfolding nid_reading_of
 code_reading bits answer is = simp (first_bits, is)
 
--- an answer that is the reading meets the two other clauses
+-- a result that is the decoding meets the two other clauses
 pub is_reading : (bits : ℕ) (answer : Option (ℕ × ℕ)) → answer ≡ nid_reading_of (bits_of 64 bits) → IsNidReading (bits_of 64 bits) answer
 is_reading bits answer value = simp value (IsNidReading-nid_reading_of _)
 

@@ -17,7 +17,7 @@ nid_digits nac duid small =
     (same_from_field_of _ _
     (simp length-bits_of) (simp (field_of-bits_of, swapped, mod-mul-add, mod-eq_of_lt)))
 
--- what is sent begins with the word of the NAC and the DUID
+-- the transmitted bits begin with the codeword of the NAC and the DUID
 pub IsEncoding-from_sent : (nac duid bits : ℕ) → duid < 16 → IsSent nac duid bits → IsEncoding IsBch63 16 (bits_of 12 nac ++ bits_of 4 duid) (take 63 (bits_of 64 bits))
 IsEncoding-from_sent nac duid bits small is =
     let half = bits / 2 ^ 1 in
@@ -30,7 +30,7 @@ IsEncoding-from_sent nac duid bits small is =
           ∙ nid_digits nac duid small;
     })
 
--- what is sent is read as the identifier
+-- the transmitted bits decode to the identifier
 pub reading_of_sent : (nac duid bits : ℕ) → nac < 2 ^ 12 → duid < 2 ^ 4 → IsSent nac duid bits → nid_reading_of (bits_of 64 bits) ≡ Some (nac, duid)
 reading_of_sent nac duid bits low small is =
     let received = take 63 _ in

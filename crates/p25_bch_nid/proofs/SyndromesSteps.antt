@@ -25,7 +25,7 @@ wider x v (suc more) small =
         let e : suc n + 4 ≡ suc (n + 4) = omega arith in
         omega (arith, grows n, ap (λ m. 2 ^ m) e, pow-suc 2)
 
--- four bits at a place
+-- the value of four bits at an offset
 value_at_place : (x : Sym) (v place : ℕ) → v < 16 → place < 16 → number_value gf64 x 64 (v * 2 ^ (4 * place)) ≡ gf64.mul (number_value gf64 x 4 v) (power gf64 x (4 * place))
 value_at_place x v place small low =
     let k = 4 * place in

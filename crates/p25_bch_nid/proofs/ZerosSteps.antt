@@ -145,7 +145,7 @@ zero_from_bits s none =
 pub bits_of_zero : (s : Sym) (p : ℕ) → s ≡ gf64.zero → bit_at (number s) p ≡ 0
 bits_of_zero s p none = simp (none, number_zero, bit_at-zero)
 
--- a bit of what is not in any plane is 1 exactly where the value is zero
+-- a bit of the complement of all planes is 1 exactly if the value is zero
 pub vanishes_exactly : (some : ℕ) (value : Sym) (e : ℕ) → e < 63 → some < 2 ^ 64 → (bit_at some e ≡ 0 → (q : ℕ) → q < 6 → bit_at (number value) q ≡ 0)
     → (((q : ℕ) → q < 6 → bit_at (number value) q ≡ 0) → bit_at some e ≡ 0) → IsTrue (eqb (bit_at (bit_not w64 some % 2 ^ 63) e) 1) ↔ (value ≡ gf64.zero)
 vanishes_exactly some value e low fits zeros all = (

@@ -35,7 +35,7 @@ syndrome_of-lt checks (first ∷ rows) (bit ∷ info) fit =
 syndrome_of-lt checks rows info fit = pow_pos checks
 
 module _ {rows : List ℕ} {n k d : ℕ} (code : IsSystematic rows n k d) where
-  -- as many check bits as stand behind the information
+  -- the number of check bits after the information
   abbrev checks : ℕ
   checks = n - k
 

@@ -14,7 +14,7 @@ length-without_erased [] erased = refl
 length-without_erased (x ∷ received) [] = ap suc (length-without_erased received [])
 length-without_erased (x ∷ received) (gone ∷ erased) = ap suc (length-without_erased received erased)
 
--- where nothing is erased no place has an erasure
+-- if nothing is erased no position has an erasure
 pub without_erased-none : {L : Type 0} (received : List L) (erased : List Bool) → All (λ gone. gone ≡ false) erased → without_erased received erased ≡ map Some received
 unfolding without_erased
 without_erased-none [] erased none = refl
@@ -22,7 +22,7 @@ without_erased-none (x ∷ received) [] none = rw (without_erased-none received)
 without_erased-none (x ∷ received) (gone ∷ erased) none =
     ap₂ (λ b list. cond b None (Some x) ∷ list) (none 0 gone (omega arith)) (without_erased-none received erased (λ k d h. none (suc k) d (omega arith)))
 
--- a list without an erasure differs where the letters differ, and has no erasure
+-- a list without an erasure has the distance of its letters, and no erasure
 pub kept_distance-letters : {L : Type 0} (same : L → L → Bool) (received word : List L) → kept_distance same (map Some received) word ≡ distance_by same received word
 unfolding kept_distance distance_by
 kept_distance-letters same (y ∷ received) (x ∷ word) = rw (kept_distance-letters same received word)
@@ -43,7 +43,7 @@ pub without_erased-nil : {L : Type 0} (erased : List Bool) → without_erased {L
 unfolding without_erased
 without_erased-nil erased = refl
 
--- where all is erased each place has an erasure
+-- if all is erased each position has an erasure
 pub without_erased-list : {L : Type 0} (xs : List L) (n : ℕ) → length xs ≡ n → without_erased xs (replicate n true) ≡ replicate n None
 unfolding without_erased
 without_erased-list [] zero long = refl
@@ -79,7 +79,7 @@ pub erased_cost-append : {L : Type 0} (same : L → L → Bool) (list more : Lis
 unfolding erased_cost
 erased_cost-append same list more word others long = omega (arith, kept_distance-append same, erasures_in-append list more)
 
--- a place counts one at most
+-- a position counts one at most
 place-le : {L : Type 0} (same : L → L → Bool) (y : Option L) (x : L) → letter_distance same y x + erasure_weight y ≤ 1
 place-le same None x = omega arith
 place-le same (Some y) x = elim (same y x) as (λ b. cond b 0 1 + 0 ≤ 1) [ true ↦ omega arith | false ↦ omega arith ]
@@ -90,7 +90,7 @@ places-le same [] word long = omega arith
 places-le same (y ∷ list) [] long = absurd (omega arith)
 places-le same (y ∷ list) (x ∷ word) long = omega (arith, places-le same list, place-le)
 
--- no word costs more than two for each place
+-- no word costs more than two for each position
 pub erased_cost-le : {L : Type 0} (same : L → L → Bool) (list : List (Option L)) (word : List L) → length list ≡ length word → erased_cost same list word ≤ 2 * length list
 unfolding erased_cost
 erased_cost-le same list word long = omega (arith, places-le)
@@ -147,7 +147,7 @@ module _ {L : Type 0} {same : L → L → Bool} {IsWord : List L → Type 0} {n 
         one_within_cost list word sent long (record { word_of_set = is.word_of_set; within = is.within }) (record { word_of_set = sent_is; within = near })
     erased_reading_sent list received word sent Beyond long is sent_is near = absurd (omega (arith, is.none_within.dearer sent sent_is))
 
--- where the cost is twice the radius, what a reader of a list without an erasure answers and leaves is the reading of the letters
+-- if the cost is twice the correction radius, the result of a reader of a list without an erasure is the decoding of its letters
 pub reading_without_erasures : {L : Type 0} (same : L → L → Bool) (IsWord : List L → Type 0) (most radius : ℕ)
     → most ≡ 2 * radius → (received word : List L) (erased : List Bool) (reading : Reading) → All (λ gone. gone ≡ false) erased
     → IsErasedReading same IsWord most (without_erased received erased) received word reading → IsReading same IsWord radius received word reading
@@ -168,7 +168,7 @@ reading_without_erasures {L} same IsWord most radius twice received word erased 
       none_within = record { farther = λ other w. omega (arith, beyond.none_within.dearer other w, cost other) };
     }
 
--- what a reader answers and leaves is the reading
+-- the result of a reader, with the word that it leaves, is the decoding
 pub erased_word_read_as : {L : Type 0} (same : L → L → Bool) (IsWord : List L → Type 0)
     (most : ℕ) (list : List (Option L)) (received word : List L) (reading : Reading) → IsErasedReading same IsWord most list received word reading
     → IsErasedReadAs same IsWord most list (word_read reading word)

@@ -91,7 +91,7 @@ pairs_cost-groups word costs =
     split : (low : ℕ) (cs : List ℕ) → pairs_cost cs (bits_of (6 + low) word) ≡ pairs_cost cs (bits_of 6 (word / 2 ^ low)) + pairs_cost (drop 12 cs) (bits_of low word)
     split low cs = ap (pairs_cost cs) (bits_of-add 6 low word) ∙ pairs_cost-append 3 cs (bits_of 6 (word / 2 ^ low)) (bits_of low word) (length-bits_of 6 (word / 2 ^ low))
 
--- a group by its place in the table
+-- a group by its index in the table
 pub group_at : (g v : ℕ) (costs : List ℕ) → pairs_cost (drop (12 * ((64 * g + v % 64) / 64)) costs) (bits_of 6 (64 * g + v % 64)) ≡ pairs_cost (drop (12 * g) costs) (bits_of 6 v)
 group_at g v costs =
     let place : (64 * g + v % 64) / 64 ≡ g = omega arith in
@@ -241,7 +241,7 @@ two_bits true false = refl
 two_bits false true = refl
 two_bits false false = refl
 
--- costs that tell pairs of bits apart tell words apart
+-- costs that separate pairs of bits separate words
 pub spread-words : (margin n : ℕ) (costs : List ℕ) (xs ys : List Bool) → length xs ≡ 2 * n → length ys ≡ 2 * n → IsSpread margin n costs
     → 2 * (margin * distance_of xs ys) ≤ pairs_cost costs xs + pairs_cost costs ys
 unfolding pairs_cost
@@ -328,7 +328,7 @@ module _ (IsWord : List Bool → Type 0) (n k : ℕ) (encoding : List Bool → L
       (alone.dearer (encoding (bits_of k j)) (long (encoding (bits_of k j)) (is_encoding j).word_of_set ∙ sym (length-bits_of n word))
       (λ e. other_word j info below small ne (e ∙ sym same))))
 
-  -- a word that costs less than the margin times the least distance is the cheapest, where the costs tell pairs apart by the margin
+  -- a codeword that costs less than the margin times the least distance is the cheapest, if the costs separate pairs by the margin
   pub near_is_cheapest : (distance margin pairs : ℕ) (word sent : List Bool) → 2 * pairs ≡ n
       → ((v w : List Bool) → IsWord v → IsWord w → v ≢ w → distance ≤ distance_of v w)
       → IsCheapest IsWord k costs word → IsSpread margin pairs costs → IsWord sent → pairs_cost costs sent < margin * distance → word ≡ sent

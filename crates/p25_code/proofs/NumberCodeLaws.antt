@@ -9,7 +9,7 @@ use Rattle.p25_code.specs.{Binary.{IsChecked, systematic}, WrongBits.{number_sum
 use Rattle.p25_code.proofs.{ReadingLaws.{one_reading}, ParityLaws.{number_sum-xor, number_sum-zero}, WrongLaws.{twice, length-columns, number_sum-lt, number_sum-parts}}
 
 module _ (columns : List ℕ) (radius received sum : ℕ) (fits : received < 2 ^ length columns) (sums : number_sum columns received ≡ sum) where
-  -- what was received without its wrong bits is a word that passes, within the radius
+  -- the received bits without their bit errors are a word that passes, within the correction radius
   without_wrong : (wrong : ℕ) → AreWrong columns radius sum wrong
       → IsReadAs beq (IsChecked columns) radius (bits_of (length columns) received) (Some (bits_of (length columns) (bit_xor received wrong)))
   unfolding IsReadAs number_sum
@@ -24,7 +24,7 @@ module _ (columns : List ℕ) (radius received sum : ℕ) (fits : received < 2 ^
         within = rw (distance_of-bits_of n received sent fits (xor_lt n received wrong fits are.fits), twice received wrong) are.within;
       }
 
-  -- where no wrong bits are few enough, no word that passes is within the radius
+  -- if no bit errors are few enough, no word that passes is within the correction radius
   none_within : NoneWrong columns radius sum → IsReadAs beq (IsChecked columns) radius (bits_of (length columns) received) None
   unfolding IsReadAs number_sum
   none_within none = record { farther = farther }
@@ -44,7 +44,7 @@ unfolding IsReadAs
 read_as_same_set A B radius received (Some word) to from is = record { word_of_set = to word is.word_of_set; within = is.within }
 read_as_same_set A B radius received None to from is = record { farther = λ w b. is.farther w (from w b) }
 
--- a sum of 0 is that of no wrong bits
+-- a sum of 0 is that of no bit errors
 none_are_wrong : (columns : List ℕ) (radius : ℕ) → AreWrong columns radius 0 0
 none_are_wrong columns radius = record { fits = pow_pos _; sums = number_sum-zero columns; within = omega (arith, ones_le_self 0) }
 
@@ -57,7 +57,7 @@ one_place places checks same few =
 bits_are : {n k d : ℕ} → SystematicCode n k d → k + (n - k) ≡ n
 bits_are code = omega (arith, code.is.table.begins)
 
--- the information is what stands before the check bits
+-- the information is before the check bits
 pub information_fits : {n k d : ℕ} → SystematicCode n k d → (received places : ℕ) → places ≡ n - k → received < 2 ^ n → received / 2 ^ places < 2 ^ k
 information_fits {n} {k} {d} code received places shift fits =
     rw shift (shr_below received k _ (rw (bits_are code) fits))
@@ -97,14 +97,14 @@ module _ {n k d : ℕ} (code : SystematicCode n k d) (received check places : �
       (xor_lt _ _ _
       (number_sum-lt _ code.rows _ code.is.table.fit) (mod_below received _ (pow_pos (n - k))))
 
-  -- what is read as a number is the reading of the bits
+  -- the decoding of a number is the decoding of its bits
   read_number_as : (answer : Option (List Bool)) → IsReadAs beq (IsChecked (columns_of code)) (radius_of d) (bits_of (length (columns_of code)) received) answer
       → answer ≡ code.is.reading (bits_of n received)
   read_number_as answer is_read =
       read_as code _ answer (length-bits_of n received)
       (rw (length-columns_of code) at is_read)
 
-  -- the word without the wrong bits
+  -- the word without the bit errors
   pub read_without : (wrong : ℕ) → AreWrong (columns_of code) (radius_of d) whole_sum wrong
       → Some (bits_of n (bit_xor received wrong)) ≡ code.is.reading (bits_of n received)
   read_without wrong are =
@@ -113,18 +113,18 @@ module _ {n k d : ℕ} (code : SystematicCode n k d) (received check places : �
   pub without_fits : (wrong : ℕ) → AreWrong (columns_of code) (radius_of d) whole_sum wrong → bit_xor received wrong < 2 ^ n
   without_fits wrong are = xor_lt n received wrong fits (rw (length-columns_of code) at are.fits)
 
-  -- a word whose check bits are those of its information is read as it is
+  -- a word whose check bits are those of its information decodes to itself
   pub read_clean : whole_sum ≡ 0 → Some (bits_of n received) ≡ code.is.reading (bits_of n received)
   read_clean none =
       rw (xor_zero_r received) at (read_without 0 (rw none (none_are_wrong (columns_of code) _)))
 
-  -- where none are few enough there is no reading
+  -- if no bit errors are few enough there is no decoding
   pub read_none : NoneWrong (columns_of code) (radius_of d) whole_sum
       → (answer : Option ℕ) → answer ≡ None → option_map (bits_of n) answer ≡ code.is.reading (bits_of n received)
   read_none none answer e =
       rw e (read_number_as None (none_within (columns_of code) _ received whole_sum fits_columns sum_is none))
 
--- within the radius one list of wrong bits makes a syndrome
+-- within the correction radius one list of bit errors makes a syndrome
 pub one_wrong : {n k d : ℕ} (code : SystematicCode n k d) (syndrome a b : ℕ)
     → AreWrong (columns_of code) (radius_of d) syndrome a → AreWrong (columns_of code) (radius_of d) syndrome b → a ≡ b
 one_wrong {n} {k} {d} code syndrome a b first second =
@@ -144,13 +144,13 @@ changed_bits received number old new e small is =
     let ones = distance_of-bits_of n received number (rw e (field_of-lt old)) small in
     (is, cc)
 
--- none do where the numbers are one
+-- no bits change if the numbers are equal
 pub unchanged_bits : (received number : ℕ) (old : List Bool) → received ≡ field_of old → number < 2 ^ length old → count_ones (bit_xor received number) ≡ 0
     → (old ≡ bits_of (length old) number) × (Found (count_ones (bit_xor received number)) ≡ Found (distance_of old old))
 unchanged_bits received number old e small none =
     changed_bits received number old old e small (rw (← (same_from_xor received number (zero_from_ones (bit_xor received number) none)), e, bits_of-field_of old) refl)
 
--- what was put into the bits that were received is the reading
+-- the bits that are stored for a decoding, or left if there is none, are the decoding of the received bits
 pub reading_put : (IsWord : List Bool → Type 0) (radius n : ℕ) (old new : List Bool) (sent : Option ℕ) (reading : Reading) → IsReadAs beq IsWord radius old (option_map (bits_of n) sent)
     → MatchOption sent ((reading ≡ Beyond) × (new ≡ old)) (λ number. (new ≡ bits_of n number) × (reading ≡ Found (distance_of old new))) → IsReading beq IsWord radius old new reading
 unfolding IsReadAs IsReading
@@ -178,7 +178,7 @@ module _ {n k d : ℕ} (code : SystematicCode n k d) (info check word places : �
   encodes_number =
       rw (word_is, rw (bits_are code) at (bits_of-joined k _ info check check_fits), sums, code.is.table.rows_long) refl
 
--- what a reader by numbers leaves and answers is the reading of the bits
+-- the result of a reader by numbers, with the bits that it leaves, is the decoding of the bits
 pub read_by_number : (IsWord : List Bool → Type 0) (radius n : ℕ) (reading_of : List Bool → Option (List Bool))
     → ((bits : List Bool) → IsReadAs beq IsWord radius bits (reading_of bits)) → (old new : List Bool) (received : ℕ)
     (sent : Option ℕ) (reading : Reading) → length old ≡ n → received ≡ field_of old → option_map (bits_of n) sent ≡ reading_of (bits_of n received)

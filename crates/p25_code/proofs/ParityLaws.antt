@@ -32,7 +32,7 @@ number_sum-xor columns a b =
     let n = length columns in
     cc (bits_of-xor n a b, syndrome_of-sum_of_words columns _ _, change_of-is columns _ _ (length-bits_of n a) (length-bits_of n b))
 
--- no places, no sum
+-- a number without a 1 has the sum 0
 pub number_sum-zero : (columns : List ℕ) → number_sum columns 0 ≡ 0
 unfolding number_sum
 number_sum-zero columns = syndrome_of-zeros columns _ (weight_of-bits_of _)
@@ -52,14 +52,14 @@ syndrome_of-mixed mix columns word = sym (number_sum-zero mix)
 pub mixed_passes : (mix columns : List ℕ) (word : List Bool) → syndrome_of columns word ≡ 0 → syndrome_of (map (number_sum mix) columns) word ≡ 0
 mixed_passes mix columns word passes = cc (syndrome_of-mixed mix columns word, passes, number_sum-zero mix)
 
--- a column with one more check, of all places
+-- a column with one more check, over all bits
 abbrev pub with_parity : ℕ → ℕ
 with_parity column = 2 * column + 1
 
 digit-lt : (bit : Bool) → digit_of bit < 2
 digit-lt bit = omega (arith, digit_of-le bit)
 
--- a column of a place in a doubled sum
+-- the column of a bit in a doubled sum
 doubled : (bit : Bool) (column : ℕ) → cond bit (with_parity column) 0 ≡ 2 * cond bit column 0 + digit_of bit
 doubled true column = refl
 doubled false column = refl

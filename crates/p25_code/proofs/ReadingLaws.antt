@@ -23,7 +23,7 @@ module _ {L : Type 0} {same : L → L → Bool} {IsWord : List L → Type 0} {n 
             absurd (omega (arith, code.far_apart v w isv isw (λ e. some (cc (e, distance_by-same same code.compares.refl v)))))
       ]
 
-  -- what was sent and what was found lie within the radius of what was received, so they are one
+  -- the transmitted codeword and the decoded one are within the correction radius of the received word, so they are equal
   pub found_sent : (received word sent : List L) (fixes : ℕ) → length received ≡ n
       → IsFound same IsWord radius received word fixes → IsWord sent → distance_by same received sent ≤ radius → word ≡ sent
   found_sent received word sent fixes long found is near =
@@ -36,14 +36,14 @@ module _ {L : Type 0} {same : L → L → Bool} {IsWord : List L → Type 0} {n 
         code.close,
       ))
 
-  -- wherever a word of the set lies within the radius, a reading leaves it
+  -- if a codeword of the set is within the correction radius, the decoding is that codeword
   pub reading_sent : (received word sent : List L) (reading : Reading)
       → length received ≡ n → IsReading same IsWord radius received word reading → IsWord sent → distance_by same received sent ≤ radius → word ≡ sent
   unfolding IsReading
   reading_sent received word sent (Found fixes) long is sent_is near = found_sent received word sent fixes long is sent_is near
   reading_sent received word sent Beyond long is sent_is near = absurd (omega (arith, is.none_within.farther sent sent_is))
 
-  -- and answers Found with the distance
+  -- and its result is `Found` with the distance
   pub reading_fixes : (received word sent : List L) (reading : Reading)
       → length received ≡ n → IsReading same IsWord radius received word reading → IsWord sent → distance_by same received sent ≤ radius
       → reading ≡ Found (distance_by same received sent)
@@ -52,7 +52,7 @@ module _ {L : Type 0} {same : L → L → Bool} {IsWord : List L → Type 0} {n 
       rw (is.fixes_is, found_sent received word sent fixes)
   reading_fixes received word sent Beyond long is sent_is near = absurd (omega (arith, is.none_within.farther sent sent_is))
 
-  -- two words of the set within the radius of what was received are one
+  -- two codewords of the set within the correction radius of the received word are equal
   one_near : (received v w : List L) → length received ≡ n → IsNear same IsWord radius received v → IsNear same IsWord radius received w → v ≡ w
   one_near received v w long first second =
       found_sent received v w (distance_by same received v) long (record { word_of_set = first.word_of_set; fixes_is = refl; within = first.within }) second.word_of_set second.within
@@ -65,13 +65,13 @@ module _ {L : Type 0} {same : L → L → Bool} {IsWord : List L → Type 0} {n 
   one_reading received (Some v) None long first second = absurd (omega (arith, second.farther, first.within))
   one_reading received (Some v) (Some w) long first second = ap Some (one_near received v w long first second)
 
-  -- a word of the set within the radius is the reading
+  -- a codeword of the set within the correction radius is the decoding
   pub read_as_sent : (received sent : List L) (answer : Option (List L))
       → length received ≡ n → IsReadAs same IsWord radius received answer → IsWord sent → distance_by same received sent ≤ radius → answer ≡ Some sent
   unfolding IsReadAs
   read_as_sent received sent answer long is sent_is near = one_reading received answer (Some sent) long is (record { word_of_set = sent_is; within = near })
 
-  -- what a reader answers and leaves is the reading
+  -- the result of a reader, with the word that it leaves, is the decoding
   pub word_read_as : (received word : List L) (reading : Reading) → IsReading same IsWord radius received word reading → IsReadAs same IsWord radius received (word_read reading word)
   unfolding IsReading IsReadAs word_read
   word_read_as received word (Found fixes) is = record { word_of_set = is.word_of_set; within = omega (arith, is.fixes_is, is.within) }

@@ -19,7 +19,7 @@ unfoldable pub remainders : ℕ → ℕ → ℕ → List ℕ
 remainders generator degree zero = []
 remainders generator degree (suc n) = power_remainder generator degree n ∷ remainders generator degree n
 
--- the remainder of a number times x, where it stays of lower degree or not
+-- the remainder of a number times x, if it stays of lower degree, and if not
 next : (generator degree number r : ℕ) → HasDegree generator degree
     → IsRemainder generator degree number r → IsRemainder generator degree (2 * number) (cond (ltb (2 * r) (2 ^ degree)) (2 * r) (bit_xor (2 * r) generator))
 next generator degree number r has is =
@@ -50,7 +50,7 @@ module _ {generator degree : ℕ} (has : HasDegree generator degree) (some : 1 <
   chosen true n = IsRemainder-power n
   chosen false n = IsRemainder-lower generator degree 0 (pow_pos degree)
 
-  -- the sum of the remainders at the places that are 1 is the remainder of the word's polynomial
+  -- the sum of the remainders for the bits that are 1 is the remainder of the polynomial of the word
   pub IsRemainder-word : (word : List Bool) → IsRemainder generator degree (field_of word) (syndrome_of (remainders generator degree (length word)) word)
   unfolding syndrome_of remainders
   IsRemainder-word [] = rw field_of-nil (IsRemainder-lower generator degree 0 (pow_pos degree))

@@ -37,7 +37,7 @@ syndrome_of-check_columns (suc checks) (bit ∷ bits) long =
     ∙ sym (field_of-cons bit bits)
 syndrome_of-check_columns checks bits long = absurd (omega arith)
 
--- where two letters differ, one of them is 1
+-- if two letters differ, one of them is 1
 differs : (x y : Bool) (column : ℕ) → cond (beq x y) 0 column ≡ bit_xor (cond x column 0) (cond y column 0)
 differs true true column = sym (xor_self column)
 differs true false column = sym (xor_zero_r column)

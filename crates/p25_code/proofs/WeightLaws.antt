@@ -26,7 +26,7 @@ weight_of-bits_of zero = ap weight_of (bits_of-zero 0)
 weight_of-bits_of (suc width) =
     ap weight_of (bits_of-suc width 0) ∙ ap₂ ◌+◌ (ap (λ n. digit_of (eqb n 1)) (bit_at-zero width)) (weight_of-bits_of width)
 
--- the sum of two words over GF(2), place by place
+-- the sum of two words over GF(2), bit by bit
 unfoldable pub sum_of_words : List Bool → List Bool → List Bool
 sum_of_words [] ys = []
 sum_of_words (x ∷ xs) [] = []
@@ -40,7 +40,7 @@ length-sum_of_words (x ∷ xs) [] long = absurd (omega arith)
 length-sum_of_words (true ∷ xs) (y ∷ ys) long = ap suc (length-sum_of_words xs ys (omega arith))
 length-sum_of_words (false ∷ xs) (y ∷ ys) long = ap suc (length-sum_of_words xs ys (omega arith))
 
--- the sum is 1 where the words differ
+-- the sum has a 1 exactly if the words differ
 pub weight_of-sum_of_words : (xs ys : List Bool) → length xs ≡ length ys → weight_of (sum_of_words xs ys) ≡ distance_of xs ys
 unfolding sum_of_words weight_of distance_by
 weight_of-sum_of_words [] ys long = refl

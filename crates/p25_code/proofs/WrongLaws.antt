@@ -22,7 +22,7 @@ number_sum-append first last number =
     rw (length-append first last, bits_of-add)
     (syndrome_of-append first last _ (bits_of (length last) number) (length-bits_of (length first) (number / 2 ^ length last)))
 
--- what stands above the places of a number does not matter
+-- the bits of a number above those of the columns do not change the sum
 pub number_sum-mod : (columns : List ℕ) (number : ℕ) → number_sum columns (number % 2 ^ length columns) ≡ number_sum columns number
 unfolding number_sum
 number_sum-mod columns number = rw (bits_of-mod _ number)
@@ -38,12 +38,12 @@ number_sum-parts rows checks number =
       field_of-bits_of checks number,
     ) refl
 
--- the first column is in the sum where the highest bit is 1
+-- the first column is in the sum exactly if the highest bit is 1
 number_sum-cons : (column : ℕ) (columns : List ℕ) (number : ℕ) → number_sum (column ∷ columns) number ≡ bit_xor (cond (eqb (bit_at number (length columns)) 1) column 0) (number_sum columns number)
 unfolding number_sum syndrome_of
 number_sum-cons column columns number = rw (bits_of-suc _ number)
 
--- what stands above all places adds nothing
+-- a bit above those of all columns adds nothing
 number_sum-above : (columns : List ℕ) → number_sum columns (2 ^ length columns) ≡ 0
 unfolding number_sum
 number_sum-above columns =
@@ -51,7 +51,7 @@ number_sum-above columns =
     let alone : 2 ^ k ≡ 1 * 2 ^ k + 0 = omega arith in
     rw (alone, bits_of-above k k 1 0 (omega arith)) (syndrome_of-zeros columns _ (weight_of-bits_of k))
 
--- one place has the sum of its column
+-- a single bit has the sum of its column
 pub number_sum-one : (columns : List ℕ) (i : ℕ) → i < length columns → number_sum columns (2 ^ (length columns - 1 - i)) ≡ get_or columns i 0
 number_sum-one [] i inside = absurd (omega arith)
 number_sum-one (column ∷ columns) zero inside =
@@ -93,7 +93,7 @@ ones-pow k = ap count_ones (omega arith) ∙ ones_cat k 1 0 (pow_pos k)
 ones-parts : (checks number : ℕ) → count_ones number ≡ count_ones (number / 2 ^ checks) + count_ones (number % 2 ^ checks)
 ones-parts checks number = cc (shr_split number checks, ones_cat checks (number / 2 ^ checks) (number % 2 ^ checks) (mod_below number _ (pow_pos checks)))
 
--- a number of two parts has a place for each column
+-- a number of two parts has a bit for each column
 parts_fit : (rows : List ℕ) (checks high low : ℕ) → high < 2 ^ length rows → low < 2 ^ checks → high * 2 ^ checks + low < 2 ^ length (rows ++ check_columns checks)
 parts_fit rows checks high low above below =
     rw (length-columns rows checks, pow-add, mul_comm (2 ^ length rows)) (mul-add-lt high _ low (2 ^ length rows) above below)
@@ -132,7 +132,7 @@ row_wrong rows checks radius sum i rest wrong inside small e few whole =
       within = omega (arith, ones-parts checks wrong, ap count_ones high, ap count_ones low, ones-pow place);
     }
 
--- a row's bit shifted to its place, and check bits after it
+-- the bit of a row, shifted to its position, and check bits after it
 pub row_bits : (place checks rest : ℕ) → place + checks < 32 → rest < 2 ^ checks → bit_or (1 * 2 ^ (place + checks) % 2 ^ 32) rest ≡ 2 ^ place * 2 ^ checks + rest
 row_bits place checks rest fits small =
     rw (one_shl, pow-add) (or_shifted (2 ^ place) checks rest small)
@@ -154,7 +154,7 @@ none_by_rows rows checks radius sum many each = record { farther = farther }
               omega (arith, ones-parts checks wrong, ap count_ones (sym (twice row low) ∙ ap (bit_xor row) (rw (found.2, number_sum-one rows found.0 found.1) at parts) ∙ xor_comm row sum), ap count_ones found.2, ones-pow, each found.0)
         ]
 
--- the two halves of a number change places
+-- the two halves of a number are exchanged
 unfoldable pub halves_turned : ℕ → ℕ → ℕ
 halves_turned half number = number % 2 ^ half * 2 ^ half + number / 2 ^ half
 
@@ -191,7 +191,7 @@ turned_wrong rows turned half radius sum wrong long long' undone are =
     }
 
 module _ (rows turned : List ℕ) (inverse : AreInverse rows turned) (radius sum turned_sum : ℕ) (turns : turned_sum ≡ number_sum turned sum) where
-  -- what is wrong by the other rows is wrong by these, when the halves change places
+  -- the bit errors by the other rows are those by these rows, with the halves exchanged
   pub halves_wrong : (wrong : ℕ) → sum < 2 ^ length rows → AreWrong (turned ++ check_columns (length rows)) radius turned_sum wrong
       → AreWrong (rows ++ check_columns (length rows)) radius sum (halves_turned (length rows) wrong)
   halves_wrong wrong small are =
@@ -229,7 +229,7 @@ row-lt checks [] i fit inside = absurd (omega arith)
 row-lt checks (row ∷ rows) zero fit inside = ltb-true row _ (and_parts (ltb row _) (rows_fit checks rows) fit).0
 row-lt checks (row ∷ rows) (suc i) fit inside = row-lt checks rows i (and_parts (ltb row _) (rows_fit checks rows) fit).1 (omega arith)
 
--- where one bit at most is wrong, at most one bit of information is
+-- if at most one bit is wrong, at most one bit of information is
 none_by_one_row : (columns : List ℕ) (checks sum : ℕ) → NoneByRows columns checks 1 sum → NoneWrong columns 1 sum
 none_by_one_row columns checks sum none = record {
   farther = λ wrong fits sums. elim (cases_lt 1 (count_ones wrong)) [
@@ -238,13 +238,13 @@ none_by_one_row columns checks sum none = record {
   ];
 }
 
--- so what is found by rows is exact where one wrong bit is corrected
+-- so the bit errors that are found by rows are exact for a code that corrects one bit error
 pub exact_by_one_row : (columns : List ℕ) (checks sum : ℕ) (found : Option ℕ) → MatchOption found (NoneByRows columns checks 1 sum) (AreWrong columns 1 sum)
     → MatchOption found (NoneWrong columns 1 sum) (AreWrong columns 1 sum)
 exact_by_one_row columns checks sum (Some wrong) are = are
 exact_by_one_row columns checks sum None none = none_by_one_row columns checks sum none
 
--- where the sums by one list of rows, of the other's rows, are single bits in order, the one undoes the other
+-- if the sums by one list of rows, of the rows of another, are single bits in order, the one is the inverse of the other
 undone : (rows turned : List ℕ) → map (number_sum turned) rows ≡ check_columns (length rows) → (number : ℕ) → number < 2 ^ length rows → number_sum turned (number_sum rows number) ≡ number
 unfolding number_sum
 undone rows turned single number small =

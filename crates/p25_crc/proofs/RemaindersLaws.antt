@@ -44,7 +44,7 @@ header_remainders = AreRemainders-computed (header_divisor * 2 ^ 16) HEADER (rec
 pub packet_remainders : AreRemainders packet_divisor PACKET
 packet_remainders = AreRemainders-computed packet_divisor PACKET packet_degree packet_computed
 
--- an entry of the table at a place
+-- an entry of the table with an index
 abbrev entry : List (List ℕ) → ℕ → ℕ → ℕ
 entry tables place v = get_or (get_or tables place []) v 0
 

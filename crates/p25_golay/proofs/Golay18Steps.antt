@@ -40,7 +40,7 @@ wrong_sum wrong low =
     let none : wrong / 2 ^ 18 ≡ 0 = omega arith in
     last_sum short_columns wrong (ap (λ m. wrong / 2 ^ m) length-short ∙ none)
 
--- wrong bits after the six zeros are those of a word of the shorter code
+-- bit errors after the six zeros are those of a word of the shorter code
 pub wrong_inside : (syndrome wrong : ℕ) → wrong < 2 ^ 18 → AreWrong long_columns 3 syndrome wrong → AreWrong short_columns 3 syndrome wrong
 wrong_inside syndrome wrong low are = record {
   fits = subst (λ m. wrong < 2 ^ m) (sym length-short) low;
@@ -55,7 +55,7 @@ wrong_back syndrome wrong fits sums few =
     let below : wrong < 2 ^ 24 = omega arith in
     record { fits = subst (λ m. wrong < 2 ^ m) (sym length-long) below; sums = wrong_sum wrong low ∙ sums; within = few }
 
--- where others make the syndrome, none after the six zeros do
+-- if others make the syndrome, none after the six zeros do
 pub wrong_outside : (syndrome wrong : ℕ) → 2 ^ 18 ≤ wrong → AreWrong long_columns 3 syndrome wrong → NoneWrong short_columns 3 syndrome
 wrong_outside syndrome wrong high are = record {
   farther = λ other fits sums. elim (cases_lt 3 (count_ones other)) [
@@ -66,7 +66,7 @@ wrong_outside syndrome wrong high are = record {
   ];
 }
 
--- nor where none do
+-- nor if none do
 pub wrong_nowhere : (syndrome : ℕ) (found : Option ℕ) → found ≡ None → NoneWrong long_columns 3 syndrome → MatchOption found (NoneWrong short_columns 3 syndrome) (AreWrong short_columns 3 syndrome)
 wrong_nowhere syndrome (Some wrong) none long = absurd (cc)
 wrong_nowhere syndrome None none long = record {

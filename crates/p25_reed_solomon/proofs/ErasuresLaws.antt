@@ -9,7 +9,7 @@ use Rattle.p25_algebra.proofs.VanishingLaws.{lowered, power_sum-lowered, nonzero
 use Rattle.p25_algebra.proofs.QuotientLaws.{shifted-first, shifted-next, short_times_linear, value-times_linear, slope-kept, slope-new, times_linear_same, product-times_linear, product-times_linear_right}
 use Rattle.p25_reed_solomon.specs.{ElementLaws.{same_place, element_ne_zero}, Errors.{element_of, point_of, is_erased, erased_below, kept_errors}, Locator.{times_erasures}}
 
--- ---- one place more
+-- ---- one more position
 
 pub erased_below-none : (erased : List Bool) → erased_below erased 0 ≡ 0
 unfolding erased_below
@@ -36,7 +36,7 @@ module _ (n : ℕ) (erased : List Bool) where
   unfolding times_erasures
   times_erasures-kept j f none = cond-false _ _ _ none
 
-  -- where no place is erased, nothing changes
+  -- if no position is erased, nothing changes
   pub times_erasures-without : (m : ℕ) (f : ℕ → Sym) → erased_below erased m ≡ 0 → times_erasures n erased m f ≡ f
   times_erasures-without zero f none = times_erasures-none f
   times_erasures-without (suc m) f none =
@@ -89,9 +89,9 @@ module _ (n : ℕ) (erased : List Bool) where
   times_linear_agree y bound f g same zero low = cc (same 0 low, shifted-first gf64 f, shifted-first gf64 g)
   times_linear_agree y bound f g same (suc i) low = cc (same _ low, shifted-next gf64 f i, same i (omega arith), shifted-next gf64 g i)
 
-  -- ---- values at the points of places
+  -- ---- values at the points of positions
 
-  -- the factor of a place, at the point of another
+  -- the factor of a position, at the point of another
 
   pub point_inverse : (j : ℕ) → gf64.mul (element_of n j) (point_of n j) ≡ gf64.one
   point_inverse j = mul_inverse gf64 _ (element_ne_zero n j)
@@ -111,8 +111,8 @@ module _ (n : ℕ) (erased : List Bool) where
         mul_one gf64 (element_of n j),
       )))
 
-  -- what a polynomial f of m coefficients becomes by the factors of the erased places below `upto`: g, of `size` coefficients. It vanishes where f
-  -- does and at those places, and nowhere else; its zeros have slopes, if f is not zero at erased places and its own zeros have slopes
+  -- a polynomial f of m coefficients times the factors of the erased positions below `upto` is g, of `size` coefficients. It vanishes at the zeros of f and at
+  -- those positions alone; its zeros have slopes, if f is not zero at erased positions and the zeros of f have slopes
   pub record IsTimes (m : ℕ) (f : ℕ → Sym) (upto size : ℕ) (g : ℕ → Sym) : Type 0 where
     pub short : IsShort gf64 size g
     pub stays : (z : Sym) → value_at gf64 m f z ≡ gf64.zero → value_at gf64 size g z ≡ gf64.zero
@@ -178,9 +178,9 @@ module _ (n : ℕ) (erased : List Bool) where
         | inr kept ↦ rw (erased_below-kept, times_erasures-kept) (one_kept m f i _ _ kept is)
       ]
 
-  -- ---- errors with the factors of erased places
+  -- ---- errors with the factors of erased positions
 
-  -- the errors, each times the sum of its element and that of each erased place below `upto`
+  -- the errors, each times the sum of its element and that of each erased position below `upto`
   unfoldable pub lowered_by : ℕ → (ℕ → Sym) → ℕ → Sym
   lowered_by zero v = v
   lowered_by (suc j) v = cond (is_erased erased j) (lowered gf64 (element_of n) (lowered_by j v) (element_of n j)) (lowered_by j v)
@@ -218,7 +218,7 @@ module _ (n : ℕ) (erased : List Bool) where
             cc (lowered_by-kept j v none, lowered_sums checks s v sums j r (omega (arith, fewer)), times_erasures-kept j s none, fewer)
       ]
 
-  -- where there is no error there is none
+  -- if there is no error none is left
   pub lowered_zero : (j : ℕ) (v : ℕ → Sym) (l : ℕ) → v l ≡ gf64.zero → lowered_by j v l ≡ gf64.zero
   lowered_zero zero v l none = rw (lowered_by-none, none)
   lowered_zero (suc j) v l none =
@@ -230,7 +230,7 @@ module _ (n : ℕ) (erased : List Bool) where
         | inr kept ↦ cc (lowered_by-kept j v kept, lowered_zero j v l none)
       ]
 
-  -- erased places have none left
+  -- erased positions have none left
   pub lowered_gone : (j : ℕ) (v : ℕ → Sym) (l : ℕ) → l < j → is_erased erased l ≡ true → lowered_by j v l ≡ gf64.zero
   lowered_gone zero v l low gone = absurd (omega arith)
   lowered_gone (suc j) v l low gone =
@@ -261,7 +261,7 @@ module _ (n : ℕ) (erased : List Bool) where
         | inr other ↦ lowered_kept j v l most (omega arith) inside kept wrong (rw (← lowered_by-kept, none))
       ]
 
-  -- no more are left than wrong places without an erasure
+  -- at most as many are left as there are positions with an error and without an erasure
   pub nonzeros-lowered : (v : ℕ → Sym) → nonzeros gf64 n (lowered_by n v) ≤ nonzeros gf64 n (kept_errors erased v)
   nonzeros-lowered v =
       nonzeros_mono gf64 n _ _ (λ l low none. elim (cases_Bool _) [

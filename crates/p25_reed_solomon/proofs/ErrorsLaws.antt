@@ -7,7 +7,7 @@ use Rattle.p25_algebra.specs.{Sums.{sum_below, power_sum, nonzeros, weight_by}, 
 use Rattle.p25_algebra.proofs.{SumLaws.{sum-none, sum-suc, sum_same, sum_of_zeros, sum_of_one, sum_exchange, sum-mul}, VanishingLaws.{nonzeros-suc, nonzeros_mono, weight-le}}
 use Rattle.p25_reed_solomon.specs.Errors.{element_of, IsListed, placed}
 
--- one value at its place
+-- one value at its position
 abbrev pub at_place : List ℕ → (ℕ → Sym) → ℕ → ℕ → Sym
 at_place places values j c = cond (eqb (get_or places c 0) j) (values c) gf64.zero
 
@@ -17,7 +17,7 @@ there places values j c same = cond-true _ (values c) gf64.zero (eq-eqb (get_or 
 pub elsewhere : (places : List ℕ) (values : ℕ → Sym) (j c : ℕ) → (get_or places c 0 ≡ j → ⊥) → at_place places values j c ≡ gf64.zero
 elsewhere places values j c other = cond-false _ (values c) gf64.zero (ne_eqb (get_or places c 0) j other)
 
--- the power sums of values at their places are those over the places alone
+-- the power sums of values at their positions are those over the positions alone
 pub power_sum-placed : (n : ℕ) (places : List ℕ) (values : ℕ → Sym) (i : ℕ) → ((c : ℕ) → c < length places → get_or places c 0 < n)
     → power_sum gf64 n (element_of n) (placed places values) i ≡ power_sum gf64 (length places) (λ c. element_of n (get_or places c 0)) values i
 power_sum-placed n places values i inside =
@@ -31,7 +31,7 @@ power_sum-placed n places values i inside =
     ∙ mul_comm gf64 _ _
     ∙ ap (λ s. gf64.mul s (x (get_or places c 0))) (there places values (get_or places c 0) c refl))
 
--- errors that are zero but at listed places are those of the list
+-- errors that are zero except at listed positions are those of the list
 pub placed-errors : (n : ℕ) (places : List ℕ) (errors : ℕ → Sym) (j : ℕ) → ((c d : ℕ) → c < d → d < length places → get_or places c 0 < get_or places d 0) → (errors j ≢ gf64.zero → IsListed places j)
     → placed places (λ c. errors (get_or places c 0)) j ≡ errors j
 placed-errors n places errors j rising listed =
@@ -56,7 +56,7 @@ placed-errors n places errors j rising listed =
           ∙ ap errors l.there
     ]
 
--- to change one place changes the number of those that are not zero by one at the most
+-- a change at one position changes the number of values that are not zero by at most one
 nonzeros_bump : (n q : ℕ) (f g : ℕ → Sym) → ((j : ℕ) → (j ≡ q → ⊥) → g j ≡ f j) → nonzeros gf64 n g ≤ nonzeros gf64 n f + 1
 unfolding nonzeros
 nonzeros_bump zero q f g same = omega arith
@@ -73,7 +73,7 @@ unfolding nonzeros
 zeros_count zero f none = omega arith
 zeros_count (suc n) f none = omega (arith, zeros_count n, elim (gf64.is_zero (f n)) as (λ w. weight_by w ≡ 0) [ inl same ↦ refl | inr other ↦ absurd (other (none n)) ])
 
--- no more places than are listed are not zero
+-- at most as many positions are not zero as are listed
 nonzeros-placed_front : (n : ℕ) (places : List ℕ) (values : ℕ → Sym) (count : ℕ) → nonzeros gf64 n (λ j. sum_below gf64 count (at_place places values j)) ≤ count
 nonzeros-placed_front n places values zero = zeros_count n _ (λ j. sum-none gf64 _)
 nonzeros-placed_front n places values (suc count) =
@@ -95,7 +95,7 @@ nonzeros_same zero f g same = refl
 nonzeros_same (suc n) f g same =
     cc (nonzeros_same n f g (λ j h. same j (omega arith)), same n (omega arith))
 
--- one more value is added at its place
+-- one more value is added at its position
 pub placed_more : (places : List ℕ) (values : ℕ → Sym) (out : List Sym) (c : ℕ) (x : Sym) → get_or places c 0 < length out → x ≡ gf64.add (coefficient gf64 out (get_or places c 0)) (values c)
     → ((j : ℕ) → j < length out → coefficient gf64 out j ≡ sum_below gf64 c (at_place places values j)) → (j : ℕ) → j < length (set out (get_or places c 0) x)
     → coefficient gf64 (set out (get_or places c 0) x) j ≡ sum_below gf64 (c + 1) (at_place places values j)
@@ -111,7 +111,7 @@ placed_more places values out c x inside is before j within =
           cc (get_or-set_other out p j x gf64.zero other, before j below, add_zero gf64 (sum_below gf64 c (at_place places values j)), elsewhere places values j c (λ e. other (sym e)), more)
     ]
 
--- no value stands at any place before the first is added
+-- before the first value is added there is none at any position
 pub placed_none : (places : List ℕ) (values : ℕ → Sym) (j : ℕ) → gf64.zero ≡ sum_below gf64 0 (at_place places values j)
 placed_none places values j = sym (sum-none gf64 (at_place places values j))
 

@@ -35,7 +35,7 @@ part_is_locator n checks syndromes erased most locator evaluator is =
           | inr high ↦ coefficient_past gf64 _ k (omega (arith, length-take (most + 1) locator)) ∙ sym (is.short.above k high)
         ]
 
--- where the sum of the values at a place is not zero, the place is listed
+-- if the sum of the values at a position is not zero, the position is listed
 listed_front : (places : List ℕ) (values : ℕ → Sym) (j count : ℕ) → count ≤ length places → sum_below gf64 count (at_place places values j) ≢ gf64.zero → IsListed places j
 listed_front places values j zero few some = absurd (some (sum-none gf64 (at_place places values j)))
 listed_front places values j (suc count) few some =
@@ -49,7 +49,7 @@ listed_front places values j (suc count) few some =
 pub placed_listed : (places : List ℕ) (values : ℕ → Sym) (j : ℕ) → placed places values j ≢ gf64.zero → IsListed places j
 placed_listed places values j some = listed_front places values j (length places) (omega arith) some
 
--- errors that are zero but at listed places are no more than these
+-- errors that are zero except at listed positions are no more than these
 nonzeros_listed : (n : ℕ) (places : List ℕ) (f : ℕ → Sym) → ((c d : ℕ) → c < d → d < length places → get_or places c 0 < get_or places d 0)
     → ((j : ℕ) → j < n → f j ≢ gf64.zero → IsListed places j) → nonzeros gf64 n f ≤ length places
 nonzeros_listed n places f rising listed =
@@ -59,7 +59,7 @@ nonzeros_listed n places f rising listed =
       nonzeros-placed n,
     )
 
--- a one at each erased place
+-- a one at each erased position
 abbrev with_ones : List Bool → (ℕ → Sym) → ℕ → Sym
 with_ones erased errors j = cond (is_erased erased j) gf64.one (errors j)
 
@@ -98,7 +98,7 @@ module _ (n checks most : ℕ) (syndromes locator evaluator : List Sym) (erased 
   from : (j : ℕ) → value_at gf64 (length locator) (coefficient gf64 locator) (point_of n j) ≡ gf64.zero → value_at gf64 (most + 1) (coefficient gf64 locator) (point_of n j) ≡ gf64.zero
   from j none = cc (long, none)
 
-  -- a wrong place is listed
+  -- a position with an error is listed
   pub wrong_is_listed : (errors : ℕ → Sym) → Explains n checks syndromes erased errors → (j : ℕ) → j < n → errors j ≢ gf64.zero → IsListed places j
   wrong_is_listed errors explains j inside other = are.all j inside (at j (is.wrong errors explains j inside other))
 

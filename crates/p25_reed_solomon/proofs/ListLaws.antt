@@ -6,7 +6,7 @@ use Rattle.p25_algebra.specs.{Sums.{sum_below, power_sum}, Series.{coefficient, 
 use Rattle.p25_algebra.proofs.{SumLaws.{sum_same, sum_longer, sum-suc}, ValueLaws.{value-none, value_same}, QuotientLaws.{shifted-first, shifted-next}}
 use Rattle.p25_poly.proofs.CoefficientLaws.{coefficient_past, written_at, written_elsewhere}
 
--- a list moved up by one place
+-- a list moved up by one position
 pub moved_everywhere : (symbols moved : List Sym) → length symbols ≡ 32
     → length moved ≡ 33 → coefficient gf64 moved 0 ≡ gf64.zero → ((k : ℕ) → k < 32 → coefficient gf64 moved (1 + k) ≡ coefficient gf64 symbols k) → (k : ℕ)
     → coefficient gf64 moved k ≡ shifted gf64 1 (coefficient gf64 symbols) k
@@ -42,7 +42,7 @@ rest_here n i f x positive = ap (λ m. value_at gf64 (n - m) (λ k. f (m + k)) x
     next : i ≡ suc (i - 1)
     next = omega arith
 
--- a power sum over 32 terms, of which those after the listed places are zero
+-- a power sum over 32 terms, of which those after the listed positions are zero
 pub sum_of_listed : (count : ℕ) (elements values : List Sym) (element : ℕ → Sym) (i : ℕ)
     → count ≤ 32 → ((c : ℕ) → c < count → coefficient gf64 elements c ≡ element c) → ((c : ℕ) → count ≤ c → coefficient gf64 values c ≡ gf64.zero)
     → sum_below gf64 32 (λ c. gf64.mul (coefficient gf64 values c) (power gf64 (coefficient gf64 elements c) i)) ≡ power_sum gf64 count element (coefficient gf64 values) i

@@ -113,7 +113,7 @@ module _ (n checks half : ℕ) (syndromes symbols : List Sym) (erased : List Boo
         locator_vanishes gf64 n half _ left _ (coefficient gf64 symbols) (elements_apart n places) (λ j h. element_ne_zero n j) few_left key_short sums_left
         (λ i low high. key.equation i (omega (arith, long)) ∙ evaluator_short.above i low) l inside other
 
-    -- a zero of the key's locator is a wrong place without an erasure, and has a slope
+    -- a zero of the key's locator is a position with an error and without an erasure, and has a slope
     key_zero : (j : ℕ) → j < n → value_at gf64 (half + 1) (coefficient_of locator) (point_of n j) ≡ gf64.zero
         → (left j ≢ gf64.zero) × (slope_at gf64 (half + 1) (coefficient_of locator) (point_of n j) ≢ gf64.zero)
     key_zero j inside none =
@@ -139,7 +139,7 @@ module _ (n checks half : ℕ) (syndromes symbols : List Sym) (erased : List Boo
       (key_zero j inside none).1,
     )
 
-    -- wrong places are zeros
+    -- positions with an error are zeros
     wrong : (j : ℕ) → j < n → errors j ≢ gf64.zero → value_at gf64 (half + 1 + erased_below erased n) (times_erasures n erased n (coefficient_of locator)) (point_of n j) ≡ gf64.zero
     unfolding left
     wrong j inside other =

@@ -13,7 +13,7 @@ module _ {F : Type 0} (K : Field F) where
   infixl 70 ◌⊗◌
   -- ---- the loop of add_multiple
 
-  -- what a list is while a multiple of g, shifted by s, is added to it: the places before i have it
+  -- a list while a multiple of g, shifted by s, is added to it: the coefficients before i have it
   pub record AddedTo (i : ℕ) (into : List F) (old : ℕ → F) (factor : F) (s : ℕ) (g : ℕ → F) : Type 0 where
     pub before : (j : ℕ) → j < i → coefficient K into j ≡ old j ⊕ factor ⊗ shifted K s g j
     pub after : (j : ℕ) → i ≤ j → coefficient K into j ≡ old j
@@ -52,13 +52,13 @@ module _ {F : Type 0} (K : Field F) where
 
   -- ---- values
 
-  -- the value where a multiple of g, shifted by s, has been added
+  -- the value after a multiple of g, shifted by s, was added
   pub value-added : (n k s : ℕ) (f g h : ℕ → F) (c y : F) → IsShort K k g
       → s + k ≤ n → ((j : ℕ) → h j ≡ f j ⊕ c ⊗ shifted K s g j) → value_at K n h y ≡ value_at K n f y ⊕ c ⊗ (power K y s ⊗ value_at K k g y)
   value-added n k s f g h c y short fits e =
       cc (value_same K n h (λ j. f j ⊕ c ⊗ shifted K s g j) y (λ j low. e j), value-add K n f (λ j. c ⊗ shifted K s g j) y, value-mul K n c (shifted K s g) y, value-shifted K s k n g y short fits)
 
-  -- it stays where g vanishes
+  -- it stays at a zero of g
   pub value_stays : (n k s : ℕ) (f g h : ℕ → F) (c y : F) → IsShort K k g → s + k ≤ n → ((j : ℕ) → h j ≡ f j ⊕ c ⊗ shifted K s g j) → value_at K k g y ≡ 𝟘 → value_at K n h y ≡ value_at K n f y
   value_stays n k s f g h c y short fits e none =
       cc (value-added n k s f g h c y short fits e, none, mul_zero K (power K y s), mul_zero K c, add_zero K (value_at K n f y))

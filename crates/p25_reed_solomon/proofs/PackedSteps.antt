@@ -10,7 +10,7 @@ use Rattle.p25_algebra.specs.{Sums.{sum_below}, Series.{coefficient}}
 use Rattle.p25_algebra.proofs.SumLaws.{sum-none, sum-suc}
 use Rattle.p25_reed_solomon.specs.declared.packed.TheConstants.{VALUES}
 
--- what the symbol at a place adds to the value of a word of n symbols at α^i
+-- the term of the symbol at a position in the value of a word of n symbols at α^i
 abbrev pub term : ℕ → List Sym → ℕ → ℕ → Sym
 term n word i j = gf64.mul (coefficient gf64 word j) (power gf64 alpha (i * (n - 1 - j)))
 
@@ -104,7 +104,7 @@ values_more n word j values b v s few low here number_is is so_far =
       next,
     )
 
--- the lowest octets of a number are zero where it is zero by a power of 2
+-- the lowest octets of a number are zero if it is zero modulo a power of 2
 pub octets_zero : (values m b : ℕ) → values % 2 ^ (8 * m) ≡ 0 → b < m → octet b values ≡ 0
 octets_zero values m b none low =
     let k = 8 * b in

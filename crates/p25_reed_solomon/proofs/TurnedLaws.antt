@@ -42,7 +42,7 @@ module _ (n checks half : ℕ) (syndromes turned : List Sym) (locator evaluator 
     (places : n ≤ 63) (few : checks ≤ 22) (some : 1 ≤ half) (within : 2 * half ≤ checks) (most : checks ≤ 2 * half + 1) (long : length turned ≡ 2 * half)
     (is : (i : ℕ) → i < 2 * half → coefficient gf64 turned i ≡ coefficient gf64 syndromes (2 * half - 1 - i))
     (key : IsKey turned locator evaluator) (errors : ℕ → Sym) (are : AreErrors n checks syndromes errors) where
-  -- the factor of a place in the sums of points
+  -- the factor of a position in the sums of points
   factor : ℕ → Sym
   factor j = gf64.mul (errors j) (power gf64 (element_of n j) (2 * half + 1))
 
@@ -75,7 +75,7 @@ module _ (n checks half : ℕ) (syndromes turned : List Sym) (locator evaluator 
       locator_vanishes gf64 n half _ factor _ (coefficient gf64 turned) (points_apart n places) (λ j h. point_ne_zero n j) fewer short sums
       (λ i low high. key.equation i (omega (arith, long)) ∙ evaluator_short.above i low)
 
-  -- the key's locator vanishes at the elements of the wrong places alone
+  -- the key's locator vanishes at the elements of the positions with an error alone
   at_elements : (j : ℕ) → j < n → (value_at gf64 (half + 1) (coefficient_of locator) (gf64.inverse (point_of n j)) ≡ gf64.zero) ↔ (errors j ≢ gf64.zero)
   unfolding factor
   at_elements j inside = (

@@ -6,7 +6,7 @@ use Rattle.p25_gf64.proofs.FieldLaws.{add_zero}
 use Rattle.p25_algebra.specs.{Sums.{nonzeros}, Series.{coefficient}}
 use Rattle.p25_reed_solomon.specs.{Words.{IsCode, IsWord, value_of, same_symbols}, DistanceLaws.{distance-nonzeros}, ValueLaws.{value-power_sum, front_value-add}, Errors.{AreErrors}}
 
--- the errors between a received word and a word of the code within the radius
+-- the errors between a received word and a codeword within the correction radius
 pub difference_errors : (n k : ℕ) (received word syndromes : List Sym)
     → IsCode n k → length received ≡ n → IsWord n k word → ((r : ℕ) → r < n - k → coefficient gf64 syndromes r ≡ value_of n received (r + 1))
     → 2 * distance_by same_symbols received word ≤ n - k

@@ -32,7 +32,7 @@ AreZeros-few n upto polynomial places most within are some =
           ];
     }
 
--- before the first place none is listed
+-- before the first position none is listed
 pub AreZeros-none : (n : ℕ) (locator : List Sym) → AreZeros n locator 0 []
 AreZeros-none n locator =
     record {
@@ -42,7 +42,7 @@ AreZeros-none n locator =
       all = λ j h z. absurd (omega arith);
     }
 
--- a place where the locator doesn't vanish is not listed
+-- a position at which the locator does not vanish is not listed
 pub AreZeros-skip : (n : ℕ) (locator : List Sym) (j : ℕ) (places : List ℕ)
     → AreZeros n locator j places → value_at gf64 (length locator) (coefficient gf64 locator) (point_of n j) ≢ gf64.zero → AreZeros n locator (j + 1) places
 AreZeros-skip n locator j places are other =
@@ -59,7 +59,7 @@ AreZeros-skip n locator j places are other =
 pushed_last : (places : List ℕ) (j c : ℕ) → c ≡ length places → get_or (places ++ j ∷ []) c 0 ≡ j
 pushed_last places j c here = get_or_at places j [] 0 c (sym here)
 
--- a place where it vanishes is
+-- a position at which it vanishes is
 pub AreZeros-push : (n : ℕ) (locator : List Sym) (j : ℕ) (places : List ℕ) → AreZeros n locator j places
     → value_at gf64 (length locator) (coefficient gf64 locator) (point_of n j) ≡ gf64.zero → AreZeros n locator (j + 1) (places ++ j ∷ [])
 AreZeros-push n locator j places are here =

@@ -19,7 +19,7 @@ weighed-last : (point : ℕ → ℕ → ℕ) (a b : ℕ) → weighed nibble_dist
 unfolding weighed nibbles_from
 weighed-last point a b = omega arith
 
--- ends from two states differ in as many bits as the two states ask for
+-- ends from two states differ in at least as many bits as the bound of the two states
 parted-le : (states : ℕ) (point parted : ℕ → ℕ → ℕ) → 0 < states → parted 0 0 ≡ 0
     → ((a b x y : ℕ) → a < states → b < states → x < states → y < states → parted a b ≤ nibble_distance (point a x) (point b y) + parted x y)
     → (before a b : ℕ) (xs ys : List ℕ) → a < states → b < states → IsEnd states before xs → IsEnd states before ys
@@ -77,7 +77,7 @@ length-sent_bits states point path is =
     let nibbles = nibbles_from point 0 path in
     cc (length-number_bits 4 (interleaved nibbles), length-interleaved nibbles, length-nibbles_from point 0 path, is.long)
 
--- paths whose sent bits differ in few places are one
+-- paths whose transmitted bits differ in few positions are equal
 pub same_from_sent_bits : (states apart : ℕ) (point parted : ℕ → ℕ → ℕ) → 0 < states → parted 0 0 ≡ 0
     → ((a b x y : ℕ) → a < states → b < states → x < states → y < states → parted a b ≤ nibble_distance (point a x) (point b y) + parted x y)
     → ((state x y : ℕ) → state < states → x < states → y < states → x ≢ y → apart ≤ nibble_distance (point state x) (point state y) + parted x y)

@@ -29,7 +29,7 @@ pub symbols_cost-last : (point cost : ℕ → ℕ → ℕ) (step state : ℕ) �
 unfolding symbols_cost total_cost nibbles_from
 symbols_cost-last point cost step state = omega arith
 
--- the end of a path has one symbol more than stand before its 0
+-- the end of a path has one symbol more than there are before its 0
 pub length-end : (states before : ℕ) (symbols : List ℕ) → IsEnd states before symbols → length symbols ≡ suc before
 length-end states zero symbols is = simp is
 length-end states (suc before) [] is = absurd is
@@ -175,7 +175,7 @@ HasLeastFrom-more states point cost rests step after here = record { at = at_ste
           subst (λ (i : ℕ). IsLeastEnd states before (symbols_cost point cost i state) (rest_in rests i state)) same (here before state there row)
     ]
 
--- a least end, where the step tells the number of symbols before it
+-- a least end, if the number of symbols before its 0 is that of the step
 pub IsLeastEnd-at : (states : ℕ) (point cost : ℕ → ℕ → ℕ) (rests : List ℕ) (step state symbol least : ℕ) → step < 48
     → HasLeastFrom states point cost rests (suc step) → IsLowestLeast states (step_cost point cost rests step state) symbol least → (before : ℕ)
     → step + before ≡ 48 → IsLeastEnd states before (symbols_cost point cost step state) least

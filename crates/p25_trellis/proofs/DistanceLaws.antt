@@ -36,7 +36,7 @@ All-nibbles_from states point small state (symbol ∷ path) row all =
     let here = All-head P symbol path all in
     All-cons (λ n. n < 16) (point state symbol) (nibbles_from point symbol path) (small state symbol row here) (All-nibbles_from states point small symbol path here (All-tail P symbol path all))
 
--- what stands first weighs against what was received at its step
+-- the first nibble is weighed against the received one of its step
 pub weighed-drop : {Y : Type 0} (weight : ℕ → Y → ℕ) (nibble : ℕ) (nibbles : List ℕ) (received : List Y) (step : ℕ) (d : Y) → step < length received
     → weighed weight (nibble ∷ nibbles) (drop step received) ≡ weight nibble (get_or received step d) + weighed weight nibbles (drop (suc step) received)
 unfolding weighed
@@ -44,7 +44,7 @@ weighed-drop weight nibble nibbles received step d inside =
     let more : step + 1 ≡ suc step = omega arith in
     cc (drop_more received step d inside, more)
 
--- what nibbles cost in a table is what they weigh against what was received, where each cost in the table is a weight
+-- the cost of nibbles in a table is their weight against the received ones, if each cost in the table is a weight
 pub total_cost-weighed : {Y : Type 0} (weight : ℕ → Y → ℕ) (received : List Y) (d : Y) (cost : ℕ → ℕ → ℕ)
     → ((step nibble : ℕ) → step < 49 → nibble < 16 → cost step nibble ≡ weight nibble (get_or received step d)) → length received ≡ 49
     → (step : ℕ) (nibbles : List ℕ) → step + length nibbles ≡ 49 → All (λ n. n < 16) nibbles

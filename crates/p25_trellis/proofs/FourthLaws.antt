@@ -2,7 +2,7 @@
 use Rattle.std.proofs.Common.{◌≡◌, ◌≢◌, ℕ, zero, suc, ◌+◌, ◌*◌, ◌<◌, ◌≤◌, List, [], ◌∷◌, length, get_or, set, refl, ap, sym, ◌∙◌, arith}
 use Rattle.p25_trellis.specs.Interleave.{each_fourth}
 
--- four further on, counted with the element that is left behind
+-- four positions further, counted with the element that is passed
 four_more : (k : ℕ) → 0 + 4 * suc k ≡ suc (3 + 4 * k)
 four_more k = omega arith
 
@@ -18,7 +18,7 @@ get_or-each_fourth zero (x ∷ xs) zero d = refl
 get_or-each_fourth zero (x ∷ xs) (suc k) d = cc (get_or-each_fourth 3 xs k d, four_more k)
 get_or-each_fourth (suc wait) (x ∷ xs) k d = cc (get_or-each_fourth wait xs k d, one_more wait k)
 
--- where one of them is set, so it is among them
+-- if one of them is set, it is set among them
 pub each_fourth-set_same : {X : Type 0} (wait : ℕ) (xs : List X) (k : ℕ) (x : X) → each_fourth wait (set xs (wait + 4 * k) x) ≡ set (each_fourth wait xs) k x
 unfolding each_fourth
 each_fourth-set_same wait [] k x = refl
@@ -26,7 +26,7 @@ each_fourth-set_same zero (y ∷ ys) zero x = refl
 each_fourth-set_same zero (y ∷ ys) (suc k) x = cc (four_more k, each_fourth-set_same 3 ys k x)
 each_fourth-set_same (suc wait) (y ∷ ys) k x = cc (one_more wait k, each_fourth-set_same wait ys k x)
 
--- where another element is set, they stay
+-- if another element is set, they stay
 pub each_fourth-set_other : {X : Type 0} (wait : ℕ) (xs : List X) (i : ℕ) (x : X) → ((k : ℕ) → i ≢ wait + 4 * k) → each_fourth wait (set xs i x) ≡ each_fourth wait xs
 unfolding each_fourth
 each_fourth-set_other wait [] i x apart = refl

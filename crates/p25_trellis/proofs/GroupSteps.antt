@@ -34,13 +34,13 @@ moved_up width i count whole inside few fits =
     let more : i + 1 ≤ count = omega arith in
     shl_whole whole _ width 64 fits (omega (arith, few, count_more, mul-le-mul_left width more))
 
--- the bits before a place, at it and after it
+-- the bits before an index, at it and after it
 split_at : (width k count : ℕ) → k < count → width * count ≡ width * k + width + width * (count - 1 - k)
 split_at width k count early =
     let split : (rest : ℕ) → count ≡ k + 1 + rest → width * count ≡ width * k + width + width * rest = λ rest is. omega (arith, ap (λ n. width * n) is) in
     split (count - 1 - k) (omega arith)
 
--- a number at its place in the low bits of another
+-- a number at its index in the low bits of another
 apart_at : (width count whole k : ℕ) → k < count → get_or (numbers_from width count (bits_of (width * count) whole)) k 0 ≡ whole / 2 ^ (width * (count - 1 - k)) % 2 ^ width
 apart_at width count whole k early =
     let split = split_at width k count early in
@@ -49,7 +49,7 @@ apart_at width count whole k early =
     let place : width * count - width * k - width ≡ width * (count - 1 - k) = omega (arith, split) in
     simp (get_or-numbers_from, drop-bits_of, take-bits_of, field_of-bits_of, place)
 
--- numbers that are each what stands at its place are all that the low bits write
+-- numbers that are each the one at its index in the low bits are all numbers there
 pub apart_all : (width whole : ℕ) (numbers : List ℕ) (i : ℕ) → length numbers ≤ i
     → ((k : ℕ) → k < i → get_or numbers k 0 ≡ whole / 2 ^ (width * (length numbers - 1 - k)) % 2 ^ width)
     → numbers ≡ numbers_from width (length numbers) (bits_of (width * length numbers) whole)

@@ -27,7 +27,7 @@ pub interleaved-map : {X Y : Type 0} (f : X → Y) (xs : List X) → interleaved
 unfolding interleaved
 interleaved-map f xs = simp (each_fourth-map, map-append)
 
--- the fourth elements from the four first places are all of a list
+-- the fourth elements from the four first positions are all of a list
 length-fourths : {X : Type 0} (xs : List X) → length (each_fourth 0 xs) + length (each_fourth 1 xs) + length (each_fourth 2 xs) + length (each_fourth 3 xs) ≡ length xs
 unfolding each_fourth
 length-fourths [] = refl
@@ -37,7 +37,7 @@ pub length-interleaved : {X : Type 0} (xs : List X) → length (interleaved xs) 
 unfolding interleaved
 length-interleaved xs = simp length-append (length-fourths xs)
 
--- the sum over the places of two lists of what their elements weigh against each other
+-- the sum over the positions of two lists of the weights of their elements against each other
 unfoldable pub weighed : {X Y : Type 0} → (X → Y → ℕ) → List X → List Y → ℕ
 weighed weight [] ys = 0
 weighed weight (x ∷ xs) [] = 0
@@ -81,7 +81,7 @@ unfolding distance_by weighed
 distance_by-weighed same (x ∷ xs) (y ∷ ys) = cc (distance_by-weighed same xs ys)
 distance_by-weighed same xs ys = refl
 
--- two interleaved lists differ in as many places as the lists
+-- two interleaved lists differ in as many positions as the lists
 distance_by-interleaved : {X : Type 0} (same : X → X → Bool) (xs ys : List X) → length xs ≡ length ys → distance_by same (interleaved xs) (interleaved ys) ≡ distance_by same xs ys
 distance_by-interleaved same xs ys long =
     simp (distance_by-weighed, weighed-interleaved)
@@ -101,13 +101,13 @@ order-interleaved : interleaved (range_with_len 0 49) ≡ SENT_ORDER
 unfolding interleaved each_fourth
 order-interleaved = refl
 
--- which nibble stands at each place of what is sent
+-- the nibble at each position of the transmission
 pub get_or-interleaved : (xs : List ℕ) (place : ℕ) → length xs ≡ 49 → place < 49 → get_or (interleaved xs) place 0 ≡ get_or xs (get_or SENT_ORDER place 0) 0
 get_or-interleaved xs place long inside =
     let f : ℕ → ℕ = λ i. get_or xs i 0 in
     cc (fill_by_all f xs 49 0 long (λ k h. refl), interleaved-map f (range_with_len 0 49), order-interleaved, get_or-map f SENT_ORDER place 0 0 (omega arith))
 
--- every place of the order is a place
+-- every entry of the order is a position
 order_test : passed_below 49 (λ place. ltb (get_or SENT_ORDER place 0) 49) ≡ true
 unfolding passed_below
 order_test = refl
@@ -115,7 +115,7 @@ order_test = refl
 pub order-lt : (place : ℕ) → place < 49 → get_or SENT_ORDER place 0 < 49
 order-lt place inside = ltb-true (get_or SENT_ORDER place 0) 49 (passed_below-at 49 _ order_test place inside)
 
--- no place stands in the order twice
+-- no position is in the order twice
 differs_test : passed_below 49 (λ place. passed_below 49 (λ other. eqb place other || not (eqb (get_or SENT_ORDER place 0) (get_or SENT_ORDER other 0)))) ≡ true
 unfolding passed_below
 differs_test = refl
@@ -136,7 +136,7 @@ order-differs place other inside there differ same =
 pub same_from_take : {X : Type 0} (n : ℕ) (xs ys : List X) → length xs ≤ n → length ys ≤ n → take n xs ≡ take n ys → xs ≡ ys
 same_from_take n xs ys short brief same = sym (take_all n xs short) ∙ same ∙ take_all n ys brief
 
--- one more nibble is written to its place
+-- one more nibble is written to its position
 pub written_more : (gathered nibbles : List ℕ) (place : ℕ) → length gathered ≡ 49 → place < 49
     → ((k : ℕ) → k < place → get_or gathered (get_or SENT_ORDER k 0) 0 ≡ get_or nibbles k 0) → (k : ℕ) → k < place + 1
     → get_or (set gathered (get_or SENT_ORDER place 0) (get_or nibbles place 0)) (get_or SENT_ORDER k 0) 0 ≡ get_or nibbles k 0

@@ -102,7 +102,7 @@ step_cost-write point cost rests step column value later state symbol few low la
     let other : 8 * suc later + symbol ≢ 8 * step + column = omega arith in
     simp rest_in-other
 
--- what two writes at a step leave of the lowest least at another place
+-- two writes at a step keep the lowest least at another position
 pub lowest-kept : (states : ℕ) (point cost : ℕ → ℕ → ℕ) (rests symbols : List ℕ) (step column least symbol later state : ℕ) → states ≤ 8 → column < 8 → step ≤ later → state < 8
     → 8 * later + state ≢ 8 * step + column → IsLowestLeast states (step_cost point cost rests later state) (rest_in symbols later state) (rest_in rests later state)
     → let written : List ℕ = set rests (8 * step + column) least in

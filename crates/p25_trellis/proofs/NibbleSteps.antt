@@ -27,7 +27,7 @@ pub others_stay : (from other k value : ℕ) (nibbles : List ℕ) → from < 4 �
 others_stay from other k value nibbles early there apart =
     each_fourth-set_other other nibbles (from + 4 * k) value (λ i same. apart (omega (arith, same, early, there)))
 
--- the nibbles of a word that was read are those of the bits from its place on
+-- the nibbles of a word that was read are those of the bits from its position on
 pub fourths_read : (bits : List Bool) (at place count word : ℕ) (fourths : List ℕ) → place + 4 * count ≤ 196 → at + 196 ≤ length bits
     → word ≡ field_of (part (at + place) (4 * count) bits) → fourths ≡ numbers_from 4 count (bits_of (4 * count) word)
     → fourths ≡ numbers_from 4 count (drop place (drop at bits))

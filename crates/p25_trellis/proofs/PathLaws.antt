@@ -9,7 +9,7 @@ use Rattle.p25_bits.proofs.NumbersLaws.{length-number_bits, number_bits-octets, 
 pub power-pos : (width states : ℕ) → states ≡ 2 ^ width → 0 < states
 power-pos width states is = rw is (pow_pos width)
 
--- a path in the making, with the symbols so far set and zeros behind them, and the state after them
+-- a path in the making, with the symbols so far set and zeros after them, and the state after them
 pub record IsPathTo (states : ℕ) (path : List ℕ) (state : ℕ) : Type 0 where
   pub is_path : IsPath states path
   pub row : state < states

@@ -7,7 +7,7 @@ use Rattle.p25_trellis.specs.declared.tables.TheConstants.{HALF_NIBBLES, HALF_SY
 use Rattle.p25_trellis.specs.Tables.{point_nibbles, half_rows, three_quarter_rows, point_in, half_point, three_quarter_point, nibble_distance}
 use Rattle.p25_trellis.specs.TableLaws.{AreTables, symbol_digit, passed_below, passed_below-at}
 
--- every entry is the nibble that its row and its column ask for
+-- every entry is the nibble of its row and its column
 unfoldable nibble_test : ℕ → (ℕ → ℕ → ℕ) → List ℕ → Bool
 nibble_test states point nibbles = passed_below states (λ state. passed_below states (λ symbol. eqb (get_or nibbles (state * states + symbol) 0) (point state symbol)))
 
@@ -16,7 +16,7 @@ nibble-from_test : (states : ℕ) (point : ℕ → ℕ → ℕ) (nibbles : List 
 unfolding nibble_test
 nibble-from_test states point nibbles passed state symbol row column = eqb-true _ _ (passed_below-at states _ (passed_below-at states _ passed state row) symbol column)
 
--- every entry that is a symbol is one that sends the nibble of its place
+-- every entry that is a symbol transmits the nibble of its position
 unfoldable sending_test : ℕ → (ℕ → ℕ → ℕ) → List ℕ → Bool
 sending_test states point symbols =
     passed_below 16 (λ nibble. passed_below states (λ state. not (ltb (symbol_digit symbols state nibble) states) || eqb (point state (symbol_digit symbols state nibble)) nibble))
@@ -31,7 +31,7 @@ unfolding sending_test
 sends-from_test states point symbols passed state nibble row small is =
     eqb-true _ _ (second _ _ (passed_below-at states _ (passed_below-at 16 _ passed nibble small) state row) (lt-ltb _ _ is))
 
--- every other entry is 8, and no symbol sends the nibble of its place
+-- every other entry is 8, and no symbol transmits the nibble of its position
 unfoldable none_test : ℕ → (ℕ → ℕ → ℕ) → List ℕ → Bool
 none_test states point symbols =
     passed_below 16 (
@@ -55,7 +55,7 @@ none-from_test states point symbols passed state nibble row small past =
           let two : false ≡ true = sym (simp eq-eqb) ∙ (passed_below-at states (λ s. not (eqb (point state s) nibble)) (second_so _ _ both) symbol inside) in absurd (cc),
     )
 
--- every entry is the rank that its place asks for
+-- every entry is the rank of its position
 unfoldable ranks_test : ℕ → (ℕ → ℕ → ℕ) → List ℕ → Bool
 ranks_test states point ranks =
     passed_below 16 (

@@ -17,7 +17,7 @@ are_bits : (bits : List Bool) (at : ℕ) (received : List ℕ) → interleaved r
 are_bits bits at received is there =
     cc (number_bits-numbers_from 4 49 (drop at bits) (omega (arith, length-drop at bits, there)), is)
 
--- all that a reading comes to, where it is the first nearest
+-- the consequences of a decoding that is the first nearest
 record IsReadBlock (states width apart : ℕ) (point : ℕ → ℕ → ℕ) (received : List Bool) (octets : List ℕ) (distance : ℕ) : Type 0 where
   nearest : IsFirstLeastReading states width (distance_from point received) octets distance
   octets_are : octets ≡ nearest_octets states width point received
