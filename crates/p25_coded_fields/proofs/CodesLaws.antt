@@ -47,7 +47,7 @@ pub field_beyond : (layout : Layout) (bare : List Bool) (answer : Reading) (word
 unfolding word_read
 field_beyond layout bare answer word beyond is = field_reading_of-none layout bare (sym (rw beyond at is))
 
--- the words at places that a test finds before an end are there
+-- the words at these positions are within the bits if a test finds them before an end that is
 pub all_end : (size end len : ℕ) (places : List ℕ) → list_all (λ at. nat_le (at + size) end) places ≡ true → end ≤ len → All (λ at. at + size ≤ len) places
 all_end size end len [] test fits = All-nil (λ at. at + size ≤ len)
 all_end size end len (at ∷ places) test fits =
@@ -83,8 +83,8 @@ module _ (places : List ℕ) (size each n information : ℕ) (inner_reading : Li
       found (Some word) is e = (word, read_within received word is, cc)
 
   module _ (code : IsCode n information) where
-    -- what a field was read as lies near to it: of all bits that have a field with the information that was read, the outer word is the
-    -- one that was read, since it is the only one with this information
+    -- received bits are near to any bits that carry the information to which they decode: their outer codeword is the decoded one, since it is the only one
+    -- with this information
     pub near_from_reading : {IsInnerWord : List Bool → Type 0} (info : List Sym) (sent received : List Bool)
         → HasField IsInnerWord (IsWord n information) coded info sent → field_reading_of coded received ≡ Some info
         → IsFieldNear (n - information) coded sent received

@@ -12,7 +12,7 @@ use Rattle.p25_gf64.specs.declared.symbol.Sym.{Sym}
 use Rattle.p25_coded_fields.specs.Decided.{InnerWords, information_at, rank_at, rank_of, stands_before, first_found, marks_by, read_erasing, read_marking, symbols_decided, symbols_or, symbols_read, word_decided}
 use Rattle.p25_coded_fields.proofs.SymbolsLaws.{one_more}
 
--- the order by two tests: one sum is less than another, or it is the same and the first place is less
+-- the order by two tests: one sum is less than another, or it is the same and the first index is less
 order_less : (a b i j : ℕ) → a < b → nat_lt a b ≡ nat_lt a b || eqb a b && nat_lt i j
 order_less a b i j less = rw (lt-ltb a b less) refl
 
@@ -39,7 +39,7 @@ pub before_more : (least second : ℕ → ℕ) (i j : ℕ) → second j + 2 * le
 unfolding stands_before
 before_more least second i j more other = order_more (second i + 2 * least j) (second j + 2 * least i) i j more other
 
--- no words stand before any
+-- no word is before the first
 pub rank_none : (before : ℕ → ℕ → Bool) (i : ℕ) → 0 ≡ rank_of 0 before i
 unfolding rank_of
 rank_none before i = refl
@@ -49,7 +49,7 @@ pub rank_more : (n : ℕ) (before : ℕ → ℕ → Bool) (i count : ℕ) → co
 unfolding rank_of
 rank_more n before i count is = rw (add-one, is) refl
 
--- what was put in groups, one more group
+-- the symbols stored in groups, with one more group
 pub joined_next : {X : Type 0} (f : ℕ → List X) (each i k : ℕ) (word xs : List X) → each * i + each ≤ length word → length xs ≡ each
     → take (each * i) word ≡ joined_below i f → xs ≡ f i → take (each * (i + 1)) (put_mid (each * i) k word xs) ≡ joined_below (i + 1) f
 joined_next f each i k word xs there long before is =
@@ -70,7 +70,7 @@ joined_first f each word =
     let none : each * 0 ≡ 0 = omega arith in
     ap (λ m. take m word) none ∙ sym (joined_below-zero f)
 
--- one reading more, where those before found nothing
+-- one more decoding, if those before found nothing
 pub first_next : {X : Type 0} (n : ℕ) (reading : ℕ → Option X) → first_found n reading ≡ None → first_found (suc n) reading ≡ reading n
 unfolding first_found
 first_next n reading none = ap (λ (found : Option _). option_or found (reading n)) none
@@ -133,7 +133,7 @@ marks_same each n rank own symbols same =
 pub unmarked : (n : ℕ) (marks : List Bool) → marks ≡ replicate 36 false → n ≤ 36 → take n marks ≡ replicate n false
 unmarked n marks are few = ap (take n) are ∙ take-replicate n 36 false few
 
--- symbols and an answer by what was read
+-- the symbols of a decoding that found some
 pub found_word : (word new : List Sym) (read : Option (List Sym)) → Some new ≡ read → new ≡ symbols_or word read
 found_word word new read is = subst (λ (o : Option (List _)). new ≡ symbols_or word o) is refl
 
@@ -146,7 +146,7 @@ none_word word new read is same = subst (λ (o : Option (List _)). new ≡ symbo
 pub none_false : {X : Type 0} (read : Option X) → None ≡ read → false ≡ is_some read
 none_false read is = subst (λ (o : Option _). false ≡ is_some o) is refl
 
--- nothing was read where the answer says so
+-- there is no decoding if the result is so
 pub none_from : {X : Type 0} (read : Option X) → false ≡ is_some read → read ≡ None
 none_from None nothing = refl
 none_from (Some x) nothing = absurd (cc)
@@ -158,7 +158,7 @@ first_some most reading (Some x) is found =
     let count : suc most ≡ most + 1 = omega arith in
     ap (λ m. first_found m reading) count ∙ first_stays 1 most reading x (first_next 0 reading (first_none reading) ∙ is)
 
--- what a reading finds where those before found nothing is the first
+-- a decoding that finds something, after those that found nothing, is the first
 pub first_at : {X : Type 0} (n most : ℕ) (reading : ℕ → Option X) (x : X) → n ≤ most → first_found n reading ≡ None → Some x ≡ reading n → Some x ≡ first_found (suc most) reading
 first_at n most reading x inside none is =
     let count : suc most ≡ (most - n) + suc n = omega arith in
@@ -212,13 +212,13 @@ words_read words costs info same =
     (λ i. symbols_in words.each (bits_of (6 * words.each) (information_at words costs i)))
     (λ i inside. ap (λ v. symbols_in words.each (bits_of (6 * words.each) v)) (same i inside))
 
--- the same, as they were put
+-- the same for the groups that were stored
 pub words_put : (words : InnerWords) (costs : List ℕ) (each n : ℕ) (info : ℕ → ℕ) (word : List Sym)
     → word ≡ joined_below n (λ i. symbols_in each (bits_of (6 * each) (info i))) → each ≡ words.each → n ≡ words.count
     → ((i : ℕ) → i < words.count → info i ≡ information_at words costs i) → word ≡ symbols_read words costs
 words_put words costs each n info word put group all same =
     put ∙ ap₂ (λ e m. joined_below m (λ i. symbols_in e (bits_of (6 * e) (info i)))) group all ∙ words_read words costs info same
 
--- where nothing was read the symbols are unchanged
+-- if there is no decoding the symbols are unchanged
 pub none_kept : (word new : List Sym) (read : Option (List Sym)) → new ≡ symbols_or word read → read ≡ None → new ≡ word
 none_kept word new read is none = is ∙ ap (symbols_or word) none

@@ -12,7 +12,7 @@ use Rattle.p25_link.proofs.SymbolsLaws.{length-symbol_bits, length-symbols_in, s
 use Rattle.p25_coded_fields.specs.{Layouts.{Layout, places_from, sent_in, field_bits}, Within.{HasField}}
 use Rattle.p25_coded_fields.proofs.SymbolsLaws.{room_at, symbols_in-take}
 
--- places a step apart
+-- positions a step apart
 pub length-places_from : (at step count : ℕ) → length (places_from at step count) ≡ count
 unfolding places_from
 length-places_from at step zero = refl
@@ -24,7 +24,7 @@ get_or-places_from at step zero i d inside = absurd (omega arith)
 get_or-places_from at step (suc count) zero d inside = omega arith
 get_or-places_from at step (suc count) (suc i) d inside = omega (arith, get_or-places_from (at + step) step count, mul-suc)
 
--- what each element of a list gives, joined, by its place
+-- the results for all elements of a list, joined, by index
 flat_map_by_place : {X Y : Type 0} (f : X → List Y) (xs : List X) (d : X) (n : ℕ) → n ≤ length xs → flat_map f (take n xs) ≡ joined_below n (λ i. f (get_or xs i d))
 flat_map_by_place f xs d zero inside = sym (joined_below-zero _)
 flat_map_by_place f xs d (suc n) inside =
@@ -50,7 +50,7 @@ encoding_symbols k each symbols word sixes long fits is =
     rw (← symbols_in-take each k word (omega arith) (omega arith), is.begins) (symbols_in-symbol_bits each symbols long)
 
 module _ {IsInnerWord : List Bool → Type 0} {IsOuterWord : List Sym → Type 0} where
-  -- a field is there where the words of its symbols stand at its places
+  -- bits have a field if the words of its symbols are at its positions
   pub field_there : (layout : Layout) (k : ℕ) (symbols : List Sym) (sent : List Bool) → 6 * layout.each ≡ k → k ≤ layout.size → layout.each * length layout.places ≡ length symbols
       → All (λ at. at + layout.size ≤ length sent) layout.places → IsOuterWord symbols
       → ((i d : ℕ) → i < length layout.places → IsEncoding IsInnerWord k (symbol_bits (part (layout.each * i) layout.each symbols)) (part (get_or layout.places i d) layout.size sent))
@@ -83,7 +83,7 @@ module _ {IsInnerWord : List Bool → Type 0} {IsOuterWord : List Sym → Type 0
           ∙ joined_below-parts 0 each (length places) symbols
           ∙ take_all (each * length places) symbols all
 
--- the bits of symbols, by places
+-- the bits of symbols, by positions
 module _ {IsWord : List Bool → Type 0} {size k : ℕ} (long : (word : List Bool) → IsWord word → length word ≡ size) (encoding : List Bool → List Bool) (encodes : Encodes IsWord k encoding) where
   -- the inner word of a group
   pub field_word : (each count : ℕ) (symbols : List Sym) → 6 * each ≡ k → each * count ≡ length symbols → (i : ℕ) → i < count

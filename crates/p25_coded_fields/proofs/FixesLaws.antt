@@ -11,7 +11,7 @@ use Rattle.p25_link.specs.Symbols.{symbol_bits}
 use Rattle.p25_coded_fields.specs.{Layouts.{field_bits}, Fixes.{inner_bits, field_fixes_of}}
 use Rattle.p25_coded_fields.proofs.{FieldLaws.{length-field_bits}, SymbolsLaws.{one_more, room_at}}
 
--- where an inner word has information there are few
+-- if an inner word has information there are few
 pub few_places : (each n : ℕ) → 0 < each → n * each ≤ 36 → n ≤ 36
 few_places each n some short = let one : 1 ≤ each = omega arith in omega (arith, mul-le-mul_left n one)
 
@@ -19,7 +19,7 @@ few_places each n some short = let one : 1 ≤ each = omega arith in omega (arit
 pub front_more : (each i : ℕ) (symbols : List Sym) → take (each * i) symbols ++ part (each * i) each symbols ≡ take (each * (i + 1)) symbols
 front_more each i symbols = cc (zero-add (each * i), part_add 0 (each * i) each symbols, one_more each i)
 
--- the first places are there, as all are
+-- the first positions are within the bits, since all are
 pub there_before : (size len i : ℕ) (places : List ℕ) → All (λ at. at + size ≤ len) places → All (λ at. at + size ≤ len) (take i places)
 there_before size len i places there = All-take (λ at. at + size ≤ len) i places there
 
@@ -47,7 +47,7 @@ module _ (encoding : List Bool → List Bool) (size each : ℕ) where
       (λ j inside. rw (part_left (each * j) each beginning xs (room_at each j i (length beginning) inside (sym long))) refl))
       (rw (part_last) refl)
 
-  -- before the first place there are none
+  -- before the first position there are none
   pub fixes_none : (symbols : List Sym) (bits : List Bool) → field_fixes_of encoding size each [] symbols bits ≡ 0
   unfolding field_fixes_of inner_bits
   fixes_none symbols bits = distance_by-nil beq (field_bits encoding each 0 symbols)
@@ -64,7 +64,7 @@ module _ (encoding : List Bool → List Bool) (size each : ℕ) where
         mul-le-mul_right (length places) small,
       )
 
-  -- after the last place
+  -- after the last position
   pub all_fixes : (group i : ℕ) (places : List ℕ) (symbols : List Sym) (bits : List Bool)
       → each ≡ group → length places ≤ i → i ≤ length places → length places * group ≡ length symbols
       → field_fixes_of encoding size each (take i places) (take (each * i) symbols) bits ≡ field_fixes_of encoding size group places symbols bits
@@ -72,7 +72,7 @@ module _ (encoding : List Bool → List Bool) (size each : ℕ) where
       let here : i ≡ length places = omega arith in
       rw (take_all, same, here, take_all (group * length places) symbols (omega (arith, mul_comm group))) refl
 
-  -- one place more
+  -- one more position
   pub fixes_more : {IsWord : List Bool → Type 0} {k : ℕ} (long : (word : List Bool) → IsWord word → length word ≡ size) → Encodes IsWord k encoding
       → (places : List ℕ) (at : ℕ) (beginning xs : List Sym) (bits : List Bool)
       → 6 * each ≡ k → All (λ at. at + size ≤ length bits) places → length beginning ≡ each * length places → length xs ≡ each
@@ -88,7 +88,7 @@ module _ (encoding : List Bool → List Bool) (size each : ℕ) where
       ) (distance_by-append beq (inner_bits size places bits) (part at size bits) (field_bits encoding each (length places) beginning) _
       (length-inner_bits size places bits there ∙ sym (length-field_bits long encoding encodes each (length places) beginning sixes (sym long_front))))
 
-  -- one place more of a list
+  -- one more position of a list
   pub fixes_next : {IsWord : List Bool → Type 0} {k : ℕ} (long : (word : List Bool) → IsWord word → length word ≡ size) → Encodes IsWord k encoding
       → (i : ℕ) (places : List ℕ) (symbols : List Sym) (bits : List Bool) → 6 * each ≡ k → All (λ at. at + size ≤ length bits) places → i < length places → each * i + each ≤ length symbols
       → field_fixes_of encoding size each (take (i + 1) places) (take (each * (i + 1)) symbols) bits

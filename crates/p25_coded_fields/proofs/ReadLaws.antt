@@ -22,7 +22,7 @@ pub symbols_or_erasures-none : (each : ℕ) → symbols_or_erasures each None �
 unfolding symbols_or_erasures
 symbols_or_erasures-none each = refl
 
--- the length of the front of a buffer
+-- the length of the first elements of a buffer
 pub cut_long : {X : Type 0} (n : ℕ) (buffer xs : List X) → length xs ≡ length (take n buffer) → n ≤ length buffer → length xs ≡ n
 cut_long n buffer xs same fits = same ∙ length-take-le n buffer fits
 
@@ -30,11 +30,11 @@ cut_long n buffer xs same fits = same ∙ length-take-le n buffer fits
 information_bits : (size k each value : ℕ) → 6 * each ≡ k → k ≤ size → bits_of (6 * each) (value / 2 ^ (size - k)) ≡ take k (bits_of size value)
 information_bits size k each value sixes fits = rw sixes (sym (take-bits_of k size value fits))
 
--- a number that was received at a place has the bits that stand there
+-- a number that was received from a position has the bits at that position
 pub received_bits : {n : ℕ} (size at number : ℕ) (bare : List Bool) → number ≡ field_of (part at n bare) → n ≡ size → at + size ≤ length bare → bits_of size number ≡ part at size bare
 received_bits size at number bare is same there = rw (is, same) (bits_of-field size at bare there)
 
--- and what it is read as is what these bits are read as
+-- and its decoding is the decoding of these bits
 pub received_reading : {answer given : Option ℕ} (size number : ℕ) (bits : List Bool) (reading : List Bool → Option (List Bool)) → answer ≡ given
     → option_map (bits_of size) answer ≡ reading (bits_of size number) → bits_of size number ≡ bits → option_map (bits_of size) given ≡ reading bits
 received_reading size number bits reading is read taken = rw (← is, read, taken) refl
@@ -59,20 +59,20 @@ pub read_word_of_set : {L : Type 0} (same : L → L → Bool) (IsWord : List L �
 unfolding IsReadAs
 read_word_of_set same IsWord radius received word answer is some = (rw some at is).word_of_set
 
--- the wrong bits of an inner word: those that differ from the one word with its information
+-- the bit errors of an inner word: the bits that differ from the only word with its information
 pub wrong_bits : {IsWord : List Bool → Type 0} (size k : ℕ) → ((v w : List Bool) → IsWord v → IsWord w → take k v ≡ take k w → v ≡ w)
     → (received value : ℕ) (info bits sent : List Bool) → IsEncoding IsWord k info (bits_of size value)
     → IsEncoding IsWord k info sent → bits_of size received ≡ bits → received < 2 ^ size → value < 2 ^ size → count_ones (bit_xor received value) ≡ distance_of bits sent
 wrong_bits size k one_word received value info bits sent made is taken small_received small =
     rw (← taken, ← (one_word (bits_of size value) sent made.word_of_set is.word_of_set (made.begins ∙ sym is.begins))) (sym (distance_of-bits_of size received value small_received small))
 
--- before the first place
+-- before the first position
 pub erased_before : {L : Type 0} (each : ℕ) (word : List L) (erased : List Bool) → without_erased (take (each * 0) word) (take (each * 0) erased) ≡ []
 erased_before each word erased =
     let none : each * 0 ≡ 0 = omega arith in
     rw none (without_erased-nil [])
 
--- one more place
+-- one more position
 pub erased_next : {L : Type 0} (f : ℕ → List (Option L)) (places : List ℕ) (each i k at : ℕ) (word xs : List L) (erased es : List Bool) → i < length places → at ≡ get_or places i 0
     → each * i + each ≤ length word → length erased ≡ length word
     → length xs ≡ each → length es ≡ each → without_erased (take (each * i) word) (take (each * i) erased) ≡ flat_map f (take i places) → without_erased xs es ≡ f at
@@ -92,7 +92,7 @@ erased_next f places each i k at word xs erased es inside read there same long_x
       append-nil (f (get_or places i 0)),
     ) refl
 
--- the outer word, from the symbols and erasures of all places
+-- the outer word, from the symbols and erasures of all positions
 pub outer_read : (layout : Layout) (bits : List Bool) (each i : ℕ) (word : List Sym) (erased : List Bool) (value : Option (List Sym))
     → each ≡ layout.each → i ≡ length layout.places → layout.each * length layout.places ≡ length word → length erased ≡ length word
     → without_erased (take (each * i) word) (take (each * i) erased) ≡ flat_map (λ at. symbols_or_erasures layout.each (layout.inner_reading (part at layout.size bits))) (take i layout.places)

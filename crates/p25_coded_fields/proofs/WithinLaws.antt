@@ -20,7 +20,7 @@ pub length-symbols_or_erasures : (each : ℕ) (word : Option (List Bool)) → le
 length-symbols_or_erasures each (Some word) = rw (symbols_or_erasures-some, length-map) (length-symbols_in each word)
 length-symbols_or_erasures each None = rw (symbols_or_erasures-none each) (length-replicate each None)
 
--- lists of one length, one for each place
+-- lists of one length, one for each position
 length-pieces : {X : Type 0} (each : ℕ) (f : ℕ → List X) (places : List ℕ) → ((at : ℕ) → length (f at) ≡ each) → length (flat_map f places) ≡ each * length places
 length-pieces each f [] long = omega arith
 length-pieces each f (at ∷ places) long =
@@ -44,7 +44,7 @@ field_reading_of-none layout bits is = rw is
 
 module _ {IsInnerWord : List Bool → Type 0} {inner_radius : ℕ}
     {IsOuterWord : List Sym → Type 0} {checks : ℕ} {layout : Layout} (codes : HasCodes IsInnerWord inner_radius IsOuterWord checks layout) where
-  -- a field is read as it was sent
+  -- a field decodes to its transmitted information
   pub field_within : (info : List Sym) (sent received : List Bool)
       → HasField IsInnerWord IsOuterWord layout info sent → IsFieldNear checks layout sent received → field_reading_of layout received ≡ Some info
   unfolding outer_word_of
@@ -52,7 +52,7 @@ module _ {IsInnerWord : List Bool → Type 0} {inner_radius : ℕ}
       field_reading_of-some layout received (sent_in layout sent) (codes.outer _ (sent_in layout sent) (length-received_in layout received) has.outer is.near)
       ∙ ap Some has.begins
 
--- undamaged bits have no lost symbols
+-- undamaged bits have no such symbols
 pub lost_symbols-itself : (radius : ℕ) (layout : Layout) (bits : List Bool) → lost_symbols radius layout bits bits ≡ 0
 unfolding lost_symbols
 lost_symbols-itself radius layout bits = none layout.places
@@ -81,7 +81,7 @@ module _ {IsInnerWord : List Bool → Type 0} {inner_radius : ℕ}
   even : (sent received : List Bool) → length (given received) ≡ length (symbols_in layout.each sent)
   even sent received = rw (length-symbols_or_erasures, length-symbols_in) refl
 
-  -- an inner word within the radius costs nothing, and any other two for each symbol at most
+  -- an inner word within the correction radius costs nothing, and any other at most two for each symbol
   piece_cost : (sent received : List Bool) → length received ≡ layout.size → IsInnerWord sent
       → erased_cost same_symbols (given received) (symbols_in layout.each sent) ≤ 2 * lost sent received
   piece_cost sent received long is =
@@ -97,7 +97,7 @@ module _ {IsInnerWord : List Bool → Type 0} {inner_radius : ℕ}
             rw (codes.inner received sent long is near, symbols_or_erasures-some layout.each sent) (omega (arith, erased_cost-itself))
       ]
 
-  -- so do the words at places
+  -- so do the words at some positions
   pieces_cost : (sent received : List Bool) (places : List ℕ) → All (λ at. IsInnerWord (part at layout.size sent)) places → All (λ at. at + layout.size ≤ length received) places
       → erased_cost same_symbols (flat_map (λ at. given (part at layout.size received)) places) (flat_map (λ at. symbols_in layout.each (part at layout.size sent)) places)
       ≤ 2 * sum_by (λ at. lost (part at layout.size sent) (part at layout.size received)) places
@@ -114,7 +114,7 @@ module _ {IsInnerWord : List Bool → Type 0} {inner_radius : ℕ}
         sum_by-cons (λ at. lost (part at layout.size sent) (part at layout.size received)) at places,
       )
 
-  -- what the older measure allows costs no more than the outer code undoes
+  -- bits that the older measure allows cost no more than the outer code corrects
   pub near_from_lost : (info : List Sym) (sent received : List Bool) → HasField IsInnerWord IsOuterWord layout info sent → All (λ at. at + layout.size ≤ length received) layout.places
       → 2 * lost_symbols inner_radius layout sent received ≤ checks → IsFieldNear checks layout sent received
   unfolding received_in sent_in lost_symbols

@@ -50,7 +50,7 @@ octet_bits-one x = octet_bits-cons x [] ∙ ap (λ (xs : List Bool). bits_of 8 x
 pub few_bits-lt : (bits : List Bool) (most : ℕ) → length bits ≤ most → field_of bits < 2 ^ most
 few_bits-lt bits most few = omega (arith, field_of-lt bits, pow_mono few)
 
--- so the number of eight octets at most, or of twenty symbols, leaves room for one more
+-- so the number of at most eight octets fits in 64 bits, and that of at most twenty symbols in 120
 pub octets_room : (octets : List ℕ) (i : ℕ) → i < 9 → field_of (octet_bits (take i octets)) < 2 ^ 64
 octets_room octets i few = few_bits-lt (octet_bits (take i octets)) 64 (omega (arith, length-octet_bits (take i octets), length-take i octets))
 

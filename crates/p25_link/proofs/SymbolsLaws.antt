@@ -45,7 +45,7 @@ pub symbol_bits-symbols_in : (n : ℕ) (bits : List Bool) → 6 * n ≤ length b
 symbol_bits-symbols_in n bits there =
     symbol_bits-numbers (symbols_in n bits) ∙ ap (number_bits 6) (number-symbols_in n bits) ∙ number_bits-numbers_from 6 n bits there
 
--- where there are no more bits, all of them
+-- all of them, if there are no more bits
 pub symbol_bits-all : (n : ℕ) (bits : List Bool) → length bits ≡ 6 * n → symbol_bits (symbols_in n bits) ≡ bits
 symbol_bits-all n bits long =
     let there : 6 * n ≤ length bits = omega (arith, long) in

@@ -20,7 +20,7 @@ nine_back : (octets : List ℕ) → AreNineOctets octets → octets_from 9 (octe
 nine_back octets nine =
     ap₂ octets_from (sym nine.long) (sym (number_bits-octets octets)) ∙ numbers_from-number_bits 8 octets nine.small
 
--- whatever stands after
+-- whatever bits follow
 nine_kept : (before behind : List Bool) → 72 ≤ length before → octets_from 9 (before ++ behind) ≡ octets_from 9 before
 nine_kept before behind there = numbers_from-append 8 9 before behind there
 
@@ -28,12 +28,12 @@ nine_kept before behind there = numbers_from-append 8 9 before behind there
 nine_bits : (bits : List Bool) → 72 ≤ length bits → octet_bits (octets_from 9 bits) ≡ part 0 72 bits
 nine_bits bits there = sym (number_bits-octets (octets_from 9 bits)) ∙ number_bits-numbers_from 8 9 bits there
 
--- the number that stands last
+-- the last number
 last_back : (at width number : ℕ) (before : List Bool) → length before ≡ at → number < 2 ^ width → field_of (part at width (before ++ bits_of width number)) ≡ number
 last_back at width number before long fits =
     ap field_of (part_last at width before (bits_of width number) long (length-bits_of width number)) ∙ field_of-bits_of width number ∙ mod-eq_of_lt fits
 
--- a number that stands before others
+-- a number before others
 field_kept : (at width : ℕ) (before behind : List Bool) → at + width ≤ length before → field_of (part at width (before ++ behind)) ≡ field_of (part at width before)
 field_kept at width before behind there = ap field_of (part_left at width before behind there)
 
@@ -41,19 +41,19 @@ field_kept at width before behind there = ap field_of (part_left at width before
 longer : (before : List Bool) (at width number : ℕ) → length before ≡ at → length (before ++ bits_of width number) ≡ at + width
 longer before at width number long = length-append before (bits_of width number) ∙ ap₂ ◌+◌ long (length-bits_of width number)
 
--- bits up to a place, and the number after them
+-- the bits up to an offset, and the number after them
 joined : (bits before : List Bool) (at width : ℕ) → before ≡ part 0 at bits → at + width ≤ length bits → before ++ bits_of width (field_of (part at width bits)) ≡ part 0 (at + width) bits
 joined bits before at width is there =
     let behind : 0 + at ≡ at = omega arith in
     ap₂ ◌++◌ is (bits_of-field width at bits there ∙ ap (λ n. part n width bits) (sym behind)) ∙ part_add 0 at width bits
 
--- words and their symbols undo each other, and each word has so many
+-- words and their symbols are inverse to each other, and each word has so many
 pub record UndoEachOther {W : Type 0} (symbols_of : W → List Sym) (of_symbols : List Sym → W) (Keeps : W → Type 0) (count : ℕ) : Type 0 where
   pub back : (word : W) → Keeps word → of_symbols (symbols_of word) ≡ word
   pub symbols_back : (symbols : List Sym) → length symbols ≡ count → symbols_of (of_symbols symbols) ≡ symbols
   pub count_of : (word : W) → length (symbols_of word) ≡ count
 
--- where words and their bits do
+-- if words and their bits are
 undone_by_bits : {W : Type 0} (bits_in : W → List Bool) (of_bits : List Bool → W) (Keeps : W → Type 0) (count : ℕ)
     → ((word : W) → Keeps word → length (bits_in word) ≡ 6 * count) → ((word : W) → Keeps word → of_bits (bits_in word) ≡ word)
     → ((bits : List Bool) → length bits ≡ 6 * count → bits_in (of_bits bits) ≡ bits)

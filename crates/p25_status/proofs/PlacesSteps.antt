@@ -8,7 +8,7 @@ use Rattle.p25_bits.specs.Bits.{bits_of, part}
 use Rattle.p25_status.specs.{Status.{status_number}, Woven.{woven, StandsByPlaces}, declared.symbols.Status.{Status}}
 use Rattle.p25_status.proofs.WovenLaws.{length-woven, after_block}
 
--- a bit of the first 70 stands where it stood
+-- a bit of the first 70 keeps its position
 first_block : (bits rest : List Bool) (u : ℕ) → u < 70 → length (take 70 bits) ≡ 70 → slice_get (take 70 bits ++ rest) u ≡ slice_get bits u
 first_block bits rest u low whole =
     let inside : u < length (take 70 bits) = omega arith in
@@ -63,18 +63,18 @@ symbol_places bits (s ∷ ss) e (suc i) status h =
     ∙ ap (λ l. take 2 (drop (72 * i + 70) l)) (after_block (take 70 bits) symbol rest whole (length-bits_of 2 (status_number s)))
     ∙ symbol_places (drop 70 bits) ss left i status h
 
--- woven bits stand by the rule
+-- woven bits are as in the rule
 pub woven-places : (bits : List Bool) (statuses : List Status) → length bits ≡ 70 * length statuses → StandsByPlaces bits statuses (woven bits statuses)
 woven-places bits statuses e =
     record { places = length-woven bits statuses e; bare = bare_places bits statuses e; symbols = symbol_places bits statuses e }
 
--- an element at a place that is there
+-- an element at an index within a list
 element : {X : Type 0} (xs : List X) (i : ℕ) → i < length xs → (x : X) × (slice_get xs i ≡ Some x)
 element [] i h = absurd (omega arith)
 element (x ∷ xs) zero h = (x, refl)
 element (x ∷ xs) (suc i) h = element xs i (omega arith)
 
--- lists that agree in a part agree at its places
+-- lists that agree in a part agree at its indices
 same_in_part : (a b : List Bool) (at k : ℕ) (d : Bool) → k < 2 → part at 2 a ≡ part at 2 b → get_or a (at + k) d ≡ get_or b (at + k) d
 same_in_part a b at k d h same =
     sym (get_or-drop at a k d)
@@ -83,7 +83,7 @@ same_in_part a b at k d h same =
     ∙ get_or-take 2 (drop at b) k d h
     ∙ get_or-drop at b k d
 
--- two lists by the rule agree at each place
+-- two lists by the rule agree at each index
 same_place : (bits : List Bool) (statuses : List Status) (a b : List Bool) → length bits ≡ 70 * length statuses → StandsByPlaces bits statuses a → StandsByPlaces bits statuses b
     → (p : ℕ) (d : Bool) → p < length a → get_or a p d ≡ get_or b p d
 same_place bits statuses a b e first second p d h =

@@ -11,7 +11,7 @@ pub length-sync_bits : length sync_bits ≡ 48
 unfolding sync_bits
 length-sync_bits = length-bits_of 48 0x5575_F5FF_77FF
 
--- the bits that a writer puts are the sync
+-- the bits that a writer appends are the sync
 pub sync_bits-is : bits_of 48 0x5575_F5FF_77FF ≡ sync_bits
 unfolding sync_bits
 sync_bits-is = refl
@@ -36,7 +36,7 @@ pub has_sync-length : (bits : List Bool) → has_sync bits ≡ true → 48 ≤ l
 unfolding has_sync
 has_sync-length bits begins = leb-true 48 (length bits) (and_parts (nat_le 48 (length bits)) (nat_le (distance_of (take 48 bits) sync_bits) sync_slack) begins).0
 
--- and they differ from it in no more places than the slack
+-- and they differ from it in at most as many positions as the slack
 pub has_sync-distance : (bits : List Bool) → has_sync bits ≡ true → distance_of (take 48 bits) sync_bits ≤ sync_slack
 unfolding has_sync
 has_sync-distance bits begins =

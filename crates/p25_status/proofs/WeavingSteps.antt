@@ -48,7 +48,7 @@ pub statuses_none : (blocks i : ℕ) (sent : List Bool) → blocks ≤ i → sta
 unfolding statuses_in
 statuses_none blocks i sent h = let none : blocks - i ≡ 0 = omega arith in ap (λ n. statuses_in n sent) none
 
--- what stands before a block, with that block, before the blocks after it
+-- the bits before a block, with that block, before the blocks after it
 pub woven_more : (bits : List Bool) (statuses : List Status) (i : ℕ) (status : Status) (out longer : List Bool) → slice_get statuses i ≡ Some status
     → longer ≡ (out ++ part (70 * i) 70 bits) ++ bits_of 2 (status_number status)
     → longer ++ woven (drop (70 * (i + 1)) bits) (drop (i + 1) statuses) ≡ out ++ woven (drop (70 * i) bits) (drop i statuses)

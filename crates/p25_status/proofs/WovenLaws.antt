@@ -149,7 +149,7 @@ length-statuses_of blocks sent e =
     let counted : length sent / 72 ≡ blocks = ap (λ n. n / 72) e ∙ blocks_counted blocks in
     length-statuses_in (length sent / 72) sent ∙ counted
 
--- a part of a front is that part of the list
+-- a part of the first of two lists is that part of the list
 part_of_front : (xs ys : List Bool) (from count n : ℕ) → length xs ≡ n → from + count ≤ n → part from count (xs ++ ys) ≡ part from count xs
 part_of_front xs ys from count n e h = sym (part-take from count n (xs ++ ys) h) ∙ ap (part from count) (take_at xs ys n e)
 

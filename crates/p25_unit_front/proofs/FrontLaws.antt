@@ -12,7 +12,7 @@ use Rattle.p25_bch_nid.specs.{Bch63.{IsBch63}, Bch63Laws.{one_word}, NidReading.
 use Rattle.p25_bch_nid.proofs.{NidReadingLaws.{IsNidReading-nid_reading_of, nid_reading_of-word}, NidWordLaws.{drop-nid_word, IsEncoding-nid_word, length-nid_word, identifier_of_word-encoding}}
 use Rattle.p25_unit_front.specs.Front.{unit_front, IsFront, identifier_bits, identifier_of, front_of, front_fixes_of}
 
--- the parts of a front
+-- the parts of sync and NID
 pub take-unit_front : (nac duid : ℕ) → take 48 (unit_front nac duid) ≡ sync_bits
 unfolding unit_front
 take-unit_front nac duid = take_at sync_bits (nid_word nac duid) 48 length-sync_bits
@@ -25,14 +25,14 @@ pub length-unit_front : (nac duid : ℕ) → length (unit_front nac duid) ≡ 11
 unfolding unit_front
 length-unit_front nac duid = length-append sync_bits (nid_word nac duid) ∙ omega (arith, length-sync_bits, length-nid_word nac duid)
 
--- a front without its last bit
+-- sync and NID without the last bit
 pub unit_front-111 : (nac duid : ℕ) → take 111 (unit_front nac duid) ≡ sync_bits ++ take 63 (nid_word nac duid)
 unfolding unit_front
 unit_front-111 nac duid =
     let place : 111 ≡ length sync_bits + 63 = omega (arith, length-sync_bits) in
     ap (λ n. take n (sync_bits ++ nid_word nac duid)) place ∙ take-append-add sync_bits (nid_word nac duid) 63
 
--- the front has its form
+-- sync and NID have their form
 pub IsFront-unit_front : (nac duid : ℕ) → IsFront nac duid (unit_front nac duid)
 IsFront-unit_front nac duid = record {
   long = length-unit_front nac duid;
@@ -50,7 +50,7 @@ parts_of bits long =
     sym (take-append-drop 48 bits)
     ∙ ap (λ (xs : List Bool). take 48 bits ++ xs) (sym (take-append-drop 63 (drop 48 bits)) ∙ ap (λ (xs : List Bool). part 48 63 bits ++ xs) tail)
 
--- the only bits of the form are the front
+-- the only bits of the form are sync and NID
 pub unit_front-only : (nac duid : ℕ) (bits : List Bool) → IsFront nac duid bits → bits ≡ unit_front nac duid
 unit_front-only nac duid bits is =
     let here = IsFront-unit_front nac duid in
@@ -82,14 +82,14 @@ pub identifier_of-append : (sent more : List Bool) → 114 ≤ length sent → i
 identifier_of-append sent more long =
     sym (identifier_of-take 114 (sent ++ more) (omega arith)) ∙ ap identifier_of (take-append-le 114 sent more long) ∙ identifier_of-take 114 sent (omega arith)
 
--- the front of a sent unit without the last bit
+-- sync and NID of a transmitted data unit without the last bit
 pub front_of-111 : (sent : List Bool) → 48 ≤ length sent → take 111 (front_of sent) ≡ take 48 sent ++ take 63 (identifier_bits sent)
 unfolding front_of
 front_of-111 sent long =
     let place : 111 ≡ length (take 48 sent) + 63 = omega (arith, length-take-le 48 sent long) in
     ap (λ n. take n (take 48 sent ++ identifier_bits sent)) place ∙ take-append-add (take 48 sent) (identifier_bits sent) 63
 
--- the fixes of a front are those of its sync and those of its identifier
+-- the fixes of sync and NID are those of the sync and those of the NID
 pub front_fixes_of-parts : (nid : ℕ × ℕ) (sent : List Bool) → 48 ≤ length sent
     → front_fixes_of nid sent ≡ distance_of (take 48 sent) sync_bits + distance_of (take 63 (identifier_bits sent)) (take 63 (nid_word nid.0 nid.1))
 unfolding front_fixes_of
@@ -97,12 +97,12 @@ front_fixes_of-parts nid sent long =
     ap₂ (λ (xs ys : List Bool). distance_of xs ys) (front_of-111 sent long) (unit_front-111 nid.0 nid.1)
     ∙ distance_by-append beq (take 48 sent) (take 63 (identifier_bits sent)) sync_bits (take 63 (nid_word nid.0 nid.1)) (length-take-le 48 sent long ∙ sym length-sync_bits)
 
--- where the front is the one that is sent there are none
+-- if sync and NID are the transmitted ones there are none
 pub front_fixes_of-none : (nid : ℕ × ℕ) (sent : List Bool) → front_of sent ≡ unit_front nid.0 nid.1 → front_fixes_of nid sent ≡ 0
 unfolding front_fixes_of
 front_fixes_of-none nid sent same = ap (λ (xs : List Bool). distance_of (take 111 xs) (take 111 (unit_front nid.0 nid.1))) same ∙ distance_of-same (take 111 (unit_front nid.0 nid.1))
 
--- the front of a sent unit is that of its bare bits
+-- sync and NID of a transmitted data unit are those of its bits without status symbols
 pub front_of-bare_of : (blocks : ℕ) (sent : List Bool) → 2 ≤ blocks → length sent ≡ 72 * blocks → take 112 (bare_of sent) ≡ front_of sent
 unfolding front_of identifier_bits
 front_of-bare_of blocks sent two long =
@@ -115,7 +115,7 @@ front_of-bare_of blocks sent two long =
     (part-bare_of blocks 0 48 22 sent long (omega arith) (omega arith))
     (ap (take 42) (drop-drop 22 48 bare) ∙ part-bare_of blocks 1 0 42 sent long (omega arith) (omega arith)))
 
--- a sent unit whose front is the one that is sent has the sync and the identifier of it
+-- a data unit whose sync and NID are those transmitted for an identifier has the sync and that identifier
 pub front_of-sync : (nac duid : ℕ) (sent : List Bool) → 48 ≤ length sent → front_of sent ≡ unit_front nac duid → take 48 sent ≡ sync_bits
 unfolding front_of
 front_of-sync nac duid sent long same =
@@ -145,7 +145,7 @@ identifier_of-near nac duid sent nac_fits duid_fits long near =
     nid_reading_of-word (identifier_bits sent) word (omega (arith, length-identifier_bits sent long)) encoding.word_of_set near
     ∙ ap Some (identifier_of_word-encoding nac duid word nac_fits duid_fits encoding)
 
--- the fixes of a front hang on the first 114 bits alone
+-- the fixes of sync and NID depend on the first 114 bits alone
 pub front_fixes_of-take : (nid : ℕ × ℕ) (count : ℕ) (sent : List Bool) → 114 ≤ count → front_fixes_of nid (take count sent) ≡ front_fixes_of nid sent
 unfolding front_fixes_of front_of
 front_fixes_of-take nid count sent long =

@@ -32,7 +32,7 @@ window_bits bits at window there is =
     let long : length (part at 48 bits) ≡ 48 = length-take-le 48 (drop at bits) (omega (arith, length-drop at bits)) in
     ap₂ bits_of (sym long) is ∙ bits_of-field_of (part at 48 bits)
 
--- the fixes of a front are those of the window of its sync and those of its identifier
+-- the fixes of sync and NID are those of the window of the sync and those of the NID
 pub front_fixes-parts : (nid : ℕ × ℕ) (bits : List Bool) (at window number sync_count nid_count : ℕ)
     → at + 114 ≤ length bits → window ≡ field_of (part at 48 bits) → number ≡ field_of (identifier_bits (drop at bits)) → sync_count ≡ distance_of (bits_of 48 window) sync_bits
     → nid_count ≡ distance_of (take 63 (bits_of 64 number)) (take 63 (nid_word nid.0 nid.1)) → sync_count + nid_count ≡ front_fixes_of nid (drop at bits)

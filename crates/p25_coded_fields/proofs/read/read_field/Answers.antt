@@ -32,7 +32,7 @@ outer_value g code received word erased reading full is =
     }) (g.met.O.ErasedCode.erasures_within code) list (word_read reading word) (g.O.ErasedCode.erased_reading_is list) (length-without_erased received erased ∙ full)
     (erased_word_read_as _ o.IsWord _ list received word reading is) (g.met.O.ErasedCode.erased_reads_as code list)
 
--- where no inner word carries a symbol, nothing is received
+-- if no inner word carries a symbol, nothing is received
 no_symbols : (layout : Layout) (bits : List Bool) (list : List (Option Sym)) → layout.each ≡ 0 → length list ≡ 0 → layout.outer_reading list ≡ outer_word_of layout bits
 unfolding outer_word_of
 no_symbols layout bits list none empty =
@@ -72,7 +72,7 @@ field_fixes-requires-clause-few g c =
     let some : 0 < g.I.BlockCode.K / 6 = omega (arith, c.K-each.ensures) in
     few_places _ _ some (omega arith)
 
--- the outer word that was read is that of all places
+-- the decoded outer word is that of all positions
 word_is : (g : given.Over) (c : After-read_erased-2 g)
     → word_read c.read_erased-2.result c.read_erased-2.new.word
     ≡ outer_word_of (field_layout c.args.places.now g.I.BlockCode.N (g.I.BlockCode.K / 6) g.I.BlockCode.reading_is g.O.ErasedCode.erased_reading_is g.O.BlockCode.K) c.args.bare.now

@@ -13,7 +13,7 @@ is_distance c =
 pub returns-clause-distance : goal.returns-clause-distance
 returns-clause-distance c = is_distance c
 
--- two lists differ in no more places than they have
+-- two lists differ in at most as many positions as they have
 pub returns-clause-most : goal.returns-clause-most
 returns-clause-most c = omega (arith, is_distance c, distance_by-le beq (bits_of 48 c.args.window) sync_bits, length-bits_of 48 c.args.window)
 
