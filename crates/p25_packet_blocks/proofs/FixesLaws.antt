@@ -11,7 +11,7 @@ use Rattle.p25_packet_blocks.specs.{declared.head.PacketHead.{PacketHead}, Readi
 use Rattle.p25_packet_blocks.specs.{Heads.{confirmed_format, head_format, head_blocks}, Kinds.{IsPlainFormat}, Outcomes.{body_distance}}
 use Rattle.p25_packet_blocks.proofs.ReadingLaws.{length-half_octets, length-three_quarter_octets}
 
--- Blocks against what they read as.
+-- Blocks compared with their decodings.
 
 pub half_fixes : (received : List Bool) → distance_of received (half_block (half_octets received)) ≡ nearest_distance 4 half_point received
 half_fixes received = distance_of-sym received (half_block (half_octets received)) ∙ sym (nearest_distance-block 4 2 half_point received (omega arith) refl)
@@ -67,7 +67,7 @@ blocks_fixes states point (suc n) bare sent there long each =
       each n (omega arith),
     )
 
--- the header block and the blocks to follow against what is sent for them
+-- the header block and the blocks to follow compared with the transmitted ones
 pub all_fixes : (states : ℕ) (point : ℕ → ℕ → ℕ) (n : ℕ) (bare front nulls header : List Bool) (sent : ℕ → List Bool) → 308 + 196 * n ≤ length bare → length front ≡ 112
     → header ≡ half_block (half_octets (part 112 196 bare)) → ((j : ℕ) → j < n → length (sent j) ≡ 196)
     → ((j : ℕ) → j < n → distance_of (block_bits bare j) (sent j) ≡ nearest_distance states point (block_bits bare j))
@@ -92,7 +92,7 @@ all_fixes states point n bare front nulls header sent there long_front is long e
       blocks_fixes states point n bare sent there long each,
     )
 
--- The wrong bits of the blocks, by the format.
+-- The bit errors of the blocks, by the format.
 
 pub body_distance-confirmed : (head : PacketHead) (bare : List Bool) → head_format head ≡ confirmed_format → body_distance head bare ≡ three_quarter_distance (head_blocks head) bare
 unfolding body_distance

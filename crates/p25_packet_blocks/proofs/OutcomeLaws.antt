@@ -16,7 +16,7 @@ use Rattle.p25_packet_blocks.proofs.{ReadingLaws.{head_reading_of-is, packet_of_
 
 -- The header.
 
--- a header that was read is the header that the block holds, and its wrong bits are the distance to the nearest
+-- a decoded header is the header of the block, and its bit errors are the distance to the nearest block
 pub record IsReadHead (block : List Bool) (read : ReadHead) : Type 0 where
   pub head : head_from (half_octets block) ≡ Ok read.head
   pub wrong : read.wrong ≡ nearest_distance 4 half_point block
@@ -40,7 +40,7 @@ pub IfOk-few : (block : List Bool) (reading : Result ReadHead Field) → reading
 IfOk-few block (Ok read) is = read_head_of-few block read (sym is)
 IfOk-few block (Err field) is = tt
 
--- what a block reads as, by the header that it holds
+-- the decoding of a block, by the header that it holds
 pub read_head_of-good : (block : List Bool) (head : PacketHead) → head_from (half_octets block) ≡ Ok head
     → read_head_of block ≡ Ok (record { head = head; wrong = nearest_distance 4 half_point block })
 unfolding read_head_of counted_head
@@ -91,7 +91,7 @@ good_fails_not : (j : ℕ) (slot : Slot) → slot ≢ Bad → failing_slot j slo
 good_fails_not j (Good block) good = refl
 good_fails_not j Bad good = absurd (good refl)
 
--- where none fails, no slot is Bad
+-- if none fails, no slot is `Bad`
 none_bad : (n : ℕ) (slots : List Slot) → failing_slots_of n slots ≡ [] → (j : ℕ) → j < n → get_or slots j Bad ≢ Bad
 none_bad zero slots none j inside = absurd (omega arith)
 none_bad (suc n) slots none j inside =
@@ -117,7 +117,7 @@ unfolding failing_blocks_of IsWholePacket
 failing_blocks_of-none (Confirmed packet) whole = none_fails (length packet.slots) packet.slots whole.at
 failing_blocks_of-none (Plain packet) whole = refl
 
--- The wrong bits of the blocks, by the format.
+-- The bit errors of the blocks, by the format.
 
 pub confirmed-set : (head : PacketHead) (bare : List Bool) (slots : List Slot) (n : ℕ) → head_format head ≡ confirmed_format → n ≡ head_blocks head → slots ≡ slots_read n bare
     → Ok (confirmed_by_parts head slots) ≡ packet_of_head head bare
@@ -161,7 +161,7 @@ pub IfOk-none : (packet : Packet) (field : Field) (reading : Result Packet Field
 IfOk-none packet field (Ok other) is = absurd (cc)
 IfOk-none packet field (Err other) is = tt
 
--- where no field fails, the wrong bits are the packet's fixes
+-- if no field fails, the bit errors are the packet's fixes
 pub packet_outcome-fixes : (read : ReadHead) (bare : List Bool) (packet : Packet) (wrong : ℕ) (fields : List Field) → read_head_of (header_bits bare) ≡ Ok read
     → 308 + 196 * head_blocks read.head ≤ length bare
     → Ok packet ≡ packet_of_head read.head bare → wrong ≡ read.wrong + body_distance read.head bare → failing_blocks_of packet ≡ fields

@@ -15,7 +15,7 @@ use Rattle.p25_packet_blocks.specs.Places.{IsBodyBlock, IsPacketImage}
 use Rattle.p25_packet_blocks.proofs.ImageLaws.{length-header_octets, AreOctets-header_octets, length-confirmed_octets, AreOctets-confirmed_octets, body_block-confirmed, body_block-plain}
 use Rattle.p25_packet_blocks.proofs.SendableLaws.{IsSendable-head, octets_of_block}
 
--- What is sent for each block.
+-- The transmitted bits of each block.
 
 IsBlock-half : (octets : List ℕ) → length octets ≡ 12 → All (λ octet. octet < 256) octets → IsBlock 4 2 half_point octets (half_block octets)
 IsBlock-half octets long small = IsBlock-block_from 4 2 half_point octets refl long small
@@ -115,7 +115,7 @@ module _ (nac : ℕ) (packet : Packet) (sendable : IsSendable packet) where
   image_long =
       rw (grouped, length-append) (omega (arith, long_bits, filled, length-replicate (packet_bare_length count - packet_bits count) false))
 
-  -- the front
+  -- sync and NID
   pub image_front : take 112 (packet_image_of nac packet) ≡ front
   image_front = cc (split, take_at front (header ++ (body ++ packet_nulls count)) 112 (length-unit_front nac 12))
 

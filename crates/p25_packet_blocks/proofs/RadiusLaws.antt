@@ -58,13 +58,13 @@ module _ (octets : List ℕ) where
   checked_number =
       simp (checked_octets-is, drop_at, number_of_four_octets)
 
--- Blocks with few wrong bits.
+-- Blocks with few bit errors.
 
--- a half-rate block with at most two wrong bits reads as sent
+-- a half-rate block with at most two bit errors decodes to the transmitted octets
 abbrev pub HalfNear : Type 0
 HalfNear = (octets : List ℕ) (received : List Bool) → length octets ≡ 12 → AreOctets octets → length received ≡ 196 → distance_of (half_block octets) received ≤ 2 → half_octets received ≡ octets
 
--- a three-quarter-rate block with at most one wrong bit reads as sent
+-- a three-quarter-rate block with at most one bit error decodes to the transmitted octets
 abbrev pub ThreeQuarterNear : Type 0
 ThreeQuarterNear =
     (octets : List ℕ) (received : List Bool) → length octets ≡ 18 → AreOctets octets → length received ≡ 196 → distance_of (three_quarter_block octets) received ≤ 1

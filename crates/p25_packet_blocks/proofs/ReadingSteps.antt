@@ -4,7 +4,7 @@ use Rattle.std.proofs.lemmas.Slice.{take-put_mid}
 use borrow.Rule.Slice.PartMut.{put_mid}
 use Rattle.p25_bits.specs.Numbers.{octets_number, number_after}
 
--- the octets of a list from place n on, where there are two
+-- the octets of a list from index n on, if there are two
 last_two : (octets : List ℕ) (n : ℕ) → length octets ≡ n + 2 → drop n octets ≡ get_or octets n 0 ∷ get_or octets (n + 1) 0 ∷ []
 last_two octets n long =
     cc (drop-cons octets n 0 (omega arith), add-one n, drop-cons octets (n + 1) 0 (omega arith), drop_all (suc (n + 1)) octets (omega arith))

@@ -34,7 +34,7 @@ pub sent_head_of-bare_of : (blocks : ℕ) (sent : List Bool) → 5 ≤ blocks �
 sent_head_of-bare_of blocks sent five long =
     cc (sent_head_of-is sent, sent_header_bits-bare_of blocks sent five long, head_reading_of-is (bare_of sent))
 
--- and its wrong bits
+-- and its bit errors
 pub sent_read_of-bare_of : (blocks : ℕ) (sent : List Bool) → 5 ≤ blocks → length sent ≡ 72 * blocks → sent_read_of sent ≡ read_head_of (header_bits (bare_of sent))
 unfolding sent_read_of
 sent_read_of-bare_of blocks sent five long = cc (sent_header_bits-bare_of blocks sent five long)
@@ -64,7 +64,7 @@ module _ (half : HalfNear) (three_quarter : ThreeQuarterNear) (nac : ℕ) (packe
   front : front_of whole ≡ unit_front nac 12
   front = cc (front_of-bare_of (length statuses) whole (omega (arith, five)) long_whole, bare, image_front nac packet sendable)
 
-  -- a unit within radius reads as its network access code and packet
+  -- a correctable data unit decodes to its network access code and packet
   pub sent_within : (received : List Bool) → IsPacketWithin packet whole received → packet_unit_of received ≡ Ok (nac, packet)
   sent_within received within =
       let head = packet_head packet in

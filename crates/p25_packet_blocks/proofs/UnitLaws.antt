@@ -34,7 +34,7 @@ pub sent_head_of-append : (sent more : List Bool) → 316 ≤ length sent → se
 sent_head_of-append sent more long =
     cc (sent_head_of-take 316 (sent ++ more) (omega arith), take-append-le 316 sent more long, sent_head_of-take 316 sent (omega arith))
 
--- So do its wrong bits.
+-- So do its bit errors.
 
 pub sent_read_of-is : (sent : List Bool) → sent_read_of sent ≡ read_head_of (sent_header_bits sent)
 unfolding sent_read_of

@@ -182,7 +182,7 @@ module _ (head : PacketHead) (bare : List Bool) where
   long_carried : length carried ≡ 12 * head_blocks head - 4
   long_carried = length-take-le (12 * head_blocks head - 4) all_octets (omega (arith, length-octets_read (head_blocks head) bare))
 
-  -- where there are blocks to follow, their octets are those that are written
+  -- if there are blocks to follow, their octets are those that are written
   checked_again : 0 < head_blocks head → octets_number (drop (12 * head_blocks head - 4) all_octets) ≡ crc32_of carried → checked_octets carried ≡ all_octets
   checked_again some agrees =
       let count = 12 * head_blocks head - 4 in

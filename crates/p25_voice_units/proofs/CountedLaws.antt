@@ -16,7 +16,7 @@ use Rattle.p25_voice_units.specs.{Images.{contents, piece_bits, rows_bits, voice
 use Rattle.p25_unit_front.specs.Front.{unit_front}
 use Rattle.p25_voice_units.proofs.{FixesLaws.{fixes-append}, FormLaws.{length-unit, unit_parts, words_in_unit}, ImagesLaws.{hamming10_carried, ldu_suits}}
 
--- places of one width
+-- positions of one width
 bits_at-inner : (width : ℕ) (places : List ℕ) (bits : List Bool) → bits_at (wide width places) bits ≡ inner_bits width places bits
 unfolding bits_at wide inner_bits
 bits_at-inner width places bits =
@@ -47,7 +47,7 @@ low_distance first second received image there there_image is_first is_second =
     (distance_by-append beq (part 1504 16 received) (part 1520 16 received)
     (part 1504 16 image) (part 1520 16 image) (length-part 1504 16 received inside ∙ sym (length-part 1504 16 image inside_image)))
 
--- the inner words of a unit with voice stand within it
+-- the inner words of a data unit with voice are within it
 link_words_there : (bits : List Bool) → 1680 ≤ length bits → All (λ at. at + 10 ≤ length bits) (word_places 10 ldu_rows)
 unfolding word_places places_from
 link_words_there bits there = all_end 10 1680 (length bits) (word_places 10 ldu_rows) refl there
@@ -67,7 +67,7 @@ link_distance symbols first second received image there there_image is is_first 
       low_distance first second received image there there_image is_first is_second,
     ) refl
 
--- the fixes of a unit by its coded field alone, as its looked-at places and its image have it
+-- the fixes of a data unit by its coded field alone, from its examined positions and its image
 pub coded_fixes : (unit : VoiceUnit) (encoding : List Bool → List Bool)
     (width each : ℕ) (places : List ℕ) (symbols : List Sym) (received : List Bool) (fixes : ℕ) → voice_looked unit ≡ wide width places
     → ((nac : ℕ) → inner_bits width places (voice_image_of nac unit) ≡ field_bits encoding each (length places) symbols)
@@ -79,7 +79,7 @@ coded_fixes unit encoding width each places symbols received fixes looked carrie
       rw (count, looked) (sym (field_distance encoding width each places symbols received image (carried nac)));
 }
 
--- of a unit with voice by the information of its coded field, as its image and its looked-at places have it
+-- the fixes of a data unit with voice by the information of its coded field, from its image and its examined positions
 pub ldu_fixes : (unit : VoiceUnit) (duid k : ℕ) (info : List Sym) (low : List ℕ) (voice : List VoiceFrame) (received : List Bool) (fixes : ℕ)
     → IsCode 24 k → length info ≡ k → IsSpeech low voice → 1680 ≤ length received
     → voice_looked unit ≡ link_looked → ((nac : ℕ) → voice_image_of nac unit ≡ unit_front nac duid ++ rows_bits (contents hamming10_word 1 (rs_word 24 k info) low voice) ldu_rows)

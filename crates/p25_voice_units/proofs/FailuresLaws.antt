@@ -11,7 +11,7 @@ use Rattle.p25_voice_units.proofs.{KindsLaws.{reading-header, reading-end, readi
 pub first_fails : (fields : List Field) (field : Field) (others : List Field) → field ∷ others ≡ fields → 0 < length fields
 first_fails fields field others is = subst (λ (xs : List Field). 0 < length xs) is (omega arith)
 
--- an answer with a field gives it
+-- a result with a field has at least one
 some_field : {X : Type 0} (field : Field) (others fields : List Field) (answer : Result X (List Field)) → answer ≡ Err (field ∷ others) → answer ≡ Err fields → 0 < length fields
 some_field field others fields answer is e = first_fails fields field others (let two : Err (field ∷ others) ≡ Err fields = sym is ∙ e in cc)
 

@@ -25,7 +25,7 @@ pub tdulc_codes : HasCodes IsGolay24 3 (IsWord 24 12) 12 tdulc_layout
 unfolding word_places places_from
 tdulc_codes = layout_codes golay24_code.is.laws golay24_reading_of golay24_code.is.reads (word_places 24 tdulc_rows) 2 24 12 link_code refl
 
--- the inner words stand within the unit
+-- the inner words are within the data unit
 pub header_there : (bare : List Bool) → length bare ≡ 770 → All (λ at. at + 18 ≤ length bare) header_layout.places
 unfolding word_places places_from
 header_there bare long = let fits : 770 ≤ length bare = omega arith in all_end 18 770 (length bare) (word_places 18 hdu_rows) refl fits

@@ -14,14 +14,14 @@ use Rattle.p25_voice_units.specs.{declared.layout.Piece.{Piece}, declared.layout
 use Rattle.p25_voice_units.specs.{Pieces.{piece_fits, piece_length}, Images.{Contents, piece_bits}, Places.{HasPiece}}
 use Rattle.p25_voice_units.proofs.{CodesLaws.{lsd16_only}, RowsLaws.{IsCarried, rows_supplied}}
 
--- how many inner words a piece has
+-- the number of inner words of a part
 abbrev pub word_count : Piece → ℕ
 word_count (Words first count) = count
 word_count (Frame i) = 0
 word_count (LowSpeed i) = 0
 word_count (Nulls count) = 0
 
--- the inner words of a piece begin with that of a number
+-- the inner words of a part begin with that of a number
 abbrev pub begins_at : ℕ → Piece → Bool
 begins_at n (Words first count) = eqb first n
 begins_at n (Frame i) = true
@@ -63,7 +63,7 @@ module _ {IsWord : List Bool → Type 0} {size k : ℕ} {carried : Contents} (ca
   unfoldable pub group_word : ℕ → List Bool
   group_word i = carried.encoding (symbol_bits (part (carried.each * i) carried.each carried.symbols))
 
-  -- the words of a piece that is there
+  -- the words of a part that is there
   row_words : (at : ℕ) (piece : Piece) (n : ℕ) (bare : List Bool) → begins_at n piece ≡ true → piece_fits carried.each (length carried.symbols) (length carried.low) (length carried.voice) piece ≡ true
       → part at (piece_length size piece) bare ≡ piece_bits carried piece → (i : ℕ) → i < length (words_at size at piece) → part (get_or (words_at size at piece) i 0) size bare ≡ group_word (n + i)
   unfolding group_word
@@ -107,7 +107,7 @@ module _ {IsWord : List Bool → Type 0} {size k : ℕ} {carried : Contents} (ca
             (words_from_rows rows (n + word_count row.1) bare counts.1 fits.1 (λ j d low. there (suc j) d (omega arith)) (i - length here) behind)
       ]
 
-  -- a piece is there where its words are, and what else it may be
+  -- a part is there if its words are, and its other contents
   piece_there : (at : ℕ) (piece : Piece) (n : ℕ) (bare : List Bool) → begins_at n piece ≡ true
       → ((i : ℕ) → i < length (words_at size at piece) → part (get_or (words_at size at piece) i 0) size bare ≡ group_word (n + i))
       → HasPiece carried.low carried.voice bare at piece → part at (piece_length size piece) bare ≡ piece_bits carried piece
@@ -123,7 +123,7 @@ module _ {IsWord : List Bool → Type 0} {size k : ℕ} {carried : Contents} (ca
   piece_there at (LowSpeed i) n bare begins words has = lsd16_only (bits_of 8 (get_or carried.low i 0)) (part at 16 bare) (length-bits_of 8 (get_or carried.low i 0)) has
   piece_there at (Nulls count) n bare begins words has = has
 
-  -- rows are there where their words are
+  -- rows are there if their words are
   pub rows_from_words : (rows : List (ℕ × Piece)) (n : ℕ) (bare : List Bool) → rows_counted n rows ≡ true
       → ((i : ℕ) → i < length (word_places size rows) → part (get_or (word_places size rows) i 0) size bare ≡ group_word (n + i))
       → All (λ row. HasPiece carried.low carried.voice bare row.0 row.1) rows → All (λ row. part row.0 (piece_length size row.1) bare ≡ piece_bits carried row.1) rows

@@ -8,12 +8,12 @@ use Rattle.p25_bits.proofs.{DistanceLaws.{distance_by-append, distance_by-le, di
 use Rattle.p25_coded_fields.proofs.SymbolsLaws.{one_more}
 use Rattle.p25_voice_units.specs.Fixes.{wide, bits_at}
 
--- what two lists have at places after each other
+-- the bits at two lists of positions, one after the other
 pub bits_at-append : (xs ys : List (ℕ × ℕ)) (bits : List Bool) → bits_at (xs ++ ys) bits ≡ bits_at xs bits ++ bits_at ys bits
 unfolding bits_at
 bits_at-append xs ys bits = flat_map-append (λ place. part place.0 place.1 bits) xs ys
 
--- at places that are there are so many bits
+-- at positions within the bits there are so many bits
 pub length-bits_at : (width : ℕ) (places : List ℕ) (bits : List Bool) → All (λ at. at + width ≤ length bits) places → length (bits_at (wide width places) bits) ≡ width * length places
 unfolding bits_at wide
 length-bits_at width [] bits there = omega arith
@@ -23,11 +23,11 @@ length-bits_at width (at ∷ places) bits there =
     length-append (part at width bits) (flat_map run (map (λ a. (a, width)) places))
     ∙ omega (arith, length-part at width bits here, length-bits_at width places bits (λ k d h. there (suc k) d (omega arith)), one_more width (length places))
 
--- in how many bits two lists differ at a place
+-- the number of bits in which two lists differ at a position
 abbrev pub differ_at : ℕ → List Bool → List Bool → ℕ → ℕ
 differ_at width received image at = distance_of (part at width received) (part at width image)
 
--- by the numbers that stand there
+-- by the numbers at it
 pub differ_at-ones : (width at : ℕ) (received image : List Bool) (m n : ℕ)
     → at + width ≤ length received → at + width ≤ length image → m ≡ field_of (part at width received) → n ≡ field_of (part at width image)
     → count_ones (bit_xor m n) ≡ differ_at width received image at
@@ -35,7 +35,7 @@ differ_at-ones width at received image m n there there_image first second =
     ap₂ (λ a b. count_ones (bit_xor a b)) first second ∙ ones-xor (part at width received) (part at width image) (length-part at width received there ∙ sym (length-part at width image there_image))
 
 module _ (width : ℕ) (received image : List Bool) where
-  -- so many at each place are all at the places
+  -- the sum over the positions is the number at all of them
   pub differ_at-all : (places : List ℕ) → All (λ at. at + width ≤ length received) places → All (λ at. at + width ≤ length image) places
       → sum_by (differ_at width received image) places ≡ distance_of (bits_at (wide width places) received) (bits_at (wide width places) image)
   unfolding bits_at wide
@@ -59,7 +59,7 @@ module _ (width : ℕ) (received image : List Bool) where
   pub differ_at-small : (places : List ℕ) → width ≤ 24 → length places ≤ 36 → All (λ at. at + width ≤ length received) places → sum_by (differ_at width received image) places ≤ 864
   differ_at-small places narrow few there = omega (arith, differ_at-le places there, mul-le-mul_left width few)
 
--- the fixes of two lists of places, one after the other
+-- the fixes of two lists of positions, one after the other
 pub fixes-append : (width more : ℕ) (places others : List ℕ) (received image : List Bool) → All (λ at. at + width ≤ length received) places → All (λ at. at + width ≤ length image) places
     → distance_of (bits_at (wide width places ++ wide more others) received) (bits_at (wide width places ++ wide more others) image)
     ≡ distance_of (bits_at (wide width places) received) (bits_at (wide width places) image) + distance_of (bits_at (wide more others) received) (bits_at (wide more others) image)

@@ -19,8 +19,7 @@ use Rattle.p25_voice_units.specs.Lengths.{voice_length_of}
 use Rattle.p25_voice_units.proofs.{LengthsLaws.{one_length}, RowsLaws.{IsCarried, rows_length, rows_stand, rows_supplied, length-rows_bits, rows_parts, rows_only}}
 use Rattle.p25_voice_units.proofs.FieldRowsLaws.{rows_counted, group_word, words_from_rows, rows_from_words, rows_have}
 
--- rows that suit what is carried: they follow the front end to end, and number its inner words in order; and these are as many as the
--- symbols need, and stand within the unit
+-- rows that suit the contents: they follow sync and NID end to end, and number the inner words in order. These are as many as the symbols need, and are within the data unit
 pub record AreRows (size count : ℕ) (carried : Contents) (rows : List (ℕ × Piece)) : Type 0 where
   pub stand : rows_stand size 112 rows ≡ true
   pub fit : rows_supplied carried.each (length carried.symbols) (length carried.low) (length carried.voice) rows ≡ true
@@ -36,7 +35,7 @@ module _ {IsWord : List Bool → Type 0} {size k : ℕ} {carried : Contents}
   length-unit nac duid =
       length-append (unit_front nac duid) (rows_bits carried table) ∙ ap₂ ◌+◌ (length-unit_front nac duid) (length-rows_bits carries table are.fit) ∙ sym are.fill
 
-  -- and have each piece at its place
+  -- and have each part at its position
   pub unit_parts : (nac duid : ℕ) (bare : List Bool) → bare ≡ unit_front nac duid ++ rows_bits carried table → All (λ row. part row.0 (piece_length size row.1) bare ≡ piece_bits carried row.1) table
   unit_parts nac duid bare is =
       subst (λ (xs : List Bool). All (λ row. part row.0 (piece_length size row.1) xs ≡ piece_bits carried row.1) table) (sym is)
@@ -83,7 +82,7 @@ module _ {IsWord : List Bool → Type 0} {size k : ℕ} {carried : Contents}
       rw none
       (field_word carries.long carried.encoding carries.encodes carried.each (length (word_places size table)) carried.symbols carries.sixes are.cover i inside)
 
-  -- where the symbols are the outer word of some information
+  -- if the symbols are the outer word of some information
   module _ (n information : ℕ) (code : IsCode n information) (info : List Sym)
       (long : length info ≡ information) (made : carried.symbols ≡ rs_word n information info) (inner_reading : List Bool → Option (List Bool)) where
     abbrev coded : Layout
@@ -108,7 +107,7 @@ module _ {IsWord : List Bool → Type 0} {size k : ℕ} {carried : Contents}
         carries.one_word (part (get_or (word_places size table) i 0) size bare) (group_word carries (0 + i)) there.word_of_set encoded.word_of_set
         (rw (there.begins, sent) (sym encoded.begins))
 
-    -- so bits are laid out and carry the field exactly where they are the unit's
+    -- so bits are laid out and carry the field exactly if they are those of the data unit
     pub unit_form : (nac duid : ℕ) (bare : List Bool) → voice_length_of duid ≡ Some count
         → (IsLaidOut nac duid table carried.low carried.voice bare × HasField IsWord (IsOuterWord n information) coded info bare)
         ↔ (bare ≡ unit_front nac duid ++ rows_bits carried table)

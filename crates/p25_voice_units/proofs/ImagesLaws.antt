@@ -83,7 +83,7 @@ length-voice_image_of nac (Link2 sync low voice) keeps =
 length-voice_image_of nac End keeps = length-end ∙ ap Some (sym (length-unit (golay18_carried []) end_suits nac 3))
 length-voice_image_of nac (EndLink link) keeps = length-tdulc ∙ ap Some (sym (length-unit (golay24_carried _) (tdulc_suits link) nac 15))
 
--- a unit's bits are those that stand as its kind says
+-- the bits of a data unit are those with the layout of its type
 pub IsVoiceImage-iff : (nac : ℕ) (unit : VoiceUnit) (bare : List Bool) → IsSendableVoice unit → IsVoiceImage nac unit bare ↔ (bare ≡ voice_image_of nac unit)
 unfolding IsSendableVoice IsVoiceImage voice_image_of voice_body
 IsVoiceImage-iff nac (Header word) bare keeps =

@@ -33,7 +33,7 @@ pub reading-tdulc : (bare : List Bool) → voice_reading_of 15 bare ≡ tdulc_fr
 unfolding voice_reading_of
 reading-tdulc bare = refl
 
--- what a kind's reader answers
+-- the result of the reader of a type
 pub reading_by_kind : (duid kind : ℕ) (bare : List Bool) (answer value : Result VoiceUnit (List Field))
     → duid ≡ kind → answer ≡ value → voice_reading_of kind bare ≡ value → answer ≡ voice_reading_of duid bare
 reading_by_kind duid kind bare answer value same is read = is ∙ sym read ∙ ap (λ d. voice_reading_of d bare) (sym same)
@@ -46,7 +46,7 @@ module _ {X : Type 0} (field : Field) (unit : X → List ℕ → VoiceUnit) wher
   ldu_whole answer low_first low_second word first second a b c =
       ap (λ x. ldu_from field unit x low_first low_second) a ∙ ap (λ x. ldu_from field unit (Some word) x low_second) b ∙ ap (ldu_from field unit (Some word) (Some first)) c
 
-  -- or some part of which was not, by how many bits of each part were put right
+  -- or some part of which was not, by the number of corrected bits of each part
   pub ldu_fails : (answer low_first low_second : Option ℕ) (word : X) (first second : ℕ)
       → ((a b c : ℕ) → answer ≡ Some a → low_first ≡ Some b → low_second ≡ Some c → ⊥)
       → Err (failing field answer low_first low_second) ≡ ldu_from field unit (option_map (λ n. word) answer) (option_map (λ n. first) low_first) (option_map (λ n. second) low_second)
@@ -79,7 +79,7 @@ ldu_read field unit f outcome symbols low word voice bare reading is made spoken
     ∙ is (λ s octets. unit (f s) octets (voice_in bare))
     ∙ ldu_from-map field (λ w octets. unit w octets (voice_in bare)) f reading (low_in 0 bare) (low_in 1 bare)
 
--- a terminator is its front and nulls
+-- a terminator is sync, NID and nulls
 pub image-end : (nac : ℕ) → voice_image_of nac End ≡ unit_front nac 3 ++ replicate 28 false
 unfolding voice_image_of voice_body rows_bits piece_bits
 image-end nac = refl

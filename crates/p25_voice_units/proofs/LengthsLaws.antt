@@ -27,7 +27,7 @@ length-tdulc = refl
 pub one_length : {count len : ℕ} → (duid : ℕ) → voice_length_of duid ≡ Some count → voice_length_of duid ≡ Some len → len ≡ count
 one_length duid known is = cc
 
--- what is chosen by the identifier of a voice unit's kind, or of none: so it is for all where it is for each
+-- a choice by the identifier of a voice data unit's type, or of none: a property of each choice is one of all
 module _ {X : Type 0} (header end ldu1 ldu2 tdulc other : X) where
   abbrev by_duid : ℕ → X
   by_duid duid = cond (eqb duid 0) header (cond (eqb duid 3) end (cond (eqb duid 5) ldu1 (cond (eqb duid 10) ldu2 (cond (eqb duid 15) tdulc other))))
@@ -77,7 +77,7 @@ length-cases P header end ldu1 ldu2 tdulc duid count =
     at : (k n : ℕ) → P k n → Some n ≡ Some count → P k count
     at k n holds is = let many : n ≡ count = cc in subst (P k) many holds
 
--- a unit of each kind has at least its front, at most 1,680 bits, and fills blocks of 70
+-- a data unit of each type has at least the bits of sync and NID, at most 1,680 bits, and fills blocks of 70
 pub voice_lengths : (duid count : ℕ) → voice_length_of duid ≡ Some count → (112 ≤ count) × (count ≤ 1680) × (count % 70 ≡ 0)
 voice_lengths =
     length-cases (λ duid count. (112 ≤ count) × (count ≤ 1680) × (count % 70 ≡ 0))

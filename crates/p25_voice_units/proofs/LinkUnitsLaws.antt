@@ -19,7 +19,7 @@ use Rattle.p25_voice_units.proofs.{CodesLaws.{link_code, sync_code}, CountedLaws
 abbrev pub ldu_layout : ℕ → Layout
 ldu_layout k = field_layout (word_places 10 ldu_rows) 10 1 hamming10_reading_of (rs_erased_reading_of 24 k) k
 
--- what was read of a unit with voice: the symbols of its word, its octets of low speed data, and how many bits were put right
+-- the decoding of a data unit with voice: the symbols of its word, its octets of low speed data, and the number of corrected bits
 pub record AreParts (k : ℕ) (field : Field) (bare : List Bool) (outcome : ReadOutcome) (symbols : List Sym) (low : List ℕ) : Type 0 where
   pub value : (made : List Sym → List ℕ → VoiceUnit) → read_or outcome (made symbols low) ≡ ldu_from field made (field_reading_of (ldu_layout k) bare) (low_in 0 bare) (low_in 1 bare)
   pub wrong : IfRead outcome (λ wrong. wrong
@@ -56,7 +56,7 @@ at_most : (outcome : ReadOutcome) → IfRead outcome (λ wrong. wrong ≤ 608) �
 at_most (Failing fields) few = tt
 at_most (Read wrong) few = omega arith
 
--- where a field fails, no matter what stands in the place of the unit
+-- if a field fails, the data unit does not matter
 failing_any : (outcome : ReadOutcome) (fields : List Field) (x y : VoiceUnit) → outcome ≡ Failing fields → read_or outcome x ≡ read_or outcome y
 failing_any outcome fields x y is = ap (λ o. read_or o x) is ∙ sym (ap (λ o. read_or o y) is)
 
@@ -69,7 +69,7 @@ module _ {W : Type 0} (duid k : ℕ) (field : Field) (unit : W → List ℕ → 
   kind_value outcome word voice parts made spoken =
       ldu_read field unit of_symbols outcome symbols low word voice bare (field_reading_of (ldu_layout k) bare) parts.value made spoken ∙ sym (kind.reading bare)
 
-  -- and how many bits were put right
+  -- and the number of corrected bits
   kind_wrong : (outcome : ReadOutcome) (word : W) (voice : List VoiceFrame) → 1680 ≤ length bare → AreParts k field bare outcome symbols low
       → read_or outcome (unit word low voice) ≡ voice_reading_of duid bare → symbols_of word ≡ symbols → IfRead outcome (λ wrong. AreFixes (unit word low voice) bare wrong)
   kind_wrong (Failing fields) word voice there parts read back = tt

@@ -27,7 +27,7 @@ use Rattle.p25_gf64.specs.declared.symbol.Sym.{Sym}
 use Rattle.p25_golay.specs.{Golay18Laws.{golay18_reading_of}, Golay24Laws.{golay24_reading_of}}
 use Rattle.p25_coded_fields.specs.Layouts.{field_reading_of}
 
--- a low speed word with at most two wrong bits is read as its octet
+-- a low speed data word with at most two bit errors decodes to its octet
 low_near : (at octet : ℕ) (sent received : List Bool) → octet < 256
     → IsEncoding IsLsd16 8 (bits_of 8 octet) (part at 16 sent) → at + 16 ≤ length received → distance_of (part at 16 received) (part at 16 sent) ≤ 2
     → option_map (λ w. field_of (take 8 w)) (lsd16_reading_of (part at 16 received)) ≡ Some octet
@@ -59,7 +59,7 @@ ldu_within field unit answer word low voice sent received is keeps pieces long n
     (low_near 1520 (slice_index low 1) sent received (keeps.small 1 0 (omega (arith, keeps.two))) (pieces 15 (0, Nulls 0) (lit< tt)) there' (near 1 0 (lit< tt)))
     ∙ ap (λ octets. Ok (unit word octets)) (two_of low keeps.two)
 
--- a unit within radius is read as sent, with its voice as received
+-- a correctable data unit decodes to the transmitted one, with its voice as received
 pub voice_within : (nac : ℕ) (unit : VoiceUnit) (sent received : List Bool) → IsSendableVoice unit → IsVoiceImage nac unit sent → length received ≡ length sent → IsVoiceWithin unit sent received
     → voice_reading_of (voice_duid unit) received ≡ Ok (received_voice unit received)
 unfolding IsSendableVoice IsVoiceImage IsVoiceWithin header_in link_in sync_in header_from tdulc_from ldu1_in ldu2_in
@@ -81,7 +81,7 @@ voice_within nac (EndLink link) sent received keeps is long near =
     reading-tdulc received
     ∙ ap tdulc_from (ap (option_map link_of_symbols) (field_within tdulc_codes (link_symbols link) sent received is.1 near) ∙ ap Some (link_words.back link keeps))
 
--- by whole inner words is within radius too
+-- bits within the correction radius by whole inner words are within it
 pub within_from_words : (nac : ℕ) (unit : VoiceUnit) (sent received : List Bool)
     → IsVoiceImage nac unit sent → length received ≡ length sent → IsVoiceWithinByWords unit sent received → IsVoiceWithin unit sent received
 unfolding IsVoiceImage IsVoiceWithin IsVoiceWithinByWords
@@ -99,7 +99,7 @@ within_from_words nac End sent received is long few = tt
 within_from_words nac (EndLink link) sent received is long few =
     near_from_lost tdulc_codes (link_symbols link) sent received is.1 (tdulc_there received (long ∙ one_length 15 length-tdulc is.0.long)) (omega arith)
 
--- undamaged bits are within radius
+-- undamaged bits are within the correction radius
 low_itself : (sent : List Bool) → AreLowWithin sent sent
 low_itself sent i d inside = let at = get_or (low_places ldu_rows) i d in omega (arith, distance_of-same (part at 16 sent))
 
@@ -112,7 +112,7 @@ within_itself nac (Link2 sync low voice) sent is =
 within_itself nac End sent is = tt
 within_itself nac (EndLink link) sent is = near_itself tdulc_codes (link_symbols link) sent is.1 (tdulc_there sent (one_length 15 length-tdulc is.0.long))
 
--- the voice frame at its place
+-- the voice frame at its position
 frame_back : (at : ℕ) (frame : VoiceFrame) (bare : List Bool) → IsVoiceFrame frame → at + 144 ≤ length bare → part at 144 bare ≡ octet_bits frame.0 → frame_in at bare ≡ frame
 unfolding frame_in
 frame_back at frame bare keeps there is =
@@ -126,7 +126,7 @@ frame_back at frame bare keeps there is =
     ∙ numbers_from-number_bits 8 frame.0 keeps.small
     )
 
--- which stands in a row of its own
+-- which is in a row of its own
 frame_row : (low : List ℕ) (voice : List VoiceFrame) (bare : List Bool) → All (λ row. HasPiece low voice bare row.0 row.1) ldu_rows → (i : ℕ) → i < 9
     → (part (slice_index (frame_places ldu_rows) i) 144 bare ≡ octet_bits (frame_at voice i).0) × (slice_index (frame_places ldu_rows) i + 144 ≤ 1680)
 unfolding frame_places
@@ -170,19 +170,18 @@ received_itself nac (Link2 sync low voice) sent keeps is = ap (Link2 sync low) (
 received_itself nac End sent keeps is = refl
 received_itself nac (EndLink link) sent keeps is = refl
 
--- a unit's own bits stand by their places
+-- the image of a data unit has its layout by positions
 pub IsVoiceImage-same : (nac : ℕ) (unit : VoiceUnit) → IsSendableVoice unit → IsVoiceImage nac unit (voice_image_of nac unit)
 IsVoiceImage-same nac unit keeps = (IsVoiceImage-iff nac unit (voice_image_of nac unit) keeps).1 refl
 
--- and are read as the unit
+-- and decodes to the data unit
 pub voice_reading_of-image : (nac : ℕ) (unit : VoiceUnit) → IsSendableVoice unit → voice_reading_of (voice_duid unit) (voice_image_of nac unit) ≡ Ok unit
 voice_reading_of-image nac unit keeps =
     let image = voice_image_of nac unit in
     let form = IsVoiceImage-same nac unit keeps in
     voice_within nac unit image image keeps form refl (within_itself nac unit image form) ∙ ap Ok (received_itself nac unit image keeps form)
 
--- What a voice unit was read as: each part that was read is the word of its code near to what was received, and the unit's own bits have the
--- only word with this information.
+-- The decoding of a voice data unit: each decoded part is the codeword near to the received bits, and the data unit's own bits have the only codeword with this information.
 
 -- a part that was read is that of the symbols that were read
 symbols_read : {W : Type 0} (of_symbols : List Sym → W) (symbols_of : W → List Sym) (n : ℕ) (reading : Option (List Sym)) (word : W)
@@ -193,7 +192,7 @@ symbols_read of_symbols symbols_of n (Some symbols) word back long is =
     let same : of_symbols symbols ≡ word = cc in
     ap Some (sym (back symbols (long symbols refl)) ∙ ap symbols_of same)
 
--- what a unit was read as, part by part
+-- the decoding of a data unit, part by part
 header_parts : (answer : Option HeaderWord) (word : HeaderWord) → header_from answer ≡ Ok (Header word) → answer ≡ Some word
 unfolding header_from
 header_parts None word is = absurd (cc)
@@ -247,7 +246,7 @@ low_words_whole low voice sent received pieces first second (suc zero) d inside 
     low_whole 1520 (slice_index low 1) sent received (lsd16_reading_of (part 1520 16 received)) (lsd16_code.is.reads (part 1520 16 received)) second (pieces 15 (0, Nulls 0) (lit< tt))
 low_words_whole low voice sent received pieces first second (suc (suc i)) d inside = absurd (omega arith)
 
--- what a unit was read as is within radius
+-- received bits are within the correction radius of the data unit to which they decode
 pub voice_whole : (nac : ℕ) (unit : VoiceUnit) (sent received : List Bool) → IsVoiceImage nac unit sent → voice_reading_of (voice_duid unit) received ≡ Ok unit → IsVoiceWithin unit sent received
 unfolding IsVoiceImage IsVoiceWithin header_in link_in sync_in ldu1_in ldu2_in
 voice_whole nac (Header word) sent received is read =

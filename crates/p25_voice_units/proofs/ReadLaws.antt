@@ -7,13 +7,13 @@ use Rattle.p25_bits.proofs.BitsLaws.{field_of-bits_of, take-bits_of}
 use Rattle.p25_status.specs.declared.fields.Field.{Field}
 use Rattle.p25_voice_units.specs.{declared.voice.VoiceFrame.{VoiceFrame}, Layouts.{ldu_rows}, Readings.{frame_places, low_places, frame_in, voice_in, missing}}
 
--- a part that was read is a function of its symbols, also where only how many bits of it were put right is answered beside them
+-- a decoded part is a function of its symbols, also if only the number of its corrected bits is returned beside them
 pub part_counted : {S W : Type 0} (f : S → W) (answer : Option ℕ) (value : Option S) (symbols : S) (word : W)
     → option_map (λ n. symbols) answer ≡ value → word ≡ f symbols → option_map (λ n. word) answer ≡ option_map f value
 part_counted f None value symbols word is made = rw (← is) refl
 part_counted f (Some n) value symbols word is made = rw (← is, made) refl
 
--- what is said of a part, where it was read
+-- a property of a part, if it was decoded
 pub some_at : {X : Type 0} (P : X → Type 0) (answer : Option X) (x : X) → IfSome answer P → answer ≡ Some x → P x
 some_at P answer x is some = rw some at is
 
@@ -29,7 +29,7 @@ unfolding missing
 not_noted fields field None some = absurd (cc)
 not_noted fields field (Some x) some = sym (append-nil fields)
 
--- the places of the low speed words
+-- the positions of the low speed data words
 pub low_place-le : (i : ℕ) → i < 2 → slice_index (low_places ldu_rows) i ≤ 1520
 unfolding low_places
 low_place-le zero inside = omega arith

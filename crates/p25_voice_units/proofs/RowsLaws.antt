@@ -17,7 +17,7 @@ abbrev pub rows_length : ℕ → List (ℕ × Piece) → ℕ
 rows_length size [] = 0
 rows_length size (row ∷ rows) = piece_length size row.1 + rows_length size rows
 
--- each row stands where the one before ends, the first at a place
+-- each row begins at the end of the one before, the first at a position
 abbrev pub rows_stand : ℕ → ℕ → List (ℕ × Piece) → Bool
 rows_stand size at [] = true
 rows_stand size at (row ∷ rows) = eqb row.0 at && rows_stand size (at + piece_length size row.1) rows
@@ -49,7 +49,7 @@ length-frame : (octets : List ℕ) → length octets ≡ 18 → length (octet_bi
 length-frame octets long = sym (ap length (number_bits-octets octets)) ∙ length-number_bits 8 octets ∙ ap (λ n. 8 * n) long
 
 module _ {IsWord : List Bool → Type 0} {size k : ℕ} {carried : Contents} (carries : IsCarried IsWord size k carried) where
-  -- a piece has its bits
+  -- a part has its bits
   pub length-piece_bits : (piece : Piece) → piece_fits carried.each (length carried.symbols) (length carried.low) (length carried.voice) piece ≡ true
       → length (piece_bits carried piece) ≡ piece_length size piece
   unfolding piece_bits
@@ -72,7 +72,7 @@ module _ {IsWord : List Bool → Type 0} {size k : ℕ} {carried : Contents} (ca
       ∙ length-append (piece_bits carried row.1) (rows_bits carried rows)
       ∙ ap₂ ◌+◌ (length-piece_bits row.1 fits.0) (length-rows_bits rows fits.1)
 
-  -- joined pieces have each at its place
+  -- joined parts have each part at its position
   pub rows_parts : (rows : List (ℕ × Piece)) (at : ℕ) (before : List Bool) → length before ≡ at → rows_stand size at rows ≡ true
       → rows_supplied carried.each (length carried.symbols) (length carried.low) (length carried.voice) rows ≡ true
       → All (λ row. part row.0 (piece_length size row.1) (before ++ rows_bits carried rows) ≡ piece_bits carried row.1) rows
@@ -94,7 +94,7 @@ module _ {IsWord : List Bool → Type 0} {size k : ℕ} {carried : Contents} (ca
       All-cons (λ other. part other.0 (piece_length size other.1) (before ++ rows_bits carried (row ∷ rows)) ≡ piece_bits carried other.1) row rows first
       (λ i d inside. ap (λ (xs : List Bool). part (get_or rows i d).0 (piece_length size (get_or rows i d).1) xs) moved ∙ others i d inside)
 
--- what has each piece at its place is the pieces joined
+-- bits with each part at its position are the parts joined
 pub rows_only : (size : ℕ) (carried : Contents) (rows : List (ℕ × Piece)) (at : ℕ) (bare : List Bool) → rows_stand size at rows ≡ true → length bare ≡ at + rows_length size rows
     → All (λ row. part row.0 (piece_length size row.1) bare ≡ piece_bits carried row.1) rows → drop at bare ≡ rows_bits carried rows
 rows_only size carried [] at bare stand long parts = drop_all at bare (omega (arith, long)) ∙ sym (rows_bits-nil carried)
