@@ -47,7 +47,7 @@ some-more : (b : Bool) (count : ℕ) (any : Bool) → nat_lt 0 count ≡ any →
 some-more true count any same = lt_one count
 some-more false count any same = ap (nat_lt 0) (zero_zero count) ∙ same
 
--- there is an element that passes a test exactly where more than none are counted
+-- some element passes a test exactly if more than none are counted
 some-counted : (test : UnitSeen → Bool) (units : List UnitSeen) → nat_lt 0 (count_by test units) ≡ list_any test units
 some-counted test [] = refl
 some-counted test (unit ∷ units) =
@@ -57,7 +57,7 @@ chosen-run : (run : Run) (runs : List Run) (b : Bool) → map call_of (cond (tru
 chosen-run run runs true = refl
 chosen-run run runs false = refl
 
--- the calls of a run and others, where the run has voice units alone
+-- the calls of a run and others, if the run has voice units alone
 pub calls_among-voice : (run : Run) (runs : List Run) → list_all is_voice (units_in run) ≡ true → calls_among (run ∷ runs) ≡ option_to_list (if_linked (call_of run)) ++ calls_among runs
 unfolding call_of
 calls_among-voice run runs voice =

@@ -7,7 +7,7 @@ use Rattle.p25_calls.specs.{declared.call.Call.{Call}, declared.seen.UnitSeen.{U
 use Rattle.p25_calls.specs.Taking.{IsPending, broken_off, call_of_one, extended, goes_on, if_linked, pending_run, run_with, terminated, unit_answer, unit_pending}
 use Rattle.p25_calls.proofs.LastRunLaws.{alone-end, alone-nac}
 
--- the unit of an item stands where the item does
+-- the data unit of an item begins and ends with the item
 unit-there : (item : Item) (place end : ℕ) → place_of item ≡ place → end ≡ place_of item + covered item → IfSome (unit_of item) (λ (unit : UnitSeen). (unit.place ≡ place) × (unit_end unit ≡ end))
 unit-there (Whole at frame fixes) place end is ends = (is, sym ends)
 unit-there (Broken at count nac duid fields) place end is ends = (is, sym ends)

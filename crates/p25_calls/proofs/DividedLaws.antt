@@ -69,7 +69,7 @@ AllDivided : List Run → Type 0
 AllDivided (run ∷ next ∷ runs) = (is_break (last_unit run) next.first ≡ true) × AllDivided (next ∷ runs)
 AllDivided other = Unit {0}
 
--- a run keeps its last unit where one more is put before it
+-- a run keeps its last data unit if one more is added before it
 divided-joined : (unit : UnitSeen) (run : Run) (runs : List Run) → AllDivided (run ∷ runs) → AllDivided (run_from unit (units_in run) ∷ runs)
 unfolding AllDivided last_of
 divided-joined unit run [] all = tt

@@ -28,7 +28,7 @@ pub record Pends (reached : ℕ) (call : Call) (run : Run) : Type 0 where
   pub end : unit_end (last_unit run) ≡ call.place + call.bits
   pub before : call.place + call.bits ≤ reached
 
--- there is a break before a unit exactly where it does not join
+-- there is a break before a data unit exactly if it does not join
 break-by : (reached : ℕ) (call : Call) (run : Run) → Pends reached call run → (unit : UnitSeen) → is_break (last_unit run) unit ≡ not (goes_on call unit)
 unfolding is_break
 break-by reached call run pends unit =
@@ -90,7 +90,7 @@ alone-unlinked : (unit : UnitSeen) → is_link_unit unit ≡ false → if_linked
 unfolding call_of
 alone-unlinked unit unlinked = rw unlinked
 
--- where it begins after what a caller held, since nothing was, or since there is a break
+-- if it begins after the call that is held, because there is none or because there is a break
 alone-run : (pending : Option Call) (before : Option Run) (unit : UnitSeen) → run_with pending unit ≡ call_of_one unit
     → ((ended : Bool) (rest : List UnitSeen) → calls_among (runs_by ended (pending_units before ++ unit ∷ rest))
     ≡ option_to_list (broken_off pending unit) ++ calls_among (runs_by ended (unit ∷ rest)))
@@ -111,7 +111,7 @@ alone-run pending before unit is rest_is = record {
 extended-end : (call : Call) (unit : UnitSeen) (reached : ℕ) → call.place + call.bits ≤ reached → unit.place ≡ reached → unit_end unit ≡ (extended call unit).place + (extended call unit).bits
 extended-end call unit reached before at = omega (arith, before, at)
 
--- where it joins the run that is open
+-- if it joins the open run
 joins-run : (reached : ℕ) (call : Call) (run : Run) → Pends reached call run → (unit : UnitSeen) → unit.place ≡ reached → goes_on call unit ≡ true → LastRun (Some call) (Some run) unit
 unfolding pending_units
 joins-run reached call run pends unit at goes =
@@ -131,7 +131,7 @@ joins-run reached call run pends unit at goes =
       rest_is = λ ended rest. rw (goes, append_assoc);
     }
 
--- where there is a break before it
+-- if there is a break before it
 breaks-run : (reached : ℕ) (call : Call) (run : Run) → Pends reached call run → (unit : UnitSeen) → goes_on call unit ≡ false → LastRun (Some call) (Some run) unit
 unfolding pending_units
 breaks-run reached call run pends unit breaks =

@@ -21,7 +21,7 @@ pub runs_of-begins : (unit : UnitSeen) (units : List UnitSeen) → Begins unit (
 unfolding runs_of
 runs_of-begins unit units = with_unit-begins unit (runs_of units)
 
--- a unit before runs, where there is a break after it, and where there is none
+-- a data unit before runs, if there is a break after it, and if there is none
 pub with_unit-break : (unit : UnitSeen) (run : Run) (runs : List Run) → is_break unit run.first ≡ true → with_unit unit (run ∷ runs) ≡ run_from unit [] ∷ run ∷ runs
 unfolding with_unit
 with_unit-break unit run runs breaks = cond-true (is_break unit run.first) (run_from unit [] ∷ run ∷ runs) (run_from unit (units_in run) ∷ runs) breaks
@@ -30,7 +30,7 @@ pub with_unit-joins : (unit : UnitSeen) (run : Run) (runs : List Run) → is_bre
 unfolding with_unit
 with_unit-joins unit run runs joins = cond-false (is_break unit run.first) (run_from unit [] ∷ run ∷ runs) (run_from unit (units_in run) ∷ runs) joins
 
--- what stands after the first run stays after it
+-- the runs after the first run stay after it
 pub with_unit-append : (unit : UnitSeen) (run : Run) (runs more : List Run) → with_unit unit ((run ∷ runs) ++ more) ≡ with_unit unit (run ∷ runs) ++ more
 unfolding with_unit
 with_unit-append unit run runs more =

@@ -24,7 +24,7 @@ holds-later reached later pending before more (some call run pends) = some call 
   before = omega (arith, pends.before, more);
 }
 
--- a unit begins where its item does, and ends where it does
+-- a data unit begins and ends with its item
 IsUnitAt : ℕ → ℕ → Option UnitSeen → Type 0
 IsUnitAt at end None = Unit {0}
 IsUnitAt at end (Some unit) = (unit.place ≡ at) × (unit_end unit ≡ end)
@@ -38,7 +38,7 @@ unit-at item = tt
 caller_at : ℕ → ℕ → Option Call → CallerParts
 caller_at reached taken pending = record { reached = reached; taken = taken; pending = pending }
 
--- the answers to all items but the first, whatever is held after it
+-- the results of all items but the first, whatever is held after it
 abbrev RestIs : Bool → ℕ → ℕ → List Item → Type 0
 RestIs ended end taken items =
     (pending : Option Call) (before : Option Run) → Holds end pending before

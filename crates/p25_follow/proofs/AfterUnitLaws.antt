@@ -68,7 +68,7 @@ kind-there kind count bits is few =
       ]
     ]
 
--- ---- where nothing is expected nothing is written
+-- ---- if nothing is expected nothing is written
 
 pub record IsQuiet (kind : ℕ) : Type 0 where
   pub none : expected_after kind ≡ []
@@ -155,7 +155,7 @@ unit-sound at bits =
     subst Sound (sym (found-unit at known.nid (take count bits) reads).name_is) (some-sound known.nid (identifier_of-fits (take count bits) known.nid reads).0))
     (λ field yes' need. none-sound)
 
--- ---- what comes out from where a unit begins
+-- ---- the output from the beginning of a data unit on
 
 pub agree-unit : (at : ℕ) (bits later : List Bool) → 0 < length bits → is_rest (first_item at bits) ≡ false
     → (Quiet (unit_name (first_item at bits)) → Agree 316 (drop (covered (first_item at bits)) bits) later)
@@ -188,7 +188,7 @@ agree-quiet =
     (rw starts.first at (agree-unit place bits (followed_by true (unit_name item) [] items (drop (covered item) bits)) (omega (arith, starts.some, starts.there)) (rw starts.first unit)
     (rw starts.first later)))))
 
--- the 316 bits from where a unit begins come out as they are, and what comes out of them begins alike
+-- from the beginning of a data unit on, the first 316 bits of the output are those of the input
 pub agree-after : (at : ℕ) (bits : List Bool) → 0 < length bits → is_rest (first_item at bits) ≡ false
     → Agree 316 bits (take (covered (first_item at bits)) bits
     ++ followed_by true (unit_name (first_item at bits)) [] (items_of (at + covered (first_item at bits)) (drop (covered (first_item at bits)) bits)) (drop (covered (first_item at bits)) bits))

@@ -92,7 +92,7 @@ rest-begins at bits others alike =
 
 -- ---- the unit there
 
--- a unit is the same where its bits are, and what begins there is alike
+-- the data unit with which alike bits begin is the same if its bits are
 pub unit-alike : (at : ℕ) (bits others : List Bool) → Alike bits others → is_rest (first_item at bits) ≡ false → Agree (covered (first_item at bits)) bits others
     → first_item at others ≡ first_item at bits
 unit-alike at bits others alike =

@@ -16,11 +16,11 @@ use Rattle.p25_trellis.specs.Nearest.{half_octets, three_quarter_octets}
 use Rattle.p25_units.specs.Readings.{body_reading_of}
 use Rattle.p25_follow.proofs.StepLaws.{and_left-true, and_right-true}
 
--- bits without status symbols are the same behind their front
+-- bits without status symbols are the same after sync and NID
 pub record AreAlikeBehind (first second : List Bool) : Type 0 where
   pub same : (at : ℕ) → 112 ≤ at → drop at first ≡ drop at second
 
--- all places stand behind the front
+-- all positions are after sync and NID
 all_behind : List ℕ → Bool
 all_behind [] = true
 all_behind (at ∷ places) = nat_le 112 at && all_behind places

@@ -64,7 +64,7 @@ chain_by-some whole before (bit ∷ bits) end =
     let left = drop (kind_length kind) all in
     chain_in-enough (length bits) (length left) whole (Some (before.0, kind)) left end (omega (arith, length-drop (kind_length kind) all, there.few, there.there)) (omega arith)))
 
--- whole bits are stepped over, and others where all that a step looks at is there
+-- a step is made over whole bits, and over others if all bits that it examines are there
 pub chain_by-step : (whole : Bool) (before : ℕ × ℕ) (bits : List Bool) (end : Option (ℕ × ℕ)) (kind : ℕ) → (whole || nat_le 6912 (length bits)) ≡ true → step_of before bits end ≡ Some kind
     → chain_by whole (Some before) bits end ≡ with_front (before.0, kind) (take (kind_length kind) bits) ++ chain_by whole (Some (before.0, kind)) (drop (kind_length kind) bits) end
 unfolding written_step

@@ -5,7 +5,7 @@ use Rattle.std.specs.Prelude.{nat_le}
 use Rattle.p25_follow.specs.{Chains.{chain_by, with_front}, Expected.{kind_length}, Following.{Follow, follow, left_of}, Steps.{step_of}}
 use Rattle.p25_follow.proofs.{ChainLaws.{chain_by-none, chain_by-some, chain_by-step, chain_by-stop, left_of-none, left_of-step, left_of-stop, left_of-waits}, StepLaws.{step_of-end}}
 
--- where no step can be made nothing is written, and all is left
+-- if no step can be made nothing is written, and all bits are left
 pub chain-waits : (whole : Bool) (name : ℕ × ℕ) (bits out all : List Bool) (end : Option (ℕ × ℕ)) → (whole || nat_le 6912 (length bits)) ≡ false
     → out ++ chain_by whole (Some name) bits end ≡ all → out ≡ all
 chain-waits whole name bits out all end stops is = rw (chain_by-some, stops, append-nil) at is
@@ -13,7 +13,7 @@ chain-waits whole name bits out all end stops is = rw (chain_by-some, stops, app
 pub left-waits : (whole : Bool) (name : ℕ × ℕ) (bits : List Bool) (kept : Follow) → (whole || nat_le 6912 (length bits)) ≡ false → left_of (Some name) bits ≡ kept → follow (Some name) bits ≡ kept
 left-waits whole name bits kept stops is = rw (left_of-waits name bits (leb-false 6912 (length bits) (or_parts whole (nat_le 6912 (length bits)) stops).1)) at is
 
--- where a unit begins its bits are written
+-- if a data unit begins its bits are written
 pub chain-stepped : (whole : Bool) (name next : ℕ × ℕ) (kind count : ℕ) (bits left out written all : List Bool) (end : Option (ℕ × ℕ)) → (whole || nat_le 6912 (length bits)) ≡ true
     → step_of name bits end ≡ Some kind → next ≡ (name.0, kind) → count ≡ kind_length kind → left ≡ drop count bits → written ≡ out ++ with_front next (take count bits)
     → out ++ chain_by whole (Some name) bits end ≡ all → written ++ chain_by whole (Some next) left end ≡ all
@@ -26,7 +26,7 @@ left-stepped whole name next kind count bits left end kept goes open_ is is_next
     let long : 6912 ≤ length bits = leb-true 6912 (length bits) (rw open_ at goes) in
     rw (is_next, is_left, is_count) (rw (left_of-step name bits kind long (sym (step_of-end name bits end long) ∙ is)) at before)
 
--- where none does the bits are written as they are
+-- if none begins the bits are written unchanged
 pub chain-stopped : (whole : Bool) (name : ℕ × ℕ) (bits out all : List Bool) (end : Option (ℕ × ℕ)) → (whole || nat_le 6912 (length bits)) ≡ true → step_of name bits end ≡ None
     → out ++ chain_by whole (Some name) bits end ≡ all → out ++ chain_by whole None bits end ≡ all
 chain-stopped whole name bits out all end goes is before = rw chain_by-none (rw (chain_by-stop whole name bits end goes is) at before)

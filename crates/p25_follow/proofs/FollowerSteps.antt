@@ -18,7 +18,7 @@ module _ (kept : Follow) (item : Item) (raw : List Bool) (before : Option (ℕ �
   unfolding behind_item
   rest-behind held now rest is_held is = rw (is, is_held, ← is_kept, rest)
 
-  -- where no unit was before, the item's bits are written as they are, and nothing is kept
+  -- if no data unit was before, the bits of the item are written unchanged, and nothing is kept
   pub none-out : (cleared out : List Bool) → before ≡ None → stretch ≡ [] → is_rest item ≡ true → cleared ≡ [] → out ≡ cleared ++ raw → out ≡ written_before kept item raw
   none-out cleared out none empty rest is_cleared is = rest-out raw cleared out rest (rw empty) is_cleared (rw (none, chain_by-none) is)
 

@@ -20,7 +20,7 @@ use Rattle.p25_stream.proofs.ItemsLaws.{first_item-synced, is_decided-synced}
 use Rattle.p25_follow.specs.{Chains.{with_front}, Expected.{kind_length}, Followed.{is_rest, unit_name}}
 use Rattle.p25_follow.proofs.LengthLaws.{length-with_front}
 
--- ---- the bits of a front that is written
+-- ---- the bits of sync and NID as written
 
 module _ (nac kind : ℕ) (bits : List Bool) (long : 114 ≤ length bits) where
   front_first : length (take 70 (unit_front nac kind)) ≡ 70

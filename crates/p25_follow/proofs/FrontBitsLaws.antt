@@ -11,7 +11,7 @@ use Rattle.p25_follow.specs.{FollowedUnits.{IsFrontBit, IsInStretch, fronts_by, 
 use Rattle.p25_follow.proofs.{ChainLaws.{along-chain, chain-stop, chain_by-step}, FollowingLaws.{Starts, along-items, followed-end, followed-rest, followed-unit}, LengthLaws.{length-chain_of, length-with_front}}
 use Rattle.p25_follow.proofs.{StepLaws.{step_of-there}, UnchangedLaws.{rest-stays, symbol-stays}, WrittenUnitsLaws.{written-step}}
 
--- ---- the bits of a unit whose front is written
+-- ---- the bits of a data unit whose sync and NID are written
 
 abbrev InFront : ℕ → Type 0
 InFront i = (i < 70) ⊎ ((72 ≤ i) × (i < 114))
@@ -122,7 +122,7 @@ in-later : (place at : ℕ) (item : Item) (items : List Item) → IsInStretch pl
 unfolding IsInStretch
 in-later place at item items later = inr later
 
--- the bit at a place is the same, or it is a front bit, in the stretch or in one after it
+-- the bit at a position is the same, or it is a bit of sync or NID, in the stretch or in one after it
 abbrev Where : ℕ → ℕ → List Bool → List Item → ℕ → Type 0
 Where at place stretch items i = (i < length stretch) ⊎ IsInStretch (at + i) place items
 

@@ -24,7 +24,7 @@ unfolding with_front
 front-written nac kind count bits out front first second third long is_front is_first is_second is_third =
     rw (is_third, is_second, is_first, is_front, last-part nac kind, append_assoc, append_assoc, append_assoc, part-take 70 2 count bits (omega arith), drop-count count bits long)
 
--- ---- the front by the numbers of its sync and its identifier
+-- ---- sync and NID by the numbers of the sync and the identifier
 
 front-first : (nac kind number : ℕ) → bits_of 64 number ≡ nid_word nac kind → part 0 70 (unit_front nac kind) ≡ sync_bits ++ bits_of 22 (number / 2 ^ 42)
 unfolding unit_front

@@ -42,7 +42,7 @@ pub is_expected-all : (P : ℕ → Type 0) (before kind : ℕ) → Each P (expec
 unfolding is_expected
 is_expected-all P before kind all is = any-all P kind (expected_after before) all is
 
--- a kind of a voice unit: as many bits are sent for it as its front has, and at most those of a logical link unit
+-- the type of a voice data unit: its transmitted bits include sync and NID, and are at most those of a logical link data unit
 pub record IsKind (kind : ℕ) : Type 0 where
   pub few : 144 ≤ kind_length kind
   pub most : kind_length kind ≤ 1728

@@ -24,7 +24,7 @@ pub is_read-none : (bits : List Bool) → 114 ≤ length bits → identifier_of 
 unfolding is_read
 is_read-none bits long is = rw (le-leb 114 (length bits) long, is)
 
--- ---- what is told by a look
+-- ---- the detection by a look
 
 by_look-clear : (look : Look) (reads : Bool) → look.clear ≡ true → told_by_look look reads ≡ look.told
 unfolding told_by_look
@@ -41,7 +41,7 @@ unfolding told_by_look
 by_look-read look true unclear is = rw unclear
 by_look-read look false unclear is = absurd (cc)
 
--- the answers of the reading
+-- the detection, by whether the NID is correctable
 pub told-clear : (look : Look) (bits : List Bool) → look.clear ≡ true → look.told ≡ told_by_look look (is_read bits)
 told-clear look bits clear = sym (by_look-clear look (is_read bits) clear)
 
@@ -51,7 +51,7 @@ told-unread look bits is = sym (by_look-unread look (is_read bits) is)
 pub told-read : (look : Look) (bits : List Bool) → look.clear ≡ false → is_read bits ≡ true → Other ≡ told_by_look look (is_read bits)
 told-read look bits unclear is = sym (by_look-read look (is_read bits) unclear is)
 
--- ---- a look that does not tell all
+-- ---- a look that is not the whole detection
 
 name-other : (before name : ℕ × ℕ) → (before.0 ≡ name.0 → is_expected before.1 name.1 ≡ true → ⊥) → told_name before name ≡ Other
 unfolding told_name
@@ -67,7 +67,7 @@ look-by : (before : ℕ × ℕ) (bits : List Bool) (look : Look) (read : Option 
 look-by before bits look None long unclear other tells is = rw (unread-told before bits long is, tells) (told-unread look bits (is_read-none bits long is))
 look-by before bits look (Some name) long unclear other tells is = rw (read-told before bits name long is, other name is) (told-read look bits unclear (is_read-some bits name long is))
 
--- where no kind may come
+-- if no type may follow
 pub look-no_kinds : (before : ℕ × ℕ) (bits : List Bool) (look : Look) → 114 ≤ length bits → expected_after before.1 ≡ [] → look.told ≡ Nothing → look.clear ≡ false
     → told_of before bits ≡ told_by_look look (is_read bits)
 unfolding told_nearest is_expected
@@ -122,7 +122,7 @@ nearer-known nac bits first next near is_first is_next is = (
 any-first : (kind : ℕ) (kinds : List ℕ) → list_any (λ next. nat_eq next kind) (kind ∷ kinds) ≡ true
 any-first kind kinds = rw (eq-eqb kind kind refl)
 
--- a look where some kinds may come
+-- a look if some types may follow
 module _ (before : ℕ × ℕ) (bits : List Bool) (look : Look) (first kind : ℕ) (long : 114 ≤ length bits) (list : expected_after before.1 ≡ first ∷ 0xF ∷ 0x3 ∷ [])
     (nearest : kind ≡ nearest_kind before.0 (take 114 bits) first (0xF ∷ 0x3 ∷ [])) where
   least : Each (λ (other : ℕ). name_errors_of (before.0, kind) (take 114 bits) ≤ name_errors_of (before.0, other) (take 114 bits)) (expected_after before.1)

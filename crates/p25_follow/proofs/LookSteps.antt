@@ -6,7 +6,7 @@ use Rattle.p25_follow.specs.{declared.told.Look.{Look}, declared.told.Told.{Told
 use Rattle.p25_follow.specs.{Steps.{fits_by, fits_of, is_end, is_sure, step_of, true_of}, Told.{is_nothing, told_of}}
 use Rattle.p25_follow.proofs.StepLaws.{and_left-true, is_sure-suc, is_sure-zero}
 
--- ---- a look and what is told
+-- ---- a look and the detection
 
 fit-something : (bits : List Bool) (told : Told) (kind : ℕ) → fits_by bits told ≡ Some kind → is_nothing told ≡ false
 unfolding fits_by
@@ -50,13 +50,13 @@ and-true : (a : Bool) → (a && true) ≡ a
 and-true true = refl
 and-true false = refl
 
--- where no bits are left the end decides
+-- if no bits are left the end decides
 pub sure-end : (links : ℕ) (before : ℕ × ℕ) (end : Option (ℕ × ℕ)) → is_sure links before [] end ≡ is_end before end
 unfolding is_sure
 sure-end zero before end = refl
 sure-end (suc links) before end = refl
 
--- ---- at a place where a look was taken
+-- ---- at a position with a look
 
 module _ (before : ℕ × ℕ) (bits : List Bool) (end : Option (ℕ × ℕ)) (look : Look) (some : 0 < length bits) (is : told_of before bits ≡ told_by_look look (is_read bits)) where
   fits-by : fits_of before bits ≡ fits_by bits (told_by_look look (is_read bits))
@@ -69,7 +69,7 @@ module _ (before : ℕ × ℕ) (bits : List Bool) (end : Option (ℕ × ℕ)) (l
   unfit : fits_by bits look.told ≡ None → fits_of before bits ≡ None
   unfit none = fits-by ∙ look-unfit bits look (is_read bits) none
 
-  -- where something is told the links do not matter
+  -- if a look detects something the links do not matter
   step-something : is_nothing look.told ≡ false → step_of before bits end ≡ fits_of before bits
   unfolding step_of
   step-something told = rw (something told, and-false, or-none)
@@ -78,7 +78,7 @@ module _ (before : ℕ × ℕ) (bits : List Bool) (end : Option (ℕ × ℕ)) (l
   sure-something zero told = is_sure-zero before bits end some
   sure-something (suc links) told = rw (is_sure-suc links before bits end some, something told, or-false)
 
-  -- a unit that fits, unless its identifier reads as another
+  -- a data unit that fits, unless its NID decodes to another
   pub step-fit : (told : Told) (answer : Option ℕ) → is_some (fits_by bits look.told) ≡ true → told ≡ told_by_look look (is_read bits) → answer ≡ fits_by bits told → answer ≡ step_of before bits end
   step-fit told answer test is_told is_answer =
       let fit = some-from_test (fits_by bits look.told) test in
@@ -97,7 +97,7 @@ module _ (before : ℕ × ℕ) (bits : List Bool) (end : Option (ℕ × ℕ)) (l
   pub sure-unfit : (links : ℕ) → is_some (fits_by bits look.told) ≡ false → is_nothing look.told ≡ false → false ≡ is_sure links before bits end
   sure-unfit links test told = rw (sure-something links told, unfit (none-from_test (fits_by bits look.told) test))
 
-  -- ---- where nothing is told
+  -- ---- if nothing is detected
 
   abbrev after : ℕ → Bool
   after links = true_of (λ kind. is_sure links (before.0, kind) (drop 1728 bits) end) (next_link before.1)

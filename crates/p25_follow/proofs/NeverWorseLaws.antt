@@ -34,7 +34,7 @@ pub rests-later : (count : ℕ) (stretch more : List Bool) → count ≤ length 
 rests-later count stretch more fits rests place before =
     rw (← drop-append-le count stretch more fits, drop-drop) (rests (count + place) (omega (arith, before, length-drop count stretch)))
 
--- a front that is written, and what comes after it
+-- sync and NID that are written, and the output after them
 out-step : (at : ℕ) (before : ℕ × ℕ) (kind : ℕ) (raw next : List Bool) (units : List Item) → before.0 < 4096 → 144 ≤ kind_length kind → kind < 16 → length raw ≡ kind_length kind
     → IsOut (at + kind_length kind) (Some (before.0, kind)) next units
     → IsOut at (Some before) (with_front (before.0, kind) raw ++ next) (unit_item_of at (with_front (before.0, kind) raw) ∷ units)
@@ -53,7 +53,7 @@ out-step at before kind raw next units nac_fits few kind_fits raw_long later =
       again = rw (items, followed-unit true (Some before) [] item (items_of (at + count) next) all found.is_unit, chain_by-nil, found.covers, found.name_is, rest, later.again, take_at unit next count unit_long);
     }
 
--- bits after a stretch in which no unit begins come out again as they are, where the stretch does
+-- bits after a stretch in which no data unit begins are output unchanged again, if the stretch is
 module _ (place : ℕ) (more : List Bool) (end : Option (ℕ × ℕ)) (begins : Begins more)
     (again : (before : Option (ℕ × ℕ)) (stretch : List Bool) → chain_by true before stretch end ≡ stretch → followed_by true before stretch (items_of place more) more ≡ stretch ++ more) where
   chain-out : (at : ℕ) (before : Option (ℕ × ℕ)) (stretch : List Bool) → at + length stretch ≡ place → Sound before → RestPlaces (length stretch) (stretch ++ more)
@@ -93,7 +93,7 @@ rests-more place stretch bits item items starts rests rest p before =
           rw (split, drop-append-add) (places-of place bits (rw starts.first rest) q (rw starts.first within))
     ])
 
--- bits after a stretch that begin with the same unit as others, and no unit begins at a place of the stretch
+-- bits after a stretch that begin with the same data unit as others, if no data unit begins at a position of the stretch
 pub record IsTail (place : ℕ) (stretch bits : List Bool) (item : Item) (next : List Bool) : Type 0 where
   pub own : take (covered item) (take (covered item) bits ++ next) ≡ take (covered item) bits
   pub behind : drop (covered item) (take (covered item) bits ++ next) ≡ next
@@ -159,7 +159,7 @@ out-of at place before stretch bits =
 out-all : (bits : List Bool) → IsOut 0 None (followed_by true None [] (items_of 0 bits) bits) (units_by 0 None [] (items_of 0 bits) bits)
 out-all bits = out-of 0 0 None [] bits (omega arith) none-sound (λ p none. absurd (omega (arith, none)))
 
--- ---- they are those of the recording, and those whose fronts are written
+-- ---- they are those of the recording, and those whose sync and NID are written
 
 merged-none : (items : List Item) → IsMerged [] items items
 unfolding IsMerged

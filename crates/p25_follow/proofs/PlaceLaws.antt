@@ -63,7 +63,7 @@ identified-rest : (read : Option (ℕ × ℕ)) (bits : List Bool) → 316 ≤ le
 identified-rest None bits long = rw identified_need-none
 identified-rest (Some nid) bits long = rw (identified_need-some nid bits) (kind-rest nid.1 bits long)
 
--- what a place is, by the three readings of the bits there
+-- whether an item belongs to a stretch, by the sync, the NID and the header at its position
 place-rest : (at : ℕ) (bits : List Bool) → 316 ≤ length bits → is_rest (first_item at bits) ≡ cond (has_sync bits) (kind_rest (identifier_of bits) (sent_head_of bits)) true
 place-rest at bits long =
     elim (cases_Bool (has_sync bits)) [

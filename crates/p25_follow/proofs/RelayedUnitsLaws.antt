@@ -11,7 +11,7 @@ use Rattle.p25_stream.proofs.{ItemLaws.{covered-items_of, item-among}, ItemsLaws
 use Rattle.p25_follow.specs.{Followed.{is_rest}, Relayed.{relay_of, relayed, relayed_item}, RelayLaws.{NothingBeginsInStretches, RelaySameUnits}, StretchLaws.{all_rest, begins_rest, bits_in, units_among}}
 use Rattle.p25_follow.proofs.{RelayedLaws.{item-found, item-long}, RelayedPlacesLaws.{relay-long}, SameUnitsLaws.{Ends, RestPlaces, among-rest, ends-before, rest-at, same-units, stretch-from, true-false}}
 
--- ---- over places at which no unit begins the scan comes to the units after them
+-- ---- over positions at which no data unit begins the scan comes to the data units after them
 
 -- the items of a stretch that some items begin with, and those after it
 record IsSpan (items : List Item) : Type 0 where
@@ -104,7 +104,7 @@ module _ (nac : ℕ) (status : Status) (nac_fits : nac < 4096) where
       ∙ append-nil bits)
       ∙ is
 
-  -- a unit, whole, broken or cut, is the first item of what is forwarded from its place on
+  -- a data unit, whole, broken or cut, is the first item of the output from its position on
   unit-first : (at : ℕ) (bits : List Bool) (item : Item) (items : List Item) → first_item at bits ≡ item → is_rest item ≡ false → items ≡ items_of (at + covered item) (drop (covered item) bits)
       → first_item at (relayed nac status item (take (covered item) bits) ++ written (relayed nac status) items (drop (covered item) bits)) ≡ relayed_item nac status item
   unit-first at bits (Whole place frame fixes) items is unit behind =
@@ -119,7 +119,7 @@ module _ (nac : ℕ) (status : Status) (nac_fits : nac < 4096) where
   unfolding units_among
   among-unit item items unit = cond-false (is_rest item) (units_among items) (item ∷ units_among items) unit
 
-  -- ---- one item after the other, behind those before it
+  -- ---- one item at a time, after those before it
   module _ (bits : List Bool) (quiet : NothingBeginsInStretches nac status bits) where
     same-behind : (before items : List Item) → items_of 0 bits ≡ before ++ items
         → units_among (items_of (bits_in before) (drop (bits_in before) (relay_of nac status bits))) ≡ map (relayed_item nac status) (units_among items)

@@ -50,7 +50,7 @@ rest-at at other bits rest =
 
 -- ---- how far a stretch reaches
 
--- no unit begins at the first places of some bits, so many
+-- no data unit begins at the first positions of some bits, as many as given
 abbrev pub RestPlaces : ℕ → List Bool → Type 0
 RestPlaces count bits = (place : ℕ) → place < count → is_rest (first_item 0 (drop place bits)) ≡ true
 
@@ -77,14 +77,14 @@ covers-within at count bits some ends =
     (λ n yes' need rest. absurd (true-false (is_rest (unit_item_of at (take n bits))) rest (unit-there at n bits need)))
     (λ field yes' need rest. omega arith)
 
--- the end is the same, seen from a later place
+-- the end is the same from a later position
 ends-later : (count c : ℕ) (bits left : List Bool) (less : ℕ) → less + length bits ≡ count + length left → drop less left ≡ drop count bits → Ends count bits → Ends less left
 ends-later count c bits left less long same (inl all) = inl (omega (arith, all, long))
 ends-later count c bits left less long same (inr unit) = inr (rw same unit)
 
 -- ---- along a stretch
 
--- what is true of the end of a stretch, the place there, the bits before it and those behind it, and goes back over each item, is true of its beginning
+-- a property of a position and of the bits before and after it: if it holds at the end of a stretch and each item carries it back, it holds at the beginning
 pub along-stretch : (P : ℕ → List Bool → List Bool → Type 0)
     → ((at : ℕ) (before bits : List Bool) (item : Item) → items_of at bits ≡ item ∷ items_of (at + covered item) (drop (covered item) bits) → is_rest item ≡ true
     → P (at + covered item) (before ++ take (covered item) bits) (drop (covered item) bits) → P at before bits)
@@ -129,7 +129,7 @@ pub record IsStretch (at : ℕ) (bits : List Bool) (count : ℕ) (after : List I
   pub rests : RestPlaces count bits
   pub left : items_of (at + count) (drop count bits) ≡ after
 
--- no unit begins at any place of an item that is none
+-- no data unit begins at any position of an item that is none
 pub places-of : (at : ℕ) (bits : List Bool) → is_rest (first_item at bits) ≡ true → RestPlaces (covered (first_item at bits)) bits
 places-of at bits =
     first_item-cases (λ item. is_rest item ≡ true → RestPlaces (covered item) bits) at bits
@@ -161,7 +161,7 @@ stretch-from at bits stretch after is all = record {
   left = items_by-among stretch after true at bits is;
 }
 
--- no item is there only where no bit is
+-- there is no item only if there is no bit
 none-left : (count at : ℕ) (bits : List Bool) → count ≤ length bits → items_of at (drop count bits) ≡ [] → count ≡ length bits
 none-left count at bits there none =
     elim (cases_lt count (length bits)) [
@@ -178,7 +178,7 @@ unit-at at bits unit =
       | inr no' ↦ no'
     ]
 
--- what begins after it, where something does, is no part of it
+-- a stretch ends before an item that belongs to none, or at the end of the bits
 pub ends-before : (at count : ℕ) (bits : List Bool) (after : List Item) → count ≤ length bits → items_of (at + count) (drop count bits) ≡ after → begins_rest after ≡ false → Ends count bits
 ends-before at count bits [] there is no' = inl (none-left count (at + count) bits there is)
 ends-before at count bits (item ∷ items) there is no' =

@@ -13,7 +13,7 @@ pub fits_kind : (bits : List Bool) (kind : ℕ) → kind_length kind ≤ length 
 unfolding fits_by
 fits_kind bits kind long = rw (le-leb (kind_length kind) (length bits) long)
 
--- a kind that fits is a kind that is told, and its bits are there
+-- a type that fits is a detected type, and the bits of such a data unit are there
 pub record FitsThere (before : ℕ × ℕ) (bits : List Bool) (kind : ℕ) : Type 0 where
   pub told : told_of before bits ≡ Expected kind
   pub there : kind_length kind ≤ length bits
@@ -36,7 +36,7 @@ pub fits_of-kind : (before : ℕ × ℕ) (bits : List Bool) (kind : ℕ) → fit
 unfolding fits_of
 fits_of-kind before bits kind fits = by-fits before bits (told_of before bits) kind refl fits
 
--- with the bits of a logical link unit all fits that is told
+-- with the bits of a logical link data unit there, more bits do not change whether a detection fits
 by-long : (before : ℕ × ℕ) (bits more : List Bool) (told : Told) → 1728 ≤ length bits → told_of before bits ≡ told → fits_by (bits ++ more) told ≡ fits_by bits told
 unfolding fits_by
 by-long before bits more (Expected kind) long is =
@@ -102,11 +102,11 @@ step_of-append before bits more end other long =
       is_sure-append 3 before bits more end other (omega arith),
     )
 
--- the end is as good as none where all that a step looks at is there
+-- the end does not matter if all bits that a step examines are there
 pub step_of-end : (before : ℕ × ℕ) (bits : List Bool) (end : Option (ℕ × ℕ)) → 6912 ≤ length bits → step_of before bits end ≡ step_of before bits None
 step_of-end before bits end long = rw append-nil at (step_of-append before bits [] end None long)
 
--- no step begins where no bits are
+-- no step begins without bits
 pub step_of-nil : (before : ℕ × ℕ) (end : Option (ℕ × ℕ)) → step_of before [] end ≡ None
 unfolding step_of fits_of fits_by
 step_of-nil before end = rw (told_of-short before [] (omega arith))

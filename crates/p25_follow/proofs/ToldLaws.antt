@@ -8,7 +8,7 @@ use Rattle.p25_follow.specs.{declared.told.Told.TheVariants.{Expected, Nothing},
 use Rattle.p25_follow.specs.Told.{name_errors_of, nearer_kind, nearest_kind, sync_errors_of, told_by, told_name, told_near, told_nearest, told_of}
 use Rattle.p25_follow.proofs.KindLaws.{Each, is_expected-all}
 
--- with fewer than 114 bits nothing is told
+-- with fewer than 114 bits nothing is detected
 pub told_of-short : (before : ℕ × ℕ) (bits : List Bool) → length bits < 114 → told_of before bits ≡ Nothing
 unfolding told_of
 told_of-short before bits short = rw (lt-ltb (length bits) 114 short)
@@ -17,7 +17,7 @@ pub told_of-long : (before : ℕ × ℕ) (bits : List Bool) → 114 ≤ length b
 unfolding told_of
 told_of-long before bits long = rw (le-ltb (length bits) 114 long)
 
--- an identifier that reads tells the kind, or that no such unit is there
+-- a correctable NID decides the detection: its type, or that no such data unit is there
 pub read-told : (before : ℕ × ℕ) (bits : List Bool) (name : ℕ × ℕ) → 114 ≤ length bits → identifier_of bits ≡ Some name → told_of before bits ≡ told_name before name
 unfolding told_by
 read-told before bits name long reads = rw (told_of-long before bits long, identifier_of-take 114 bits (omega arith), reads)
@@ -31,13 +31,13 @@ pub told_of-append : (before : ℕ × ℕ) (bits more : List Bool) → 114 ≤ l
 told_of-append before bits more long =
     rw (told_of-long before (bits ++ more) (omega (arith, length-append bits more)), told_of-long before bits long, take-append-le 114 bits more long)
 
--- the wrong bits of a front are those of its sync and those of its identifier
+-- the bit errors of sync and NID are those of the sync and those of the NID
 pub errors-parts : (name : ℕ × ℕ) (bits : List Bool) → 114 ≤ length bits → front_fixes_of name bits ≡ sync_errors_of (take 114 bits) + name_errors_of name (take 114 bits)
 unfolding sync_errors_of name_errors_of
 errors-parts name bits long =
     rw (front_fixes_of-parts name bits (omega arith), take-take 48 114 bits (omega arith), identifier_bits-take 114 bits (omega arith))
 
--- ---- a kind that is told is expected
+-- ---- a detected type is expected
 
 pub and_both : (a b : Bool) → (a && b) ≡ true → (a ≡ true) × (b ≡ true)
 and_both true b is = (refl, is)

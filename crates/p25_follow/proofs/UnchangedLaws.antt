@@ -12,7 +12,7 @@ use Rattle.p25_stream.specs.Items.{items_of}
 use Rattle.p25_follow.specs.{Chains.{chain_by, with_front}, Followed.{follow_of, followed_by, has_no_stretch, is_rest, unit_name}}
 use Rattle.p25_follow.proofs.{ChainLaws.{chain_by-nil, chain_by-none}, FollowingLaws.{along-items, followed-end, followed-rest, followed-unit}, StepLaws.{and_left-true, and_right-true}}
 
--- ---- the bits of a unit whose front is written
+-- ---- the bits of a data unit whose sync and NID are written
 
 module _ (name : ℕ × ℕ) (bits : List Bool) (long : 114 ≤ length bits) where
   first_long : length (take 70 (unit_front name.0 name.1)) ≡ 70

@@ -7,7 +7,7 @@ use Rattle.p25_follow.specs.{Chains.{with_front}, Expected.{kind_length}, Follow
 use Rattle.p25_follow.specs.{Steps.{step_of}, StretchLaws.{units_among}}
 use Rattle.p25_follow.proofs.{ChainLaws.{step_after}, FollowingLaws.{followed-rest}, SameUnitsLaws.{Ends, RestPlaces, along-stretch}, StepLaws.{step_of-nil, step_of-there}}
 
--- ---- the units whose fronts are written
+-- ---- the data units whose sync and NID are written
 
 abbrev Units : Type 0
 Units = ℕ → ℕ × ℕ → List Bool → List Item

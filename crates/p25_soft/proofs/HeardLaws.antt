@@ -11,7 +11,7 @@ use Rattle.p25_units.proofs.{NeedsLaws.{IsIdentified-from, head_need-bad, head_n
 use Rattle.p25_units.proofs.UnitPlaceLaws.{IsUnitAt-from}
 use Rattle.p25_soft.specs.{Levels.{hard_bits}, Softened.{IsHeard, IsReadFrom, blocks_replaced, blocks_to_follow, softened, softened_count, softened_packet, told_blocks}}
 
--- the length of a packet that is known is the one that its header tells
+-- the length of a packet that is known is the one that its header states
 head_told : (head : Result PacketHead Field) (have : ℕ) → head_need head have ≡ Length have → have ≡ packet_sent_length (told_blocks head)
 unfolding told_blocks
 head_told (Err field) have e = absurd (let two = rw (head_need-bad field have) at e in cc)
@@ -30,7 +30,7 @@ same_duid : (place : ℕ) (nid : ℕ × ℕ) (sent : List Bool) (reading : Resul
 same_duid place nid sent (Ok frame) at count nac duid fields e = absurd (cc)
 same_duid place nid sent (Err failing) at count nac duid fields e = cc
 
--- a broken packet that its bits are divided into has the length that its header tells
+-- a broken packet into which its bits are divided has the length that its header states
 pub broken_told : (item : Item) (sent : List Bool) (place count nac duid : ℕ) (fields : List Field) → IsReadFrom item sent → item ≡ Broken place count nac duid fields → duid ≡ 0xC
     → length sent ≡ packet_sent_length (blocks_to_follow sent)
 unfolding IsReadFrom
@@ -95,7 +95,7 @@ IsHeard-unit levels sent place count hard need whole =
       read = read_from (unit_item_of place sent) place sent known (place_of-unit_item_of place sent) refl;
     }
 
--- the bits of a broken packet at the front of others are heard from the levels that they were read from
+-- a broken packet at the beginning of bits has the levels from which its bits were decided
 pub IsHeard-front : (levels : List ℤ) (bits : List Bool) (place count at size nac duid : ℕ) (fields : List Field) → has_sync bits ≡ true → need_of bits ≡ Length count
     → unit_item_of place (take count bits) ≡ Broken at size nac duid fields → duid ≡ 0xC → take count bits ≡ hard_bits levels
     → IsHeard (unit_item_of place (take count bits)) levels (take count bits)

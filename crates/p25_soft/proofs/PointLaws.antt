@@ -9,13 +9,13 @@ use Rattle.p25_trellis.proofs.{InterleaveLaws.{weighed, weighed-interleaved, len
 use Rattle.p25_trellis.proofs.DistanceLaws.{All-nibbles_from, total_cost-weighed, weighed-drop}
 use Rattle.p25_soft.specs.{Levels.{squared_deviation, deviation_of, bits_deviation, dibits_of}, SoftPaths.{soft_cost}, PointCosts.{IsPointTable, point_deviation}}
 
--- places that are sent in order are places
+-- positions that are transmitted in order are positions
 pub All-places : (places : List ℕ) → length places ≡ 49 → ((k : ℕ) → k < 49 → get_or (interleaved places) k 0 ≡ k) → All (λ place. place < 49) places
 All-places places long in_order =
     All-from_interleaved (λ (place : ℕ). place < 49) places
     (All-from_get_or (λ (place : ℕ). place < 49) (interleaved places) 0 (λ k inside. let here : k < 49 = omega (arith, length-interleaved places) in omega (arith, in_order k here)))
 
--- one more place is written in order
+-- one more position is written in order
 pub places_more : (places : List ℕ) (place : ℕ) → place < length places → ((k : ℕ) → k < place → get_or places k 0 ≡ k) → (k : ℕ) → k < place + 1 → get_or (set places place place) k 0 ≡ k
 places_more places place inside so_far =
     below_more (λ k. get_or (set places place place) k 0 ≡ k) place
@@ -63,7 +63,7 @@ deviation_of-two : (a b : ℕ) (dibits : List ℕ) (first second : ℤ) (levels 
 unfolding deviation_of
 deviation_of-two a b dibits first second levels = omega arith
 
--- nibbles that are sent from a place on weigh what their dibits deviate from the levels there
+-- nibbles that are transmitted from a position on cost the deviation of their dibits from the levels there
 weighed-places : (levels : List ℤ) (places : List ℕ) → length levels ≡ 98 → length places ≡ 49 → ((k : ℕ) → k < 49 → get_or places k 0 ≡ k)
     → (nibbles : List ℕ) (k : ℕ) → k + length nibbles ≡ 49 → All (λ n. n < 16) nibbles
     → weighed (point_deviation levels) nibbles (drop k places) ≡ bits_deviation (number_bits 4 nibbles) (drop (2 * k) levels)
@@ -90,7 +90,7 @@ weighed-places levels places many long in_order (nibble ∷ nibbles) k whole sma
     ∙ deviation_of-two (nibble / 4) (nibble % 4) (dibits_of (number_bits 4 nibbles)) (get_or levels (2 * k) (pos 0)) (get_or levels (2 * k + 1) (pos 0)) (drop (2 * suc k) levels)
     )
 
--- what a path costs in the table is its cost by the levels
+-- the cost of a path in the table is its cost by the levels
 pub path_cost-soft : (states : ℕ) (point : ℕ → ℕ → ℕ) (levels : List ℤ) (costs : List ℕ) → 0 < states
     → ((state symbol : ℕ) → state < states → symbol < states → point state symbol < 16) → IsPointTable levels costs → length levels ≡ 98
     → (path : List ℕ) → IsPath states path → path_cost point (cost_in costs) path ≡ soft_cost point levels path

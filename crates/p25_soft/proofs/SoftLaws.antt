@@ -14,7 +14,7 @@ pub IsFirstLeast-soft_path : (states : ℕ) (point : ℕ → ℕ → ℕ) (level
 unfolding soft_path
 IsFirstLeast-soft_path states point levels some = IsFirstLeast-first_least_end states (soft_cost point levels) some
 
--- its octets and its cost are the reading of the levels
+-- its octets and its cost are the decoding of the levels
 pub soft_reading : (states width : ℕ) (point : ℕ → ℕ → ℕ) (levels : List ℤ) → 0 < states
     → IsFirstLeastReading states width (soft_cost point levels) (soft_octets states width point levels) (soft_cost point levels (soft_path states point levels))
 unfolding soft_octets
@@ -78,7 +78,7 @@ near_path states apart point levels path some far long is near =
     )
     )
 
--- and read as the octets that it carries
+-- and decode to the octets that it carries
 pub near_octets : (states width apart : ℕ) (point : ℕ → ℕ → ℕ) (levels : List ℤ) (octets : List ℕ) → states ≡ 2 ^ width
     → ((one other : List ℕ) → IsPath states one → IsPath states other → distance_of (sent_bits point one) (sent_bits point other) < apart → one ≡ other)
     → length levels ≡ 98 → length octets ≡ 6 * width → All (λ octet. octet < 256) octets
@@ -94,7 +94,7 @@ near_octets states width apart point levels octets states_is far long count smal
     (Carries-octets_from states width (soft_path states point levels) first.is_path)
     (subst (λ (path : List ℕ). Carries width path octets) same block.carries)
 
--- the nominal levels of a block read as its octets
+-- the nominal levels of a block decode to its octets
 pub nominal_octets : (states width : ℕ) (point : ℕ → ℕ → ℕ) (octets : List ℕ) → states ≡ 2 ^ width → length octets ≡ 6 * width → All (λ octet. octet < 256) octets
     → (length (nominal_levels (block_from width point octets)) ≡ 98)
     × (bits_deviation (block_from width point octets) (nominal_levels (block_from width point octets)) ≡ 0)

@@ -30,7 +30,7 @@ block_levels-from levels block j long all =
     ∙ sym (each_below-list block (pos 0) 98 whole)
     ∙ each_below-same 98 (λ i. get_or block i (pos 0)) (λ i. get_or levels (sent_dibit (154 + 98 * j + i)) (pos 0)) all
 
--- what the levels of a block are among
+-- the levels of a block are among those that are there
 pub sent_dibit-lt : (j n most : ℕ) → j < n → sent_dibit (153 + 98 * n) < most → sent_dibit (154 + 98 * j + 97) < most
 unfolding sent_dibit
 sent_dibit-lt j n most before inside = omega arith
@@ -39,7 +39,7 @@ pub sent_dibit-inside : (n levels : ℕ) → packet_sent_length n ≡ 2 * levels
 unfolding sent_dibit
 sent_dibit-inside n levels long = omega arith
 
--- a block where the packet CRC fails
+-- a block, if the packet CRC fails
 pub softened_block-all : (fields : List Field) (levels : List ℤ) (bare : List Bool) (j : ℕ)
     → names_all fields ≡ true → softened_block fields levels bare j ≡ soft_block 4 half_point (block_levels levels j)
 unfolding softened_block
@@ -70,7 +70,7 @@ pub blocks_replaced-more : (fields : List Field) (n : ℕ) → blocks_replaced f
 unfolding blocks_replaced
 blocks_replaced-more fields n = ap (blocks_replaced fields) (add-one n)
 
--- the unit with its blocks replaced, as it is put together
+-- the data unit with its blocks replaced, from its parts
 pub softened_bare-from : (fields : List Field) (levels : List ℤ) (n count : ℕ) (bare none start blocks whole : List Bool) → none ≡ [] → start ≡ none ++ part 0 308 bare
     → blocks ≡ start ++ joined_below n (softened_block fields levels bare) → count ≡ length bare → whole ≡ blocks ++ part (308 + 196 * n) (count - (308 + 196 * n)) bare
     → whole ≡ softened_bare fields levels n bare
@@ -86,7 +86,7 @@ none_of_two : (a b : Bool) → ◌≡◌ {A = ℕ} (cond (a || b) 1 0) 0 → (a 
 none_of_two false false e = (refl, refl)
 none_of_two a b e = absurd (omega arith)
 
--- where none is replaced each block stays
+-- if none is replaced each block stays
 blocks_kept : (fields : List Field) (levels : List ℤ) (bare : List Bool) (n : ℕ) → blocks_replaced fields n ≡ 0 → (j : ℕ) → j < n → softened_block fields levels bare j ≡ block_bits bare j
 unfolding blocks_replaced
 blocks_kept fields levels bare zero none j below = absurd (omega arith)
@@ -107,14 +107,14 @@ softened_bare-kept fields levels n bare none =
     ∙ ap (λ (xs : List Bool). take 308 bare ++ xs) (ap₂ (λ (xs ys : List Bool). xs ++ ys) blocks last ∙ take-append-drop (196 * n) (drop 308 bare))
     ∙ take-append-drop 308 bare
 
--- where none is replaced all bits stay
+-- if none is replaced all bits stay
 pub softened_packet-kept : (fields : List Field) (levels : List ℤ) (sent : List Bool) (parts : ℕ)
     → length sent ≡ 72 * parts → blocks_replaced fields (blocks_to_follow sent) ≡ 0 → softened_packet fields levels sent ≡ sent
 unfolding softened_packet
 softened_packet-kept fields levels sent parts long none =
     ap (λ (bare : List Bool). woven bare (statuses_of sent)) (softened_bare-kept fields levels (blocks_to_follow sent) (bare_of sent) none) ∙ woven-of parts sent long
 
--- all of it as it is sent
+-- the whole data unit, with its status symbols
 pub softened_packet-from : (fields : List Field) (levels : List ℤ) (sent received bare softened_bits whole : List Bool) (statuses : List Status) (n : ℕ) → received ≡ sent → bare ≡ bare_of received
     → statuses ≡ statuses_of received → n ≡ blocks_to_follow sent → softened_bits ≡ softened_bare fields levels n bare → whole ≡ woven softened_bits statuses
     → whole ≡ softened_packet fields levels sent

@@ -26,13 +26,13 @@ module _ (at : ℕ) (arrival : Arrival) (is : IsNearArrival arrival) where
   pub covered-whole_of : covered (whole_of at arrival) ≡ length arrival.bits
   covered-whole_of = ap covered (sym alone.0) ∙ alone.2
 
-  -- and what it reads as is sound and can be sent
+  -- and its decoding is sound and sendable
   pub frame_arrived-sound : IsSoundFrame (frame_arrived arrival) × IsSendableUnit (frame_arrived arrival).unit
   frame_arrived-sound =
       let read = whole-within at arrival.bits at (frame_arrived arrival) _ alone.0 in
       (read.sound, read.sendable)
 
-  -- where bits begin with it, it is the first of the items, and those of the bits after it follow
+  -- if bits begin with it, it is the first of the items, and those of the bits after it follow
   pub items_by-arrival : (ended : Bool) (more : List Bool) → items_by ended at (arrival.bits ++ more) ≡ whole_of at arrival ∷ items_by ended (at + length arrival.bits) more
   items_by-arrival ended more = rw (items_by-decided ended at arrival.bits more alone.1, alone.2, alone.0, drop_all (length arrival.bits) arrival.bits (omega arith))
 
@@ -52,15 +52,15 @@ units-whole ended at (arrival ∷ arrivals) more near =
       wholes_of-cons,
     )
 
--- among the items of some bits are those of the bits from a place on, and the items before these end there
+-- among the items of some bits are those of the bits from a position on, and the items before these end there
 pub record IsReached (at place : ℕ) (rest : List Bool) (items : List Item) : Type 0 where
   pub before : List Item
   pub among : items ≡ before ++ items_of place rest
   pub ends : at + sum_by covered before ≡ place
 
--- a place with a sync, after other bits
+-- a position with a sync, after other bits
 module _ (place : ℕ) (rest : List Bool) (synced : has_sync rest ≡ true) where
-  -- what is said of the items of some bits is said of those of bits that have one item more in front
+  -- the same for the items of bits that have one item more before them
   later : (at : ℕ) (item : Item) (items : List Item) → IsHidden place items ⊎ IsReached (at + covered item) place rest items
       → IsHidden place (item ∷ items) ⊎ IsReached at place rest (item ∷ items)
   later at item items (inl hidden) =
@@ -80,7 +80,7 @@ module _ (place : ℕ) (rest : List Bool) (synced : has_sync rest ≡ true) wher
         ends = omega (arith, sum_by-cons covered item reached.before, reached.ends);
       })
 
-  -- a first item that reaches past the place is a unit
+  -- a first item that reaches past the position is a data unit
   module _ (at : ℕ) (bits : List Bool) (some : 0 < length bits) where
     no_gap : (start count : ℕ) → Gap start count ≡ first_item at (bits ++ rest) → length bits < count → ⊥
     no_gap start count same far =

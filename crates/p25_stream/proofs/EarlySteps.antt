@@ -8,7 +8,7 @@ use Rattle.p25_bits.proofs.{BitsLaws.{length-bits_of, field_of-cons, field_of-lt
 use Rattle.p25_status.specs.Sync.{has_sync, sync_bits}
 use Rattle.p25_status.proofs.SyncLaws.{has_sync-distance, length-sync_bits}
 
--- in how many places two lists both have a 1
+-- the number of positions at which two lists both have a 1
 both : List Bool → List Bool → ℕ
 both [] ms = 0
 both (x ∷ xs) [] = 0
@@ -61,7 +61,7 @@ within-none (m ∷ ms) (y ∷ ys) none =
     or_left true b is = refl
     or_left false b is = absurd (cc)
 
--- a 1 of the mask is missed only where the bits are wrong
+-- a 1 of the mask is missed only at a bit error
 missed_at : (x y m : Bool) → (not m || y) ≡ true → cond (m && m) 1 0 ≤ cond (x && m) 1 0 + cond (beq x y) 0 1
 missed_at true true true is = omega arith
 missed_at true false true is = absurd (cc)
@@ -78,7 +78,7 @@ missed (x ∷ xs) (y ∷ ys) (m ∷ ms) a b is =
     omega (arith, missed_at x y m parts.0, missed xs ys ms (omega arith) (omega arith) parts.1)
 missed xs ys ms a b is = absurd (omega arith)
 
--- a mask has its ones within those of the sync, where the sync stands at a place
+-- a mask has its ones within those of the sync, if the sync is at a position
 fits_at : List Bool → ℕ → Bool
 fits_at ms place = within (take place ms) [] && (within (part place 48 ms) sync_bits && within (drop 48 (drop place ms)) [])
 
@@ -129,7 +129,7 @@ module _ (bits ms : List Bool) (place : ℕ) (masks : length ms ≡ length bits)
         inside,
       )
 
-  -- a place with a sync has most ones of the mask
+  -- a position with a sync has all ones of the mask, except at most four
   most_ones : fits_at ms place ≡ true → has_sync (part place 48 bits) ≡ true → both ms ms ≤ both bits ms + 4
   most_ones fits yes' =
       let near = has_sync-distance (part place 48 bits) yes' in
@@ -140,7 +140,7 @@ module _ (bits ms : List Bool) (place : ℕ) (masks : length ms ≡ length bits)
   few_ones least fits all few =
       elim (cases_Bool (has_sync (part place 48 bits))) [ inr no' ↦ no' | inl yes' ↦ absurd (omega (arith, most_ones fits yes')) ]
 
--- it does so at every second place from one on, so many times
+-- a mask does so at every second position from one on, a given number of times
 fits_from : List Bool → ℕ → ℕ → Bool
 fits_from ms place zero = true
 fits_from ms place (suc n) = fits_at ms place && fits_from ms (suc (suc place)) n
@@ -155,7 +155,7 @@ fits_from-at ms place (suc n) (suc k) fits inside =
     let same : suc (suc place) + 2 * k ≡ place + 2 * suc k = omega arith in
     subst (λ (i : ℕ). fits_at ms i ≡ true) same (fits_from-at ms (suc (suc place)) n k (and_parts (fits_at ms place) _ fits).1 (omega arith))
 
--- two masks of `least` ones and four more: one fits at the even places and one at the odd ones
+-- two masks of `least` ones and four more: one fits at the even positions and one at the odd ones
 record AreMasks (count least : ℕ) (even odd : List Bool) : Type 0 where
   even_long : length even ≡ 47 + 2 * count
   odd_long : length odd ≡ 47 + 2 * count
@@ -164,7 +164,7 @@ record AreMasks (count least : ℕ) (even odd : List Bool) : Type 0 where
   even_fits : fits_from even 0 count ≡ true
   odd_fits : fits_from odd 1 count ≡ true
 
--- where both have too few ones in common with some bits, no place has a sync
+-- if both have too few ones in common with some bits, no position has a sync
 none_at : (count least : ℕ) (even odd bits : List Bool) → AreMasks count least even odd → length bits ≡ 47 + 2 * count → both bits even < least → both bits odd < least
     → (place : ℕ) → place < 2 * count → has_sync (part place 48 bits) ≡ false
 none_at count least even odd bits masks long a b place inside =
@@ -186,7 +186,7 @@ weight width number mask small fits =
     ap₂ (λ a b. count_ones (bit_and a b)) (sym (field_of-bits_of width number ∙ mod-eq_of_lt small)) (sym (field_of-bits_of width mask ∙ mod-eq_of_lt fits))
     ∙ ones-and (bits_of width number) (bits_of width mask) (length-bits_of width number ∙ sym (length-bits_of width mask))
 
--- the masks of eight places
+-- the masks of eight positions
 eight_masks : AreMasks 4 17 (bits_of 55 0xAAAA_AAAA_AA80) (bits_of 55 0x5555_5555_5540)
 unfolding both fits_from fits_at within bits_of sync_bits
 eight_masks = record { even_long = refl; odd_long = refl; even_ones = refl; odd_ones = refl; even_fits = refl; odd_fits = refl }
@@ -197,7 +197,7 @@ none-of_eight number small a b =
     none_at 4 17 (bits_of 55 0xAAAA_AAAA_AA80) (bits_of 55 0x5555_5555_5540) (bits_of 55 number) eight_masks (length-bits_of 55 number)
     (omega (arith, weight 55 number 0xAAAA_AAAA_AA80 small (omega arith))) (omega (arith, weight 55 number 0x5555_5555_5540 small (omega arith)))
 
--- the masks of 16 places
+-- the masks of 16 positions
 sixteen_masks : AreMasks 8 13 (bits_of 63 0xAAAA_AAAA_8000) (bits_of 63 0x5555_5555_4000)
 unfolding both fits_from fits_at within bits_of sync_bits
 sixteen_masks = record { even_long = refl; odd_long = refl; even_ones = refl; odd_ones = refl; even_fits = refl; odd_fits = refl }

@@ -26,14 +26,14 @@ filled before held octets taken judged is known all = record {
   all = λ open'. rw (drop_all taken octets (all open'), octet_bits-nil);
 }
 
--- an item of a place is the first of the items there, where more bits do not matter or do not come
+-- an item of a position is the first of the items there, if more bits do not matter or do not come
 first-is : (ended : Bool) (place : ℕ) (bits : List Bool) → 0 < length bits → items_by ended place bits
     ≡ first_item place bits ∷ items_by ended (place + covered (first_item place bits)) (drop (covered (first_item place bits)) bits)
     → IsFirst ended place bits (first_item place bits)
 first-is ended place bits some is = record { items = is; there = (covered-first_item place bits some).1 }
 
 module _ (ended : Bool) (place : ℕ) (before rest held : List Bool) (judged : Judged) (is : IsFilled before rest held judged) where
-  -- where all bits are held, or the first item is known, it is that of the bits held
+  -- if all bits are held, or the first item is known, it is that of the bits held
   pub first-ended : 0 < length held → ended ≡ true → is_settled judged ≡ false → IsFirst ended place (before ++ rest) (first_item place held)
   first-ended some goes open' =
       rw (is.joined, is.all open', append-nil) (first-is ended place held some (items_by-more ended place held some (rw goes)))
@@ -58,12 +58,12 @@ module _ (ended : Bool) (place : ℕ) (before rest held : List Bool) (judged : J
         ]
       ]
 
-  -- and where it is not known and more may come, there is none
+  -- and if it is not known and more bits may come, there is none
   pub none-found : ended ≡ false → is_settled judged ≡ false → items_by ended place (before ++ rest) ≡ []
   none-found goes open' =
       rw (is.joined, is.all open', append-nil) (items_by-none ended place held (rw (goes, IsJudged-decided judged held is.known, open')))
 
--- the bits held are as many as one octet has from the place on, or more
+-- as many bits are held as one octet has from the position on, or more
 pub held-some : (before rest held : List Bool) (judged : Judged) → IsFilled before rest held judged → 0 < length before → 0 < length held
 held-some before rest [] judged is some =
     elim (cases_Bool (is_settled judged)) [
@@ -72,7 +72,7 @@ held-some before rest [] judged is some =
     ]
 held-some before rest (bit ∷ held) judged is some = omega arith
 
--- the bits from a place on are those of its octet from there on, and those of the octets after it
+-- the bits from a position on are those of its octet from there on, and those of the octets after it
 pub bits-at : (octets : List ℕ) (at : ℕ) (before : List Bool) → at / 8 < length octets → before ≡ drop (at % 8) (bits_of 8 (get_or octets (at / 8) 0))
     → drop at (octet_bits octets) ≡ before ++ octet_bits (take (length octets - (at / 8 + 1)) (drop (at / 8 + 1) octets))
 bits-at octets at before inside is =

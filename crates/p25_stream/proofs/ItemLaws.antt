@@ -73,7 +73,7 @@ gaps_full ended at bits before place count next_place next_count after is =
       | inr long ↦ omega (arith, first.1)
     ]
 
--- a unit with few wrong bits is the first item of bits that begin with it
+-- a data unit with few bit errors is the first item of bits that begin with it
 pub near-whole : NearIsWhole
 near-whole at frame sent more sound sendable near =
     let all = sent ++ more in
@@ -87,7 +87,7 @@ near-whole at frame sent more sound sendable near =
       ap covered first ∙ covered-unit_item_of at all (length sent) need,
     )
 
--- a first item that is whole is the item of a unit, so its bits read as its frame
+-- a first item that is whole is the item of a data unit, so its bits decode to its frame
 pub whole-within : WholeIsRead
 whole-within at bits place frame fixes first =
     first_item-cases (λ item. item ≡ Whole place frame fixes → IsWholeOf at (take (frame_length_of frame.unit) bits) place frame fixes) at bits

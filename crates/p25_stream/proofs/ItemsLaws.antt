@@ -64,7 +64,7 @@ covered-first_item at bits some =
     (omega (arith, covers, there.0), omega (arith, covers, there.3)))
     (λ field yes' is. (omega arith, omega arith))
 
--- it begins where its bits do, and is sound
+-- it begins with its bits, and is sound
 pub place_of-first_item : (at : ℕ) (bits : List Bool) → place_of (first_item at bits) ≡ at
 place_of-first_item at bits =
     first_item-cases (λ item. place_of item ≡ at) at bits (λ no'. refl) (λ count yes' is. refl) (λ count yes' is. place_of-unit_item_of at (take count bits)) (λ field yes' is. refl)
@@ -73,7 +73,7 @@ pub IsSoundItem-first_item : (at : ℕ) (bits : List Bool) → IsSoundItem (firs
 IsSoundItem-first_item at bits =
     first_item-cases IsSoundItem at bits (λ no'. tt) (λ count yes' is. tt) (λ count yes' is. IsSoundItem-unit_item_of at bits count is) (λ field yes' is. tt)
 
--- a gap that comes first has no sync at its first place
+-- a gap that comes first has no sync at its first position
 pub gap-first : (at : ℕ) (bits : List Bool) (place count : ℕ) → Gap place count ≡ first_item at bits → (has_sync bits ≡ false) × (count ≡ gap_of bits)
 gap-first at bits place count is =
     first_item-cases (λ item. Gap place count ≡ item → (has_sync bits ≡ false) × (count ≡ gap_of bits)) at bits
@@ -182,7 +182,7 @@ first_item-append at bits more decided =
           )
     ]
 
--- a need is known where the bits of the longest unit are there, and so is a gap
+-- a need is known if the bits of the longest data unit are there, and so is a gap
 need-known : (bits : List Bool) (need : Need) → need_of bits ≡ need → 25920 ≤ length bits → is_known need ≡ true
 need-known bits NoSync is long = refl
 need-known bits (More count) is long = let few = need_of-few bits count is in absurd (omega (arith, few.0, few.1, long))
@@ -206,7 +206,7 @@ decided-some bits decided =
       | inl yes' ↦ omega (arith, has_sync-length bits yes')
     ]
 
--- the items of more bits, where the first is decided
+-- the items of more bits, if the first is decided
 pub items_by-decided : (ended : Bool) (at : ℕ) (bits more : List Bool) → is_decided bits ≡ true
     → items_by ended at (bits ++ more) ≡ first_item at bits ∷ items_by ended (at + covered (first_item at bits)) (drop (covered (first_item at bits)) bits ++ more)
 items_by-decided ended at bits more decided =

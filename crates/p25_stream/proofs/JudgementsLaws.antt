@@ -34,7 +34,7 @@ IsJudged-decided (Gap count) bits is = is_decided-gap bits is.unsynced ∙ ap (�
 IsJudged-decided (Ready count begun) bits is = is_decided-synced bits (Length count) is.synced is.needs
 IsJudged-decided (NoUnit field) bits is = is_decided-synced bits (NoLength field) is.synced is.needs
 
--- where it is not, few bits are held
+-- if it is not, few bits are held
 pub IsJudged-few : (judged : Judged) (bits : List Bool) → IsJudged judged bits → is_settled judged ≡ false → length bits < 25920
 unfolding IsJudged
 IsJudged-few (Searching clear) bits is open' = omega (arith, is.all, is.few)
@@ -83,7 +83,7 @@ pub was-no_unit : (judged : Judged) (bits : List Bool) (field : Field) → IsJud
 unfolding IsJudged
 was-no_unit judged bits field is same = subst (λ (b : Judged). IsJudged b bits) same is
 
--- places that were searched have no sync under more bits
+-- positions that were searched have no sync if more bits follow
 pub searched-more : (bits more : List Bool) (clear : ℕ) → IsSearched bits clear → (clear ≤ sync_place (bits ++ more)) × (clear ≤ length (bits ++ more) - 47)
 searched-more bits more clear is =
     elim (cases_lt clear 1) [
@@ -102,7 +102,7 @@ waits-more bits more count begun is short = record {
   read = IsBegun-append begun bits more is.read;
 }
 
--- where the bits are too few for more to be known, what is known stays
+-- if the bits are too few for more to be known, the knowledge stays
 searching-stays : (bits more : List Bool) (clear : ℕ) → IsSearched bits clear → length (bits ++ more) - 47 ≤ clear → IsSearched (bits ++ more) clear
 searching-stays bits more clear is few = record {
   few = is.few;
@@ -121,7 +121,7 @@ was-stays judged bits was few =
     subst (λ (xs : List Bool). IsJudged judged xs) (sym was.is)
     (waits-stays judged was.before was.more was.known (ap (λ (xs : List Bool). waits judged (length xs)) (sym was.is) ∙ few))
 
--- the bits that a gap covers are known by the first place after them with a sync, or by their number
+-- the bits that a gap covers are known by the first position after them with a sync, or by their number
 pub gap-before_sync : (bits : List Bool) (k : ℕ) → 0 < k → k < 4096 → k ≤ sync_place bits → k + 48 ≤ length bits → has_sync (drop k bits) ≡ true → IsKnownGap bits k
 gap-before_sync bits k some few none there yes' =
     let place : sync_place bits ≡ k = omega (arith, sync_place-from k bits none, sync_place-synced (drop k bits) yes') in

@@ -8,7 +8,7 @@ use Rattle.p25_status.proofs.SyncLaws.{has_sync-yes, has_sync-no, has_sync-take}
 use Rattle.p25_stream.specs.Items.{sync_place}
 use Rattle.p25_stream.proofs.SyncPlaceLaws.{sync_place-more}
 
--- the window of a number at a place
+-- the window of a number at an offset
 pub window_of : (place count number : ℕ) → place < count → bits_of 48 (number / 2 ^ (count - 1 - place) % 2 ^ 48) ≡ part place 48 (bits_of (47 + count) number)
 window_of place count number inside =
     let low = count - 1 - place in
@@ -35,7 +35,7 @@ window-unsynced bits window is far =
       | inr few ↦ absurd (far (rw whole at few))
     ]
 
--- the windows of a field are those of the bits that it stands in
+-- the windows of a field are those of the bits that contain it
 pub window_in : (bits : List Bool) (k count place number : ℕ) → k + 47 + count ≤ length bits → place < count → number ≡ field_of (part k (47 + count) bits)
     → has_sync (part place 48 (bits_of (47 + count) number)) ≡ has_sync (drop (k + place) bits)
 window_in bits k count place number there inside is =
@@ -44,21 +44,21 @@ window_in bits k count place number there inside is =
     let few : 48 ≤ length (drop (k + place) bits) = omega (arith, length-drop (k + place) bits) in
     rw (is, bits_of-field (47 + count) k bits fits, part-part k (47 + count) place 48 bits within, has_sync-take (drop (k + place) bits) 48 (omega arith) few)
 
--- so many more places without a sync
+-- so many more positions without a sync
 pub searched-many : (bits : List Bool) (k n : ℕ) → k + n + 47 ≤ length bits → k ≤ sync_place bits → ((place : ℕ) → place < n → has_sync (drop (k + place) bits) ≡ false) → k + n ≤ sync_place bits
 searched-many bits k zero there none free = omega arith
 searched-many bits k (suc n) there none free =
     let before = searched-many bits k n (omega arith) none (λ place inside. free place (omega arith)) in
     omega (arith, sync_place-more (k + n) bits (omega arith) before (free n (omega arith)))
 
--- the places of a field that have none, where they stand
+-- the positions of a field that have none, as positions of the bits
 pub places-free : (bits : List Bool) (k count free number : ℕ) → k + 47 + count ≤ length bits → free ≤ count → number ≡ field_of (part k (47 + count) bits) → k ≤ sync_place bits
     → ((place : ℕ) → place < free → has_sync (part place 48 (bits_of (47 + count) number)) ≡ false) → k + free ≤ sync_place bits
 places-free bits k count zero number there few is none judged = omega arith
 places-free bits k count (suc free) number there few is none judged =
     searched-many bits k (suc free) (omega arith) none (λ place inside. sym (window_in bits k count place number there (omega arith) is) ∙ judged place inside)
 
--- 16 places are the first eight, and eight more
+-- 16 positions are the first eight, and eight more
 pub none-of_two_eights : (number : ℕ) → ((place : ℕ) → place < 8 → has_sync (part place 48 (bits_of 55 (number / 2 ^ 8))) ≡ false)
     → ((place : ℕ) → place < 8 → has_sync (part place 48 (bits_of 55 (number % 2 ^ 55))) ≡ false) → (place : ℕ) → place < 16 → has_sync (part place 48 (bits_of 63 number)) ≡ false
 none-of_two_eights number high low place inside = elim (cases_lt place 8) [

@@ -7,7 +7,7 @@ use Rattle.p25_stream.specs.{Items.{first_item, is_decided, items_by}, Scan.{Sca
 use Rattle.p25_stream.proofs.ItemsLaws.{covered-first_item, items_by-nil, items_by-more, items_by-none, items_by-first, items_by-decided, decided-some}
 use Rattle.p25_stream.proofs.JudgementsLaws.{IsJudged-decided, IsJudged-few}
 
--- some bits have items where the stream has ended or the first is decided
+-- some bits have items only if the stream has ended or the first is decided
 pub items_by-some : (ended : Bool) (at : ℕ) (bits : List Bool) → (items_by ended at bits ≡ [] → ⊥) → (0 < length bits) × ((ended || is_decided bits) ≡ true)
 items_by-some ended at [] some = absurd (some (items_by-nil ended at))
 items_by-some ended at (bit ∷ bits) some =
@@ -19,7 +19,7 @@ items_by-some ended at (bit ∷ bits) some =
 pub items_by-any : (ended : Bool) (at : ℕ) (bits : List Bool) → 0 < length bits → (ended || is_decided bits) ≡ true → items_by ended at bits ≡ [] → ⊥
 items_by-any ended at bits some goes none = let two = sym none ∙ items_by-more ended at bits some goes in cc
 
--- a finished scanner is drained where nothing is held, another where the first item is not known
+-- a finished scanner is drained if it holds nothing, and another if the first item is not known
 pub drained-finished : (place : ℕ) (held : List Bool) → (length held ≡ 0) ↔ (items_by true place held ≡ [])
 drained-finished place [] = (λ none. items_by-nil true place, λ none. refl)
 drained-finished place (bit ∷ held) = (λ none. absurd (omega arith), λ none. absurd (items_by-any true place (bit ∷ held) (omega arith) refl none))
@@ -76,7 +76,7 @@ pub gave-items : (before now : Scan) (item : Item) (raw : List Bool) (ended : Bo
 gave-items before now item raw ended more gave goes =
     rw (gave.place, gave.left) (gave-ended ended before.finished before.place before.held more item (given now) gave.items goes)
 
--- whether a scanner is drained, as it answers
+-- whether a scanner is drained, as it returns
 pub drained-when-finished : (scan : Scan) (empty : Bool) → scan.finished ≡ true → IsTrue empty ↔ (scan.held ≡ []) → IsTrue empty ↔ (given scan ≡ [])
 drained-when-finished scan empty ended held =
     let is = drained-finished scan.place scan.held in (

@@ -5,7 +5,7 @@ use Rattle.p25_status.specs.Sync.{has_sync}
 use Rattle.p25_status.proofs.SyncLaws.{has_sync-short, has_sync-length, has_sync-append}
 use Rattle.p25_stream.specs.Items.{sync_place}
 
--- a first place with a sync, and one without
+-- a first position with a sync, and one without
 pub sync_place-here : (bit : Bool) (bits : List Bool) → has_sync (bit ∷ bits) ≡ true → sync_place (bit ∷ bits) ≡ 0
 unfolding sync_place
 sync_place-here bit bits yes' = cond-true (has_sync (bit ∷ bits)) 0 (suc (sync_place bits)) yes'
@@ -32,7 +32,7 @@ pub sync_place-synced : (bits : List Bool) → has_sync bits ≡ true → sync_p
 sync_place-synced [] yes' = sync_place-nil
 sync_place-synced (bit ∷ bits) yes' = sync_place-here bit bits yes'
 
--- where some places have none, what is after them decides where the least is
+-- if some positions have none, the bits after them decide the least position that has one
 pub sync_place-from : (count : ℕ) (bits : List Bool) → count ≤ sync_place bits → sync_place bits ≡ count + sync_place (drop count bits)
 sync_place-from zero bits few = omega arith
 sync_place-from (suc count) [] few = absurd (omega (arith, sync_place-nil))
@@ -44,7 +44,7 @@ sync_place-from (suc count) (bit ∷ bits) few =
           omega (arith, later, sync_place-from count bits (omega (arith, later)))
     ]
 
--- one more place without one
+-- one more position without one
 pub sync_place-more : (count : ℕ) (bits : List Bool) → count < length bits → count ≤ sync_place bits → has_sync (drop count bits) ≡ false → count + 1 ≤ sync_place bits
 sync_place-more count bits inside few no' =
     let from = sync_place-from count bits few in
@@ -54,7 +54,7 @@ sync_place-more count bits inside few no' =
     some [] long no' = absurd (omega arith)
     some (bit ∷ rest) long no' = omega (arith, sync_place-later bit rest no')
 
--- the least place has a sync where it is among the bits, and no place before it has one
+-- the least position has a sync if it is among the bits, and no position before it has one
 pub has_sync-at_place : (bits : List Bool) → sync_place bits < length bits → has_sync (drop (sync_place bits) bits) ≡ true
 has_sync-at_place bits inside =
     let rest = drop (sync_place bits) bits in
@@ -71,11 +71,11 @@ has_sync-before bits place before =
       | inr no' ↦ no'
     ]
 
--- what is left from the least place on begins with one, or is empty
+-- the bits from the least position on begin with one, or there are none
 pub sync_place-left : (bits : List Bool) → sync_place (drop (sync_place bits) bits) ≡ 0
 sync_place-left bits = omega (arith, sync_place-from (sync_place bits) bits (omega arith))
 
--- bits that begin with no sync have none at their first place
+-- bits that begin with no sync have none at their first position
 pub sync_place-unsynced : (bits : List Bool) → 0 < length bits → has_sync bits ≡ false → 0 < sync_place bits
 sync_place-unsynced bits some no' = omega (arith, sync_place-more 0 bits some (omega arith) no')
 
@@ -84,13 +84,13 @@ pub sync_place-short : (bits : List Bool) → length bits < 48 → sync_place bi
 sync_place-short [] short = sync_place-nil
 sync_place-short (bit ∷ bits) short = sync_place-later bit bits (has_sync-short (bit ∷ bits) short) ∙ ap suc (sync_place-short bits (omega arith))
 
--- where no place that can be judged has one, none has
+-- if no position that can be judged has one, none has
 pub sync_place-all : (clear : ℕ) (bits : List Bool) → clear ≤ sync_place bits → length bits < clear + 48 → sync_place bits ≡ length bits
 sync_place-all clear bits few short =
     let from = sync_place-from clear bits few in
     omega (arith, from, sync_place-le bits, length-drop clear bits, sync_place-short (drop clear bits) (omega (arith, length-drop clear bits)))
 
--- the least place with a sync, once its 48 bits are there, is the least under more bits
+-- the least position with a sync, once its 48 bits are there, is the least if more bits follow
 pub sync_place-append : (bits more : List Bool) → sync_place bits + 48 ≤ length bits → sync_place (bits ++ more) ≡ sync_place bits
 sync_place-append [] more enough = absurd (omega arith)
 sync_place-append (bit ∷ bits) more enough =
@@ -104,7 +104,7 @@ sync_place-append (bit ∷ bits) more enough =
           sync_place-later bit (bits ++ more) (has_sync-append (bit ∷ bits) more long ∙ no') ∙ ap suc (sync_place-append bits more (omega (arith, later))) ∙ sym later
     ]
 
--- places without a sync, once the 48 bits of each are there, have none under more bits
+-- positions without a sync, once the 48 bits of each are there, have none if more bits follow
 pub sync_place-append_far : (count : ℕ) (bits more : List Bool) → count + 47 ≤ length bits → count ≤ sync_place bits → count ≤ sync_place (bits ++ more)
 sync_place-append_far zero bits more enough far = omega arith
 sync_place-append_far (suc count) [] more enough far = absurd (omega arith)

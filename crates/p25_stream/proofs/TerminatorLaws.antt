@@ -7,7 +7,7 @@ use Rattle.p25_units.proofs.UnitsLaws.{length-image_of}
 use Rattle.p25_stream.specs.{Items.{first_item, is_decided}, ItemLaws.{TerminatorIsRead, TerminatorIsThere, SentTerminatorIsRead}}
 use Rattle.p25_stream.proofs.ItemLaws.{near-whole, whole-within, image-whole}
 
--- the first 144 bits are within radius of the frame
+-- the first 144 bits are within the correction radius of the frame
 pub terminator-read : TerminatorIsRead
 terminator-read at nac bits has =
     let sent = take 144 bits in
@@ -21,7 +21,7 @@ terminator-read at nac bits has =
       ap is_decided (sym whole) ∙ near.1,
     )
 
--- a whole item tells how long its bits are, and that they are within radius
+-- the bits of a whole item are there, and are within the correction radius
 pub terminator-there : TerminatorIsThere
 terminator-there at nac bits place statuses fixes first =
     let frame = terminator nac statuses in

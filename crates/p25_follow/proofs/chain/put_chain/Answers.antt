@@ -5,7 +5,7 @@ use Rattle.p25_follow.specs.{Chains.{chain_by}, Expected.{name_of, names_of}, Fo
 use Rattle.p25_follow.proofs.{ChainLaws.{left_of-none}, ChainSteps.{chain-ended, chain-waits, left-waits}}
 use Rattle.p25_follow.proofs.chain.put_chain.Goals as goal
 
--- what is written, and what is left, where the unit before is known
+-- the output and the bits left, if the data unit before is known
 written-at : (whole : Bool) (before now : Option Nid) (bits out all : List Bool) (end : Option (ℕ × ℕ)) → before ≡ now → out ++ chain_by whole (names_of before) bits end ≡ all
     → out ++ chain_by whole (names_of now) bits end ≡ all
 written-at whole before now bits out all end same is = subst (λ (o : Option Nid). out ++ chain_by whole (names_of o) bits end ≡ all) same is

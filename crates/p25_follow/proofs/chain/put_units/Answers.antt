@@ -8,7 +8,7 @@ use Rattle.p25_follow.proofs.chain.put_units.Goals as goal
 abbrev pair : ℕ → ℕ → ℕ × ℕ
 pair nac kind = (nac, kind)
 
--- what is still to be written, and what is left, where the unit before is known
+-- the output that remains and the bits left, if the data unit before is known
 written-at : (whole : Bool) (before now : Option Nid) (bits out all : List Bool) (end : Option (ℕ × ℕ)) → before ≡ now → out ++ chain_by whole (names_of before) bits end ≡ all
     → out ++ chain_by whole (names_of now) bits end ≡ all
 written-at whole before now bits out all end same is = subst (λ (o : Option Nid). out ++ chain_by whole (names_of o) bits end ≡ all) same is

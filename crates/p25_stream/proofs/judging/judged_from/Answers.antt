@@ -4,7 +4,7 @@ use Rattle.p25_stream.specs.{Judgements.{IsKnownGap}, Items.{sync_place}}
 use Rattle.p25_stream.proofs.{JudgementsLaws.{judged-gap, judged-searching, gap-before_sync, gap-full}, JudgingSteps.{places-free, window_in}}
 use Rattle.p25_stream.proofs.judging.judged_from.Goals as goal
 
--- a sync at the first place is one at the beginning
+-- a sync at the first position is one at the beginning
 first-synced : (held : List Bool) (place : ℕ) → place ≡ 0 → has_sync (drop place held) ≡ true → has_sync held ≡ true
 first-synced held place first synced = ap (λ n. has_sync (drop n held)) (sym first) ∙ synced
 
