@@ -12,7 +12,7 @@ use Rattle.p25_delivery.proofs.SenderLaws.{IsSame, Resends, offer-quiet, offer-m
 use Rattle.p25_delivery.proofs.SessionLaws.{with_sent, one_sent, IsMarked, marked, present-sent, present-marked, number-marked}
 use Rattle.p25_delivery.proofs.PhaseLaws.{IsQuiet, IsWaitingAnswer, IsWaiting, IsArrived, IsBusy, IsOpeningAnswer, IsOpening, IsDeliveringNow, quiet, busy, opening}
 
--- what a newest transmission is like, where there is one
+-- a property of a newest transmission, if there is one
 pub newest : (o : Option Packet) (P : Packet → Type 0) (packet : Packet) → IfSome o P → o ≡ Some packet → P packet
 newest o P packet h e = rw e at h
 
@@ -81,7 +81,7 @@ opening-data number b s w t packet h e d = record {
 AfterOffer : Delivery → List ℕ → Sending × Offer → Type 0
 AfterOffer w message x = IsDeliveringNow (with_outbound w (after_offer w.outbound message x)).0
 
--- a message is taken, where nothing is outstanding
+-- a message is taken if nothing is outstanding
 taken : (last b : ℕ) (s : Session) (w : Delivery) (message : List ℕ) → IsQuiet last b s w → length message ≤ 2028 →
     IsBusy ((last + 1) % 8) message b (with_sent s message)
     (delivery_of_data (one_sent w message) (record { next = w.outbound.sender.next; outstanding = Message message; tries = 1; down = false }) (message_packet w.outbound.sender.next message))
@@ -153,7 +153,7 @@ timeout-phase w (opening number h) = opening-resent number w (timed_out w.outbou
 AfterReopening : Delivery → Bool → Sending × Reopen → Type 0
 AfterReopening w again x = IsDeliveringNow (with_outbound w (after_reopening w.outbound (length w.inbound.received) again x)).0
 
--- V(R) and the newest answer of a delivery whose message is given up
+-- V(R) and the newest response of a delivery whose message is given up
 record IsGivenUp (number : ℕ) (r : Receiving) (answered : Option Packet) : Type 0 where
   pub last_small : r.last < 8
   pub place : (r.last ≡ (number + 3) % 8) ⊎ (r.last ≡ (number + 4) % 8)

@@ -46,7 +46,7 @@ message-read_back message =
           (length (message ++ zeros) - pad) (sym count),
     )
 
--- where a block is put, and where the others stay
+-- a block is stored in the entry of its serial number, and the other entries stay
 pub put_block-here : (places : List (Option BlockParts)) (block : BlockParts) (j : ℕ) → j < length places → block.serial ≡ j → get_or (put_block places block) j None ≡ Some block
 unfolding put_block
 put_block-here places block j h e =
@@ -92,7 +92,7 @@ put_slots-comes message (Good block ∷ slots) places j are h (inl e) =
 put_slots-comes message (Good block ∷ slots) places j are h (inr later) =
     put_slots-comes message slots (put_block places block) j are.1 (omega (arith, length-put_block places block)) later
 
--- the octets of places that are all held
+-- the octets of entries that all hold a block
 pub all_octets-each : (n : ℕ) (block : ℕ → BlockParts) → all_octets (each_below n (λ j. Some (block j))) ≡ Some (joined_below n (λ j. (block j).octets))
 unfolding all_octets
 all_octets-each zero block =
@@ -118,7 +118,7 @@ joined-message_blocks message =
     (λ (j : ℕ) (h : j < n). ap (λ (at : ℕ). part at 16 octets) (sym (zero-add (16 * j)))) ∙ joined_below-parts 0 16 n octets ∙
     part_whole (16 * n) octets (length-message_octets message)
 
--- places of a message that are all held
+-- the entries of a message, if all hold their blocks
 pub places-of_message : (message : List ℕ) (places : List (Option BlockParts))
     → length places ≡ block_count (length message) → ((j : ℕ) → j < block_count (length message) → get_or places j None ≡ Some (message_block message j)) →
     all_octets places ≡ Some (message_octets message)

@@ -20,7 +20,7 @@ use Rattle.p25_delivery.proofs.PhaseLaws.{IsQuietData, IsQuiet, IsWaitingAnswer,
 use Rattle.p25_delivery.proofs.{FactsLaws.{facts-delivering}, RunLaws.{run-keeps}, AtOnceLaws.{delivers-delivering}}
 use Rattle.p25_delivery.proofs.CallLaws.{newest, delivery_of_sender, busy-sender, busy-data, offer-phase, timeout-phase, reopen-phase}
 
--- a delivery with another receiver, and another newest answer beside it
+-- a delivery with another receiver, and with another newest response
 abbrev delivery_of_answer : Delivery → Receiving → Packet → Delivery
 delivery_of_answer w r packet = record w { inbound = record w.inbound { receiver = r }; answer = Some packet }
 
@@ -44,7 +44,7 @@ quiet-heard last b s w r q l k = record {
   counted = q.counted;
 }
 
--- a message that is outstanding has come to another place
+-- an outstanding message stays outstanding, whether it has arrived or not
 busy-place : (number : ℕ) (message : List ℕ) (b : ℕ) (s t : Session) (w v : Delivery)
     → v.outbound.sender ≡ w.outbound.sender → v.packet_sent ≡ w.packet_sent → t.acknowledged ≡ s.acknowledged → IsBusy number message b s w →
     IsWaiting number message t v.inbound.receiver v.answer ⊎ IsArrived number message t v.inbound.receiver v.answer → IsBusy number message b t v
@@ -168,7 +168,7 @@ busy-stays number message w (t, SenderIgnored) h e r = busy number message (busy
 busy-stays number message w (t, HeardDown) h e r = busy number message (busy-sender number message (first_number w) (present_session w) w t h e)
 busy-stays number message w x h e r = absurd r
 
--- an answer that does not acknowledge a message that has not arrived
+-- the newest response acknowledges no message that has not arrived
 waiting-unacknowledged : (number : ℕ) (r : Receiving) (sent packet : Packet)
     → number < 8 → r.last < 8 → (r.last + 1) % 8 ≡ number → IsWaitingAnswer r number sent → IsTrueTo sent packet → acks packet number ≡ true → ⊥
 waiting-unacknowledged number r sent packet small last sync (inl e) t a =
@@ -319,7 +319,7 @@ run-delivers events message c o short =
     let w = delivery_run first_delivery events in
     delivers-delivering (first_number w) (present_session w) w message (run-kept events first_delivery first-kept c).delivering o short
 
--- where the session is opened again, its first number is one more than that of the opening packet
+-- if the session is reopened, its first number is one more than that of the opening packet
 
 sent-reopens : (o : Outgoing) (delivered : ℕ) (again : Bool) (s : Sending) (n number : ℕ) (packet : Packet)
     → s.outstanding ≡ Opening n → (after_reopening o delivered again (s, ReopenSent n packet)).1.0 ≡ Reopened number →

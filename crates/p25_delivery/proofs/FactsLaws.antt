@@ -7,7 +7,7 @@ use Rattle.p25_delivery.specs.{Places.{held_flags}, SentPackets.{opening_packet,
 use Rattle.p25_delivery.specs.{declared.sender.Outstanding.TheVariants.{Nothing, Message}, Delivery.{Delivery, Session}, Facts.{IsDataOf, KeepsOf, SentBy, IsNewestData, SessionFacts, FactsBy}}
 use Rattle.p25_delivery.proofs.PhaseLaws.{IsQuietData, IsQuiet, IsWaitingAnswer, IsWaiting, IsArrived, IsBusy, IsDelivering, quiet, busy, opening}
 
--- the first of a list, where all of it, or all but the last, is meant
+-- the first elements of a list: all of it, or all but the last
 take-same : (xs ys : List (List ℕ)) → xs ≡ ys → xs ≡ take (length xs) ys
 take-same xs ys e = cc (take_all (length xs) ys (omega (arith, ap length e)))
 

@@ -23,7 +23,7 @@ KeepsOutgoing x = IsOutgoing x.0 × IfSome x.1.1 IsSendable
 abbrev pub KeepsIncoming : Incoming × (StepKind × Option Packet) → Type 0
 KeepsIncoming x = IsIncoming x.0 × IfSome x.1.1 IsSendable
 
--- a call of a sender or a receiver gives a state and an answer
+-- a call of a sender or a receiver returns a state and a result
 pub call-state : {S A : Type 0} {s : S} {a : A} (x : S × A) → (s, a) ≡ x → s ≡ x.0
 call-state {S = S} {A = A} x e = cc
 
@@ -211,7 +211,7 @@ pub data-keeps : (i : Incoming) (packet : Packet) → IsIncoming i → KeepsInco
 unfolding after_data
 data-keeps i packet sound = receiver-soundly i.receiver packet sound
 
--- An answer that the sender hears.
+-- A response that the sender receives.
 
 acknowledged-keeps : (o : Outgoing) → o.acknowledged + length o.marks + 1 ≤ length o.sent → IsOutgoing (record o { sender = sending_after o.sender.next; acknowledged = o.acknowledged + 1 })
 unfolding IsCountedWith IsMessageIn

@@ -27,7 +27,7 @@ pub record IsQuiet (last b : ℕ) (s : Session) (w : Delivery) : Type 0 where
   pub acknowledged : s.acknowledged ≡ length s.sent
   pub counted : (last + 1) % 8 ≡ (b + s.acknowledged) % 8
 
--- the newest answer while a message has not arrived: ACK of the one before, or selective retry for what is kept
+-- the newest response while a message has not arrived: ACK of the one before, or selective retry for the blocks kept
 abbrev pub IsWaitingAnswer : Receiving → ℕ → Packet → Type 0
 IsWaitingAnswer r number packet =
     (packet ≡ ack_packet r.last) ⊎ ((kept : Keeping) × (r.kept ≡ Some kept) × (packet ≡ retry_packet number (held_flags kept.places)))
@@ -60,7 +60,7 @@ pub record IsBusy (number : ℕ) (message : List ℕ) (b : ℕ) (s : Session) (w
   pub counted : number ≡ (b + s.acknowledged) % 8
   pub place : IsWaiting number message s w.inbound.receiver w.answer ⊎ IsArrived number message s w.inbound.receiver w.answer
 
--- the newest answer while the session is being opened: it does not acknowledge the opening packet before that has come
+-- the newest response while the session is being opened: it does not acknowledge the opening packet before that has arrived
 abbrev pub IsOpeningAnswer : ℕ → ℕ → Packet → Type 0
 IsOpeningAnswer last number packet =
     (packet ≡ ack_packet last) ⊎ ((last ≡ number → ⊥) × (flags : List Bool) × (packet ≡ retry_packet ((number + 4) % 8) flags))
@@ -110,7 +110,7 @@ orderly-delivering b s w (opening number h) =
     orderly-arrived s (cc)
     (omega (arith, ap (λ (t : Session). t.acknowledged) h.session_is)) (omega (arith, ap (λ (t : Session). length t.delivered) h.session_is))
 
--- all sessions are, where those that have ended are
+-- all sessions are orderly if those that have ended are
 
 pub orderly-divided : (w : Delivery) → IsDivided IsOrderly w → IsOrderly (present_session w) → AreOrderly (sessions_of w)
 orderly-divided w d o =

@@ -34,12 +34,12 @@ pub put_slots-bad : (places : List (Option BlockParts)) (slots : List Slot) (j :
 unfolding put_slots
 put_slots-bad places slots j e = cc (take_get slots j Bad e, put_slots-append places (take j slots) (Bad ∷ []))
 
--- no slots put nothing
+-- without slots nothing is stored
 pub put_slots-nil : (places : List (Option BlockParts)) → put_slots places [] ≡ places
 unfolding put_slots
 put_slots-nil places = refl
 
--- octets of places before octets of others
+-- the octets of some entries before the octets of others
 abbrev pub both_octets : Option (List ℕ) → Option (List ℕ) → Option (List ℕ)
 both_octets None others = None
 both_octets (Some octets) others = before_octets octets others
@@ -58,14 +58,14 @@ all_octets-append [] ys = sym (both_octets-nil (all_octets ys))
 all_octets-append (None ∷ xs) ys = refl
 all_octets-append (Some block ∷ xs) ys = cc (all_octets-append xs ys, both_octets-before block.octets (all_octets xs) (all_octets ys))
 
--- one more place of which the block is held
+-- one more entry that holds its block
 pub all_octets-more : (places : List (Option BlockParts)) (i : ℕ) (block : BlockParts) (octets : List ℕ) → slice_get places i ≡ Some (Some block) → all_octets (take i places) ≡ Some octets →
     all_octets (take (i + 1) places) ≡ Some (octets ++ block.octets)
 unfolding all_octets
 all_octets-more places i block octets e f =
     cc (take_get places i (Some block) e, all_octets-append (take i places) (Some block ∷ []), append-nil block.octets)
 
--- no octets where a place is empty
+-- no octets if an entry is empty
 pub all_octets-empty : (places : List (Option BlockParts)) (i : ℕ) → slice_get places i ≡ Some None → all_octets places ≡ None
 unfolding all_octets
 all_octets-empty (None ∷ places) i e = refl

@@ -11,7 +11,7 @@ use Rattle.p25_messages.specs.{declared.answers.Heard.{Heard}, declared.answers.
 use Rattle.p25_delivery.proofs.{PlacesLaws.{length-put_block, length-put_slots, all_octets-empty}, CarriedLaws.{put_block-here, put_block-other, places-of_message, message-read_back}}
 use Rattle.p25_delivery.proofs.{HeadLaws.{opening_head-llid, opening_head-syn, opening_head-number, opening_head-blocks}, SentLaws.{CarriesData}}
 
--- empty places hold nothing
+-- empty entries hold nothing
 empty-keeps : (message : List ℕ) → KeepsOf message (empty_places (block_count (length message)) (pad_count (length message)))
 empty-keeps message = record {
   count = length-replicate (block_count (length message)) None;
@@ -19,7 +19,7 @@ empty-keeps message = record {
   held = λ (j : ℕ) (h : j < block_count (length message)). inl (get_or-replicate (block_count (length message)) j None None h);
 }
 
--- blocks of the message keep them its places
+-- an entry holds no block or its block of the message, also after a block of the message is stored
 put_block-keeps : (message : List ℕ) (places : List (Option BlockParts)) (block : BlockParts) (j : ℕ) → j < length places → block ≡ message_block message block.serial → (get_or places j None ≡ None) ⊎
     (get_or places j None ≡ Some (message_block message j)) → (get_or (put_block places block) j None ≡ None) ⊎ (get_or (put_block places block) j None ≡ Some (message_block message j))
 put_block-keeps message places block j h b held =
@@ -45,7 +45,7 @@ slots-keep message slots kept are k = record {
   held = λ (j : ℕ) (h : j < block_count (length message)). put_slots-keeps message slots kept.places j (omega (arith, k.count)) are (k.held j h);
 }
 
--- where no place is empty, they hold the message
+-- if no entry is empty, they hold the message
 whole-places : (message : List ℕ) (kept : Keeping) (octets : List ℕ) → KeepsOf message kept → all_octets kept.places ≡ Some octets → unpadded octets kept.pad ≡ Some message
 whole-places message kept octets k e =
     let each : (j : ℕ) → j < block_count (length message) → get_or kept.places j None ≡ Some (message_block message j)

@@ -10,7 +10,7 @@ unfolding finished
 finished-last r s number None e = cc
 finished-last r s number (Some message) e = refl
 
--- all places are held
+-- all entries hold a block
 pub filled-whole : (r s : Receiving) (packet : ConfirmedParts) (kept : Keeping)
     (slots : List Slot) (places : List (Option BlockParts)) (octets : List ℕ) (number pad : ℕ) (message : Option (List ℕ)) (answer : Receiving × Heard) →
     s.last ≡ r.last → slots ≡ packet.slots → places ≡ put_slots kept.places slots → Some octets ≡ all_octets places

@@ -11,7 +11,7 @@ use Rattle.p25_messages.specs.{AnswerSteps.{receiver_step}, declared.answers.Hea
 use Rattle.p25_delivery.proofs.{PlacesLaws.{length-put_slots}, SendableLaws.{short_response-sendable, retry_packet-sendable}}
 use Rattle.p25_packet_blocks.proofs.HeadLaws.{head_blocks-lt}
 
--- the answer, where there is one, can be sent
+-- the response, if there is one, can be transmitted
 abbrev pub AnswersSendable : Heard → Type 0
 AnswersSendable heard = IfSome (receiver_step heard).1 IsSendable
 

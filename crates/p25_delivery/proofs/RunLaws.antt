@@ -10,7 +10,7 @@ unfolding run_by MeetAt
 run-keeps step Meets Keeps next [] w k m = k
 run-keeps step Meets Keeps next (event ∷ events) w k m = run-keeps step Meets Keeps next events (step w event).0 (next w event k m.0) m.1
 
--- and where the condition is one of the event alone
+-- and if the condition is one on the event alone
 pub run-keeps_each : {W E S : Type 0} (step : W → E → W × S) (Is : E → Type 0) (Keeps : W → Type 0) → ((w : W) (event : E) → Keeps w → Is event → Keeps (step w event).0) →
     (events : List E) (w : W) → Keeps w → EachIs Is events → Keeps (run_by step w events)
 unfolding run_by EachIs
@@ -42,7 +42,7 @@ unfolding run_by MeetAt
 meet-append step Meets w [] ys m n = n
 meet-append step Meets w (x ∷ xs) ys m n = (m.0, meet-append step Meets (step w x).0 xs ys m.1 n)
 
--- what holds at each place of a list holds of each entry
+-- a condition that all elements of a list meet is met by each entry
 pub each-all : {X : Type 0} (Is : X → Type 0) (xs : List X) → All Is xs → EachIs Is xs
 unfolding EachIs
 each-all Is [] all = tt

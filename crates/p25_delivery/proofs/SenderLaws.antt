@@ -96,14 +96,14 @@ pub reopen-up : (s : Sending) → s.down ≡ false → reopened s ≡ (s, Up)
 unfolding reopened
 reopen-up s d = cond-false s.down _ _ d
 
--- an answer
+-- a response
 
 -- a response acknowledges a number
 unfoldable pub acks : Packet → ℕ → Bool
 acks (Confirmed packet) number = false
 acks (Plain packet) number = is_ack packet.head number
 
--- what is sent again carries the message
+-- a retransmission carries the message
 abbrev pub RetriesOf : ℕ → List ℕ → SenderHeard → Type 0
 RetriesOf number message (Retry other wanted tries packet) = IsDataOf number message packet
 RetriesOf number message (Repeat other tries packet) = IsDataOf number message packet
@@ -216,7 +216,7 @@ quiet-answer s (Plain packet) o =
     = elim (is_response packet.head) as (λ (b : Bool). cond b (response_heard s.outstanding s packet) (s, Ignored) ≡ (s, Ignored)) [ true ↦ heard | false ↦ refl ] in
     elim s.down as (λ (b : Bool). cond b (s, Ignored) (cond (is_response packet.head) (response_heard s.outstanding s packet) (s, Ignored)) ≡ (s, Ignored)) [ true ↦ refl | false ↦ ours ]
 
--- which numbers the answers of a receiver acknowledge
+-- the numbers that the responses of a receiver acknowledge
 
 pub acks-ack : (status number : ℕ) → status < 8 → acks (ack_packet status) number ≡ true → status ≡ number
 unfolding acks short_response is_ack

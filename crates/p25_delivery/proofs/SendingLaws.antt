@@ -35,7 +35,7 @@ pub timeout-sending : (s : Sending) → IsSending s → IsSending (timed_out s).
 unfolding timed_out
 timeout-sending s h = elim s.down as (λ (b : Bool). IsSending (cond {A = Sending × Resend} b (s, ResendDown) (timed_out_with s.outstanding s)).0) [ true ↦ h | false ↦ timed-sending s.outstanding s h ]
 
--- at an answer
+-- at a response
 
 repeated-sending : (s : Sending) (packet : Packet) (b : Bool)
     → may_send s ≡ b → IsSending s → IsSending (cond {A = Sending × SenderHeard} b (tried s, Repeat s.next (s.tries + 1) packet) (fallen s, HeardDown)).0

@@ -12,7 +12,7 @@ use Rattle.p25_delivery.specs.{SentPackets.{good_slot, message_packet, wanted_sl
 use Rattle.p25_delivery.specs.Orderly.{AreTrueSlots, IsTrueTo}
 use Rattle.p25_delivery.proofs.HeadLaws.{confirmed_head-llid, confirmed_head-syn, confirmed_head-number, confirmed_head-pad, confirmed_head-blocks, confirmed_head-full}
 
--- what such a packet has, and what is left of it where slots turn Bad
+-- the contents of such a packet, and those that are left if slots become `Bad`
 pub record CarriesData (number : ℕ) (message : List ℕ) (packet : ConfirmedParts) : Type 0 where
   pub llid : head_llid packet.head ≡ 1
   pub syn : head_syn packet.head ≡ false
@@ -43,7 +43,7 @@ all-blocks message (suc n) =
     rw split (AreBlocksOf-append message
     (map good_slot (each_below n (message_block message))) (good_slot (message_block message n) ∷ []) (all-blocks message n) (one-block message n))
 
--- what the block of a serial number adds to the slots that are wanted
+-- the slots that the block of a serial number adds to the requested ones
 abbrev wanted_slot : List ℕ → List Bool → ℕ → List Slot
 wanted_slot message wanted serial = cond (slice_index_or wanted serial false) (good_slot (message_block message serial) ∷ []) []
 
@@ -164,7 +164,7 @@ opening-packet_heard number sent heard e t =
     let h = confirmed-heard opener heard (rw e at t) in
     (h.0, h.1, h.2)
 
--- answers are heard as they were sent
+-- a received response is the transmitted one
 pub ack-heard : (status : ℕ) (sent heard : Packet) → sent ≡ ack_packet status → IsTrueTo sent heard → heard ≡ sent
 unfolding short_response
 ack-heard status sent heard e t = plain-heard sent heard (record { head = response_head 1 0 1 status 0; octets = [] }) e t

@@ -30,7 +30,7 @@ unfolding message_packet message_blocks
 message_packet-is number message head slots count pad h c p s =
     cc
 
--- what the block of a serial number adds to the slots that are wanted
+-- the slots that the block of a serial number adds to the requested ones
 abbrev pub wanted_slot : List ℕ → List Bool → ℕ → List Slot
 wanted_slot message wanted serial = cond (slice_index_or wanted serial false) (good_slot (message_block message serial) ∷ []) []
 
@@ -48,7 +48,7 @@ wanted_same message wanted before serial b w =
     let here : wanted_slot message wanted serial ≡ [] = cc (get_or_from_slice_get wanted serial false false w) in
     cc (append-nil (joined_below serial (wanted_slot message wanted)), joined_below-more serial (wanted_slot message wanted))
 
--- the packet of the blocks that are wanted
+-- the packet of the requested blocks
 pub blocks_packet-is : (number : ℕ) (message : List ℕ) (wanted : List Bool) (head : PacketHead) (slots : List Slot) (pad : ℕ)
     → head ≡ confirmed_head station_llid false (length slots) pad number → pad ≡ pad_count (length message) →
     slots ≡ wanted_slots message wanted → Confirmed (record { head = head; slots = slots }) ≡ blocks_packet number message wanted

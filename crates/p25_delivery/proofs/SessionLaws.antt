@@ -30,7 +30,7 @@ one_acknowledged w = record w { outbound = record w.outbound { acknowledged = w.
 abbrev pub marked : Delivery → Delivery
 marked w = record w { outbound = record w.outbound { marks = w.outbound.marks ++ present_mark w ∷ [] } }
 
--- Marks that lie within what a delivery tells.
+-- Marks within the counts of a delivery.
 
 pub record IsWithin (limit mark : Mark) : Type 0 where
   pub sent : mark.sent ≤ limit.sent
@@ -82,7 +82,7 @@ sessions-from from (mark ∷ marks) w = cc (sessions-from mark marks w)
 pub sessions-split : (w : Delivery) → sessions_of w ≡ ended_sessions w ++ present_session w ∷ []
 sessions-split w = sessions-from first_mark w.outbound.marks w
 
--- they stay where the lists grow
+-- they stay if the lists grow
 
 -- a list has the parts of another, and may have more
 abbrev Extends : List (List ℕ) → List (List ℕ) → Type 0

@@ -74,7 +74,7 @@ pub first-in-order : IsInOrder first_delivery
 unfolding AreInOrder
 first-in-order = first-within first_mark
 
--- The parts between marks in order are what lies behind the first.
+-- The parts between marks in order are together the part after the first.
 
 parts-meet : (from to last : ℕ) (xs : List (List ℕ)) → from ≤ to → to ≤ last
     → part from (to - from) xs ++ part to (last - to) xs ≡ part from (last - from) xs

@@ -7,7 +7,7 @@ use Rattle.p25_duplex.specs.declared.event.DuplexEvent.TheVariants.{Send}
 use Rattle.p25_duplex.specs.DuplexRuns.{DuplexEvent, DuplexState, DuplexStep, HasDuplexHistory, HasFacts, IsCleanDuplex, IsDuplexEvent, Side, delivery_after, delivery_at, duplex_step, first_duplex}
 use Rattle.p25_duplex.proofs.{CountLaws.{clean-from_none}, OrderLaws.{run-whole}, RunLaws.{run-facts, run-orderly}}
 
--- the laws speak of an event where they do of the message that it sends
+-- the laws hold for an event if they hold for the message that it sends
 pub event-kept : (event : DuplexEvent) → ((side : Side) (message : List ℕ) → event ≡ Send side message → IsMessage message) → IsDuplexEvent event
 unfolding IsDuplexEvent
 event-kept (Send side message) sends = sends side message refl
@@ -27,7 +27,7 @@ history-step d next event step before kept now =
       run = rw (run-append duplex_step first_duplex before.events (event ∷ []), before.run) (ap (λ (x : DuplexState × DuplexStep). x.0) (sym now));
     }
 
--- where no false pass is counted, the history is clean
+-- if no false pass is counted, the history is clean
 history-clean : (d : DuplexState) (h : HasDuplexHistory d) → d.false_passes ≡ 0 → IsCleanDuplex h.events
 history-clean d h none = clean-from_none h.events (cc)
 

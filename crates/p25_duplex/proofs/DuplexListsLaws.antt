@@ -16,7 +16,7 @@ use Rattle.p25_duplex.specs.{declared.event.DuplexEvent.TheVariants.{Send, Timeo
 use Rattle.p25_duplex.specs.DuplexSteps.{DuplexState, StationState, after_receiving, after_sending, after_step, delivered_at, delivery_between, duplex_step, heard_as, is_answer, other_side, side_of, station_at, station_step, station_told}
 use Rattle.p25_duplex.specs.DuplexRuns.{duplex_run, duplex_steps, is_side, offered_by, side_acknowledged_in, side_heard_by, side_heard_in, side_sent_by, side_sent_in}
 
--- what a step adds to the lists of the station at which it stands
+-- the additions of a step to the lists of the station at which it happens
 record Tells (event : DuplexEvent) (own : StationState) (x : StationState × Step) : Type 0 where
   pub heard : x.0.inbound.received ≡ own.inbound.received ++ delivered_by x.1.kind
   pub sent : x.0.outbound.sent ≡ own.outbound.sent ++ offered_by event x.1.kind
@@ -26,7 +26,7 @@ record Tells (event : DuplexEvent) (own : StationState) (x : StationState × Ste
 none : (messages : List (List ℕ)) → messages ≡ messages ++ []
 none messages = sym (append-nil messages)
 
--- the lists stay as they are, and nothing is told
+-- the lists stay as they are, and the step adds nothing
 silent : (event : DuplexEvent) (own : StationState) (x : StationState × Step)
     → (x.0.inbound.received ≡ own.inbound.received) × (x.0.outbound.sent ≡ own.outbound.sent) × (x.0.outbound.acknowledged ≡ own.outbound.acknowledged)
     → (delivered_by x.1.kind ≡ []) × (offered_by event x.1.kind ≡ []) × (is_acknowledged x.1.kind ≡ false) → Tells event own x
@@ -115,7 +115,7 @@ step-tells side d event =
     let at = side_of event in
     after-tells side at event d (station_step (station_at at d) (station_at (other_side at) d) event) (station-tells (station_at at d) (station_at (other_side at) d) event)
 
--- A run adds what its steps tell of.
+-- The additions of a run are those of its steps.
 
 pub run-heard : (side : Side) (events : List DuplexEvent) (d : DuplexState)
     → (station_at side (duplex_run d events)).inbound.received ≡ (station_at side d).inbound.received ++ side_heard_in side (duplex_steps d events)

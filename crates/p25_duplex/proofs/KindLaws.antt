@@ -49,7 +49,7 @@ newest-data b s packet (inr (earlier, message, e, of)) = data-of _ message packe
 
 -- What a delivery sends.
 
--- the newest transmission, where it is such a packet
+-- the newest transmission, if it is such a packet
 newest-is : (newest : Option Packet) (P : Packet → Type 0) (packet : Packet) → IfSome newest P → newest ≡ Some packet → P packet
 newest-is newest P packet h e = rw e at h
 

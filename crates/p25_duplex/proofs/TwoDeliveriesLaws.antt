@@ -38,7 +38,7 @@ then-run w h r is = record {
 run-facts : (w : Delivery) → IsRunDelivery w → DeliveryFacts w
 run-facts w r = subst DeliveryFacts r.is (facts-kept r.happenings r.clean)
 
--- The delivery of a station's messages, with the newest data and the newest answer of it that were carried.
+-- The delivery of a station's messages, with the newest data and the newest response of it that were carried.
 
 pub record Newest : Type 0 where
   pub sent : Option Packet
@@ -86,9 +86,9 @@ rests own other n l = follows own other n n l.data_is l.answer_is l.runs
 pub stays : (mine its : StationState) (n m : Newest) → AreDeliveries mine its n m → AreFollowed mine its n m
 stays mine its n m l = (rests mine its n l.0, rests its mine m l.1)
 
--- What a station sends then is the newest transmission of its direction: data at its own delivery, an answer at the other's.
+-- The transmission of a station then is the newest of its direction: data of its own delivery, or a response of the other's.
 
--- what a direction carried as data, or as answers, after a packet that is an answer or not
+-- the data, or the responses, that a direction carried, after a packet that is a response or not
 
 abbrev as_data : Option Packet → Packet → Bool → Option Packet
 as_data sent packet answer = newest_after (if answer then None else Some packet) sent
@@ -124,8 +124,7 @@ answers mine its n m (i, (kind, Some packet)) l r =
       follows its after m now l.1.data_is (ap (as_answer m.answer packet) kind_is) r,
     )
 
--- A station hears a packet that is true to what the other sent: to the newest data of the other's delivery, or to the newest answer of
--- its own.
+-- A station receives a packet that is true to a transmission of the other: to the newest data of the other's delivery, or to the newest response of its own.
 
 heard-data : (own other : StationState) (n : Newest) (sent packet : Packet) → IsDeliveryOf own other n → own.newest ≡ Some sent → IsTrueTo sent packet → IsData packet → IsHeardOf n.sent packet
 unfolding newest_after

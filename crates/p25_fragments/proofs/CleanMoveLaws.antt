@@ -15,7 +15,7 @@ facts-at v out k o = subst (λ (x : Outstanding). FactsBy x (first_number v) (pr
 sent-at : (v : Delivery) (out : Outstanding) (s : Session) → outstanding_in v ≡ out → SentBy (outstanding_in v) s → SentBy out s
 sent-at v out s o h = rw o at h
 
--- where nothing is outstanding, as many messages were delivered as acknowledged
+-- if nothing is outstanding, as many messages were delivered as acknowledged
 count-none : (b : ℕ) (s : Session) (v : Delivery) → SessionFacts b s v → outstanding_in v ≡ Nothing → length s.delivered ≡ s.acknowledged
 count-none b s v f o = elim f.count [ inl e ↦ e | inr (e, message, is) ↦ absurd (cc (o, is)) ]
 

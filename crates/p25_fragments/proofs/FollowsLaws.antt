@@ -61,7 +61,7 @@ happened-end w inner step mark e =
 pub step-then : (step : Step) (y : LongState × Then) → FollowsThen y → FollowsStep (with_first step y)
 step-then step y f = record { follows = f.follows; unrefused = f.unrefused }
 
--- where no session ended, what follows is that of the step
+-- if no session ended, the consequence is that of the step
 pub on : (w : LongState) (inner : WorldState) (step : Step) → inner.delivery.outbound.marks ≡ w.inner.delivery.outbound.marks
     → FollowsThen (after_kind step.kind (record w { inner = inner })) → FollowsStep (inner_happened w (inner, step))
 on w inner step e f = rw (happened-on w inner step e) (step-then step (after_kind step.kind (record w { inner = inner })) f)

@@ -8,7 +8,7 @@ use Rattle.p25_fragments.specs.{LongState.{LongState, first_long, long_delivery}
 use Rattle.p25_fragments.specs.LongRuns.{HasLongHistory, IsCleanLongRun, IsEventOf, IsLongEvent, IsNoOffer, LongEvent, LongStep, long_run, long_sessions_of, long_step, offers_beside}
 use Rattle.p25_fragments.proofs.{InnerRunLaws.{inner-run}, LongRunLaws.{long-orderly}, OrderLaws.{run-whole}}
 
--- the inner world counts its false passes: none is counted exactly where the run is clean
+-- the inner world counts its false passes: none is counted exactly if the run is clean
 
 pub long-clean : (events : List LongEvent) → (long_run first_long events).inner.false_passes ≡ 0 → IsCleanLongRun events
 long-clean events none =
@@ -20,7 +20,7 @@ long-none events clean =
     let run = inner-run first_long events in
     cc (none-from_clean run.events (rw run.steps clean))
 
--- an event that offers no message to the inner world is one of which the laws speak, where a long message has at most 4,000 octets
+-- the laws hold for an event that offers no message to the inner world, if a long message has at most 4,000 octets
 pub event-kept : (event : LongEvent) → ((message : List ℕ) → event ≡ Long message → length message ≤ 4000) → IsEventOf (offers_beside event) event
 unfolding IsLongEvent IsNoOffer
 event-kept (Long message) short = short message refl
@@ -32,7 +32,7 @@ pub history_first : HasLongHistory first_long false
 unfolding run_by EachIs
 history_first = record { events = []; kept = λ none. tt; run = refl }
 
--- a world after a step has one, where the world before it has
+-- a world after a step has one, if the world before it has
 pub history-step : (w next : LongState) (beside offers : Bool) (event : LongEvent) (step : LongStep)
     → HasLongHistory w beside → IsEventOf offers event → (next, step) ≡ long_step w event → HasLongHistory next (beside || offers)
 unfolding run_by EachIs

@@ -86,7 +86,7 @@ unfolding long_step
 step-tells w (Long message) = offer-tells w message
 step-tells w (Inner event) = let x = world_step w.inner event in inner-tells event w x.0 x.1
 
--- A run adds what its steps tell of.
+-- The additions of a run are those of its steps.
 
 pub run-whole : (events : List LongEvent) (w : LongState) → (long_run w events).whole ≡ w.whole ++ whole_in (long_steps_of w events)
 unfolding run_by steps_by whole_in

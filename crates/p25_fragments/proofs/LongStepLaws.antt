@@ -28,7 +28,7 @@ next-or-last number count h =
     ] in
     by (nat_lt (number + 1) count) refl
 
--- what the joiner held before, where the part had not come
+-- the state of the joiner before, if the part had not arrived
 held-before : (message : List ℕ) (number : ℕ) (earlier : List (List ℕ)) (delivered acknowledged : ℕ) (j : Joining) (whole : List (List ℕ))
     → delivered ≡ acknowledged → Came message number earlier delivered acknowledged j whole →
     (whole ≡ earlier) × (j ≡ joined_at message number)
@@ -96,7 +96,7 @@ delivered-then w inner kind number part k t = rw k t
 
 -- A part is offered.
 
--- the world after the offer of a part, where nothing was outstanding
+-- the world after the offer of a part, if nothing was outstanding
 pub record OfferedTo (part : List ℕ) (x : WorldState) : Type 0 where
   pub kept : IsKept x.delivery
   pub outstanding : outstanding_in x.delivery ≡ Message part

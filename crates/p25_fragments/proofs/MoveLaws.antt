@@ -77,7 +77,7 @@ timeout-by v x o = moves_nothing tt o refl refl
 ReopensBy : Delivery → Outstanding → Sending × ReopenAnswer → Type 0
 ReopensBy v out x = Moves v Opening_again (with_outbound v (after_reopening v.outbound (length v.inbound.received) (is_opening out) x))
 
--- where the opening packet is sent
+-- if the opening packet is transmitted
 opening-sent : (v : Delivery) (out : Outstanding) (number : ℕ) (s : Sending)
     → outstanding_in v ≡ out → v.outbound.sender.down ≡ true → opening_number out v.outbound.sender.next ≡ number → s.outstanding ≡ Opening number →
     ReopensBy v out (s, ReopenSent number (opening_packet number))
@@ -164,7 +164,7 @@ hears-moves v (Confirmed packet) =
     elim (eqb (head_llid packet.head) station_llid) as (λ (b : Bool). HearsBy v h (cond b (cond (head_syn packet.head) syn more) (r, ReceiverIgnored)))
     [ true ↦ by (head_syn packet.head) refl | false ↦ hears-nothing v h ]
 
--- The sender hears an answer.
+-- The sender receives a response.
 
 AnswersBy : Delivery → Packet → Sending × SenderHeard → Type 0
 AnswersBy v packet x = Moves v (Answer_heard packet) (with_outbound v (after_answer v.outbound x))

@@ -9,7 +9,7 @@ use Rattle.p25_stations.specs.{declared.step.Event.TheVariants.{Send}, declared.
 use Rattle.p25_fragments.specs.{declared.long_step.LongStep.{LongStep}, declared.long_step.Then.TheVariants.{Busy, Down}, LongState.{LongState}}
 use Rattle.p25_fragments.specs.LongSteps.{unmoved, started, long_offered_beside, long_offered}
 
--- what the sender answers
+-- the results of the sender
 
 offered-down : (s : Sending) (message : List ℕ) → s.down ≡ true → offered s message ≡ (s, DownAtOffer)
 unfolding offered
@@ -52,7 +52,7 @@ pub send-taken : (w : WorldState) (message : List ℕ) → w.delivery.outbound.s
 unfolding with_outbound after_offer newest_after
 send-taken w message d o = step-of w message _ (offer-quiet w.delivery.outbound.sender message d o)
 
--- what a long message is told, by the inner world and its step after the offer
+-- the result for a long message, by the inner world and its step after the offer
 pub data OfferedAs (w : LongState) (message : List ℕ) (x : WorldState × Step) : Type 0 where
   told_down : x ≡ (w.inner, true_step OfferDown) → long_offered w message ≡ unmoved w Down → OfferedAs w message x
   told_busy : x ≡ (w.inner, true_step BusyAtOffer) → long_offered w message ≡ unmoved w Busy → OfferedAs w message x
@@ -106,7 +106,7 @@ taken-arm w message inner step (told_down x e) no_down no_busy = absurd (no_down
 taken-arm w message inner step (told_busy x e) no_down no_busy = absurd (no_busy (ap (λ (y : WorldState × Step). y.1.kind) x))
 taken-arm w message inner step (told_taken number blocks t d o e) no_down no_busy = sym e
 
--- An offer where the state of the code is the one with which the call began.
+-- An offer, if the state of the code is the one with which the call began.
 
 from : (now w : LongState) (message : List ℕ) (x : LongState × LongStep) → w ≡ now → x ≡ long_offered w message → x ≡ long_offered now message
 from now w message x n e = cc

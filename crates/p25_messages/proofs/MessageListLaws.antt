@@ -9,7 +9,7 @@ unfolding pieces_between
 length-pieces_between start [] octets = refl
 length-pieces_between start (end ∷ ends) octets = ap suc (length-pieces_between end ends octets)
 
--- the piece at a place
+-- the segment at an index
 pub pieces_between-at : (start : ℕ) (ends octets : List ℕ) (i : ℕ) → i < length ends
     → slice_get (pieces_between start ends octets) i ≡ Some (slice_range octets (start_before start ends i) (start_before start ends (suc i)))
 unfolding pieces_between start_before
@@ -17,7 +17,7 @@ pieces_between-at start [] octets i h = absurd (omega arith)
 pieces_between-at start (end ∷ ends) octets zero h = refl
 pieces_between-at start (end ∷ ends) octets (suc i) h = pieces_between-at end ends octets i (omega arith)
 
--- a piece begins at or before its end, which is at or before the end of all
+-- a segment begins at or before its end, which is at or before the end of all
 pub start_before-ascends : (start : ℕ) (ends : List ℕ) (count i : ℕ) → AreEnds start ends count → i < length ends → start_before start ends i ≤ start_before start ends (suc i)
 unfolding start_before AreEnds
 start_before-ascends start [] count i are h = absurd (omega arith)
@@ -31,7 +31,7 @@ start_before-most start [] count (suc i) are h = absurd (omega arith)
 start_before-most start (end ∷ ends) count zero are h = let later = start_before-most end ends count zero are.1 (omega arith) in omega arith
 start_before-most start (end ∷ ends) count (suc i) are h = start_before-most end ends count i are.1 (omega arith)
 
--- the start after a piece is its end
+-- the start after a segment is its end
 pub start_before-suc : (start : ℕ) (ends : List ℕ) (i : ℕ) → i < length ends → start_before start ends (suc i) ≡ get_or ends i 0
 unfolding start_before
 start_before-suc start [] i h = absurd (omega arith)
@@ -52,7 +52,7 @@ part-second : (octets more : List ℕ) (start : ℕ) → start ≡ length octets
 part-second octets more start e =
     between_to_end (octets ++ more) start (length octets + length more) (omega (arith, length-append octets more)) ∙ drop_at octets more start (sym e)
 
--- one more piece: the octets after all others
+-- one more segment: the octets after all others
 pub pieces_between-push : (start : ℕ) (ends octets more : List ℕ) → AreEnds start ends (length octets)
     → pieces_between start (ends ++ (length octets + length more) ∷ []) (octets ++ more) ≡ pieces_between start ends octets ++ more ∷ []
 unfolding pieces_between AreEnds start_before
@@ -65,13 +65,13 @@ pieces_between-push start (end ∷ ends) octets more are =
 pub length-list : (ends octets held : List ℕ) (list : List (List ℕ)) → pieces_between 0 ends octets ≡ list → held ≡ ends → length list ≡ length held
 length-list ends octets held list e f = ap length (sym e) ∙ length-pieces_between 0 ends octets ∙ ap length (sym f)
 
--- a piece of a list, and its place among the octets
+-- a segment of a list, and its range among the octets
 pub record IsPiece (octets : List ℕ) (list : List (List ℕ)) (i start end : ℕ) : Type 0 where
   pub ordered : start ≤ end
   pub within : end ≤ length octets
   pub piece : slice_get list i ≡ Some (slice_range octets start end)
 
--- each message is such a piece, wherever the ends and the octets are held
+-- each message is such a segment, wherever the ends and the octets are held
 pub IsPiece-at : (all : Vec ℕ) (octets ends held : List ℕ) (list : List (List ℕ)) (i start end : ℕ)
     → AreEnds 0 ends (vec_len all) → pieces_between 0 ends all.items ≡ list → octets ≡ all.items → held ≡ ends → i < length list →
     start ≡ start_before 0 held i → end ≡ start_before 0 held (i + 1) → IsPiece octets list i start end
@@ -89,7 +89,7 @@ IsPiece-at all octets ends held list i start end are e o f h s t =
           ap (λ (xs : List (List ℕ)). slice_get xs i) (sym pieces) ∙ pieces_between-at 0 held octets i below ∙ ap₂ (λ (a b : ℕ). Some (slice_range octets a b)) (sym s) (sym to);
     }
 
--- at most `most` octets take the room of one message at most
+-- at most `most` octets take the capacity of at most one message
 pub room-less : (most before after : ℕ) → 0 < most → before ≤ after + most → before / most ≤ after / most + 1
 room-less most before after some few =
     let whole : after / most * most + after % most ≡ after = div-add-mod' after most in

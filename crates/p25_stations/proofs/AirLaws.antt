@@ -107,9 +107,9 @@ true-exactly (Plain sent) (Plain heard) =
     (λ (e : heard ≡ sent). rw e (and_from _ _ (itself sent.head.0) (itself sent.octets)), true-packet (Plain sent) (Plain heard))
 true-exactly sent heard = (λ t. absurd t, true-packet sent heard)
 
--- Within radius.
+-- Within the correction radius.
 
--- a sent unit within radius reads as its network access code and packet
+-- a transmitted data unit that is correctable decodes to its network access code and packet
 abbrev pub ReadsWithin : Type 0
 ReadsWithin = (nac : ℕ) (packet : Packet) (statuses : List Status) (received : List Bool)
     → IsSending nac packet statuses → IsPacketWithin packet (sent_unit nac packet statuses) received → packet_unit_of received ≡ Ok (nac, packet)

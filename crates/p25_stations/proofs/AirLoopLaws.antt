@@ -22,7 +22,7 @@ flipped-past [] place h = refl
 flipped-past (bit ∷ bits) zero h = absurd (omega arith)
 flipped-past (bit ∷ bits) (suc place) h = cc (flipped-past bits place (omega arith))
 
--- one more place
+-- one more position
 pub with_flips-more : (bits now : List Bool) (flips : List ℕ) (i place : ℕ)
     → slice_get flips i ≡ Some place → i < length flips → now ≡ with_flips bits (take i flips) → flipped now place ≡ with_flips bits (take (i + 1) flips)
 with_flips-more bits now flips i place is h e =

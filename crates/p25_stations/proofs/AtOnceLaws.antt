@@ -44,7 +44,7 @@ second-within : (w : WorldState) (a b c : Event) → AreWithin w (a ∷ b ∷ c 
 unfolding MeetAt
 second-within w a b c within = within.1.0
 
--- A delivery within radius.
+-- A delivery within the correction radius.
 
 within-step : ReadsWithin → (w : WorldState) (way : Way) (newest : Option Packet) (packet : Packet) (flips : List ℕ)
     → newest ≡ Some packet → IfSome newest IsSendable → IfSome newest (λ sent. ArrivesWithin sent flips) →
@@ -140,7 +140,7 @@ record Opens (w v : WorldState) (number : ℕ) (packet : Packet) (s : Sending) :
   pub receiver : v.delivery.inbound.receiver ≡ w.delivery.inbound.receiver
   pub newest : v.delivery.packet_sent ≡ Some packet
 
--- it, where the opening packet was outstanding or not
+-- the world after it, by whether the opening packet was outstanding
 reopened_world : WorldState → Bool → Sending × ReopenAnswer → WorldState × Step
 reopened_world w again x = quiet_step w (with_outbound w.delivery (after_reopening w.delivery.outbound (length w.delivery.inbound.received) again x))
 

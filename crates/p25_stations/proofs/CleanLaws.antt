@@ -9,7 +9,7 @@ use Rattle.p25_stations.specs.{declared.air.Carried.TheVariants.{Heard}, declare
 use Rattle.p25_stations.specs.{Steps.{world_step}, Runs.{IsEvent, AreEvents, world_run, steps_of, AreClean, IsCleanRun}}
 use Rattle.p25_stations.proofs.{AirLaws.{air-true}, StepLaws.{HasHappen, offers, is_late, opens, brings_data, brings_answer, Does, rests, does, step-does}}
 
--- what is heard in no false pass is true to what was sent
+-- a packet that is received without a false pass is true to the transmitted one
 heard-of : (sent packet : Packet) (flips : List ℕ) (newest : Option Packet) (false_pass : Bool)
     → newest ≡ Some sent → carried_of sent flips ≡ Heard packet false_pass → false_pass ≡ false → IsHeardOf newest packet
 heard-of sent packet flips newest false_pass n e f = record { sent = sent; newest_is = n; true_to = air-true sent flips packet (cc) }

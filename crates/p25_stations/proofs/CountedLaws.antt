@@ -13,7 +13,7 @@ none-before false count e = (refl, e)
 abbrev pub Counts : {W E S : Type 0} → (W → E → W × S) → (W → ℕ) → (S → Bool) → Type 0
 Counts {W} {E} {S} step passes is_false = (w : W) (event : E) → passes (step w event).0 ≡ counted_when (is_false (step w event).1) (passes w)
 
--- where none is counted after a run, none was before, and none of its steps was one
+-- if none is counted after a run, none was before, and none of its steps was one
 pub none-counted : {W E S : Type 0} (step : W → E → W × S) (passes : W → ℕ) (is_false : S → Bool) → Counts step passes is_false →
     (events : List E) (w : W) → passes (run_by step w events) ≡ 0 → (passes w ≡ 0) × EachIs (λ (s : S). is_false s ≡ false) (steps_by step w events)
 unfolding run_by steps_by EachIs
@@ -23,7 +23,7 @@ none-counted step passes is_false counts (event ∷ events) w e =
     let here = none-before (is_false (step w event).1) (passes w) (cc (counts w event)) in
     (here.1, (here.0, rest.1))
 
--- and where none of its steps is one, none is counted
+-- and if none of its steps is one, none is counted
 pub none-from : {W E S : Type 0} (step : W → E → W × S) (passes : W → ℕ) (is_false : S → Bool) → Counts step passes is_false →
     (events : List E) (w : W) → passes w ≡ 0 → EachIs (λ (s : S). is_false s ≡ false) (steps_by step w events) → passes (run_by step w events) ≡ 0
 unfolding run_by steps_by EachIs counted_when

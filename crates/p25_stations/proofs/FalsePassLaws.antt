@@ -9,7 +9,7 @@ use Rattle.p25_stations.specs.Runs.{world_run, IsCleanRun, IsWithin, IsTwiceDama
 use Rattle.p25_stations.proofs.{AirLaws.{ReadsWithin, air-within}, CountedLaws.{none-counted, none-from}, FewFlipsLaws.{few-arrive}, SoundLaws.{IsSoundDelivery}}
 use Rattle.p25_stations.proofs.StepLaws.{Does, rests, does, step-does}
 
--- Within radius.
+-- Within the correction radius.
 
 delivered-within : ReadsWithin → (w : WorldState) (way : Way) (newest : Option Packet) (flips : List ℕ) → IfSome newest IsSendable → IfSome newest (λ packet. ArrivesWithin packet flips)
     → (delivered w way (delivery_of way newest flips)).1.false_pass ≡ false
@@ -23,7 +23,7 @@ step-within reads w (ToReceiver flips) sound within = delivered-within reads w P
 step-within reads w (ToSender flips) sound within = delivered-within reads w Answers w.delivery.answer flips sound.answer within
 step-within reads w event sound within = refl
 
--- A false pass takes two wrong bits.
+-- A false pass needs two bit errors.
 
 twice : (packet : Packet) (flips : List ℕ) (false_pass : Bool) → (ArrivesWithin packet flips → false_pass ≡ false) → false_pass ≡ true → IsSendable packet → 2 ≤ places_within packet flips
 twice packet flips false_pass clean e sendable =

@@ -11,7 +11,7 @@ unfolding EachIs
 each-append Is [] ys first second = second
 each-append Is (x ∷ xs) ys first second = (first.0, each-append Is xs ys first.1 second)
 
--- the laws speak of an event where they do of the message that it sends
+-- the laws hold for an event if they hold for the message that it sends
 pub event-kept : (event : Event) → ((message : List ℕ) → event ≡ Send message → IsMessage message) → IsEvent event
 unfolding IsEvent
 event-kept (Send message) sends = sends message refl
@@ -22,7 +22,7 @@ pub history_first : HasHistory first_world
 unfolding run_by EachIs
 history_first = record { events = []; kept = tt; run = refl }
 
--- a world after a step has one, where the world before it has
+-- a world after a step has one, if the world before it has
 pub history-step : (w next : WorldState) (event : Event) (step : Step) → HasHistory w → IsEvent event → (next, step) ≡ world_step w event → HasHistory next
 unfolding run_by EachIs
 history-step w next event step before kept now =
@@ -32,7 +32,7 @@ history-step w next event step before kept now =
       run = run-append world_step first_world before.events (event ∷ []) ∙ ap (λ (v : WorldState). (world_step v event).0) before.run ∙ ap (λ (x : WorldState × Step). x.0) (sym now);
     }
 
--- where no false pass is counted, the history is clean
+-- if no false pass is counted, the history is clean
 history-clean : (w : WorldState) (h : HasHistory w) → w.false_passes ≡ 0 → IsCleanRun h.events
 history-clean w h none = clean-from_none h.events (cc)
 

@@ -21,7 +21,7 @@ record Tells (event : Event) (w : Delivery) (x : Delivery × StepKind) : Type 0 
 none : (messages : List (List ℕ)) → messages ≡ messages ++ []
 none messages = sym (append-nil messages)
 
--- the lists stay as they are, and nothing is told
+-- the lists stay as they are, and the step adds nothing
 silent : (event : Event) (w : Delivery) (x : Delivery × StepKind)
     → (x.0.inbound.received ≡ w.inbound.received) × (x.0.outbound.sent ≡ w.outbound.sent) × (x.0.outbound.acknowledged ≡ w.outbound.acknowledged) →
     (delivered_by x.1 ≡ []) × (sent_by event x.1 ≡ []) × (is_acknowledged x.1 ≡ false) → Tells event w x
@@ -82,7 +82,7 @@ told w event x (does happening false_pass has) = happening-tells w.delivery even
 step-tells : (w : WorldState) (event : Event) → Tells event w.delivery ((world_step w event).0.delivery, (world_step w event).1.kind)
 step-tells w event = told w event (world_step w event) (step-does w event)
 
--- A run adds what its steps tell of.
+-- The additions of a run are those of its steps.
 
 pub run-delivered : (events : List Event) (w : WorldState) → (world_run w events).delivery.inbound.received ≡ w.delivery.inbound.received ++ delivered_in (steps_of w events)
 unfolding run_by steps_by delivered_in

@@ -17,7 +17,7 @@ use Rattle.p25_stations.specs.{declared.step.Event.{Event}, declared.step.Step.{
 use Rattle.p25_stations.specs.Runs.{AreEvents, world_run, steps_of, tries_after, tries_in}
 use Rattle.p25_stations.proofs.{StepLaws.{IsQuiet, nothing, Does, rests, does, step-does}, SoundLaws.{IsSoundDelivery, step-sound, run-sound, first-sound}}
 
--- what happened tells how often the half has sent what is outstanding, where it had sent it so often before
+-- a step gives the number of transmissions of the outstanding packet after it, from that number before it
 abbrev Tells : ℕ → Outgoing × (StepKind × Option Packet) → Type 0
 Tells tries x = tries_after tries x.1.0 ≡ x.0.sender.tries
 
@@ -79,7 +79,7 @@ unfolding after_data
 data-tries i tries (r, HeardDelivered number message answer) = refl
 data-tries i tries x = refl
 
--- An answer that the sender hears.
+-- A response that the sender receives.
 
 abbrev AnswerTells : Outgoing → Sending → Sending × SenderHeard → Type 0
 AnswerTells o s x = Tells s.tries (after_answer o x)

@@ -5,7 +5,7 @@ use Rattle.p25_stations.specs.{declared.air.Carried.TheVariants.{Heard}, Air.{re
 use Rattle.p25_stations.proofs.AirLaws.{carried-lost, carried-foreign, carried-heard}
 use Rattle.p25_stations.proofs.air.carry.Goals as goal
 
--- what the bits that came read as
+-- the decoding of the received bits
 reading : (packet : Packet) (flips : List ℕ) (sent received : List Bool) (given read : Result (ℕ × Packet) Field)
     → sent ≡ transmission_of packet → received ≡ with_flips sent flips → given ≡ packet_unit_of received → given ≡ read →
     packet_unit_of (received_bits packet flips) ≡ read

@@ -14,7 +14,7 @@ pub invariant_of-self : goal.invariant_of-self
 unfolding after_answer
 invariant_of-self c = (rw (← c.hear-heard.ensures, c.in-Acknowledged.is) at (answer-keeps _ c.args.packet.now c.self.invariant)).0
 
--- where no more is acknowledged
+-- if no more is acknowledged
 other : (o : Outgoing) (answer : SenderHeard) → ((number : ℕ) → answer ≡ Acknowledged number → ⊥) → acknowledged_after o answer ≡ o.acknowledged
 other o (Acknowledged number) none = absurd (none number refl)
 other o answer none = refl

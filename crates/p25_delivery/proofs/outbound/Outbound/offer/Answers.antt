@@ -10,7 +10,7 @@ kept : (o : Outgoing) (message octets : List ℕ) (x : Sending × Offer) → x �
     KeepsOutgoing (after_offer o message x)
 kept o message octets x is e short are sound = rw is (offer-keeps o message (record { short = rw (← e) short; octets = subst AreOctets e are }) sound)
 
--- where it is not taken
+-- if it is not taken
 untaken : (o : Outgoing) (message : List ℕ) (answer : Offer) → ((number blocks : ℕ) (packet : Packet) → answer ≡ Taken number blocks packet → ⊥) → sent_after o message answer ≡ o.sent
 untaken o message (Taken number blocks packet) none = absurd (none number blocks packet refl)
 untaken o message answer none = refl
