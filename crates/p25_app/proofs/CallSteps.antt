@@ -9,7 +9,7 @@ pub with_end-some : (line : List ℕ) → 0 < length line → with_end line ≡ 
 with_end-some [] some = absurd (omega arith)
 with_end-some (octet ∷ octets) some = refl
 
--- where there is no line nothing stands
+-- an empty line gets no end
 pub with_end-none : (line : List ℕ) → length line ≡ 0 → with_end line ≡ line
 with_end-none [] none = refl
 with_end-none (octet ∷ octets) none = absurd (omega arith)
@@ -19,12 +19,12 @@ pub none_of : {X : Type 0} (len : ℕ) (items : List X) → len ≡ length items
 none_of len [] long none = refl
 none_of len (item ∷ items) long none = absurd (omega arith)
 
--- a list with an element, as a test of its length tells
+-- a list has an element if the test of its length for zero fails
 pub filled : (octets : List ℕ) → false ≡ (length octets == 0) → 0 < length octets
 filled [] tested = absurd (cc)
 filled (octet ∷ octets) tested = omega arith
 
--- a write of a text tells it
+-- the result of one write of a text is as `IsTold` states
 pub told : {P T : Type 0} (moves : P → List Event → P → Type 0) (first last : P) (piece text : List ℕ) (result : Result T Failed) → piece ≡ text
     → OnOk result (moves first (Wrote piece ∷ []) last)
     → OnErr result ((count : ℕ) × (count ≤ length piece) × moves first (WriteFailed piece count ∷ []) last) → IsTold moves first text last

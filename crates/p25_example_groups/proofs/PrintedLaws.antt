@@ -58,7 +58,7 @@ octets-next octets taken count =
     ∙ ap (λ (xs : List ℕ). octet_bits (take taken octets ++ take count xs)) (take_rest octets taken)
     ∙ ap octet_bits (sym (take-add taken count octets))
 
--- octets that a scanner took behind others, and what was printed then
+-- octets that a scanner took after others, and the text printed then
 pub printed-next : (octets : List ℕ) (taken count : ℕ) (first before now : Option (List ℕ)) (scan next pushed after : Scan) → next.finished ≡ false
     → HasPrinted (octet_bits (take taken octets)) first scan before next
     → pushed ≡ record next { held = next.held ++ octet_bits (take count (take (length octets - taken) (drop taken octets))) }
@@ -80,7 +80,7 @@ printed-first held scan is =
     (subst (λ (bits : List Bool). HasPrinted bits held (record { place = 0; held = []; finished = false }) held (record { place = 0; held = []; finished = false })) (sym octet_bits-nil)
     (printed-none held (record { place = 0; held = []; finished = false })))
 
--- octets that were read behind others
+-- octets that were read after others
 pub printed-on : (octets more : List ℕ) (first before now : Option (List ℕ)) (scan next after : Scan) → next.finished ≡ false
     → HasPrinted (octet_bits octets) first scan before next → HasPrinted (octet_bits more) before next now after → HasPrinted (octet_bits (octets ++ more)) first scan now after
 printed-on octets more first before now scan next after going done later =

@@ -15,7 +15,7 @@ stands-decided future Over octets text page waiting now stands =
     record { rest = now.writes true (waiting ++ []); is = stands.given.writes true [] }
 stands-decided future Broken octets text page waiting now stands = absurd (stands.whole refl)
 
--- the command takes octets that wait, and gives a piece, which is put on the page
+-- the command takes octets that wait, and returns a chunk, which is appended to the page
 stands-next : (future : Future) (at : Standing) (page octets piece waiting : List ℕ) (before now : Future)
     → Stands future at page (octets ++ waiting) before → Progress before octets piece now → Stands future at (page ++ piece) waiting now
 stands-next future at page octets piece waiting before now stands progress = record {
@@ -30,7 +30,7 @@ stands-next future at page octets piece waiting before now stands progress = rec
   };
 }
 
--- where the page is empty the work may end so
+-- if the page is empty the work may end so
 ends-so : (future : Future) (phase : Phase) (octets text waiting : List ℕ) (now : Future) (end : FilterEnd)
     → Stands future (standing_at phase octets text) [] waiting now → MayEnd now end → EndsAs future [] (standing_at phase octets text) end
 ends-so future Going octets text waiting now (Ended ending) stands refused = (
@@ -76,7 +76,7 @@ module _ {P : Type 0} {moves : P → List Event → P → Type 0} (chain : Chain
     leads = λ future at waiting stands. record { text = at.text; live = tt; after = refl; stands = stands };
   }
 
-  -- octets are handed to the command, or a piece is put on the page
+  -- octets are passed to the command, or a chunk is appended to the page
   pub Goes-next : (port : P) (page octets piece : List ℕ) (before now : Future) → Progress before octets piece now
       → Goes moves port page before octets port (page ++ piece) now
   Goes-next port page octets piece before now progress = record {
@@ -143,7 +143,7 @@ module _ {P : Type 0} {moves : P → List Event → P → Type 0} (chain : Chain
         Finishes-after future at one.events two.events _ _ _ _ _ _ led (two.finishes future (standing_at at.phase at.octets led.text) waiting led.stands);
   }
 
-  -- whatever octets wait behind those of the step
+  -- whatever octets wait after those of the step
   pub Comes-more : {first last : P} {page : List ℕ} {a : Future} {end : FilterEnd} (xs ys : List ℕ) → Comes moves first page a xs end last
       → Comes moves first page a (xs ++ ys) end last
   Comes-more xs ys comes = record {

@@ -9,7 +9,7 @@ use Rattle.p25_filter.specs.{Futures.{Future, IsClosed, IsIdle, IsRefusedBy, Nex
 use Rattle.p25_filter.specs.Goings.{Comes, Finishes, Goes, MayEnd, SoFar, Stands}
 use Rattle.p25_filter.proofs.{GoingsLaws.{Finishes-after, Leads-trans}, TracesLaws.{first-read}}
 
--- a piece was given
+-- a chunk was returned
 pub piece-given : (before now : Future) (is : Bool) (piece : List ℕ) → NextPiece before (Ok is) piece now → is ≡ true → Progress before [] piece now
 unfolding NextPiece
 piece-given before now true piece given same = given

@@ -11,7 +11,7 @@ use Rattle.p25_filter.specs.{Lines.{closing_by, each_behind, lines_ending, lines
 use Rattle.p25_filter.specs.LineFilters.{IsLineReady, IsTextReady, LineFiltering, closes_with, ends_with, is_ended_phase, line_future, line_filtering, lines_left, texts_of, taken_from}
 use Rattle.p25_filter.proofs.LinesLaws.{Contains-here, Contains-later, Contains-none, each_behind-from, each_behind-in, each_behind-none, lines_in-end, lines_in-part, octets_before}
 
--- a piece of at most so many octets, and what is left
+-- a chunk of at most so many octets, and the rest
 pub piece-is : (xs : List ℕ) (most count : ℕ) → count ≡ min (length xs) most → take count xs ≡ take most xs
 piece-is xs most count same = let other : count ≡ min most (length xs) = omega (arith, same) in rw other (take_min most xs)
 
@@ -21,7 +21,7 @@ piece-left xs out most same =
     let front : out ≡ take (length out) xs = same ∙ sym (take_min most xs) ∙ ap (λ (n : ℕ). take n xs) (sym few) in
     sym (ap (λ (zs : List ℕ). zs ++ drop (length out) xs) front ∙ take-append-drop (length out) xs)
 
--- where memory may be wanting, and where it may not
+-- if an allocation may fail, and if not
 wanting : (wants : Bool) (texts : List (List ℕ)) (pause : List ℕ) → wants ≡ true → Contains texts pause → Contains (cond wants texts []) pause
 wanting true texts pause same is = is
 wanting false texts pause same is = cc
@@ -195,7 +195,7 @@ module _ {M : Type 0} (rules : LineRules M) where
         reading (λ p. IsClosed (line_future rules (line_filtering machine line lines rest p)) (line_future rules (line_filtering machine line lines rest Closing)))
         phase none going (working-finish_none machine line lines rest empty)
 
-  -- the steps of `give`: a piece of the text is given
+  -- the steps of `give`: a chunk of the text is returned
   pub step-give : (before now : LineFiltering M) (out rest : List ℕ) → before.left ≡ out ++ rest → now ≡ record before { left = rest }
       → Progress (line_future rules before) [] out (line_future rules now)
   unfolding line_future
@@ -271,7 +271,7 @@ module _ {M : Type 0} (rules : LineRules M) where
           (rw (each_behind-none (texts_before (comes-left ended more).texts), before-left ended more then text is) (Contains-later [] _ pause now.1));
     }
 
-    -- memory was wanting for a line that is there
+    -- an allocation failed for a line that is ready
     wanting-given : (is : Result (M × List ℕ) LineFault) → rules.take machine line ≡ is → is_ok is ≡ true → rules.wants ≡ true
         → IsPausing (line_future rules (line_filtering machine line lines [] phase))
     unfolding line_future
@@ -281,7 +281,7 @@ module _ {M : Type 0} (rules : LineRules M) where
         (rw (each_behind-none (texts_before (comes-left ended more).texts), before-left ended more next.0 next.1 is) (Contains-here [] _))
     wanting-given (Err fault) is ok wants = cc ok
 
-    -- a line that is there was taken or refused, or memory was wanting for it
+    -- a line that is ready was taken or refused, or an allocation failed for it
     line-ready : (now : LineFiltering M) (answer : Result Bool Refusal) → IsLineReady rules next (line_filtering machine line lines [] phase) answer now
         → NextPiece (line_future rules (line_filtering machine line lines [] phase)) answer [] (line_future rules now)
     unfolding NextPiece IsRefusedBy line_future written_for
@@ -298,8 +298,7 @@ module _ {M : Type 0} (rules : LineRules M) where
               ∙ ap (λ (e : Ending). Some e) (sym is);
         }
 
-  -- with no line to take and no piece to give, what the octets so far decide is written, and nothing refuses them; at the end
-  -- all is done
+  -- without a line to take and a chunk to return, the output that the octets so far determine is written, and they cause no refusal; at the end all is written
   working-idle : (machine : M) (line : List ℕ) (lines : ℕ) (phase : LinePhase) → texts_of phase ≡ 0
       → IsIdle (is_ended_phase phase) (line_future rules (line_filtering machine line lines [] phase))
   unfolding IsIdle line_future lines_in written_for lines_taken

@@ -91,7 +91,7 @@ unfolding each_behind
 each_behind-none [] = refl
 each_behind-none (text ∷ texts) = ap (λ ts. text ∷ ts) (each_behind-none texts)
 
--- what lines are read as
+-- the decodings of lines
 module _ {E : Type 0} (read : List ℕ → Result E LineFault) where
   pub read_of-ok : (line : List ℕ) (lines : List (List ℕ)) (event : E) → read line ≡ Ok event → read_of read (line ∷ lines) ≡ event ∷ read_of read lines
   unfolding read_of

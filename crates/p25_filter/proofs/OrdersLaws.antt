@@ -52,7 +52,7 @@ last-is (a ∷ []) [] x y same = cc
 last-is (a ∷ xs) (b ∷ ys) x y same = let rest : xs ++ x ∷ [] ≡ ys ++ y ∷ [] = cc in last-is xs ys x y rest
 last-is xs ys x y same = cc
 
--- and the end tells which fault it was
+-- and the end states that fault
 read-told-at : (future : Future) (before : List Event) (octets text : List ℕ) (end : FilterEnd)
     → EndsAs future (before ++ ReadFailed ∷ []) (standing_at Broken octets text) end → end ≡ ReadFault
 read-told-at future before octets text TooLong ends = let going : Broken ≡ Going = ends.going in cc

@@ -20,13 +20,13 @@ pub ended-input : (told : Option (List ℕ)) (octets input : List ℕ) → IfSom
 ended-input None octets input all same = cc
 ended-input (Some one) octets input all same = let e : one ≡ input = cc in sym e ∙ all
 
--- what a source told is what was taken and what is left
+-- the exposed octets of a source are those taken and those left
 pub told-parts : (told now : Option (List ℕ)) (octets input : List ℕ) → Taken told octets now → told ≡ Some input → (rest : List ℕ) × (input ≡ octets ++ rest)
 told-parts told now octets input taken same =
     let parts = Taken-told (subst (λ (o : Option (List ℕ)). Taken o octets now) same taken) in
     (parts.0, parts.2)
 
--- where nothing is left of what a source told, all of it was taken
+-- if none of the exposed octets of a source are left, all of them were taken
 taken-all : (told now : Option (List ℕ)) (octets : List ℕ) → Taken told octets now → IfSome now (λ rest. rest ≡ []) → IfSome told (λ input. input ≡ octets)
 taken-all None now octets taken none = tt
 taken-all (Some input) None octets taken none = let wrong : Some input ≡ None = taken.left in cc
@@ -87,7 +87,7 @@ HasEnd-front [] ys ended = absurd ended
 HasEnd-front (Read [] ∷ xs) ys ended = tt
 HasEnd-front (event ∷ xs) ys ended = HasEnd-front xs ys ended
 
--- no more octets than an input has at most, and those of one read more, and not those where the input is over
+-- at most the octets of the longest input and of one read more, and at most those of the longest input if the input has ended
 record IsBounded (at : Standing) : Type 0 where
   few : length at.octets ≤ input_most + read_most
   over : at.phase ≡ Over → length at.octets ≤ input_most
@@ -137,7 +137,7 @@ final-meets told first last future Over octets text ending final over appended =
     }
 final-meets told first last future Broken octets text ending final over appended = absurd final
 
--- memory was wanting
+-- an allocation failed
 memory-meets : (told first last : Option (List ℕ)) (future : Future) (phase : Phase) (octets text : List ℕ)
     → IsMemoryAt future phase octets text → (phase ≡ Over → (length octets ≤ input_most) × IfSome told (λ input. input ≡ octets))
     → Appended first text last → IsMemory told first last future octets
@@ -162,7 +162,7 @@ cut-front first last text piece whole count appended begins =
     record { count = length text + count; beginning = Appended-same (sym (take-append-add text piece count)) appended } in
     AppendedBeginning-same (sym begins.is) (AppendedBeginning-longer begins.rest beginning)
 
--- what is left is none where it was told
+-- no octets are left if the exposed ones are none
 none-is : (left : Option (List ℕ)) (rest : List ℕ) → IfSome left (λ some. some ≡ []) → left ≡ Some rest → rest ≡ []
 none-is None rest none same = cc
 none-is (Some some) rest none same = let equal : some ≡ rest = cc same in sym equal ∙ none
@@ -243,7 +243,7 @@ nothing-behind future at (WriteFailed piece count ∷ events) not live =
     nothing-behind future (standing_after at (WriteFailed piece count)) events (λ (same : Broken ≡ Going). cc) live.1
 
 module _ (future : Future) (input rest : List ℕ) (none : all_written future input ≡ []) where
-  -- a piece that is due is some, so something is to be written
+  -- a chunk that is due is not empty, so something is to be written
   due-some : (at : Standing) (more piece : List ℕ) → input ≡ at.octets ++ more → IsBounded at → (at.phase ≡ Over → more ≡ []) → 0 < length piece
       → IsDecided future at.phase at.octets (at.text ++ piece) → ⊥
   due-some at more piece whole is over some decided =
@@ -277,7 +277,7 @@ run-quiet told left first last future events end run went input same none =
     let parts = Taken-told (subst (λ (o : Option (List ℕ)). Taken o (octets_read events) left) same went.taken) in
     quiet-by future input parts.0 none at_first events run.live bounded-first parts.2 (λ (going : Going ≡ Over). cc) (λ has. none-is left parts.0 (went.ending has) parts.1)
 
--- a fault that the end tells is among the events
+-- a fault that the end states is among the events
 has-read : (before : List Event) → HasReadFault (before ++ ReadFailed ∷ [])
 has-read [] = tt
 has-read (ReadFailed ∷ before) = tt

@@ -18,8 +18,8 @@ HasEnd (ReadFailed ∷ events) = HasEnd events
 HasEnd (Wrote piece ∷ events) = HasEnd events
 HasEnd (WriteFailed piece count ∷ events) = HasEnd events
 
--- what is told of the octets that some events read and wrote: those read stood first in what was told, of which none are left where the input ended, and
--- those written stand after what was told to be written
+-- the exposed octets before and after some events: those read were the first of the source, and none are left if the input ended; those written follow those
+-- that were written before
 pub record Went (told left first last : Option (List ℕ)) (events : List Event) : Type 0 where
   pub taken : Taken told (octets_read events) left
   pub ending : HasEnd events → IfSome left (λ rest. rest ≡ [])
@@ -42,7 +42,7 @@ module _ {S : Type 0} (left : S → Option (List ℕ)) (faults : S → ℕ) wher
   SourceGoes-later first last (ReadFailed ∷ events) goes = omega (arith, goes.1.later, SourceGoes-later goes.0 last events goes.2)
   SourceGoes-later first last (event ∷ events) goes = SourceGoes-later first last events goes
 
-  -- and it rose where a read failed
+  -- and it rose if a read failed
   pub SourceGoes-rose : (first last : S) (events : List Event) → SourceGoes left faults first events last → HasReadFault events → Rose (faults first) (faults last)
   SourceGoes-rose first last (Read octets ∷ events) goes has =
       Rose-within (faults first) (faults goes.0) (faults last) (faults last) goes.1.later (SourceGoes-rose goes.0 last events goes.2 has) (omega arith)
@@ -74,7 +74,7 @@ module _ {K : Type 0} (written : K → Option (List ℕ)) (faults : K → ℕ) w
   SinkGoes-later first last (WriteFailed piece count ∷ events) goes = omega (arith, goes.1.later, SinkGoes-later goes.0 last events goes.2)
   SinkGoes-later first last (event ∷ events) goes = SinkGoes-later first last events goes
 
-  -- and it rose where a write failed
+  -- and it rose if a write failed
   pub SinkGoes-rose : (first last : K) (events : List Event) → SinkGoes written faults first events last → HasWriteFault events → Rose (faults first) (faults last)
   SinkGoes-rose first last (Wrote piece ∷ events) goes has =
       Rose-within (faults first) (faults goes.0) (faults last) (faults last) goes.1.later (SinkGoes-rose goes.0 last events goes.2 has) (omega arith)
@@ -89,7 +89,7 @@ module _ {K : Type 0} (written : K → Option (List ℕ)) (faults : K → ℕ) w
   SinkGoes-appended first last (WriteFailed piece count ∷ events) goes = Appended-trans goes.1.appended (SinkGoes-appended goes.0 last events goes.2)
   SinkGoes-appended first last (event ∷ events) goes = SinkGoes-appended first last events goes
 
--- a source and a sink tell of the events that they went through
+-- the exposed octets of a source and a sink before and after the events that they went through
 pub pair-went : {S K : Type 0} (left : S → Option (List ℕ)) (source_faults : S → ℕ) (written : K → Option (List ℕ)) (sink_faults : K → ℕ)
     (source source_now : S) (sink sink_now : K) (events : List Event) → SourceGoes left source_faults source events source_now
     → SinkGoes written sink_faults sink events sink_now → Went (left source) (left source_now) (written sink) (written sink_now) events
@@ -99,13 +99,13 @@ pair-went left source_faults written sink_faults source source_now sink sink_now
   appended = SinkGoes-appended written sink_faults sink sink_now events wrote;
 }
 
--- a read that gave none is among the events where the input ended
+-- a read that returned none is among the events if the input ended
 end-read : (events : List Event) → HasEnd events → Contains events (Read [])
 end-read [] has = absurd has
 end-read (Read [] ∷ events) has = (zero, omega arith, refl)
 end-read (event ∷ events) has = Contains-later event events (Read []) (end-read events has)
 
--- a reader and a writer tell of the events that were made on them, as far as each tells what it holds
+-- the exposed octets of a reader and a writer before and after the events on them, as far as each exposes its contents
 read-known : (first last : Option (List ℕ)) (octets : List ℕ) → Consumes first last octets → Taken first octets (known first last)
 read-known None last octets read = record { left = refl }
 read-known (Some all) None octets read = absurd read

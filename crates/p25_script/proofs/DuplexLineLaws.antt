@@ -11,7 +11,7 @@ use Rattle.p25_script.proofs.{LineLaws.{from-words}, ValueLaws.{message-message_
 use Rattle.p25_duplex.specs.{declared.side.Side.{Side}, declared.side.Side.TheVariants.{A, B}, DuplexSteps.{side_word}, declared.event.DuplexEvent.{DuplexEvent}}
 use Rattle.p25_duplex.specs.{declared.event.DuplexEvent.TheVariants.{Send, Timeout, Reopen, Deliver}, DuplexRuns.{IsDuplexEvent}}
 
--- ---- the line of an event is read as it
+-- ---- the line of an event decodes to it
 
 -- the words of an event are words
 words-words : (event : DuplexEvent) → IsDuplexScripted event → list_all is_word (duplex_words event) ≡ true
@@ -27,7 +27,7 @@ words-some : (event : DuplexEvent) → 0 < length (duplex_words event)
 words-some (Send side message) = omega arith
 words-some event = omega arith
 
--- and they are read as it
+-- and they decode to it
 by_words-words : (event : DuplexEvent) → IsDuplexScripted event → duplex_by_words (duplex_words event) ≡ Ok event
 by_words-words (Send A message) fits = ap (value_or_fault (Send A)) (message_in-text message fits)
 by_words-words (Send B message) fits = ap (value_or_fault (Send B)) (message_in-text message fits)
@@ -86,7 +86,7 @@ from_others (Acts side) (second ∷ others) event found = from_side side second 
 from_others Delivery (direction ∷ word ∷ []) event found = from_delivery direction word (hearer_named direction) (places_in word) event refl refl found
 from_others start others event found = cc found
 
--- ---- so lines and events tell each other
+-- ---- so lines and events are inverse to each other
 
 pub duplex_laws : WordLaws duplex_words duplex_by_words IsDuplexScripted
 duplex_laws = record { some = words-some; are_words = words-words; back = by_words-words; again = from-words duplex_words IsDuplexScripted start_word duplex_starts event_behind from_others }

@@ -5,7 +5,7 @@ use Rattle.p25_line.specs.{LineReadings.{line_read, named_or_fault}, declared.fa
 use Rattle.p25_script.specs.Script.{read_by_kind}
 use Rattle.p25_line.proofs.{LineReadLaws.{WordLaws, line_read-facts, line_read-words}, WordsLaws.{named-word}}
 
--- words of which the first names a kind are those of the value that is read, where the others are by that kind
+-- words of which the first names a type are those of the decoded value, if the others are by that type
 module _ {K X : Type 0} (words : X → List (List ℕ)) (Fits : X → Type 0) (word_of : K → List ℕ) (kinds : List K) (read : K → List (List ℕ) → Result X LineFault)
     (again : (kind : K) (others : List (List ℕ)) (value : X) → read kind others ≡ Ok value → (words value ≡ word_of kind ∷ others) × Fits value) where
   from-named : (first : List ℕ) (others : List (List ℕ)) (kind : Option K) (value : X) → find (λ k. bytes_eq first (word_of k)) kinds ≡ kind
@@ -19,7 +19,7 @@ module _ {K X : Type 0} (words : X → List (List ℕ)) (Fits : X → Type 0) (w
   from-words [] value found = cc found
   from-words (first ∷ others) value found = from-named first others (find (λ k. bytes_eq first (word_of k)) kinds) value refl found
 
--- what the reader of a whole line tells beside what it is read as
+-- the results of the reader of a whole line, beside the decoding
 pub record IsToldOf {X : Type 0} (words : X → List (List ℕ)) (Fits : X → Type 0) (line : List ℕ) (result : Result X LineFault) : Type 0 where
   pub text : IfOk result (λ value. join_with_byte 32 (words value) ≡ line)
   pub fits : IfOk result Fits

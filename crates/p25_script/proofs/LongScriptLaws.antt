@@ -9,7 +9,7 @@ use Rattle.p25_script.specs.{Script.{event_by_words, event_words}, LongScript.{I
 use Rattle.p25_script.proofs.ScriptLaws.{event_laws}
 use Rattle.p25_fragments.specs.{LongRuns.{IsNoOffer}, declared.long_step.LongEvent.{LongEvent}, declared.long_step.LongEvent.TheVariants.{Long, Inner}}
 
--- ---- the words of an event are read as it
+-- ---- the words of an event decode to it
 
 words-some : (event : LongEvent) → 0 < length (long_event_words event)
 words-some (Long message) = omega arith
@@ -85,7 +85,7 @@ from_words (first ∷ others) event found =
       | inr other ↦ from_other first others event (sym (cond-false (bytes_eq first (codes "long")) (long_in others) (other_event first others) other) ∙ found)
     ]
 
--- ---- so lines and events tell each other
+-- ---- so lines and events are inverse to each other
 
 pub long_event_laws : WordLaws long_event_words long_event_by_words IsLongScripted
 long_event_laws = record { some = words-some; are_words = words-words; back = by_words-words; again = from_words }

@@ -21,7 +21,7 @@ increasing-is_ascending (place ∷ next ∷ places) ascending (suc k) below =
     subst (λ (i : ℕ). slice_index (next ∷ places) k < slice_index (place ∷ next ∷ places) i) same rest
 increasing-is_ascending places ascending k below = absurd (omega arith)
 
--- one more than the last place, or 0 where there is none
+-- one more than the last position, or 0 if there is none
 abbrev pub next_place : List ℕ → ℕ
 next_place [] = 0
 next_place (place ∷ []) = place + 1
@@ -31,7 +31,7 @@ pub next_place-push : (places : List ℕ) (place : ℕ) → next_place (places +
 next_place-push (first ∷ next ∷ places) place = next_place-push (next ∷ places) place
 next_place-push places place = refl
 
--- a place that is not below the next one is the last of more places
+-- positions still ascend with one more that is not below the next one
 pub is_ascending-push : (places : List ℕ) (place : ℕ) → is_ascending places ≡ true → next_place places ≤ place → is_ascending (places ++ place ∷ []) ≡ true
 is_ascending-push [] place ascending above = refl
 is_ascending-push (first ∷ []) place ascending above = ap₂ ◌&&◌ (lt-ltb first place (omega arith)) refl
@@ -39,7 +39,7 @@ is_ascending-push (first ∷ next ∷ places) place ascending above =
     let parts = and_parts (nat_lt first next) (is_ascending (next ∷ places)) ascending in
     ap₂ ◌&&◌ parts.0 (is_ascending-push (next ∷ places) place parts.1 above)
 
--- and each of more places is
+-- and if they ascend with more positions, the first of these is not below it
 pub is_ascending-more : (places : List ℕ) (place : ℕ) (rest : List ℕ) → is_ascending (places ++ place ∷ rest) ≡ true → next_place places ≤ place
 is_ascending-more [] place rest ascending = omega arith
 is_ascending-more (first ∷ []) place rest ascending =
@@ -47,7 +47,7 @@ is_ascending-more (first ∷ []) place rest ascending =
 is_ascending-more (first ∷ next ∷ places) place rest ascending =
     is_ascending-more (next ∷ places) place rest (and_parts (nat_lt first next) (is_ascending ((next ∷ places) ++ place ∷ rest)) ascending).1
 
--- all places are below the next one
+-- all positions are below the next one
 pub below_next : (places : List ℕ) → is_ascending places ≡ true → All (λ place. place < next_place places) places
 below_next [] ascending = All-nil (λ place. place < 0)
 below_next (place ∷ []) ascending = All-cons (λ p. p < place + 1) place [] (omega arith) (All-nil (λ p. p < place + 1))

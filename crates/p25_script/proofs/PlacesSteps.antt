@@ -7,7 +7,7 @@ use Rattle.p25_script.specs.Values.{is_ascending, place_in, places_in, where_asc
 use Rattle.p25_line.proofs.CommaReadLaws.{EntriesSoFar, EntriesSoFar-end, EntriesSoFar-more, list_in-parts}
 use Rattle.p25_script.proofs.PlacesLaws.{is_ascending-more, next_place}
 
--- whatever follows a place that is too low, the places do not ascend
+-- whatever follows a position that is too low, the positions do not ascend
 not_ascending : (done : List ℕ) (place : ℕ) (rest : Option (List ℕ)) → place < next_place done → where_ascending (option_map (λ items. (done ++ place ∷ []) ++ items) rest) ≡ None
 not_ascending done place None low = refl
 not_ascending done place (Some items) low =
@@ -25,7 +25,7 @@ places_in-low word part start next done place other so_far parts found low =
     ap where_ascending (list_in-parts place_in word other ∙ EntriesSoFar-more place_in word part start next done place so_far parts found)
     ∙ not_ascending done place (entries_in place_in (parts_from word next)) low
 
--- where no part is left, the places are those that were read
+-- if no part is left, the positions are those that were read
 pub places_in-end : (word : List ℕ) (start : ℕ) (done : List ℕ) → bytes_eq word dash ≡ false → EntriesSoFar place_in word start done → length word < start
     → is_ascending done ≡ true → places_in word ≡ Some done
 places_in-end word start done other so_far past ascending =

@@ -12,7 +12,7 @@ use Rattle.p25_script.specs.declared.names.EventKind.TheVariants.{Send as SendLi
 use Rattle.p25_script.proofs.LineLaws.{from-words}
 use Rattle.p25_script.proofs.ValueLaws.{length-message_text, length-places_text, message-message_in, message-word, message_in-text, places-places_in, places-word, places_in-text}
 
--- ---- the line of an event is read as it
+-- ---- the line of an event decodes to it
 
 pub event_words-words : (event : Event) → IsScripted event → list_all is_word (event_words event) ≡ true
 event_words-words (Send message) fits = ap₂ ◌&&◌ (message-word message fits) refl
@@ -24,7 +24,7 @@ pub event_words-some : (event : Event) → 0 < length (event_words event)
 event_words-some (Send message) = omega arith
 event_words-some event = omega arith
 
--- and they are read as it
+-- and they decode to it
 event_by_words-words : (event : Event) → IsScripted event → event_by_words (event_words event) ≡ Ok event
 event_by_words-words (Send message) fits = ap (value_or_fault Send) (message_in-text message fits)
 event_by_words-words (ToReceiver places) fits = ap (value_or_fault ToReceiver) (places_in-text places fits)
@@ -73,7 +73,7 @@ from_others ReopenLine [] event found =
 from_others DeliverLine (first ∷ word ∷ []) event found = from_delivery first word (way_named first) (places_in word) event refl refl found
 from_others kind others event found = cc found
 
--- ---- so lines and events tell each other
+-- ---- so lines and events are inverse to each other
 
 pub event_laws : WordLaws event_words event_by_words IsScripted
 event_laws = record { some = event_words-some; are_words = event_words-words; back = event_by_words-words; again = from-words event_words IsScripted event_word event_kinds event_in from_others }
@@ -92,7 +92,7 @@ pub length-answer : (places : List ℕ) → ArePlaces places → length (event_t
 unfolding event_text
 length-answer places are = omega (arith, length-places_text places are)
 
--- the laws of the world speak of what a script can tell of
+-- the laws of the world hold for the events that a script can contain
 pub IsEvent-IsScripted : (event : Event) → IsScripted event → IsEvent event
 unfolding IsEvent
 IsEvent-IsScripted (Send message) fits = fits

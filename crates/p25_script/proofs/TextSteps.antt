@@ -9,7 +9,7 @@ use Rattle.p25_line.specs.CommaLists.{comma_text}
 use Rattle.p25_script.specs.StepTexts.{serial_at}
 use Rattle.p25_line.proofs.CommaWriteLaws.{join-more}
 
--- the octets of flags stand first in what a selective retry carries
+-- the octets of flags are the first in a selective retry
 pub flags-front : (flags : List Bool) → take (length flags / 8) (flag_octets flags) ≡ octets_from (length flags / 8) flags
 unfolding flag_octets
 flags-front flags =
@@ -18,7 +18,7 @@ flags-front flags =
     take-append-le (length flags / 8) (octets_from (length flags / 8) flags) rest (omega (arith, count))
     ∙ take_all (length flags / 8) (octets_from (length flags / 8) flags) (omega (arith, count))
 
--- pieces that are put one after the other are put as one
+-- texts that are appended one after the other are appended as one
 pub put-four : (out a b c d : List ℕ) → out ++ a ++ b ++ c ++ d ≡ out ++ (a ++ b ++ c ++ d)
 put-four out a b c d = ap (λ l. l ++ c ++ d) (append_assoc out a b) ∙ ap (λ l. l ++ d) (append_assoc out (a ++ b) c) ∙ append_assoc out (a ++ b ++ c) d
 
@@ -26,7 +26,7 @@ pub put-six : (out a b c d e f : List ℕ) → out ++ a ++ b ++ c ++ d ++ e ++ f
 put-six out a b c d e f =
     ap (λ l. l ++ e ++ f) (put-four out a b c d) ∙ ap (λ l. l ++ f) (append_assoc out (a ++ b ++ c ++ d) e) ∙ append_assoc out (a ++ b ++ c ++ d ++ e) f
 
--- some number stands in a list
+-- there is some number in a list
 abbrev pub stands : List ℕ → Bool
 stands [] = false
 stands (number ∷ numbers) = true
@@ -42,7 +42,7 @@ comma_text-push [] number = refl
 comma_text-push (first ∷ numbers) number =
     ap (join_with_byte 44) (map_push decimal (first ∷ numbers) number) ∙ join-more 44 (map decimal (first ∷ numbers)) (decimal number) (omega arith)
 
--- the serial numbers, where the next flag is true and where it is false
+-- the serial numbers, if the next flag is true and if it is false
 serials-more : (flags : List Bool) (serial : ℕ) → slice_get flags serial ≡ Some true
     → joined_below (serial + 1) (serial_at flags) ≡ joined_below serial (serial_at flags) ++ serial ∷ []
 serials-more flags serial read =
@@ -56,7 +56,7 @@ serials-same flags serial read =
     ∙ ap (λ l. joined_below serial (serial_at flags) ++ l) (cond-false (slice_index_or flags serial false) (serial ∷ []) [] (get_or_from_slice_get flags serial false false read))
     ∙ append-nil (joined_below serial (serial_at flags))
 
--- the text and whether some number stands in it, with one more
+-- the text and whether there is some number in it, with one more
 pub serial-text : (flags : List Bool) (serial : ℕ) (start out new : List ℕ) (behind : Bool) → slice_get flags serial ≡ Some true
     → out ≡ start ++ comma_text decimal (joined_below serial (serial_at flags)) → behind ≡ stands (joined_below serial (serial_at flags))
     → new ≡ out ++ cond behind (44 ∷ []) [] ++ decimal serial → new ≡ start ++ comma_text decimal (joined_below (serial + 1) (serial_at flags))

@@ -27,7 +27,7 @@ message-word message fits = octets-word message fits.octets
 pub length-message_text : (message : List ℕ) → IsMessage message → length (octets_text message) ≤ 4056
 length-message_text message fits = length-octets_text 2028 message (omega arith) fits.short
 
--- ---- places
+-- ---- positions
 
 -- the text of a number has digits alone
 decimal-digits : (number : ℕ) → number < 2 ^ 64 → all_ascii_digits (decimal number) ≡ true
@@ -45,7 +45,7 @@ digits-comma (octet ∷ octets) digits =
 pub place_in-decimal : (place : ℕ) → place < 25920 → place_in (decimal place) ≡ Some place
 place_in-decimal place below = number_below-decimal 25920 place below (omega arith)
 
--- what each place keeps
+-- the laws of each position
 pub place_laws : EntryLaws decimal place_in (λ place. place < 25920) all_ascii_digits
 place_laws = record {
   lacks = digits-comma;
@@ -119,7 +119,7 @@ places-other (place ∷ places) fits some =
       | inr other ↦ other
     ]
 
--- places are read from their text
+-- the text of positions decodes to them
 pub places_in-text : (places : List ℕ) → ArePlaces places → places_in (places_text places) ≡ Some places
 places_in-text places are =
     let fits = all-fit places are.below in
@@ -137,7 +137,7 @@ where_found (Some items) places found =
       | inr failed ↦ let none = cond-false (is_ascending items) (Some items) None failed in cc
     ]
 
--- and a word that is read as places is their text
+-- and a word that decodes to positions is their text
 pub places-places_in : (word places : List ℕ) → places_in word ≡ Some places → (places_text places ≡ word) × ArePlaces places
 places-places_in word places found =
     let made = where_found (list_in place_in word) places found in

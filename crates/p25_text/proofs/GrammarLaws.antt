@@ -57,7 +57,7 @@ unfolding IsSendableBody
 body-short (Voice unit) fits = voice-short unit fits
 body-short (Packet packet) fits = packet-short packet fits
 
--- the values of a body are read as the body
+-- the values of a body decode to it
 body_in-voice : (unit : VoiceUnit) (values : List (List ℕ)) → body_in (voice_kind unit) values ≡ option_map Voice (voice_in (voice_kind unit) values)
 body_in-voice (Header word) values = refl
 body_in-voice unit values = refl
@@ -81,7 +81,7 @@ unfolding IsSendableBody
 body_in-values (Voice unit) fits = body_in-voice unit (voice_values unit) ∙ ap (option_map Voice) (voice_in-values unit fits)
 body_in-values (Packet packet) fits = packet_in-values packet fits
 
--- what is read as a body are its values
+-- the values that decode to a body are its values
 record IsReadAs (kind : UnitKind) (values : List (List ℕ)) (body : Body) : Type 0 where
   same_kind : kind_of body ≡ kind
   same_values : body_values body ≡ values
@@ -132,7 +132,7 @@ length-text_of unit fits =
     let kind = kind_of unit.body in
     omega (arith, length-join 32 (unit_words unit), size_of-keyed (keys_of kind) (values_of unit), kind-short kind, keys-few kind, length-three_digits unit.nac, body-short unit.body fits.body)
 
--- the words of a unit are read as the unit
+-- the words of a data unit decode to it
 read_words-unit_words : (unit : UnitParts) → IsSendableUnit unit → read_words (unit_words unit) ≡ Ok unit
 read_words-unit_words unit fits =
     let kind = kind_of unit.body in
@@ -180,12 +180,12 @@ from-words : (words : List (List ℕ)) (unit : UnitParts) → read_words words �
 from-words [] unit found = cc found
 from-words (first ∷ words) unit found = from-kind first words (kind_named first) unit refl found
 
--- ---- so lines and units tell each other
+-- ---- so lines and data units are inverse to each other
 
 unit_laws : WordLaws unit_words read_words IsSendableUnit
 unit_laws = record { some = λ unit. omega arith; are_words = unit_words-words; back = read_words-unit_words; again = from-words }
 
--- the line of a unit is read as the unit
+-- the line of a data unit decodes to it
 pub read_line-text_of : (unit : UnitParts) → IsSendableUnit unit → read_line_of (text_of unit) ≡ Ok unit
 unfolding read_line_of text_of
 read_line-text_of unit fits = line_read-words unit_laws unit fits (omega (arith, length-text_of unit fits))
@@ -195,7 +195,7 @@ pub text_of-read_line : (line : List ℕ) (unit : UnitParts) → read_line_of li
 unfolding read_line_of text_of
 text_of-read_line line unit found = let is = words-line_read unit_laws line unit found in (is.text, is.fits)
 
--- the two laws, as the reader tells them
+-- the two laws, as the reader returns them
 pub read-facts : (line : List ℕ) (result : Result UnitParts LineFault) → result ≡ read_line_of line
     → (IfOk result (λ unit. text_of unit ≡ line)) × (IfOk result (λ unit. IsSendableUnit unit))
 unfolding read_line_of text_of

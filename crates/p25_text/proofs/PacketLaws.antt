@@ -51,7 +51,7 @@ confirmed_in-values packet fits =
     ∙ ap (λ l. option_map (confirmed_of packet.head) (counted count l)) (slots_in-text packet.slots good)
     ∙ ap (option_map (confirmed_of packet.head)) (cond-true (length packet.slots == count) (Some packet.slots) None (eq-eqb (length packet.slots) count fits.kind.count))
 
--- what is read as a packet
+-- the values that decode to a packet
 pub record IsPacketRead (kind : UnitKind) (values : List (List ℕ)) (packet : Packet) : Type 0 where
   pub same_kind : packet_kind packet ≡ kind
   pub same_values : packet_values packet ≡ values

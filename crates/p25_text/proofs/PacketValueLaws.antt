@@ -72,7 +72,7 @@ block_in-text block fits =
     ∙ ap₂ block_from serial octets
     ∙ cond-true (nat_lt block.serial 128) (Some block) None (lt-ltb block.serial 128 fits.serial_fits)
 
--- what is read as a block is its text
+-- the words that decode to a block are its text
 block_made : (first second : List ℕ) (serial octets : Option (List ℕ)) (block : Block) → octets_in 1 first ≡ serial → octets_in 16 second ≡ octets
     → block_from serial octets ≡ Some block → (encode_lower (block.serial ∷ []) ≡ first) × (encode_lower block.octets ≡ second) × IsDataBlock block
 block_made first second (Some (serial ∷ [])) (Some octets) block one two found =
@@ -126,7 +126,7 @@ slot_laws = record {
   again = λ text slot found. slot_made text (block_in text) slot refl found;
 }
 
--- slots are Good at each place where all are
+-- slots are `Good` at each index if all are
 pub AllFit-slots : (slots : List Slot) (count : ℕ) → AreDataBlocks slots count → length slots ≡ count → AllFit IsGoodSlot slots
 AllFit-slots [] count good same = tt
 AllFit-slots (slot ∷ slots) zero good same = absurd (omega arith)
@@ -172,7 +172,7 @@ joined-long : (slot : Slot) (slots : List Slot) → IsGoodSlot slot → 35 ≤ l
 joined-long slot [] good = omega (arith, slot-size slot good)
 joined-long slot (next ∷ slots) good = omega (arith, slot-size slot good, length-append (slot_text slot) (44 ∷ join_with_byte 44 (map slot_text (next ∷ slots))))
 
--- it has at least 35 octets where there is a slot, and at most 36 for each slot and one
+-- it has at least 35 octets if there is a slot, and at most 36 for each slot and one
 pub slots-size : (slots : List Slot) → AllFit IsGoodSlot slots → (0 < length slots → 35 ≤ length (list_text slot_text slots)) × (length (list_text slot_text slots) ≤ 36 * length slots + 1)
 unfolding comma_text
 slots-size [] good = (λ some. absurd (omega arith), omega arith)

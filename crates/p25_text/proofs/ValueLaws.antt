@@ -16,7 +16,7 @@ one_octet octet fits = All-cons (λ o. o < 256) octet [] fits (All-nil (λ o. o 
 pub two_octets : (high low : ℕ) → high < 256 → low < 256 → AllOctets (high ∷ low ∷ [])
 two_octets high low h l = All-cons (λ x. x < 256) high (low ∷ []) h (All-cons (λ x. x < 256) low [] l (All-nil (λ x. x < 256)))
 
--- the text of octets is read as them
+-- the text of octets decodes to them
 pub octets_in-encode_lower : (count : ℕ) (octets : List ℕ) → AllOctets octets → length octets ≡ count → octets_in count (encode_lower octets) ≡ Some octets
 octets_in-encode_lower count octets fits same =
     let long : length (encode_lower octets) ≡ 2 * count = length-encode_with lower_digits octets ∙ ap (λ n. 2 * n) same in
@@ -27,7 +27,7 @@ octets_in-encode_lower count octets fits same =
 pub octets_in-read : (count : ℕ) (word octets : List ℕ) → encode_lower octets ≡ word → AllOctets octets → length octets ≡ count → octets_in count word ≡ Some octets
 octets_in-read count word octets text fits same = ap (octets_in count) (sym text) ∙ octets_in-encode_lower count octets fits same
 
--- what is read as octets is their text
+-- a word that decodes to octets is their text
 pub octets_in-text : (count : ℕ) (word octets : List ℕ) → octets_in count word ≡ Some octets → (encode_lower octets ≡ word) × AllOctets octets × (length octets ≡ count)
 octets_in-text count word octets found =
     elim (cases_Bool ((length word == 2 * count) && list_all is_lower_digit word)) [
@@ -40,7 +40,7 @@ octets_in-text count word octets found =
       | inr failed ↦ let read = cond-false ((length word == 2 * count) && list_all is_lower_digit word) (Some (octets_of word)) None failed in cc
     ]
 
--- a word that is no text of so many octets is read as none
+-- a word that is no text of so many octets has no decoding
 pub octets_in-none : (count : ℕ) (word : List ℕ) → ((octets : List ℕ) → length octets ≡ count → AllOctets octets → encode_lower octets ≡ word → ⊥) → octets_in count word ≡ None
 octets_in-none count word other =
     elim (cases_Bool ((length word == 2 * count) && list_all is_lower_digit word)) [
@@ -98,7 +98,7 @@ nac_from word (Some (high ∷ low ∷ [])) nac found number =
     (ap₂ (λ h l. drop 1 (encode_lower (h ∷ l ∷ []))) upper lower ∙ ap (drop 1) facts.0, omega arith)
 nac_from word octets nac found number = cc number
 
--- what is read as a network access code is its text
+-- a word that decodes to a network access code is its text
 pub nac_in-text : (word : List ℕ) (nac : ℕ) → nac_in word ≡ Some nac → (three_digits nac ≡ word) × (nac < 4096)
 nac_in-text word nac found = nac_from word (octets_in 2 (48 ∷ word)) nac refl found
 
@@ -133,7 +133,7 @@ some_text : (octets : List ℕ) (count : ℕ) → length octets ≡ count → (c
 some_text [] count same other = absurd (other (sym same))
 some_text (octet ∷ octets) count same other = refl
 
--- what is read as them is their text
+-- a word that decodes to them is their text
 pub text-octets_or_none : (count : ℕ) (word octets : List ℕ) → octets_or_none count word ≡ Some octets → (octets_text octets ≡ word) × AllOctets octets × (length octets ≡ count)
 text-octets_or_none count word octets found =
     let empty : List ℕ = [] in
@@ -152,7 +152,7 @@ text-octets_or_none count word octets found =
           (some_text octets count facts.2 some.1 ∙ facts.0, facts.1, facts.2)
     ]
 
--- they are read as octets of which there are so many at most
+-- octets up to a number, if they are as many as required
 pub octets_or_none-found : (most count : ℕ) (word octets : List ℕ) → octets_up_to most word ≡ Some octets → length octets ≡ count → octets_or_none count word ≡ Some octets
 octets_or_none-found most count word octets found same =
     let text = text-octets_up_to most word octets found in

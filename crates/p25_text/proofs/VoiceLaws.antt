@@ -254,13 +254,13 @@ voice-printed unit fits = wide-printed (other_keys (voice_kind unit)) (voice_oct
 pub voice-short : (unit : VoiceUnit) → IsSendableVoice unit → size_of (voice_values unit) ≤ 4620
 voice-short unit fits = omega (arith, wide-size (other_keys (voice_kind unit)) (voice_octets unit) (voice-wide unit fits), digits-few (voice_kind unit))
 
--- the values of a unit are read as the unit
+-- the values of a data unit decode to it
 pub voice_in-values : (unit : VoiceUnit) → IsSendableVoice unit → voice_in (voice_kind unit) (voice_values unit) ≡ Some unit
 voice_in-values unit fits =
     ap (option_and_then (voice_from (voice_kind unit))) (octets_behind-encode (other_keys (voice_kind unit)) (voice_octets unit) (voice-wide unit fits))
     ∙ voice_from-octets unit fits
 
--- what is read as a unit has these values
+-- a data unit to which values decode has these values
 pub record IsVoiceRead (kind : UnitKind) (values : List (List ℕ)) (unit : VoiceUnit) : Type 0 where
   pub same_kind : voice_kind unit ≡ kind
   pub same_values : voice_values unit ≡ values

@@ -6,7 +6,7 @@ use Rattle.std.specs.{Prelude.{◌==◌, nat_lt}, List.{join_with_byte, list_all
 use Rattle.p25_line.specs.{Words.{is_printed, is_word}, CommaLists.{with_entry}}
 use Rattle.p25_text.specs.{Grammar.{behind, keyed, values_behind}, Names.{key_text}, declared.names.UnitKey.{UnitKey}, declared.names.UnitKey.TheVariants.{Nac}}
 
--- what stands after a key
+-- the octets after a key
 pub behind-append : (key value : List ℕ) → behind key (key ++ value) ≡ Some value
 behind-append key value =
     let starts = (starts_is {E = ◌==◌} Decides-eqb (key ++ value) key (starts_with ◌==◌ (key ++ value) key) refl).1 value refl in

@@ -55,7 +55,7 @@ joined-tail (key ∷ keys) (value ∷ values) out =
     joined-tail keys values (out ++ (32 ∷ key_text key ++ value)) ∙ append_assoc out (32 ∷ key_text key ++ value) (tail_text keys values)
 joined-tail keys values out = sym (append-nil out)
 
--- a line is put by its beginning and then each key with its value
+-- a line is appended by its beginning and then each key with its value
 pub unit-put : (unit : UnitParts) (out now : List ℕ) → now ≡ joined (out ++ start_text (kind_of unit.body) unit.nac) (fields_text (other_keys (kind_of unit.body)) (body_values unit.body))
     → now ≡ out ++ text_of unit
 unit-put unit out now is =
@@ -79,7 +79,7 @@ packet_keys (Plain packet) = plain_keys (head_format packet.head == 0x03)
     plain_keys true = refl
     plain_keys false = refl
 
--- the line of a packet (PDU) is put by its beginning, its first key with the value, its last key, and the value of that
+-- the line of a packet (PDU) is appended by its beginning, its first key with the value, its last key, and the value of that
 pub packet-put : (nac : ℕ) (packet : PacketParts) (kind : UnitKind) (head last out one two three four : List ℕ) → kind ≡ packet_kind packet → head ∷ last ∷ [] ≡ packet_values packet
     → one ≡ out ++ start_text kind nac → two ≡ one ++ (32 ∷ key_text (key_at kind 1) ++ head) → three ≡ two ++ 32 ∷ key_text (key_at kind 2) → four ≡ three ++ last
     → four ≡ out ++ text_of (record { nac = nac; body = Packet packet })

@@ -31,7 +31,7 @@ alike-run moves first last f named command end is alike other went = (
   λ count sampled. absurd (other count (sym is ∙ sampled)),
 )
 
--- the outcome of an end tells the fault, and is not that of words that name no command
+-- the outcome of an end states the fault, and is not that of words that name no command
 ending-not_usage : (ending : Ending) → ending_outcome ending ≡ Usage → ⊥
 ending-not_usage Done is = cc
 ending-not_usage ending is = cc
@@ -62,7 +62,7 @@ writes-end (Wrote piece ∷ before) writes = writes-end before writes
 writes-end (WriteFailed piece count ∷ before) writes = writes-end before writes
 writes-end before writes = writes
 
--- `sample` ends as Done by any octets, and never for want of memory
+-- `sample` ends as Done by any octets, and never because an allocation failed
 sample-final : (count : ℕ) (phase : Phase) (octets text : List ℕ) (ending : Ending) → IsFinalAt (command_future (Sample count)) phase octets text ending → ending ≡ Done
 sample-final count Going octets text ending final = let same : Some Done ≡ Some ending = final.0 false [] in cc
 sample-final count Over octets text ending final = let same : Some Done ≡ Some ending = final.0 in cc
@@ -72,7 +72,7 @@ sample-memory : (count : ℕ) (phase : Phase) (octets text : List ℕ) → IsMem
 sample-memory count Broken octets text wants = wants
 sample-memory count phase octets text wants = Contains-none text wants
 
--- so it ends as Done where no write fails
+-- so it ends as Done if no write fails
 sample-done : (count : ℕ) (events : List Event) (end : FilterEnd) → IsRun (command_future (Sample count)) events end → AreWrites events → (end ≡ EndedWriteFault → ⊥) → filter_outcome end ≡ DoneOutcome
 sample-done count events (Ended ending) run writes no_fault =
     let at = after_all at_first events in
@@ -124,7 +124,7 @@ module _ (told left first last : Option (List ℕ)) (events : List Event) (outco
   call-memory None call is = tt
   call-memory (Some command) call is = memory-command command told left first last call.end (command-filtered command call) (sym call.outcome_is ∙ is)
 
-  -- without a fault the outcome is the answer for the input, or memory was wanting
+  -- without a fault the outcome is the result for the input, or an allocation failed
   command-complete : (command : Command) → IsCommandRun command events outcome → (input : List ℕ) → told ≡ Some input → (HasReadFault events → ⊥)
       → (HasWriteFault events → ⊥) → (outcome ≡ answer_of command input) ⊎ ((outcome ≡ Memory) × CanWantMemory command)
   command-complete command call input same no_read no_write =

@@ -13,11 +13,11 @@ use Rattle.p25_tool.specs.{Recorded.{IsRecording}, RecordedRuns.{AreWrittenOf, H
 use Rattle.p25_tool.specs.{Words.{command_of, forwarded, forwarding_of, one_word_command, sample_of, status_in}, Written.{HasEnded}}
 use Rattle.p25_tool.proofs.{RecordedLaws.{bridges-units, checks-units, follows-arrived, relays-units, repairs-units, shows-units}, RunsLaws.{answer-short}, WrittenLaws.{ended-wrote}}
 
--- where a command forwards under a network access code, the code is one
+-- if a command forwards under a network access code, the code has 12 bits
 abbrev pub HasFitCode : Command → Type 0
 HasFitCode command = (nac : ℕ) (status : Status) → (command ≡ Bridge nac status → nac < 4096) × (command ≡ Relay nac status → nac < 4096)
 
--- so it is where words name the command
+-- so it has if words name the command
 module _ (nac : ℕ) (status : Status) where
   abbrev IsFit : Option Command → Type 0
   IsFit named = (named ≡ Some (Bridge nac status) → nac < 4096) × (named ≡ Some (Relay nac status) → nac < 4096)

@@ -20,7 +20,7 @@ first-parts octets rest = elim (cases_lt input_most (length octets)) [
 ]
 
 module _ (command : Command) (input : List ℕ) where
-  -- the answer for an input that is too long, and for another
+  -- the result for an input that is too long, and for another
   answer-long : (outcome : Outcome) → input_most < length input → ending_or (ending_by command false (take input_most input)) TooLong ≡ outcome → outcome ≡ answer_of command input
   answer-long outcome long is = by_length (nat_lt input_most (length input)) (grind (arith, nat_tests))
     where
@@ -35,7 +35,7 @@ module _ (command : Command) (input : List ℕ) where
       by_length true same = cc
       by_length false same = sym is
 
-  -- the answer where the work ended by what the input holds
+  -- the result, if the work ended by the contents of the input
   module _ (told left first last : Option (List ℕ)) (octets : List ℕ) (taken : Taken told octets left) (is_told : told ≡ Some input) where
     answer-final : (ending : Ending) → IsFinal told first last (command_future command) octets ending → ending_outcome ending ≡ answer_of command input
     answer-final ending final = by_end final.ended final.all final.ends final.stays
@@ -66,7 +66,7 @@ module _ (command : Command) (input : List ℕ) where
               ∙ ap (λ (end : Option Ending). ending_or end TooLong) (stays refl false begun.0))
         ]
 
-    -- the answer for an input that is too long
+    -- the result for an input that is too long
     answer-too_long : IsTooLong first last (command_future command) octets → TooLong ≡ answer_of command input
     answer-too_long is =
         let parts = told-parts told left octets input taken is_told in
@@ -75,7 +75,7 @@ module _ (command : Command) (input : List ℕ) where
         answer-long TooLong (omega (arith, is.many, ap length parts.1, length-append octets rest))
         (ap (λ (xs : List ℕ). ending_or (ending_by command false xs) TooLong) same ∙ ap (λ (end : Option Ending). ending_or end TooLong) is.ends)
 
--- where memory is wanting, the command is one that takes it
+-- if an allocation fails, the command is one that allocates memory
 pub wanting-command : (command : Command) (told left first last : Option (List ℕ)) → Filtered told left first last (command_future command) NoMemory → CanWantMemory command
 wanting-command Stations told left first last worked = tt
 wanting-command Duplex told left first last worked = tt
@@ -92,7 +92,7 @@ memory-command command told left first last (Ended ending) worked is = absurd (e
 memory-command command told left first last NoMemory worked is = wanting-command command told left first last worked
 memory-command command told left first last end worked is = cc
 
--- without a fault of the source or of the sink the outcome is the answer for the input, or memory was wanting
+-- without a fault of the source or of the sink the outcome is the result for the input, or an allocation failed
 pub answer-without-faults : (command : Command) (told left first last : Option (List ℕ)) (end : FilterEnd)
     → Filtered told left first last (command_future command) end → (end ≡ ReadFault → ⊥) → (end ≡ WriteFault → ⊥)
     → (input : List ℕ) → told ≡ Some input → (filter_outcome end ≡ answer_of command input) ⊎ ((filter_outcome end ≡ Memory) × CanWantMemory command)

@@ -27,7 +27,7 @@ module _ {M W E S : Type 0} (rules : LineRules M) (wrap : W → M) (read : List 
   abbrev come_of : W → List E → Option Ending → LinesTaken M
   come_of w events refusal = record { texts = map text (steps_by step w events); machine = wrap (run_by step w events); refusal = refusal }
 
-  -- what comes of lines is what the events come to that they are read as
+  -- the result of lines is that of the events to which they decode
   came : (lines : List (List ℕ)) (number : ℕ) (w : W) → lines_taken rules.take number (wrap w) lines ≡ come_of w (read_of read lines) (refusal_in read number lines)
   unfolding lines_taken steps_by run_by read_of refusal_in
   came [] number w = refl
@@ -70,7 +70,7 @@ fragments-alike made = alike script_rules LongAt long_event_of long_step long_st
 pub duplex-alike : (made : DuplexState) → made ≡ first_duplex → line_future script_rules (first_line (DuplexAt made)) ≡ command_future Duplex
 duplex-alike made = alike script_rules DuplexAt duplex_event_of duplex_step duplex_step_line (λ w line. refl) first_duplex made _ _ (λ events. refl) (λ events. refl)
 
--- a step of `build` tells its unit, and no world is behind it
+-- a step of `build` is its data unit, without a world
 building : Unit {0} → UnitParts → Unit {0} × UnitParts
 building none unit = (none, unit)
 

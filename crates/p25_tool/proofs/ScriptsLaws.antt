@@ -34,7 +34,7 @@ use Rattle.p25_tool.specs.Scripts.{HasDuplexRun, HasLongRun, HasRun, IsDuplexScr
 abbrev Reading : Type 0 → Type 0
 Reading E = List ℕ → Result E LineFault
 
--- the lines are read as the events, and none is refused
+-- the lines decode to the events, and none is refused
 record AreReadAs {E : Type 0} (read : Reading E) (number : ℕ) (lines : List (List ℕ)) (events : List E) : Type 0 where
   pub events_are : read_of read lines ≡ events
   pub accepted : refusal_in read number lines ≡ None
@@ -75,7 +75,7 @@ ended-done : (ending : Ending) → ending_outcome ending ≡ Done → ending ≡
 ended-done EndDone is = refl
 ended-done ending is = cc is
 
--- each of the events that lines are read as is what each event is that a line is read as
+-- a condition on each event to which a line decodes is met by each of the events to which lines decode
 each-read : {E : Type 0} (read : Reading E) (Is : E → Type 0) → ((line : List ℕ) (event : E) → read line ≡ Ok event → Is event)
     → (lines : List (List ℕ)) (events : List E) → map read lines ≡ map (λ e. Ok e) events → EachIs Is events
 unfolding EachIs
@@ -85,7 +85,7 @@ each-read read Is known (line ∷ lines) (event ∷ events) same =
     let parts = head_of read line lines event events same in
     (known line event parts.0, each-read read Is known lines events parts.1)
 
--- the run of a command that reads each line as an event, and tells of its steps
+-- the run of a command that decodes each line to an event, and writes the lines of its steps
 module _ {E S : Type 0} (read : Reading E) (steps : List E → List S) (line : S → List ℕ) (closing : List E → List ℕ) (command : Command)
     (is : command_future command ≡ lines_future read steps line closing true) (told left first last : Option (List ℕ)) (input : List ℕ) (events : List E)
     (script : IsScript read input events) (is_told : told ≡ Some input) where
@@ -95,7 +95,7 @@ module _ {E S : Type 0} (read : Reading E) (steps : List E → List S) (line : S
   are : AreReadAs read 1 (lines_in true [] input) events
   are = read-as read (lines_in true [] input) events 1 script.lines
 
-  -- all lines that tell of the run were written where the work is done
+  -- all lines of the run were written if the work is done
   wrote-final : (octets : List ℕ) (ending : Ending) → IsFinal told first last (command_future command) octets ending → ending ≡ EndDone → Appended first (text events) last
   unfolding text
   wrote-final octets ending final done = by_end final.ended final.all final.ends final.wrote
@@ -115,7 +115,7 @@ module _ {E S : Type 0} (read : Reading E) (steps : List E → List S) (line : S
   wrote-done (Ended ending) worked same = wrote-final worked.octets ending worked.meets (ended-done ending same)
   wrote-done end worked same = cc same
 
-  -- the answer for such a script is Done
+  -- the result for such a script is Done
   answer-done : answer_of command input ≡ Done
   answer-done =
       let short : answer_of command input ≡ ending_or (ending_by command true input) OutcomeTooLong
@@ -140,7 +140,7 @@ module _ {E S : Type 0} (read : Reading E) (steps : List E → List S) (line : S
     counted = counted;
   }
 
--- what a run of a command says where its input is the script of some events
+-- the law of a run of a command whose input is the script of some events
 abbrev pub RunsAs : {E : Type 0} → Command → (List ℕ → List E → Type 0) → (Option (List ℕ) → Option (List ℕ) → List E → Outcome → Type 0) → Type 0
 RunsAs {E} command IsScriptFor HasRunFor =
     (told left first last : Option (List ℕ)) (input : List ℕ) (events : List E)

@@ -21,7 +21,7 @@ reads-write (Read octets ∷ events) are = reads-write events are
 reads-write (ReadFailed ∷ events) are = reads-write events are
 reads-write events are = absurd are
 
--- what was told is left, or holds still
+-- exposed octets stay if none are read or written
 kept-read : (first last : Option (List ℕ)) (octets input : List ℕ) → Consumes first last octets → octets ≡ [] → first ≡ Some input → last ≡ Some input
 kept-read None last octets input read none told = cc told
 kept-read (Some all) None octets input read none told = absurd read
@@ -35,7 +35,7 @@ kept-written (Some before) (Some now) octets held wrote none told =
     let same : before ≡ held = cc told in
     ap (λ (zs : List ℕ). Some zs) (wrote ∙ ap (λ (zs : List ℕ). before ++ zs) none ∙ append-nil before ∙ same)
 
--- what is known of what was told
+-- the final state of exposed octets is known
 known-told : (first last : Option (List ℕ)) (input : List ℕ) → first ≡ Some input → known first last ≡ last
 known-told None last input told = cc told
 known-told (Some all) last input told = refl
@@ -54,7 +54,7 @@ module _ {R W : Type 0} (remaining : R → Option (List ℕ)) (contents : W → 
   abbrev now : Option (List ℕ)
   now = contents (writer_in last)
 
-  -- whether or not each of both tells
+  -- whether or not the reader and the writer expose their octets
   pub streams-known : CallSays (command_of words) before (known before left) stood (known stood now) (HasReadFault events) (HasWriteFault events) (AreWrites events)
       (AreReads events) outcome
   streams-known =

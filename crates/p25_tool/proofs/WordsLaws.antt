@@ -6,7 +6,7 @@ use Rattle.p25_line.specs.Values.{number_below}
 use Rattle.p25_line.proofs.NumberLaws.{number_below-decimal, number_below-none}
 use Rattle.p25_tool.specs.Words.{status_in}
 
--- what reading a number of at most so much answers
+-- the result of decoding a number of at most so much
 abbrev pub IsNumberRead : ℕ → List ℕ → Option ℕ → Type 0
 IsNumberRead most word result = MatchOption result ((number : ℕ) → number ≤ most → decimal number ≢ word) (λ number. (number ≤ most) × (decimal number ≡ word))
 

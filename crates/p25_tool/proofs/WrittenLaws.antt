@@ -12,7 +12,7 @@ use Rattle.p25_filter.proofs.{LinesLaws.{refusal_in-err, refusal_in-nil, refusal
 use Rattle.p25_tool.specs.{declared.command.Command.{Command}, declared.command.Command.TheVariants.{Build, Stations, Fragments, Duplex, Sample}, Outcomes.{ending_outcome, filter_outcome}}
 use Rattle.p25_tool.specs.{Outputs.{command_future, ending_by, output_by}, Written.{AllIsWritten, HasEnded}}
 
--- a line that is refused is no end of the input, whatever lines are read as
+-- a line that is refused is no end of the input, whatever the decodings of the lines
 module _ {E : Type 0} (read : List ℕ → Result E LineFault) where
   refused-line : (number : ℕ) (lines : List (List ℕ)) (ending : Ending) → refusal_in read number lines ≡ Some ending → HasEnded (ending_outcome ending) → ⊥
   refused-line number [] ending is end = let none : None ≡ Some ending = sym (refusal_in-nil read number) ∙ is in absurd (cc)
@@ -55,7 +55,7 @@ module _ (command : Command) (input : List ℕ) (told first last : Option (List 
           Appended-same (ap (output_by command true) (take_all input_most octets few ∙ sym same)) wrote
       by_end false all ends wrote = Appended-same (before_end command (take input_most octets) input ending ends end) wrote
 
-  -- work that came to the end of its input wrote all of its output, whether it is told what was written or not
+  -- work that came to the end of its input wrote all of its output, whether or not the written octets are exposed
   pub ended-wrote : (left : Option (List ℕ)) (end : FilterEnd)
       → HasEnded (filter_outcome end) → Filtered told left first last (command_future command) end → Appended first (output_by command true input) last
   ended-wrote left (Ended ending) is worked = wrote-all ending worked.octets is worked.meets

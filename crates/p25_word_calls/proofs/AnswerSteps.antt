@@ -24,7 +24,7 @@ IsChange-erased same IsWord most list received word (Found fixes) is = is.fixes_
 IsChange-erased same IsWord most list received word Beyond is = is.unchanged
 
 module _ {L : Type 0} (same : L → L → Bool) (received word : List L) where
-  -- so its answer is that of the word that was read, or of none
+  -- so its result is that of the decoded word, or of none
   pub change_answer : (reading : Reading) (read : Option (List L)) → IsChange same received word reading → word_read reading word ≡ read → reading_answer reading ≡ fixes_answer same received read
   unfolding IsChange word_read fixes_answer
   change_answer (Found fixes) read is value = ap pos is ∙ ap (fixes_answer same received) value

@@ -4,7 +4,7 @@ use Rattle.p25_stations.specs.{Runs.{steps_of, world_run}, WorldState.{WorldStat
 use Rattle.p25_example_exchange.specs.Exchanges.{counts_text, events_of, exchange_text, steps_text}
 use Rattle.p25_example_exchange.proofs.print_exchange.Goals as goal
 
--- the lines of the steps, and then the counts where their write went well
+-- the lines of the steps, and then the counts if the lines were written without a fault
 text-by : {E : Type 0} (result : Result (Unit {0}) E) (first before now : Option (List ℕ)) (message octets : List ℕ) (steps : List Step) (world : WorldState) → message ≡ octets
     → steps ≡ steps_of first_world (events_of message 400) → world ≡ world_run first_world (events_of message 400)
     → Appends first before (steps_text steps) → OnOk result (Appends before now (counts_text world)) → OnOk result (Appends first now (exchange_text (events_of octets 400)))
