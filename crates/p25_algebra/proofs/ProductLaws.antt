@@ -220,7 +220,7 @@ module _ {F : Type 0} (K : Field F) where
       none : (i : ℕ) → q i ⊕ p i ≡ 𝟘
       none i = elim (zero_or_degree n difference short) [ inl zeros ↦ zeros i | inr (e, low, top) ↦ absurd (no_degree e top) ]
 
-  -- and so is what is left
+  -- and so are the remainders
   pub same_remainder : (n : ℕ) (b q p r t : ℕ → F) (d : ℕ) → IsDegree K b d
       → IsShort K n q → IsShort K n p → IsShort K d r → IsShort K d t → ((i : ℕ) → product_at K b q i ⊕ r i ≡ product_at K b p i ⊕ t i) → (i : ℕ) → r i ≡ t i
   same_remainder n b q p r t d degree short_q short_p short_r short_t same i =

@@ -1,5 +1,5 @@
--- The quotient of a polynomial by x + z, by Horner's rule at z: what it is if z is a zero, that it is the only one, and what it becomes if the
--- polynomial is multiplied by 1 + y x.
+-- The quotient of a polynomial by x + z, by Horner's rule at z: its product with x + z if z is a zero, that it is the only one, and the quotient of the
+-- polynomial times 1 + y x.
 use Rattle.std.proofs.{Common.{◌≡◌, ℕ, zero, suc, ◌+◌, ◌-◌, ◌<◌, ◌≤◌, refl, sym, ap, ap₂, ◌∙◌, inl, inr, arith}, lemmas.Bool.{cases_lt}}
 use Rattle.p25_gf64.specs.Field.{Field}
 use Rattle.p25_gf64.proofs.FieldLaws.{add_comm, add_assoc, add_left_comm, add_zero, add_twice, same_from_sum, mul_comm, mul_assoc, mul_left_comm, one_mul, mul_add, add_mul, mul_zero}

@@ -43,7 +43,7 @@ value_of_number : (word : List Bool) (i : ℕ) → length word ≡ 63 → value 
 value_of_number word i long =
     cc (number_value-suc gf64 _ 63 (field_of word) (simp long at (field_of-lt word)), bits_of-field_of word, value_of-symbols word 63 i long)
 
--- the errors between what was received and a word within 11 bits
+-- the errors between received bits and a codeword within 11 bits
 pub errors_of_bits : (received sent : List Bool) (number : ℕ) (syndromes : List Sym)
     → length received ≡ 63 → number ≡ field_of received → ((r : ℕ) → r < 24 → coefficient gf64 syndromes r ≡ value (r + 1) number)
     → IsBch63 sent → distance_of received sent ≤ 11
@@ -105,7 +105,7 @@ pub number_of_word : (n : ℕ) (word : List Bool) → n < 2 ^ 63 → bits_of 63 
 number_of_word n word fits same is =
     rw (← same, number_back) at (remainder_from_word word is)
 
--- in how many bits two numbers differ
+-- the number of bits in which two numbers differ
 pub numbers_apart : (m n : ℕ) → m < 2 ^ 63 → n < 2 ^ 63 → count_ones (bit_xor m n) ≡ distance_of (bits_of 63 m) (bits_of 63 n)
 numbers_apart m n m_fits n_fits =
     cc (number_back m m_fits, number_back n n_fits, ones-xor (bits_of 63 m) (bits_of 63 n) (simp length-bits_of))

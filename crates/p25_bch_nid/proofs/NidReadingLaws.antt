@@ -17,7 +17,7 @@ pub IsNidReading-nid_reading_of : (bits : List Bool) → IsNidReading bits (nid_
 unfolding nid_reading_of
 IsNidReading-nid_reading_of bits = as_nid bits _ (bch63_reads_as _)
 
--- wherever a word lies within 11 bits of the first 63, the reading is what it begins with
+-- if a codeword lies within 11 bits of the first 63, the decoding is the identifier with which that codeword begins
 pub nid_reading_of-word : (bits word : List Bool) → 63 ≤ length bits → IsBch63 word → distance_of (take 63 bits) word ≤ 11 → nid_reading_of bits ≡ Some (identifier_of_word word)
 unfolding nid_reading_of
 nid_reading_of-word bits word long isw near =

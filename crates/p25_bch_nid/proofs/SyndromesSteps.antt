@@ -36,7 +36,7 @@ value_at_place x v place small low =
     ∙ ap₂ gf64.add (simp (wider, length-bits_of)) (number_value-zero gf64 x k)
     ∙ add_zero gf64 _
 
--- an octet of an entry, and what it is to be, on numbers
+-- an octet of an entry, and its value by the law of the table, on numbers
 abbrev octet : ℕ → ℕ → ℕ
 octet b n = n / 2 ^ (8 * b) % 2 ^ 8
 

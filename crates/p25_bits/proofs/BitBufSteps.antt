@@ -1,5 +1,5 @@
--- What the calls of `BitBuf` need: the bits held are the first ones of its words. Each call on words states what the first bits are after it. So a
--- list is cut to its length at the end, and a bit at a position is a bit of its word.
+-- The steps that the calls of `BitBuf` need: the bits held are the first ones of its words. Each call on words states the first bits after it. So a list is cut
+-- to its length at the end, and a bit at a position is a bit of its word.
 use Rattle.std.proofs.Common.{◌≡◌, ℕ, zero, suc, ◌+◌, ◌-◌, ◌*◌, ◌/◌, ◌%◌, ◌^◌, ◌<◌, ◌≤◌, ◌≢◌, inl, inr, Bool, true, false, not, eqb, List, [], ◌∷◌, ◌++◌, length, take, drop, get_or, set, slice_get, Some, refl, ap, sym, ◌∙◌, arith, bit_and, bit_xor, mod-eq_of_lt, append_assoc, length-take, length-drop}
 use Rattle.std.proofs.{Math.Seq.{take-add, take-append-add}, lemmas.Bool.{cases_lt}, lemmas.Nat.{shl_whole, shl-shr, shr_below, one_shl}}
 use Rattle.std.proofs.lemmas.Nat.Bits.{bit_at_xor, bit_at-pow_same, bit_at-pow_other, bit_at-lt, shr_and_one}
@@ -18,7 +18,7 @@ length-held words len fits = length-take-le len _ (omega (arith, length-number_b
 pub length-room : (words : List ℕ) (len more : ℕ) (held : List Bool) → len ≤ 64 * length words → take len (number_bits 64 words) ≡ held → length held + more ≤ 25928 → len + more ≤ 25928
 length-room words len more held fits is room = omega (arith, length-held, ap length is)
 
--- so many more bits are held
+-- as many more bits are held as were added
 pub length-longer : (words changed : List ℕ) (len more : ℕ) (held : List Bool) → len ≤ 64 * length words → len + more ≤ 64 * length changed → take len (number_bits 64 words) ≡ held
     → length (take (len + more) (number_bits 64 changed)) ≡ length held + more
 length-longer words changed len more held fits fit is = omega (arith, length-held, ap length is)

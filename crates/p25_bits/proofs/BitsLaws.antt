@@ -5,7 +5,7 @@ use Rattle.std.proofs.{lemmas.Nat.Bits.{bit_at-lt, bit_at_cat_low, shr_and_one},
 use Rattle.std.specs.Int.{bit_at}
 use Rattle.p25_bits.specs.Bits.{digit_of, bits_of, field_after, field_of, octet_bits, flipped}
 
--- as many bits as were asked for
+-- as many bits as the width
 pub length-bits_of : (width number : ℕ) → length (bits_of width number) ≡ width
 unfolding bits_of
 length-bits_of zero number = refl

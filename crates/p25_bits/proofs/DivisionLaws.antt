@@ -6,7 +6,7 @@ use Rattle.std.specs.Int.Bits.{xor_assoc, xor_self}
 use Rattle.p25_bits.specs.Divisible.{multiple_of, IsDivisible, HasDegree, IsRemainder}
 use Rattle.p25_bits.proofs.DivisibleLaws.{IsDivisible-doubled, IsDivisible-sum, IsRemainder-lower, remainder_kept, remainder_reduced, xor_apart, xor_middle}
 
--- what is added twice is not there
+-- a number that is added twice cancels
 added_twice : (a b c : ℕ) → bit_xor (bit_xor a b) (bit_xor b c) ≡ bit_xor a c
 added_twice a b c = cc (xor_assoc a b _, xor_assoc b b c, xor_self b)
 
@@ -71,7 +71,7 @@ IsRemainder-times_x generator degree number r has is =
           rw (← cond_above _ _ _ _ _ high refl) (remainder_reduced generator degree number r 0 has digit is high)
     ]
 
--- what is computed so from a polynomial of lower degree is the remainder of its product with that power
+-- the result of this computation, for a polynomial of lower degree, is the remainder of its product with that power
 pub IsRemainder-times_power : (generator degree k number : ℕ) → HasDegree generator degree → number < 2 ^ degree → IsRemainder generator degree (number * 2 ^ k) (times_power generator degree k number)
 unfolding times_power
 IsRemainder-times_power generator degree zero number has small =

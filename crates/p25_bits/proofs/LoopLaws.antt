@@ -1,4 +1,4 @@
--- What each step of the loops needs that write bits of numbers and read numbers from bits: one more element of the list so far.
+-- The steps of the loops that write bits of numbers and read numbers from bits: one more element of the list so far.
 use Rattle.std.proofs.Common.{◌≡◌, ℕ, ◌+◌, ◌-◌, ◌*◌, ◌/◌, ◌%◌, ◌^◌, ◌<◌, ◌≤◌, Bool, List, ◌++◌, length, take, drop, set, eqb, bit_and, ap, ◌∙◌, append_assoc, append-nil, arith}
 use Rattle.std.proofs.lemmas.{List.{take_more_set, take_all}, Nat.{div-mul-add, mod-mul-add}}
 use Rattle.p25_bits.specs.{Bits.{bits_of, field_of, part}, Numbers.{numbers_from}}

@@ -50,7 +50,7 @@ drop-number_bits width i numbers inside =
 pub number_bits-drop_more : (width i : ℕ) (numbers : List ℕ) → i < length numbers → number_bits width (drop i numbers) ≡ bits_of width (get_or numbers i 0) ++ number_bits width (drop (i + 1) numbers)
 number_bits-drop_more width i numbers inside = rw number_bits-cons at (ap (number_bits width) (drop_more numbers i 0 inside))
 
--- what a list of numbers adds to bits
+-- the number of bits that one more number adds
 pub more_bits : (before width count : ℕ) → (before + width * count) + width ≡ before + width * (count + 1)
 more_bits before width count = rw add-one (omega arith)
 
@@ -66,7 +66,7 @@ pub bits_of-field : (width at : ℕ) (bits : List Bool) → at + width ≤ lengt
 bits_of-field width at bits there =
     rw length-part at (bits_of-field_of (part at width bits))
 
--- a number read from so many bits is below that power of two
+-- a number that is read from `width` bits is below that power of two
 pub field-lt : (width at : ℕ) (bits : List Bool) → field_of (part at width bits) < 2 ^ width
 field-lt width at bits =
     let few : length (part at width bits) ≤ width = omega (arith, length-take width (drop at bits)) in
@@ -214,7 +214,7 @@ unfolding each_below
 each_below-same zero f g same = refl
 each_below-same (suc n) f g same = rw (each_below-same n f g (λ j inside. same j (omega arith)), same n (omega arith))
 
--- what each value has, each element has
+-- a property that each value has, each element has
 pub All-each_below : {X : Type 0} (P : X → Type 0) (n : ℕ) (f : ℕ → X) → ((j : ℕ) → j < n → P (f j)) → All P (each_below n f)
 unfolding each_below
 All-each_below P zero f each = All-nil P
@@ -283,7 +283,7 @@ unfolding joined_below
 joined_below-same zero f g same = refl
 joined_below-same (suc n) f g same = rw (joined_below-same n f g (λ j inside. same j (omega arith)), same n (omega arith))
 
--- what all elements of each list have, all elements have
+-- a property that all elements of each list have, all elements have
 pub All-joined_below : {X : Type 0} (P : X → Type 0) (n : ℕ) (f : ℕ → List X) → ((j : ℕ) → j < n → All P (f j)) → All P (joined_below n f)
 unfolding joined_below
 All-joined_below P zero f each = All-nil P

@@ -1,4 +1,4 @@
--- What the calls on words need. The shifts of one word are parts of its bits, by the laws of `bits_of` at the sum that each shift is. A list of words
+-- The laws that the calls on words need. The shifts of one word are parts of its bits, by the laws of `bits_of` at the sum that each shift is. A list of words
 -- is the words before a position, the word at it, and those after it.
 use Rattle.std.proofs.Common.{◌≡◌, ℕ, ◌+◌, ◌-◌, ◌*◌, ◌/◌, ◌%◌, ◌^◌, ◌<◌, ◌≤◌, Bool, List, ◌++◌, length, take, drop, get_or, set, ap, ap₂, sym, subst, ◌∙◌, arith, bit_and, bit_or, bit_xor, append_assoc, length-append, length-drop, pow-add}
 use Rattle.std.proofs.{Math.Nat.{mul_assoc}, Math.Seq.{take-add, take-append-add}}

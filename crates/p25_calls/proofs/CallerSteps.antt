@@ -13,7 +13,7 @@ unit-there (Whole at frame fixes) place end is ends = (is, sym ends)
 unit-there (Broken at count nac duid fields) place end is ends = (is, sym ends)
 unit-there item place end is ends = tt
 
--- ---- what every caller keeps
+-- ---- the invariant of every caller
 
 one-few : (b : Bool) (taken : ℕ) → 0 + cond b 1 0 ≤ taken + 1
 one-few true taken = omega arith
@@ -50,7 +50,7 @@ run-pending reached taken (Some call) held unit at =
       | false ↦ alone-pending unit taken
     ]
 
--- what holds of a run holds of what a unit leaves open of it
+-- a property of a run also holds for the part of it that a data unit leaves open
 left-if : (P : Call → Type 0) (run : Call) (unit : UnitSeen) → P run → IfSome (pending_run run unit) P
 left-if P run unit holds = elim (is_voice unit && not (is_terminator unit)) as (λ (b : Bool). IfSome (cond b (Some run) None) P) [ true ↦ holds | false ↦ tt ]
 

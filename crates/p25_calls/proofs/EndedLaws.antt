@@ -7,7 +7,7 @@ use Rattle.p25_calls.specs.{declared.call.Call.{Call}, declared.seen.UnitSeen.{U
 use Rattle.p25_calls.specs.{Runs.{Run, closed_runs, last_unit, runs_by, runs_of, units_in}, Calls.{calls_among, is_call}, Taking.{broken_off, ended_call, if_linked, pending_run, run_with}}
 use Rattle.p25_calls.proofs.{RunsLaws.{IsCutBefore, IsUnbroken, runs_of-run}, CallLaws.{calls_among-none, calls_among-voice}, LastRunLaws.{Holds, LastRun, last-run, none, pending_units, some}}
 
--- ---- kinds of units
+-- ---- types of data units
 
 -- a terminator is a voice unit, and no link unit
 pub record IsEndOnly (unit : UnitSeen) : Type 0 where
@@ -26,7 +26,7 @@ packet-open : (unit : UnitSeen) → is_voice unit ≡ false → is_terminator un
 packet-open unit packet =
     let is = eqb-true unit.duid 0xC (not-false (nat_eq unit.duid 0xC) packet) in rw is
 
--- ---- what a unit ends and leaves
+-- ---- the run that a data unit ends, and the one that it leaves
 
 pub record Stepped (before : Option Run) (unit : UnitSeen) (answer pending : Option Call) : Type 0 where
   pub behind : Option Run

@@ -17,7 +17,7 @@ joined-bools voice same header near = refl
 far-not_near : (place end : ℕ) → nat_lt end place ≡ not (nat_le place end)
 far-not_near place end = grind (arith, nat_tests)
 
--- the call of a run that a further unit may join, with what is known of its last unit
+-- the call of a run that a further data unit may join, with the facts about its last data unit
 pub record Pends (reached : ℕ) (call : Call) (run : Run) : Type 0 where
   pub is : call ≡ call_of run
   pub unbroken : IsUnbroken run.first run.others
@@ -47,7 +47,7 @@ unfoldable pub pending_units : Option Run → List UnitSeen
 pending_units None = []
 pending_units (Some run) = units_in run
 
--- what is known of the run that a unit is the last of
+-- the facts about the run whose last data unit is a given one
 pub record LastRun (pending : Option Call) (before : Option Run) (unit : UnitSeen) : Type 0 where
   pub last : Run
   pub is : run_with pending unit ≡ call_of last

@@ -57,7 +57,7 @@ answers-unit ended reached end taken pending before holds more (Some unit) at it
     ap (λ (calls : List Call). option_to_list (ended_call pending unit) ++ calls) (rest left step.behind (subst (λ (e : ℕ). Holds e left step.behind) at.1 step.holds))
     ∙ sym (step.calls ended (units_of items))
 
--- at the end what is open is the last run
+-- at the end the open run is the last one
 open-run : (ended : Bool) (call : Call) (run : Run) (reached : ℕ) → Pends reached call run → cond ended (option_to_list (if_linked call)) [] ≡ calls_among (runs_by ended (units_in run ++ []))
 unfolding runs_by closed_runs
 open-run true call run reached pends =

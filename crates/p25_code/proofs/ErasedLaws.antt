@@ -7,7 +7,7 @@ use Rattle.p25_code.specs.{declared.code.Reading.{Reading}, declared.code.Readin
 use Rattle.p25_code.specs.{Erasures.{without_erased, erasures_in, erasure_weight, letter_distance, kept_distance, erased_cost, IsErasedReading}, ErasedReadings.{IsErasedReadAs, IsWithinCost}}
 use Rattle.p25_code.proofs.ReadingLaws.{IsBlockCode, near_words}
 
--- a list with erasures is as long as what was received
+-- a list with erasures is as long as the received word
 pub length-without_erased : {L : Type 0} (received : List L) (erased : List Bool) → length (without_erased received erased) ≡ length received
 unfolding without_erased
 length-without_erased [] erased = refl
@@ -138,7 +138,7 @@ module _ {L : Type 0} {same : L → L → Bool} {IsWord : List L → Type 0} {n 
     unfolding IsErasedReadAs
     erased_read_as_sent list sent answer long is sent_is near = one_erased_reading list answer (Some sent) long is (record { word_of_set = sent_is; within = near })
 
-    -- what a reader leaves is the word within the cost, wherever there is one
+    -- a reader leaves the codeword within the cost, if there is one
     pub erased_reading_sent : (list : List (Option L)) (received word sent : List L) (reading : Reading)
         → length list ≡ n → IsErasedReading same IsWord most list received word reading → IsWord sent → erased_cost same list sent ≤ most
         → word ≡ sent

@@ -48,7 +48,7 @@ read_as_same_set A B radius received None to from is = record { farther = λ w b
 none_are_wrong : (columns : List ℕ) (radius : ℕ) → AreWrong columns radius 0 0
 none_are_wrong columns radius = record { fits = pow_pos _; sums = number_sum-zero columns; within = omega (arith, ones_le_self 0) }
 
--- a 1 before so many check bits
+-- a 1 before a number of check bits
 pub one_place : (places checks : ℕ) → places ≡ checks → checks ≤ 16 → 1 * 2 ^ places % 2 ^ 32 ≡ 2 ^ checks
 one_place places checks same few =
     rw (same, shl_whole 1 1 checks 32 (omega arith) (omega arith)) (omega arith)
@@ -187,7 +187,7 @@ read_by_number IsWord radius n reading_of reads old new received sent reading lo
     let bits : bits_of n received ≡ old = rw (e, ← long) (bits_of-field_of old) in
     reading_put IsWord radius n old new sent reading (rw (read, bits) (reads old)) (rw long at put)
 
--- what an encoder by numbers writes is the encoding of the bits
+-- the codeword that an encoder by numbers writes is the encoding of the bits
 pub encode_by_number : (encoding : List Bool → List Bool) (k n : ℕ) (info word : List Bool) (number made : ℕ)
     → length info ≡ k → number ≡ field_of info → bits_of n made ≡ encoding (bits_of k number) → word ≡ bits_of n made → word ≡ encoding info
 encode_by_number encoding k n info word number made long e is whole = rw (whole, is, e, ← long, bits_of-field_of info) refl

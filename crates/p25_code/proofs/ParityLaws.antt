@@ -48,7 +48,7 @@ syndrome_of-mixed mix (column ∷ columns) (bit ∷ word) =
     ap₂ bit_xor (sum-chosen mix bit column) (syndrome_of-mixed mix columns word) ∙ sym (number_sum-xor mix _ (syndrome_of columns word))
 syndrome_of-mixed mix columns word = sym (number_sum-zero mix)
 
--- so what passes the checks passes their sums
+-- so a word that passes the checks passes their sums
 pub mixed_passes : (mix columns : List ℕ) (word : List Bool) → syndrome_of columns word ≡ 0 → syndrome_of (map (number_sum mix) columns) word ≡ 0
 mixed_passes mix columns word passes = cc (syndrome_of-mixed mix columns word, passes, number_sum-zero mix)
 

@@ -57,7 +57,7 @@ module _ {L : Type 0} {same : L → L → Bool} {IsWord : List L → Type 0} {n 
   one_near received v w long first second =
       found_sent received v w (distance_by same received v) long (record { word_of_set = first.word_of_set; fixes_is = refl; within = first.within }) second.word_of_set second.within
 
-  -- so what was received has one reading
+  -- so a received word has one decoding
   pub one_reading : (received : List L) (a b : Option (List L)) → length received ≡ n → IsReadAs same IsWord radius received a → IsReadAs same IsWord radius received b → a ≡ b
   unfolding IsReadAs
   one_reading received None None long first second = refl

@@ -14,7 +14,7 @@ power_remainder generator degree (suc n) =
     let below = power_remainder generator degree n in
     cond (ltb (2 * below) (2 ^ degree)) (2 * below) (bit_xor (2 * below) generator)
 
--- the remainders of so many powers, the highest first
+-- the remainders of the powers below a number, the highest first
 unfoldable pub remainders : ℕ → ℕ → ℕ → List ℕ
 remainders generator degree zero = []
 remainders generator degree (suc n) = power_remainder generator degree n ∷ remainders generator degree n
@@ -36,7 +36,7 @@ next generator degree number r has is =
     ]
 
 module _ {generator degree : ℕ} (has : HasDegree generator degree) (some : 1 < 2 ^ degree) where
-  -- what is called the remainder of a power is its remainder
+  -- the remainder of a power by its definition is the remainder
   pub IsRemainder-power : (n : ℕ) → IsRemainder generator degree (2 ^ n) (power_remainder generator degree n)
   unfolding power_remainder
   IsRemainder-power zero = IsRemainder-lower generator degree 1 some
@@ -65,7 +65,7 @@ module _ {generator degree : ℕ} (has : HasDegree generator degree) (some : 1 <
   remainders-divisible word divisible =
       IsRemainder-unique generator degree (field_of word) _ 0 has (IsRemainder-word word) (remainder_from_divisible generator degree (field_of word) divisible)
 
-  -- and the other way round
+  -- and conversely
   pub divisible-remainders : (word : List Bool) → syndrome_of (remainders generator degree (length word)) word ≡ 0 → IsDivisible generator (field_of word)
   divisible-remainders word none =
       divisible_from_remainder generator degree (field_of word) (rw none at (IsRemainder-word word))

@@ -1,4 +1,4 @@
--- Weights of words, sums of words, and a test of all lists of so many bits.
+-- Weights of words, sums of words, and a test of all lists of a number of bits.
 use Rattle.std.proofs.{Common.{◌≡◌, ℕ, zero, suc, ◌+◌, Bool, true, false, not, eqb, List, [], ◌∷◌, ◌++◌, length, refl, ap, ap₂, ◌∙◌, arith}, lemmas.Bool.{and_parts}}
 use Rattle.std.proofs.lemmas.Nat.Bits.{bit_at-zero}
 use Rattle.std.specs.Int.Bits.{xor_zero_l}
@@ -6,7 +6,7 @@ use Rattle.p25_bits.specs.{Bits.{digit_of, bits_of}, Distance.{distance_by, dist
 use Rattle.p25_bits.proofs.BitsLaws.{bits_of-suc, bits_of-zero}
 use Rattle.p25_code.specs.{Binary.{syndrome_of, weight_of, change_of}, CodeLaws.{all_bits}}
 
--- what a true test says of each of them
+-- a test that is true of all of them is true of each
 pub all_bits-each : (bits : List Bool) (test : List Bool → Bool) → all_bits (length bits) test ≡ true → test bits ≡ true
 unfolding all_bits
 all_bits-each [] test h = h
@@ -50,7 +50,7 @@ weight_of-sum_of_words (true ∷ xs) (false ∷ ys) long = rw (weight_of-sum_of_
 weight_of-sum_of_words (false ∷ xs) (true ∷ ys) long = rw (weight_of-sum_of_words xs ys (omega arith))
 weight_of-sum_of_words (false ∷ xs) (false ∷ ys) long = rw (weight_of-sum_of_words xs ys (omega arith))
 
--- so its syndrome is what is changed between them
+-- so its syndrome is the change between them
 pub syndrome_of-sum_of_words : (columns : List ℕ) (xs ys : List Bool) → syndrome_of columns (sum_of_words xs ys) ≡ change_of columns xs ys
 unfolding sum_of_words syndrome_of change_of
 syndrome_of-sum_of_words (column ∷ columns) (true ∷ xs) (true ∷ ys) = rw (syndrome_of-sum_of_words columns xs ys)

@@ -105,11 +105,11 @@ high_fits rows checks number fits = shr_below number (length rows) checks (rw (l
 low_fits : (checks number : ℕ) → number % 2 ^ checks < 2 ^ checks
 low_fits checks number = mod_below number _ (pow_pos checks)
 
--- what is added twice is not there
+-- a number that is added twice cancels
 pub twice : (a b : ℕ) → bit_xor a (bit_xor a b) ≡ b
 twice a b = rw (← xor_assoc, xor_self a) (xor_zero_l b)
 
--- check bits alone are wrong
+-- bit errors in check bits alone
 pub checks_wrong : (rows : List ℕ) (checks radius sum : ℕ) → sum < 2 ^ checks → count_ones sum ≤ radius → AreWrong (rows ++ check_columns checks) radius sum sum
 checks_wrong rows checks radius sum small few =
     let alone : 0 * 2 ^ checks + sum ≡ sum = omega arith in
@@ -119,7 +119,7 @@ checks_wrong rows checks radius sum small few =
       within = few;
     }
 
--- one bit of information is wrong, and the check bits that are then left of the sum
+-- a bit error in one bit of information, and in the check bits that are then left of the sum
 pub row_wrong : (rows : List ℕ) (checks radius sum i rest wrong : ℕ) → i < length rows → rest < 2 ^ checks → rest ≡ bit_xor sum (get_or rows i 0) → count_ones rest < radius
     → wrong ≡ 2 ^ (length rows - 1 - i) * 2 ^ checks + rest → AreWrong (rows ++ check_columns checks) radius sum wrong
 row_wrong rows checks radius sum i rest wrong inside small e few whole =
@@ -229,7 +229,7 @@ row-lt checks [] i fit inside = absurd (omega arith)
 row-lt checks (row ∷ rows) zero fit inside = ltb-true row _ (and_parts (ltb row _) (rows_fit checks rows) fit).0
 row-lt checks (row ∷ rows) (suc i) fit inside = row-lt checks rows i (and_parts (ltb row _) (rows_fit checks rows) fit).1 (omega arith)
 
--- if at most one bit is wrong, at most one bit of information is
+-- if there is at most one bit error, at most one is in the information
 none_by_one_row : (columns : List ℕ) (checks sum : ℕ) → NoneByRows columns checks 1 sum → NoneWrong columns 1 sum
 none_by_one_row columns checks sum none = record {
   farther = λ wrong fits sums. elim (cases_lt 1 (count_ones wrong)) [

@@ -71,7 +71,7 @@ module _ (places : List ℕ) (size each n information : ℕ) (inner_reading : Li
   unfolding word_read
   outer_word_found received answer word fixes found is = (read_within received word (sym (rw found at is))).word_of_set
 
-  -- a field that was read has an outer word near to what was received, which begins with its information
+  -- a field that was decoded has an outer word near to the received one, which begins with its information
   word_of_reading : (received : List Bool) (info : List Sym) → field_reading_of coded received ≡ Some info
       → (word : List Sym) × IsWithinCost same_symbols (IsWord n information) (n - information) (received_in coded received) word × (take information word ≡ info)
   unfolding field_reading_of

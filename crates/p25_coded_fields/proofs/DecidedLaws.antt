@@ -80,7 +80,7 @@ pub first_none : {X : Type 0} (reading : ℕ → Option X) → first_found 0 rea
 unfolding first_found
 first_none reading = refl
 
--- what an earlier reading found stays
+-- the result of an earlier decoding stays
 pub first_stays : {X : Type 0} (n more : ℕ) (reading : ℕ → Option X) (x : X) → first_found n reading ≡ Some x → first_found (more + n) reading ≡ Some x
 unfolding first_found
 first_stays n zero reading x found = let same : 0 + n ≡ n = omega arith in ap (λ m. first_found m reading) same ∙ found
@@ -151,7 +151,7 @@ pub none_from : {X : Type 0} (read : Option X) → false ≡ is_some read → re
 none_from None nothing = refl
 none_from (Some x) nothing = absurd (cc)
 
--- what the first reading of all finds is found
+-- the result of the first decoding of all is the result
 pub first_some : {X : Type 0} (most : ℕ) (reading : ℕ → Option X) (read : Option X) → reading 0 ≡ read → true ≡ is_some read → first_found (suc most) reading ≡ read
 first_some most reading None is found = absurd (cc)
 first_some most reading (Some x) is found =
@@ -176,7 +176,7 @@ pub first_reading : (outer : List (Option Sym) → Option (List Sym)) (word : Li
 unfolding read_marking
 first_reading outer word each n rank whole = ap (λ ms. outer (without_erased word ms)) (marks_none each n rank (length word) whole)
 
--- what is found by ranks that are those of the order
+-- the result for ranks that are those of the order
 pub decided_same : (outer : List (Option Sym) → Option (List Sym)) (words : InnerWords) (costs : List ℕ) (most each n : ℕ) (rank : ℕ → ℕ) (word : List Sym)
     → word ≡ symbols_read words costs → each ≡ words.each → n ≡ words.count → ((k : ℕ) → k < words.count → rank k ≡ rank_at words costs k)
     → first_found (suc most) (read_marking outer word each n rank) ≡ word_decided words outer most costs
@@ -192,7 +192,7 @@ pub symbols_same : (outer : List (Option Sym) → Option (List Sym)) (words : In
 unfolding symbols_decided
 symbols_same outer words costs most word found read same = ap₂ symbols_or read same
 
--- what is found with no symbol erased decides
+-- a result with no symbol erased decides
 pub decided_whole : (outer : List (Option Sym) → Option (List Sym)) (words : InnerWords) (costs : List ℕ) (most : ℕ) (word : List Sym) (read : Option (List Sym))
     → word ≡ symbols_read words costs → words.each * words.count ≡ length word → read ≡ outer (without_erased word (replicate (length word) false)) → true ≡ is_some read
     → read ≡ word_decided words outer most costs

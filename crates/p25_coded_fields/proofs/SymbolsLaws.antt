@@ -8,7 +8,7 @@ use Rattle.p25_gf64.specs.declared.symbol.Sym.{Sym}
 use Rattle.p25_link.specs.Symbols.{symbols_in, symbol_bits}
 use Rattle.p25_link.proofs.SymbolsLaws.{length-symbol_bits, number-symbols_in, same_symbols_list}
 
--- bits after those that are asked for do not matter
+-- bits after those that are needed do not matter
 pub symbols_in-take : (n count : ℕ) (bits : List Bool) → 6 * n ≤ count → 6 * n ≤ length bits → symbols_in n (take count bits) ≡ symbols_in n bits
 symbols_in-take n count bits inside there =
     same_symbols_list _ (symbols_in n bits)
@@ -22,7 +22,7 @@ symbols_info k number symbols is sixes = rw (is, ← sixes, ← length-symbol_bi
 pub one_more : (each i : ℕ) → each * i + each ≡ each * (i + 1)
 one_more each i = rw add-one (omega (arith, mul-suc))
 
--- a group of so many is there
+-- a group within the count is there
 pub room_at : (each i count n : ℕ) → i < count → each * count ≡ n → each * i + each ≤ n
 room_at each i count n inside covers =
     let next : i + 1 ≤ count = omega arith in

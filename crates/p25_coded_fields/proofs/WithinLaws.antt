@@ -71,7 +71,7 @@ erased_cost-itself word =
 
 module _ {IsInnerWord : List Bool → Type 0} {inner_radius : ℕ}
     {IsOuterWord : List Sym → Type 0} {checks : ℕ} {layout : Layout} (codes : HasCodes IsInnerWord inner_radius IsOuterWord checks layout) where
-  -- what a received word gives, and how many symbols of it are lost
+  -- the symbols or erasures of a received inner word, and the number of its symbols if it has too many bit errors
   abbrev given : List Bool → List (Option Sym)
   given bits = symbols_or_erasures layout.each (layout.inner_reading bits)
 
@@ -120,7 +120,7 @@ module _ {IsInnerWord : List Bool → Type 0} {inner_radius : ℕ}
   unfolding received_in sent_in lost_symbols
   near_from_lost info sent received has there few = record { near = omega (arith, pieces_cost sent received, few) }
 
-  -- what was received without damage costs nothing
+  -- a word that was received without damage costs nothing
   pub near_itself : (info : List Sym) (sent : List Bool) → HasField IsInnerWord IsOuterWord layout info sent
       → All (λ at. at + layout.size ≤ length sent) layout.places → IsFieldNear checks layout sent sent
   near_itself info sent has there = near_from_lost info sent sent has there (omega (arith, lost_symbols-itself))

@@ -30,7 +30,7 @@ halves : ℕ → List ℕ → List ℕ
 halves r [] = []
 halves r (x ∷ xs) = kept (eqb (x % 2) r) (x / 2) (halves r xs)
 
--- whether two lists have no number in common, as far as so many bits show it
+-- whether two lists have no number in common, as far as a given number of bits shows it
 disjoint : ℕ → List ℕ → List ℕ → Bool
 disjoint k [] ys = true
 disjoint k (x ∷ xs) [] = true
@@ -64,7 +64,7 @@ none_in_both (suc k) v (x ∷ xs) (y ∷ ys) e first second =
           none_in_both k (v / 2) (halves 1 (x ∷ xs)) (halves 1 (y ∷ ys)) both.1 (Has-halves 1 v (x ∷ xs) odd first) (Has-halves 1 v (y ∷ ys) odd second)
     ]
 
--- the remainders of so many powers of x times a polynomial, and each of some polynomials plus 1
+-- the remainders of a number of powers of x times a polynomial, and each of some polynomials plus 1
 powers : ℕ → ℕ → ℕ → ℕ → List ℕ
 powers divisor width zero r = []
 powers divisor width (suc n) r = r ∷ powers divisor width n (times_x divisor width r)
@@ -92,7 +92,7 @@ Has-powers divisor width (suc n) (suc i) r low =
     inr (subst (λ v. Has v (powers divisor width n (times_x divisor width r))) (times_power-first divisor width i r)
     (Has-powers divisor width n i (times_x divisor width r) (omega arith)))
 
--- the remainders of x, x^2 and so on, so many
+-- the remainders of the powers of x from x on, as many as given
 from_x : ℕ → ℕ → ℕ → List ℕ
 from_x divisor width n = powers divisor width n (times_x divisor width 1)
 
@@ -104,7 +104,7 @@ none_is_one divisor width n = disjoint width (from_x divisor width n) (1 ∷ [])
 pub none_differ_by_one : ℕ → ℕ → ℕ → Bool
 none_differ_by_one divisor width n = disjoint width (from_x divisor width n) (plus_one (from_x divisor width n))
 
--- what the checker computes: the remainders of x to x^95, of x to x^143 and of x to x^12191
+-- the tests that are computed: for the remainders of x to x^95, of x to x^143 and of x to x^12191
 pub header_none : none_is_one header_divisor 16 95 ≡ true
 unfolding none_is_one disjoint kept halves powers from_x times_x
 header_none = refl
@@ -282,7 +282,7 @@ module _ (divisor width n : ℕ) (has : HasDegree divisor width) (odd : divisor 
       none_in_both width a (from_x divisor width n) (plus_one (from_x divisor width n)) none (Has-from_x divisor width n i p.2)
       (subst (λ v. Has v (plus_one (from_x divisor width n))) (sym same) (Has-plus_one b (from_x divisor width n) (Has-from_x divisor width n j p.3)))
 
-  -- so a multiple of at most so many coefficients has three that are not 0, or four
+  -- so a multiple with at most this number of coefficients has three that are not 0, or four
   pub three_at_least : none_is_one divisor width n ≡ true → (m : ℕ) → 0 < m → m < 2 ^ suc n → IsDivisible divisor m → 3 ≤ count_ones m
   three_at_least none m some short d =
       let l = lowest divisor (suc n) m odd some short d in

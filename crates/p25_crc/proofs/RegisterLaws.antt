@@ -66,7 +66,7 @@ octets_in_two before m n octets same =
 pub octets_none : (before : List Bool) → field_of (before ++ octet_bits []) ≡ field_of before
 octets_none before = ap (λ bits. field_of (before ++ bits)) octet_bits-nil ∙ ap field_of (append-nil before)
 
--- seven bits of a serial number write what its octet writes
+-- the seven bits of a serial number and its octet are the same number
 pub serial_octet : (serial : ℕ) → serial < 128 → field_of ([] ++ octet_bits (serial ∷ [])) ≡ field_of (bits_of 7 serial)
 serial_octet serial small =
     let fits : serial < 2 ^ 8 = omega arith in
@@ -75,7 +75,7 @@ serial_octet serial small =
     ∙ mod-eq_of_lt fits
     ∙ sym (field_of-bits_of 7 serial ∙ mod-eq_of_lt small)
 
--- the highest bits of the register, inverted, are the check of what was taken in
+-- the highest bits of the register, inverted, are the check of the bits that it took
 pub IsCheck-register : (divisor width extra : ℕ) (message : List Bool) (register : ℕ) → width + extra ≡ 32 → IsRemainder (divisor * 2 ^ extra) 32 (field_of message * 2 ^ 32) register
     → IsCheck divisor width message (bit_xor (register / 2 ^ extra) (2 ^ width - 1))
 IsCheck-register divisor width extra message register whole is =

@@ -49,7 +49,7 @@ abbrev entry : List (List ℕ) → ℕ → ℕ → ℕ
 entry tables place v = get_or (get_or tables place []) v 0
 
 module _ (divisor : ℕ) (tables : List (List ℕ)) (are : AreRemainders divisor tables) where
-  -- what the tables say
+  -- the contents of the tables
   entry-is : (place v : ℕ) → place < 4 → v < 256 → IsRemainder divisor 32 (v * 2 ^ (32 + 8 * place)) (entry tables place v)
   unfolding AreRemainders
   entry-is = are

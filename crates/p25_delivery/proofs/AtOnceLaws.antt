@@ -77,7 +77,7 @@ whole-message message = record {
   all = holds-all message (block_count (length message));
 }
 
--- what is read back is delivered
+-- the message that is read back is delivered
 completed-read_back : (r : Receiving) (number : ℕ) (kept : Keeping) (found : Option (List ℕ)) (message : List ℕ) → unpadded_option found kept.pad ≡ Some message →
     completed r number kept found ≡ (record { last = number; kept = None }, Delivered number message (ack_packet number))
 unfolding completed finished unpadded_option

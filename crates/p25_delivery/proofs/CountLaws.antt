@@ -13,7 +13,7 @@ use Rattle.p25_delivery.proofs.SenderLaws.{IsSame, Resends, resent-of, timeout-o
 use Rattle.p25_delivery.proofs.{SessionLaws.{IsMarked, IsDivided, ended_sessions, sessions-split, present-sent, present-acknowledged, present-marked, first-divided}, EndedLaws.{happens-divided}}
 use Rattle.p25_delivery.proofs.{CallLaws.{offer-held}, RunLaws.{each-all, run-keeps_all}}
 
--- the numbers sent and acknowledged, by what is outstanding
+-- the numbers sent and acknowledged, by the outstanding packet
 unfoldable CountsBy : Outstanding → ℕ → ℕ → Type 0
 CountsBy (Message message) sent acknowledged = sent ≡ acknowledged + 1
 CountsBy other sent acknowledged = sent ≡ acknowledged
@@ -29,7 +29,7 @@ unfolding CountsBy
 counted-present Nothing s e = record { acknowledged = omega arith; sent = omega arith }
 counted-present out s e = record { acknowledged = omega arith; sent = omega arith }
 
--- the counts with what is outstanding under another name
+-- the counts with the outstanding packet under another name
 counts-at : (w : Delivery) (out : Outstanding) → out ≡ w.outbound.sender.outstanding → HasCounts w → CountsIn out (present_session w)
 counts-at w out e h = rw e h
 
@@ -96,7 +96,7 @@ reopen-counts w out o h =
       | inr e ↦ rw e (subst (CountsIn (Opening (opening_number w.outbound.sender.outstanding w.outbound.sender.next))) (sym (present-marked w)) refl)
     ]
 
--- a packet that the sender hears
+-- a packet that the sender receives
 
 AfterAnswer : Delivery → Sending × SenderHeard → Type 0
 AfterAnswer w x = HasCounts (with_outbound w (after_answer w.outbound x)).0

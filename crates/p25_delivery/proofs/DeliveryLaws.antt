@@ -24,7 +24,7 @@ use Rattle.p25_delivery.proofs.CallLaws.{newest, delivery_of_sender, busy-sender
 abbrev delivery_of_answer : Delivery → Receiving → Packet → Delivery
 delivery_of_answer w r packet = record w { inbound = record w.inbound { receiver = r }; answer = Some packet }
 
--- the receiver hears a packet
+-- the receiver receives a packet
 
 AfterData : Delivery → Receiving × Heard → Type 0
 AfterData w x = IsDeliveringNow (with_inbound w (after_data w.inbound x)).0
@@ -154,7 +154,7 @@ data-phase w packet m (quiet last q) heard = data-quiet last w packet q heard
 data-phase w packet m (busy number message h) heard = data-busy number message w packet m h heard h.place
 data-phase w packet m (opening number h) heard = data-opening number w packet h heard
 
--- the sender hears a packet
+-- the sender receives a packet
 
 AfterAnswer : Delivery → Sending × SenderHeard → Type 0
 AfterAnswer w x = IsDeliveringNow (with_outbound w (after_answer w.outbound x)).0

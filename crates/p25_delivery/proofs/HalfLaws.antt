@@ -30,7 +30,7 @@ call-state {S = S} {A = A} x e = cc
 pub call-answer : {S A : Type 0} {s : S} {a : A} (x : S × A) → (s, a) ≡ x → a ≡ x.1
 call-answer {S = S} {A = A} x e = cc
 
--- What a sending half says, by what is outstanding.
+-- The invariant of a sending half, by the outstanding packet.
 
 counts-fit : (o : Outgoing) (out : Outstanding) → IsCountedWith out o → o.acknowledged + length o.marks ≤ length o.sent
 unfolding IsCountedWith
@@ -205,7 +205,7 @@ reopen-by o delivered (Opening number) e sound =
 pub reopen-keeps : (o : Outgoing) (delivered : ℕ) → IsOutgoing o → KeepsOutgoing (after_reopening o delivered (is_opening o.sender.outstanding) (reopened o.sender))
 reopen-keeps o delivered sound = reopen-by o delivered o.sender.outstanding refl sound
 
--- A packet that the receiver hears.
+-- A packet that the receiver receives.
 
 pub data-keeps : (i : Incoming) (packet : Packet) → IsIncoming i → KeepsIncoming (after_data i (receiver_heard i.receiver packet))
 unfolding after_data

@@ -17,7 +17,7 @@ flags_more beginning i n flag e h =
     let more : n - i ≡ suc (n - (i + 1)) = omega arith in
     cc (set_at beginning false (replicate (n - (i + 1)) false) flag i e, append_assoc beginning (flag ∷ []) (replicate (n - (i + 1)) false))
 
--- a list of flags, set from its beginning on to what a test says of the elements of a list
+-- a list of flags, set from its beginning on to the result of a test for each element of a list
 pub flags_set : {X : Type 0} (test : X → Bool) (xs : List X) (n i : ℕ) (x : X) (before after : List Bool)
     → slice_get xs i ≡ Some x → i < n → before ≡ map test (take i xs) ++ replicate (n - i) false → after ≡ set before i (test x) →
     after ≡ map test (take (i + 1) xs) ++ replicate (n - (i + 1)) false

@@ -61,7 +61,7 @@ whole-places message kept octets k e =
     let same : octets ≡ message_octets message = cc in
     cc (message-read_back message)
 
--- what is kept while a packet of the message is heard
+-- the blocks kept while a packet of the message is received
 keeping-keeps : (message : List ℕ) (kept : Option Keeping) → IfSome kept (KeepsOf message) → KeepsOf message (keeping_full kept (block_count (length message)) (pad_count (length message)))
 unfolding keeping_full
 keeping-keeps message None k = empty-keeps message
@@ -87,7 +87,7 @@ keeping_for-keeps : (message : List ℕ) (kept : Option Keeping) (number : ℕ) 
 unfolding keeping_for
 keeping_for-keeps message kept number packet c k = kept-by_full message kept number packet (head_is_full packet.head) c k refl
 
--- what a receiver makes of the next message's blocks
+-- the result of a receiver for blocks of the next message
 pub data HearsNext (r : Receiving) (number : ℕ) (message : List ℕ) (x : Receiving × Heard) : Type 0 where
   ignores : x ≡ (r, Ignored) → HearsNext r number message x
   keeps : (kept : Keeping) → KeepsOf message kept → x ≡ (

@@ -4,7 +4,7 @@ use Rattle.p25_packet_blocks.specs.{Parts.{BlockParts}, Heads.{head_number}, Con
 use Rattle.p25_delivery.specs.{MessageBlocks.{unpadded}, Places.{put_slots, all_octets}, Halves.{Keeping, Receiving}, ReceiverRules.{finished, completed, filled}}
 use Rattle.p25_messages.specs.declared.answers.Heard.{Heard}
 
--- of what was kept before, a message that is finished leaves V(R) alone
+-- the result of a finished message depends on V(R) alone
 pub finished-last : (r s : Receiving) (number : ℕ) (message : Option (List ℕ)) → s.last ≡ r.last → finished s number message ≡ finished r number message
 unfolding finished
 finished-last r s number None e = cc

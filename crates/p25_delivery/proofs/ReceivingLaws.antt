@@ -40,7 +40,7 @@ held-flags places few =
           inl (omega (arith, all, count)))
     ]
 
--- what is kept while a packet is heard
+-- the blocks kept while a packet is received
 
 -- at most 127 blocks are kept
 abbrev IsFew : Keeping → Type 0
@@ -63,7 +63,7 @@ keeping-few kept head k =
     = elim (eqb (head_blocks head) 0) as (λ (b : Bool). IfSome (cond b None full) IsFew) [ true ↦ tt | false ↦ full-few kept (head_blocks head) (head_pad head) (head_blocks-lt head) k ] in
     elim (head_is_full head) as (λ (b : Bool). IfSome (cond b (cond (eqb (head_blocks head) 0) None full) kept) IsFew) [ true ↦ some | false ↦ k ]
 
--- what comes of it
+-- the result for the receiver
 
 finished-soundly : (r : Receiving) (number : ℕ) (found : Option (List ℕ)) → number < 8 → IsReceiving r → HearsSoundly (finished r number found)
 unfolding finished

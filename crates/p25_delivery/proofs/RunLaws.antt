@@ -3,7 +3,7 @@ use Rattle.std.proofs.{Common.{◌≡◌, List, [], ◌∷◌, ◌++◌, refl, a
 use Rattle.std.specs.Prelude.{All}
 use Rattle.p25_delivery.specs.Runs.{run_by, steps_by, MeetAt, EachIs}
 
--- what each step keeps whose event meets a condition, a run of such events keeps
+-- an invariant that each step keeps, if its event meets a condition, is kept by a run of such events
 pub run-keeps : {W E S : Type 0} (step : W → E → W × S) (Meets : W → E → Type 0) (Keeps : W → Type 0) → ((w : W) (event : E) → Keeps w → Meets w event → Keeps (step w event).0) →
     (events : List E) (w : W) → Keeps w → MeetAt step Meets w events → Keeps (run_by step w events)
 unfolding run_by MeetAt
@@ -17,7 +17,7 @@ unfolding run_by EachIs
 run-keeps_each step Is Keeps next [] w k are = k
 run-keeps_each step Is Keeps next (event ∷ events) w k are = run-keeps_each step Is Keeps next events (step w event).0 (next w event k are.0) are.1
 
--- what every step keeps, every run keeps
+-- an invariant that every step keeps is kept by every run
 pub run-keeps_all : {W E S : Type 0} (step : W → E → W × S) (Keeps : W → Type 0)
     → ((w : W) (event : E) → Keeps w → Keeps (step w event).0) → (events : List E) (w : W) → Keeps w → Keeps (run_by step w events)
 unfolding run_by

@@ -118,7 +118,7 @@ all-wanted message is wanted = All-joined_below HoldsBlock (block_count (length 
 
 -- Packets of data.
 
--- a confirmed packet of so many slots, each with a block
+-- a confirmed packet of a number of slots, each with a block
 confirmed-sendable : (full : Bool) (pad number : ℕ) (slots : List Slot) (count : ℕ) → length slots ≡ count → count < 128 → pad < 32 → number < 8 → All HoldsBlock slots →
     IsSendable (Confirmed (record { head = confirmed_head 1 full count pad number; slots = slots }))
 unfolding IsSendable

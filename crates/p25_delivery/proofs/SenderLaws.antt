@@ -47,7 +47,7 @@ abbrev pub ResendsOf : (Packet → Type 0) → Resend → Type 0
 ResendsOf P (Sent number tries packet) = P packet
 ResendsOf P other = Unit {0}
 
--- what is outstanding stays, and is sent again or not
+-- the outstanding packet stays, and is transmitted again or not
 abbrev pub Resends : (Packet → Type 0) → Sending → Sending × Resend → Type 0
 Resends P s x = IsSame s x.0 × ResendsOf P x.1
 
@@ -147,7 +147,7 @@ stays-flags s message blocks (Some flags) =
       | false ↦ stays-nothing s message
     ]
 
--- what becomes of a message that is outstanding
+-- the result of a response for an outstanding message
 pub data HearsAnswer (s : Sending) (message : List ℕ) (packet : Packet) (x : Sending × SenderHeard) : Type 0 where
   goes_on : acks packet s.next ≡ true → x ≡ (sending_after s.next, Acknowledged s.next) → HearsAnswer s message packet x
   stays : Stays s message x → HearsAnswer s message packet x

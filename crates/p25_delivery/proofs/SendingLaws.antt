@@ -8,7 +8,7 @@ use Rattle.p25_delivery.specs.declared.sender.Outstanding.TheVariants.{Nothing, 
 use Rattle.p25_messages.specs.{declared.answers.Resend.{Resend}, declared.answers.Resend.TheVariants.{Sent, Down as ResendDown}, declared.answers.SenderHeard.{SenderHeard}}
 use Rattle.p25_messages.specs.declared.answers.SenderHeard.TheVariants.{Opened, Retry, Repeat, Ignored, Down as HeardDown}
 
--- after the number of what was outstanding
+-- after the number of the outstanding packet
 pub after-sending : (number : ℕ) → IsSending (sending_after number)
 unfolding IsNumbered
 after-sending number = record { next = omega arith; outstanding = tt; tries = omega arith }

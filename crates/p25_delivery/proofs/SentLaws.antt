@@ -79,7 +79,7 @@ true-blocks message (Good was ∷ sent) (Good block ∷ heard) (inr e, t) a =
     (rw same a.0, true-blocks message sent heard t a.1)
 true-blocks message sent heard t a = absurd t
 
--- a confirmed packet is heard as one
+-- a confirmed packet is received as one
 confirmed-heard : (sent : ConfirmedParts) (heard : Packet) → IsTrueTo (Confirmed sent) heard
     → (packet : ConfirmedParts) × (heard ≡ Confirmed packet) × (packet.head ≡ sent.head) × AreTrueSlots sent.slots packet.slots
 unfolding IsTrueTo
@@ -141,7 +141,7 @@ blocks-carry number message wanted n l =
       blocks = some.0;
     }
 
--- what is heard of a message's packet
+-- the received packet of a message
 pub data-heard : (number : ℕ) (message : List ℕ) (sent heard : Packet)
     → number < 8 → length message ≤ 2028 → IsDataOf number message sent → IsTrueTo sent heard → (packet : ConfirmedParts) × (heard ≡ Confirmed packet) ×
     CarriesData number message packet
@@ -155,7 +155,7 @@ data-heard number message sent heard n l (inr (wanted, e)) t =
     let h = confirmed-heard some heard (rw e at t) in
     (h.0, h.1, CarriesData-true number message some h.0 (blocks-carry number message wanted n l) h.2 h.3)
 
--- what is heard of an opening packet
+-- the received opening packet
 pub opening-packet_heard : (number : ℕ) (sent heard : Packet)
     → sent ≡ opening_packet number → IsTrueTo sent heard → (packet : ConfirmedParts) × (heard ≡ Confirmed packet) × (packet.head ≡ opening_head 1 number)
 unfolding opening_packet

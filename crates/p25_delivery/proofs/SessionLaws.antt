@@ -130,7 +130,7 @@ present-delivered w message all =
 pub present-acknowledged : (w : Delivery) → IsMarked w → present_session (one_acknowledged w) ≡ with_acknowledged (present_session w)
 present-acknowledged w all = ap (λ (n : ℕ). record (present_session w) { acknowledged = n }) (omega (arith, (present-within w all).acknowledged))
 
--- What a mark does: the present session ends.
+-- The effect of a mark: the present session ends.
 
 pub present-marked : (w : Delivery) → present_session (marked w) ≡ empty_session
 present-marked w =

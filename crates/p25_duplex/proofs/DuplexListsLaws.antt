@@ -72,7 +72,7 @@ unfolding with_inbound after_data
 data-tells own other to flips false_pass (r, HeardDelivered number message answer) = record { heard = refl; sent = none own.outbound.sent; acknowledged = omega arith }
 data-tells own other to flips false_pass answer = silent (Deliver to flips) own _ (refl, refl, refl) (refl, refl, refl)
 
--- ---- what is delivered
+-- ---- a delivered packet
 
 heard-tells : (own other : StationState) (to : Side) (flips : List ℕ) (false_pass answers : Bool) (packet : Packet)
     → Tells (Deliver to flips) own (station_told false_pass (heard_as answers own other packet))
@@ -97,7 +97,7 @@ station-tells own other (Timeout side) = timeout-tells own other side (timed_out
 station-tells own other (Reopen side) = reopen-tells own other side (length other.inbound.received) (is_opening own.outbound.sender.outstanding) (reopened own.outbound.sender)
 station-tells own other (Deliver to flips) = delivery-tells own other to flips other.newest
 
--- ---- what a step adds to the lists of each side
+-- ---- the additions of a step to the lists of each side
 
 record SideTells (side at : Side) (event : DuplexEvent) (d : DuplexState) (x : DuplexState × DuplexStep) : Type 0 where
   pub heard : (station_at side x.0).inbound.received ≡ (station_at side d).inbound.received ++ side_heard_by side x.1

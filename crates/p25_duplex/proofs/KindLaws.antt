@@ -47,7 +47,7 @@ unfolding IsNewestData
 newest-data b s packet (inl (none, e)) = rw e (opening-data ((b + 7) % 8))
 newest-data b s packet (inr (earlier, message, e, of)) = data-of _ message packet of
 
--- What a delivery sends.
+-- The transmissions of a delivery.
 
 -- the newest transmission, if it is such a packet
 newest-is : (newest : Option Packet) (P : Packet → Type 0) (packet : Packet) → IfSome newest P → newest ≡ Some packet → P packet
@@ -83,7 +83,7 @@ answer-by o b s w packet f e = session-answer b s w packet f e
 pub answered-answer : (w : Delivery) (packet : Packet) → DeliveryFacts w → w.answer ≡ Some packet → IsAnswer packet
 answered-answer w packet f e = answer-by w.outbound.sender.outstanding _ _ w packet f e
 
--- a packet that is true to another is of its kind
+-- a packet that is true to another is data or a response as that is
 pub true-kind : (sent packet : Packet) → IsTrueTo sent packet → is_answer sent ≡ is_answer packet
 unfolding IsTrueTo
 true-kind (Confirmed sent) (Confirmed heard) t = cc

@@ -78,7 +78,7 @@ run-orderly events side are clean =
     subst AreOrderly (same-sessions first_mark w.outbound.marks w after.packet_sent after.answer)
     (rw r.is at (sessions-orderly r.happenings r.clean))
 
--- what a direction carries of a kind is the newest of that kind that it carried, whatever came over the air
+-- the data, or the response, that a direction carries is the newest that it carried, whatever was received
 
 carries-newest : (o newest : Option Packet) → IfSome o (λ p. newest_after o newest ≡ Some p)
 unfolding newest_after

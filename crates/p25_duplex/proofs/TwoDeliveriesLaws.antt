@@ -47,7 +47,7 @@ pub record Newest : Type 0 where
 abbrev pub delivering : StationState → StationState → Newest → Delivery
 delivering own other n = record { outbound = own.outbound; inbound = other.inbound; packet_sent = n.sent; answer = n.answer }
 
--- it is one to which a clean run comes, and what both directions carry of it is its newest
+-- it is one to which a clean run leads, and the packets of it that both directions carry are its newest
 pub record IsDeliveryOf (own other : StationState) (n : Newest) : Type 0 where
   pub data_is : newest_after (data_in own.newest) n.sent ≡ n.sent
   pub answer_is : newest_after (answer_in other.newest) n.answer ≡ n.answer

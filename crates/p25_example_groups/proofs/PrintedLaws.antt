@@ -25,7 +25,7 @@ printed-item bits first before now scan next after item raw done gave wrote = re
       ∙ sym (append_assoc done.lines (item_line item) (lines_left after more));
 }
 
--- bits that came to a scanner, and what was printed then
+-- bits that were pushed to a scanner, and the text printed then
 pub printed-pushed : (bits : List Bool) (before now : Option (List ℕ)) (scan pushed next : Scan) → pushed ≡ record scan { held = scan.held ++ bits }
     → HasPrinted [] before pushed now next → HasPrinted bits before scan now next
 printed-pushed bits before now scan pushed next is done = record {
@@ -37,7 +37,7 @@ printed-pushed bits before now scan pushed next is done = record {
       ∙ done.left more goes;
 }
 
--- what was printed before, and what was printed after it
+-- the text printed before, and the text printed after it
 pub printed-both : (xs ys : List Bool) (first before now : Option (List ℕ)) (scan next after : Scan) → next.finished ≡ false
     → HasPrinted xs first scan before next → HasPrinted ys before next now after → HasPrinted (xs ++ ys) first scan now after
 printed-both xs ys first before now scan next after going done more_done = record {

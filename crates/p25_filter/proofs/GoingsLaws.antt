@@ -6,7 +6,7 @@ use Rattle.p25_filter.specs.{declared.ending.FilterEnd.{FilterEnd}, declared.end
 use Rattle.p25_filter.specs.{Traces.{Broken, EndsAs, Going, IsDecided, Over, Phase, Standing, standing_at}, Goings.{Comes, Finishes, Goes, Leads, MayEnd, Stands}}
 use Rattle.p25_filter.proofs.TracesLaws.{EndsAs-after, IsLive-append, after_all-append}
 
--- what is on the page is decided
+-- the text on the page is decided
 stands-decided : (future : Future) (phase : Phase) (octets text page waiting : List ℕ) (now : Future)
     → Stands future (standing_at phase octets text) page waiting now → IsDecided future phase octets (text ++ page)
 stands-decided future Going octets text page waiting now stands =

@@ -45,7 +45,7 @@ unfolding IsIdle
 idle-finished true was now idle same is_true = idle
 idle-finished false was now idle same is_true = cc
 
--- with nothing to give, what the octets so far decide is written, and they refuse nothing
+-- if no chunk is left, the output that the octets so far determine is written, and they cause no refusal
 idle-decided : (future now : Future) (octets text : List ℕ) → Stands future (standing_at Going octets text) [] [] now → IsIdle false now
     → (future.ends false (take input_most octets) ≡ None) × (text ≡ future.writes false (take input_most octets))
 unfolding IsIdle

@@ -11,7 +11,7 @@ use Rattle.p25_filter.specs.{Lines.{closing_by, each_behind, lines_ending, lines
 use Rattle.p25_filter.specs.LineFilters.{IsLineReady, IsTextReady, LineFiltering, closes_with, ends_with, is_ended_phase, line_future, line_filtering, lines_left, texts_of, taken_from}
 use Rattle.p25_filter.proofs.LinesLaws.{Contains-here, Contains-later, Contains-none, each_behind-from, each_behind-in, each_behind-none, lines_in-end, lines_in-part, octets_before}
 
--- a chunk of at most so many octets, and the rest
+-- a chunk of at most `most` octets, and the rest
 pub piece-is : (xs : List ℕ) (most count : ℕ) → count ≡ min (length xs) most → take count xs ≡ take most xs
 piece-is xs most count same = let other : count ≡ min most (length xs) = omega (arith, same) in rw other (take_min most xs)
 
@@ -42,7 +42,7 @@ is_closed Closing none ended = absurd (omega arith)
 is_closed Closed none ended = refl
 is_closed phase none ended = cc
 
--- what is the same of all lists of lines with a first line that is too long is the same whatever that line is
+-- a function that is the same for all lists of lines whose first is too long does not depend on that line
 module _ {X : Type 0} (f : List (List ℕ) → X) (x : X) (first : (line : List ℕ) (lines : List (List ℕ)) → 8192 < length line → f (line ∷ lines) ≡ x) where
   long-same : (more : List ℕ) (ended : Bool) (line other : List ℕ) → 8192 < length line → 8192 < length other
       → f (lines_in ended line more) ≡ f (lines_in ended other more)
@@ -63,7 +63,7 @@ module _ {X : Type 0} (f : List (List ℕ) → X) (x : X) (first : (line : List 
       by_test true same = first line (lines_in ended [] more) long ∙ sym (first other (lines_in ended [] more) also)
       by_test false same = same
 
-  -- what is kept of a line serves as well as the line
+  -- the octets kept of a line can replace the line
   either : (P : List ℕ → X) (line : List ℕ) → (8192 < length (take 8193 line) → 8192 < length line → P line ≡ P (take 8193 line)) → P line ≡ P (take 8193 line)
   either P line long = by_length (nat_lt 8193 (length line)) refl
     where
@@ -80,7 +80,7 @@ module _ {X : Type 0} (f : List (List ℕ) → X) (x : X) (first : (line : List 
   kept-first line lines = either (λ l. f (l ∷ lines)) line (λ also long. first line lines long ∙ sym (first (take 8193 line) lines also))
 
 module _ {M : Type 0} (rules : LineRules M) where
-  -- what comes of lines, by what comes of the first
+  -- the result of lines, by the result of the first
   taken-first : (number : ℕ) (machine : M) (line : List ℕ) (lines : List (List ℕ)) (is : Result (M × List ℕ) LineFault) → rules.take machine line ≡ is
       → lines_taken rules.take number machine (line ∷ lines) ≡ first_taken number machine (λ next. lines_taken rules.take (number + 1) next lines) is
   unfolding lines_taken
@@ -90,7 +90,7 @@ module _ {M : Type 0} (rules : LineRules M) where
   abbrev pub pauses_of : List ℕ → LinesTaken M → List (List ℕ)
   pauses_of left taken = cond rules.wants (each_behind left (texts_before taken.texts)) []
 
-  -- octets come, and of the lines that are left comes what came of those that were
+  -- octets arrive, and the result of the lines that are left is that of the lines with these octets
   comes : (machine : M) (lines : ℕ) (rest : List ℕ) (octets line then : List ℕ) (next : LinePhase)
       → ((ended : Bool) (more : List ℕ) → lines_taken rules.take (lines + 1) machine (lines_in ended line (octets ++ more))
       ≡ lines_taken rules.take (lines + 1) machine (lines_left next then ended more))
@@ -103,7 +103,7 @@ module _ {M : Type 0} (rules : LineRules M) where
     pauses = λ ended more pause is. rw (left ended more) is;
   }
 
-  -- what holds while a line is read holds of work before an octet
+  -- a property of work while it reads a line holds for work before an octet
   reading : (P : LinePhase → Type 0) (phase : LinePhase) → texts_of phase ≡ 0 → is_ended_phase phase ≡ false → P Reading → P phase
   reading P phase none going holds = subst P (sym (is_reading phase none going)) holds
 
@@ -125,7 +125,7 @@ module _ {M : Type 0} (rules : LineRules M) where
     abbrev pub whole : List ℕ
     whole = work.line ++ take count octets
 
-    -- what comes of lines
+    -- the result of lines
     abbrev came : List (List ℕ) → LinesTaken M
     came = lines_taken rules.take (work.lines + 1) work.machine
 
@@ -223,7 +223,7 @@ module _ {M : Type 0} (rules : LineRules M) where
         pauses = λ ended more pause there. first.pauses ended more (out ++ pause) (then.pauses ended more pause there);
       }
 
-  -- the steps of `ready`: what is written at the end is to be given
+  -- the steps of `ready`: the output at the end is to be returned
   working-close : (machine : M) (line : List ℕ) (lines : ℕ)
       → NextPiece (line_future rules (line_filtering machine line lines [] Closing)) (Ok true) [] (line_future rules (line_filtering machine line lines (rules.closing machine) Closed))
   unfolding NextPiece line_future written_for texts_before each_behind lines_taken
@@ -236,7 +236,7 @@ module _ {M : Type 0} (rules : LineRules M) where
   module _ (machine : M) (line : List ℕ) (lines : ℕ) (phase next : LinePhase)
       (left : (ended : Bool) (more : List ℕ) → lines_left phase line ended more ≡ line ∷ lines_left next [] ended more)
       (ends : (ended : Bool) → ends_with next ended ≡ ends_with phase ended) (closes : (ended : Bool) → closes_with next ended ≡ closes_with phase ended) where
-    -- what comes of the lines that are left
+    -- the result of the lines that are left
     abbrev comes-left : Bool → List ℕ → LinesTaken M
     comes-left ended more = lines_taken rules.take (lines + 1) machine (lines_left phase line ended more)
 
@@ -318,7 +318,7 @@ module _ {M : Type 0} (rules : LineRules M) where
   text-taken before machine then line items after text lines left was phase view slice none taken =
       rw (← view) (record { machine = then; text = text; taken = rw slice at taken; now_is = rw none })
 
-  -- what holds at a phase with nothing left to be given holds of work that is there
+  -- a property of a phase with nothing left to be returned holds for such work
   at_phase : (P : LineFiltering M → Type 0) (work : LineFiltering M) (phase : LinePhase) → work.phase ≡ phase → work.left ≡ []
       → P (line_filtering work.machine work.line work.lines [] phase) → P work
   at_phase P work phase is none holds =

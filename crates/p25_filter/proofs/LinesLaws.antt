@@ -6,7 +6,7 @@ use Rattle.std.specs.{Prelude.{Contains}, List.{position_or_len}}
 use Rattle.p25_line.specs.declared.fault.LineFault.{LineFault}
 use Rattle.p25_filter.specs.{declared.ending.Ending.TheVariants.{BadLine}, Lines.{each_behind, lines_in, read_of, refusal_in}}
 
--- how many octets are before the first LF
+-- the number of octets before the first LF
 abbrev pub octets_before : List ℕ → ℕ
 octets_before octets = position_or_len (λ octet. nat_eq octet 10) octets
 
@@ -57,7 +57,7 @@ lines_in-end ended line octets more there =
     ∙ ap (lines_in ended line) (append_assoc part (10 ∷ []) more)
     ∙ lines_in-part ended line octets (10 ∷ more)
 
--- what is the first of a list is in it, what is in the rest is, and in none is nothing
+-- the first of a list is in it, so is each of the rest, and nothing is in the empty list
 pub Contains-here : {X : Type 0} (x : X) (xs : List X) → Contains (x ∷ xs) x
 Contains-here x xs = (0, omega arith, refl)
 

@@ -168,7 +168,7 @@ none-is None rest none same = cc
 none-is (Some some) rest none same = let equal : some ≡ rest = cc same in sym equal ∙ none
 
 module _ (told left first last : Option (List ℕ)) (future : Future) where
-  -- what was taken, what was written and what the end says of it
+  -- the octets taken and written, and the condition of the end on them
   meets : (events : List Event) (end : FilterEnd) → IsRun future events end → Went told left first last events
       → Meets told left first last future (after_all at_first events).octets end
   meets events end run went = by_end end run.ends

@@ -4,13 +4,13 @@ use Rattle.p25_io.specs.Events.{Event}
 use Rattle.p25_filter.specs.{declared.ending.FilterEnd.{FilterEnd}, declared.ending.FilterEnd.TheVariants.{ReadFault, WriteFault}, Futures.{Future}, Runs.{input_most}}
 use Rattle.p25_filter.specs.Traces.{EndsAs, IsLive, Standing, after_all, standing_after}
 
--- the first octets of an input and so many more
+-- the first octets of an input and some more
 pub first-take : (octets more : List ℕ) → length octets ≤ input_most → take input_most (octets ++ more) ≡ octets ++ take (input_most - length octets) more
 first-take octets more few =
     let e : input_most ≡ length octets + (input_most - length octets) = omega arith in
     ap (λ (n : ℕ). take n (octets ++ more)) e ∙ take-append-add octets more (input_most - length octets)
 
--- of the octets before a read and those that it gave, the first are those before and what fits of the read
+-- the octets before a read and those that it returned: the first of both are those before, and those of the read that fit
 pub first-read : (octets buf : List ℕ) (count fits : ℕ) → length octets ≤ input_most → count ≤ length buf → fits ≡ min count (input_most - length octets)
     → take input_most (octets ++ take count buf) ≡ octets ++ take fits buf
 first-read octets buf count fits few there fit =

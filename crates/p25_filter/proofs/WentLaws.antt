@@ -25,7 +25,7 @@ pub record Went (told left first last : Option (List ℕ)) (events : List Event)
   pub ending : HasEnd events → IfSome left (λ rest. rest ≡ [])
   pub appended : Appended first (octets_written events) last
 
--- what is left stays none
+-- if nothing is left, nothing is left later
 none-later : (before now : Option (List ℕ)) (octets : List ℕ) → Taken before octets now → IfSome before (λ rest. rest ≡ []) → IfSome now (λ rest. rest ≡ [])
 none-later before None octets taken none = tt
 none-later None (Some rest) octets taken none = let wrong : None ≡ Some (octets ++ rest) = taken.left in cc

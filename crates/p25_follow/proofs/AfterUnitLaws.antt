@@ -103,7 +103,7 @@ unfolding Quiet
 chain-quiet None bits end quiet = chain_by-none true bits end
 chain-quiet (Some before) bits end quiet = quiet-stepped before bits end (step_of before bits end) quiet refl
 
--- ---- a unit, and what its name is
+-- ---- a data unit and its name
 
 quiet-named : (name : Option (ℕ × ℕ)) (nid : ℕ × ℕ) → name ≡ Some nid → nid.1 ≡ 0x3 → Quiet name
 unfolding Quiet

@@ -20,7 +20,7 @@ use Rattle.p25_follow.proofs.PlaceLaws.{place-few}
 
 -- ---- bits that begin alike
 
--- the first bits are the same, so many
+-- the first `count` bits are the same
 abbrev pub Agree : ℕ → List Bool → List Bool → Type 0
 Agree count bits others = take count bits ≡ take count others
 
@@ -37,7 +37,7 @@ pub record Alike (bits others : List Bool) : Type 0 where
   pub long : length bits ≡ length others
   pub same : Agree 316 bits others
 
--- ---- what is needed
+-- ---- needs
 
 kind-same : (kind : ℕ) (bits others : List Bool) → 316 ≤ length bits → length bits ≡ length others → sent_head_of bits ≡ sent_head_of others → kind_need kind bits ≡ kind_need kind others
 kind-same kind bits others long as_long head =
@@ -65,7 +65,7 @@ need-long bits others long alike yes' =
     rw (need_of-synced bits yes', need_of-synced others (sym (sync-same bits others long alike) ∙ yes'), synced_need-long bits (omega (arith, long)), synced_need-long others (omega (arith, also)), ← read)
     (identified-same (identifier_of bits) bits others long alike.long head)
 
--- what is there
+-- the data unit there
 record SameThere (bits others : List Bool) : Type 0 where
   sync : has_sync bits ≡ has_sync others
   need : has_sync bits ≡ true → need_of bits ≡ need_of others

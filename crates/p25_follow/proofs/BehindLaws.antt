@@ -127,7 +127,7 @@ module _ (first second : List Bool) (alike : AreAlikeBehind first second) where
   unfolding packet_reading_of
   packet_reading-alike = rw (head_reading-alike, from-alike (head_reading_of second))
 
-  -- what a unit carries, or the fields of it that fail
+  -- the contents of a data unit, or the fields of it that fail
   pub body_reading-alike : (duid : ℕ) → body_reading_of duid first ≡ body_reading_of duid second
   unfolding body_reading_of
   body_reading-alike duid = rw (packet_reading-alike, voice_reading-alike duid)

@@ -6,7 +6,7 @@ use Rattle.std.specs.Prelude.{nat_le}
 use Rattle.p25_follow.specs.{Chains.{chain_by, chain_in, settled_of, with_front, written_step}, Expected.{kind_length}, Following.{Follow, follow, left_in, left_of, left_step}, Steps.{step_of}}
 use Rattle.p25_follow.proofs.StepLaws.{step_of-append, step_of-nil, step_of-there}
 
--- ---- with turns enough for every bit it does not matter how many there are
+-- ---- with turns enough for every bit their number does not matter
 
 written_step-same : (f g : ℕ × ℕ → List Bool → List Bool) (before : ℕ × ℕ) (bits : List Bool) (kind : Option ℕ)
     → ((k : ℕ) → kind ≡ Some k → f (before.0, k) (drop (kind_length k) bits) ≡ g (before.0, k) (drop (kind_length k) bits))
@@ -80,7 +80,7 @@ chain_by-waits before bits end few = rw (chain_by-some, lt-leb 6912 (length bits
 
 -- ---- along a chain
 
--- the kind of the unit that bits begin with, after one with a name or after none
+-- the type of the data unit with which bits begin, after one with a name or after none
 unfoldable pub step_after : Option (ℕ × ℕ) → List Bool → Option (ℕ × ℕ) → Option ℕ
 step_after None bits end = None
 step_after (Some before) bits end = step_of before bits end
@@ -90,7 +90,7 @@ unfolding step_after
 chain-stop None bits end is = chain_by-none true bits end
 chain-stop (Some before) bits end is = chain_by-stop true before bits end refl is
 
--- what is true of bits that begin with no unit, and goes back over each unit, is true of all bits of a chain
+-- a property of bits that begin with no data unit, which each data unit carries back, holds for all bits of a chain
 module _ (end : Option (ℕ × ℕ)) (P : ℕ → Option (ℕ × ℕ) → List Bool → Type 0)
     (stop : (at : ℕ) (before : Option (ℕ × ℕ)) (bits : List Bool) → step_after before bits end ≡ None → P at before bits)
     (step : (at : ℕ) (before : ℕ × ℕ) (bits : List Bool) (kind : ℕ) → step_of before bits end ≡ Some kind
@@ -110,7 +110,7 @@ module _ (end : Option (ℕ × ℕ)) (P : ℕ → Option (ℕ × ℕ) → List B
   along-chain at None bits = stop at None bits refl
   along-chain at (Some before) bits = along-some (length bits) at before bits (omega arith) (step_of before bits end) refl
 
--- ---- what is left
+-- ---- the bits that are left
 
 left_step-same : (f g : ℕ × ℕ → List Bool → Follow) (before : ℕ × ℕ) (bits : List Bool) (kind : Option ℕ)
     → ((k : ℕ) → kind ≡ Some k → f (before.0, k) (drop (kind_length k) bits) ≡ g (before.0, k) (drop (kind_length k) bits))
@@ -158,7 +158,7 @@ left_of-stop before bits long is = rw (left_of-some, le-leb 6912 (length bits) l
 pub left_of-waits : (before : ℕ × ℕ) (bits : List Bool) → length bits < 6912 → left_of (Some before) bits ≡ follow (Some before) bits
 left_of-waits before bits few = rw (left_of-some, lt-leb 6912 (length bits) few)
 
--- ---- what is settled comes first
+-- ---- the decided output comes first
 
 abbrev Settles : Bool → Option (ℕ × ℕ) → List Bool → List Bool → Option (ℕ × ℕ) → Type 0
 Settles whole before bits more end = chain_by whole before (bits ++ more) end ≡ settled_of before bits ++ chain_by whole (left_of before bits).before ((left_of before bits).stretch ++ more) end

@@ -11,7 +11,7 @@ use Rattle.p25_follow.specs.{StretchLaws.{bits_in}, Told.{name_errors_of}}
 use Rattle.p25_follow.proofs.{ChainLaws.{chain_by-step}, KindLaws.{IsKind, expected-kinds, is_expected-all}, LengthLaws.{length-with_front}, StepLaws.{step_of-there}}
 use Rattle.p25_follow.proofs.{StretchesLaws.{by-stretches}, TellsLaws.{step-near}}
 
--- a unit that may come after one with a network access code (NAC) and a kind
+-- a data unit that may follow one with a network access code (NAC) and a type
 module _ (nac last kind : ℕ) (nac_fits : nac < 4096) (may : is_expected last kind ≡ true) where
   known : IsKind kind
   known = is_expected-all IsKind last kind (expected-kinds last) may

@@ -8,7 +8,7 @@ use Rattle.p25_follow.specs.{Chains.{chain_by, settled_of}, Followed.{followed_b
 use Rattle.p25_follow.specs.{Following.{Follow, IsFollow, behind_item, follow, left_of, written_before, written_by, written_end, written_item}, Expected.{kind_length}, Steps.{step_of}}
 use Rattle.p25_follow.proofs.{StepLaws.{step_of-there}, ChainLaws.{chain-settles, chain_by-none, chain_by-waits, left_of-none, left_of-step, left_of-stop, left_of-waits}}
 
--- the parts of what follows
+-- the parts of the output
 pub followed-end : (ended : Bool) (before : Option (ℕ × ℕ)) (stretch : List Bool) (bits : List Bool) → followed_by ended before stretch [] bits ≡ chain_by ended before stretch None
 unfolding followed_by
 followed-end ended before stretch bits = refl
@@ -37,7 +37,7 @@ starts-of at bits item items is =
     let parts = items_by-first true at bits item items is in
     record { first = sym parts.1; behind = sym parts.2; all = is; some = parts.3; there = parts.4 }
 
--- what is true at the end, and goes back over each item, is true of a stretch that has begun and the items after it
+-- a property that holds at the end, and that each item carries back, holds for a stretch that has begun and the items after it
 module _ (P : ℕ → Option (ℕ × ℕ) → List Bool → List Item → List Bool → Type 0) (end : (at : ℕ) (before : Option (ℕ × ℕ)) (stretch : List Bool) → P at before stretch [] [])
     (rest : (at : ℕ) (before : Option (ℕ × ℕ)) (stretch : List Bool) (item : Item) (items : List Item) (bits : List Bool) → Starts at bits item items → is_rest item ≡ true
     → P (at + covered item) before (stretch ++ take (covered item) bits) items (drop (covered item) bits) → P at before stretch (item ∷ items) bits)
@@ -59,7 +59,7 @@ module _ (P : ℕ → Option (ℕ × ℕ) → List Bool → List Item → List B
   pub along-items : (at : ℕ) (before : Option (ℕ × ℕ)) (stretch bits : List Bool) → P at before stretch (items_of at bits) bits
   along-items at before stretch bits = along-in (length bits) at before stretch bits (items_of at bits) (omega arith) refl
 
--- what is settled of a stretch comes first, whatever bits and items come
+-- the decided output for a stretch comes first, whatever bits and items follow
 pub followed-settles : (ended : Bool) (before : Option (ℕ × ℕ)) (stretch more : List Bool) (items : List Item) (bits : List Bool)
     → followed_by ended before (stretch ++ more) items bits ≡ settled_of before stretch ++ followed_by ended (left_of before stretch).before ((left_of before stretch).stretch ++ more) items bits
 followed-settles ended before stretch more [] bits = rw (followed-end, chain-settles, followed-end)
@@ -69,7 +69,7 @@ followed-settles ended before stretch more (item ∷ items) bits =
       | inr is ↦ rw (followed-unit, chain-settles, append_assoc, followed-unit)
     ]
 
--- ---- what is kept
+-- ---- the bits that are kept
 
 kept-none : IsFollow (follow None [])
 kept-none = record { few = omega arith; none = λ same. refl }
@@ -101,7 +101,7 @@ nothing_settled : (before : Option (ℕ × ℕ)) (stretch : List Bool) → IsFol
 nothing_settled None stretch kept = chain_by-none false stretch None ∙ kept.none refl
 nothing_settled (Some before) stretch kept = chain_by-waits before stretch None kept.few
 
--- ---- what is written
+-- ---- the output for an item
 
 pub IsFollow-behind : (kept : Follow) (item : Item) (raw : List Bool) → IsFollow (behind_item kept item raw)
 unfolding behind_item
@@ -140,7 +140,7 @@ unfolding written_by written_end
 written-none true kept bits is = refl
 written-none false kept bits is = sym (nothing_settled kept.before kept.stretch is)
 
--- a follower that keeps what it may writes what follows
+-- the output of a follower with its invariant is the output by the definition
 pub written-follows : (ended : Bool) (kept : Follow) (items : List Item) (bits : List Bool) → IsFollow kept → written_by ended kept items bits ≡ followed_by ended kept.before kept.stretch items bits
 written-follows ended kept [] bits is = rw (written-none ended kept bits is, followed-end)
 written-follows ended kept (item ∷ items) bits is =

@@ -67,7 +67,7 @@ module _ (nac kind : ℕ) (bits : List Bool) (long : 114 ≤ length bits) where
       = rw (written-identifier, distance_of-same) in
       identifier_of-near nac kind (with_front (nac, kind) bits) nac_fits kind_fits (omega (arith, length-with_front (nac, kind) bits long)) (omega (arith, none))
 
--- ---- the kind of a voice unit
+-- ---- the type of a voice data unit
 
 pub record IsVoice (kind : ℕ) : Type 0 where
   pub bare : ℕ

@@ -4,12 +4,12 @@ use Rattle.std.specs.{Prelude.{nat_eq}, List.{list_any}}
 use Rattle.p25_voice_units.specs.Lengths.{voice_length_of}
 use Rattle.p25_follow.specs.Expected.{expected_after, is_expected, kind_length, next_link}
 
--- each kind of a list has something
+-- each type of a list has a property
 abbrev pub Each : (ℕ → Type 0) → List ℕ → Type 0
 Each P [] = Unit {0}
 Each P (kind ∷ kinds) = P kind × Each P kinds
 
--- what is true of all five kinds is true of each that is expected
+-- a property of all five types is one of each that is expected
 module _ (P : ℕ → Type 0) (header : P 0x0) (end : P 0x3) (link1 : P 0x5) (link2 : P 0xA) (link_end : P 0xF) where
   pub expected-all : (kind : ℕ) → Each P (expected_after kind)
   unfolding expected_after

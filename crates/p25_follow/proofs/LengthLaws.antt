@@ -28,7 +28,7 @@ length-chain_of before bits end =
     (omega (arith, length-drop count left, there.there)))
     0 before bits
 
--- what is written of a stretch and of the items after it has as many bits as they
+-- the output for a stretch and for the items after it has as many bits as they
 pub length-followed : (at : ℕ) (before : Option (ℕ × ℕ)) (stretch bits : List Bool) → length (followed_by true before stretch (items_of at bits) bits) ≡ length stretch + length bits
 length-followed =
     along-items (λ at before stretch items bits. length (followed_by true before stretch items bits) ≡ length stretch + length bits)

@@ -76,7 +76,7 @@ look-no_kinds before bits look long none tells unclear =
     (λ name is. name-other before name (λ same may. absurd (let never = rw none at may in cc)))
     (rw (none, tells)) refl
 
--- ---- the nearest kind
+-- ---- the nearest type
 
 nearer-first : (nac : ℕ) (bits : List Bool) (kind next : ℕ) → name_errors_of (nac, nearer_kind nac bits kind next) bits ≤ name_errors_of (nac, kind) bits
 unfolding nearer_kind

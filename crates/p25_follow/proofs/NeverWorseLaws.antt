@@ -19,7 +19,7 @@ record IsOut (at : ℕ) (before : Option (ℕ × ℕ)) (out : List Bool) (units 
   found : units_among (items_of at out) ≡ units
   again : followed_by true before [] (items_of at out) out ≡ out
 
--- ---- what is written of a stretch, and bits after it
+-- ---- the output for a stretch, and bits after it
 
 -- bits are none, or a unit begins with them
 abbrev pub Begins : List Bool → Type 0
@@ -78,7 +78,7 @@ module _ (place : ℕ) (more : List Bool) (end : Option (ℕ × ℕ)) (begins : 
       (out-step at before kind (take count stretch) _ _ nac_fits there.few (omega (arith, there.fits)) (length-take-le count stretch there.there)
       (later (omega (arith, length-drop count stretch, there.there)) (some-sound (before.0, kind) nac_fits) (rests-later count stretch more there.there rests))))
 
--- ---- what is written of a stretch that has begun and of the items after it
+-- ---- the output for a stretch that has begun and for the items after it
 
 pub rests-more : (place : ℕ) (stretch bits : List Bool) (item : Item) (items : List Item) → Starts place bits item items → RestPlaces (length stretch) (stretch ++ bits) → is_rest item ≡ true
     → RestPlaces (length (stretch ++ take (covered item) bits)) ((stretch ++ take (covered item) bits) ++ drop (covered item) bits)

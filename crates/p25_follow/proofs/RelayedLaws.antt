@@ -133,7 +133,7 @@ module _ (nac duid : ℕ) (status : Status) (raw : List Bool) (blocks : ℕ) (lo
       let same : length out ≡ length raw = broken-long ∙ sym long in
       rw (first_item-synced place all (Length count) synced need, take_at out more count broken-long) (unit_item_of-some place out (nac, duid) (Err fields) reads reading ∙ rw same)
 
--- ---- what is known of a first item that is broken
+-- ---- the facts about a first item that is broken
 record IsBrokenOf (at : ℕ) (bits : List Bool) (place count duid : ℕ) (fields : List Field) : Type 0 where
   here : place ≡ at
   blocks : ℕ
@@ -176,7 +176,7 @@ broken-of at bits place count ours duid fields =
     (λ n yes' need is. broken-unit at n bits place count ours duid fields need is)
     (λ field yes' need is. absurd (cc is))
 
--- ---- what is forwarded of a whole unit
+-- ---- the output for a whole data unit
 module _ (nac : ℕ) (status : Status) (nac_fits : nac < 4096) (at : ℕ) (bits : List Bool) (place : ℕ) (frame : Frame) (fixes : ℕ) (is : first_item at bits ≡ Whole place frame fixes) where
   forwarded-sound : IsSoundFrame (bridged_frame nac status frame) × IsSendableUnit (bridged_frame nac status frame).unit
   forwarded-sound =
@@ -196,7 +196,7 @@ module _ (nac : ℕ) (status : Status) (nac_fits : nac < 4096) (at : ℕ) (bits 
         length-image_of frame read.sound read.sendable,
       )
 
--- ---- what is forwarded of a first item
+-- ---- the output for a first item
 module _ (nac : ℕ) (status : Status) (nac_fits : nac < 4096) where
   pub item-long : (at : ℕ) (bits : List Bool) (item : Item) → first_item at bits ≡ item → covered item ≤ length bits → length (relayed nac status item (take (covered item) bits)) ≡ covered item
   item-long at bits (Whole place frame fixes) is fits = forwarded-long nac status nac_fits at bits place frame fixes is

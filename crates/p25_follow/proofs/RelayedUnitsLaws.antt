@@ -78,7 +78,7 @@ cut-all at bits place have =
     (λ count yes' need is. absurd (unit-uncut at (take count bits) place have is))
     (λ field yes' need is. absurd (cc is))
 
--- ---- a unit, and what is forwarded of it
+-- ---- a data unit, and its output
 module _ (nac : ℕ) (status : Status) (nac_fits : nac < 4096) where
   covered-relayed : (item : Item) → covered (relayed_item nac status item) ≡ covered item
   unfolding frame_length_of

@@ -12,7 +12,7 @@ use Rattle.p25_follow.proofs.{FollowingLaws.{Starts, along-items, followed-rest,
 use Rattle.p25_follow.proofs.{NeverWorseLaws.{Begins, ends-at, rests-later, rests-more, unit-tail}, SameUnitsLaws.{RestPlaces}, StepLaws.{step_of-there}}
 use Rattle.p25_follow.proofs.RepairedLaws.{from-first, from-more, rest-plain, stretch-repair}
 
--- ---- what it writes of a chain, whatever comes after it
+-- ---- the output for a chain, whatever follows it
 
 record IsAfter (stretch more : List Bool) : Type 0 where
   rests : RestPlaces (length stretch) (stretch ++ more)
@@ -90,7 +90,7 @@ again-first item items (other ∷ others) is = record { other = other; others = 
 
 -- ---- both recordings
 
--- the first items of both, and what is after them
+-- the first items of both, and the items after them
 record Twin (place : ℕ) (item : Item) (items : List Item) (bits others : List Bool) : Type 0 where
   other : Item
   rest : List Item

@@ -6,7 +6,7 @@ use Rattle.p25_stream.proofs.{ItemsLaws.{items_by-more, items_by-nil}, WrittenLa
 use Rattle.p25_follow.specs.{Followed.{is_rest}, Repaired.{repaired_from}}
 use Rattle.p25_follow.proofs.SameUnitsLaws.{Ends, RestPlaces, along-stretch}
 
--- the first item, and what is written after it
+-- the first item, and the output after it
 pub from-more : (at : ℕ) (bits : List Bool) (item : Item) (raw next : List Bool) → items_of at bits ≡ item ∷ items_of (at + covered item) next
     → take (covered item) bits ≡ raw → drop (covered item) bits ≡ next
     → repaired_from at bits ≡ repaired item raw ++ repaired_from (at + covered item) next

@@ -12,7 +12,7 @@ use Rattle.p25_stream.proofs.{ItemsLaws.{covered-first_item, first_item-cases, f
 use Rattle.p25_follow.specs.{Followed.{is_rest}, StretchLaws.{all_rest, begins_rest, bits_in, units_among}}
 use Rattle.p25_follow.proofs.{FoundLaws.{found-unit}, StepLaws.{and_left-true, and_right-true}}
 
--- ---- what an item is hangs on its bits alone
+-- ---- an item depends on its bits alone
 
 -- the item of a unit of a known length is a unit
 pub unit-there : (at count : ℕ) (bits : List Bool) → need_of bits ≡ Length count → is_rest (unit_item_of at (take count bits)) ≡ false

@@ -7,7 +7,7 @@ use Rattle.p25_follow.specs.{declared.told.Told.{Told}, declared.told.Told.TheVa
 use Rattle.p25_follow.specs.{Steps.{fits_by, fits_of, is_sure, step_of, true_of}, Told.{is_nothing, told_of}}
 use Rattle.p25_follow.proofs.{KindLaws.{IsKind, expected-kinds, link-kinds}, ToldLaws.{told_of-append, told_of-expected, told_of-short}}
 
--- ---- what fits
+-- ---- a detection that fits
 
 pub fits_kind : (bits : List Bool) (kind : ℕ) → kind_length kind ≤ length bits → fits_by bits (Expected kind) ≡ Some kind
 unfolding fits_by
@@ -49,7 +49,7 @@ pub fits_of-append : (before : ℕ × ℕ) (bits more : List Bool) → 1728 ≤ 
 unfolding fits_of
 fits_of-append before bits more long = rw (told_of-append before bits more (omega arith)) (by-long before bits more (told_of before bits) long refl)
 
--- ---- what is sure
+-- ---- certain alignments
 
 some_bits : (bits : List Bool) → 0 < length bits → nat_lt 0 (length bits) ≡ true
 some_bits bits some = lt-ltb 0 (length bits) some

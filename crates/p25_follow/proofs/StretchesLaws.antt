@@ -10,7 +10,7 @@ use Rattle.p25_follow.specs.{Chains.{chain_by}, Followed.{follow_of, followed_by
 use Rattle.p25_follow.specs.StretchLaws.{all_rest, begins_rest, bits_in}
 use Rattle.p25_follow.proofs.{FollowingLaws.{followed-end, followed-rest, followed-unit}, LengthLaws.{length-chain_of}, StepLaws.{and_left-true, and_right-true}}
 
--- what comes out before a unit is as long as the bits before it, and then come those of the unit
+-- the output before a data unit is as long as the bits before it, and the bits of the data unit follow
 record IsFrom (before : Option (ℕ × ℕ)) (stretch : List Bool) (first : List Item) (unit : Item) (items : List Item) (bits : List Bool) : Type 0 where
   front : List Bool
   long : length front ≡ length stretch + bits_in first
@@ -48,7 +48,7 @@ from-unit before stretch (item ∷ first) unit items bits is fits =
           }
     ]
 
--- what comes out of a stretch that has begun, and then more
+-- the output for a stretch that has begun, and then more
 record IsOf (before : Option (ℕ × ℕ)) (begun : List Bool) (stretch after : List Item) (bits : List Bool) : Type 0 where
   more : List Bool
   joined : followed_by true before begun (stretch ++ after) bits ≡ chain_by true before (begun ++ take (bits_in stretch) bits) (end_name after) ++ more

@@ -8,7 +8,7 @@ use Rattle.p25_delivery.proofs.{SentLaws.{data-heard}, CallLaws.{newest}, Sessio
 use Rattle.p25_delivery.proofs.{PhaseLaws.{IsDelivering, quiet, busy, opening, IsKept}, FactsLaws.{facts-delivering}}
 use Rattle.p25_fragments.proofs.MoveLaws.{lists_of, outstanding_in, IsSameIn, HasSameLast}
 
--- the facts of a delivery, by what is outstanding
+-- the facts of a delivery, by the outstanding packet
 facts-at : (v : Delivery) (out : Outstanding) → IsKept v → outstanding_in v ≡ out → FactsBy out (first_number v) (present_session v) v
 facts-at v out k o = subst (λ (x : Outstanding). FactsBy x (first_number v) (present_session v) v) o (facts-delivering (first_number v) (present_session v) v k.delivering)
 
@@ -116,7 +116,7 @@ away b s v number (busy at message h) d i n l =
     ]
 away b s v number (opening at h) d i n l = absurd (cc (i, ap is_opening h.outstanding))
 
--- The opening packet is heard: no message is outstanding.
+-- The opening packet is received: no message is outstanding.
 
 unfoldable pub IsNoMessage : Outstanding → Type 0
 IsNoMessage (Message message) = ⊥

@@ -29,7 +29,7 @@ pub record FollowsStep (y : LongState × LongStep) : Type 0 where
   pub follows : Follows y.0
   pub unrefused : y.1.then ≢ Refused
 
--- and what follows a step of the inner world
+-- and the consequence of a step of the inner world
 pub record FollowsThen (y : LongState × Then) : Type 0 where
   pub follows : Follows y.0
   pub unrefused : y.1 ≢ Refused
@@ -121,7 +121,7 @@ opened-follows w inner step number f k p o l q e =
       matches = opened-matches w.inner.delivery inner.delivery w.outstanding w.joining (present w) number o l q f.matches;
     }))
 
--- The opening packet is heard.
+-- The opening packet is received.
 
 syn-matches : (o : Outstanding) (last : ℕ) (s : Session) (u : ℕ) (t : Session) (out : Option OutstandingPart) (j : Joining) (p : Session)
     → IsNoMessage o → MatchesBy o last s out j p → MatchesBy o u t out first_joining p

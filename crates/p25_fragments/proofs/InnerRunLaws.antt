@@ -54,7 +54,7 @@ offered-run w message x i (told_down y e) = rw e (unmoved-down w)
 offered-run w message x i (told_busy y e) = rw e (unmoved-busy w)
 offered-run w message x i (told_taken number blocks k d o e) = rw (e, i) (started-run w message (Send (part_of message 0)))
 
--- What follows a step of the inner world.
+-- The consequence of a step of the inner world.
 
 Follow : LongState → LongState × Then → Type 0
 Follow w y = IsInnerRun w.inner y.0.inner (next_steps y.1)

@@ -6,7 +6,7 @@ use Rattle.p25_bits.specs.Bits.{part}
 use Rattle.p25_fragments.specs.{declared.joiner.Joined.TheVariants.{Whole, Part}, Joining.{Joining, first_joining, is_refused, taken_as, part_taken, message_taken}}
 use Rattle.p25_messages.specs.LongMessages.{part_count, part_mark, part_of}
 
--- a joiner that holds so many parts of a message
+-- a joiner that holds the first parts of a message
 abbrev pub joined_at : List ℕ → ℕ → Joining
 joined_at message number = record { next = number; octets = take (500 * number) message }
 
@@ -25,7 +25,7 @@ inner-accepted number count n c = grind (arith, nat_tests)
 last-accepted : (number count : ℕ) → count ≤ 500 → (0 < number → 0 < count) → is_refused number true number count ≡ false
 last-accepted number count c n = grind (arith, nat_tests)
 
--- so many octets more
+-- the octets of one more part
 more-octets : (message : List ℕ) (number : ℕ) → take (500 * number) message ++ part (500 * number) 500 message ≡ take (500 * (number + 1)) message
 more-octets message number =
     let e : 500 * (number + 1) ≡ 500 * number + 500 = omega arith in

@@ -12,13 +12,13 @@ use Rattle.p25_fragments.specs.{declared.long_step.LongStep.{LongStep}, Joining.
 use Rattle.p25_fragments.specs.LongSteps.{after_acknowledged, after_delivered, after_kind, inner_happened, long_offered, long_offered_beside, long_step, next_offered, session_ended, started, unmoved, with_first}
 use Rattle.p25_fragments.specs.LongRuns.{finished_in, is_finished, long_run, long_steps_of, taken_by, taken_in, whole_by, whole_in}
 
--- what a step adds to the lists
+-- the additions of a step to the lists
 record Tells (event : LongEvent) (w : LongState) (x : LongState × LongStep) : Type 0 where
   pub whole : x.0.whole ≡ w.whole ++ whole_by x.1.then
   pub taken : x.0.taken ≡ w.taken ++ taken_by event x.1.then
   pub acknowledged : x.0.acknowledged ≡ w.acknowledged + cond (is_finished x.1.then) 1 0
 
--- what follows a step of the inner world adds to them: it takes no long message
+-- the additions to them by the consequence of a step of the inner world: it takes no long message
 record ThenTells (w : LongState) (x : LongState × Then) : Type 0 where
   pub whole : x.0.whole ≡ w.whole ++ whole_by x.1
   pub taken : x.0.taken ≡ w.taken
@@ -28,7 +28,7 @@ record ThenTells (w : LongState) (x : LongState × Then) : Type 0 where
 none : (messages : List (List ℕ)) → messages ≡ messages ++ []
 none messages = sym (append-nil messages)
 
--- ---- what follows a step of the inner world
+-- ---- the consequence of a step of the inner world
 
 acknowledged-tells : (out : Option OutstandingPart) (w : LongState) → ThenTells w (after_acknowledged out w)
 unfolding after_acknowledged next_offered

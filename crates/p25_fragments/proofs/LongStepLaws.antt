@@ -124,7 +124,7 @@ offered-to inner message number k o up =
 
 -- A part is acknowledged.
 
--- what the joiner holds after the part
+-- the state of the joiner after the part
 held-after : (message : List ℕ) (number : ℕ) (earlier : List (List ℕ)) (delivered acknowledged : ℕ) (j : Joining) (whole : List (List ℕ))
     → delivered ≡ acknowledged + 1 → Came message number earlier delivered acknowledged j whole →
     ((number + 1 < part_count (length message)) × (whole ≡ earlier) × (j ≡ joined_at message (number + 1)))

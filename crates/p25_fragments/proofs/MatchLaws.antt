@@ -6,8 +6,8 @@ use Rattle.p25_delivery.specs.{Delivery.{Delivery, Session, empty_session, prese
 use Rattle.p25_fragments.specs.{declared.long_stations.OutstandingPart.{OutstandingPart}, Joining.{Joining, first_joining}}
 use Rattle.p25_fragments.proofs.JoinLaws.{joined_at}
 
--- whether the part that is outstanding has arrived, with so many messages delivered and acknowledged: what the joiner holds then,
--- and what is whole after the long messages before
+-- whether the outstanding part has arrived, by the numbers of messages delivered and acknowledged: the state of the joiner then, and the whole messages after
+-- the long messages before
 pub data Came (message : List ℕ) (number : ℕ) (earlier : List (List ℕ)) (delivered acknowledged : ℕ) (j : Joining) (whole : List (List ℕ)) : Type 0 where
   not_yet : delivered ≡ acknowledged → whole ≡ earlier → j ≡ joined_at message number → Came message number earlier delivered acknowledged j whole
   came_inner : delivered ≡ acknowledged + 1 → number + 1 < part_count (length message)
@@ -21,7 +21,7 @@ pub record IsIdleLong (out : Option OutstandingPart) (j : Joining) (p : Session)
   pub whole_is : p.delivered ≡ p.sent
   pub acknowledged_is : p.acknowledged ≡ length p.sent
 
--- while a part is outstanding: what does not change as it comes
+-- while a part is outstanding: the facts that do not change when it arrives
 pub record IsPartOf (part : List ℕ) (out : Option OutstandingPart) (p : Session) : Type 0 where
   pub message : List ℕ
   pub number : ℕ
@@ -43,7 +43,7 @@ pub record IsOpeningLong (number last : ℕ) (out : Option OutstandingPart) (j :
   pub session_is : p ≡ empty_session
   pub joining_is : last ≡ number → j ≡ first_joining
 
--- what is outstanding with V(R) and the present session of the delivery, and what the long messages are then
+-- the outstanding packet with V(R) and the present session of the delivery, and the long messages that match it
 unfoldable pub MatchesBy : Outstanding → ℕ → Session → Option OutstandingPart → Joining → Session → Type 0
 MatchesBy Nothing last s out j p = IsIdleLong out j p
 MatchesBy (Message part) last s out j p = IsSendingLong part s out j p

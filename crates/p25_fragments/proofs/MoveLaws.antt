@@ -42,7 +42,7 @@ IsSameIn v w = outstanding_in w ≡ outstanding_in v
 abbrev pub HasSameLast : Delivery → Delivery → Type 0
 HasSameLast v w = w.inbound.receiver.last ≡ v.inbound.receiver.last
 
--- what a call that offers no message does
+-- the effect of a call that offers no message
 pub data Moves (v : Delivery) (happening : Happening) (x : Delivery × StepKind) : Type 0 where
   moves_nothing : IsPlainKind x.1 → IsSameIn v x.0 → HasSameLast v x.0 → lists_of x.0 ≡ lists_of v → Moves v happening x
   ends : (number : ℕ) → IsPlainKind x.1 → v.outbound.sender.down ≡ true → is_opening (outstanding_in v) ≡ false → opening_number (outstanding_in v) v.outbound.sender.next ≡ number →
@@ -98,7 +98,7 @@ reopen-moves v =
     ] in
     by s.down refl
 
--- The receiver hears a packet, which is no opening packet.
+-- The receiver receives a packet, which is no opening packet.
 
 HearsBy : Delivery → Happening → Receiving × HeardAnswer → Type 0
 HearsBy v happening x = Moves v happening (with_inbound v (after_data v.inbound x))

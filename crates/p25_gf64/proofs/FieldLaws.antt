@@ -1,4 +1,4 @@
--- What follows from the laws of a field of characteristic 2, by chains of equations.
+-- The consequences of the laws of a field of characteristic 2, by chains of equations.
 use Rattle.std.proofs.Common.{◌≡◌, ◌≢◌, ◌⊎◌, sym, ap, ap₂, ◌∙◌, inl, inr}
 use Rattle.p25_gf64.specs.Field.{Field}
 
@@ -88,7 +88,7 @@ module _ {F : Type 0} (K : Field F) where
   pub mul_ne_zero : (x y : F) → x ≢ 𝟘 → y ≢ 𝟘 → x ⊗ y ≢ 𝟘
   mul_ne_zero x y hx hy e = hy (other_zero x y hx e)
 
-  -- what gives one in a product is the inverse
+  -- a factor whose product is one is the inverse
   pub inverse_from_one : (x y : F) → x ⊗ y ≡ 𝟙 → y ≡ inverse x
   inverse_from_one x y e = mul_cancel x y (inverse x) apart (e ∙ sym (mul_inverse x apart))
     where

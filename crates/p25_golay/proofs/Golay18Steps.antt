@@ -48,7 +48,7 @@ wrong_inside syndrome wrong low are = record {
   within = are.within;
 }
 
--- and the other way round
+-- and conversely
 wrong_back : (syndrome wrong : ℕ) → wrong < 2 ^ length short_columns → number_sum short_columns wrong ≡ syndrome → count_ones wrong ≤ 3 → AreWrong long_columns 3 syndrome wrong
 wrong_back syndrome wrong fits sums few =
     let low : wrong < 2 ^ 18 = subst (λ m. wrong < 2 ^ m) length-short fits in

@@ -19,7 +19,7 @@ pub Taken-none : (left : Option (List ℕ)) → Taken left [] left
 Taken-none None = record { left = refl }
 Taken-none (Some octets) = record { left = refl }
 
--- what one read takes and then another
+-- the octets that one read takes and then those of another
 pub Taken-trans : {first second third : Option (List ℕ)} {xs ys : List ℕ} → Taken first xs second → Taken second ys third → Taken first (xs ++ ys) third
 Taken-trans {third = None} {xs = xs} p q = record { left = p.left ∙ ap (prepend_known xs) q.left }
 Taken-trans {third = Some zs} {xs = xs} {ys = ys} p q =
@@ -37,7 +37,7 @@ pub Appended-none : (written : Option (List ℕ)) → Appended written [] writte
 Appended-none None = record { written = refl }
 Appended-none (Some octets) = record { written = ap Some (sym (append-nil octets)) }
 
--- what one write adds and then another
+-- the octets that one write adds and then those of another
 pub Appended-trans : {first second third : Option (List ℕ)} {xs ys : List ℕ} → Appended first xs second → Appended second ys third → Appended first (xs ++ ys) third
 Appended-trans {first = None} {ys = ys} p q = record { written = q.written ∙ ap (λ w. append_known w ys) p.written }
 Appended-trans {first = Some zs} {xs = xs} {ys = ys} p q =

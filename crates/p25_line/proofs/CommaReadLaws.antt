@@ -5,7 +5,7 @@ use Rattle.std.specs.{Option.{option_map}, Str.{bytes_eq}}
 use Rattle.p25_line.specs.CommaLists.{comma_parts, counted, dash, entries_in, list_in, parts_from, with_entry}
 use Rattle.p25_line.proofs.CommaPartLaws.{parts_from-past, parts_from-start, some_parts}
 
--- so many entries, and other than so many
+-- as many entries as given, and another number of them
 pub counted-same : {X : Type 0} (entries : Option (List X)) (done : List X) (count : ℕ) → entries ≡ Some done → length done ≡ count → counted count entries ≡ Some done
 counted-same entries done count found same =
     cc (found, cond-true (length done == count) (Some done) None (eq-eqb (length done) count same))
@@ -15,7 +15,7 @@ counted-other entries done count found other =
     cc (found, cond-false (length done == count) (Some done) None (ne_eqb (length done) count other))
 
 module _ {X : Type 0} (read : List ℕ → Option X) where
-  -- what the loop over parts keeps: all entries are those so far and those of the parts that are left
+  -- the invariant of the loop over parts: all entries are those so far and those of the parts that are left
   abbrev pub EntriesSoFar : List ℕ → ℕ → List X → Type 0
   EntriesSoFar word start done = entries_in read (comma_parts word) ≡ option_map (λ entries. done ++ entries) (entries_in read (parts_from word start))
 

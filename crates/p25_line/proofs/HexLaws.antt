@@ -80,7 +80,7 @@ octets_of-facts (suc n) (high ∷ low ∷ word) even digits =
     )
 octets_of-facts n word even digits = absurd (omega arith)
 
--- octets as the kit's hexadecimal crate speaks of them
+-- octets as in the kit's hexadecimal crate
 pub IsBytes-AllOctets : (octets : List ℕ) → AllOctets octets → IsBytes octets
 IsBytes-AllOctets octets fits i = elim (cases_lt i (length octets)) [
   | inl inside ↦ fits i 0 inside

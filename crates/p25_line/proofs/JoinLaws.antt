@@ -36,7 +36,7 @@ words_or_fault-join words some all short =
     let parts : parts_of line ≡ words = split-join 32 is_word word-spaces words some all in
     cc (words_or_fault-words line short, words_in-words line (ap (list_all is_word) parts ∙ all), parts)
 
--- what an accepted line is
+-- the facts about an accepted line
 pub record Accepted (line : List ℕ) (words : List (List ℕ)) : Type 0 where
   pub short : length line ≤ 8192
   pub all : list_all is_word words ≡ true

@@ -15,7 +15,7 @@ no_dash word long =
       | inr other ↦ other
     ]
 
--- what the digits of a word say
+-- the facts about a word of digits
 record Digits (most : ℕ) (word : List ℕ) : Type 0 where
   some : 2 ≤ length word
   few : length word ≤ 2 * most

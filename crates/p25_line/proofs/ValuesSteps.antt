@@ -14,7 +14,7 @@ other-length word octets n other same text = other (rw (← text, length-encode_
 pub other-digits : (word octets : List ℕ) → list_all is_lower_digit word ≡ false → AllOctets octets → encode_lower octets ≡ word → ⊥
 other-digits word octets other fits text = true≢false (cc (list_all-encode_lower octets fits, text, other))
 
--- what the kit's decoder reads from digits
+-- the octets that the kit's decoder reads from digits
 pub decode_sized-word : (word : List ℕ) (n : ℕ) → length word ≡ 2 * n → list_all is_lower_digit word ≡ true → decode_sized word n ≡ Ok (octets_of word)
 decode_sized-word word n even digits =
     let facts = octets_of-facts n word even digits in
@@ -24,7 +24,7 @@ decode_sized-word word n even digits =
 pub decimal-utf8 : (word : List ℕ) (number : ℕ) → number < 2 ^ 64 → decimal number ≡ word → IsUtf8 word
 decimal-utf8 word number fits text = subst IsUtf8 text (IsUtf8-from_ascii (decimal number) (IsAscii-decimal number fits))
 
--- what is parsed from the text of a number is the number
+-- the number that is parsed from its text is the number
 pub parsed-number : {E : Type 0} (word text : List ℕ) (number : ℕ) (result : Result ℕ E) → number < 2 ^ 64 → decimal number ≡ word → text ≡ word
     → ParsesUnsigned 64 10 text result → result ≡ Ok number
 parsed-number word text number result fits same here parsed = parse-decimal 64 number text result fits fits (here ∙ sym same) parsed

@@ -60,7 +60,7 @@ pub words_or_fault-words : (line : List ℕ) → length line ≤ 8192 → words_
 unfolding words_or_fault
 words_or_fault-words line short = grind arith
 
--- what a search finds passes its test
+-- an element that a search finds passes its test
 pub find-passes : {X : Type 0} (test : X → Bool) (xs : List X) (x : X) → find test xs ≡ Some x → test x ≡ true
 find-passes test [] x found = cc
 find-passes test (y ∷ xs) x found =
@@ -73,7 +73,7 @@ find-passes test (y ∷ xs) x found =
 digit-printed : (digit : ℕ) → is_lower_digit digit ≡ true → is_printed digit ≡ true
 digit-printed digit lower = grind arith
 
--- what passes one test, element by element, passes another that follows from it
+-- a list that passes one test, element by element, passes another that follows from it
 pub all-also : {X : Type 0} (first second : X → Bool) → ((x : X) → first x ≡ true → second x ≡ true) → (xs : List X) → list_all first xs ≡ true → list_all second xs ≡ true
 all-also first second also [] all = refl
 all-also first second also (x ∷ xs) all =

@@ -28,7 +28,7 @@ marked-noted : (line : List ℕ) (spans : List Span) (span : Span) (found : List
 marked-noted line spans span found same =
     rw (← take-map, map-append, same, take-take_append)
 
--- what the loop keeps
+-- the invariant of the loop
 pub record Cut (line : List ℕ) (list : Marks) (start i : ℕ) : Type 0 where
   pub order : start ≤ i
   pub within : i ≤ length line

@@ -27,7 +27,7 @@ individual_not_other : (link : LinkControl) → individual_call link ≢ Other
 unfolding individual_call
 individual_not_other link = λ is. cc
 
--- what is not interpreted
+-- a link control that is not interpreted
 pub kind_other : (link : LinkControl) (kind : LinkKind) → kind ≡ link_kind_of link → (kind ≡ Other) ↔ ((slice_index link.0 0 ≢ 0) × (slice_index link.0 0 ≢ 3))
 kind_other link kind is = (
   λ other. (

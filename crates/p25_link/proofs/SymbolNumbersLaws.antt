@@ -46,7 +46,7 @@ symbol_bits-one x = symbol_bits-numbers (x ∷ []) ∙ number_bits-one 6 (number
 octet_bits-one : (x : ℕ) → octet_bits (x ∷ []) ≡ bits_of 8 x
 octet_bits-one x = octet_bits-cons x [] ∙ ap (λ (xs : List Bool). bits_of 8 x ++ xs) octet_bits-nil ∙ append-nil (bits_of 8 x)
 
--- so many bits at most write no larger number
+-- at most `most` bits write no larger number
 pub few_bits-lt : (bits : List Bool) (most : ℕ) → length bits ≤ most → field_of bits < 2 ^ most
 few_bits-lt bits most few = omega (arith, field_of-lt bits, pow_mono few)
 
@@ -110,7 +110,7 @@ symbols_bits symbols count value long is =
     let wide : 6 * count ≡ length (symbol_bits symbols) = sym (length-symbol_bits symbols ∙ ap (λ n. 6 * n) long) in
     ap₂ bits_of wide is ∙ bits_of-field_of (symbol_bits symbols)
 
--- nine octets and so many bits of a number after them, by the number that they write together
+-- nine octets and some bits of a number after them, by the number that they write together
 module _ (octets : List ℕ) (front width rest : ℕ) (nine : length octets ≡ 9) (is : front ≡ field_of (octet_bits octets)) (small : rest < 2 ^ width) where
   pub joined_bits : bits_of (72 + width) (front * 2 ^ width + rest) ≡ octet_bits octets ++ bits_of width rest
   joined_bits = bits_joined 72 width front rest (octet_bits octets) (nine_octets_bits octets front nine is) small

@@ -47,7 +47,7 @@ joined bits before at width is there =
     let behind : 0 + at ≡ at = omega arith in
     ap₂ ◌++◌ is (bits_of-field width at bits there ∙ ap (λ n. part n width bits) (sym behind)) ∙ part_add 0 at width bits
 
--- words and their symbols are inverse to each other, and each word has so many
+-- words and their symbols are inverse to each other, and each word has `count` symbols
 pub record UndoEachOther {W : Type 0} (symbols_of : W → List Sym) (of_symbols : List Sym → W) (Keeps : W → Type 0) (count : ℕ) : Type 0 where
   pub back : (word : W) → Keeps word → of_symbols (symbols_of word) ≡ word
   pub symbols_back : (symbols : List Sym) → length symbols ≡ count → symbols_of (of_symbols symbols) ≡ symbols

@@ -38,7 +38,7 @@ start_before-suc start [] i h = absurd (omega arith)
 start_before-suc start (end ∷ ends) zero h = refl
 start_before-suc start (end ∷ ends) (suc i) h = start_before-suc end ends i (omega arith)
 
--- one more end, after so many more octets
+-- one more end, after some more octets
 pub AreEnds-push : (start : ℕ) (ends : List ℕ) (count more : ℕ) → AreEnds start ends count → AreEnds start (ends ++ (count + more) ∷ []) (count + more)
 unfolding AreEnds
 AreEnds-push start [] count more are = (omega arith, refl)

@@ -49,7 +49,7 @@ unfolding blocks_distance
 three_quarter_distance-le zero bare = omega arith
 three_quarter_distance-le (suc n) bare = omega (arith, three_quarter_distance-le n bare, nearest_distance-le 8 3 three_quarter_point (block_bits bare n) (omega arith))
 
--- so many blocks, one after the other, differ from those received as each does
+-- blocks, one after the other, differ from those received in as many bits as each does
 blocks_fixes : (states : ℕ) (point : ℕ → ℕ → ℕ) (n : ℕ) (bare : List Bool) (sent : ℕ → List Bool) → 308 + 196 * n ≤ length bare → ((j : ℕ) → j < n → length (sent j) ≡ 196)
     → ((j : ℕ) → j < n → distance_of (block_bits bare j) (sent j) ≡ nearest_distance states point (block_bits bare j))
     → distance_of (joined_below n (block_bits bare)) (joined_below n sent) ≡ blocks_distance states point n bare

@@ -101,7 +101,7 @@ none_bad (suc n) slots none j inside =
       | inr other ↦ none_bad n slots two.0 j (omega (arith, inside, other))
     ]
 
--- and the other way round
+-- and conversely
 none_fails : (n : ℕ) (slots : List Slot) → ((j : ℕ) → j < n → get_or slots j Bad ≢ Bad) → failing_slots_of n slots ≡ []
 none_fails zero slots good = failing_slots_of-zero slots
 none_fails (suc n) slots good =
@@ -135,9 +135,9 @@ pub IfOk-plain : (read : ReadHead) (bare : List Bool) → IsPlainFormat (head_fo
 IfOk-plain read bare format (Ok wrong) counted = simp (counted, body_distance-plain)
 IfOk-plain read bare format (Err field) counted = tt
 
--- What is answered.
+-- The results.
 
--- the outcome by what was read
+-- the outcome by the decoding
 pub packet_outcome-is : (read : ReadHead) (bare : List Bool) (reading : Result Packet Field) (wrong : ℕ) → reading ≡ packet_of_head read.head bare → wrong ≡ read.wrong + body_distance read.head bare
     → outcome_of (packet_failing reading) wrong ≡ packet_outcome_of read bare
 unfolding packet_outcome_of

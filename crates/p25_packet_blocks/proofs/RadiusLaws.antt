@@ -17,7 +17,7 @@ use Rattle.p25_packet_blocks.proofs.ReadingLaws.{head_from-good, head_reading_of
 use Rattle.p25_packet_blocks.proofs.ImageLaws.{header_octets-is, length-header_octets, AreOctets-header_octets, confirmed_octets-is, length-confirmed_octets, AreOctets-confirmed_octets, checked_octets-is, length-checked_octets, body_block-confirmed, body_block-plain}
 use Rattle.p25_packet_blocks.proofs.{SendableLaws.{IsSendable-head, octets_of_block}, PlacesLaws.{image_long, image_header, image_block}}
 
--- What is written is read again.
+-- Written values decode to themselves.
 
 number_of_two_octets : (number : ℕ) → octets_number (two_octets number) ≡ number
 unfolding octets_number number_after
@@ -109,7 +109,7 @@ module _ (half : HalfNear) (three_quarter : ThreeQuarterNear) (nac : ℕ) where
       let long = long_block (Plain packet) received (simp (within.long, image_long)) j inside in
       half (part (12 * j) 12 (checked_octets packet.octets)) (block_bits received j) octets.0 octets.1 long (simp sent at (within.blocks j inside))
 
-  -- what follows the header
+  -- the bits after the header
   pub body_within : (packet : Packet) (received : List Bool) → IsSendable packet → AreBlocksWithin packet (packet_image_of nac packet) received
       → packet_of_head (packet_head packet) received ≡ Ok packet
   unfolding IsSendable slots_read octets_read

@@ -19,7 +19,7 @@ pub sent_head_of-is : (sent : List Bool) → sent_head_of sent ≡ head_from (ha
 unfolding sent_head_of
 sent_head_of-is sent = refl
 
--- the header hangs on the first 316 bits alone
+-- the header depends on the first 316 bits alone
 pub sent_header_bits-take : (count : ℕ) (sent : List Bool) → 316 ≤ count → sent_header_bits (take count sent) ≡ sent_header_bits sent
 unfolding sent_header_bits
 sent_header_bits-take count sent long =

@@ -54,7 +54,7 @@ four_again (a ∷ b ∷ c ∷ d ∷ e ∷ rest) long small = absurd (omega (arit
 
 -- The header.
 
--- a header that was read has what every header keeps, and its octets are those that were read
+-- a decoded header has the invariant of every header, and its octets are those that were read
 pub record IsHeadOf (octets : List ℕ) (head : PacketHead) : Type 0 where
   pub is_head : IsHead head
   pub octets_are : octets ≡ header_octets head
@@ -133,7 +133,7 @@ good_block Bad some = absurd (some refl)
 
 -- The blocks to follow.
 
--- what was read of the blocks to follow can be sent, and is what the first nearest paths carry
+-- the decoding of the blocks to follow is sendable, and is the packet that the first nearest paths carry
 pub record IsReadOf (head : PacketHead) (bare : List Bool) (packet : Packet) : Type 0 where
   pub head_is : packet_head packet ≡ head
   pub sendable : IsSendable packet

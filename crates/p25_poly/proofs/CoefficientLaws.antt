@@ -23,7 +23,7 @@ module _ {F : Type 0} (K : Field F) where
         | inr above ↦ coefficient_past _ i (omega (arith, length-replicate n z))
       ]
 
-  -- what is read in a list is its coefficient
+  -- an element that is read in a list is its coefficient
   pub coefficient_read : (cs : List F) (i : ℕ) (x : F) → i < length cs → x ≡ get_or cs i x → x ≡ coefficient K cs i
   coefficient_read cs i x h e = get_or_read cs i x h e 𝟘
 
@@ -115,7 +115,7 @@ module _ {F : Type 0} (K : Field F) where
         | inr above ↦ short_h.above k above ∙ sym (product_zero K f g k (λ i j whole. beyond_degrees n n f g short_f short_g fits i j (omega arith)))
       ]
 
-  -- what a list is while multiples of g, shifted by s, are added to its coefficients before i
+  -- a list while multiples of g, shifted by s, are added to its coefficients before i
   abbrev pub AddedBefore : ℕ → List F → (ℕ → F) → F → ℕ → (ℕ → F) → Type 0
   AddedBefore i into old factor s g =
       ((k : ℕ) → k < i → k < length into → coefficient K into k ≡ old k ⊕ factor ⊗ shifted K s g k)

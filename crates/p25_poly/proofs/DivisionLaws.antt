@@ -47,7 +47,7 @@ module _ {F : Type 0} (K : Field F) where
               ∙ sym (ap₂ ◌⊕◌ (coefficient_past K remainder k (omega (arith, before.remainder_full))) (past_degree k (omega arith)) ∙ add_zero K 𝟘)
         ]
 
-    -- what the quotient gains
+    -- the coefficients that the quotient gains
     abbrev gained : ℕ → F
     gained k = coefficient K quotient k ⊕ coefficient K (set quotient s factor) k
 

@@ -60,7 +60,7 @@ module _ {F : Type 0} (K : Field F) where
       gains : ℕ → F
       gains k = x k ⊕ y k
 
-  -- what is short, divided by the cell, makes the sum right
+  -- the missing value, divided by the cell, corrects the sum
   pub short_made_up : (s r p : F) → p ≢ 𝟘 → s ⊕ p ⊗ ((r ⊕ s) ⊗ inverse p) ≡ r
   short_made_up s r p live =
       ap (λ w. s ⊕ w)

@@ -45,7 +45,7 @@ module _ {F : Type 0} (K : Field F) where
         value_longer K p size g x (omega arith) short,
       )
 
-  -- what is added to both products goes
+  -- a term that is added to both products cancels
   crossed : (v a u b c p : F) → v ⊗ (a ⊕ c ⊗ (p ⊗ b)) ⊕ (u ⊕ c ⊗ (p ⊗ v)) ⊗ b ≡ v ⊗ a ⊕ u ⊗ b
   crossed v a u b c p =
       ap₂ ◌⊕◌ (mul_add K v a (c ⊗ (p ⊗ b))) (add_mul K u (c ⊗ (p ⊗ v)) b)

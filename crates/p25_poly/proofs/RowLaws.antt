@@ -90,17 +90,17 @@ cleared_elsewhere n column front old new x y cleared agree met = record {
       ∙ met.each r h;
 }
 
--- ---- the steps of elimination, for rows and what is left of them
+-- ---- the steps of elimination, for rows and the rows that are left
 
 module _ (n column : ℕ) (system cleared : List Row) (front : Row)
     (inside : column < n) (some : 0 < length system) (is_front : front ≡ row_of system 0) (clears : AreCleared column front (drop 1 system) cleared) where
-  -- what solves the cleared rows, corrected by the pivot row, solves all
+  -- a solution of the cleared rows, corrected by the pivot row, solves all
   pub corrected_solution : (x y : ℕ → Sym) → AgreeBut column x y → IsMet n front y → AreMet n cleared x → AreMet n system y
   corrected_solution x y agree first met =
       met_with_front n system y (rw (← is_front) first)
       (cleared_back n column front _ cleared y clears first (cleared_elsewhere n column front _ cleared x y clears agree met))
 
-  -- what solves all solves the cleared rows
+  -- a solution of all rows solves the cleared rows
   pub solution_cleared : (x : ℕ → Sym) → AreMet n system x → AreMet n cleared x
   solution_cleared x met =
       cleared_forth n column front _ cleared x clears (rw is_front (met.each 0 some)) (met_rest n system x met)

@@ -43,7 +43,7 @@ generator_more i old new root same added before = record {
 
 -- ---- the division
 
--- what a word is while its first i symbols are made zero by multiples of the generator
+-- a word while its first i symbols are made zero by multiples of the generator
 pub record IsDividedTo (i n checks : ℕ) (start word : List Sym) : Type 0 where
   pub same : (k : ℕ) → 1 ≤ k → k ≤ checks → value_at gf64 n (coefficient gf64 word) (inverse (power gf64 alpha k)) ≡ value_at gf64 n (coefficient gf64 start) (inverse (power gf64 alpha k))
   pub cleared : (j : ℕ) → j < i → coefficient gf64 word j ≡ 𝟘

@@ -49,7 +49,7 @@ generator_is : (checks : ℕ) → AreGenerator checks (generator_of checks)
 generator_is zero = generator_none
 generator_is (suc checks) = generator_more checks (generator_is checks)
 
--- what coefficients are while the first of them are made zero
+-- coefficients while the first of them are made zero
 record AreReduced (count n checks : ℕ) (start now : ℕ → Sym) : Type 0 where
   same : (k : ℕ) → 1 ≤ k → k ≤ checks → value_at gf64 n now (inverse (power gf64 alpha k)) ≡ value_at gf64 n start (inverse (power gf64 alpha k))
   cleared : (j : ℕ) → j < count → now j ≡ 𝟘

@@ -35,7 +35,7 @@ value_begun n f x = simp (none, value-none)
     none : n - n ≡ 0
     none = omega arith
 
--- what Horner's rule has is the quotient's next coefficient
+-- the value of Horner's rule is the quotient's next coefficient
 pub rest_here : (n i : ℕ) (f : ℕ → Sym) (x : Sym) → 0 < i → value_at gf64 (n - i) (λ k. f (i + k)) x ≡ rest_at gf64 n f x (i - 1)
 rest_here n i f x positive = ap (λ m. value_at gf64 (n - m) (λ k. f (m + k)) x) next
   where
@@ -70,7 +70,7 @@ sum_of_terms count elements values old new element i few are rest terms next =
     (λ c low. term_next (coefficient gf64 values c) _ _ _ i (terms c low) (next c low))
     ∙ sum_of_listed count elements values element _ few are rest
 
--- what the terms and their sum are while the first r are multiplied by their factors
+-- the terms and their sum while the first r are multiplied by their factors
 pub record IsMultipliedTo (r : ℕ) (factors start terms : List Sym) (sum : Sym) : Type 0 where
   pub before : (k : ℕ) → k < r → coefficient gf64 terms k ≡ gf64.mul (coefficient gf64 start k) (coefficient gf64 factors k)
   pub after : (k : ℕ) → r ≤ k → coefficient gf64 terms k ≡ coefficient gf64 start k

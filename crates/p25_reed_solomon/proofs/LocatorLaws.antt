@@ -148,7 +148,7 @@ module _ (n checks half : ℕ) (syndromes symbols : List Sym) (erased : List Boo
           | inr kept ↦ with_erasures.stays _ (key_vanishes j inside (lowered_kept n erased n errors j places (omega arith) inside kept other))
         ]
 
-    -- a zero without an erasure is wrong
+    -- a zero without an erasure is a position with an error
     zero_is_wrong : (j : ℕ) → j < n → is_erased erased j ≡ false
         → value_at gf64 (half + 1 + erased_below erased n) (times_erasures n erased n (coefficient_of locator)) (point_of n j) ≡ gf64.zero → errors j ≢ gf64.zero
     unfolding left

@@ -63,7 +63,7 @@ module _ {F : Type 0} (K : Field F) where
   value_stays n k s f g h c y short fits e none =
       cc (value-added n k s f g h c y short fits e, none, mul_zero K (power K y s), mul_zero K c, add_zero K (value_at K n f y))
 
-  -- times 1 + c y: what vanished still does
+  -- times 1 + c y: old zeros stay zeros
   pub old_zero : (k n : ℕ) (f h : ℕ → F) (c y : F) → n ≡ 1 + k → IsShort K k f → ((j : ℕ) → h j ≡ f j ⊕ c ⊗ shifted K 1 f j) → value_at K k f y ≡ 𝟘 → value_at K n h y ≡ 𝟘
   old_zero k n f h c y size short e none =
       value_stays n k 1 f f h c y short (omega arith) e none ∙ value_longer K k n f y (omega arith) short ∙ none

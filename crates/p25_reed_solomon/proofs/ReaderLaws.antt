@@ -47,7 +47,7 @@ cost_of_errors n k received word syndromes erased errors long_received long eras
       explains.few,
     )
 
--- the cost of what was received, and of any word
+-- the cost of the received word, and of any word
 pub cost_of_received : (n : ℕ) (received : List Sym) (erased : List Bool)
     → length received ≡ n → length erased ≡ n → erased_cost same_symbols (without_erased received erased) received ≡ erased_below erased n
 cost_of_received n received erased long erasures =
@@ -64,7 +64,7 @@ pub cost_of_erasures : (n : ℕ) (received word : List Sym) (erased : List Bool)
 cost_of_erasures n received word erased long_received long erasures =
     omega (arith, cost-errors, ap (erased_below erased) long_received)
 
--- errors that explain the syndromes make a word of the code of what was received
+-- errors that explain the syndromes change the received word into a codeword
 pub corrected : (n k : ℕ) (received word syndromes : List Sym) (erased : List Bool) (errors : ℕ → Sym) → IsCode n k → length received ≡ n → length word ≡ n
     → ((r : ℕ) → r < n - k → coefficient gf64 syndromes r ≡ value_of n received (r + 1))
     → Explains n (n - k) syndromes erased errors → ((j : ℕ) → j < n → coefficient gf64 word j ≡ gf64.add (coefficient gf64 received j) (errors j))

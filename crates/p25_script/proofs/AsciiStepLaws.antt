@@ -68,7 +68,7 @@ pub ascii-step_text_of : (step : Step) → is_ascii (step_text_of step) ≡ true
 unfolding step_text_of
 ascii-step_text_of step = ascii-append (kind_text step.kind) (false_text step.false_pass) (ascii-kind_text step.kind) (ascii-false_text step.false_pass)
 
--- how many sessions there were
+-- the number of sessions
 pub ascii-sessions_text : (sessions : ℕ) → is_ascii (sessions_text sessions) ≡ true
 ascii-sessions_text sessions = by_test (nat_lt 1 sessions)
   where

@@ -39,7 +39,7 @@ by_words-words event fits = refl
 
 -- ---- a line that is read is the line of its event
 
--- what was read from words
+-- the decoding of words
 abbrev ReadFrom : List (List ℕ) → DuplexEvent → Type 0
 ReadFrom words event = (duplex_words event ≡ words) × IsDuplexScripted event
 
@@ -91,7 +91,7 @@ from_others start others event found = cc found
 pub duplex_laws : WordLaws duplex_words duplex_by_words IsDuplexScripted
 duplex_laws = record { some = words-some; are_words = words-words; back = by_words-words; again = from-words duplex_words IsDuplexScripted start_word duplex_starts event_behind from_others }
 
--- and the laws of the duplex world speak of it
+-- and the laws of the duplex world hold for it
 pub is-event : (event : DuplexEvent) → IsDuplexScripted event → IsDuplexEvent event
 unfolding IsDuplexEvent
 is-event (Send side message) fits = fits

@@ -33,7 +33,7 @@ by_words-words (Inner event) fits = inner-words event fits.no_offer ∙ ap inner
 
 -- ---- words that are read are those of their event
 
--- what was read from words
+-- the decoding of words
 abbrev ReadFrom : List (List ℕ) → LongEvent → Type 0
 ReadFrom words event = (long_event_words event ≡ words) × IsLongScripted event
 

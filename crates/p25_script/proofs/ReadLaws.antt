@@ -5,7 +5,7 @@ use Rattle.p25_line.proofs.LineWordsLaws.{first-others}
 use Rattle.p25_script.specs.{Script.{event_by_words, event_in, event_named, word_count}, declared.names.EventKind.{EventKind}}
 use Rattle.p25_script.specs.declared.names.EventKind.TheVariants.{Send as SendLine, Timeout as TimeoutLine, Reopen as ReopenLine, Deliver as DeliverLine}
 
--- the first word names no kind
+-- the first word names no type
 pub wrong_kind : (words : List (List ℕ)) (first : List ℕ) → slice_get words 0 ≡ Some first → event_named first ≡ None → event_by_words words ≡ Err WrongKind
 wrong_kind words first at none = ap event_by_words (first-others words first at) ∙ ap (λ kind. named_or_fault event_in kind (drop 1 words)) none
 
@@ -13,7 +13,7 @@ wrong_kind words first at none = ap event_by_words (first-others words first at)
 pub right_kind : (words : List (List ℕ)) (first : List ℕ) (kind : EventKind) → slice_get words 0 ≡ Some first → event_named first ≡ Some kind → event_by_words words ≡ event_in kind (drop 1 words)
 right_kind words first kind at named = ap event_by_words (first-others words first at) ∙ ap (λ kind. named_or_fault event_in kind (drop 1 words)) named
 
--- another number of words is a wrong key
+-- with another number of words the fault is a wrong key
 other_count : (kind : EventKind) (others : List (List ℕ)) → (suc (length others) ≡ word_count kind → ⊥) → event_in kind others ≡ Err Key
 other_count SendLine (word ∷ []) other = absurd (other refl)
 other_count TimeoutLine [] other = absurd (other refl)

@@ -33,7 +33,7 @@ event_by_words-words event fits = refl
 
 -- ---- a line that is read is the line of its event
 
--- what was read from the words after the first
+-- the decoding of the words after the first
 abbrev ReadFrom : List (List ℕ) → Event → Type 0
 ReadFrom words event = (event_words event ≡ words) × IsScripted event
 
@@ -78,7 +78,7 @@ from_others kind others event found = cc found
 pub event_laws : WordLaws event_words event_by_words IsScripted
 event_laws = record { some = event_words-some; are_words = event_words-words; back = event_by_words-words; again = from-words event_words IsScripted event_word event_kinds event_in from_others }
 
--- ---- how long lines are
+-- ---- the lengths of lines
 
 pub length-send : (message : List ℕ) → IsMessage message → length (event_text (Send message)) ≤ 4061
 unfolding event_text

@@ -91,7 +91,7 @@ joined-marks (place ∷ next ∷ places) fits =
     list_all-append is_mark (decimal place) (44 ∷ join_with_byte 44 (map decimal (next ∷ places)))
     ∙ ap₂ ◌&&◌ (marks-digits (decimal place) (decimal-digits place (omega (arith, fits.0)))) (joined-marks (next ∷ places) fits.1)
 
--- how long a list of numbers is
+-- the length of a list of numbers
 joined-some : (places : List ℕ) → AllFit (λ place. place < 25920) places → 0 < length places → 0 < length (join_with_byte 44 (map decimal places))
 joined-some [] fits some = absurd (omega arith)
 joined-some (place ∷ []) fits some = decimal_nonempty place (omega (arith, fits.0))

@@ -42,7 +42,7 @@ broken_told item sent place count nac duid fields read is packet =
     (sym (unit_item_of-some place sent found.nid (reading_from (Some found.nid) sent) found.read refl) ∙ known.1) in
     packet_told sent (rw (same, packet, kind_need-packet) at found.kind)
 
--- what is made of a broken packet
+-- the output for a broken packet
 pub softened-packet : (item : Item) (levels : List ℤ) (sent : List Bool) (place count nac duid : ℕ) (fields : List Field) → item ≡ Broken place count nac duid fields → duid ≡ 0xC
     → softened item levels sent ≡ softened_packet fields levels sent
 unfolding softened

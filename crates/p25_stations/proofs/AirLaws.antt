@@ -11,7 +11,7 @@ use Rattle.p25_delivery.specs.Orderly.{AreTrueSlots, IsTrueTo}
 use Rattle.p25_stations.specs.declared.air.Carried.TheVariants.{Lost, Foreign, Heard}
 use Rattle.p25_stations.specs.Air.{station_nac, station_status, transmission_of, received_bits, is_true_slot, are_true_slots, is_true_to, carried_from, carried_of, ArrivesWithin}
 
--- The tests of a false pass say what they test.
+-- The tests of a false pass agree with their definitions.
 
 same-octets : (xs ys : List ℕ) → bytes_eq xs ys ≡ true → xs ≡ ys
 same-octets xs ys e = same_text xs ys (sym e)
@@ -80,7 +80,7 @@ unfolding is_true_to
 packet-itself (Confirmed packet) = and_from _ _ (itself packet.head.0) (slots-itself packet.slots)
 packet-itself (Plain packet) = and_from _ _ (itself packet.head.0) (itself packet.octets)
 
--- and to what it is true to
+-- and the tests pass if the definitions hold
 true-tests : (sent heard : List Slot) → AreTrueSlots sent heard → are_true_slots sent heard ≡ true
 unfolding are_true_slots is_true_slot AreTrueSlots
 true-tests [] [] t = refl
@@ -134,7 +134,7 @@ air-within reads sent flips sendable within =
       own-heard sent,
     )
 
--- What the code reads.
+-- The decoding by the code.
 
 pub carried-lost : (sent : Packet) (flips : List ℕ) (field : Field) → packet_unit_of (received_bits sent flips) ≡ Err field → carried_of sent flips ≡ Lost field
 unfolding carried_of carried_from

@@ -23,7 +23,7 @@ happening-clean delivery event false_pass happening opens is f = tt
 happening-clean delivery event false_pass happening (brings_data flips sent packet b n e) is f = heard-of sent packet flips delivery.packet_sent b n e f
 happening-clean delivery event false_pass happening (brings_answer flips sent packet b n e) is f = heard-of sent packet flips delivery.answer b n e f
 
--- what happens between a delivery and what it becomes, which is clean under a condition
+-- the events between a delivery and a later one, which are clean under a condition
 pub record Between (before after : Delivery) (If : Type 0) : Type 0 where
   pub happenings : List Happening
   pub becomes : after ≡ delivery_run before happenings
@@ -55,7 +55,7 @@ run-between (event ∷ events) w =
       clean = λ (c : AreEvents (event ∷ events) × AreClean (steps_of w (event ∷ events))). more.clean (c.0.0, (c.1.0, (c.0.1, c.1.1)));
     }
 
--- what every clean delivery keeps, a clean run keeps
+-- a property of every clean delivery is one of a clean run
 
 pub from-deliveries : (P : Delivery → Type 0) → ((happenings : List Happening) → IsCleanDelivery first_delivery happenings → P (delivery_run first_delivery happenings)) →
     (events : List Event) → AreEvents events → IsCleanRun events → P (world_run first_world events).delivery
@@ -69,7 +69,7 @@ run-facts = from-deliveries DeliveryFacts facts-kept
 pub run-orderly : (events : List Event) → AreEvents events → IsCleanRun events → AreOrderly (sessions_of (world_run first_world events).delivery)
 run-orderly = from-deliveries (λ (delivery : Delivery). AreOrderly (sessions_of delivery)) sessions-orderly
 
--- and every run keeps what every delivery keeps
+-- and a property of every delivery is one of every run
 
 pub run-counted : (events : List Event) → AreCounted (sessions_of (world_run first_world events).delivery)
 run-counted events =

@@ -9,7 +9,7 @@ unfolding counted_when
 none-before true count e = absurd (omega arith)
 none-before false count e = (refl, e)
 
--- how many false passes a state counts, whether a step is one, and that each step counts its own
+-- the number of false passes that a state counts, whether a step is one, and that each step counts its own
 abbrev pub Counts : {W E S : Type 0} → (W → E → W × S) → (W → ℕ) → (S → Bool) → Type 0
 Counts {W} {E} {S} step passes is_false = (w : W) (event : E) → passes (step w event).0 ≡ counted_when (is_false (step w event).1) (passes w)
 

@@ -5,7 +5,7 @@ use Rattle.p25_delivery.proofs.RunLaws.{run-append}
 use Rattle.p25_stations.specs.{Steps.{Event, Send, Step, WorldState, first_world, world_step}, Runs.{HasHistory, IsCleanRun, IsEvent}}
 use Rattle.p25_stations.proofs.{CleanLaws.{run-orderly, run-facts, run-counted, run-whole}, FalsePassLaws.{clean-from_none}}
 
--- what holds of each entry of two lists holds of each of both
+-- a condition on each entry of two lists holds for each of both together
 pub each-append : {X : Type 0} (Is : X → Type 0) (xs ys : List X) → EachIs Is xs → EachIs Is ys → EachIs Is (xs ++ ys)
 unfolding EachIs
 each-append Is [] ys first second = second

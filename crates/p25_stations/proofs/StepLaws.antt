@@ -9,7 +9,7 @@ use Rattle.p25_stations.specs.{declared.air.Carried.{Carried}, declared.air.Carr
 use Rattle.p25_stations.specs.{declared.step.Event.TheVariants.{Send, Timeout, Reopen, ToReceiver, ToSender}, declared.step.Step.{Step}, Air.{carried_of}, WorldState.{WorldState}}
 use Rattle.p25_stations.specs.Steps.{heard_of, delivery_of, counted_when, quiet_step, heard_step, heard_by, newest_by, delivered, world_step}
 
--- what an event has happen at a delivery, and whether it is a false pass
+-- the effect of an event on a delivery, and whether it is a false pass
 pub data HasHappen (delivery : Delivery) : Event → Bool → Happening → Type 0 where
   offers : (message : List ℕ) → HasHappen delivery (Send message) false (Offering message)
   is_late : HasHappen delivery Timeout false Time_up
@@ -19,13 +19,13 @@ pub data HasHappen (delivery : Delivery) : Event → Bool → Happening → Type
   brings_answer : (flips : List ℕ) (sent packet : Packet) (false_pass : Bool)
       → delivery.answer ≡ Some sent → carried_of sent flips ≡ Heard packet false_pass → HasHappen delivery (ToSender flips) false_pass (Answer_heard packet)
 
--- a kind of step in which nothing happens
+-- a type of step in which nothing happens
 pub data IsQuiet : StepKind → Type 0 where
   nothing : (way : Way) → IsQuiet (Nothing way)
   lost : (way : Way) (field : Field) → IsQuiet (Lost way field)
   ignored : (way : Way) → IsQuiet (Ignored way)
 
--- what a step does at the delivery
+-- the effect of a step on the delivery
 pub data Does (w : WorldState) (event : Event) : WorldState × Step → Type 0 where
   rests : (kind : StepKind) → IsQuiet kind → Does w event (quiet_step w (w.delivery, kind))
   does : (happening : Happening) (false_pass : Bool) → HasHappen w.delivery event false_pass happening → Does w event (heard_step w false_pass (happens w.delivery happening))

@@ -11,7 +11,7 @@ use Rattle.p25_stations.specs.{declared.step.Event.{Event}, declared.step.Event.
 use Rattle.p25_stations.specs.{Steps.{world_step}, Runs.{steps_of, world_run, delivered_by, delivered_in, sent_by, sent_in, is_acknowledged, acknowledged_in}}
 use Rattle.p25_stations.proofs.StepLaws.{HasHappen, offers, is_late, opens, brings_data, brings_answer, IsQuiet, nothing, Does, rests, does, step-does}
 
--- what an event of a kind adds to the lists of a delivery
+-- the additions of an event, by the type of its step, to the lists of a delivery
 record Tells (event : Event) (w : Delivery) (x : Delivery × StepKind) : Type 0 where
   pub delivered : x.0.inbound.received ≡ w.inbound.received ++ delivered_by x.1
   pub sent : x.0.outbound.sent ≡ w.outbound.sent ++ sent_by event x.1

@@ -72,7 +72,7 @@ reopen-tries o count again s =
     elim s.down as (λ (b : Bool). ReopenTells o count again s
     (cond b (record { next = s.next; outstanding = Opening number; tries = 1; down = false }, ReopenSent number (opening_packet number)) (s, ReopenUp))) [ true ↦ refl | false ↦ refl ]
 
--- A packet that the receiver hears.
+-- A packet that the receiver receives.
 
 data-tries : (i : Incoming) (tries : ℕ) (x : Receiving × HeardAnswer) → tries_after tries (after_data i x).1.0 ≡ tries
 unfolding after_data
@@ -109,7 +109,7 @@ answer-tries o s (Plain packet) =
     = elim (is_response packet.head) as (λ (b : Bool). AnswerTells o s (cond b heard (s, SenderIgnored))) [ true ↦ response-tries o s.outstanding s packet | false ↦ refl ] in
     elim s.down as (λ (b : Bool). AnswerTells o s (cond b (s, SenderIgnored) (cond (is_response packet.head) heard (s, SenderIgnored)))) [ true ↦ refl | false ↦ ours ]
 
--- What happens at a delivery, every step, and every run.
+-- The events of a delivery, every step, and every run.
 
 happening-tries : (w : Delivery) (happening : Happening) → IsOutgoing w.outbound → tries_after w.outbound.sender.tries (happens w happening).1 ≡ (happens w happening).0.outbound.sender.tries
 unfolding happens with_outbound with_inbound

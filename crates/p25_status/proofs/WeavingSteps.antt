@@ -1,4 +1,4 @@
--- What each step of the loops over the blocks of a data unit needs: one block more. The blocks from a position on begin with that block.
+-- The steps of the loops over the blocks of a data unit: one block more. The blocks from a position on begin with that block.
 use Rattle.std.proofs.Common.{◌≡◌, ℕ, suc, ◌+◌, ◌-◌, ◌*◌, ◌<◌, ◌≤◌, Bool, false, List, [], ◌∷◌, ◌++◌, length, take, drop, get_or, slice_get, Some, ap, ap₂, sym, ◌∙◌, arith, append_assoc}
 use Rattle.std.proofs.{lemmas.Option.{slice_get_within, get_or_from_slice_get}, lemmas.List.{drop_more, drop-drop, get_or-drop}}
 use Rattle.p25_bits.specs.Bits.{digit_of, bits_of, field_of, field_after, part}

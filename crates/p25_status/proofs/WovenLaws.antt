@@ -118,7 +118,7 @@ woven-in (suc blocks) sent e =
     )
     ∙ block_whole sent enough
 
--- to weave what was taken apart gives it back
+-- bits that were taken apart and are woven again are as before
 pub woven-of : (blocks : ℕ) (sent : List Bool) → length sent ≡ 72 * blocks → woven (bare_of sent) (statuses_of sent) ≡ sent
 unfolding bare_of statuses_of
 woven-of blocks sent e =

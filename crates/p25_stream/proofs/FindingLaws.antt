@@ -16,7 +16,7 @@ pub put-more : (before held later : List Bool) (octets : List ℕ) (taken count 
 put-more before held later octets taken count was is =
     rw (is, take_rest, was, append_assoc, ← octet_bits-append, ← take-add)
 
--- what is held and what is left are what there is
+-- the bits held and the bits left are all bits
 pub filled : (before held : List Bool) (octets : List ℕ) (taken : ℕ) (judged : Judged) → held ≡ before ++ octet_bits (take taken octets)
     → IsJudged judged held → (is_settled judged ≡ false → length octets ≤ taken) → IsFilled before (octet_bits octets) held judged
 filled before held octets taken judged is known all = record {

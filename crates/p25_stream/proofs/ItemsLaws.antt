@@ -29,7 +29,7 @@ pub is_decided-synced : (bits : List Bool) (need : Need) → has_sync bits ≡ t
 unfolding is_decided
 is_decided-synced bits need yes' is = cond-true (has_sync bits) (is_known (need_of bits)) (gap_known (gap_of bits) (length bits)) yes' ∙ ap is_known is
 
--- what holds in each case of the first item holds of it
+-- a property that holds in each case of the first item holds for it
 synced-cases : (P : Item → Type 0) (at : ℕ) (bits : List Bool) (need : Need) → has_sync bits ≡ true → need_of bits ≡ need
     → ((count : ℕ) → has_sync bits ≡ true → need_of bits ≡ More count → P (Cut at (length bits)))
     → ((count : ℕ) → has_sync bits ≡ true → need_of bits ≡ Length count → P (unit_item_of at (take count bits)))
@@ -83,7 +83,7 @@ gap-first at bits place count is =
     (λ field yes' is same. absurd (cc))
     is
 
--- with turns enough for every bit it does not matter how many there are
+-- with turns enough for every bit their number does not matter
 items_in-enough : (more turns : ℕ) (ended : Bool) (at : ℕ) (bits : List Bool) → length bits ≤ more → length bits ≤ turns → items_in more ended at bits ≡ items_in turns ended at bits
 unfolding items_in
 items_in-enough zero (suc turns) ended at (bit ∷ bits) a b = absurd (omega arith)
@@ -122,7 +122,7 @@ pub items_by-none : (ended : Bool) (at : ℕ) (bits : List Bool) → (ended || i
 items_by-none ended at [] stops = items_by-nil ended at
 items_by-none ended at (bit ∷ bits) stops = items_by-cons ended at bit bits ∙ cond-false (ended || is_decided (bit ∷ bits)) _ [] stops
 
--- a list with a first item gives its parts, and what that item covers is there
+-- a list with a first item gives its parts, and the bits that this item covers are there
 pub items_by-first : (ended : Bool) (at : ℕ) (bits : List Bool) (item : Item) (items : List Item) → items_by ended at bits ≡ item ∷ items
     → (0 < length bits) × (item ≡ first_item at bits) × (items ≡ items_by ended (at + covered item) (drop (covered item) bits))
     × (0 < covered item) × (covered item ≤ length bits)
@@ -217,7 +217,7 @@ items_by-decided ended at bits more decided =
     ∙ ap (λ item. item ∷ items_by ended (at + covered item) (drop (covered item) (bits ++ more))) stays.0
     ∙ ap (λ rest. first_item at bits ∷ items_by ended (at + covered (first_item at bits)) rest) left
 
--- what some turns decide begins the items of more bits
+-- the items that some turns decide are the first of the items of more bits
 items_in-stay : (turns : ℕ) (ended : Bool) (at : ℕ) (bits more : List Bool) → (rest : List Item) × (items_by ended at (bits ++ more) ≡ items_in turns false at bits ++ rest)
 unfolding items_in
 items_in-stay zero ended at bits more = (items_by ended at (bits ++ more), refl)

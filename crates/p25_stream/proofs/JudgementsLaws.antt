@@ -94,7 +94,7 @@ searched-more bits more clear is =
       )
     ]
 
--- what is waited for is waited for until it is there
+-- bits that are waited for are waited for until they are there
 pub waits-more : (bits more : List Bool) (count : ℕ) (begun : Begun) → Needs bits (More count) begun → length (bits ++ more) < count → Needs (bits ++ more) (More count) begun
 waits-more bits more count begun is short = record {
   synced = has_sync-append bits more (has_sync-length bits is.synced) ∙ is.synced;

@@ -44,7 +44,7 @@ window_in bits k count place number there inside is =
     let few : 48 ≤ length (drop (k + place) bits) = omega (arith, length-drop (k + place) bits) in
     rw (is, bits_of-field (47 + count) k bits fits, part-part k (47 + count) place 48 bits within, has_sync-take (drop (k + place) bits) 48 (omega arith) few)
 
--- so many more positions without a sync
+-- `n` more positions without a sync
 pub searched-many : (bits : List Bool) (k n : ℕ) → k + n + 47 ≤ length bits → k ≤ sync_place bits → ((place : ℕ) → place < n → has_sync (drop (k + place) bits) ≡ false) → k + n ≤ sync_place bits
 searched-many bits k zero there none free = omega arith
 searched-many bits k (suc n) there none free =

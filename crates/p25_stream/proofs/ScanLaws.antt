@@ -1,4 +1,4 @@
--- What a scanner gives: the items of what it holds and of any bits that come later.
+-- The items that a scanner can return: those of the bits that it holds and of any bits that come later.
 use Rattle.std.proofs.Common.{◌≡◌, ◌↔◌, ℕ, ◌+◌, ◌<◌, ◌≤◌, inl, inr, Bool, true, false, not, ◌||◌, List, [], ◌∷◌, ◌++◌, length, take, drop, refl, ap, sym, ◌∙◌, arith, append-nil}
 use Rattle.std.proofs.{lemmas.Bool.{cases_Bool, not-true}, lemmas.List.{nil_from_length}}
 use Rattle.std.specs.Prelude.{IsTrue}
@@ -92,7 +92,7 @@ drained-when-going judged scan known going is same =
       λ none. ap not (same ∙ open'.1 (rw going at none)),
     )
 
--- what the first item covers is held
+-- the bits that the first item covers are held
 pub next-fits : (scan : Scan) (item : Item) → (given scan ≡ [] → ⊥) → item ≡ first_item scan.place scan.held → covered item ≤ length scan.held
 next-fits scan item some is =
     let goes = items_by-some scan.finished scan.place scan.held some in

@@ -1,4 +1,4 @@
--- The least position with a sync: by recursion on the bits, and by how many positions are known to have none.
+-- The least position with a sync: by recursion on the bits, and by the number of positions that are known to have none.
 use Rattle.std.proofs.Common.{◌≡◌, ℕ, zero, suc, ◌+◌, ◌<◌, ◌≤◌, inl, inr, Bool, true, false, List, [], ◌∷◌, ◌++◌, length, drop, refl, ap, sym, ◌∙◌, arith, length-drop}
 use Rattle.std.proofs.lemmas.Bool.{cases_Bool, cond-true, cond-false}
 use Rattle.p25_status.specs.Sync.{has_sync}

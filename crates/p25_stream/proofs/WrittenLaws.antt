@@ -1,5 +1,5 @@
--- What is written of items: those that come first are written first, and if each is written by as many bits as it covers, it is written at its
--- position. By induction on the first items.
+-- The output for items: those that come first are written first, and if the output for each has as many bits as it covers, it is at its position. By induction
+-- on the first items.
 use Rattle.std.proofs.Common.{◌≡◌, ℕ, ◌+◌, ◌≤◌, Bool, true, List, [], ◌∷◌, ◌++◌, length, take, drop, refl, sym, ap, ◌∙◌, arith, append_assoc, append-nil, length-append, length-drop}
 use Rattle.std.proofs.{lemmas.List.{drop-drop, length-take-le}, lemmas.List.Sums.{sum_by-cons}}
 use Rattle.std.specs.List.{sum_by}

@@ -17,9 +17,9 @@ use Rattle.p25_text.proofs.ValueLaws.{length-three_digits, nac_in-text, nac_in-t
 use Rattle.p25_text.proofs.VoiceLaws.{values-voice_in, voice-count, voice-printed, voice-short, voice_in-values}
 use Rattle.p25_text.proofs.WordLaws.{keyed-values_behind, keyed-words, length-join, size_of, size_of-keyed, values_behind-keyed}
 
--- ---- what is shown for each kind, in the order of their table
+-- ---- the proofs for each type, in the order of their table
 
--- a kind is named by its word, and by no other
+-- a type is named by its word, and by no other
 pub kind_named-word : (kind : UnitKind) → kind_named (kind_word kind) ≡ Some kind
 kind_named-word Hdu = refl
 kind_named-word kind = refl
@@ -27,7 +27,7 @@ kind_named-word kind = refl
 pub word-kind_named : (word : List ℕ) (kind : UnitKind) → kind_named word ≡ Some kind → kind_word kind ≡ word
 word-kind_named word kind found = named-word kind_word kinds word kind found
 
--- the word of a kind is a word of at most nine octets
+-- the word of a type is a word of at most nine octets
 pub kind-word : (kind : UnitKind) → is_word (kind_word kind) ≡ true
 kind-word Hdu = refl
 kind-word kind = refl
@@ -87,7 +87,7 @@ record IsReadAs (kind : UnitKind) (values : List (List ℕ)) (body : Body) : Typ
   same_values : body_values body ≡ values
   fits : IsSendableBody body
 
--- a packet, as what a unit carries
+-- a packet as the contents of a data unit
 packet-read : (kind : UnitKind) (values : List (List ℕ)) (found : Option BlockPacket) (body : Body)
     → ((packet : BlockPacket) → found ≡ Some packet → IsPacketRead kind values packet) → option_map Packet found ≡ Some body → IsReadAs kind values body
 unfolding IsSendableBody
@@ -96,7 +96,7 @@ packet-read kind values found body read same =
     let facts = read taken.0 taken.1 in
     subst (IsReadAs kind values) taken.2 (record { same_kind = facts.same_kind; same_values = facts.same_values; fits = facts.sendable })
 
--- a voice unit, as what a unit carries
+-- a voice data unit as the contents of a data unit
 voice-read : (kind : UnitKind) (values : List (List ℕ)) (body : Body) → option_map Voice (voice_in kind values) ≡ Some body → IsReadAs kind values body
 unfolding IsSendableBody
 voice-read kind values body same =
@@ -118,7 +118,7 @@ values-body_in Response (head ∷ octets ∷ []) body found =
     packet-read Response (head ∷ octets ∷ []) (plain_in 0x03 head octets) body (λ packet same. values-plain_in 0x03 head octets packet (inr refl) same) found
 values-body_in kind values body found = cc found
 
--- ---- what holds of all kinds
+-- ---- the laws of all types
 
 unit_words-words : (unit : UnitParts) → IsSendableUnit unit → list_all is_word (unit_words unit) ≡ true
 unit_words-words unit fits =

@@ -21,7 +21,7 @@ cond-found test value result found =
       | inr failed ↦ let none = cond-false test value None failed in cc
     ]
 
--- there were so many
+-- a list that is found has that number of elements
 pub counted-found : {X : Type 0} (count : ℕ) (value : Option (List X)) (result : List X) → counted count value ≡ Some result → (value ≡ Some result) × (length result ≡ count)
 counted-found count None result found = cc found
 counted-found count (Some items) result found =

@@ -89,7 +89,7 @@ plain_in-values format packet same fits =
     ∙ cond-true (head_format packet.head == format) (option_map (plain_of packet.head) (octets_or_none count word)) None (eq-eqb (head_format packet.head) format same)
     ∙ ap (option_map (plain_of packet.head)) (octets_or_none-text count packet.octets fits.small fits.kind.count)
 
--- the kind of a packet that is not confirmed, by its format
+-- the type of a packet that is not confirmed, by its format
 abbrev pub plain_kind : ℕ → UnitKind
 plain_kind format = cond (format == 0x03) ResponseKind PlainKind
 

@@ -35,7 +35,7 @@ marks-comma (octet ∷ octets) marks =
     let parts = and_parts (is_mark octet) (are_marks octets) marks in
     All-cons (λ o. (o == 44) ≡ false) octet octets (mark-comma octet parts.0) (marks-comma octets parts.1)
 
--- a slot that is Good, with a block that keeps what every block keeps
+-- a slot that is `Good`, with a block that has the invariant of blocks
 abbrev pub IsGoodSlot : Slot → Type 0
 IsGoodSlot slot = (block : Block) × (slot ≡ Good block) × IsDataBlock block
 
@@ -45,7 +45,7 @@ block-marks block fits =
     let octets = marks-digits (encode_lower block.octets) (list_all-encode_lower block.octets fits.small) in
     list_all-append is_mark (encode_lower (block.serial ∷ [])) (58 ∷ encode_lower block.octets) ∙ ap₂ ◌&&◌ serial octets
 
--- how long the text of a block is
+-- the length of the text of a block
 pub length-block_text : (block : Block) → IsDataBlock block → length (block_text block) ≡ 35
 unfolding encode_with
 length-block_text block fits = omega (arith, length-encode_with lower_digits block.octets, fits.long)

@@ -8,7 +8,7 @@ use Rattle.p25_text.specs.{Grammar.{read_kind, read_values, read_words, values_b
 use Rattle.p25_text.specs.declared.names.UnitKind.{UnitKind}
 use Rattle.p25_text.proofs.WordLaws.{values_behind-other}
 
--- the first word names no kind
+-- the first word names no type
 pub wrong_kind : (words : List (List ℕ)) (first : List ℕ) → slice_get words 0 ≡ Some first → kind_named first ≡ None → read_words words ≡ Err WrongKind
 wrong_kind words first at none = ap read_words (first-others words first at) ∙ ap (λ kind. named_or_fault read_kind kind (drop 1 words)) none
 
@@ -17,7 +17,7 @@ pub right_kind : (words : List (List ℕ)) (first : List ℕ) (kind : UnitKind) 
     → read_words words ≡ read_kind kind (drop 1 words)
 right_kind words first kind at named = ap read_words (first-others words first at) ∙ ap (λ kind. named_or_fault read_kind kind (drop 1 words)) named
 
--- another number of words than of keys and one is a wrong key
+-- with a number of words other than that of the keys and one, the fault is a wrong key
 pub wrong_count : (words : List (List ℕ)) (first : List ℕ) (kind : UnitKind) → slice_get words 0 ≡ Some first → kind_named first ≡ Some kind → (length words ≡ length (keys_of kind) + 1 → ⊥)
     → read_words words ≡ Err Key
 wrong_count words first kind at named other =
@@ -40,7 +40,7 @@ pub so_far-more : (done : List (List ℕ)) (value : List ℕ) (rest : Option (Li
 so_far-more done value None = refl
 so_far-more done value (Some values) = ap Some (sym (append_assoc done (value ∷ []) values))
 
--- what the loop over keys keeps: all values are those so far and those of the keys and words that are left
+-- the invariant of the loop over keys: all values are those so far and those of the keys and words that are left
 abbrev pub SoFar : List UnitKey → List (List ℕ) → ℕ → List (List ℕ) → Type 0
 SoFar keys words i done = values_behind keys (drop 1 words) ≡ option_map (λ values. done ++ values) (values_behind (drop i keys) (drop (i + 1) words))
 

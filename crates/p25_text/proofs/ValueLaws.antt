@@ -40,7 +40,7 @@ octets_in-text count word octets found =
       | inr failed ↦ let read = cond-false ((length word == 2 * count) && list_all is_lower_digit word) (Some (octets_of word)) None failed in cc
     ]
 
--- a word that is no text of so many octets has no decoding
+-- a word that is not the text of `count` octets has no decoding
 pub octets_in-none : (count : ℕ) (word : List ℕ) → ((octets : List ℕ) → length octets ≡ count → AllOctets octets → encode_lower octets ≡ word → ⊥) → octets_in count word ≡ None
 octets_in-none count word other =
     elim (cases_Bool ((length word == 2 * count) && list_all is_lower_digit word)) [

@@ -18,7 +18,7 @@ use Rattle.p25_text.proofs.{OptionLaws.{option_and_then-found}, ValueLaws.{octet
 
 -- ---- octets of any keys
 
--- so many octets
+-- `count` octets
 record HasOctets (count : ℕ) (octets : List ℕ) : Type 0 where
   long : length octets ≡ count
   small : AllOctets octets
@@ -115,7 +115,7 @@ pair_back (high ∷ low ∷ next ∷ octets) fits = let more : suc (suc (suc (le
 
 -- ---- voice frames
 
--- how many octets frames have, and that they are octets
+-- the number of octets of frames, and that they are octets
 frames-octets : (frames : List VoiceFrame) → All IsVoiceFrame frames → HasOctets (18 * length frames) (frame_octets frames)
 unfolding frame_octets
 frames-octets [] each = record { long = refl; small = All-nil (λ o. o < 256) }
@@ -160,7 +160,7 @@ speech_wide low frames fits = subst (λ n. HasOctets (18 * n) (frame_octets fram
 low_wide : (low : List ℕ) (frames : List VoiceFrame) → IsSpeech low frames → HasOctets 2 low
 low_wide low frames fits = record { long = fits.two; small = fits.small }
 
--- ---- for each kind
+-- ---- for each type
 
 -- the fields of a unit have the widths of their keys
 voice-wide : (unit : VoiceUnit) → IsSendableVoice unit → AllWide (other_keys (voice_kind unit)) (voice_octets unit)
@@ -183,7 +183,7 @@ voice_from-octets (Link2 sync low voice) fits =
     λ i. Some (Link2 (record { mi = sync.mi; algid = sync.algid; kid = pair_at-pair_of sync.kid i }) low (frames_of-octets 9 voice fits.speech.nine fits.speech.frames i))
 voice_from-octets unit fits = refl
 
--- what is made of octets has them
+-- a data unit that is made of octets has them
 record IsMadeOf (kind : UnitKind) (octets : List (List ℕ)) (unit : VoiceUnit) : Type 0 where
   same_kind : voice_kind unit ≡ kind
   same_octets : voice_octets unit ≡ octets

@@ -52,7 +52,7 @@ with_entry-none : (value : Option (List ℕ)) → with_entry value None ≡ None
 with_entry-none None = refl
 with_entry-none (Some value) = refl
 
--- a wrong number of words has no values
+-- another number of words than of keys has no values
 pub values_behind-other : (keys : List UnitKey) (words : List (List ℕ)) → (length words ≡ length keys → ⊥) → values_behind keys words ≡ None
 values_behind-other [] [] other = absurd (other refl)
 values_behind-other (key ∷ keys) (word ∷ words) other =

@@ -26,7 +26,7 @@ text-tail : (unit : UnitParts) → text_of unit ≡ kind_word (kind_of unit.body
 unfolding text_of
 text-tail unit = join-tail (kind_word (kind_of unit.body)) (keys_of (kind_of unit.body)) (values_of unit)
 
--- what begins every line
+-- the beginning of every line
 abbrev pub start_text : UnitKind → ℕ → List ℕ
 start_text kind nac = kind_word kind ++ 32 ∷ key_text Nac ++ three_digits nac
 

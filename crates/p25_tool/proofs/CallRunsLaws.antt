@@ -19,7 +19,7 @@ use Rattle.p25_tool.specs.Scripts.{HasDuplexRun, HasLongRun, HasRun, IsDuplexScr
 use Rattle.p25_stream.specs.Arrivals.{Arrival}
 use Rattle.p25_tool.proofs.{RecordedRunsLaws.{command-fit, units-run}, RunsLaws.{answer-without-faults, memory-command}, ScriptsLaws.{duplex-script-run, long-script-run, script-run}}
 
--- the run of a command that reads, by what it is named and a future that is its own
+-- the run of a command that reads, by its name and by a future that is its own
 pub alike-run : {P : Type 0} (moves : P → List Event → P → Type 0) (first last : P) (f : Future) (named command : Command) (end : FilterEnd)
     → command ≡ named → f ≡ command_future named → ((count : ℕ) → named ≡ Sample count → ⊥)
     → ((events : List Event) × moves first events last × IsRun f events end)
@@ -176,7 +176,7 @@ module _ (told left first last : Option (List ℕ)) (events : List Event) (outco
       run-of : (command : Command) → command_of words ≡ Some command → IsCommandRun command events outcome
       run-of command same = named-run (command_of words) command events outcome same call
 
--- what a call says by some faults it says by others that they imply
+-- the laws of a call for some faults hold for others that they imply
 pub says-by : (named : Option Command) (told left first last : Option (List ℕ)) (read read_now write write_now source source_now sink sink_now : Type 0) (outcome : Outcome)
     → (read → read_now) → (write → write_now) → (source → source_now) → (sink → sink_now) → CallSays named told left first last read write source sink outcome
     → CallSays named told left first last read_now write_now source_now sink_now outcome

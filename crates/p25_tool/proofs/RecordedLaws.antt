@@ -172,7 +172,7 @@ followed-wholes ended before place (arrival ∷ arrivals) near =
     ∙ ap₂ (λ (raw left : List Bool). raw ++ followed_by ended (unit_name unit) [] items left) first behind
     ∙ ap (λ (zs : List Bool). bits ++ zs) (followed-wholes ended (unit_name unit) (place + length bits) arrivals (All-tail IsNearArrival arrival arrivals near))
 
--- what is written of them is what follows, whether the input has ended or not
+-- the output of `follow` for them is their bits, whether the input has ended or not
 pub follows-arrived : (ended : Bool) (arrivals : List Arrival) (octets : List ℕ) → IsRecording arrivals octets
     → AreOctetsOf (bits_arrived arrivals) (whole_octets (followed_by ended None [] (items_by ended 0 (octet_bits octets)) (octet_bits octets)))
 follows-arrived ended arrivals octets is =

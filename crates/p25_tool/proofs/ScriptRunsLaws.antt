@@ -23,7 +23,7 @@ concat_texts text (step ∷ steps) = ap (λ (zs : List ℕ). text step ++ zs) (c
 
 module _ {M W E S : Type 0} (rules : LineRules M) (wrap : W → M) (read : List ℕ → Result E LineFault) (step : W → E → W × S) (text : S → List ℕ)
     (takes : (w : W) (line : List ℕ) → rules.take (wrap w) line ≡ taken_by wrap read step text w line) where
-  -- what events come to, before a refusal or none
+  -- the result of events, before a refusal or none
   abbrev come_of : W → List E → Option Ending → LinesTaken M
   come_of w events refusal = record { texts = map text (steps_by step w events); machine = wrap (run_by step w events); refusal = refusal }
 

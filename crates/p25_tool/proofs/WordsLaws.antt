@@ -6,7 +6,7 @@ use Rattle.p25_line.specs.Values.{number_below}
 use Rattle.p25_line.proofs.NumberLaws.{number_below-decimal, number_below-none}
 use Rattle.p25_tool.specs.Words.{status_in}
 
--- the result of decoding a number of at most so much
+-- the result of decoding a number of at most `most`
 abbrev pub IsNumberRead : ℕ → List ℕ → Option ℕ → Type 0
 IsNumberRead most word result = MatchOption result ((number : ℕ) → number ≤ most → decimal number ≢ word) (λ number. (number ≤ most) × (decimal number ≡ word))
 
@@ -15,7 +15,7 @@ number-read most bound word None is few refused = sym (number_below-none bound w
 number-read most bound word (Some number) is few read =
     sym (ap (number_below bound) (sym read.1) ∙ number_below-decimal bound number (omega (arith, read.0, is)) (omega (arith, few)))
 
--- what is made of a number below 4 is its symbol
+-- the symbol that is made of a number below 4 is that of the number
 status-made : (number : ℕ) (result : Option Status) → number < 4 → (IsSome result ↔ (number < 4)) → IfSome result (λ status. status_number status ≡ number)
     → result ≡ Some (status_modulo number)
 unfolding status_modulo

@@ -8,7 +8,7 @@ use Rattle.p25_trellis.specs.{Interleave.{interleaved}, Tables.{nibble_distance}
 use Rattle.p25_trellis.specs.Least.{IsEnd}
 use Rattle.p25_trellis.proofs.{InterleaveLaws.{weighed, length-interleaved}, PathLaws.{length-nibbles_from, same_octets}, FirstPathLaws.{IsEnd-from_path}, DistanceLaws.{distance_of-interleaved}}
 
--- what the nibbles of symbols weigh against those of others, step by step
+-- the weight of the nibbles of symbols against those of others, step by step
 weighed-nibbles : (point : ℕ → ℕ → ℕ) (a b x y : ℕ) (xs ys : List ℕ)
     → weighed nibble_distance (nibbles_from point a (x ∷ xs)) (nibbles_from point b (y ∷ ys))
     ≡ nibble_distance (point a x) (point b y) + weighed nibble_distance (nibbles_from point x xs) (nibbles_from point y ys)

@@ -5,7 +5,7 @@ use Rattle.p25_bits.specs.Least.{IsLowestLeast}
 use Rattle.p25_trellis.proofs.PathLaws.{length-nibbles_from}
 use Rattle.p25_trellis.specs.{Trellis.{nibbles_from}, Costs.{total_cost, symbols_cost, cost_in}, Least.{rest_in, step_cost, IsEnd, IsLeastEnd, HasLeastFrom}}
 
--- costs of nibbles are at most so many times the limit
+-- the cost of nibbles is at most their number times the limit
 pub total_cost-le : (cost : ℕ → ℕ → ℕ) (limit step : ℕ) (nibbles : List ℕ) → ((i n : ℕ) → cost i n ≤ limit) → total_cost cost step nibbles ≤ limit * length nibbles
 unfolding total_cost
 total_cost-le cost limit step [] low = omega arith
@@ -19,7 +19,7 @@ cost_in-le table limit step nibble low = elim (cases_lt (16 * step + nibble) (le
   | inr past ↦ omega (arith, get_or_past table (16 * step + nibble) 0 past)
 ]
 
--- the cost of a symbol and what follows it
+-- the cost of a symbol and of the symbols after it
 pub symbols_cost-cons : (point cost : ℕ → ℕ → ℕ) (step state symbol : ℕ) (symbols : List ℕ)
     → symbols_cost point cost step state (symbol ∷ symbols) ≡ cost step (point state symbol) + symbols_cost point cost (suc step) symbol symbols
 unfolding symbols_cost total_cost nibbles_from
@@ -35,7 +35,7 @@ length-end states zero symbols is = simp is
 length-end states (suc before) [] is = absurd is
 length-end states (suc before) (symbol ∷ symbols) is = cc (length-end states before symbols is.1)
 
--- what a table has for a state after a write for another
+-- the entry of a table for a state after a write for another
 pub rest_in-other : (table : List ℕ) (step state other_step other value : ℕ) → state < 8 → other < 8 → 8 * other_step + other ≢ 8 * step + state
     → rest_in (set table (8 * step + state) value) other_step other ≡ rest_in table other_step other
 unfolding rest_in
@@ -46,7 +46,7 @@ pub rest_in-same : (table : List ℕ) (step state value : ℕ) → 8 * step + st
 unfolding rest_in
 rest_in-same table step state value inside = get_or-set_same table (8 * step + state) value 0 inside
 
--- what the lowest least symbol of a step costs is the least that can follow the state
+-- the cost of the lowest least symbol of a step is the least cost of an end from the state
 pub IsLeastEnd-step : (states : ℕ) (point cost : ℕ → ℕ → ℕ) (rests : List ℕ) (step before state symbol least : ℕ)
     → HasLeastFrom states point cost rests (suc step) → step + suc before ≡ 48
     → IsLowestLeast states (step_cost point cost rests step state) symbol least
@@ -92,7 +92,7 @@ step_cost-lt states point costs rests step state symbol low after early below =
     let each : (i n : ℕ) → cost_in costs i n ≤ 2 ^ 24 = λ i n. cost_in-le costs _ i n low in
     omega (arith, each, rest-le states point (cost_in costs) rests (2 ^ 24))
 
--- the sum of what two tables have is the cost of the step
+-- the sum of the entries of two tables is the cost of the step
 pub step_cost-sum : (point : ℕ → ℕ → ℕ) (costs rests : List ℕ) (step state symbol nibble column : ℕ) → nibble ≡ point state symbol → column ≡ symbol
     → get_or costs (16 * step + nibble) 0 + get_or rests (8 * (step + 1) + column) 0 ≡ step_cost point (cost_in costs) rests step state symbol
 unfolding step_cost cost_in rest_in
@@ -183,7 +183,7 @@ IsLeastEnd-at states point cost rests step state symbol least early after choice
 IsLeastEnd-at states point cost rests step state symbol least early after choice (suc before) place =
     IsLeastEnd-step states point cost rests step before state symbol least after place choice
 
--- what a table has from a step on it has from a later one on
+-- the least costs that a table has from a step on it has from a later one on
 pub HasLeastFrom-later : (states : ℕ) (point cost : ℕ → ℕ → ℕ) (rests : List ℕ) (from later : ℕ) → from ≤ later → HasLeastFrom states point cost rests from → HasLeastFrom states point cost rests later
 HasLeastFrom-later states point cost rests from later order has = record {
   at = λ step before state late place row. has.at step before state (omega arith) place row;

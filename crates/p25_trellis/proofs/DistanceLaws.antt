@@ -57,7 +57,7 @@ total_cost-weighed weight received d cost table long step (nibble ∷ nibbles) p
     (All-tail P nibble nibbles small))
     ∙ sym (weighed-drop weight nibble nibbles received step d (omega arith))
 
--- what a path costs against nibbles received is its distance from them
+-- the cost of a path against received nibbles is its distance from them
 pub path_cost-distance : (states : ℕ) (point : ℕ → ℕ → ℕ) (received : List ℕ) (bits : List Bool) → 0 < states
     → ((state symbol : ℕ) → state < states → symbol < states → point state symbol < 16) → length received ≡ 49
     → bits ≡ number_bits 4 (interleaved received) → (path : List ℕ) → IsPath states path → path_cost point (received_cost received) path ≡ distance_from point bits path

@@ -20,7 +20,7 @@ IsFirstLeastEnd-last states cost = record {
   first = λ other is same. subst (λ (end : List ℕ). IsNotAfter (0 ∷ []) end) (sym is) (inr (refl, tt));
 }
 
--- what an end costs that is the first least
+-- the cost of an end that is the first least
 least_is : (states : ℕ) (point cost : ℕ → ℕ → ℕ) (rests : List ℕ) (step before state : ℕ) (end : List ℕ)
     → IsLeastEnd states before (symbols_cost point cost step state) (rest_in rests step state)
     → IsFirstLeastEnd states before (symbols_cost point cost step state) end
@@ -111,7 +111,7 @@ IsFirstLeast-from_end states cost path some is = record {
   first = λ other is_path same. is.first other (IsEnd-from_path states other is_path) same;
 }
 
--- the least that can follow the first step is what the first least path costs
+-- the least cost from the first step is the cost of the first least path
 pub IsFirstLeast-total : (states : ℕ) (cost : List ℕ → ℕ) (path : List ℕ) (least : ℕ) → 0 < states → IsLeastEnd states 48 cost least → IsFirstLeast states cost path → least ≡ cost path
 IsFirstLeast-total states cost path least some is first = omega (
   arith,

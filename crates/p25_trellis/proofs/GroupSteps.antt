@@ -6,7 +6,7 @@ use Rattle.p25_bits.specs.{Bits.{bits_of, part}, Numbers.{number_bits, numbers_f
 use Rattle.p25_bits.proofs.BitsLaws.{take-bits_of, drop-bits_of, field_of-bits_of, bits_of-joined}
 use Rattle.p25_bits.proofs.NumbersLaws.{number_bits-append, number_bits-one, length-number_bits, take-number_bits, drop-number_bits, length-numbers_from, get_or-numbers_from, numbers_from-add, numbers_from-take}
 
--- so many for one more
+-- the number of bits with one more
 pub count_more : (width i : ℕ) → width * (i + 1) ≡ width * i + width
 count_more width i = rw add-one (omega (arith, mul-suc))
 
@@ -17,7 +17,7 @@ pub joined_more : (width i whole number : ℕ) (numbers : List ℕ) → i < leng
 joined_more width i whole number numbers inside is small so_far =
     rw (count_more, bits_of-joined, so_far, ← number_bits-one, ← number_bits-append, is, ← take_more)
 
--- what they are joined to has so many bits
+-- the number to which they are joined has that number of bits
 pub joined_more-lt : (width i whole number : ℕ) → number < 2 ^ width → whole < 2 ^ (width * i) → whole * 2 ^ width + number < 2 ^ (width * (i + 1))
 joined_more-lt width i whole number small fits =
     omega (arith, ap (λ n. 2 ^ n) (count_more width i), pow-add 2, mul-le-mul_right (2 ^ width) fits)
@@ -28,7 +28,7 @@ joined-lt width i count most whole inside few fits =
     let short : width * i ≤ most = omega (arith, few, mul-le-mul_left width inside) in
     omega (arith, fits, pow_mono short)
 
--- so what is joined can be moved up in its word
+-- so the joined number can be shifted in its word
 pub moved_up : (width i count whole : ℕ) → i < count → width * count ≤ 64 → whole < 2 ^ (width * i) → whole * 2 ^ width % 2 ^ 64 ≡ whole * 2 ^ width
 moved_up width i count whole inside few fits =
     let more : i + 1 ≤ count = omega arith in

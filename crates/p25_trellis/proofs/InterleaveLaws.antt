@@ -8,7 +8,7 @@ use Rattle.p25_bits.specs.Distance.{distance_by}
 use Rattle.p25_bits.proofs.DistanceLaws.{distance_by-same, same_from_distance_by}
 use Rattle.p25_trellis.specs.{declared.interleave.TheConstants.{SENT_ORDER}, Interleave.{each_fourth, interleaved}, TableLaws.{passed_below, passed_below-at}}
 
--- how many fourth elements there are depends on the length alone
+-- the number of fourth elements depends on the length alone
 length-each_fourth : {X Y : Type 0} (wait : ℕ) (xs : List X) (ys : List Y) → length xs ≡ length ys → length (each_fourth wait xs) ≡ length (each_fourth wait ys)
 unfolding each_fourth
 length-each_fourth wait [] [] long = refl
@@ -152,7 +152,7 @@ written_more gathered nibbles place long inside so_far =
     here =
         get_or-set_same gathered (get_or SENT_ORDER place 0) (get_or nibbles place 0) 0 (omega (arith, order-lt place inside))
 
--- what holds of each element of two lists, one after the other, holds of each of either
+-- a property of each element of two lists, one after the other, holds for each of either
 All-front : {X : Type 0} (P : X → Type 0) (xs ys : List X) → All P (xs ++ ys) → All P xs
 All-front P xs ys all = All-same P xs _ (sym (take_at xs ys _ refl)) (All-take P _ _ all)
 
@@ -165,7 +165,7 @@ All-each_fourth P wait [] all = all
 All-each_fourth P zero (x ∷ xs) all = All-cons P x _ (All-head P x xs all) (All-each_fourth P 3 xs (All-tail P x xs all))
 All-each_fourth P (suc wait) (x ∷ xs) all = All-each_fourth P wait xs (All-tail P x xs all)
 
--- what holds of each element holds of each that is sent
+-- a property of each element holds for each in the order of transmission
 pub All-interleaved : {X : Type 0} (P : X → Type 0) (xs : List X) → All P xs → All P (interleaved xs)
 unfolding interleaved
 All-interleaved P xs all =
@@ -183,7 +183,7 @@ All-from_fourths P [] all0 all1 all2 all3 = all0
 All-from_fourths P (x ∷ xs) all0 all1 all2 all3 =
     All-cons P x xs (All-head P x _ all0) (All-from_fourths P xs all1 all2 all3 (All-tail P x _ all0))
 
--- what holds of each element that is sent holds of each
+-- a property of each element in the order of transmission holds for each
 pub All-from_interleaved : {X : Type 0} (P : X → Type 0) (xs : List X) → All P (interleaved xs) → All P xs
 unfolding interleaved
 All-from_interleaved P xs all =

@@ -19,7 +19,7 @@ received_cost-le : (received : List ℕ) (step nibble : ℕ) → received_cost r
 unfolding received_cost
 received_cost-le received step nibble = nibble_distance-le nibble (get_or received step 0)
 
--- so what follows a step is at most four for each of 48 steps
+-- so the cost after a step is at most four for each of 48 steps
 near_rest-le : (states : ℕ) (point : ℕ → ℕ → ℕ) (received rests : List ℕ) (step symbol : ℕ) → HasLeastFrom states point (received_cost received) rests (suc step) → step < 48 → symbol < states
     → rest_in rests (suc step) symbol ≤ 192
 near_rest-le states point received rests step symbol after early below = rest-le states point _ rests 4 step symbol (received_cost-le received) after early below
@@ -54,7 +54,7 @@ IsLowestLeast-step states point received rests step state nibble symbol least fe
     (λ other below. ap₂ ◌+◌ (simp is) (next_rest rests step other (omega arith)))
     was
 
--- what a table has for a state at a step, as it is read
+-- the entry of a table for a state at a step, as it is read
 pub rest_read : (rests : List ℕ) (step state column : ℕ) → column ≡ state → get_or rests (8 * step + column) 0 ≡ rest_in rests step state
 unfolding rest_in
 rest_read rests step state column same = simp same
@@ -66,7 +66,7 @@ unfolding step_cost
 least-fits states point received rests step state symbol least after early choice =
     omega (arith, choice.is, received_cost-le received, near_rest-le states point received)
 
--- what a step costs hangs on what follows it alone
+-- the cost of a step depends on the entries after it alone
 pub IsLowestLeast-next : (states : ℕ) (point cost : ℕ → ℕ → ℕ) (rests others : List ℕ) (step state symbol least : ℕ) → states ≤ 8
     → ((next : ℕ) → next < 8 → rest_in others (suc step) next ≡ rest_in rests (suc step) next)
     → IsLowestLeast states (step_cost point cost rests step state) symbol least → IsLowestLeast states (step_cost point cost others step state) symbol least
@@ -114,7 +114,7 @@ lowest-kept states point cost rests symbols step column least symbol later state
     (λ symbol below. step_cost-write point cost rests step column least later state symbol row (omega arith) late)
     was))
 
--- and what they write
+-- and the entry that they write
 pub lowest-written : (states : ℕ) (point cost : ℕ → ℕ → ℕ) (rests symbols : List ℕ) (step state least symbol : ℕ) → states ≤ 8 → state < 8 → 8 * step + state < length rests
     → 8 * step + state < length symbols → IsLowestLeast states (step_cost point cost rests step state) symbol least
     → let written : List ℕ = set rests (8 * step + state) least in
@@ -126,7 +126,7 @@ lowest-written states point cost rests symbols step state least symbol few row t
     (λ other below. step_cost-write point cost rests step state least step state other row (omega arith) (omega arith))
     was))
 
--- two writes at a step leave what the tables have after it
+-- two writes at a step leave the entries of the tables after it
 pub HasLowestFrom-write : {states : ℕ} {point cost : ℕ → ℕ → ℕ} {rests symbols : List ℕ} (step column least symbol : ℕ) → states ≤ 8 → column < 8
     → HasLowestFrom states point cost rests symbols (suc step)
     → HasLowestFrom states point cost (set rests (8 * step + column) least) (set symbols (8 * step + column) symbol) (suc step)

@@ -63,7 +63,7 @@ Carries-octets_from states width path is =
       information = sym (take_all _ bits (omega arith)) ∙ sym (number_bits-numbers_from 8 (6 * width) bits (omega arith)) ∙ number_bits-octets (octets_from (6 * width) bits);
     }
 
--- the octets that the first least path carries, and what it costs, are its reading
+-- the octets that the first least path carries, and its cost, are its decoding
 pub least_reading : (states width : ℕ) (cost : List ℕ → ℕ) (path : List ℕ) → IsFirstLeast states cost path
     → IsFirstLeastReading states width cost (octets_from (6 * width) (number_bits width (take 48 path))) (cost path)
 least_reading states width cost path first = record { path = path; first_least = first; carries = Carries-octets_from states width path first.is_path; total_is = refl }

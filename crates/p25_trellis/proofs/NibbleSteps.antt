@@ -6,7 +6,7 @@ use Rattle.p25_bits.proofs.NumbersLaws.{bits_of-field, number_bits-append, numbe
 use Rattle.p25_trellis.specs.Interleave.{each_fourth, interleaved}
 use Rattle.p25_trellis.proofs.FourthLaws.{each_fourth-set_same, each_fourth-set_other}
 
--- one more of a fourth of the nibbles is set to what it has to be
+-- one more of a fourth of the nibbles is set to its value
 pub put_more : (from k : ℕ) (nibbles : List ℕ) (value : ℕ → ℕ) → k < length (each_fourth from nibbles)
     → ((i : ℕ) → i < k → get_or (each_fourth from nibbles) i 0 ≡ value i)
     → (i : ℕ) → i < k + 1 → get_or (each_fourth from (set nibbles (from + 4 * k) (value k))) i 0 ≡ value i

@@ -76,7 +76,7 @@ small-from_test count bound entries long some passed place = elim (cases_lt plac
   | inr past ↦ omega (arith, some, get_or_past entries place 0 (omega (arith, long, past)))
 ]
 
--- what the tables of a rate pass
+-- the tests that the tables of a rate pass
 record TablesPass (states : ℕ) (point : ℕ → ℕ → ℕ) (nibbles symbols ranks : List ℕ) : Type 0 where
   long : (length nibbles ≡ states * states) × (length symbols ≡ 16) × (length ranks ≡ 128 * states)
   small : passed_below (states * states) (λ i. ltb (get_or nibbles i 0) 16) ≡ true

@@ -69,7 +69,7 @@ length-identifier_bits sent long =
     length-append (part 48 22 sent) (part 72 42 sent)
     ∙ omega (arith, length-take-le 22 (drop 48 sent) (omega (arith, length-drop 48 sent)), length-take-le 42 (drop 72 sent) (omega (arith, length-drop 72 sent)))
 
--- it hangs on the first 114 bits alone
+-- it depends on the first 114 bits alone
 pub identifier_bits-take : (count : ℕ) (sent : List Bool) → 114 ≤ count → identifier_bits (take count sent) ≡ identifier_bits sent
 unfolding identifier_bits
 identifier_bits-take count sent long = ap₂ (λ (xs ys : List Bool). xs ++ ys) (part-take 48 22 count sent (omega arith)) (part-take 72 42 count sent (omega arith))

@@ -23,7 +23,7 @@ bits_at-inner width places bits =
     let run : ℕ × ℕ → List Bool = λ place. part place.0 place.1 bits in
     flat_map-map run (λ at. (at, width)) places
 
--- so many bits differ from a field that is sent
+-- the number of bits that differ from a transmitted field
 field_distance : (encoding : List Bool → List Bool) (width each : ℕ) (places : List ℕ) (symbols : List Sym) (received image : List Bool)
     → inner_bits width places image ≡ field_bits encoding each (length places) symbols
     → distance_of (bits_at (wide width places) received) (bits_at (wide width places) image) ≡ field_fixes_of encoding width each places symbols received

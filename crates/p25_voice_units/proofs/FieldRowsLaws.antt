@@ -147,7 +147,7 @@ module _ {IsWord : List Bool → Type 0} {size k : ℕ} {carried : Contents} (ca
       All-cons (λ other. part other.0 (piece_length size other.1) bare ≡ piece_bits carried other.1) row rows first
       (rows_from_words rows (n + word_count row.1) bare counts.1 next (λ j d low. has (suc j) d (omega arith)))
 
--- and then they have what they may be besides
+-- and then they have their other contents
 piece_has : (carried : Contents) (size at : ℕ) (piece : Piece) (bare : List Bool) → part at (piece_length size piece) bare ≡ piece_bits carried piece → HasPiece carried.low carried.voice bare at piece
 unfolding piece_bits
 piece_has carried size at (Words first count) bare is = tt

@@ -13,7 +13,7 @@ pub bits_at-append : (xs ys : List (ℕ × ℕ)) (bits : List Bool) → bits_at 
 unfolding bits_at
 bits_at-append xs ys bits = flat_map-append (λ place. part place.0 place.1 bits) xs ys
 
--- at positions within the bits there are so many bits
+-- the bits at positions of one width are as many as the width times the number of positions
 pub length-bits_at : (width : ℕ) (places : List ℕ) (bits : List Bool) → All (λ at. at + width ≤ length bits) places → length (bits_at (wide width places) bits) ≡ width * length places
 unfolding bits_at wide
 length-bits_at width [] bits there = omega arith

@@ -97,7 +97,7 @@ module _ {IsWord : List Bool → Type 0} {size k : ℕ} {carried : Contents}
         (field_there {IsInnerWord = IsWord} {IsOuterWord = IsOuterWord n information} coded k carried.symbols bare carries.sixes carries.begins are.cover (within bare (ap length is ∙ length-unit nac duid)) outer.word_of_set
         (λ i d inside. rw (get_or_default (word_places size table) i d 0 inside, words i inside) (group_encoded i inside)))
 
-    -- what carries the field has its words
+    -- bits that carry the field have its words
     words_carried : (bare : List Bool) → length bare ≡ count → HasField IsWord (IsOuterWord n information) coded info bare
         → (i : ℕ) → i < length (word_places size table) → part (get_or (word_places size table) i 0) size bare ≡ group_word carries (0 + i)
     words_carried bare filled has i inside =

@@ -19,7 +19,7 @@ use Rattle.p25_voice_units.proofs.CodesLaws.{header_code, link_code, sync_code}
 use Rattle.p25_voice_units.proofs.{LengthsLaws.{length-header, length-ldu1, length-ldu2, length-end, length-tdulc}, RowsLaws.{IsCarried, rows_supplied}}
 use Rattle.p25_voice_units.proofs.FormLaws.{AreRows, length-unit, laid_out, laid_out-only, unit_form}
 
--- what the codes of the inner words need
+-- the conditions on the codes of the inner words
 pub golay18_carried : (symbols : List Sym) → IsCarried IsGolay18 18 6 (contents golay18_word 1 symbols [] [])
 golay18_carried symbols =
     record { encodes = golay18_code.is.encodes; long = golay18_code.is.laws.long; one_word = golay18_code.is.laws.one_word; sixes = refl; begins = lit≤ tt; frames = All-nil IsVoiceFrame }
@@ -36,7 +36,7 @@ hamming10_carried symbols low voice speech =
 length-outer : (n k : ℕ) (info : List Sym) → IsCode n k → length info ≡ k → length (rs_word n k info) ≡ n
 length-outer n k info code long = (IsEncoding-rs_word n k info code long).word_of_set.long
 
--- the rows of the layouts suit what is carried: computed of each table
+-- the rows of the layouts suit the contents: computed for each table
 pub header_suits : (word : HeaderWord) → AreRows 18 770 (contents golay18_word 1 (rs_word 36 20 (header_symbols word)) [] []) hdu_rows
 unfolding word_places places_from
 header_suits word =
@@ -72,7 +72,7 @@ no_words : (i : ℕ) → length (word_places 18 tdu_rows) ≡ 0
 unfolding word_places places_from
 no_words i = refl
 
--- a unit's bits are as many as its kind has
+-- the bits of a data unit are as many as its type has
 pub length-voice_image_of : (nac : ℕ) (unit : VoiceUnit) → IsSendableVoice unit → voice_length_of (voice_duid unit) ≡ Some (length (voice_image_of nac unit))
 unfolding IsSendableVoice voice_image_of voice_body
 length-voice_image_of nac (Header word) keeps = length-header ∙ ap Some (sym (length-unit (golay18_carried _) (header_suits word) nac 0))

@@ -7,7 +7,7 @@ use Rattle.p25_voice_units.specs.{declared.unit.VoiceUnit.{VoiceUnit}, declared.
 use Rattle.p25_voice_units.specs.{Images.{piece_bits, rows_bits, voice_body, voice_image_of}, Lengths.{voice_length_of}}
 use Rattle.p25_voice_units.specs.Readings.{voice_in, low_in, missing, failing, header_in, header_from, link_in, ldu_from, ldu1_in, ldu2_in, tdulc_from, voice_reading_of}
 
--- bits that have the length of their kind have so many
+-- bits that have the length of their type are as many as it states
 pub long_by_kind : (duid kind count len : ℕ) → duid ≡ kind → voice_length_of kind ≡ Some count → voice_length_of duid ≡ Some len → len ≡ count
 long_by_kind duid kind count len same is has =
     let e : Some len ≡ Some count = sym has ∙ ap voice_length_of same ∙ is in
@@ -60,7 +60,7 @@ module _ {X : Type 0} (field : Field) (unit : X → List ℕ → VoiceUnit) wher
   ldu_fails None None (Some c) word first second other = refl
   ldu_fails None None None word first second other = refl
 
-  -- and one whose word is a function of what was read
+  -- and one whose word is a function of the decoding
   ldu_from-map : {S : Type 0} (f : S → X) (answer : Option S) (first second : Option ℕ)
       → ldu_from field (λ s low. unit (f s) low) answer first second ≡ ldu_from field unit (option_map f answer) first second
   unfolding ldu_from failing missing

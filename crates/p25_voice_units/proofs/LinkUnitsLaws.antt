@@ -15,7 +15,7 @@ use Rattle.p25_voice_units.specs.{Fixes.{link_looked, low_fixes_of, voice_looked
 use Rattle.p25_voice_units.specs.{Readings.{voice_in, low_in, link_in, sync_in, ldu_from, ldu1_in, ldu2_in, voice_reading_of}, Sendable.{IsSpeech, IsSendableVoice}}
 use Rattle.p25_voice_units.proofs.{CodesLaws.{link_code, sync_code}, CountedLaws.{ldu_fixes}, KindsLaws.{ldu_read, reading-ldu1, reading-ldu2}, ReadingLaws.{unit_read}}
 
--- the coded field of a unit with voice, by how many of its symbols are information
+-- the coded field of a data unit with voice, by the number of its information symbols
 abbrev pub ldu_layout : ℕ → Layout
 ldu_layout k = field_layout (word_places 10 ldu_rows) 10 1 hamming10_reading_of (rs_erased_reading_of 24 k) k
 
@@ -26,13 +26,13 @@ pub record AreParts (k : ℕ) (field : Field) (bare : List Bool) (outcome : Read
       ≡ field_fixes_of hamming10_word 10 1 (word_places 10 ldu_rows) (rs_word 24 k symbols) bare + (low_fixes_of 0 (slice_index low 0) bare + low_fixes_of 1 (slice_index low 1) bare))
   pub most : IfRead outcome (λ wrong. wrong ≤ 608)
 
--- what was read of bits is the unit, by its DUID, or its failing fields
+-- the decoding of bits is the data unit, by its DUID, or its failing fields
 pub record IsUnitRead (duid : ℕ) (bare : List Bool) (outcome : ReadOutcome) (unit : VoiceUnit) : Type 0 where
   pub value : read_or outcome unit ≡ voice_reading_of duid bare
   pub wrong : IfRead outcome (λ wrong. AreFixes unit bare wrong)
   pub most : IfRead outcome (λ wrong. wrong ≤ 864)
 
--- a kind of unit with voice: its word and the word's symbols, and the unit of word, octets and voice
+-- a type of data unit with voice: its word and the word's symbols, and the data unit of word, octets and voice
 pub record IsVoiceKind {W : Type 0} (duid k : ℕ) (field : Field) (unit : W → List ℕ → List VoiceFrame → VoiceUnit) (symbols_of : W → List Sym) (of_symbols : List Sym → W) : Type 0 where
   pub code : IsCode 24 k
   pub count_of : (word : W) → length (symbols_of word) ≡ k
@@ -60,7 +60,7 @@ at_most (Read wrong) few = omega arith
 failing_any : (outcome : ReadOutcome) (fields : List Field) (x y : VoiceUnit) → outcome ≡ Failing fields → read_or outcome x ≡ read_or outcome y
 failing_any outcome fields x y is = ap (λ o. read_or o x) is ∙ sym (ap (λ o. read_or o y) is)
 
--- what was read of a unit of such a kind
+-- the decoding of a data unit of such a type
 module _ {W : Type 0} (duid k : ℕ) (field : Field) (unit : W → List ℕ → List VoiceFrame → VoiceUnit) (symbols_of : W → List Sym) (of_symbols : List Sym → W)
     (kind : IsVoiceKind duid k field unit symbols_of of_symbols) (bare : List Bool) (symbols : List Sym) (low : List ℕ) where
   -- its reading

@@ -1,6 +1,5 @@
--- Voice data units within the correction radius decode to the transmitted ones, and the bits are within the correction radius of what they decode to:
--- each part by the law of its code. Being within it by whole inner words implies the same. A data unit's own bits are within the correction radius,
--- and give its frames.
+-- Voice data units within the correction radius decode to the transmitted ones, and bits are within the correction radius of the data unit to which they decode: each part by the law of its code. Being within it by whole inner words
+-- implies the same. A data unit's own bits are within the correction radius, and give its frames.
 use Rattle.std.proofs.Common.{◌≡◌, ℕ, zero, suc, ◌+◌, ◌*◌, ◌<◌, ◌≤◌, Bool, List, [], ◌∷◌, length, take, drop, map, slice_index, get_or, Option, Some, option_map, Ok, All, refl, ap, ap₂, sym, ◌∙◌, arith, lit<, length-drop, None, subst}
 use Rattle.std.proofs.{Math.Nat.{mod-eq_of_lt}, lemmas.List.{ext_get_or, get_or-map, length-map, length-take-le}}
 use Rattle.p25_bits.specs.{Bits.{bits_of, field_of, octet_bits, part}, Numbers.{numbers_from}, Distance.{distance_of}}

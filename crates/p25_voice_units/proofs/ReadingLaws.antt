@@ -17,7 +17,7 @@ use Rattle.p25_voice_units.specs.Readings.{frame_places, low_places, frame_in, v
 use Rattle.p25_voice_units.specs.Sendable.{IsVoiceFrame, IsSpeech, IsSendableVoice}
 use Rattle.p25_voice_units.proofs.{LengthsLaws.{by_duid-cases}, ReadLaws.{nine_frames}}
 
--- words of symbols keep what their types keep
+-- words of symbols have the invariants of their types
 nine_octets : (bits : List Bool) → AreNineOctets (numbers_from 8 9 bits)
 nine_octets bits = record { long = length-numbers_from 8 9 bits; small = All-numbers_from 8 9 bits }
 
@@ -63,16 +63,16 @@ speech_keeps first second bare a b = record {
   frames = (voice_keeps bare).1;
 }
 
--- a unit of a DUID that keeps what its type keeps
+-- a data unit of a DUID that has the invariant of its type
 pub record IsUnitOf (duid : ℕ) (unit : VoiceUnit) : Type 0 where
   pub kind : voice_duid unit ≡ duid
   pub sendable : IsSendableVoice unit
 
--- what is read is the unit
+-- the decoding is the data unit
 ok_same : {A E : Type 0} {read unit : A} → ◌≡◌ {A = Result A E} (Ok read) (Ok unit) → read ≡ unit
 ok_same is = cc
 
--- what was read is such a unit, by kinds
+-- the decoding is such a data unit, by types
 header_read : (bare : List Bool) (answer : Option HeaderWord) (unit : VoiceUnit) → header_in bare ≡ answer → header_from answer ≡ Ok unit → IsUnitOf 0 unit
 unfolding header_in header_from IsSendableVoice
 header_read bare None unit is read = absurd (cc)
@@ -99,7 +99,7 @@ end_read : (unit : VoiceUnit) → ◌≡◌ {A = Result VoiceUnit (List Field)} 
 unfolding IsSendableVoice
 end_read unit read = subst (IsUnitOf 3) (ok_same read) (record { kind = refl; sendable = tt })
 
--- what is read for a DUID is a unit of it
+-- the decoding for a DUID is a data unit of it
 pub unit_read : (duid : ℕ) (bare : List Bool) (unit : VoiceUnit) → voice_reading_of duid bare ≡ Ok unit → IsUnitOf duid unit
 unfolding voice_reading_of ldu1_in ldu2_in link_in sync_in IsSendableVoice
 unit_read duid bare unit =

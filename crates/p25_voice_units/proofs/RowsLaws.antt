@@ -12,7 +12,7 @@ use Rattle.p25_voice_units.specs.{declared.layout.Piece.{Piece}, declared.layout
 use Rattle.p25_hamming.specs.Lsd16.{lsd16_word}
 use Rattle.p25_voice_units.specs.Images.{Contents, frame_at, piece_bits, rows_bits}
 
--- how many bits the rows have together
+-- the number of bits of all rows together
 abbrev pub rows_length : ℕ → List (ℕ × Piece) → ℕ
 rows_length size [] = 0
 rows_length size (row ∷ rows) = piece_length size row.1 + rows_length size rows
@@ -22,12 +22,12 @@ abbrev pub rows_stand : ℕ → ℕ → List (ℕ × Piece) → Bool
 rows_stand size at [] = true
 rows_stand size at (row ∷ rows) = eqb row.0 at && rows_stand size (at + piece_length size row.1) rows
 
--- there is what the rows have
+-- the contents of the rows are there
 abbrev pub rows_supplied : ℕ → ℕ → ℕ → ℕ → List (ℕ × Piece) → Bool
 rows_supplied each symbols low frames [] = true
 rows_supplied each symbols low frames (row ∷ rows) = piece_fits each symbols low frames row.1 && rows_supplied each symbols low frames rows
 
--- what is carried suits the code of the inner words, and its frames are frames
+-- the contents suit the code of the inner words, and the frames are frames
 pub record IsCarried (IsWord : List Bool → Type 0) (size k : ℕ) (carried : Contents) : Type 0 where
   pub encodes : Encodes IsWord k carried.encoding
   pub long : (word : List Bool) → IsWord word → length word ≡ size

@@ -6,7 +6,7 @@ use Rattle.p25_bits.proofs.DistanceLaws.{distance_by-le}
 use Rattle.p25_code.specs.{declared.code.Reading.{Reading}, declared.code.Reading.TheVariants.{Found, Beyond}, Erasures.{IsErasedReading}, Readings.{word_read}, Words.{IsReading}}
 use Rattle.p25_word_calls.specs.Answers.{fixes_answer, fixes_in, reading_answer}
 
--- a reader counts the letters that it changed, or leaves what was received
+-- a reader counts the letters that it changed, or leaves the received word
 unfoldable pub IsChange : {L : Type 0} → (L → L → Bool) → List L → List L → Reading → Type 0
 IsChange same received word (Found fixes) = fixes ≡ distance_by same received word
 IsChange same received word Beyond = word ≡ received
@@ -30,7 +30,7 @@ module _ {L : Type 0} (same : L → L → Bool) (received word : List L) where
   change_answer (Found fixes) read is value = ap pos is ∙ ap (fixes_answer same received) value
   change_answer Beyond read is value = ap (fixes_answer same received) value
 
-  -- it leaves that word, or what was received
+  -- it leaves that word, or the received one
   pub change_word : (reading : Reading) (read : Option (List L)) → IsChange same received word reading → word_read reading word ≡ read → word ≡ unwrap_or read received
   unfolding IsChange word_read
   change_word (Found fixes) read is value = ap (λ (o : Option (List L)). unwrap_or o received) value

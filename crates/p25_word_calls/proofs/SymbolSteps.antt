@@ -22,7 +22,7 @@ below_from_named symbols octets named =
     let below : All (λ s. number s < 64) symbols = λ k d lt. (get_or symbols k d).below in
     subst (λ (os : List ℕ). All (λ octet. octet < 64) os) named (All-map (λ octet. octet < 64) number symbols below)
 
--- what is read of octets that name symbols
+-- the decoding of octets that name symbols
 pub symbols_read : (reading_is : List Sym → Option (List Sym)) (octets left : List ℕ) (received word : List Sym) (reading : Reading) (answer : ℤ) → map number received ≡ octets
     → IsChange same_symbols received word reading → word_read reading word ≡ reading_is received → left ≡ map number word → answer ≡ reading_answer reading
     → IsSymbolReading reading_is octets left answer
@@ -46,7 +46,7 @@ symbols_refused reading_is octets none = record {
   refused = λ other. (refl, refl);
 }
 
--- what is written of information that octets name
+-- the codeword for an information that octets name
 pub symbols_written : (n k : ℕ) (octets left : List ℕ) (info word : List Sym) → map number info ≡ take k octets → word ≡ rs_word n k info
     → left ≡ map number word → IsSymbolWriting n k octets left (pos 0)
 symbols_written n k octets left info word named is puts = record {

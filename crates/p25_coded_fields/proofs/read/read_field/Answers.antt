@@ -13,7 +13,7 @@ use Rattle.p25_coded_fields.proofs.read.read_field.Goals.{After-read_erased-2}
 use Rattle.p25_coded_fields.proofs.read.read_field.Goals as goal
 use Rattle.p25_coded_fields.proofs.read.read_field.Given as given
 
--- what the outer code reads is its word within the cost
+-- the decoding by the outer code is its codeword within the cost
 outer_value : (g : given.Over) (code : g.O.BlockCode.HasCode) (received word : List Sym) (erased : List Bool) (reading : Reading) → length received ≡ g.O.BlockCode.N
     → IsErasedReading same_symbols g.O.BlockCode.IsWord (g.O.BlockCode.N - g.O.BlockCode.K) (without_erased received erased) received word reading
     → word_read reading word ≡ g.O.ErasedCode.erased_reading_is (without_erased received erased)

@@ -4,7 +4,7 @@ use Rattle.p25_filter.specs.{declared.ending.FilterEnd.TheVariants.{WriteFault},
 use Rattle.p25_filter.proofs.GoingsLaws.{Comes-cut, Goes-write}
 use Rattle.p25_filter.proofs.page.flush.Goals as goal
 
--- what holds anyway holds at an error
+-- a condition that holds anyway holds at an error
 at-error : {T E : Type 0} (result : Result T E) (X : Type 0) → X → OnErr result X
 at-error (Ok value) X x = tt
 at-error (Err fault) X x = x

@@ -6,7 +6,7 @@ use Rattle.p25_voice_units.specs.declared.unit.VoiceUnit.TheVariants.{Link1, Lin
 use Rattle.p25_voice_units.proofs.{LinkUnitsLaws.{AreParts, ldu1_kind, ldu2_kind, kind_read, kind_fails}, read.read_logical_link.Goals.{then-duid-eq-LDU1, else-duid-eq-LDU1}}
 use Rattle.p25_voice_units.proofs.read.read_logical_link.Goals as goal
 
--- the kind that is not the first is the second
+-- the type that is not the first is the second
 second_kind : (duid : ℕ) → (duid ≡ duid_ldu1) ⊎ (duid ≡ duid_ldu2) → (duid ≡ duid_ldu1 → ⊥) → duid ≡ duid_ldu2
 second_kind duid (inl first) other = absurd (other first)
 second_kind duid (inr second) other = second

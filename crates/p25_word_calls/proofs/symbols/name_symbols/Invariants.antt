@@ -2,6 +2,6 @@ use Rattle.std.proofs.Common.{◌≡◌, map, take}
 use Rattle.p25_gf64.specs.Symbol.{number}
 use Rattle.p25_word_calls.proofs.symbols.name_symbols.Given as goal
 
--- so many octets name the symbols
+-- the first `i` octets name the symbols
 abbrev pub invariant-loop-i : goal.invariant-loop-i
 invariant-loop-i l = map number (take l.i l.symbols) ≡ take l.i l.octets

@@ -2,6 +2,6 @@ use Rattle.std.proofs.Common.{◌≡◌, map, take}
 use Rattle.p25_gf64.specs.Symbol.{number}
 use Rattle.p25_word_calls.proofs.symbols.put_numbers.Given as goal
 
--- so many octets are those of the symbols
+-- the first `i` octets are those of the symbols
 abbrev pub invariant-loop-i : goal.invariant-loop-i
 invariant-loop-i l = take l.i l.octets ≡ map number (take l.i l.symbols)

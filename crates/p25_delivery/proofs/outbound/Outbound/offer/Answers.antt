@@ -5,7 +5,7 @@ use Rattle.p25_messages.specs.declared.answers.Offer.{Offer, TheVariants.{Taken}
 use Rattle.p25_delivery.proofs.HalfLaws.{KeepsOutgoing, offer-keeps}
 use Rattle.p25_delivery.proofs.outbound.Outbound.offer.Goals as goal
 
--- the half after an offer of octets, and what it sends
+-- the half after an offer of octets, and its transmission
 kept : (o : Outgoing) (message octets : List ℕ) (x : Sending × Offer) → x ≡ offered o.sender message → octets ≡ message → length octets ≤ 2028 → AreOctets octets → IsOutgoing o →
     KeepsOutgoing (after_offer o message x)
 kept o message octets x is e short are sound = rw is (offer-keeps o message (record { short = rw (← e) short; octets = subst AreOctets e are }) sound)
