@@ -1,6 +1,5 @@
--- Forney's formula: the factors of power sums by a polynomial that vanishes at the inverses of the elements with factors other than zero. The
--- coefficient of x^m in the quotient's product with the sums is computed twice: as a sum over the elements, of which one term is left, and from the
--- product of the polynomial and the sums.
+-- Forney's formula: the factors of power sums by a polynomial that vanishes at the inverses of the elements with factors other than zero. A coefficient of the
+-- quotient's product with the sums is computed twice: as a sum over the elements, of which one term is left, and from the product of polynomial and sums.
 use Rattle.std.proofs.Common.{◌≡◌, ◌≢◌, ℕ, zero, suc, ◌+◌, ◌-◌, ◌<◌, ◌≤◌, sym, ap, ap₂, ◌∙◌, inl, inr, arith}
 use Rattle.p25_gf64.specs.Field.{Field, power}
 use Rattle.p25_gf64.proofs.FieldLaws.{add_comm, add_zero, zero_add, add_twice, same_from_sum, mul_comm, mul_assoc, mul_left_comm, mul_one, one_mul, mul_add, mul_zero, zero_mul, mul_inverse, mul_cancel, other_zero}

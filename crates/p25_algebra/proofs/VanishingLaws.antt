@@ -1,6 +1,5 @@
--- Power sums over different elements: if at most m factors are not zero and the sums vanish for m successive exponents, every factor is zero. By
--- induction on the elements. Each factor is multiplied by the sum of its element and the last one, and keeps its zeros; the last drops out, and the
--- sums vanish for one exponent less.
+-- Power sums over different elements: if at most m factors are not zero and the sums vanish for m successive exponents, every factor is zero. By induction on
+-- the elements: each factor times the sum of its element and the last one keeps its zeros, the last drops out, and the sums vanish for one exponent less.
 use Rattle.std.proofs.{Common.{◌≡◌, ◌≢◌, ◌⊎◌, ℕ, zero, suc, ◌+◌, ◌<◌, ◌≤◌, refl, sym, ap, ◌∙◌, inl, inr, arith}, lemmas.Bool.{cases_eq}}
 use Rattle.p25_gf64.specs.Field.{Field, power}
 use Rattle.p25_gf64.proofs.{FieldLaws.{add_zero, zero_add, add_self, same_from_sum, mul_comm, mul_assoc, mul_left_comm, mul_add, zero_mul, other_zero}, PowerLaws.{power-suc, power_ne_zero}}

@@ -1,5 +1,5 @@
--- The table of planes is right at each position: the checker computes each bit. The value of a polynomial at a point is the sum over
--- its coefficients, bit by bit, and each coefficient is the sum of its high and its low three bits.
+-- The table of planes is right at each position: the checker computes each bit. The value of a polynomial at a point is the sum over its coefficients, bit by
+-- bit. Each coefficient is the sum of its high and its low three bits.
 use Rattle.std.proofs.Common.{◌≡◌, ℕ, suc, ◌+◌, ◌-◌, ◌*◌, ◌/◌, ◌%◌, ◌^◌, ◌<◌, ◌==◌, ◌↔◌, Bool, IsTrue, eqb, List, [], ◌∷◌, true, bit_xor, w64, get_or, refl, ap, ap₂, sym, ◌∙◌, arith}
 use Rattle.std.proofs.{lemmas.Bool.{eqb-true, eq-eqb}, lemmas.Nat.{pow_pos}, lemmas.Nat.Bits.{bit_at_xor, bit_at_or, bit_at_not, bit_at-lt, bit_at-zero, bit_at_cat_low, same_from_bits_below}}
 use Rattle.std.specs.{Int.{bit_at, bit_not}, Int.Bits.{bit_or}}

@@ -1,5 +1,5 @@
--- The run that ends with a data unit, in three cases: it joins, it begins after a break, or it begins when no run is open. There is a break before it
--- if and only if it does not join, and the calls up to it are the one that it broke off and those of that run.
+-- The run that ends with a data unit, in three cases: it joins, it begins after a break, or it begins when no run is open. There is a break before it if and
+-- only if it does not join. The calls up to it are the one that it broke off and those of that run.
 use Rattle.std.proofs.Common.{◌≡◌, ℕ, ◌+◌, ◌-◌, ◌≤◌, Bool, true, false, not, ◌&&◌, ◌||◌, List, [], ◌∷◌, ◌++◌, Option, Some, None, refl, sym, ap₂, ◌∙◌, inl, inr, ◌⊎◌, arith, append_assoc}
 use Rattle.std.proofs.{lemmas.Bool.{and_from, and_parts, eqb-true, true≢false}, lemmas.Bool.Decides.{nat_tests}, lemmas.List.Folds.{list_all-append}}
 use Rattle.std.specs.{Prelude.{nat_eq, nat_le, nat_lt, option_to_list}, List.{list_all}}

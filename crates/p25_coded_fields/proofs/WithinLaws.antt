@@ -1,6 +1,5 @@
--- A field that was damaged no more than its codes correct decodes to the transmitted one: the received word costs so little that the outer code finds
--- the transmitted codeword. The older measure counts inner words with more bit errors than the correction radius as erased, and what it allows costs
--- no more. Position by position, an inner word within the correction radius costs nothing, and an erased one two for each symbol.
+-- A field within the correction radius of its codes decodes to the transmitted one: the outer code finds the transmitted codeword. The older measure counts inner words with more bit errors than their correction radius as erased, and
+-- allows no higher cost. An inner word within that radius costs nothing, and an erased one two for each symbol.
 use Rattle.std.proofs.Common.{◌≡◌, ℕ, suc, ◌+◌, ◌*◌, ◌≤◌, inl, inr, Bool, cond, nat_le, List, [], ◌∷◌, length, take, map, Option, Some, None, option_map, All, sum_by, refl, ap, ◌∙◌, arith, length-append}
 use Rattle.std.proofs.{lemmas.Bool.{cases_lt, le-leb, lt-leb, eq-eqb}, lemmas.List.{length-map, length-replicate}, lemmas.List.Sums.{sum_by-cons}}
 use Rattle.std.specs.List.{flat_map}

@@ -1,6 +1,5 @@
--- How few coefficients other than 0 a multiple of a divisor has. Without its lowest coefficients of 0 it begins with 1. With one other it is
--- 1 + x^i, so that the remainder of x^i is 1; with two it is 1 + x^i + x^j, so that the remainders of x^i and x^j differ by 1. The
--- checker looks for such remainders: two lists of numbers have none in common if those that are even have none, and the odd ones.
+-- The least number of coefficients other than 0 in a multiple of a divisor. After division by a power of x it begins with 1. With one other coefficient it is 1 + x^i, so the remainder of x^i is 1. With two it is 1 + x^i + x^j, so the
+-- remainders of x^i and x^j differ by 1. The checker looks for such remainders, even and odd ones apart.
 use Rattle.std.proofs.Common.{zero, suc, ◌≡◌, ℕ, ◌+◌, ◌*◌, ◌/◌, ◌%◌, ◌^◌, ◌<◌, ◌≤◌, ◌⊎◌, inl, inr, Bool, true, false, ◌&&◌, eqb, List, [], ◌∷◌, bit_xor, refl, ap, ap₂, sym, ◌∙◌, subst, arith, pow-suc}
 use Rattle.std.proofs.{lemmas.Bool.{cases_lt, and_parts, true≢false}, lemmas.Nat.{ones_cat, ones_le_self, zero_from_ones}}
 use Rattle.std.specs.{Cmp.{unsigned_Decides}, Int.RustNames.{count_ones}, Int.Bits.{xor_assoc, xor_zero_r}}

@@ -1,5 +1,5 @@
--- Lists of bits of the same length, and the same in the first 316, have the same need at their beginning, so a data unit that begins there is the
--- same. By the decodings of the sync, the NID and the header.
+-- Lists of bits of the same length with the same first 316 bits have the same need at their beginning, so a data unit that begins there is the same. By the
+-- decodings of the sync, the NID and the header.
 use Rattle.std.proofs.Common.{◌≡◌, ℕ, ◌+◌, ◌≤◌, Bool, true, false, inl, inr, List, ◌++◌, length, take, Option, Some, None, sym, ap, ◌∙◌, arith}
 use Rattle.std.proofs.{lemmas.Bool.{cases_Bool, cases_lt, eqb-false, eqb-true}, lemmas.List.{take-take, take_all}, Math.Seq.{take-append-add}}
 use Rattle.std.specs.Prelude.{nat_eq}

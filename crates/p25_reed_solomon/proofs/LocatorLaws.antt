@@ -1,6 +1,5 @@
--- A solution of the key equation of the reduced syndromes, times a factor for each erasure, is a locator. The positions of errors without an erasure
--- are zeros of the key's locator. Its zeros have slopes, because key and evaluator have no zero in common. One more factor keeps the slopes of old
--- zeros and makes a new zero with a slope.
+-- A solution of the key equation of the reduced syndromes, times a factor for each erasure, is a locator. Positions of errors without an erasure are zeros of the key's locator, which have slopes, because key and evaluator have no zero
+-- in common. One more factor keeps the slopes of old zeros and makes a new zero with a slope.
 use Rattle.std.proofs.Common.{◌≡◌, ◌≢◌, ℕ, zero, suc, ◌+◌, ◌-◌, ◌*◌, ◌/◌, ◌<◌, ◌≤◌, Bool, false, List, length, take, drop, sym, ap, ◌∙◌, inl, inr, arith}
 use Rattle.std.proofs.{lemmas.Bool.{cases_eq, cases_lt, cases_Bool, both_ways}, lemmas.List.{get_or-take, get_or-drop, length-take, length-drop}}
 use Rattle.p25_gf64.specs.{declared.symbol.Sym.{Sym}, Field.{power}, Gf64.{gf64}}

@@ -1,5 +1,5 @@
--- The fixes of a data unit by its parts. In the image the inner words are those of the data unit's symbols, and the low speed data words those of its
--- octets, so the examined bits differ from them in the number of fixes.
+-- The fixes of a data unit by its parts. In the image the inner words are those of the data unit's symbols, and the low speed data words those of its octets.
+-- So the examined bits differ from them in the number of fixes.
 use Rattle.std.proofs.{Common.{◌≡◌, ℕ, ◌+◌, ◌≤◌, Bool, List, [], ◌++◌, length, slice_index, All, refl, ap, sym, ◌∙◌, arith, lit<}, lemmas.List.{append-nil}, lemmas.List.Folds.{flat_map-map}}
 use Rattle.std.specs.Bool.{beq}
 use Rattle.p25_bits.specs.{Bits.{bits_of, part}, Distance.{distance_of}}
